@@ -1,0 +1,137 @@
+-- The value and the status that are delivered for a pick.
+use Rattle.std.proofs.Common.{◌≡◌, ℕ, ◌+◌, ◌-◌, ◌*◌, ◌%◌, ◌^◌, ◌<◌, ◌≤◌, ◌⊎◌, Bool, true, false, cond, ltb, eqb, sym, refl, ap, ◌∙◌, subst, inl, inr, ⊎_elim, arith}
+use Rattle.std.proofs.Math.Nat.{mul-le-mul_right, mul-le-mul_left, pow-le-pow_right, mul-pos}
+use Rattle.std.proofs.lemmas.Nat.{pow_pos}
+use Rattle.std.proofs.lemmas.Bool.{cases_lt, lt-ltb, le-ltb, eq-eqb, ne_eqb}
+use Rattle.apfloat_base.specs.declared.kinds.Round.{Round}
+use Rattle.apfloat_base.specs.declared.sig.loss.Loss.{Loss}
+use Rattle.apfloat_base.specs.declared.sig.loss.Loss.TheVariants.{ExactlyZero}
+use Rattle.apfloat_base.specs.declared.kinds.NonfiniteBehavior.{NonfiniteBehavior}
+use Rattle.apfloat_base.specs.Format.{Format, largest, greatest_significand, nan_base}
+use Rattle.apfloat_base.specs.Datum.{finite}
+use Rattle.apfloat_base.specs.Standing.{StandsFor}
+use Rattle.apfloat_base.specs.Enclosure.{IsEnclosed, rounds_up}
+use Rattle.apfloat_base.specs.Rounding.{IsPick, IsDelivered, past_largest, signed_quanta, delivered_value, leads_out, is_tiny}
+use Rattle.apfloat_base.proofs.Picks.{kept, pick_is, pick_unique}
+use Rattle.apfloat_base.proofs.Existence.{two_pos}
+use Rattle.apfloat_base.proofs.Losses.{stands_past, stands_to}
+
+pub four : (precision : ℕ) → 3 ≤ precision → 4 ≤ 2 ^ (precision - 1)
+four precision h =
+    let l : 2 ≤ precision - 1 = omega arith in
+    let k : 2 ^ 2 ≤ 2 ^ (precision - 1) = pow-le-pow_right two_pos l in
+    k
+
+pub past_is : (f : Format) (top place p : ℕ) (b v : Bool) → top ≡ greatest_significand f.nonfinite f.precision → place ≡ f.span → b ≡ ltb (top * 2 ^ place) p → b ≡ v → ltb (largest f) p ≡ v
+past_is f top place p b v e d h k =
+    ap (λ (x : ℕ). ltb (x * 2 ^ f.span) p) (sym e) ∙ ap (λ (x : ℕ). ltb (top * 2 ^ x) p) (sym d) ∙ sym h ∙ k
+
+pub delivered_out : (f : Format) (mode : Round) (negative : Bool) (amount parts p : ℕ) → IsPick f.precision mode negative amount parts p → ltb (largest f) p ≡ true → leads_out mode negative ≡ true
+    → IsDelivered f mode negative amount parts (past_largest f.nonfinite (nan_base f) negative) 20
+delivered_out f mode negative amount parts p i a b = record { pick = p; is_pick = i; value_is = rw (a, b) refl; status_is = rw (a, b) refl }
+
+signed_largest : (kind : NonfiniteBehavior) (negative : Bool) (p : ℕ) → 0 < p → signed_quanta kind negative p ≡ finite negative p
+signed_largest kind negative p h = let e : eqb p 0 ≡ false = ne_eqb p 0 (λ z. omega arith) in rw e refl
+
+pub delivered_largest : (f : Format) (mode : Round) (negative : Bool) (amount parts p top place : ℕ) → IsPick f.precision mode negative amount parts p → top ≡ greatest_significand f.nonfinite f.precision → place ≡ f.span → 2 ^ (f.precision - 1) ≤ top
+    → ltb (largest f) p ≡ true → leads_out mode negative ≡ false → IsDelivered f mode negative amount parts (signed_quanta f.nonfinite negative (top * 2 ^ place)) 16
+delivered_largest f mode negative amount parts p top place i e d l a b = record {
+  pick = p;
+  is_pick = i;
+  value_is =
+      let t : 0 < top = let k : 0 < 2 ^ (f.precision - 1) = pow_pos (f.precision - 1) in omega arith in
+      let q : 0 < top * 2 ^ place = mul-pos t (pow_pos place) in
+      let g : top * 2 ^ place ≡ largest f = ap (λ (x : ℕ). x * 2 ^ place) e ∙ ap (λ (x : ℕ). greatest_significand f.nonfinite f.precision * 2 ^ x) d in
+      let r : finite negative (largest f) ≡ delivered_value f mode negative p = rw (a, b) refl in
+      signed_largest f.nonfinite negative (top * 2 ^ place) q ∙ ap (λ (x : ℕ). finite negative x) g ∙ r;
+  status_is = rw (a, b) refl;
+}
+
+pub delivered_exactly : (f : Format) (mode : Round) (negative : Bool) (amount parts p : ℕ) → IsPick f.precision mode negative amount parts p → ltb (largest f) p ≡ false → p * parts ≡ amount
+    → IsDelivered f mode negative amount parts (signed_quanta f.nonfinite negative p) 0
+delivered_exactly f mode negative amount parts p i a e =
+    let b : eqb (p * parts) amount ≡ true = eq-eqb (p * parts) amount e in
+    record { pick = p; is_pick = i; value_is = rw a refl; status_is = rw (a, b) refl }
+
+pub delivered_tiny : (f : Format) (mode : Round) (negative : Bool) (amount parts p : ℕ) → IsPick f.precision mode negative amount parts p → ltb (largest f) p ≡ false → (p * parts ≡ amount → ⊥) → is_tiny f amount parts p ≡ true
+    → IsDelivered f mode negative amount parts (signed_quanta f.nonfinite negative p) 24
+delivered_tiny f mode negative amount parts p i a n t =
+    let b : eqb (p * parts) amount ≡ false = ne_eqb (p * parts) amount n in
+    record { pick = p; is_pick = i; value_is = rw a refl; status_is = rw (a, b, t) refl }
+
+pub delivered_inexact : (f : Format) (mode : Round) (negative : Bool) (amount parts p : ℕ) → IsPick f.precision mode negative amount parts p → ltb (largest f) p ≡ false → (p * parts ≡ amount → ⊥) → is_tiny f amount parts p ≡ false
+    → IsDelivered f mode negative amount parts (signed_quanta f.nonfinite negative p) 16
+delivered_inexact f mode negative amount parts p i a n t =
+    let b : eqb (p * parts) amount ≡ false = ne_eqb (p * parts) amount n in
+    record { pick = p; is_pick = i; value_is = rw a refl; status_is = rw (a, b, t) refl }
+
+-- ---- exact, or not
+
+pub exact_if : (precision : ℕ) (mode : Round) (negative : Bool) (half m c amount parts p : ℕ) (loss : Loss) → loss ≡ ExactlyZero → 0 < parts → IsEnclosed precision half m c amount parts → StandsFor m loss amount (2 ^ c * parts) → IsPick precision mode negative amount parts p → p * parts ≡ amount
+exact_if precision mode negative half m c amount parts p loss z l i h x =
+    let h' : StandsFor m ExactlyZero amount (2 ^ c * parts) = subst (λ (y : Loss). StandsFor m y amount (2 ^ c * parts)) z h in
+    let e : p ≡ m * 2 ^ c = pick_unique precision mode negative amount parts p (m * 2 ^ c) x (pick_is precision mode negative half m c amount parts ExactlyZero l i h') in
+    ap (λ (y : ℕ). y * parts) e ∙ omega (arith, h')
+
+off_if : (b : Bool) (m c amount parts : ℕ) → m * (2 ^ c * parts) < amount → amount < (m + 1) * (2 ^ c * parts) → cond b (m + 1) m * 2 ^ c * parts ≡ amount → ⊥
+off_if true m c amount parts l k e = omega arith
+off_if false m c amount parts l k e = omega arith
+
+pub inexact_if : (precision : ℕ) (mode : Round) (negative : Bool) (half m c amount parts p : ℕ) (loss : Loss) → (loss ≡ ExactlyZero → ⊥) → 0 < parts → IsEnclosed precision half m c amount parts → StandsFor m loss amount (2 ^ c * parts) → IsPick precision mode negative amount parts p → p * parts ≡ amount → ⊥
+inexact_if precision mode negative half m c amount parts p loss n l i h x q =
+    let u : 0 < 2 ^ c * parts = mul-pos (pow_pos c) l in
+    let e : p ≡ kept mode negative loss m * 2 ^ c = pick_unique precision mode negative amount parts p (kept mode negative loss m * 2 ^ c) x (pick_is precision mode negative half m c amount parts loss l i h) in
+    off_if (rounds_up mode negative loss (eqb (m % 2) 1)) m c amount parts (stands_past m loss amount (2 ^ c * parts) u n h) (stands_to m loss amount (2 ^ c * parts) u h) (ap (λ (y : ℕ). y * parts) (sym e) ∙ q)
+
+-- ---- tiny
+
+small_before : (precision half m c amount parts : ℕ) → 0 < parts → m < half → IsEnclosed precision half m c amount parts → amount < half * parts
+small_before precision half m c amount parts p l i =
+    ⊎_elim
+    (λ (z : c ≡ 0).
+    let t : amount < (m + 1) * 2 ^ 0 * parts = subst (λ (x : ℕ). amount < (m + 1) * 2 ^ x * parts) z i.to in
+    let l' : m + 1 ≤ half = omega arith in
+    let k : (m + 1) * parts ≤ half * parts = mul-le-mul_right parts l' in
+    omega arith)
+    (λ (f : half ≤ m). absurd (omega arith))
+    i.full
+
+large_before : (precision half m c amount parts : ℕ) → half ≤ m → IsEnclosed precision half m c amount parts → half * parts ≤ amount
+large_before precision half m c amount parts l i =
+    let w : 1 ≤ 2 ^ c = pow_pos c in
+    let a : m * 1 ≤ m * 2 ^ c = mul-le-mul_left m w in
+    let b : half ≤ m * 2 ^ c = omega arith in
+    let k : half * parts ≤ m * 2 ^ c * parts = mul-le-mul_right parts b in
+    let f : m * 2 ^ c * parts ≤ amount = i.from in
+    omega arith
+
+tiny_before : (precision half m c amount parts : ℕ) → 0 < parts → IsEnclosed precision half m c amount parts → ltb m half ≡ ltb amount (half * parts)
+tiny_before precision half m c amount parts p i =
+    ⊎_elim
+    (λ (l : m < half). lt-ltb m half l ∙ sym (lt-ltb amount (half * parts) (small_before precision half m c amount parts p l i)))
+    (λ (l : half ≤ m). le-ltb m half l ∙ sym (le-ltb amount (half * parts) (large_before precision half m c amount parts l i)))
+    (cases_lt m half)
+
+small_after : (half s place : ℕ) → s < half → (place ≡ 0) ⊎ (half ≤ s) → s * 2 ^ place < half
+small_after half s place l (inl z) = subst (λ (x : ℕ). s * 2 ^ x < half) (sym z) (omega arith)
+small_after half s place l (inr f) = absurd (omega arith)
+
+large_after : (half s place : ℕ) → half ≤ s → half ≤ s * 2 ^ place
+large_after half s place l =
+    let w : 1 ≤ 2 ^ place = pow_pos place in
+    let a : s * 1 ≤ s * 2 ^ place = mul-le-mul_left s w in
+    omega arith
+
+tiny_after : (half s place : ℕ) → (place ≡ 0) ⊎ (half ≤ s) → ltb s half ≡ ltb (s * 2 ^ place) half
+tiny_after half s place f =
+    ⊎_elim
+    (λ (l : s < half). lt-ltb s half l ∙ sym (lt-ltb (s * 2 ^ place) half (small_after half s place l f)))
+    (λ (l : half ≤ s). le-ltb s half l ∙ sym (le-ltb (s * 2 ^ place) half (large_after half s place l)))
+    (cases_lt s half)
+
+pub tiny_is : (f : Format) (m c amount parts s place : ℕ) (b v : Bool) → 0 < parts → IsEnclosed f.precision (2 ^ (f.precision - 1)) m c amount parts → (place ≡ 0) ⊎ (2 ^ (f.precision - 1) ≤ s)
+    → b ≡ cond f.tiny_before_rounding (ltb m (2 ^ (f.precision - 1))) (ltb s (2 ^ (f.precision - 1))) → b ≡ v → is_tiny f amount parts (s * 2 ^ place) ≡ v
+tiny_is f m c amount parts s place b v p i g e d =
+    ap (λ (x : Bool). cond f.tiny_before_rounding x (ltb (s * 2 ^ place) (2 ^ (f.precision - 1)))) (sym (tiny_before f.precision (2 ^ (f.precision - 1)) m c amount parts p i))
+    ∙ ap (λ (x : Bool). cond f.tiny_before_rounding (ltb m (2 ^ (f.precision - 1))) x) (sym (tiny_after (2 ^ (f.precision - 1)) s place g))
+    ∙ sym e ∙ d

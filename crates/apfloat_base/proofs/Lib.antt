@@ -1,0 +1,16 @@
+pub mod Neighbours
+pub mod Existence
+pub mod Losses
+pub mod KeptDigits
+pub mod Picks
+pub mod Points
+pub mod Deliveries
+pub mod Laws
+pub mod Once
+pub mod Exists
+pub mod Scaled
+pub mod Inverses
+pub mod Tables
+pub mod OneMeaning
+pub mod EachText
+pub mod ZeroTexts

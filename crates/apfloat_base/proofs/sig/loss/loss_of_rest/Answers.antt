@@ -1,0 +1,9 @@
+use Rattle.std.proofs.Common.{arith, inl, inr}
+use Rattle.apfloat_base.proofs.Losses.{cut_more}
+use Rattle.apfloat_base.proofs.sig.loss.loss_of_rest.Goals as goal
+
+pub returns-else-rest-half-2 : goal.returns-else-rest-half-2
+returns-else-rest-half-2 c = λ quotient amount unit u h. cut_more quotient c.args.half c.args.rest c.args.loss amount unit u c.requires (inl (omega arith)) h
+
+pub returns-else-rest-half-3 : goal.returns-else-rest-half-3
+returns-else-rest-half-3 c = λ quotient amount unit u h. cut_more quotient c.args.half c.args.rest c.args.loss amount unit u c.requires (inr (c.in_default.not-ExactlyZero, c.if-rest-half-3.false)) h

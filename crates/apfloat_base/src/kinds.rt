@@ -1,0 +1,73 @@
+//! The small types that calls speak of: categories, rounding modes, kinds of non-finite behaviour, exponents.
+
+ghost use Rattle.std.specs.Prelude.{◌≡◌};
+ghost use Rattle.apfloat_base.specs.Negation.{swapped};
+
+use std::ops::Neg;
+
+/// What a value is. Denormal values are `Normal` too.
+#[derive(Clone, Copy, PartialEq, Eq, Debug)]
+pub enum Category {
+    Infinity,
+    NaN,
+    /// Finite and not zero.
+    Normal,
+    Zero,
+}
+
+/// A rounding mode (IEEE 754-2008 4.3): which of its two neighbours in a format stands for a result that lies between
+/// them.
+#[derive(Clone, Copy, PartialEq, Eq, Debug)]
+pub enum Round {
+    /// The nearer one, and of two at one distance the one with an even last digit (4.3.1).
+    NearestTiesToEven,
+    /// The upper one (4.3.2).
+    TowardPositive,
+    /// The lower one (4.3.2).
+    TowardNegative,
+    /// The one of less magnitude (4.3.2).
+    TowardZero,
+    /// The nearer one, and of two at one distance the one of greater magnitude (4.3.1).
+    NearestTiesToAway,
+}
+
+impl Neg for Round {
+    type Output = Round;
+
+    ghost neg_gives = { λ mode r. r ≡ swapped mode };
+
+    /// The mode that rounds `-x` to the negation of what this one rounds `x` to: the two directed modes are swapped.
+    #[inline]
+    fn neg(self) -> Round {
+        match self {
+            Round::TowardPositive => Round::TowardNegative,
+            Round::TowardNegative => Round::TowardPositive,
+            Round::NearestTiesToEven => Round::NearestTiesToEven,
+            Round::TowardZero => Round::TowardZero,
+            Round::NearestTiesToAway => Round::NearestTiesToAway,
+        }
+    }
+}
+
+/// Which values that are no numbers a format has, and how it writes them.
+#[derive(Clone, Copy, PartialEq, Eq, Debug)]
+pub enum NonfiniteBehavior {
+    /// Infinities and NaNs with payloads, at the greatest biased exponent (IEEE 754-2008 3.4).
+    IEEE754,
+    /// No infinities, and one NaN of each sign, whose exponent and significand are all ones.
+    NanOnly,
+    /// No infinities and no negative zero: what would be the bits of -0 is the one NaN.
+    NanNegativeZero,
+}
+
+/// An exponent of two.
+pub type ExpInt = i32;
+
+/// What stands for the exponent of an infinity.
+pub const IEK_INF: ExpInt = ExpInt::MAX;
+
+/// What stands for the exponent of a NaN.
+pub const IEK_NAN: ExpInt = ExpInt::MIN;
+
+/// What stands for the exponent of a zero.
+pub const IEK_ZERO: ExpInt = ExpInt::MIN + 1;

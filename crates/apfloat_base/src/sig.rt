@@ -1,0 +1,10 @@
+//! Significands: whole numbers below `2^128`, and what is lost where their low digits are cut off.
+//!
+//! A significand `s` with a unit and a `Loss` stands for each magnitude that is `s` units and a rest below one unit,
+//! where the rest is zero, below, at or above half of a unit as the `Loss` says (`StandsFor` in `specs/Standing.antt`).
+
+pub mod loss;
+pub mod shift;
+
+pub use loss::{Loss, loss_of_rest};
+pub use shift::{Shifted, digits, low_digits, power_of_two, shift_right};

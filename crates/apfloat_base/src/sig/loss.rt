@@ -1,0 +1,41 @@
+//! What is lost where digits are cut off.
+
+ghost use Rattle.std.specs.Prelude.{ℕ, ◌+◌, ◌*◌, ◌<◌};
+ghost use Rattle.apfloat_base.specs.Standing.{StandsFor};
+
+/// What part of the lowest kept bit was cut off.
+#[derive(Clone, Copy, PartialEq, Eq, Debug)]
+pub enum Loss {
+    ExactlyZero,
+    LessThanHalf,
+    ExactlyHalf,
+    MoreThanHalf,
+}
+
+/// What is lost where `rest` is cut off, in units that are twice `half`, with `loss` below it.
+#[inline]
+pub fn loss_of_rest(rest: u128, half: u128, loss: Loss) -> Loss
+    requires { rest < 2 * half }
+    ensures { (quotient amount unit : ℕ) → 0 < unit → StandsFor (quotient * (2 * half) + rest) loss amount unit → StandsFor quotient result amount (2 * half * unit) }
+{
+    match loss {
+        Loss::ExactlyZero => {
+            if rest == 0 {
+                Loss::ExactlyZero
+            } else if rest < half {
+                Loss::LessThanHalf
+            } else if rest == half {
+                Loss::ExactlyHalf
+            } else {
+                Loss::MoreThanHalf
+            }
+        }
+        _ => {
+            if rest < half {
+                Loss::LessThanHalf
+            } else {
+                Loss::MoreThanHalf
+            }
+        }
+    }
+}

@@ -1,0 +1,86 @@
+//! Shifts of a significand.
+
+ghost use Rattle.std.specs.Prelude.{◌≡◌, ℕ, ◌-◌, ◌*◌, ◌/◌, ◌%◌, ◌^◌, ◌<◌, ◌≤◌};
+ghost use Rattle.apfloat_base.specs.Standing.{StandsFor};
+
+use crate::sig::loss::{Loss, loss_of_rest};
+
+/// 2 to the power of `exponent`.
+#[inline]
+pub fn power_of_two(exponent: u32) -> u128
+    requires { exponent < 128 }
+    ensures { result ≡ 2 ^ exponent }
+{
+    1 << exponent
+}
+
+/// How many binary digits a number has; 0 has none.
+#[inline]
+pub fn digits(number: u128) -> u32
+    ensures bound { result ≤ 128 }
+    ensures below { number < 2 ^ result }
+    ensures full { 0 < result → 2 ^ (result - 1) ≤ number }
+{
+    128 - number.leading_zeros()
+}
+
+/// The lowest `places` binary digits of a number.
+#[inline]
+pub fn low_digits(number: u128, places: u32) -> u128
+    requires { places < 128 }
+    ensures { result ≡ number % 2 ^ places }
+{
+    number & (power_of_two(places) - 1)
+}
+
+/// A significand that was shifted right, and what was lost below its new unit.
+#[derive(Clone, Copy, Debug)]
+pub struct Shifted {
+    pub significand: u128,
+    pub loss: Loss,
+}
+
+/// The significand without its `places` lowest digits, and what they with `loss` are of the lowest place that is left.
+#[inline]
+pub fn shift_right(significand: u128, places: u32, loss: Loss) -> Shifted
+    ensures quotient { result.significand ≡ significand / 2 ^ places }
+    ensures stands { (amount unit : ℕ) → 0 < unit → StandsFor significand loss amount unit → StandsFor result.significand result.loss amount (2 ^ places * unit) }
+{
+    if places == 0 {
+        return Shifted { significand, loss };
+    }
+    if places > 128 {
+        return Shifted {
+            significand: 0,
+            loss: loss_of_all(significand, loss),
+        };
+    }
+    let half = power_of_two(places - 1);
+    if places == 128 {
+        return Shifted {
+            significand: 0,
+            loss: loss_of_rest(significand, half, loss),
+        };
+    }
+    Shifted {
+        significand: significand >> places,
+        loss: loss_of_rest(low_digits(significand, places), half, loss),
+    }
+}
+
+/// What is lost where more than the whole length of a significand is cut off.
+#[inline]
+fn loss_of_all(significand: u128, loss: Loss) -> Loss
+    ensures { (places amount unit : ℕ) → 128 < places → 0 < unit → StandsFor significand loss amount unit → StandsFor 0 result amount (2 ^ places * unit) }
+{
+    match loss {
+        Loss::ExactlyZero => {
+            if significand == 0 {
+                Loss::ExactlyZero
+            } else {
+                Loss::LessThanHalf
+            }
+        }
+        _ => Loss::LessThanHalf,
+    }
+}
