@@ -5,10 +5,10 @@ use Rattle.std.proofs.lemmas.Nat.{pow_pos}
 use Rattle.std.proofs.lemmas.Bool.{cases_lt, lt-ltb, le-ltb, eq-eqb, ne_eqb}
 use Rattle.apfloat_base.specs.declared.kinds.Round.{Round}
 use Rattle.apfloat_base.specs.declared.sig.loss.Loss.{Loss}
-use Rattle.apfloat_base.specs.declared.sig.loss.Loss.TheVariants.{ExactlyZero}
+use Rattle.apfloat_base.specs.declared.sig.loss.Loss.TheVariants.{ExactlyZero, LessThanHalf, ExactlyHalf, MoreThanHalf}
 use Rattle.apfloat_base.specs.declared.kinds.NonfiniteBehavior.{NonfiniteBehavior}
 use Rattle.apfloat_base.specs.Format.{Format, largest, greatest_significand, nan_base}
-use Rattle.apfloat_base.specs.Datum.{finite}
+use Rattle.apfloat_base.specs.Datum.{Datum, finite}
 use Rattle.apfloat_base.specs.Standing.{StandsFor}
 use Rattle.apfloat_base.specs.Enclosure.{IsEnclosed, rounds_up}
 use Rattle.apfloat_base.specs.Rounding.{IsPick, IsDelivered, past_largest, signed_quanta, delivered_value, leads_out, is_tiny}
@@ -26,46 +26,36 @@ pub past_is : (f : Format) (top place p : ℕ) (b v : Bool) → top ≡ greatest
 past_is f top place p b v e d h k =
     ap (λ (x : ℕ). ltb (x * 2 ^ f.span) p) (sym e) ∙ ap (λ (x : ℕ). ltb (top * 2 ^ x) p) (sym d) ∙ sym h ∙ k
 
-pub delivered_out : (f : Format) (mode : Round) (negative : Bool) (amount parts p : ℕ) → IsPick f.precision mode negative amount parts p → ltb (largest f) p ≡ true → leads_out mode negative ≡ true
-    → IsDelivered f mode negative amount parts (past_largest f.nonfinite (nan_base f) negative) 20
-delivered_out f mode negative amount parts p i a b = record { pick = p; is_pick = i; value_is = rw (a, b) refl; status_is = rw (a, b) refl }
+pub signed_some : (kind : NonfiniteBehavior) (negative : Bool) (p : ℕ) → 0 < p → signed_quanta kind negative p ≡ finite negative p
+signed_some kind negative p h = let e : eqb p 0 ≡ false = ne_eqb p 0 (λ z. omega arith) in rw e refl
 
-signed_largest : (kind : NonfiniteBehavior) (negative : Bool) (p : ℕ) → 0 < p → signed_quanta kind negative p ≡ finite negative p
-signed_largest kind negative p h = let e : eqb p 0 ≡ false = ne_eqb p 0 (λ z. omega arith) in rw e refl
+-- a pick past the largest value
+pub delivered_past : (f : Format) (mode : Round) (negative : Bool) (amount parts p : ℕ) (v : Datum) (s : ℕ) → IsPick f.precision mode negative amount parts p → ltb (largest f) p ≡ true
+    → v ≡ cond (leads_out mode negative) (past_largest f.nonfinite (nan_base f) negative) (finite negative (largest f)) → s ≡ cond (leads_out mode negative) 20 16
+    → IsDelivered f mode negative amount parts v s
+delivered_past f mode negative amount parts p v s i a e d = record { pick = p; is_pick = i; value_is = rw a e; status_is = rw a d }
 
-pub delivered_largest : (f : Format) (mode : Round) (negative : Bool) (amount parts p top place : ℕ) → IsPick f.precision mode negative amount parts p → top ≡ greatest_significand f.nonfinite f.precision → place ≡ f.span → 2 ^ (f.precision - 1) ≤ top
-    → ltb (largest f) p ≡ true → leads_out mode negative ≡ false → IsDelivered f mode negative amount parts (signed_quanta f.nonfinite negative (top * 2 ^ place)) 16
-delivered_largest f mode negative amount parts p top place i e d l a b = record {
-  pick = p;
-  is_pick = i;
-  value_is =
-      let t : 0 < top = let k : 0 < 2 ^ (f.precision - 1) = pow_pos (f.precision - 1) in omega arith in
-      let q : 0 < top * 2 ^ place = mul-pos t (pow_pos place) in
-      let g : top * 2 ^ place ≡ largest f = ap (λ (x : ℕ). x * 2 ^ place) e ∙ ap (λ (x : ℕ). greatest_significand f.nonfinite f.precision * 2 ^ x) d in
-      let r : finite negative (largest f) ≡ delivered_value f mode negative p = rw (a, b) refl in
-      signed_largest f.nonfinite negative (top * 2 ^ place) q ∙ ap (λ (x : ℕ). finite negative x) g ∙ r;
-  status_is = rw (a, b) refl;
-}
-
-pub delivered_exactly : (f : Format) (mode : Round) (negative : Bool) (amount parts p : ℕ) → IsPick f.precision mode negative amount parts p → ltb (largest f) p ≡ false → p * parts ≡ amount
-    → IsDelivered f mode negative amount parts (signed_quanta f.nonfinite negative p) 0
-delivered_exactly f mode negative amount parts p i a e =
+-- a pick within the format that is the magnitude
+pub delivered_exactly : (f : Format) (mode : Round) (negative : Bool) (amount parts p : ℕ) (v : Datum) (s : ℕ) → IsPick f.precision mode negative amount parts p → ltb (largest f) p ≡ false → p * parts ≡ amount
+    → v ≡ signed_quanta f.nonfinite negative p → s ≡ 0 → IsDelivered f mode negative amount parts v s
+delivered_exactly f mode negative amount parts p v s i a e w d =
     let b : eqb (p * parts) amount ≡ true = eq-eqb (p * parts) amount e in
-    record { pick = p; is_pick = i; value_is = rw a refl; status_is = rw (a, b) refl }
+    record { pick = p; is_pick = i; value_is = rw a w; status_is = rw (a, b) d }
 
-pub delivered_tiny : (f : Format) (mode : Round) (negative : Bool) (amount parts p : ℕ) → IsPick f.precision mode negative amount parts p → ltb (largest f) p ≡ false → (p * parts ≡ amount → ⊥) → is_tiny f amount parts p ≡ true
-    → IsDelivered f mode negative amount parts (signed_quanta f.nonfinite negative p) 24
-delivered_tiny f mode negative amount parts p i a n t =
+-- a pick within the format that is not the magnitude
+pub delivered_inexactly : (f : Format) (mode : Round) (negative : Bool) (amount parts p : ℕ) (v : Datum) (s : ℕ) → IsPick f.precision mode negative amount parts p → ltb (largest f) p ≡ false → (p * parts ≡ amount → ⊥)
+    → v ≡ signed_quanta f.nonfinite negative p → s ≡ cond (is_tiny f amount parts p) 24 16 → IsDelivered f mode negative amount parts v s
+delivered_inexactly f mode negative amount parts p v s i a n w d =
     let b : eqb (p * parts) amount ≡ false = ne_eqb (p * parts) amount n in
-    record { pick = p; is_pick = i; value_is = rw a refl; status_is = rw (a, b, t) refl }
-
-pub delivered_inexact : (f : Format) (mode : Round) (negative : Bool) (amount parts p : ℕ) → IsPick f.precision mode negative amount parts p → ltb (largest f) p ≡ false → (p * parts ≡ amount → ⊥) → is_tiny f amount parts p ≡ false
-    → IsDelivered f mode negative amount parts (signed_quanta f.nonfinite negative p) 16
-delivered_inexact f mode negative amount parts p i a n t =
-    let b : eqb (p * parts) amount ≡ false = ne_eqb (p * parts) amount n in
-    record { pick = p; is_pick = i; value_is = rw a refl; status_is = rw (a, b, t) refl }
+    record { pick = p; is_pick = i; value_is = rw a w; status_is = rw (a, b) d }
 
 -- ---- exact, or not
+
+pub loss_cases : (loss : Loss) → (loss ≡ ExactlyZero) ⊎ (loss ≡ ExactlyZero → ⊥)
+loss_cases ExactlyZero = inl refl
+loss_cases LessThanHalf = inr (λ e. cc)
+loss_cases ExactlyHalf = inr (λ e. cc)
+loss_cases MoreThanHalf = inr (λ e. cc)
 
 pub exact_if : (precision : ℕ) (mode : Round) (negative : Bool) (half m c amount parts p : ℕ) (loss : Loss) → loss ≡ ExactlyZero → 0 < parts → IsEnclosed precision half m c amount parts → StandsFor m loss amount (2 ^ c * parts) → IsPick precision mode negative amount parts p → p * parts ≡ amount
 exact_if precision mode negative half m c amount parts p loss z l i h x =
@@ -129,9 +119,9 @@ tiny_after half s place f =
     (λ (l : half ≤ s). le-ltb s half l ∙ sym (le-ltb (s * 2 ^ place) half (large_after half s place l)))
     (cases_lt s half)
 
-pub tiny_is : (f : Format) (m c amount parts s place : ℕ) (b v : Bool) → 0 < parts → IsEnclosed f.precision (2 ^ (f.precision - 1)) m c amount parts → (place ≡ 0) ⊎ (2 ^ (f.precision - 1) ≤ s)
-    → b ≡ cond f.tiny_before_rounding (ltb m (2 ^ (f.precision - 1))) (ltb s (2 ^ (f.precision - 1))) → b ≡ v → is_tiny f amount parts (s * 2 ^ place) ≡ v
-tiny_is f m c amount parts s place b v p i g e d =
+pub tiny_is : (f : Format) (m c amount parts s place : ℕ) (b : Bool) → 0 < parts → IsEnclosed f.precision (2 ^ (f.precision - 1)) m c amount parts → (place ≡ 0) ⊎ (2 ^ (f.precision - 1) ≤ s)
+    → b ≡ cond f.tiny_before_rounding (ltb m (2 ^ (f.precision - 1))) (ltb s (2 ^ (f.precision - 1))) → is_tiny f amount parts (s * 2 ^ place) ≡ b
+tiny_is f m c amount parts s place b p i g e =
     ap (λ (x : Bool). cond f.tiny_before_rounding x (ltb (s * 2 ^ place) (2 ^ (f.precision - 1)))) (sym (tiny_before f.precision (2 ^ (f.precision - 1)) m c amount parts p i))
     ∙ ap (λ (x : Bool). cond f.tiny_before_rounding (ltb m (2 ^ (f.precision - 1))) x) (sym (tiny_after (2 ^ (f.precision - 1)) s place g))
-    ∙ sym e ∙ d
+    ∙ sym e

@@ -1,0 +1,6 @@
+-- The binary logarithm of a number that is not 0, rounded down.
+use Rattle.std.specs.Prelude.{ℕ, ◌+◌, ◌-◌}
+use Rattle.std.specs.Int.Count.{count_leading_zeros}
+
+unfoldable pub log2 : ℕ → ℕ
+log2 n = n - (count_leading_zeros n n + 1)

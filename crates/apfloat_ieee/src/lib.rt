@@ -1,0 +1,12 @@
+//! Binary floating-point formats, and arithmetic on the values of one format.
+//!
+//! A format is a type that implements `Semantics`; `IeeeFloat<S>` is a value of the format `S`. The work is done by
+//! functions over a `Shape`, the constants of a format that rounding reads, and over `Unpacked` values; the generic
+//! calls only bring a type's constants to them.
+#![tactic(auto)]
+
+pub mod normalize;
+pub mod shape;
+pub mod unpacked;
+
+pub use apfloat_base::NonfiniteBehavior;
