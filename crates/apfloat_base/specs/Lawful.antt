@@ -21,6 +21,25 @@ pub record Constants : Type 0 where
   pub explicit_integer_bit : Bool
   pub tiny_before_rounding : Bool
 
+-- in the order of a type of formats
+abbrev pub constants_with : ℕ → ℕ → ℕ → NonfiniteBehavior → ℤ → ℤ → ℤ → ℤ → ℕ → ℕ → ℕ → Bool → Bool → Constants
+constants_with bits exp_bits precision nonfinite max_exp ieee_max_exp min_exp ieee_min_exp base mask quiet explicit tiny =
+    record {
+      bits = bits;
+      exp_bits = exp_bits;
+      precision = precision;
+      nonfinite = nonfinite;
+      max_exp = max_exp;
+      ieee_max_exp = ieee_max_exp;
+      min_exp = min_exp;
+      ieee_min_exp = ieee_min_exp;
+      nan_significand_base = base;
+      nan_payload_mask = mask;
+      qnan_significand = quiet;
+      explicit_integer_bit = explicit;
+      tiny_before_rounding = tiny;
+    }
+
 -- the quantum is the place of the last digit at the least exponent
 abbrev pub format_with : Constants → Format
 format_with c =

@@ -25,6 +25,7 @@ pub mod NextUp
 pub mod Exponents
 pub mod Layout
 pub mod Lawful
+pub mod LawTest
 pub mod Formats
 pub mod Digits
 pub mod Specials

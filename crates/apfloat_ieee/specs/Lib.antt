@@ -1,3 +1,5 @@
 pub mod Shapes
 pub mod Log
 pub mod Stored
+pub mod Types
+pub mod StoredBack

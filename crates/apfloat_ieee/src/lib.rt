@@ -5,8 +5,12 @@
 //! calls only bring a type's constants to them.
 #![tactic(auto)]
 
+pub mod float;
 pub mod normalize;
+pub mod semantics;
 pub mod shape;
 pub mod unpacked;
 
 pub use apfloat_base::NonfiniteBehavior;
+pub use float::IeeeFloat;
+pub use semantics::Semantics;

@@ -1,0 +1,85 @@
+//! A value of one format.
+
+ghost use Rattle.std.specs.Prelude.{◌≡◌};
+ghost use Rattle.apfloat_ieee.specs.Shapes.{IsShape};
+ghost use Rattle.apfloat_ieee.specs.Stored.{IsStored, datum_at};
+ghost use Rattle.apfloat_ieee.specs.Types.{shape_of};
+
+use crate::semantics::Semantics;
+use crate::shape::Shape;
+use crate::unpacked::Unpacked;
+use apfloat_base::StatusAnd;
+use std::marker::{Model, PhantomData};
+
+/// A value of the format `S`.
+#[derive_where(Clone, Copy)]
+pub struct IeeeFloat<S: Semantics> {
+    unpacked: Unpacked,
+    marker: PhantomData<S>,
+}
+
+impl<S: Semantics> Model for IeeeFloat<S> {
+    ghost use Rattle.apfloat_base.specs.Datum.{Datum};
+    ghost use Rattle.apfloat_ieee.specs.Stored.{IsStored, datum_at, unpacked_of};
+    ghost use Rattle.apfloat_ieee.specs.StoredBack.{comes_back};
+    ghost use Rattle.apfloat_ieee.specs.Types.{shape_of};
+
+    ghost Value = { Datum };
+
+    ghost view = { λ x. datum_at (shape_of S.Semantics) x.unpacked };
+
+    ghost invariant = { λ x. IsStored (shape_of S.Semantics) x.unpacked };
+
+    ghost inverse = { λ d. record { unpacked = unpacked_of (shape_of S.Semantics) d; marker = record {} } };
+
+    ghost inverse_ok = { λ x h. Prim.rw (comes_back (shape_of S.Semantics) x.unpacked h) };
+}
+
+/// The constants of a format that rounding reads.
+#[inline]
+pub fn shape_of<S: Semantics>() -> Shape
+    ensures value { result ≡ shape_of S.Semantics }
+    ensures lawful { IsShape result }
+{
+    Shape {
+        precision: S::PRECISION as u32,
+        min_exp: S::MIN_EXP,
+        max_exp: S::MAX_EXP,
+        nonfinite: S::NONFINITE_BEHAVIOR,
+        explicit_integer_bit: S::EXPLICIT_INTEGER_BIT,
+        tiny_before_rounding: S::TINY_BEFORE_ROUNDING,
+    }
+}
+
+impl<S: Semantics> IeeeFloat<S> {
+    /// The value that is stored so.
+    #[inline]
+    fn packed(unpacked: Unpacked) -> Self
+        requires { IsStored (shape_of S.Semantics) unpacked }
+        ensures { result ≡ datum_at (shape_of S.Semantics) unpacked }
+    {
+        IeeeFloat {
+            unpacked,
+            marker: PhantomData,
+        }
+    }
+
+    /// What is stored of the value.
+    #[inline]
+    fn unpacked(self) -> Unpacked
+        ensures stored { IsStored (shape_of S.Semantics) result }
+        ensures datum { self ≡ datum_at (shape_of S.Semantics) result }
+    {
+        self.unpacked
+    }
+
+    /// An answer with the value that is stored so.
+    #[inline]
+    fn answered(answer: StatusAnd<Unpacked>) -> StatusAnd<Self>
+        requires { IsStored (shape_of S.Semantics) answer.value }
+        ensures status { result.status ≡ answer.status }
+        ensures value { result.value ≡ datum_at (shape_of S.Semantics) answer.value }
+    {
+        answer.status.and(Self::packed(answer.value))
+    }
+}
