@@ -6,6 +6,9 @@ pub mod Picks
 pub mod Points
 pub mod Deliveries
 pub mod Laws
+pub mod Logarithms
+pub mod Encodings
+pub mod EncodedOnce
 pub mod Once
 pub mod Exists
 pub mod Scaled

@@ -26,10 +26,12 @@ pub mod Exponents
 pub mod Layout
 pub mod Lawful
 pub mod LawTest
+pub mod Interchange
 pub mod Formats
 pub mod Digits
 pub mod Specials
 pub mod Texts
 pub mod Readings
+pub mod Log
 pub mod Standing
 pub mod Enclosure

@@ -1,5 +1,4 @@
 pub mod Shapes
-pub mod Log
 pub mod Stored
 pub mod Types
 pub mod StoredBack

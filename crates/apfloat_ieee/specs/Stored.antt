@@ -11,7 +11,7 @@ use Rattle.apfloat_base.specs.Exact.{up, down}
 use Rattle.apfloat_ieee.specs.declared.shape.Shape.{Shape}
 use Rattle.apfloat_ieee.specs.declared.unpacked.Unpacked.{Unpacked}
 use Rattle.apfloat_ieee.specs.Shapes.{format_at}
-use Rattle.apfloat_ieee.specs.Log.{log2}
+use Rattle.apfloat_base.specs.Log.{log2}
 
 -- ---- a finite number that is not zero: significand * 2 ^ (exponent - (precision - 1))
 

@@ -1,5 +1,4 @@
 -- What is stored comes back from the datum that it stands for.
-use Rattle.std.specs.Int.Count.{count_leading_zeros}
 use Rattle.std.specs.Prelude.{Bool, false, ◌≡◌, ℕ, ◌+◌, ◌-◌, ◌*◌, ◌/◌, ◌^◌, ◌<◌, ◌≤◌, ℤ, pos, ◌+ℤ◌, ◌-ℤ◌}
 use Rattle.std.proofs.Common.{arith, suc, zero, refl, sym, ap, ◌∙◌, eqb, ⊎_elim}
 use Rattle.std.proofs.lemmas.Int.{ints}
@@ -13,36 +12,9 @@ use Rattle.apfloat_base.specs.Exact.{up, down}
 use Rattle.apfloat_base.proofs.Losses.{twice_half}
 use Rattle.apfloat_ieee.specs.declared.shape.Shape.{Shape}
 use Rattle.apfloat_ieee.specs.declared.unpacked.Unpacked.{Unpacked}
-use Rattle.apfloat_ieee.specs.Log.{log2}
+use Rattle.apfloat_base.specs.Log.{log2}
+use Rattle.apfloat_base.proofs.Logarithms.{log2_is}
 use Rattle.apfloat_ieee.specs.Stored.{IsOperandAt, IsQuantaAt, quanta_at, IsNormal, IsStored, IsStoredBy, datum_at, datum_by, unpacked_of, unpacked_number, exponent_at}
-
--- ---- the logarithm
-
-lt_pow : (n : ℕ) → n < 2 ^ n
-lt_pow zero = omega arith
-lt_pow (suc n) = omega (arith, lt_pow n, two-pow-succ n)
-
-pub log2_bounds : (n : ℕ) → 0 < n → (2 ^ log2 n ≤ n) × (n < 2 * 2 ^ log2 n)
-unfolding log2
-log2_bounds n h =
-    let t = leading_top n n h (lt_pow n) in
-    let e : n - (count_leading_zeros n n + 1) ≡ t.0 = omega (arith, t.1) in
-    rw e (t.2, omega (arith, t.3, two-pow-succ t.0))
-
--- a lower power of two is at most half of a higher one
-lower : (j k : ℕ) → j < k → 2 * 2 ^ j ≤ 2 ^ k
-lower j k h = let m : 2 ^ suc j ≤ 2 ^ k = pow_mono (omega arith) in omega (arith, two-pow-succ j)
-
--- only one power of two begins where a number does
-pub log2_is : (n k : ℕ) → 2 ^ k ≤ n → n < 2 * 2 ^ k → log2 n ≡ k
-log2_is n k low high =
-    let b = log2_bounds n (omega (arith, pow_pos k)) in
-    ⊎_elim
-    (λ (p : log2 n ≡ k). p)
-    (⊎_elim
-    (λ (p : log2 n < k). absurd (omega (arith, lower (log2 n) k p, b)))
-    (λ (p : k < log2 n). absurd (omega (arith, lower k (log2 n) p, b))))
-    (cases_order (log2 n) k)
 
 -- ---- a number: n * 2 ^ d is s * 2 ^ u, and s has all its digits
 
