@@ -9,6 +9,7 @@ pub mod Laws
 pub mod Logarithms
 pub mod Encodings
 pub mod EncodedOnce
+pub mod Ranges
 pub mod Once
 pub mod Exists
 pub mod Scaled

@@ -1,4 +1,5 @@
 pub mod Shapes
+pub mod Encoded
 pub mod Stored
 pub mod Types
 pub mod StoredBack

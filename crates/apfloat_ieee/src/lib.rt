@@ -5,6 +5,7 @@
 //! calls only bring a type's constants to them.
 #![tactic(auto)]
 
+pub mod bits;
 pub mod float;
 pub mod normalize;
 pub mod semantics;
