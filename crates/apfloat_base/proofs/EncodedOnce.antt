@@ -17,7 +17,7 @@ use Rattle.apfloat_base.proofs.Logarithms.{log2_is}
 use Rattle.apfloat_base.proofs.Losses.{twice_half}
 use Rattle.apfloat_base.proofs.Encodings.{fields_within, bits_back}
 
-abbrev fields_with : Bool → ℕ → ℕ → Fields
+abbrev pub fields_with : Bool → ℕ → ℕ → Fields
 fields_with negative biased_exponent trailing = record { negative = negative; biased_exponent = biased_exponent; trailing = trailing }
 
 -- the part of a significand that is not written

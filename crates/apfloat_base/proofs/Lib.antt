@@ -10,6 +10,7 @@ pub mod Logarithms
 pub mod Encodings
 pub mod EncodedOnce
 pub mod Ranges
+pub mod FieldsOf
 pub mod Once
 pub mod Exists
 pub mod Scaled

@@ -32,4 +32,3 @@ log2_is n k low high =
     (λ (p : log2 n < k). absurd (omega (arith, lower (log2 n) k p, b)))
     (λ (p : k < log2 n). absurd (omega (arith, lower k (log2 n) p, b))))
     (cases_order (log2 n) k)
-

@@ -1,7 +1,8 @@
 -- A format whose data are written as bits, by its format and its layout; and the number that fields are.
-use Rattle.std.specs.Prelude.{◌≡◌, ℕ, ◌+◌, ◌*◌, ◌^◌, ◌<◌, ◌≤◌, if◌then◌else◌}
+use Rattle.std.specs.Prelude.{◌≡◌, ℕ, ◌+◌, ◌*◌, ◌^◌, ◌<◌, ◌≤◌, true, if◌then◌else◌}
 use Rattle.apfloat_base.specs.Format.{Format}
-use Rattle.apfloat_base.specs.Layout.{Layout, Fields, trailing_bits}
+use Rattle.apfloat_base.specs.Datum.{Datum}
+use Rattle.apfloat_base.specs.Layout.{Layout, Fields, trailing_bits, is_canonical, datum_of_fields}
 use Rattle.apfloat_base.specs.Lawful.{MayBeExplicit, more_exponents}
 
 pub record IsInterchange (f : Format) (layout : Layout) : Type 0 where
@@ -21,3 +22,9 @@ pub record AreWithin (f : Format) (layout : Layout) (x : Fields) : Type 0 where
 abbrev pub bits_of_fields : Format → Layout → Fields → ℕ
 bits_of_fields f layout x =
     ((if x.negative then 1 else 0) * 2 ^ layout.exponent_bits + x.biased_exponent) * 2 ^ trailing_bits f + x.trailing
+
+-- the fields of the canonical encoding of a datum
+pub record AreFieldsOf (f : Format) (layout : Layout) (x : Fields) (datum : Datum) : Type 0 where
+  pub within : AreWithin f layout x
+  pub canonical : is_canonical f layout x ≡ true
+  pub is : datum_of_fields f layout x ≡ datum

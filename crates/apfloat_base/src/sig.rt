@@ -7,4 +7,4 @@ pub mod loss;
 pub mod shift;
 
 pub use loss::{Loss, loss_of_rest};
-pub use shift::{Shifted, digits, low_digits, power_of_two, shift_right};
+pub use shift::{Shifted, digits, low_digits, power_of_two, shift_right, steps_between};

@@ -1,5 +1,5 @@
 -- A number of quanta, and what is stored of it.
-use Rattle.std.proofs.Common.{◌≡◌, ℕ, ◌+◌, ◌-◌, ◌*◌, ◌/◌, ◌%◌, ◌^◌, ◌<◌, ◌≤◌, ℤ, pos, ◌+ℤ◌, ◌-ℤ◌, ◌≤ℤ◌, sym, ap, ◌∙◌, subst, ⊎_elim, arith}
+use Rattle.std.proofs.Common.{refl, zero, suc, ◌≡◌, ℕ, ◌+◌, ◌-◌, ◌*◌, ◌/◌, ◌%◌, ◌^◌, ◌<◌, ◌≤◌, ℤ, pos, ◌+ℤ◌, ◌-ℤ◌, ◌≤ℤ◌, sym, ap, ◌∙◌, subst, ⊎_elim, arith}
 use Rattle.std.specs.Prelude.{neg_ℤ, unsigned_abs}
 use Rattle.std.proofs.Math.Nat.{mul-le-mul_right, mul-le-mul_left, pow-le-pow_right}
 use Rattle.std.proofs.lemmas.Nat.{pow-add, pow_pos, shl-shr}
@@ -87,3 +87,38 @@ moved_up_normal s m digits place w e law h =
     let g : 2 ^ (s.precision - 1) ≤ m * 2 ^ (s.precision - digits) = full_shifted m digits (s.precision - digits) s.precision d h.full (omega arith) in
     let q : IsQuantaAt s.min_exp (m * 2 ^ (s.precision - digits)) e (m * 2 ^ place) = rw h.moved at (moved_quanta s m digits place w e h) in
     rw h.moved (normal_at s m place (s.precision - digits) e law f g (omega arith) h.exponent q h.within)
+
+-- ---- numbers below the least normal exponent, and from it on
+
+below_zero : (z : ℤ) (d : ℕ) → neg_ℤ (pos d) ≡ z → (down z ≡ d) × (up z ≡ 0)
+below_zero z zero e = rw (← e) (refl, refl)
+below_zero z (suc d) e = rw (← e) (refl, refl)
+
+above_zero : (z : ℤ) (j : ℕ) → pos j ≡ z → (up z ≡ j) × (down z ≡ 0)
+above_zero z j e = rw (← e) (refl, refl)
+
+pub quanta_low : (s : Shape) (m : ℕ) (e : ℤ) (d : ℕ) → pos d ≡ s.min_exp -ℤ e → quanta_at s.min_exp m e ≡ m / 2 ^ d
+unfolding quanta_at
+quanta_low s m e d p =
+    let a = below_zero (e -ℤ s.min_exp) d (omega (arith, ints)) in
+    let b : m * 1 ≡ m = omega arith in
+    rw (a.0, a.1, b) refl
+
+pub quanta_low_below : (s : Shape) (m : ℕ) (e : ℤ) (d : ℕ) → IsNormal s m e → 3 ≤ s.precision → pos d ≡ s.min_exp -ℤ e → 1 ≤ d → quanta_at s.min_exp m e < 2 ^ (s.precision - 1)
+quanta_low_below s m e d n p k h =
+    let q : ℕ = quanta_at s.min_exp m e in
+    let a = below_zero (e -ℤ s.min_exp) d (omega (arith, ints)) in
+    let t : 2 * 2 ^ (s.precision - 1) ≡ 2 ^ s.precision = twice_half s.precision (omega arith) in
+    let w : quanta_at s.min_exp m e * 2 ^ down (e -ℤ s.min_exp) ≡ m * 2 ^ up (e -ℤ s.min_exp) = n.whole in
+    let v : quanta_at s.min_exp m e * 2 ^ d ≡ m * 2 ^ 0 = ap (λ (x : ℕ). quanta_at s.min_exp m e * 2 ^ x) (sym a.0) ∙ w ∙ ap (λ (x : ℕ). m * 2 ^ x) a.1 in
+    let b : 2 ^ 1 ≤ 2 ^ d = pow-le-pow_right two_pos h in
+    let c : quanta_at s.min_exp m e * 2 ≤ quanta_at s.min_exp m e * 2 ^ d = mul-le-mul_left q b in
+    let f = n.operand.fits in
+    omega arith
+
+pub quanta_high : (s : Shape) (m : ℕ) (e : ℤ) (j : ℕ) → pos j ≡ e -ℤ s.min_exp → quanta_at s.min_exp m e ≡ m * 2 ^ j
+unfolding quanta_at
+quanta_high s m e j p =
+    let a = above_zero (e -ℤ s.min_exp) j p in
+    let b : m * 2 ^ j * 2 ^ 0 ≡ m * 2 ^ j = omega arith in
+    rw (a.0, a.1) (rw b at (shl-shr (m * 2 ^ j) 0))

@@ -4,14 +4,15 @@ ghost use Rattle.std.specs.Prelude.{◌≡◌, ℕ, ◌+◌, ◌-◌, ◌*◌, �
 ghost use Rattle.apfloat_base.specs.Format.{largest, smallest_normalized};
 ghost use Rattle.apfloat_base.specs.Rounding.{zero_sign};
 ghost use Rattle.apfloat_base.specs.Layout.{all_ones, trailing_bits, fields_of, implied_number, implied_datum, written_number, written_datum, datum_of_fields, datum_of, is_canonical, IsEncodedBy};
-ghost use Rattle.apfloat_base.specs.Interchange.{IsInterchange, AreWithin, bits_of_fields};
+ghost use Rattle.apfloat_base.specs.Datum.{finite, nan};
+ghost use Rattle.apfloat_base.specs.Interchange.{IsInterchange, AreWithin, AreFieldsOf, bits_of_fields};
 ghost use Rattle.apfloat_ieee.specs.Shapes.{IsShape, format_at};
-ghost use Rattle.apfloat_ieee.specs.Stored.{IsStored, datum_at};
+ghost use Rattle.apfloat_ieee.specs.Stored.{IsStored, IsNormal, IsNan, quanta_at, datum_at};
 ghost use Rattle.apfloat_ieee.specs.Encoded.{layout_at, fields_at};
 
 use crate::shape::Shape;
 use crate::unpacked::{Unpacked, infinity_of, nan_of, quanta_of};
-use apfloat_base::sig::{low_digits, power_of_two};
+use apfloat_base::sig::{low_digits, power_of_two, steps_between};
 use apfloat_base::{Category, NonfiniteBehavior};
 
 /// How many bits a value is written with, and how many of them are the biased exponent.
@@ -207,4 +208,93 @@ pub fn decode(shape: Shape, widths: Widths, bits: u128) -> Unpacked
     } else {
         implied_value(shape, widths, fields)
     }
+}
+
+/// The fields of a number.
+#[inline]
+fn fields_of_number(shape: Shape, widths: Widths, x: Unpacked) -> Fields
+    requires lawful { IsShape shape }
+    requires interchange { IsInterchange (format_at shape) (layout_at widths) }
+    requires normal { IsNormal shape x.significand x.exponent }
+    ensures { AreFieldsOf (format_at shape) (layout_at widths) (fields_at result) (finite x.negative (quanta_at shape.min_exp x.significand x.exponent)) }
+{
+    if x.exponent < shape.min_exp {
+        return Fields {
+            negative: x.negative,
+            biased_exponent: 0,
+            trailing: x.significand >> steps_between(shape.min_exp, x.exponent),
+        };
+    }
+    Fields {
+        negative: x.negative,
+        biased_exponent: u128::from(steps_between(x.exponent, shape.min_exp)) + 1,
+        trailing: if shape.explicit_integer_bit {
+            x.significand
+        } else {
+            x.significand - shape.integer_bit()
+        },
+    }
+}
+
+/// The fields of a NaN.
+#[inline]
+fn fields_of_nan(shape: Shape, widths: Widths, x: Unpacked) -> Fields
+    requires lawful { IsShape shape }
+    requires interchange { IsInterchange (format_at shape) (layout_at widths) }
+    requires nan { IsNan shape x.significand x.exponent x.negative }
+    ensures { AreFieldsOf (format_at shape) (layout_at widths) (fields_at result) (nan x.negative x.significand) }
+{
+    match shape.nonfinite {
+        NonfiniteBehavior::NanNegativeZero => Fields {
+            negative: true,
+            biased_exponent: 0,
+            trailing: 0,
+        },
+        _ => Fields {
+            negative: x.negative,
+            biased_exponent: ones(widths.exponent_bits),
+            trailing: x.significand,
+        },
+    }
+}
+
+/// The fields of the canonical encoding of a value.
+#[inline]
+fn fields_of_value(shape: Shape, widths: Widths, x: Unpacked) -> Fields
+    requires lawful { IsShape shape }
+    requires interchange { IsInterchange (format_at shape) (layout_at widths) }
+    requires stored { IsStored shape x }
+    ensures { AreFieldsOf (format_at shape) (layout_at widths) (fields_at result) (datum_at shape x) }
+{
+    match x.category {
+        Category::Zero => Fields {
+            negative: x.negative,
+            biased_exponent: 0,
+            trailing: 0,
+        },
+        Category::Infinity => Fields {
+            negative: x.negative,
+            biased_exponent: ones(widths.exponent_bits),
+            trailing: if shape.explicit_integer_bit {
+                shape.integer_bit()
+            } else {
+                0
+            },
+        },
+        Category::NaN => fields_of_nan(shape, widths, x),
+        Category::Normal => fields_of_number(shape, widths, x),
+    }
+}
+
+/// The bits of the canonical encoding of a value.
+#[inline]
+pub fn encode(shape: Shape, widths: Widths, x: Unpacked) -> u128
+    requires lawful { IsShape shape }
+    requires interchange { IsInterchange (format_at shape) (layout_at widths) }
+    requires stored { IsStored shape x }
+    ensures encoded { IsEncodedBy (format_at shape) (layout_at widths) result (datum_at shape x) }
+    ensures only { (other : ℕ) → IsEncodedBy (format_at shape) (layout_at widths) other (datum_at shape x) → other ≡ result }
+{
+    let fields = fields_of_value(shape, widths, x);
+    join(shape, widths, fields)
 }

@@ -1,8 +1,9 @@
 //! Shifts of a significand.
 
-ghost use Rattle.std.specs.Prelude.{◌≡◌, ℕ, ◌-◌, ◌*◌, ◌/◌, ◌%◌, ◌^◌, ◌<◌, ◌≤◌};
+ghost use Rattle.std.specs.Prelude.{◌≡◌, ℕ, ◌-◌, ◌*◌, ◌/◌, ◌%◌, ◌^◌, ◌<◌, ◌≤◌, pos, neg_ℤ, ◌-ℤ◌, ◌≤ℤ◌};
 ghost use Rattle.apfloat_base.specs.Standing.{StandsFor};
 
+use crate::kinds::ExpInt;
 use crate::sig::loss::{Loss, loss_of_rest};
 
 /// 2 to the power of `exponent`.
@@ -12,6 +13,17 @@ pub fn power_of_two(exponent: u32) -> u128
     ensures { result ≡ 2 ^ exponent }
 {
     1 << exponent
+}
+
+/// How far one exponent is above another.
+#[inline]
+pub fn steps_between(high: ExpInt, low: ExpInt) -> u32
+    requires above { low ≤ℤ high }
+    requires near { high ≤ℤ pos 8388608 }
+    requires far { neg_ℤ (pos 8388608) ≤ℤ low }
+    ensures { pos result ≡ high -ℤ low }
+{
+    (high - low) as u32
 }
 
 /// How many binary digits a number has; 0 has none.
