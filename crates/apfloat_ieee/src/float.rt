@@ -1,10 +1,14 @@
 //! A value of one format.
 
-ghost use Rattle.std.specs.Prelude.{◌≡◌};
+ghost use Rattle.std.specs.Prelude.{◌≡◌, ℕ, ◌^◌, ◌<◌, false};
+ghost use Rattle.apfloat_base.specs.Interchange.{IsInterchange};
+ghost use Rattle.apfloat_base.specs.Layout.{datum_of, IsEncodedBy};
+ghost use Rattle.apfloat_ieee.specs.Encoded.{layout_at};
 ghost use Rattle.apfloat_ieee.specs.Shapes.{IsShape};
 ghost use Rattle.apfloat_ieee.specs.Stored.{IsStored, datum_at};
-ghost use Rattle.apfloat_ieee.specs.Types.{shape_of};
+ghost use Rattle.apfloat_ieee.specs.Types.{shape_of, format_of, layout_of};
 
+use crate::bits::{Widths, decode, encode};
 use crate::semantics::Semantics;
 use crate::shape::Shape;
 use crate::unpacked::Unpacked;
@@ -49,6 +53,39 @@ pub fn shape_of<S: Semantics>() -> Shape
         explicit_integer_bit: S::EXPLICIT_INTEGER_BIT,
         tiny_before_rounding: S::TINY_BEFORE_ROUNDING,
     }
+}
+
+/// The widths of a format's encodings.
+#[inline]
+fn widths_of<S: Semantics>() -> Widths
+    requires { S.PRECISION < S.BITS }
+    ensures value { layout_at result ≡ layout_of S.Semantics }
+    ensures interchange { IsInterchange (format_of S.Semantics) (layout_of S.Semantics) }
+{
+    Widths {
+        bits: S::BITS as u32,
+        exponent_bits: S::EXP_BITS as u32,
+    }
+}
+
+/// The value that is written as `bits`.
+#[inline]
+pub fn read<S: Semantics>(bits: u128) -> IeeeFloat<S>
+    requires { S.PRECISION < S.BITS }
+    ensures read { result ≡ datum_of (format_of S.Semantics) (layout_of S.Semantics) bits }
+    ensures back { S.EXPLICIT_INTEGER_BIT ≡ false → bits < 2 ^ S.BITS → IsEncodedBy (format_of S.Semantics) (layout_of S.Semantics) bits result }
+{
+    IeeeFloat::packed(decode(shape_of::<S>(), widths_of::<S>(), bits))
+}
+
+/// The bits of the one canonical encoding of the value.
+#[inline]
+pub fn write<S: Semantics>(x: IeeeFloat<S>) -> u128
+    requires { S.PRECISION < S.BITS }
+    ensures written { IsEncodedBy (format_of S.Semantics) (layout_of S.Semantics) result x }
+    ensures only { (other : ℕ) → IsEncodedBy (format_of S.Semantics) (layout_of S.Semantics) other x → other ≡ result }
+{
+    encode(shape_of::<S>(), widths_of::<S>(), x.unpacked())
 }
 
 impl<S: Semantics> IeeeFloat<S> {

@@ -7,6 +7,7 @@
 
 pub mod bits;
 pub mod float;
+pub mod formats;
 pub mod normalize;
 pub mod semantics;
 pub mod shape;
@@ -14,4 +15,5 @@ pub mod unpacked;
 
 pub use apfloat_base::NonfiniteBehavior;
 pub use float::IeeeFloat;
+pub use formats::{Double, DoubleS, Half, HalfS, Single, SingleS};
 pub use semantics::Semantics;

@@ -1,9 +1,11 @@
 //! What a format is.
 
-ghost use Rattle.std.specs.Prelude.{ℕ, ℤ, Bool};
+ghost use Rattle.std.specs.Prelude.{◌≡◌, ℕ, ℤ, ◌^◌, ◌<◌, Bool, false};
 ghost use Rattle.apfloat_base.specs.declared.kinds.NonfiniteBehavior.{NonfiniteBehavior};
-ghost use Rattle.apfloat_base.specs.Lawful.{IsLawful, constants_with};
+ghost use Rattle.apfloat_base.specs.Layout.{datum_of, IsEncodedBy};
+ghost use Rattle.apfloat_base.specs.Lawful.{IsLawful, constants_with, format_with, layout_with};
 
+use crate::float::{IeeeFloat, read, write};
 use apfloat_base::{ExpInt, NonfiniteBehavior};
 
 /// A binary format.
@@ -75,6 +77,32 @@ pub trait Semantics: Copy {
     ghost EXPLICIT_INTEGER_BIT: { Bool };
 
     ghost TINY_BEFORE_ROUNDING: { Bool };
+
+    /// The value that is written as `bits` (IEEE 754-2008 3.4); bits at and above `BITS` are not looked at.
+    ///
+    /// Where the integer bit is not written, all bits below `2^BITS` are canonical: those of the value are `bits` again.
+    #[inline]
+    final fn from_bits(bits: u128) -> IeeeFloat<Self>
+        requires { PRECISION < BITS }
+        ensures read { let c = constants_with BITS EXP_BITS PRECISION NONFINITE_BEHAVIOR MAX_EXP IEEE_MAX_EXP MIN_EXP IEEE_MIN_EXP NAN_SIGNIFICAND_BASE NAN_PAYLOAD_MASK QNAN_SIGNIFICAND EXPLICIT_INTEGER_BIT TINY_BEFORE_ROUNDING in
+            result ≡ datum_of (format_with c) (layout_with c) bits }
+        ensures back { let c = constants_with BITS EXP_BITS PRECISION NONFINITE_BEHAVIOR MAX_EXP IEEE_MAX_EXP MIN_EXP IEEE_MIN_EXP NAN_SIGNIFICAND_BASE NAN_PAYLOAD_MASK QNAN_SIGNIFICAND EXPLICIT_INTEGER_BIT TINY_BEFORE_ROUNDING in
+            EXPLICIT_INTEGER_BIT ≡ false → bits < 2 ^ BITS → IsEncodedBy (format_with c) (layout_with c) bits result }
+    {
+        read::<Self>(bits)
+    }
+
+    /// The bits of the one canonical encoding of the value (IEEE 754-2008 3.4); read again they are the value.
+    #[inline]
+    final fn to_bits(x: IeeeFloat<Self>) -> u128
+        requires { PRECISION < BITS }
+        ensures written { let c = constants_with BITS EXP_BITS PRECISION NONFINITE_BEHAVIOR MAX_EXP IEEE_MAX_EXP MIN_EXP IEEE_MIN_EXP NAN_SIGNIFICAND_BASE NAN_PAYLOAD_MASK QNAN_SIGNIFICAND EXPLICIT_INTEGER_BIT TINY_BEFORE_ROUNDING in
+            IsEncodedBy (format_with c) (layout_with c) result x }
+        ensures only { let c = constants_with BITS EXP_BITS PRECISION NONFINITE_BEHAVIOR MAX_EXP IEEE_MAX_EXP MIN_EXP IEEE_MIN_EXP NAN_SIGNIFICAND_BASE NAN_PAYLOAD_MASK QNAN_SIGNIFICAND EXPLICIT_INTEGER_BIT TINY_BEFORE_ROUNDING in
+            (other : ℕ) → IsEncodedBy (format_with c) (layout_with c) other x → other ≡ result }
+    {
+        write::<Self>(x)
+    }
 
     ghost lawful: { IsLawful (constants_with BITS EXP_BITS PRECISION NONFINITE_BEHAVIOR MAX_EXP IEEE_MAX_EXP MIN_EXP IEEE_MIN_EXP NAN_SIGNIFICAND_BASE NAN_PAYLOAD_MASK QNAN_SIGNIFICAND EXPLICIT_INTEGER_BIT TINY_BEFORE_ROUNDING) };
 }
