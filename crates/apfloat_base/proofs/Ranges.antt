@@ -42,6 +42,21 @@ low_within f m precise h =
     let l = greatest_low f.nonfinite f.precision in
     at_top f m 0 (omega (arith, l, p)) (omega arith)
 
+-- the smallest number, and the smallest normalized one
+pub one_within : (f : Format) → 3 ≤ f.precision → 1 * 1 ≤ largest f
+one_within f precise =
+    let d : 2 ≤ f.precision - 1 = omega arith in
+    let p : 2 ^ 2 ≤ 2 ^ (f.precision - 1) = pow-le-pow_right two_pos d in
+    low_within f 1 precise (omega (arith, p))
+
+pub half_within : (f : Format) → 3 ≤ f.precision → 2 ^ (f.precision - 1) * 1 ≤ largest f
+half_within f precise =
+    let t : 2 * 2 ^ (f.precision - 1) ≡ 2 ^ f.precision = twice_half f.precision (omega arith) in
+    let d : 2 ≤ f.precision - 1 = omega arith in
+    let p : 2 ^ 2 ≤ 2 ^ (f.precision - 1) = pow-le-pow_right two_pos d in
+    let l = greatest_low f.nonfinite f.precision in
+    at_top f (2 ^ (f.precision - 1)) 0 (omega (arith, l, p, t)) (omega arith)
+
 -- beside infinities any significand, at each exponent but the greatest
 pub ieee_within : (f : Format) (layout : Layout) (m e : ℕ) → IsInterchange f layout → f.nonfinite ≡ IEEE754 → m < 2 ^ f.precision → e < 2 ^ layout.exponent_bits → (e ≡ all_ones layout.exponent_bits → ⊥) → m * 2 ^ (e - 1) ≤ largest f
 ieee_within f layout m e law k a b n =

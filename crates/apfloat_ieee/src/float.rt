@@ -1,6 +1,10 @@
 //! A value of one format.
 
-ghost use Rattle.std.specs.Prelude.{◌≡◌, ℕ, ◌^◌, ◌<◌, false};
+ghost use Rattle.std.specs.Prelude.{◌≡◌, ℕ, ◌-◌, ◌*◌, ◌^◌, ◌<◌, ◌≤◌, ◌⊎◌, pos, neg_ℤ, ◌+ℤ◌, ◌≤ℤ◌, false};
+ghost use Rattle.apfloat_base.specs.declared.sig.loss.Loss.{Loss};
+ghost use Rattle.apfloat_base.specs.Flags.{Gives};
+ghost use Rattle.apfloat_base.specs.Rounding.{IsDelivered};
+ghost use Rattle.apfloat_base.specs.Standing.{StandsFor, up, down};
 ghost use Rattle.apfloat_base.specs.Interchange.{IsInterchange};
 ghost use Rattle.apfloat_base.specs.Layout.{datum_of, IsEncodedBy};
 ghost use Rattle.apfloat_ieee.specs.Encoded.{layout_at};
@@ -9,10 +13,12 @@ ghost use Rattle.apfloat_ieee.specs.Stored.{IsStored, datum_at};
 ghost use Rattle.apfloat_ieee.specs.Types.{shape_of, format_of, layout_of};
 
 use crate::bits::{Widths, decode, encode};
+use crate::normalize::deliver;
 use crate::semantics::Semantics;
 use crate::shape::Shape;
 use crate::unpacked::Unpacked;
-use apfloat_base::StatusAnd;
+use apfloat_base::sig::Loss;
+use apfloat_base::{ExpInt, Round, StatusAnd};
 use std::marker::{Model, PhantomData};
 
 /// A value of the format `S`.
@@ -41,7 +47,7 @@ impl<S: Semantics> Model for IeeeFloat<S> {
 
 /// The constants of a format that rounding reads.
 #[inline]
-pub fn shape_of<S: Semantics>() -> Shape
+pub(crate) fn shape_of<S: Semantics>() -> Shape
     ensures value { result ≡ shape_of S.Semantics }
     ensures lawful { IsShape result }
 {
@@ -91,7 +97,7 @@ pub fn write<S: Semantics>(x: IeeeFloat<S>) -> u128
 impl<S: Semantics> IeeeFloat<S> {
     /// The value that is stored so.
     #[inline]
-    fn packed(unpacked: Unpacked) -> Self
+    pub(crate) fn packed(unpacked: Unpacked) -> Self
         requires { IsStored (shape_of S.Semantics) unpacked }
         ensures { result ≡ datum_at (shape_of S.Semantics) unpacked }
     {
@@ -103,7 +109,7 @@ impl<S: Semantics> IeeeFloat<S> {
 
     /// What is stored of the value.
     #[inline]
-    fn unpacked(self) -> Unpacked
+    pub(crate) fn unpacked(self) -> Unpacked
         ensures stored { IsStored (shape_of S.Semantics) result }
         ensures datum { self ≡ datum_at (shape_of S.Semantics) result }
     {
@@ -112,11 +118,39 @@ impl<S: Semantics> IeeeFloat<S> {
 
     /// An answer with the value that is stored so.
     #[inline]
-    fn answered(answer: StatusAnd<Unpacked>) -> StatusAnd<Self>
+    pub(crate) fn answered(answer: StatusAnd<Unpacked>) -> StatusAnd<Self>
         requires { IsStored (shape_of S.Semantics) answer.value }
         ensures status { result.status ≡ answer.status }
         ensures value { result.value ≡ datum_at (shape_of S.Semantics) answer.value }
     {
         answer.status.and(Self::packed(answer.value))
     }
+}
+
+/// Delivers `significand * 2^exponent`, with `loss` below its last digit, rounded once to the format (IEEE 754-2008 4.3),
+/// with exactly the flags of that rounding.
+///
+/// Where something was lost below, the unit has to be so fine that it divides the spacing of the format there: it is at
+/// most the quantum, or the significand has all digits of the format.
+#[inline]
+pub fn normalize<S: Semantics>(
+    negative: bool,
+    significand: u128,
+    exponent: ExpInt,
+    loss: Loss,
+    round: Round,
+) -> StatusAnd<IeeeFloat<S>>
+    requires near { exponent ≤ℤ pos 8388608 }
+    requires far { neg_ℤ (pos 8388608) ≤ℤ exponent }
+    requires fine { (loss ≡ Loss.ExactlyZero) ⊎ (((exponent +ℤ pos (format_of S.Semantics).scale) ≤ℤ pos 0) ⊎ (2 ^ ((format_of S.Semantics).precision - 1) ≤ significand)) }
+    ensures { let unit = exponent +ℤ pos (format_of S.Semantics).scale in (amount parts : ℕ) → 0 < parts → StandsFor significand loss (amount * 2 ^ down unit) (parts * 2 ^ up unit) → Gives (IsDelivered (format_of S.Semantics) round negative amount parts) result }
+{
+    IeeeFloat::answered(deliver(
+        shape_of::<S>(),
+        significand,
+        exponent,
+        loss,
+        round,
+        negative,
+    ))
 }

@@ -8,6 +8,8 @@
 pub mod bits;
 pub mod float;
 pub mod formats;
+pub mod impls;
+pub mod integers;
 pub mod normalize;
 pub mod semantics;
 pub mod shape;

@@ -14,7 +14,7 @@ ghost use Rattle.apfloat_ieee.specs.Shapes.{IsShape, format_at};
 ghost use Rattle.apfloat_ieee.specs.Stored.{IsStored, datum_at};
 
 use crate::shape::Shape;
-use crate::unpacked::{Unpacked, infinity_of, quanta_of};
+use crate::unpacked::{Unpacked, infinity_of, largest_of, quanta_of};
 use apfloat_base::sig::{Loss, digits, power_of_two, shift_right};
 use apfloat_base::{ExpInt, Flags, Round, Status, StatusAnd};
 

@@ -5,7 +5,7 @@ ghost use Rattle.apfloat_base.specs.Exact.{up, down};
 ghost use Rattle.apfloat_base.specs.Format.{largest};
 ghost use Rattle.apfloat_base.specs.Datum.{finite, infinite, nan};
 ghost use Rattle.apfloat_base.specs.Rounding.{zero_sign, signed_quanta};
-ghost use Rattle.apfloat_base.specs.Constants.{infinity_of};
+ghost use Rattle.apfloat_base.specs.Constants.{infinity_of, smallest_datum, smallest_normalized_datum};
 ghost use Rattle.apfloat_base.specs.Members.{IsNanSignificand};
 ghost use Rattle.apfloat_base.specs.Nan.{nan_sign};
 ghost use Rattle.apfloat_ieee.specs.Shapes.{IsShape, format_at};
@@ -118,4 +118,34 @@ pub fn quanta_of(shape: Shape, negative: bool, significand: u128, place: u32) ->
         category: Category::Normal,
         negative,
     }
+}
+
+/// The greatest finite value, with that sign.
+#[inline]
+pub fn largest_of(shape: Shape, negative: bool) -> Unpacked
+    requires { IsShape shape }
+    ensures stored { IsStored shape result }
+    ensures datum { datum_at shape result ≡ finite negative (largest (format_at shape)) }
+{
+    quanta_of(shape, negative, shape.greatest_significand(), shape.span())
+}
+
+/// One quantum.
+#[inline]
+pub fn smallest_of(shape: Shape) -> Unpacked
+    requires { IsShape shape }
+    ensures stored { IsStored shape result }
+    ensures datum { datum_at shape result ≡ smallest_datum }
+{
+    quanta_of(shape, false, 1, 0)
+}
+
+/// The smallest positive value that is not denormal.
+#[inline]
+pub fn smallest_normalized_of(shape: Shape) -> Unpacked
+    requires { IsShape shape }
+    ensures stored { IsStored shape result }
+    ensures datum { datum_at shape result ≡ smallest_normalized_datum (format_at shape) }
+{
+    quanta_of(shape, false, shape.integer_bit(), 0)
 }

@@ -1,0 +1,130 @@
+//! `Float` for each format, and what stands beside it: `Default` and `Debug`.
+
+ghost use Rattle.std.specs.Prelude.{◌≡◌, ◌^◌, ◌<◌, ℕ, false};
+ghost use Rattle.apfloat_base.specs.Flags.{Gives};
+ghost use Rattle.apfloat_base.specs.Members.{IsMember};
+ghost use Rattle.apfloat_base.specs.Classes.{category_of, is_negative};
+ghost use Rattle.apfloat_base.specs.Constants.{zero_datum, smallest_datum, infinity_datum, largest_datum, smallest_normalized_datum};
+ghost use Rattle.apfloat_base.specs.Layout.{datum_of, IsEncodedBy};
+ghost use Rattle.apfloat_base.specs.WholeNumbers.{IsFromUnsigned};
+ghost use Rattle.apfloat_ieee.specs.Types.{format_of, layout_of};
+
+use crate::float::{IeeeFloat, read, shape_of, write};
+use crate::integers::from_unsigned;
+use crate::semantics::Semantics;
+use crate::unpacked::{
+    infinity_of, largest_of, smallest_normalized_of, smallest_of, zero_of,
+};
+use apfloat_base::{Category, ExpInt, Float, Round, StatusAnd};
+
+impl<S: Semantics> Default for IeeeFloat<S> {
+    ghost is_default = { λ x. x ≡ zero_datum };
+
+    /// +0.
+    fn default() -> Self {
+        IeeeFloat::packed(zero_of(shape_of::<S>(), false))
+    }
+}
+
+impl<S: Semantics> Float for IeeeFloat<S> {
+    const BITS: usize = S::BITS;
+
+    const PRECISION: usize = S::PRECISION;
+
+    const MAX_EXP: ExpInt = S::MAX_EXP;
+
+    const MIN_EXP: ExpInt = S::MIN_EXP;
+
+    ghost BITS = { S.BITS };
+
+    ghost PRECISION = { S.PRECISION };
+
+    ghost MAX_EXP = { S.MAX_EXP };
+
+    ghost MIN_EXP = { S.MIN_EXP };
+
+    ghost the_zero = { zero_datum };
+
+    ghost the_smallest = { smallest_datum };
+
+    ghost the_infinity = { infinity_datum (format_of S.Semantics) };
+
+    ghost the_largest = { largest_datum (format_of S.Semantics) };
+
+    ghost the_smallest_normalized = { smallest_normalized_datum (format_of S.Semantics) };
+
+    ghost category_of = { category_of };
+
+    ghost sign_of = { is_negative };
+
+    ghost value_of_bits = { datum_of (format_of S.Semantics) (layout_of S.Semantics) };
+
+    ghost writes_bits = { λ x bits. IsEncodedBy (format_of S.Semantics) (layout_of S.Semantics) bits x };
+
+    ghost converts_unsigned = { λ number mode answer. Gives (IsFromUnsigned (format_of S.Semantics) mode number) answer };
+
+    #[inline]
+    fn zero() -> Self {
+        IeeeFloat::packed(zero_of(shape_of::<S>(), false))
+    }
+
+    #[inline]
+    fn smallest() -> Self {
+        IeeeFloat::packed(smallest_of(shape_of::<S>()))
+    }
+
+    #[inline]
+    fn infinity() -> Self {
+        IeeeFloat::packed(infinity_of(shape_of::<S>(), false))
+    }
+
+    #[inline]
+    fn largest() -> Self {
+        IeeeFloat::packed(largest_of(shape_of::<S>(), false))
+    }
+
+    #[inline]
+    fn smallest_normalized() -> Self {
+        IeeeFloat::packed(smallest_normalized_of(shape_of::<S>()))
+    }
+
+    #[inline]
+    fn from_bits(bits: u128) -> Self
+        requires { S.PRECISION < S.BITS }
+        ensures read { result ≡ datum_of (format_of S.Semantics) (layout_of S.Semantics) bits }
+        ensures back { S.EXPLICIT_INTEGER_BIT ≡ false → bits < 2 ^ S.BITS → IsEncodedBy (format_of S.Semantics) (layout_of S.Semantics) bits result }
+    {
+        read::<S>(bits)
+    }
+
+    #[inline]
+    fn to_bits(self) -> u128
+        requires { S.PRECISION < S.BITS }
+        ensures written { IsEncodedBy (format_of S.Semantics) (layout_of S.Semantics) result self }
+        ensures below { result < 2 ^ S.BITS }
+        ensures back { datum_of (format_of S.Semantics) (layout_of S.Semantics) result ≡ self }
+        ensures only { (other : ℕ) → IsEncodedBy (format_of S.Semantics) (layout_of S.Semantics) other self → other ≡ result }
+    {
+        write::<S>(self)
+    }
+
+    #[inline]
+    fn from_u128_r(input: u128, round: Round) -> StatusAnd<Self> {
+        IeeeFloat::answered(from_unsigned(shape_of::<S>(), input, round))
+    }
+
+    #[inline]
+    fn category(self) -> Category
+        ensures category { result ≡ category_of self }
+        ensures member { IsMember (format_of S.Semantics) self }
+    {
+        self.unpacked().category
+    }
+
+    #[inline]
+    fn is_negative(self) -> bool {
+        self.unpacked().negative
+    }
+
+    ghost default_law = { λ x h. h };
+}
