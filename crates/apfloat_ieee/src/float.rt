@@ -76,7 +76,7 @@ fn widths_of<S: Semantics>() -> Widths
 
 /// The value that is written as `bits`.
 #[inline]
-pub fn read<S: Semantics>(bits: u128) -> IeeeFloat<S>
+pub(crate) fn read<S: Semantics>(bits: u128) -> IeeeFloat<S>
     requires { S.PRECISION < S.BITS }
     ensures read { result ≡ datum_of (format_of S.Semantics) (layout_of S.Semantics) bits }
     ensures back { S.EXPLICIT_INTEGER_BIT ≡ false → bits < 2 ^ S.BITS → IsEncodedBy (format_of S.Semantics) (layout_of S.Semantics) bits result }
@@ -86,7 +86,7 @@ pub fn read<S: Semantics>(bits: u128) -> IeeeFloat<S>
 
 /// The bits of the one canonical encoding of the value.
 #[inline]
-pub fn write<S: Semantics>(x: IeeeFloat<S>) -> u128
+pub(crate) fn write<S: Semantics>(x: IeeeFloat<S>) -> u128
     requires { S.PRECISION < S.BITS }
     ensures written { IsEncodedBy (format_of S.Semantics) (layout_of S.Semantics) result x }
     ensures only { (other : ℕ) → IsEncodedBy (format_of S.Semantics) (layout_of S.Semantics) other x → other ≡ result }
@@ -153,4 +153,24 @@ pub fn normalize<S: Semantics>(
         round,
         negative,
     ))
+}
+
+#[cfg(test)]
+mod tests {
+    use super::*;
+    use crate::formats::HalfS;
+
+    #[test]
+    fn holds_denormals_normalized(rt: HostRuntime) {
+        let rows: [(u128, u128, ExpInt); 3] = [
+            (0x0001, 0x400, -24),
+            (0x03ff, 0x7fe, -15),
+            (0x0400, 0x400, -14),
+        ];
+        for (bits, significand, exponent) in rows {
+            let x = read::<HalfS>(bits).unpacked();
+            assert_eq!(rt; x.significand, significand);
+            assert_eq!(rt; x.exponent, exponent);
+        }
+    }
 }

@@ -6,6 +6,7 @@
 #![tactic(auto)]
 
 pub mod bits;
+mod debug;
 pub mod float;
 pub mod formats;
 pub mod impls;

@@ -1,0 +1,27 @@
+//! Correctly rounded software floating point on whole numbers: a port of the Rust crate `rustc_apfloat` (LLVM's
+//! APFloat) whose every call is proved against a mathematical model.
+//!
+//! The root has statuses, rounding modes and the trait `Float`; `ieee` has the formats and `IeeeFloat`.
+#![tactic(auto)]
+
+pub use apfloat_base::{
+    Category, ExpInt, Flags, Float, IEK_INF, IEK_NAN, IEK_ZERO, Round, Status, StatusAnd,
+};
+pub use apfloat_ieee as ieee;
+
+/// Sets a status to that of an expression, or joins that status to it, and is the expression's value.
+///
+/// `unpack!(status =, e)` sets it, `unpack!(status |=, e)` joins.
+#[macro_export]
+macro_rules! unpack {
+    ($status:ident =, $e:expr) => {{
+        let answer = $e;
+        $status = answer.status;
+        answer.value
+    }};
+    ($status:ident |=, $e:expr) => {{
+        let answer = $e;
+        $status = $crate::Flags::union($status, answer.status);
+        answer.value
+    }};
+}
