@@ -3,7 +3,6 @@
 //! The significand is decimal, with the sign directly before it. A finite value that is not zero shows its significand
 //! as a whole number below `2^PRECISION`, and the exponent of the integer bit, which is `MIN_EXP` at least.
 
-
 ghost use Rattle.apfloat_ieee.specs.Shapes.{IsShape};
 ghost use Rattle.apfloat_ieee.specs.Stored.{IsStored, IsNormal};
 

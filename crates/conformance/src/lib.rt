@@ -1,0 +1,2 @@
+//! Tests of the library against outside values, through its public calls alone.
+#![tactic(auto)]

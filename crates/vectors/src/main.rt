@@ -1,0 +1,4 @@
+//! Runs one operation on words, and prints its bits and flags.
+#![tactic(auto)]
+
+fn main() {}
