@@ -1,0 +1,3 @@
+pub mod Spacings
+pub mod Multiples
+pub mod PlainAnswers

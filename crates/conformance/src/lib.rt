@@ -1,2 +1,11 @@
 //! Tests of the library against outside values, through its public calls alone.
+//!
+//! Beside them stand what they need: formats of a user's own, and a plain slow program of one rounding.
 #![tactic(auto)]
+
+#[cfg(test)]
+mod comparison;
+pub mod formats;
+pub mod plain;
+#[cfg(test)]
+mod rows;

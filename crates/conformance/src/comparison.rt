@@ -1,0 +1,208 @@
+//! The library's roundings against the plain program's.
+
+ghost use Rattle.std.specs.Prelude.{◌*◌, ◌^◌, ◌<◌, ◌≤◌, pos, negsuc, ◌≤ℤ◌};
+ghost use Rattle.rustc_apfloat.specs.Types.{format_of};
+ghost use Rattle.conformance.specs.Plain.{HasBounds};
+
+use crate::formats::{HalfTinyBeforeS, SevenS};
+use crate::plain::{Answer, Bounds, deliver};
+use apfloat_base::sig::Loss;
+use rustc_apfloat::ieee::float::normalize;
+use rustc_apfloat::ieee::{Half, HalfS, Semantics};
+use rustc_apfloat::{ExpInt, Float, Round};
+use std::process::Abort;
+
+const MODES: [Round; 5] = [
+    Round::NearestTiesToEven,
+    Round::TowardPositive,
+    Round::TowardNegative,
+    Round::TowardZero,
+    Round::NearestTiesToAway,
+];
+
+/// A format with bits: its bounds, the exponent of an eighth of its quantum, and the bits of a minus sign and of the
+/// infinity.
+#[derive(Clone, Copy)]
+struct Subject {
+    bounds: Bounds,
+    exponent: ExpInt,
+    minus: u128,
+    infinity: u128,
+}
+
+/// The largest value is 65504, and a quantum is 2^-24.
+const HALF: Subject = Subject {
+    bounds: Bounds {
+        precision: 11,
+        largest: 65504 << 24,
+        smallest_normalized: 1 << 10,
+        tiny_before_rounding: false,
+    },
+    exponent: -27,
+    minus: 0x8000,
+    infinity: 0x7c00,
+};
+
+const HALF_TINY_BEFORE: Subject = Subject {
+    bounds: Bounds {
+        precision: 11,
+        largest: 65504 << 24,
+        smallest_normalized: 1 << 10,
+        tiny_before_rounding: true,
+    },
+    exponent: -27,
+    minus: 0x8000,
+    infinity: 0x7c00,
+};
+
+/// The largest value is 30, and a quantum is 2^-4.
+const SEVEN: Subject = Subject {
+    bounds: Bounds {
+        precision: 4,
+        largest: 30 << 4,
+        smallest_normalized: 1 << 3,
+        tiny_before_rounding: false,
+    },
+    exponent: -7,
+    minus: 0x40,
+    infinity: 0x38,
+};
+
+/// The bits of a value.
+fn bits_of(subject: Subject, value: Answer) -> u128
+    requires { 0 < subject.bounds.smallest_normalized }
+{
+    match value {
+        Answer::Infinite { negative } => sign_bit(subject, negative) | subject.infinity,
+        Answer::Finite { negative, quanta } => sign_bit(subject, negative)
+            | magnitude_bits(subject.bounds.smallest_normalized, quanta),
+    }
+}
+
+fn sign_bit(subject: Subject, negative: bool) -> u128 {
+    if negative { subject.minus } else { 0 }
+}
+
+/// The bits of so many quanta: they are halved until the integer bit is their highest digit, and each halving adds one to
+/// the exponent, which is written from the place of the integer bit on.
+fn magnitude_bits(integer_bit: u128, quanta: u128) -> u128
+    requires { 0 < integer_bit }
+{
+    let mut significand = quanta;
+    let mut exponent = 0;
+    while significand / 2 >= integer_bit {
+        significand /= 2;
+        exponent += integer_bit;
+    }
+    exponent + significand
+}
+
+/// Compares what the library and the plain program make of `eighths / 8` quanta, in each mode and with each sign.
+fn compare<S: Semantics>(rt: &impl Abort, subject: Subject, eighths: u128)
+    requires written { S.PRECISION < S.BITS }
+    requires bounds { HasBounds (format_of S.Semantics) subject.bounds }
+    requires some_digits { 3 ≤ subject.bounds.precision }
+    requires few_digits { subject.bounds.precision ≤ 60 }
+    requires some_normalized { 0 < subject.bounds.smallest_normalized }
+    requires few_normalized { subject.bounds.smallest_normalized < 2 ^ 60 }
+    requires far { negsuc 99 ≤ℤ subject.exponent }
+    requires near { subject.exponent ≤ℤ pos 0 }
+    requires eighths { eighths < 2 ^ 60 }
+{
+    for mode in MODES {
+        for negative in [false, true] {
+            let plain = deliver(subject.bounds, mode, negative, eighths, 8);
+            let answer = normalize::<S>(
+                negative,
+                eighths,
+                subject.exponent,
+                Loss::ExactlyZero,
+                mode,
+            );
+            assert_eq!(rt;
+                answer.value.to_bits(),
+                bits_of(subject, plain.value),
+                "{eighths} {mode:?} {negative}"
+            );
+            assert_eq!(rt;
+                answer.status,
+                plain.status,
+                "{eighths} {mode:?} {negative}"
+            );
+        }
+    }
+}
+
+/// Compares magnitudes of `Half` about `center` that are `step` apart, and those an eighth above and below each.
+fn compare_about(rt: &impl Abort, center: u128, step: u128)
+    requires far { center < 2 ^ 50 }
+    requires some { 0 < step }
+    requires near { 251 * step ≤ center }
+{
+    let first = center - 250 * step;
+    for k in 0..501u64 {
+        let eighths = first + u128::from(k) * step;
+        compare::<HalfS>(rt, HALF, eighths - 1);
+        compare::<HalfS>(rt, HALF, eighths);
+        compare::<HalfS>(rt, HALF, eighths + 1);
+    }
+}
+
+#[test]
+fn denormals_and_first_binades(rt: HostRuntime) {
+    for eighths in 0..0x4000u64 {
+        compare::<HalfS>(&rt, HALF, u128::from(eighths));
+    }
+}
+
+/// About each power of two, by eighths of the spacing above it.
+#[test]
+fn edges_of_binades(rt: HostRuntime) {
+    for place in 0..31u32 {
+        let step = 2u128.pow(place);
+        compare_about(&rt, 0x2000 * step, step);
+    }
+}
+
+/// The largest value is 65504, and from 65520 on the nearest one is past it.
+#[test]
+fn threshold_of_overflow(rt: HostRuntime) {
+    for place in [0, 9, 19, 29] {
+        let step = 2u128.pow(place);
+        compare_about(&rt, 65504 << 27, step);
+        compare_about(&rt, 65520 << 27, step);
+    }
+}
+
+#[test]
+fn denormals_where_tininess_comes_before_rounding(rt: HostRuntime) {
+    for eighths in 0..0x2800u64 {
+        compare::<HalfTinyBeforeS>(&rt, HALF_TINY_BEFORE, u128::from(eighths));
+    }
+}
+
+/// From zero to past the largest value.
+#[test]
+fn all_of_seven(rt: HostRuntime) {
+    for eighths in 0..0x1400u64 {
+        compare::<SevenS>(&rt, SEVEN, u128::from(eighths));
+    }
+}
+
+/// From zero to past the largest value.
+#[test]
+fn whole_numbers(rt: HostRuntime) {
+    for number in 0..=70000u64 {
+        let number = u128::from(number);
+        for mode in MODES {
+            let plain = deliver(HALF.bounds, mode, false, number << 24, 1);
+            let answer = Half::from_u128_r(number, mode);
+            assert_eq!(rt;
+                answer.value.to_bits(),
+                bits_of(HALF, plain.value),
+                "{number} {mode:?}"
+            );
+            assert_eq!(rt; answer.status, plain.status, "{number} {mode:?}");
+        }
+    }
+}

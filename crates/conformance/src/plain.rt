@@ -1,0 +1,165 @@
+//! One rounding by a plain slow program, with which the library's is compared.
+//!
+//! It works on whole numbers alone: a spacing is doubled until the magnitude has few enough of it, its two neighbours
+//! are multiples of that spacing, and their distances are compared. Its contracts are the definition of one rounding.
+
+ghost use Rattle.std.specs.Prelude.{◌≡◌, ◌+◌, ◌*◌, ◌^◌, ◌<◌, ◌≤◌, if◌then◌else◌};
+ghost use Rattle.rustc_apfloat.specs.Flags.{bits_of};
+ghost use Rattle.rustc_apfloat.specs.Format.{Format};
+ghost use Rattle.rustc_apfloat.specs.Grid.{IsBelow, IsAbove};
+ghost use Rattle.rustc_apfloat.specs.Rounding.{takes_above, IsPick, IsDelivered, leads_out, ok_bits, underflow_bit, inexact_bit};
+ghost use Rattle.conformance.specs.Plain.{IsSmall, IsSpacing, HasBounds, tiny_of, datum_of};
+
+use rustc_apfloat::{Flags, Round, Status, StatusAnd};
+
+/// The distance of neighbouring points of the grid about the magnitude `amount / parts`.
+fn spacing_at(precision: u32, amount: u128, parts: u128) -> u128
+    requires { IsSmall precision amount parts }
+    ensures { IsSpacing precision amount parts result }
+{
+    let count = 2u128.pow(precision);
+    let mut spacing = 1;
+    while amount / (parts * spacing) >= count {
+        spacing *= 2;
+    }
+    spacing
+}
+
+/// The greatest point of the grid that is not above `amount / parts`.
+pub fn below(precision: u32, amount: u128, parts: u128) -> u128
+    requires { IsSmall precision amount parts }
+    ensures { IsBelow precision result amount parts }
+{
+    let spacing = spacing_at(precision, amount, parts);
+    amount / (parts * spacing) * spacing
+}
+
+/// The least point of the grid that is not below `amount / parts`.
+pub fn above(precision: u32, amount: u128, parts: u128) -> u128
+    requires { IsSmall precision amount parts }
+    ensures { IsAbove precision result amount parts }
+{
+    let spacing = spacing_at(precision, amount, parts);
+    amount.div_ceil(parts * spacing) * spacing
+}
+
+/// Whether the mode takes the upper neighbour of a magnitude that is `below_by` above the lower one and `above_by` below
+/// the upper one; `odd` says that the lower one is an odd multiple of their distance.
+fn takes_above(mode: Round, negative: bool, below_by: u128, above_by: u128, odd: bool) -> bool
+    ensures { result ≡ takes_above mode negative below_by above_by odd }
+{
+    match mode {
+        Round::TowardZero => false,
+        Round::TowardPositive => !negative,
+        Round::TowardNegative => negative,
+        Round::NearestTiesToEven => above_by < below_by || above_by == below_by && odd,
+        Round::NearestTiesToAway => above_by <= below_by,
+    }
+}
+
+/// The neighbour of `amount / parts` that the mode picks.
+pub fn pick(precision: u32, mode: Round, negative: bool, amount: u128, parts: u128) -> u128
+    requires { IsSmall precision amount parts }
+    ensures { IsPick precision mode negative amount parts result }
+{
+    let below = below(precision, amount, parts);
+    let above = above(precision, amount, parts);
+    if below == above {
+        return below;
+    }
+    let below_by = amount - below * parts;
+    let above_by = above * parts - amount;
+    let odd = below / (above - below) % 2 == 1;
+    if takes_above(mode, negative, below_by, above_by, odd) {
+        above
+    } else {
+        below
+    }
+}
+
+/// The bounds of a format that has infinities; magnitudes are counted in quanta.
+#[derive(Clone, Copy, Debug)]
+pub struct Bounds {
+    pub precision: u32,
+    pub largest: u128,
+    pub smallest_normalized: u128,
+    pub tiny_before_rounding: bool,
+}
+
+/// The value that a rounding answers.
+#[derive(Clone, Copy, Debug)]
+pub enum Answer {
+    Finite { negative: bool, quanta: u128 },
+    Infinite { negative: bool },
+}
+
+/// Whether the mode leads to an infinity past the largest value.
+fn leads_out(mode: Round, negative: bool) -> bool
+    ensures { result ≡ leads_out mode negative }
+{
+    match mode {
+        Round::TowardZero => false,
+        Round::TowardPositive => !negative,
+        Round::TowardNegative => negative,
+        Round::NearestTiesToEven => true,
+        Round::NearestTiesToAway => true,
+    }
+}
+
+/// Whether an inexact result counts as tiny, by the exact magnitude or by the picked one.
+fn is_tiny(bounds: Bounds, amount: u128, parts: u128, picked: u128) -> bool
+    requires normalized { bounds.smallest_normalized < 2 ^ 60 }
+    requires parts { parts < 2 ^ 24 }
+    ensures { result ≡ tiny_of bounds amount parts picked }
+{
+    if bounds.tiny_before_rounding {
+        amount < bounds.smallest_normalized * parts
+    } else {
+        picked < bounds.smallest_normalized
+    }
+}
+
+/// The status of a rounding that stays within the format.
+fn status_within(bounds: Bounds, amount: u128, parts: u128, picked: u128) -> Status
+    requires normalized { bounds.smallest_normalized < 2 ^ 60 }
+    requires parts { parts < 2 ^ 24 }
+    requires picked { picked * parts < 2 ^ 128 }
+    ensures exact { picked * parts ≡ amount → bits_of result ≡ ok_bits }
+    ensures inexact { (picked * parts ≡ amount → ⊥) → bits_of result ≡ (if tiny_of bounds amount parts picked then underflow_bit + inexact_bit else inexact_bit) }
+{
+    if picked * parts == amount {
+        Status::OK
+    } else if is_tiny(bounds, amount, parts, picked) {
+        Status::UNDERFLOW.union(Status::INEXACT)
+    } else {
+        Status::INEXACT
+    }
+}
+
+/// The magnitude `amount / parts` with that sign, rounded once.
+pub fn deliver(
+    bounds: Bounds,
+    mode: Round,
+    negative: bool,
+    amount: u128,
+    parts: u128,
+) -> StatusAnd<Answer>
+    requires small { IsSmall bounds.precision amount parts }
+    requires normalized { bounds.smallest_normalized < 2 ^ 60 }
+    ensures { (f : Format) → HasBounds f bounds → IsDelivered f mode negative amount parts (datum_of result.value) (bits_of result.status) }
+{
+    let quanta = pick(bounds.precision, mode, negative, amount, parts);
+    if quanta <= bounds.largest {
+        return status_within(bounds, amount, parts, quanta).and(Answer::Finite {
+            negative,
+            quanta,
+        });
+    }
+    if leads_out(mode, negative) {
+        return Status::OVERFLOW
+            .union(Status::INEXACT)
+            .and(Answer::Infinite { negative });
+    }
+    let quanta = bounds.largest;
+    Status::INEXACT.and(Answer::Finite { negative, quanta })
+}
