@@ -1,0 +1,5 @@
+pub mod Numerals
+pub mod Hexadecimals
+pub mod Flags
+pub mod Once
+pub mod Runs

@@ -1,4 +1,33 @@
-//! Runs one operation on words, and prints its bits and flags.
+//! Computes one operation: `vectors FORMAT OP MODE A [B [C]]` prints the bits and the flags of the answer.
+//!
+//! The exit status is 0 for an answer, 2 for a refusal, 3 where there is no memory for the words, and 1 where a write
+//! fails or the words are no texts.
 #![tactic(auto)]
 
-fn main() {}
+mod command;
+mod output;
+mod words;
+
+use output::{refuse_memory, run};
+use std::env::Env;
+use std::io::ErrorKind;
+use std::process::ExitCode;
+use std::{env, io};
+
+fn main(rt: HostRuntime) -> ExitCode {
+    let status = match words_of_system(&rt) {
+        Ok(words) => run(words.as_slice(), &mut rt.stdout(), &mut rt.stderr()),
+        Err(error) if error.kind() == ErrorKind::OutOfMemory => refuse_memory(&mut rt.stderr()),
+        Err(_) => 1,
+    };
+    ExitCode::from(status)
+}
+
+// The words without the program's own name.
+fn words_of_system(rt: &(impl Env + AllocGlobal)) -> io::Result<Vec<String>> {
+    let words = env::args(rt)?.skip(1).collect(rt.alloc())?;
+    Ok(words)
+}
+
+#[cfg(test)]
+mod tests;
