@@ -1,2 +1,0 @@
-pub mod StoredNumbers
-pub mod StoredMembers

@@ -1,5 +1,1 @@
-pub mod Shapes
-pub mod Encoded
-pub mod Stored
 pub mod Types
-pub mod StoredBack

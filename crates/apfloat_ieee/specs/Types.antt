@@ -3,7 +3,7 @@ use Rattle.apfloat_base.specs.Format.{Format}
 use Rattle.apfloat_base.specs.Layout.{Layout}
 use Rattle.apfloat_base.specs.Lawful.{Constants, constants_with, format_with, layout_with}
 use Rattle.apfloat_ieee.specs.declared.semantics.Semantics.{Ghosts}
-use Rattle.apfloat_ieee.specs.declared.shape.Shape.{Shape}
+use Rattle.apfloat_unpacked.specs.declared.shape.Shape.{Shape}
 
 abbrev pub constants_of : {X : Type 0} → Ghosts X → Constants
 constants_of s =

@@ -3,13 +3,13 @@
 //! The significand is decimal, with the sign directly before it. A finite value that is not zero shows its significand
 //! as a whole number below `2^PRECISION`, and the exponent of the integer bit, which is `MIN_EXP` at least.
 
-ghost use Rattle.apfloat_ieee.specs.Shapes.{IsShape};
-ghost use Rattle.apfloat_ieee.specs.Stored.{IsStored, IsNormal};
+ghost use Rattle.apfloat_unpacked.specs.Shapes.{IsShape};
+ghost use Rattle.apfloat_unpacked.specs.Stored.{IsStored, IsNormal};
 
 use crate::float::{IeeeFloat, shape_of};
 use crate::semantics::Semantics;
-use crate::shape::Shape;
-use crate::unpacked::Unpacked;
+use apfloat_unpacked::shape::Shape;
+use apfloat_unpacked::unpacked::Unpacked;
 use apfloat_base::sig::steps_between;
 use apfloat_base::{Category, ExpInt, NonfiniteBehavior};
 use std::fmt;

@@ -7,16 +7,16 @@ ghost use Rattle.apfloat_base.specs.Rounding.{IsDelivered};
 ghost use Rattle.apfloat_base.specs.Standing.{StandsFor, up, down};
 ghost use Rattle.apfloat_base.specs.Interchange.{IsInterchange};
 ghost use Rattle.apfloat_base.specs.Layout.{datum_of, IsEncodedBy};
-ghost use Rattle.apfloat_ieee.specs.Encoded.{layout_at};
-ghost use Rattle.apfloat_ieee.specs.Shapes.{IsShape};
-ghost use Rattle.apfloat_ieee.specs.Stored.{IsStored, datum_at};
+ghost use Rattle.apfloat_unpacked.specs.Encoded.{layout_at};
+ghost use Rattle.apfloat_unpacked.specs.Shapes.{IsShape};
+ghost use Rattle.apfloat_unpacked.specs.Stored.{IsStored, datum_at};
 ghost use Rattle.apfloat_ieee.specs.Types.{shape_of, format_of, layout_of};
 
-use crate::bits::{Widths, decode, encode};
-use crate::normalize::deliver;
+use apfloat_unpacked::bits::{Widths, decode, encode};
+use apfloat_unpacked::normalize::deliver;
 use crate::semantics::Semantics;
-use crate::shape::Shape;
-use crate::unpacked::Unpacked;
+use apfloat_unpacked::shape::Shape;
+use apfloat_unpacked::unpacked::Unpacked;
 use apfloat_base::sig::Loss;
 use apfloat_base::{ExpInt, Round, StatusAnd};
 use std::marker::{Model, PhantomData};
@@ -30,8 +30,8 @@ pub struct IeeeFloat<S: Semantics> {
 
 impl<S: Semantics> Model for IeeeFloat<S> {
     ghost use Rattle.apfloat_base.specs.Datum.{Datum};
-    ghost use Rattle.apfloat_ieee.specs.Stored.{IsStored, datum_at, unpacked_of};
-    ghost use Rattle.apfloat_ieee.specs.StoredBack.{comes_back};
+    ghost use Rattle.apfloat_unpacked.specs.Stored.{IsStored, datum_at, unpacked_of};
+    ghost use Rattle.apfloat_unpacked.specs.StoredBack.{comes_back};
     ghost use Rattle.apfloat_ieee.specs.Types.{shape_of};
 
     ghost Value = { Datum };

@@ -10,9 +10,9 @@ ghost use Rattle.apfloat_base.specs.WholeNumbers.{IsFromUnsigned};
 ghost use Rattle.apfloat_ieee.specs.Types.{format_of, layout_of};
 
 use crate::float::{IeeeFloat, read, shape_of, write};
-use crate::integers::from_unsigned;
+use apfloat_unpacked::integers::from_unsigned;
 use crate::semantics::Semantics;
-use crate::unpacked::{infinity_of, largest_of, smallest_normalized_of, smallest_of, zero_of};
+use apfloat_unpacked::unpacked::{infinity_of, largest_of, smallest_normalized_of, smallest_of, zero_of};
 use apfloat_base::{Category, ExpInt, Float, Round, StatusAnd};
 
 impl<S: Semantics> Default for IeeeFloat<S> {

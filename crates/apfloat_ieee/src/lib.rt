@@ -1,20 +1,15 @@
 //! Binary floating-point formats, and arithmetic on the values of one format.
 //!
-//! A format is a type that implements `Semantics`; `IeeeFloat<S>` is a value of the format `S`. The work is done by
-//! functions over a `Shape`, the constants of a format that rounding reads, and over `Unpacked` values; the generic
-//! calls only bring a type's constants to them.
+//! A format is a type that implements `Semantics`; `IeeeFloat<S>` is a value of the format `S`. The work is done by the
+//! functions of `apfloat_unpacked` and `apfloat_arithmetic` over a `Shape`, the constants of a format that rounding reads;
+//! the generic calls only bring a type's constants to them.
 #![tactic(auto)]
 
-pub mod bits;
 mod debug;
 pub mod float;
 pub mod formats;
 pub mod impls;
-pub mod integers;
-pub mod normalize;
 pub mod semantics;
-pub mod shape;
-pub mod unpacked;
 
 pub use apfloat_base::NonfiniteBehavior;
 pub use float::IeeeFloat;

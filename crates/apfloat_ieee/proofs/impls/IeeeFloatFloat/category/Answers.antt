@@ -1,6 +1,6 @@
 use Rattle.std.proofs.Common.{sym}
 use Rattle.apfloat_ieee.specs.Types.{shape_of}
-use Rattle.apfloat_ieee.proofs.StoredMembers.{category_is, member_is}
+use Rattle.apfloat_unpacked.proofs.StoredMembers.{category_is, member_is}
 use Rattle.apfloat_ieee.proofs.impls.IeeeFloatFloat.category.Goals as goal
 
 pub returns-clause-category : goal.returns-clause-category

@@ -1,0 +1,2 @@
+pub mod StoredNumbers
+pub mod StoredMembers

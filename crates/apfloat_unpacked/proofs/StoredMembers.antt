@@ -1,0 +1,62 @@
+-- What is stored is a value of the format, of the category that it says.
+use Rattle.std.proofs.Common.{◌≡◌, ℕ, ◌+◌, ◌-◌, ◌*◌, ◌^◌, ◌<◌, ◌≤◌, ◌⊎◌, Bool, ℤ, pos, negsuc, ◌-ℤ◌, zero, suc, inl, inr, sym, refl, ap, ◌∙◌, subst, ⊎_elim, arith}
+use Rattle.std.proofs.lemmas.Int.{ints}
+use Rattle.std.proofs.lemmas.Nat.{pow_pos}
+use Rattle.std.proofs.lemmas.Bool.{ne_eqb}
+use Rattle.std.proofs.Math.Nat.{mul-le-mul_left}
+use Rattle.apfloat_base.specs.declared.kinds.Category.{Category}
+use Rattle.apfloat_base.specs.declared.kinds.Category.TheVariants.{Infinity, NaN, Normal, Zero}
+use Rattle.apfloat_base.specs.Exact.{up, down}
+use Rattle.apfloat_base.specs.Format.{largest}
+use Rattle.apfloat_base.specs.Grid.{IsOnGrid}
+use Rattle.apfloat_base.specs.Datum.{Datum}
+use Rattle.apfloat_base.specs.Classes.{category_of}
+use Rattle.apfloat_base.specs.Members.{IsMember}
+use Rattle.apfloat_unpacked.specs.declared.shape.Shape.{Shape}
+use Rattle.apfloat_unpacked.specs.declared.unpacked.Unpacked.{Unpacked}
+use Rattle.apfloat_unpacked.specs.Shapes.{IsShape, format_at}
+use Rattle.apfloat_unpacked.specs.Stored.{IsNormal, IsStored, IsStoredBy, datum_at, datum_by, quanta_at}
+use Rattle.apfloat_unpacked.specs.StoredBack.{quanta_some}
+
+category_by : (k : Category) (s : Shape) (x : Unpacked) → IsStoredBy k s x → category_of (datum_by k s x) ≡ k
+category_by Normal s x h = let p = quanta_some s x.significand x.exponent h in rw (ne_eqb (quanta_at s.min_exp x.significand x.exponent) 0 (λ z. omega (arith, z, p))) refl
+category_by Zero s x h = refl
+category_by Infinity s x h = refl
+category_by NaN s x h = refl
+
+pub category_is : (s : Shape) (x : Unpacked) → IsStored s x → category_of (datum_at s x) ≡ x.category
+category_is s x h = category_by x.category s x h
+
+one_side : (z : ℤ) → (up z ≡ 0) ⊎ (down z ≡ 0)
+one_side (pos n) = inr refl
+one_side (negsuc n) = inl refl
+
+-- a number that is stored is a point of the grid
+on_grid_at : (precision m n u d : ℕ) → m < 2 ^ precision → n * 2 ^ d ≡ m * 2 ^ u → (u ≡ 0) ⊎ (d ≡ 0) → IsOnGrid precision n
+on_grid_at precision m n u d h e (inl z) =
+    let w : n * 2 ^ d ≡ m * 1 = e ∙ ap (λ (x : ℕ). m * 2 ^ x) z in
+    let o : 1 ≤ 2 ^ d = pow_pos d in
+    let l : n * 1 ≤ n * 2 ^ d = mul-le-mul_left n o in
+    record { significand = n; place = 0; fits = omega arith; is = omega arith }
+on_grid_at precision m n u d h e (inr z) =
+    let w : n * 1 ≡ m * 2 ^ u = ap (λ (x : ℕ). n * 2 ^ x) (sym z) ∙ e in
+    record { significand = m; place = u; fits = h; is = omega arith }
+
+member_by : (k : Category) (s : Shape) (x : Unpacked) → IsStoredBy k s x → IsMember (format_at s) (datum_by k s x)
+member_by Normal s x h =
+    let p = quanta_some s x.significand x.exponent h in
+    record {
+      on_grid = on_grid_at s.precision x.significand _ _ _ h.operand.fits h.whole (one_side (x.exponent -ℤ s.min_exp));
+      within = h.within;
+      zero_has = λ z. absurd (omega (arith, z, p));
+    }
+member_by Zero s x h = record {
+  on_grid = record { significand = 0; place = 0; fits = pow_pos s.precision; is = refl };
+  within = omega arith;
+  zero_has = λ _. h.sign_is;
+}
+member_by Infinity s x h = h.kind
+member_by NaN s x h = h.member
+
+pub member_is : (s : Shape) (x : Unpacked) → IsStored s x → IsMember (format_at s) (datum_at s x)
+member_is s x h = member_by x.category s x h

@@ -1,0 +1,52 @@
+use Rattle.std.proofs.Common.{Bool, true, false, ℕ, subst, ◌≡◌, ◌+◌, ◌-◌, ◌*◌, ◌/◌, ◌^◌, ◌≤◌, ◌<◌, sym, refl, arith, ℤ, pos, ◌-ℤ◌, cond, to_z, of_z, w32}
+use Rattle.std.proofs.lemmas.Int.{ints}
+use Rattle.apfloat_base.specs.Format.{smallest_normalized, largest}
+use Rattle.apfloat_base.specs.Datum.{finite}
+use Rattle.apfloat_base.specs.Interchange.{IsInterchange, AreFieldsOf}
+use Rattle.apfloat_base.proofs.EncodedOnce.{fields_with}
+use Rattle.apfloat_base.proofs.FieldsOf.{low_fields_of, high_fields_of}
+use Rattle.apfloat_unpacked.specs.Shapes.{format_at, IsShape}
+use Rattle.apfloat_unpacked.specs.Stored.{quanta_at, IsNormal}
+use Rattle.apfloat_unpacked.specs.declared.shape.Shape.{Shape}
+use Rattle.apfloat_unpacked.specs.declared.bits.Widths.{Widths}
+use Rattle.apfloat_unpacked.specs.StoredBack.{quanta_some}
+use Rattle.apfloat_unpacked.specs.Encoded.{layout_at}
+use Rattle.apfloat_unpacked.proofs.StoredNumbers.{quanta_low, quanta_low_below, quanta_high}
+use Rattle.apfloat_unpacked.proofs.bits.fields_of_number.Goals as goal
+
+pub returns-then-x-shape : goal.returns-then-x-shape
+returns-then-x-shape c =
+    let s = c.args.shape in
+    let m = c.args.x.significand in
+    let e = c.args.x.exponent in
+    let o = c.requires.normal.operand in
+    let d : pos c.steps_between.result ≡ c.args.shape.min_exp -ℤ c.args.x.exponent = omega (arith, ints, o) in
+    let l : 1 ≤ c.steps_between.result = omega (arith, ints, o) in
+    let k = quanta_some s m e c.requires.normal in
+    rw (← quanta_low s m e c.steps_between.result d)
+    (low_fields_of (format_at s) (layout_at c.args.widths) c.args.x.negative (quanta_at s.min_exp m e) c.requires.interchange (quanta_low_below s m e c.steps_between.result c.requires.normal c.requires.lawful.precision_low d l) (λ z. absurd (omega (arith, z, k))))
+
+-- the fields of a number with its integer bit, by what is written of its significand
+high : (s : Shape) (widths : Widths) (b : Bool) (m j t : ℕ) (e : ℤ) → IsShape s → IsInterchange (format_at s) (layout_at widths) → IsNormal s m e → pos j ≡ e -ℤ s.min_exp → m - cond s.explicit_integer_bit 0 (smallest_normalized (format_at s)) ≡ t
+    → AreFieldsOf (format_at s) (layout_at widths) (fields_with b (j + 1) t) (finite b (quanta_at s.min_exp m e))
+high s widths b m j t e law interchange n d w =
+    let q = quanta_high s m e j d in
+    let top : m * 2 ^ j ≤ largest (format_at s) = rw q at n.within in
+    let h = high_fields_of (format_at s) (layout_at widths) interchange b j m n.operand.full n.operand.fits top in
+    rw q (subst (λ (x : ℕ). AreFieldsOf (format_at s) (layout_at widths) (fields_with b (j + 1) x) (finite b (m * 2 ^ j))) w h)
+
+hidden_none : (explicit : Bool) (m half : ℕ) → explicit ≡ true → m - cond explicit 0 half ≡ m
+hidden_none explicit m half e = rw e (omega arith)
+
+hidden_bit : (explicit : Bool) (m half : ℕ) → explicit ≡ false → m - cond explicit 0 half ≡ m - half
+hidden_bit explicit m half e = rw e refl
+
+pub returns-then-shape : goal.returns-then-shape
+returns-then-shape c =
+    let d : pos c.steps_between-2.result ≡ c.args.x.exponent -ℤ c.args.shape.min_exp = omega (arith, ints, c.requires.normal.operand) in
+    rw c.from.ensures (high c.args.shape c.args.widths c.args.x.negative c.args.x.significand c.steps_between-2.result _ c.args.x.exponent c.requires.lawful c.requires.interchange c.requires.normal d (hidden_none _ _ _ c.if-shape.true))
+
+pub returns-else-shape : goal.returns-else-shape
+returns-else-shape c =
+    let d : pos c.steps_between-2.result ≡ c.args.x.exponent -ℤ c.args.shape.min_exp = omega (arith, ints, c.requires.normal.operand) in
+    rw (c.from.ensures, c.integer_bit.ensures) (high c.args.shape c.args.widths c.args.x.negative c.args.x.significand c.steps_between-2.result _ c.args.x.exponent c.requires.lawful c.requires.interchange c.requires.normal d (hidden_bit _ _ _ c.if-shape.false))

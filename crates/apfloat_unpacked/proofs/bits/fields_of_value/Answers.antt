@@ -1,0 +1,41 @@
+use Rattle.std.proofs.Common.{◌≡◌, ◌-◌, ◌^◌, ◌<◌, ◌∙◌, sym, refl, ap, subst, Bool, true, false, ℕ, cond, arith}
+use Rattle.std.proofs.lemmas.Nat.{pow_pos}
+use Rattle.apfloat_base.specs.Format.{smallest_normalized}
+use Rattle.apfloat_base.specs.Datum.{finite, infinite}
+use Rattle.apfloat_base.specs.Interchange.{AreFieldsOf}
+use Rattle.apfloat_base.specs.Layout.{all_ones}
+use Rattle.apfloat_base.proofs.EncodedOnce.{fields_with}
+use Rattle.apfloat_base.proofs.FieldsOf.{low_fields_of, infinity_fields_of}
+use Rattle.apfloat_unpacked.specs.Shapes.{format_at}
+use Rattle.apfloat_unpacked.specs.Encoded.{layout_at}
+use Rattle.apfloat_unpacked.specs.Stored.{IsStoredBy}
+use Rattle.apfloat_unpacked.proofs.bits.fields_of_value.Goals as goal
+
+pub returns-in-Zero : goal.returns-in-Zero
+returns-in-Zero c =
+    let z = rw c.in-Zero.is at c.requires.stored in
+    rw c.in-Zero.is (low_fields_of (format_at c.args.shape) (layout_at c.args.widths) c.args.x.negative 0 c.requires.interchange (pow_pos (c.args.shape.precision - 1)) (λ _. z.sign_is))
+
+written : (b : Bool) (half : ℕ) → b ≡ true → cond b half 0 ≡ half
+written b half e = rw e refl
+
+unwritten : (b : Bool) (half : ℕ) → b ≡ false → cond b half 0 ≡ 0
+unwritten b half e = rw e refl
+
+pub returns-then-shape : goal.returns-then-shape
+returns-then-shape c =
+    let f = format_at c.args.shape in
+    let l = layout_at c.args.widths in
+    let z = rw c.in-Infinity.is at c.requires.stored in
+    let h = infinity_fields_of f l c.args.x.negative c.requires.interchange z.kind in
+    rw (c.in-Infinity.is, c.ones.ensures, c.integer_bit.ensures)
+    (subst (λ (x : ℕ). AreFieldsOf f l (fields_with c.args.x.negative (all_ones l.exponent_bits) x) (infinite c.args.x.negative)) (written _ _ c.if-shape.true) h)
+
+pub returns-else-shape : goal.returns-else-shape
+returns-else-shape c =
+    let f = format_at c.args.shape in
+    let l = layout_at c.args.widths in
+    let z = rw c.in-Infinity.is at c.requires.stored in
+    let h = infinity_fields_of f l c.args.x.negative c.requires.interchange z.kind in
+    rw (c.in-Infinity.is, c.ones.ensures)
+    (subst (λ (x : ℕ). AreFieldsOf f l (fields_with c.args.x.negative (all_ones l.exponent_bits) x) (infinite c.args.x.negative)) (unwritten _ _ c.if-shape.false) h)

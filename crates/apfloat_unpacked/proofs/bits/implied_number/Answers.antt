@@ -1,0 +1,27 @@
+use Rattle.std.proofs.Common.{◌≡◌, ◌+◌, ◌-◌, ◌*◌, ◌^◌, ◌<◌, ◌≤◌, arith}
+use Rattle.std.proofs.lemmas.Nat.{pow_pos}
+use Rattle.std.proofs.lemmas.Bool.{ne_eqb}
+use Rattle.std.proofs.Math.Nat.{mul-pos, pow-le-pow_right}
+use Rattle.apfloat_base.specs.Format.{smallest_normalized}
+use Rattle.apfloat_base.proofs.Existence.{two_pos}
+use Rattle.apfloat_base.proofs.Ranges.{low_within}
+use Rattle.apfloat_base.proofs.Deliveries.{signed_some}
+use Rattle.apfloat_unpacked.specs.Shapes.{format_at}
+use Rattle.apfloat_unpacked.proofs.bits.implied_number.Goals as goal
+
+pub quanta_of-requires-clause-within : goal.quanta_of-requires-clause-within
+quanta_of-requires-clause-within c = low_within (format_at c.args.shape) c.args.fields.trailing c.requires.lawful.precision_low c.requires.trailing
+
+pub overflow_add-integer_bit : goal.overflow_add-integer_bit
+overflow_add-integer_bit c =
+    let p : c.args.shape.precision - 1 ≤ 124 = omega (arith, c.requires.lawful.precision_high) in
+    let h : 2 ^ (c.args.shape.precision - 1) ≤ 2 ^ 124 = pow-le-pow_right two_pos p in
+    record { fits = omega (arith, h, c.integer_bit.ensures, c.requires.trailing) }
+
+pub returns-else-fields-eq0-clause-datum : goal.returns-else-fields-eq0-clause-datum
+returns-else-fields-eq0-clause-datum c =
+    let f = format_at c.args.shape in
+    let e = ne_eqb c.args.fields.biased_exponent 0 c.if-fields-eq0.false in
+    let s : 0 < smallest_normalized f = pow_pos (c.args.shape.precision - 1) in
+    let p : 0 < (smallest_normalized f + c.args.fields.trailing) * 2 ^ (c.args.fields.biased_exponent - 1) = mul-pos (omega arith) (pow_pos (c.args.fields.biased_exponent - 1)) in
+    rw (e, c.quanta_of-else-fields-eq0.ensures.datum, c.integer_bit.ensures) (signed_some c.args.shape.nonfinite c.args.fields.negative _ p)

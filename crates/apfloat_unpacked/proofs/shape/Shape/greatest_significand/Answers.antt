@@ -1,0 +1,18 @@
+use Rattle.std.proofs.Common.{◌<◌, arith}
+use Rattle.apfloat_base.proofs.Deliveries.{four}
+use Rattle.apfloat_base.proofs.Losses.{twice_half}
+use Rattle.apfloat_unpacked.proofs.shape.Shape.greatest_significand.Goals as goal
+
+pub overflow_sub-result : goal.overflow_sub-result
+overflow_sub-result c =
+    let p : 0 < c.args.self.precision = omega arith in
+    let k = four c.args.self.precision c.requires.precision_low in
+    let t = twice_half c.args.self.precision p in
+    omega (arith, k, t)
+
+pub returns-in-NanOnly-clause-full : goal.returns-in-NanOnly-clause-full
+returns-in-NanOnly-clause-full c =
+    let p : 0 < c.args.self.precision = omega arith in
+    let k = four c.args.self.precision c.requires.precision_low in
+    let t = twice_half c.args.self.precision p in
+    omega (arith, k, t)

@@ -1,0 +1,15 @@
+use Rattle.std.proofs.Common.{◌<◌, ◌-◌, ◌^◌, arith}
+use Rattle.std.proofs.lemmas.Nat.{pow_pos}
+use Rattle.apfloat_base.proofs.Losses.{twice_half}
+use Rattle.apfloat_base.proofs.Ranges.{half_within}
+use Rattle.apfloat_unpacked.specs.Shapes.{format_at}
+use Rattle.apfloat_unpacked.proofs.unpacked.smallest_normalized_of.Goals as goal
+
+pub quanta_of-requires-clause-fits : goal.quanta_of-requires-clause-fits
+quanta_of-requires-clause-fits c =
+    let t = twice_half c.args.shape.precision (omega (arith, c.requires.precision_low)) in
+    let p : 0 < 2 ^ (c.args.shape.precision - 1) = pow_pos (c.args.shape.precision - 1) in
+    rw c.integer_bit.ensures (omega (arith, t, p))
+
+pub quanta_of-requires-clause-within : goal.quanta_of-requires-clause-within
+quanta_of-requires-clause-within c = rw c.integer_bit.ensures (half_within (format_at c.args.shape) c.requires.precision_low)

@@ -1,0 +1,4 @@
+pub mod Shapes
+pub mod Encoded
+pub mod Stored
+pub mod StoredBack

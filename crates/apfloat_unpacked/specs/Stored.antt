@@ -1,0 +1,96 @@
+-- What is stored of a value, the datum that it stands for, and the way back.
+use Rattle.std.specs.Prelude.{◌≡◌, ℕ, ◌-◌, ◌*◌, ◌/◌, ◌^◌, ◌<◌, ◌≤◌, ℤ, pos, ◌+ℤ◌, ◌-ℤ◌, ◌≤ℤ◌, Bool, eqb, if◌then◌else◌}
+use Rattle.apfloat_base.specs.declared.kinds.Category.{Category}
+use Rattle.apfloat_base.specs.declared.kinds.Category.TheVariants.{Infinity, NaN, Normal, Zero}
+use Rattle.apfloat_base.specs.declared.kinds.NonfiniteBehavior.TheVariants.{IEEE754}
+use Rattle.apfloat_base.specs.Format.{largest}
+use Rattle.apfloat_base.specs.Datum.{Datum, finite, infinite, nan}
+use Rattle.apfloat_base.specs.Rounding.{zero_sign}
+use Rattle.apfloat_base.specs.Members.{IsNanOf}
+use Rattle.apfloat_base.specs.Exact.{up, down}
+use Rattle.apfloat_unpacked.specs.declared.shape.Shape.{Shape}
+use Rattle.apfloat_unpacked.specs.declared.unpacked.Unpacked.{Unpacked}
+use Rattle.apfloat_unpacked.specs.Shapes.{format_at}
+use Rattle.apfloat_base.specs.Log.{log2}
+
+-- ---- a finite number that is not zero: significand * 2 ^ (exponent - (precision - 1))
+
+-- a significand with all its digits, and an exponent from that of the quantum to the greatest
+pub record IsOperandAt (precision : ℕ) (min_exp max_exp : ℤ) (significand : ℕ) (exponent : ℤ) : Type 0 where
+  pub fits : significand < 2 ^ precision
+  pub full : 2 ^ (precision - 1) ≤ significand
+  pub least : ((min_exp +ℤ pos 1) -ℤ pos precision) ≤ℤ exponent
+  pub greatest : exponent ≤ℤ max_exp
+
+-- it is so many quanta
+abbrev pub IsQuantaAt : ℤ → ℕ → ℤ → ℕ → Type 0
+IsQuantaAt min_exp significand exponent quanta = quanta * 2 ^ down (exponent -ℤ min_exp) ≡ significand * 2 ^ up (exponent -ℤ min_exp)
+
+unfoldable pub quanta_at : ℤ → ℕ → ℤ → ℕ
+quanta_at min_exp significand exponent = significand * 2 ^ up (exponent -ℤ min_exp) / 2 ^ down (exponent -ℤ min_exp)
+
+-- it is a whole number of quanta, and at most the largest value
+pub record IsNormal (s : Shape) (significand : ℕ) (exponent : ℤ) : Type 0 where
+  pub operand : IsOperandAt s.precision s.min_exp s.max_exp significand exponent
+  pub whole : IsQuantaAt s.min_exp significand exponent (quanta_at s.min_exp significand exponent)
+  pub within : quanta_at s.min_exp significand exponent ≤ largest (format_at s)
+
+-- ---- the other values: what they do not need is zero
+
+pub record IsZero (s : Shape) (significand : ℕ) (exponent : ℤ) (negative : Bool) : Type 0 where
+  pub significand_is : significand ≡ 0
+  pub exponent_is : exponent ≡ pos 0
+  pub sign_is : negative ≡ zero_sign s.nonfinite negative
+
+pub record IsInfinity (s : Shape) (significand : ℕ) (exponent : ℤ) : Type 0 where
+  pub significand_is : significand ≡ 0
+  pub exponent_is : exponent ≡ pos 0
+  pub kind : s.nonfinite ≡ IEEE754
+
+pub record IsNan (s : Shape) (significand : ℕ) (exponent : ℤ) (negative : Bool) : Type 0 where
+  pub exponent_is : exponent ≡ pos 0
+  pub member : IsNanOf (format_at s) negative significand
+
+-- ---- by category
+
+abbrev pub IsStoredBy : Category → Shape → Unpacked → Type 0
+IsStoredBy Normal s x = IsNormal s x.significand x.exponent
+IsStoredBy Zero s x = IsZero s x.significand x.exponent x.negative
+IsStoredBy Infinity s x = IsInfinity s x.significand x.exponent
+IsStoredBy NaN s x = IsNan s x.significand x.exponent x.negative
+
+abbrev pub IsStored : Shape → Unpacked → Type 0
+IsStored s x = IsStoredBy x.category s x
+
+abbrev pub datum_by : Category → Shape → Unpacked → Datum
+datum_by Normal s x = finite x.negative (quanta_at s.min_exp x.significand x.exponent)
+datum_by Zero s x = finite x.negative 0
+datum_by Infinity s x = infinite x.negative
+datum_by NaN s x = nan x.negative x.significand
+
+-- the datum that it stands for
+abbrev pub datum_at : Shape → Unpacked → Datum
+datum_at s x = datum_by x.category s x
+
+-- ---- the way back
+
+-- the exponent of a number of quanta whose highest digit stands at that place
+abbrev pub exponent_at : Shape → ℕ → ℤ
+exponent_at s place = (s.min_exp +ℤ pos place) -ℤ pos (s.precision - 1)
+
+abbrev pub nothing_more : Category → Bool → Unpacked
+nothing_more category negative = record { significand = 0; exponent = pos 0; category = category; negative = negative }
+
+abbrev pub unpacked_number : Shape → Bool → ℕ → Unpacked
+unpacked_number s negative quanta =
+    record {
+      significand = quanta * 2 ^ (s.precision - 1) / 2 ^ log2 quanta;
+      exponent = exponent_at s (log2 quanta);
+      category = Normal;
+      negative = negative;
+    }
+
+abbrev pub unpacked_of : Shape → Datum → Unpacked
+unpacked_of s (finite b n) = if eqb n 0 then nothing_more Zero b else unpacked_number s b n
+unpacked_of s (infinite b) = nothing_more Infinity b
+unpacked_of s (nan b t) = record { significand = t; exponent = pos 0; category = NaN; negative = b }

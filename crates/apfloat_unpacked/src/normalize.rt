@@ -1,0 +1,327 @@
+//! One rounding: any significand with its unit and its loss becomes a value of a format and a status.
+//!
+//! The significand is cut once. The place of the cut follows from its length, its exponent and the format; what is cut off
+//! decides together with the incoming loss, and at most one is added to what is kept.
+
+ghost use Rattle.std.specs.Prelude.{◌≡◌, ℕ, ◌+◌, ◌-◌, ◌*◌, ◌/◌, ◌%◌, ◌^◌, ◌<◌, ◌≤◌, ◌⊎◌, ltb, pos, neg_ℤ, ◌≤ℤ◌, ◌+ℤ◌, if◌then◌else◌};
+ghost use Rattle.apfloat_base.specs.Flags.{bits_of};
+ghost use Rattle.apfloat_base.specs.Format.{Format, smallest_normalized, largest, nan_base};
+ghost use Rattle.apfloat_base.specs.Datum.{finite};
+ghost use Rattle.apfloat_base.specs.Standing.{StandsFor, up, down};
+ghost use Rattle.apfloat_base.specs.Enclosure.{IsEnclosed, rounds_up};
+ghost use Rattle.apfloat_base.specs.Rounding.{ok_bits, overflow_bit, underflow_bit, inexact_bit, IsPick, IsDelivered, leads_out, past_largest};
+ghost use Rattle.apfloat_unpacked.specs.Shapes.{IsShape, format_at};
+ghost use Rattle.apfloat_unpacked.specs.Stored.{IsStored, datum_at};
+
+use crate::shape::Shape;
+use crate::unpacked::{Unpacked, infinity_of, largest_of, quanta_of};
+use apfloat_base::sig::{Loss, digits, power_of_two, shift_right};
+use apfloat_base::{ExpInt, Flags, Round, Status, StatusAnd};
+
+/// `significand * 2^place` quanta, and what was lost below.
+#[derive(Clone, Copy, Debug)]
+struct Kept {
+    significand: u128,
+    place: u32,
+    loss: Loss,
+}
+
+/// The place of the lowest digit that is kept, of a significand with so many digits at that unit; places and units are
+/// counted from the quantum.
+#[inline]
+fn kept_place(precision: u32, digits: u32, unit: ExpInt) -> u32
+    requires precise { precision ≤ 128 }
+    requires short { digits ≤ 128 }
+    requires near { unit ≤ℤ pos 16777216 }
+    requires far { neg_ℤ (pos 16777216) ≤ℤ unit }
+    ensures near { result ≤ 33554431 }
+    ensures covers { digits + up unit ≤ result + precision + down unit }
+    ensures reached { (result ≡ 0) ⊎ (digits + up unit ≡ result + precision + down unit) }
+{
+    let top = digits as ExpInt + unit;
+    if top > precision as ExpInt {
+        (top - precision as ExpInt) as u32
+    } else {
+        0
+    }
+}
+
+/// How far the place lies above the unit.
+#[inline]
+fn steps_up(unit: ExpInt, place: u32) -> u32
+    requires above { unit ≤ℤ pos place }
+    requires near { place ≤ 33554432 }
+    requires far { neg_ℤ (pos 16777216) ≤ℤ unit }
+    ensures { result + up unit ≡ place + down unit }
+{
+    (place as ExpInt - unit) as u32
+}
+
+/// How far the unit lies above the place.
+#[inline]
+fn steps_down(unit: ExpInt, place: u32) -> u32
+    requires { pos place ≤ℤ unit }
+    ensures { place + down unit + result ≡ up unit }
+{
+    (unit - place as ExpInt) as u32
+}
+
+/// Cuts a significand once, to the digits that a format keeps.
+#[inline]
+fn keep(precision: u32, significand: u128, unit: ExpInt, loss: Loss) -> Kept
+    requires some { 0 < precision }
+    requires precise { precision ≤ 125 }
+    requires near { unit ≤ℤ pos 16777216 }
+    requires far { neg_ℤ (pos 16777216) ≤ℤ unit }
+    requires fine { (loss ≡ Loss.ExactlyZero) ⊎ ((unit ≤ℤ pos 0) ⊎ (2 ^ (precision - 1) ≤ significand)) }
+    ensures fits { result.significand < 2 ^ precision }
+    ensures full { (result.place ≡ 0) ⊎ (2 ^ (precision - 1) ≤ result.significand) }
+    ensures near { result.place ≤ 33554431 }
+    ensures enclosed { (amount parts : ℕ) → 0 < parts → StandsFor significand loss (amount * 2 ^ down unit) (parts * 2 ^ up unit) → IsEnclosed precision (2 ^ (precision - 1)) result.significand result.place amount parts }
+    ensures stands { (amount parts : ℕ) → 0 < parts → StandsFor significand loss (amount * 2 ^ down unit) (parts * 2 ^ up unit) → StandsFor result.significand result.loss amount (2 ^ result.place * parts) }
+{
+    let place = kept_place(precision, digits(significand), unit);
+    if unit > place as ExpInt {
+        if significand == 0 {
+            return Kept {
+                significand: 0,
+                place: 0,
+                loss,
+            };
+        }
+        let shift = steps_down(unit, place);
+        return Kept {
+            significand: significand << shift,
+            place,
+            loss,
+        };
+    }
+    let kept = shift_right(significand, steps_up(unit, place), loss);
+    Kept {
+        significand: kept.significand,
+        place,
+        loss: kept.loss,
+    }
+}
+
+/// Whether the mode moves a significand up for what was lost.
+#[inline]
+fn moves_up(mode: Round, negative: bool, loss: Loss, odd: bool) -> bool
+    ensures { result ≡ rounds_up mode negative loss odd }
+{
+    match loss {
+        Loss::ExactlyZero => false,
+        Loss::LessThanHalf => match mode {
+            Round::TowardPositive => !negative,
+            Round::TowardNegative => negative,
+            _ => false,
+        },
+        Loss::ExactlyHalf => match mode {
+            Round::NearestTiesToEven => odd,
+            Round::NearestTiesToAway => true,
+            Round::TowardPositive => !negative,
+            Round::TowardNegative => negative,
+            Round::TowardZero => false,
+        },
+        Loss::MoreThanHalf => match mode {
+            Round::TowardPositive => !negative,
+            Round::TowardNegative => negative,
+            Round::TowardZero => false,
+            _ => true,
+        },
+    }
+}
+
+/// A point of the grid, `significand * 2^place` quanta.
+#[derive(Clone, Copy, Debug)]
+struct Point {
+    significand: u128,
+    place: u32,
+}
+
+/// The point that the mode picks.
+#[inline]
+fn pick(precision: u32, kept: Kept, mode: Round, negative: bool) -> Point
+    requires some { 0 < precision }
+    requires precise { precision ≤ 125 }
+    requires fits { kept.significand < 2 ^ precision }
+    requires full { (kept.place ≡ 0) ⊎ (2 ^ (precision - 1) ≤ kept.significand) }
+    requires near { kept.place ≤ 33554431 }
+    ensures picked { (amount parts : ℕ) → 0 < parts → IsEnclosed precision (2 ^ (precision - 1)) kept.significand kept.place amount parts → StandsFor kept.significand kept.loss amount (2 ^ kept.place * parts) → IsPick precision mode negative amount parts (result.significand * 2 ^ result.place) }
+    ensures fits { result.significand < 2 ^ precision }
+    ensures full { (result.place ≡ 0) ⊎ (2 ^ (precision - 1) ≤ result.significand) }
+    ensures near { result.place ≤ 33554432 }
+{
+    let moved = moves_up(mode, negative, kept.loss, kept.significand % 2 == 1);
+    let significand = if moved {
+        kept.significand + 1
+    } else {
+        kept.significand
+    };
+    if significand == power_of_two(precision) {
+        Point {
+            significand: power_of_two(precision - 1),
+            place: kept.place + 1,
+        }
+    } else {
+        Point {
+            significand,
+            place: kept.place,
+        }
+    }
+}
+
+/// Whether the point is past the greatest significand at the greatest place.
+#[inline]
+fn is_past(precision: u32, point: Point, greatest: u128, span: u32) -> bool
+    requires some { 0 < precision }
+    requires fits { point.significand < 2 ^ precision }
+    requires full { (point.place ≡ 0) ⊎ (2 ^ (precision - 1) ≤ point.significand) }
+    requires greatest_fits { greatest < 2 ^ precision }
+    requires greatest_full { 2 ^ (precision - 1) ≤ greatest }
+    ensures { result ≡ ltb (greatest * 2 ^ span) (point.significand * 2 ^ point.place) }
+{
+    if point.place == span {
+        point.significand > greatest
+    } else {
+        point.place > span
+    }
+}
+
+/// Whether the mode leads out of the format past its largest value.
+#[inline]
+fn leads_past(mode: Round, negative: bool) -> bool
+    ensures { result ≡ leads_out mode negative }
+{
+    match mode {
+        Round::TowardZero => false,
+        Round::TowardPositive => !negative,
+        Round::TowardNegative => negative,
+        Round::NearestTiesToEven => true,
+        Round::NearestTiesToAway => true,
+    }
+}
+
+/// Whether an inexact result counts as tiny, by its significand before or after rounding.
+#[inline]
+fn is_tiny(shape: Shape, before: u128, after: u128) -> bool
+    requires { IsShape shape }
+    ensures { result ≡ (if shape.tiny_before_rounding then ltb before (2 ^ (shape.precision - 1)) else ltb after (2 ^ (shape.precision - 1))) }
+{
+    if shape.tiny_before_rounding {
+        before < shape.integer_bit()
+    } else {
+        after < shape.integer_bit()
+    }
+}
+
+/// What a rounding answers past the largest value.
+#[inline]
+fn overflowed(shape: Shape, mode: Round, negative: bool) -> StatusAnd<Unpacked>
+    requires { IsShape shape }
+    ensures stored { IsStored shape result.value }
+    ensures value { datum_at shape result.value ≡ (if leads_out mode negative then past_largest shape.nonfinite (nan_base (format_at shape)) negative else finite negative (largest (format_at shape))) }
+    ensures status { bits_of result.status ≡ (if leads_out mode negative then overflow_bit + inexact_bit else inexact_bit) }
+{
+    if leads_past(mode, negative) {
+        Status::OVERFLOW
+            .union(Status::INEXACT)
+            .and(infinity_of(shape, negative))
+    } else {
+        Status::INEXACT.and(quanta_of(shape, negative, shape.greatest_significand(), shape.span()))
+    }
+}
+
+/// The status of a rounding that stays within the format.
+#[inline]
+fn status_within(loss: Loss, tiny: bool) -> Status
+    ensures exact { loss ≡ Loss.ExactlyZero → bits_of result ≡ ok_bits }
+    ensures inexact { (loss ≡ Loss.ExactlyZero → ⊥) → bits_of result ≡ (if tiny then underflow_bit + inexact_bit else inexact_bit) }
+{
+    match loss {
+        Loss::ExactlyZero => Status::OK,
+        _ => {
+            if tiny {
+                Status::UNDERFLOW.union(Status::INEXACT)
+            } else {
+                Status::INEXACT
+            }
+        }
+    }
+}
+
+/// Rounds kept digits to a value of the format.
+#[inline]
+fn finish(shape: Shape, kept: Kept, mode: Round, negative: bool) -> StatusAnd<Unpacked>
+    requires lawful { IsShape shape }
+    requires fits { kept.significand < 2 ^ shape.precision }
+    requires full { (kept.place ≡ 0) ⊎ (2 ^ (shape.precision - 1) ≤ kept.significand) }
+    requires near { kept.place ≤ 33554431 }
+    ensures stored { IsStored shape result.value }
+    ensures delivered { (amount parts : ℕ) → 0 < parts → IsEnclosed shape.precision (2 ^ (shape.precision - 1)) kept.significand kept.place amount parts → StandsFor kept.significand kept.loss amount (2 ^ kept.place * parts) → IsDelivered (format_at shape) mode negative amount parts (datum_at shape result.value) (bits_of result.status) }
+{
+    let point = pick(shape.precision, kept, mode, negative);
+    let greatest = shape.greatest_significand();
+    if is_past(shape.precision, point, greatest, shape.span()) {
+        return overflowed(shape, mode, negative);
+    }
+    let tiny = is_tiny(shape, kept.significand, point.significand);
+    let status = status_within(kept.loss, tiny);
+    status.and(quanta_of(shape, negative, point.significand, point.place))
+}
+
+/// The exponent of a unit, counted from the quantum's.
+#[inline]
+fn unit_place(shape: Shape, exponent: ExpInt) -> ExpInt
+    requires lawful { IsShape shape }
+    requires near { exponent ≤ℤ pos 8388608 }
+    requires far { neg_ℤ (pos 8388608) ≤ℤ exponent }
+    ensures value { result ≡ exponent +ℤ pos (format_at shape).scale }
+    ensures near { result ≤ℤ pos 16777216 }
+    ensures far { neg_ℤ (pos 16777216) ≤ℤ result }
+{
+    exponent + shape.scale() as ExpInt
+}
+
+/// Delivers `significand * 2^exponent`, with `loss` below its last digit, rounded once.
+///
+/// Where something was lost below, the unit has to be so fine that it divides the spacing of the format there: it is at
+/// most the quantum, or the significand has all digits of the format.
+pub fn deliver(
+    shape: Shape,
+    significand: u128,
+    exponent: ExpInt,
+    loss: Loss,
+    mode: Round,
+    negative: bool,
+) -> StatusAnd<Unpacked>
+    requires lawful { IsShape shape }
+    requires near { exponent ≤ℤ pos 8388608 }
+    requires far { neg_ℤ (pos 8388608) ≤ℤ exponent }
+    requires fine { (loss ≡ Loss.ExactlyZero) ⊎ (((exponent +ℤ pos (format_at shape).scale) ≤ℤ pos 0) ⊎ (2 ^ (shape.precision - 1) ≤ significand)) }
+    ensures stored { IsStored shape result.value }
+    ensures delivered { let unit = exponent +ℤ pos (format_at shape).scale in (amount parts : ℕ) → 0 < parts → StandsFor significand loss (amount * 2 ^ down unit) (parts * 2 ^ up unit) → IsDelivered (format_at shape) mode negative amount parts (datum_at shape result.value) (bits_of result.status) }
+{
+    let unit = unit_place(shape, exponent);
+    let kept = keep(shape.precision, significand, unit, loss);
+    finish(shape, kept, mode, negative)
+}
+
+#[cfg(test)]
+mod tests {
+    use super::*;
+
+    fn cut_by_two(significand: u128, loss: Loss) -> u128
+        requires { 2 ^ 10 ≤ significand }
+    {
+        let kept = keep(11, significand, 1, loss);
+        pick(11, kept, Round::NearestTiesToEven, false).significand
+    }
+
+    #[test]
+    fn cuts_once(rt: HostRuntime) {
+        assert_eq!(rt; cut_by_two(0x1002, Loss::ExactlyZero), 0x400);
+        assert_eq!(rt; cut_by_two(0x1002, Loss::LessThanHalf), 0x401);
+        assert_eq!(rt; cut_by_two(0x1006, Loss::ExactlyZero), 0x402);
+    }
+}

@@ -1,0 +1,151 @@
+//! Unpacked values, and the one way to make each kind of them.
+
+ghost use Rattle.std.specs.Prelude.{◌≡◌, ◌+◌, ◌*◌, ◌^◌, ◌<◌, ◌≤◌, pos, neg_ℤ, ◌+ℤ◌, ◌-ℤ◌, ◌≤ℤ◌};
+ghost use Rattle.apfloat_base.specs.Exact.{up, down};
+ghost use Rattle.apfloat_base.specs.Format.{largest};
+ghost use Rattle.apfloat_base.specs.Datum.{finite, infinite, nan};
+ghost use Rattle.apfloat_base.specs.Rounding.{zero_sign, signed_quanta};
+ghost use Rattle.apfloat_base.specs.Constants.{infinity_of, smallest_datum, smallest_normalized_datum};
+ghost use Rattle.apfloat_base.specs.Members.{IsNanSignificand};
+ghost use Rattle.apfloat_base.specs.Nan.{nan_sign};
+ghost use Rattle.apfloat_unpacked.specs.Shapes.{IsShape, format_at};
+ghost use Rattle.apfloat_unpacked.specs.Stored.{IsStored, datum_at};
+
+use crate::shape::Shape;
+use apfloat_base::sig::digits;
+use apfloat_base::{Category, ExpInt, NonfiniteBehavior};
+
+/// A value taken apart.
+///
+/// A finite value that is not zero is `significand * 2^(exponent - (precision - 1))`, and its significand has the integer
+/// bit set, a denormal one's too: its lower digits are then zero as far as they lie below the quantum. A NaN has its
+/// significand as it is written. Whatever a kind of value does not need is zero.
+#[derive(Clone, Copy, Debug)]
+pub struct Unpacked {
+    pub significand: u128,
+    pub exponent: ExpInt,
+    pub category: Category,
+    pub negative: bool,
+}
+
+/// The zero of that sign, or the one zero of the format.
+#[inline]
+pub fn zero_of(shape: Shape, negative: bool) -> Unpacked
+    ensures stored { IsStored shape result }
+    ensures datum { datum_at shape result ≡ finite (zero_sign shape.nonfinite negative) 0 }
+{
+    Unpacked {
+        significand: 0,
+        exponent: 0,
+        category: Category::Zero,
+        negative: match shape.nonfinite {
+            NonfiniteBehavior::IEEE754 => negative,
+            NonfiniteBehavior::NanOnly => negative,
+            NonfiniteBehavior::NanNegativeZero => false,
+        },
+    }
+}
+
+/// The NaN with that significand, and with that sign where NaNs have one.
+#[inline]
+pub fn nan_of(shape: Shape, negative: bool, significand: u128) -> Unpacked
+    requires { IsNanSignificand shape.nonfinite shape.explicit_integer_bit shape.precision significand }
+    ensures stored { IsStored shape result }
+    ensures datum { datum_at shape result ≡ nan (nan_sign shape.nonfinite negative) significand }
+{
+    Unpacked {
+        significand,
+        exponent: 0,
+        category: Category::NaN,
+        negative: match shape.nonfinite {
+            NonfiniteBehavior::IEEE754 => negative,
+            NonfiniteBehavior::NanOnly => negative,
+            NonfiniteBehavior::NanNegativeZero => false,
+        },
+    }
+}
+
+/// The infinity of that sign; in a format without infinities the NaN that stands in its place.
+#[inline]
+pub fn infinity_of(shape: Shape, negative: bool) -> Unpacked
+    requires { IsShape shape }
+    ensures stored { IsStored shape result }
+    ensures datum { datum_at shape result ≡ infinity_of (format_at shape) negative }
+{
+    match shape.nonfinite {
+        NonfiniteBehavior::IEEE754 => Unpacked {
+            significand: 0,
+            exponent: 0,
+            category: Category::Infinity,
+            negative,
+        },
+        NonfiniteBehavior::NanOnly => nan_of(shape, negative, shape.integer_bit() - 1),
+        NonfiniteBehavior::NanNegativeZero => nan_of(shape, negative, 0),
+    }
+}
+
+/// The exponent of a number whose integer bit was moved up by `place` and down by `shift` from that of the smallest
+/// normalized value.
+#[inline]
+fn exponent_at(min_exp: ExpInt, place: u32, shift: u32) -> ExpInt
+    requires least { neg_ℤ (pos (2 ^ 20)) ≤ℤ min_exp }
+    requires below_one { min_exp ≤ℤ pos 0 }
+    requires near { place ≤ 33554432 }
+    requires short { shift ≤ 128 }
+    ensures value { result ≡ (min_exp +ℤ pos place) -ℤ pos shift }
+    ensures moved { shift + up (result -ℤ min_exp) ≡ place + down (result -ℤ min_exp) }
+{
+    min_exp + place as ExpInt - shift as ExpInt
+}
+
+/// `significand * 2^place` quanta with that sign.
+#[inline]
+pub fn quanta_of(shape: Shape, negative: bool, significand: u128, place: u32) -> Unpacked
+    requires lawful { IsShape shape }
+    requires fits { significand < 2 ^ shape.precision }
+    requires near { place ≤ 33554432 }
+    requires within { significand * 2 ^ place ≤ largest (format_at shape) }
+    ensures stored { IsStored shape result }
+    ensures datum { datum_at shape result ≡ signed_quanta shape.nonfinite negative (significand * 2 ^ place) }
+{
+    if significand == 0 {
+        return zero_of(shape, negative);
+    }
+    let shift = shape.precision - digits(significand);
+    Unpacked {
+        significand: significand << shift,
+        exponent: exponent_at(shape.min_exp, place, shift),
+        category: Category::Normal,
+        negative,
+    }
+}
+
+/// The greatest finite value, with that sign.
+#[inline]
+pub fn largest_of(shape: Shape, negative: bool) -> Unpacked
+    requires { IsShape shape }
+    ensures stored { IsStored shape result }
+    ensures datum { datum_at shape result ≡ finite negative (largest (format_at shape)) }
+{
+    quanta_of(shape, negative, shape.greatest_significand(), shape.span())
+}
+
+/// One quantum.
+#[inline]
+pub fn smallest_of(shape: Shape) -> Unpacked
+    requires { IsShape shape }
+    ensures stored { IsStored shape result }
+    ensures datum { datum_at shape result ≡ smallest_datum }
+{
+    quanta_of(shape, false, 1, 0)
+}
+
+/// The smallest positive value that is not denormal.
+#[inline]
+pub fn smallest_normalized_of(shape: Shape) -> Unpacked
+    requires { IsShape shape }
+    ensures stored { IsStored shape result }
+    ensures datum { datum_at shape result ≡ smallest_normalized_datum (format_at shape) }
+{
+    quanta_of(shape, false, shape.integer_bit(), 0)
+}
