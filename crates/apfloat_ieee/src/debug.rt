@@ -8,10 +8,10 @@ ghost use Rattle.apfloat_unpacked.specs.Stored.{IsStored, IsNormal};
 
 use crate::float::{IeeeFloat, shape_of};
 use crate::semantics::Semantics;
-use apfloat_unpacked::shape::Shape;
-use apfloat_unpacked::unpacked::Unpacked;
 use apfloat_base::sig::steps_between;
 use apfloat_base::{Category, ExpInt, NonfiniteBehavior};
+use apfloat_unpacked::shape::Shape;
+use apfloat_unpacked::unpacked::Unpacked;
 use std::fmt;
 
 /// The significand and the exponent that are shown for a value.

@@ -12,13 +12,13 @@ ghost use Rattle.apfloat_unpacked.specs.Shapes.{IsShape};
 ghost use Rattle.apfloat_unpacked.specs.Stored.{IsStored, datum_at};
 ghost use Rattle.apfloat_ieee.specs.Types.{shape_of, format_of, layout_of};
 
-use apfloat_unpacked::bits::{Widths, decode, encode};
-use apfloat_unpacked::normalize::deliver;
 use crate::semantics::Semantics;
-use apfloat_unpacked::shape::Shape;
-use apfloat_unpacked::unpacked::Unpacked;
 use apfloat_base::sig::Loss;
 use apfloat_base::{ExpInt, Round, StatusAnd};
+use apfloat_unpacked::bits::{Widths, decode, encode};
+use apfloat_unpacked::normalize::deliver;
+use apfloat_unpacked::shape::Shape;
+use apfloat_unpacked::unpacked::Unpacked;
 use std::marker::{Model, PhantomData};
 
 /// A value of the format `S`.

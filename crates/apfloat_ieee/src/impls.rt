@@ -10,10 +10,12 @@ ghost use Rattle.apfloat_base.specs.WholeNumbers.{IsFromUnsigned};
 ghost use Rattle.apfloat_ieee.specs.Types.{format_of, layout_of};
 
 use crate::float::{IeeeFloat, read, shape_of, write};
-use apfloat_unpacked::integers::from_unsigned;
 use crate::semantics::Semantics;
-use apfloat_unpacked::unpacked::{infinity_of, largest_of, smallest_normalized_of, smallest_of, zero_of};
 use apfloat_base::{Category, ExpInt, Float, Round, StatusAnd};
+use apfloat_conversions::integers::from_unsigned;
+use apfloat_unpacked::unpacked::{
+    infinity_of, largest_of, smallest_normalized_of, smallest_of, zero_of,
+};
 
 impl<S: Semantics> Default for IeeeFloat<S> {
     ghost is_default = { λ x. x ≡ zero_datum };

@@ -5,7 +5,6 @@
 #![tactic(auto)]
 
 pub mod bits;
-pub mod integers;
 pub mod normalize;
 pub mod shape;
 pub mod unpacked;
