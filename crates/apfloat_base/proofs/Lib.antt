@@ -19,3 +19,5 @@ pub mod Tables
 pub mod OneMeaning
 pub mod EachText
 pub mod ZeroTexts
+pub mod FarMagnitudes
+pub mod SingleScalings

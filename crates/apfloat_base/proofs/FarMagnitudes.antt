@@ -1,0 +1,164 @@
+-- Magnitudes so far from a format's range that only their side counts.
+use Rattle.std.proofs.Common.{◌≡◌, ℕ, ◌+◌, ◌-◌, ◌*◌, ◌^◌, ◌<◌, ◌≤◌, Bool, true, false, cond, ltb, eqb, sym, refl, ap, ◌∙◌, subst, inl, arith, zero, suc}
+use Rattle.std.proofs.Math.Nat.{mul-le-mul_right, mul-lt-mul_of_pos_right, pow-le-pow_right}
+use Rattle.std.proofs.lemmas.Nat.{pow-add, pow_pos}
+use Rattle.std.proofs.lemmas.Bool.{lt-ltb, ne_eqb}
+use Rattle.apfloat_base.specs.declared.kinds.Round.{Round}
+use Rattle.apfloat_base.specs.declared.sig.loss.Loss.TheVariants.{LessThanHalf}
+use Rattle.apfloat_base.specs.declared.kinds.NonfiniteBehavior.{NonfiniteBehavior}
+use Rattle.apfloat_base.specs.declared.kinds.NonfiniteBehavior.TheVariants.{IEEE754, NanOnly, NanNegativeZero}
+use Rattle.apfloat_base.specs.Format.{Format, largest, greatest_significand, smallest_normalized}
+use Rattle.apfloat_base.specs.Datum.{Datum}
+use Rattle.apfloat_base.specs.Grid.{IsOnGrid}
+use Rattle.apfloat_base.specs.Rounding.{IsPick, IsDelivered, delivered_value, delivered_status, is_tiny}
+use Rattle.apfloat_base.specs.Enclosure.{IsEnclosed, rounds_up}
+use Rattle.apfloat_base.proofs.Losses.{twice_half}
+use Rattle.apfloat_base.proofs.Existence.{two_pos}
+use Rattle.apfloat_base.proofs.Picks.{kept, pick_is, pick_unique}
+use Rattle.apfloat_base.proofs.Laws.{pick_within, delivered_exists}
+
+-- at or above the power of two past every value
+pub record IsFarAbove (f : Format) (amount parts : ℕ) : Type 0 where
+  pub some : 0 < parts
+  pub from : 2 ^ (f.precision + f.span) * parts ≤ amount
+
+-- below half a quantum, and not 0
+pub record IsFarBelow (amount parts : ℕ) : Type 0 where
+  pub some : 0 < amount
+  pub to : 2 * amount < parts
+
+-- ---- above
+
+pub greatest_fits : (kind : NonfiniteBehavior) (precision : ℕ) → 0 < precision → greatest_significand kind precision < 2 ^ precision
+greatest_fits IEEE754 precision h = let p : 0 < 2 ^ precision = pow_pos precision in omega arith
+greatest_fits NanOnly precision h = let p : 0 < 2 ^ precision = pow_pos precision in omega arith
+greatest_fits NanNegativeZero precision h = let p : 0 < 2 ^ precision = pow_pos precision in omega arith
+
+pub largest_below : (f : Format) → 0 < f.precision → largest f < 2 ^ (f.precision + f.span)
+largest_below f h =
+    let e : 2 ^ (f.precision + f.span) ≡ 2 ^ f.precision * 2 ^ f.span = pow-add 2 f.precision f.span in
+    let a : greatest_significand f.nonfinite f.precision * 2 ^ f.span < 2 ^ f.precision * 2 ^ f.span = mul-lt-mul_of_pos_right (greatest_fits f.nonfinite f.precision h) (pow_pos f.span) in
+    subst (λ (x : ℕ). greatest_significand f.nonfinite f.precision * 2 ^ f.span < x) (sym e) a
+
+power_on_grid : (precision k : ℕ) → 0 < precision → IsOnGrid precision (2 ^ k)
+power_on_grid precision k h =
+    let l : 1 ≤ precision = h in
+    let a : 2 ^ 1 ≤ 2 ^ precision = pow-le-pow_right two_pos l in
+    record { significand = 1; place = k; fits = omega arith; is = omega arith }
+
+-- whatever is picked is past the largest value
+pub picks_past : (f : Format) (mode : Round) (negative : Bool) (amount parts p : ℕ) → 0 < f.precision → IsFarAbove f amount parts → IsPick f.precision mode negative amount parts p → ltb (largest f) p ≡ true
+picks_past f mode negative amount parts p h x i =
+    let a : largest f < 2 ^ (f.precision + f.span) = largest_below f h in
+    let b : 2 ^ (f.precision + f.span) ≤ i.below = i.is_below.greatest (2 ^ (f.precision + f.span)) (power_on_grid f.precision (f.precision + f.span) h) x.from in
+    let c = pick_within f.precision mode negative amount parts p x.some i in
+    let d : i.below ≤ p = c.1 in
+    lt-ltb (largest f) p (omega (arith, a, b, d))
+
+value_past : (f : Format) (mode : Round) (negative : Bool) (p q : ℕ) → ltb (largest f) p ≡ true → ltb (largest f) q ≡ true → delivered_value f mode negative p ≡ delivered_value f mode negative q
+value_past f mode negative p q a b = rw (a, b) refl
+
+status_past : (f : Format) (mode : Round) (negative : Bool) (amount parts p amount' parts' q : ℕ) → ltb (largest f) p ≡ true → ltb (largest f) q ≡ true → delivered_status f mode negative amount parts p ≡ delivered_status f mode negative amount' parts' q
+status_past f mode negative amount parts p amount' parts' q a b = rw (a, b) refl
+
+-- one answer for all of them
+pub far_above : (f : Format) (mode : Round) (negative : Bool) (amount parts amount' parts' : ℕ) (v : Datum) (s : ℕ) → 0 < f.precision → IsFarAbove f amount parts → IsFarAbove f amount' parts' → IsDelivered f mode negative amount parts v s → IsDelivered f mode negative amount' parts' v s
+far_above f mode negative amount parts amount' parts' v s h x y d =
+    let e = (delivered_exists f mode negative amount' parts' h y.some).1.1 in
+    let a = picks_past f mode negative amount parts d.pick h x d.is_pick in
+    let b = picks_past f mode negative amount' parts' e.pick h y e.is_pick in
+    record {
+      pick = e.pick;
+      is_pick = e.is_pick;
+      value_is = d.value_is ∙ value_past f mode negative d.pick e.pick a b;
+      status_is = d.status_is ∙ status_past f mode negative amount parts d.pick amount' parts' e.pick a b;
+    }
+
+-- ---- below
+
+little_enclosed : (precision amount parts : ℕ) → 0 < precision → IsFarBelow amount parts → IsEnclosed precision (2 ^ (precision - 1)) 0 0 amount parts
+little_enclosed precision amount parts h x =
+    let l = x.to in
+    record { double = sym (twice_half precision h); fits = pow_pos precision; full = inl refl; from = omega arith; to = omega (arith, l) }
+
+-- 0 or one quantum, as the mode and the sign say
+pub little_pick : Round → Bool → ℕ
+little_pick mode negative = kept mode negative LessThanHalf 0 * 2 ^ 0
+
+pub picks_little : (precision : ℕ) (mode : Round) (negative : Bool) (amount parts : ℕ) → 0 < precision → IsFarBelow amount parts → IsPick precision mode negative amount parts (little_pick mode negative)
+unfolding little_pick
+picks_little precision mode negative amount parts h x =
+    let l = x.to in let k = x.some in
+    let p : 0 < parts = omega (arith, l) in
+    pick_is precision mode negative (2 ^ (precision - 1)) 0 0 amount parts LessThanHalf p (little_enclosed precision amount parts h x) (omega (arith, k), omega (arith, l))
+
+cond_little : (b : Bool) → cond b 1 0 * 2 ^ 0 ≤ 1
+cond_little true = omega arith
+cond_little false = omega arith
+
+little_within : (mode : Round) (negative : Bool) → little_pick mode negative ≤ 1
+unfolding little_pick
+little_within mode negative = cond_little (rounds_up mode negative LessThanHalf (eqb 0 1))
+
+off_little : (p amount parts : ℕ) → p ≤ 1 → 0 < amount → 2 * amount < parts → p * parts ≡ amount → ⊥
+off_little zero amount parts h k l e = omega arith
+off_little (suc zero) amount parts h k l e = omega arith
+off_little (suc (suc p)) amount parts h k l e = omega arith
+
+inexact_little : (amount parts p : ℕ) → IsFarBelow amount parts → p ≤ 1 → eqb (p * parts) amount ≡ false
+inexact_little amount parts p x h = ne_eqb (p * parts) amount (off_little p amount parts h x.some x.to)
+
+before_little : (f : Format) (amount parts : ℕ) → IsFarBelow amount parts → ltb amount (smallest_normalized f * parts) ≡ true
+before_little f amount parts x =
+    let l = x.to in
+    let w : 1 ≤ 2 ^ (f.precision - 1) = pow_pos (f.precision - 1) in
+    let a : 1 * parts ≤ 2 ^ (f.precision - 1) * parts = mul-le-mul_right parts w in
+    lt-ltb amount (smallest_normalized f * parts) (omega (arith, l, a))
+
+tiny_little : (f : Format) (amount parts amount' parts' p : ℕ) → IsFarBelow amount parts → IsFarBelow amount' parts' → is_tiny f amount parts p ≡ is_tiny f amount' parts' p
+tiny_little f amount parts amount' parts' p x y =
+    let a = before_little f amount parts x in
+    let b = before_little f amount' parts' y in
+    ap (λ (z : Bool). cond f.tiny_before_rounding z (ltb p (smallest_normalized f))) (a ∙ sym b)
+
+status_little : (f : Format) (mode : Round) (negative : Bool) (amount parts amount' parts' p : ℕ) → p ≤ 1 → IsFarBelow amount parts → IsFarBelow amount' parts' → delivered_status f mode negative amount parts p ≡ delivered_status f mode negative amount' parts' p
+status_little f mode negative amount parts amount' parts' p h x y =
+    let a = inexact_little amount parts p x h in
+    let b = inexact_little amount' parts' p y h in
+    let t = tiny_little f amount parts amount' parts' p x y in
+    rw (a, b, t) refl
+
+-- one answer for all of them
+pub far_below : (f : Format) (mode : Round) (negative : Bool) (amount parts amount' parts' : ℕ) (v : Datum) (s : ℕ) → 0 < f.precision → IsFarBelow amount parts → IsFarBelow amount' parts' → IsDelivered f mode negative amount parts v s → IsDelivered f mode negative amount' parts' v s
+far_below f mode negative amount parts amount' parts' v s h x y d =
+    let p : ℕ = little_pick mode negative in
+    let e : d.pick ≡ little_pick mode negative = pick_unique f.precision mode negative amount parts d.pick (little_pick mode negative) d.is_pick (picks_little f.precision mode negative amount parts h x) in
+    record {
+      pick = little_pick mode negative;
+      is_pick = picks_little f.precision mode negative amount' parts' h y;
+      value_is = d.value_is ∙ ap (λ (z : ℕ). delivered_value f mode negative z) e;
+      status_is =
+          d.status_is ∙ ap (λ (z : ℕ). delivered_status f mode negative amount parts z) e
+          ∙ status_little f mode negative amount parts amount' parts' (little_pick mode negative) (little_within mode negative) x y;
+    }
+
+-- ---- by the largest value, and by a quarter of a quantum
+
+greatest_half : (kind : NonfiniteBehavior) (precision : ℕ) → 3 ≤ precision → 2 ^ precision ≤ 2 * greatest_significand kind precision
+greatest_half IEEE754 precision h = let a : 2 ^ 3 ≤ 2 ^ precision = pow-le-pow_right two_pos h in omega arith
+greatest_half NanOnly precision h = let a : 2 ^ 3 ≤ 2 ^ precision = pow-le-pow_right two_pos h in omega arith
+greatest_half NanNegativeZero precision h = let a : 2 ^ 3 ≤ 2 ^ precision = pow-le-pow_right two_pos h in omega arith
+
+pub above_largest : (f : Format) (amount parts : ℕ) → 3 ≤ f.precision → 0 < parts → 4 * largest f * parts ≤ amount → IsFarAbove f amount parts
+above_largest f amount parts h p l = record {
+  some = p;
+  from =
+      let e : 2 ^ (f.precision + f.span) ≡ 2 ^ f.precision * 2 ^ f.span = pow-add 2 f.precision f.span in
+      let a : 2 ^ f.precision * 2 ^ f.span ≤ 2 * greatest_significand f.nonfinite f.precision * 2 ^ f.span = mul-le-mul_right (2 ^ f.span) (greatest_half f.nonfinite f.precision h) in
+      let b : 2 ^ (f.precision + f.span) ≤ 4 * largest f = omega (arith, e, a) in
+      let c : 2 ^ (f.precision + f.span) * parts ≤ 4 * largest f * parts = mul-le-mul_right parts b in
+      omega (arith, c, l);
+}
+
+pub below_quarter : (amount parts : ℕ) → 0 < amount → 4 * amount < parts → IsFarBelow amount parts
+below_quarter amount parts h l = record { some = h; to = omega arith }
