@@ -18,6 +18,7 @@ pub mod Inverses
 pub mod Tables
 pub mod OneMeaning
 pub mod EachText
+pub mod LiteralMeanings
 pub mod ZeroTexts
 pub mod FarMagnitudes
 pub mod SingleScalings

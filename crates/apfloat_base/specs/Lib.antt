@@ -31,6 +31,7 @@ pub mod Formats
 pub mod Digits
 pub mod Specials
 pub mod Texts
+pub mod Literals
 pub mod Readings
 pub mod Log
 pub mod Standing

@@ -6,10 +6,12 @@
 
 pub mod float;
 pub mod kinds;
+pub mod parse_error;
 pub mod sig;
 pub mod status;
 
 pub use bitflags::Flags;
 pub use float::Float;
 pub use kinds::{Category, ExpInt, IEK_INF, IEK_NAN, IEK_ZERO, NonfiniteBehavior, Round};
+pub use parse_error::ParseError;
 pub use status::{Status, StatusAnd};
