@@ -14,6 +14,10 @@ pub mod FieldsOf
 pub mod Once
 pub mod Exists
 pub mod Scaled
+pub mod Powers
+pub mod Fractions
+pub mod Divisions
+pub mod ProductLaws
 pub mod Inverses
 pub mod Tables
 pub mod OneMeaning

@@ -4,7 +4,11 @@
 //! where the rest is zero, below, at or above half of a unit as the `Loss` says (`StandsFor` in `specs/Standing.antt`).
 
 pub mod loss;
+pub mod product;
+pub mod quotient;
 pub mod shift;
 
 pub use loss::{Loss, loss_of_rest};
+pub use product::full_product;
+pub use quotient::{Quotient, divide};
 pub use shift::{Shifted, digits, low_digits, power_of_two, shift_right, steps_between};
