@@ -13,5 +13,9 @@ pub mod semantics;
 
 pub use apfloat_base::NonfiniteBehavior;
 pub use float::IeeeFloat;
-pub use formats::{Double, DoubleS, Half, HalfS, Single, SingleS};
+pub use formats::{
+    BFloat, BFloatS, Double, DoubleS, FallbackExtendedS, FallbackS, Float8E4M3FN, Float8E4M3FNS,
+    Float8E4M3FNUZ, Float8E4M3FNUZS, Float8E5M2, Float8E5M2S, Half, HalfS, Quad, QuadS, Single,
+    SingleS, X87DoubleExtended, X87DoubleExtendedS,
+};
 pub use semantics::Semantics;
