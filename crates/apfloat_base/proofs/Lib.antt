@@ -26,3 +26,4 @@ pub mod LiteralMeanings
 pub mod ZeroTexts
 pub mod FarMagnitudes
 pub mod SingleScalings
+pub mod Totals

@@ -36,3 +36,4 @@ pub mod Readings
 pub mod Log
 pub mod Standing
 pub mod Enclosure
+pub mod Totals
