@@ -1,0 +1,2 @@
+mod WholeQuotients
+mod NearestMultiples

@@ -3,3 +3,5 @@
 //! Nothing here is generic. Each operation answers what the model says of its operands, NaNs, infinities and zeros too;
 //! `apfloat_ieee` brings the constants of a type to it.
 #![tactic(auto)]
+
+pub mod remainders;

@@ -1,0 +1,212 @@
+-- The nearest multiple of a divisor, and remainders in other units.
+use Rattle.std.proofs.Common.{◌≡◌, ◌⊎◌, inl, inr, ℕ, Bool, true, false, not, cond, eqb, ◌+◌, ◌-◌, ◌*◌, ◌/◌, ◌%◌, ◌^◌, ◌<◌, ◌≤◌, sym, refl, ap, ◌∙◌, subst, ⊎_elim, arith, ℤ, pos, ◌+ℤ◌}
+use Rattle.std.proofs.Math.Bool.{beq}
+use Rattle.std.proofs.Math.Nat.{mul-le-mul_left, mul-lt-mul_of_pos_right, lt_of_mul-lt-mul_right, eq_of_mul-eq-mul_right, mod-lt, mod-add-div', mul-div-mul_right, div-one}
+use Rattle.std.proofs.lemmas.Bool.{cases_lt, le-ltb, lt-ltb, ne_eqb, false≢true}
+use Rattle.std.proofs.lemmas.Nat.{pow-add, pow_pos}
+use Rattle.std.proofs.lemmas.Int.{ints}
+use Rattle.apfloat_base.specs.declared.kinds.NonfiniteBehavior.{NonfiniteBehavior}
+use Rattle.apfloat_base.specs.declared.kinds.Round.TheVariants.{NearestTiesToEven}
+use Rattle.apfloat_base.specs.Rounding.{takes_above, signed_quanta}
+use Rattle.apfloat_base.specs.Remainders.{nearest_quotient, rest_of}
+use Rattle.apfloat_base.specs.Exact.{up, down}
+use Rattle.apfloat_base.proofs.Picks.{takes_less, takes_half, takes_more, cond_same}
+use Rattle.apfloat_arithmetic.proofs.WholeQuotients.{below_divisor, twice_power}
+
+-- whether the multiple above is the nearest
+abbrev pub upper : ℕ → ℕ → Bool → Bool
+upper r s odd = takes_above NearestTiesToEven false r s odd
+
+pub upper_scaled : (r s w : ℕ) (odd : Bool) → 0 < w → upper r s odd ≡ upper (r * w) (s * w) odd
+upper_scaled r s w odd p =
+    ⊎_elim
+    (λ (l : r < s).
+    let m : r * w < s * w = mul-lt-mul_of_pos_right l p in
+    takes_less NearestTiesToEven false odd r s l ∙ sym (takes_less NearestTiesToEven false odd (r * w) (s * w) m))
+    (λ (l : s ≤ r).
+    ⊎_elim
+    (λ (g : s < r).
+    let m : s * w < r * w = mul-lt-mul_of_pos_right g p in
+    takes_more NearestTiesToEven false odd r s g ∙ sym (takes_more NearestTiesToEven false odd (r * w) (s * w) m))
+    (λ (g : r ≤ s).
+    let e : r ≡ s = omega arith in
+    takes_half NearestTiesToEven false odd r s e ∙ sym (takes_half NearestTiesToEven false odd (r * w) (s * w) (ap (λ (x : ℕ). x * w) e)))
+    (cases_lt s r))
+    (cases_lt r s)
+
+pub difference_scaled : (d r w : ℕ) → r ≤ d → (d - r) * w ≡ d * w - r * w
+difference_scaled d r w l =
+    let e : (d - r) + r ≡ d = omega arith in
+    let f : ((d - r) + r) * w ≡ d * w = ap (λ (x : ℕ). x * w) e in
+    omega arith
+
+pub upper_level : (r d w s t : ℕ) (odd odd2 : Bool) → 0 < w → r ≤ d → r * w ≡ s → d * w ≡ t → odd ≡ odd2 → upper r (d - r) odd ≡ upper s (t - s) odd2
+upper_level r d w s t odd odd2 p l e f o =
+    upper_scaled r (d - r) w odd p
+    ∙ ap (λ (x : ℕ). upper (r * w) x odd) (difference_scaled d r w l)
+    ∙ ap (λ (x : ℕ). upper x (d * w - x) odd) e
+    ∙ ap (λ (x : ℕ). upper s (x - s) odd) f
+    ∙ ap (λ (x : Bool). upper s (t - s) x) o
+
+pub lower_near : (r d : ℕ) (odd : Bool) → 2 * r < d → false ≡ upper r (d - r) odd
+lower_near r d odd l = let m : r < d - r = omega arith in sym (takes_less NearestTiesToEven false odd r (d - r) m)
+
+-- two places and more below the divisor
+pub far_below : (precision r p t q : ℕ) → 0 < precision → r < 2 ^ precision → 2 ^ (precision - 1) ≤ t → p + 1 < q → 2 * (r * 2 ^ p) < t * 2 ^ q
+far_below precision r p t q z f l g =
+    let a : r * 2 ^ (p + 1) < t * 2 ^ q = below_divisor precision r (p + 1) t q z f l g in
+    let e : r * 2 ^ (p + 1) ≡ r * (2 * 2 ^ p) = ap (λ (x : ℕ). r * x) (twice_power p) in
+    omega arith
+
+pub one_below : (t p q : ℕ) → q ≡ p + 1 → 2 * t * 2 ^ p ≡ t * 2 ^ q
+one_below t p q e =
+    let f : t * 2 ^ q ≡ t * 2 ^ (p + 1) = ap (λ (x : ℕ). t * 2 ^ x) e in
+    let g : t * 2 ^ (p + 1) ≡ t * (2 * 2 ^ p) = ap (λ (x : ℕ). t * x) (twice_power p) in
+    omega arith
+
+pub digits_less : (r d w s t : ℕ) → r * w ≡ s → d * w ≡ t → s < t → r < d
+digits_less r d w s t e f l = let m : r * w < d * w = omega arith in lt_of_mul-lt-mul_right w m
+
+-- ---- other units
+
+pub rest_scaled : (a b w : ℕ) → 0 < w → a * w % (b * w) ≡ a % b * w
+rest_scaled a b w p =
+    let q : a * w / (b * w) ≡ a / b = mul-div-mul_right a b p in
+    let e : a * w % (b * w) + a * w / (b * w) * (b * w) ≡ a * w = mod-add-div' (a * w) (b * w) in
+    let f : a * w / (b * w) * (b * w) ≡ a / b * (b * w) = ap (λ (x : ℕ). x * (b * w)) q in
+    let g : (a % b + a / b * b) * w ≡ a * w = ap (λ (x : ℕ). x * w) (mod-add-div' a b) in
+    omega arith
+
+pub quotient_scaled : (a b w : ℕ) → 0 < w → a * w / (b * w) ≡ a / b
+quotient_scaled a b w p = mul-div-mul_right a b p
+
+-- an operand by its digits, 2 ^ low to the quantum
+pub operand_scaled : (place low n s t : ℕ) (e : ℤ) → t ≡ s → pos place ≡ (e +ℤ pos low) → n * 2 ^ down e ≡ s * 2 ^ up e → t * 2 ^ place ≡ n * 2 ^ low
+operand_scaled place low n s t e z h k =
+    let g : place + down e ≡ up e + low = omega (arith, ints) in
+    let a : 2 ^ place * 2 ^ down e ≡ 2 ^ up e * 2 ^ low = sym (pow-add 2 place (down e)) ∙ ap (λ (x : ℕ). 2 ^ x) g ∙ pow-add 2 (up e) low in
+    let b : s * (2 ^ place * 2 ^ down e) ≡ s * (2 ^ up e * 2 ^ low) = ap (λ (x : ℕ). s * x) a in
+    let c : n * 2 ^ down e * 2 ^ low ≡ s * 2 ^ up e * 2 ^ low = ap (λ (x : ℕ). x * 2 ^ low) k in
+    let d : s * 2 ^ place * 2 ^ down e ≡ n * 2 ^ low * 2 ^ down e = omega arith in
+    let f : s * 2 ^ place ≡ n * 2 ^ low = eq_of_mul-eq-mul_right (2 ^ down e) (pow_pos (down e)) (s * 2 ^ place) (n * 2 ^ low) d in
+    ap (λ (x : ℕ). x * 2 ^ place) z ∙ f
+
+-- the remainder of scaled operands
+pub rest_in : (x y a b w r : ℕ) → 0 < w → x ≡ a * w → y ≡ b * w → r ≡ x % y → r ≡ a % b * w
+rest_in x y a b w r p e f h = h ∙ ap (λ (z : ℕ). z % y) e ∙ ap (λ (z : ℕ). a * w % z) f ∙ rest_scaled a b w p
+
+pub quotient_in : (x y a b w : ℕ) → 0 < w → x ≡ a * w → y ≡ b * w → x / y ≡ a / b
+quotient_in x y a b w p e f = ap (λ (z : ℕ). z / y) e ∙ ap (λ (z : ℕ). a * w / z) f ∙ quotient_scaled a b w p
+
+pub divisor_some : (y b w : ℕ) → y ≡ b * w → 0 < y → 0 < b
+divisor_some y b w e l =
+    let m : 0 * w < b * w = omega arith in
+    lt_of_mul-lt-mul_right w m
+
+-- ---- what is left, with its sign
+
+pub rest_within : (kind : NonfiniteBehavior) (negative : Bool) (a taken n : ℕ) → taken ≤ a → a - taken ≡ n → signed_quanta kind negative n ≡ rest_of kind negative a taken
+rest_within kind negative a taken n l e =
+    ap (λ (x : ℕ). signed_quanta kind negative x) (sym e) ∙ sym (ap (λ (x : Bool). cond x (signed_quanta kind (not negative) (taken - a)) (signed_quanta kind negative (a - taken))) (le-ltb a taken l))
+
+pub rest_past : (kind : NonfiniteBehavior) (negative : Bool) (a taken n : ℕ) → a < taken → taken - a ≡ n → signed_quanta kind (not negative) n ≡ rest_of kind negative a taken
+rest_past kind negative a taken n l e =
+    ap (λ (x : ℕ). signed_quanta kind (not negative) x) (sym e) ∙ sym (ap (λ (x : Bool). cond x (signed_quanta kind (not negative) (taken - a)) (signed_quanta kind negative (a - taken))) (lt-ltb a taken l))
+
+pub truncated_value : (kind : NonfiniteBehavior) (negative : Bool) (a b n : ℕ) → n ≡ a % b → signed_quanta kind negative n ≡ rest_of kind negative a (b * (a / b))
+truncated_value kind negative a b n e =
+    let m = mod-add-div' a b in
+    let l : b * (a / b) ≤ a = omega arith in
+    rest_within kind negative a (b * (a / b)) n l (omega arith)
+
+upper_is : (a b : ℕ) → upper (a - a / b * b) ((a / b + 1) * b - a) (eqb (a / b / (a / b + 1 - a / b) % 2) 1) ≡ upper (a % b) (b - a % b) (eqb (a / b % 2) 1)
+upper_is a b =
+    let m = mod-add-div' a b in
+    let e : a - a / b * b ≡ a % b = omega arith in
+    let f : (a / b + 1) * b - a ≡ b - a % b = omega arith in
+    let g : a / b + 1 - a / b ≡ 1 = omega arith in
+    let h : a / b / (a / b + 1 - a / b) ≡ a / b = ap (λ (x : ℕ). a / b / x) g ∙ div-one (a / b) in
+    ap (λ (x : ℕ). upper x ((a / b + 1) * b - a) (eqb (a / b / (a / b + 1 - a / b) % 2) 1)) e
+    ∙ ap (λ (x : ℕ). upper (a % b) x (eqb (a / b / (a / b + 1 - a / b) % 2) 1)) f
+    ∙ ap (λ (x : ℕ). upper (a % b) (b - a % b) (eqb (x % 2) 1)) h
+
+nearest_is : (a b : ℕ) (past : Bool) → past ≡ upper (a % b) (b - a % b) (eqb (a / b % 2) 1) → nearest_quotient a b ≡ cond (eqb (a % b) 0) (a / b) (cond past (a / b + 1) (a / b))
+nearest_is a b past e = ap (λ (x : Bool). cond (eqb (a % b) 0) (a / b) (cond x (a / b + 1) (a / b))) (upper_is a b ∙ sym e)
+
+pub upper_far : (r d : ℕ) (odd : Bool) → true ≡ upper r (d - r) odd → d - r ≤ r
+upper_far r d odd e =
+    ⊎_elim
+    (λ (l : r < d - r). absurd (false≢true (sym (takes_less NearestTiesToEven false odd r (d - r) l) ∙ sym e)))
+    (λ (l : d - r ≤ r). l)
+    (cases_lt r (d - r))
+
+pub lower_far : (r d : ℕ) (odd : Bool) → false ≡ upper r (d - r) odd → r ≤ d - r
+lower_far r d odd e =
+    ⊎_elim
+    (λ (l : d - r < r). absurd (false≢true (e ∙ takes_more NearestTiesToEven false odd r (d - r) l)))
+    (λ (l : r ≤ d - r). l)
+    (cases_lt (d - r) r)
+
+nearest_past : (kind : NonfiniteBehavior) (negative : Bool) (a b n : ℕ) → 0 < b → true ≡ upper (a % b) (b - a % b) (eqb (a / b % 2) 1) → n ≡ b - a % b → signed_quanta kind (not negative) n ≡ rest_of kind negative a (b * nearest_quotient a b)
+nearest_past kind negative a b n p t e =
+    let m = mod-add-div' a b in
+    let l : a % b < b = mod-lt a p in
+    let f : b - a % b ≤ a % b = upper_far (a % b) b (eqb (a / b % 2) 1) t in
+    let z : a % b ≡ 0 → ⊥ = omega arith in
+    let q : nearest_quotient a b ≡ a / b + 1 = nearest_is a b true t ∙ ap (λ (x : Bool). cond x (a / b) (a / b + 1)) (ne_eqb (a % b) 0 z) in
+    let g : b * nearest_quotient a b ≡ b * (a / b + 1) = ap (λ (x : ℕ). b * x) q in
+    let h : a < b * (a / b + 1) = omega arith in
+    subst (λ (x : ℕ). signed_quanta kind (not negative) n ≡ rest_of kind negative a x) (sym g) (rest_past kind negative a (b * (a / b + 1)) n h (omega arith))
+
+nearest_within : (kind : NonfiniteBehavior) (negative : Bool) (a b n : ℕ) → false ≡ upper (a % b) (b - a % b) (eqb (a / b % 2) 1) → n ≡ a % b → signed_quanta kind negative n ≡ rest_of kind negative a (b * nearest_quotient a b)
+nearest_within kind negative a b n t e =
+    let q : nearest_quotient a b ≡ a / b = nearest_is a b false t ∙ sym (cond_same (eqb (a % b) 0) (a / b)) in
+    let g : b * nearest_quotient a b ≡ b * (a / b) = ap (λ (x : ℕ). b * x) q in
+    subst (λ (x : ℕ). signed_quanta kind negative n ≡ rest_of kind negative a x) (sym g) (truncated_value kind negative a b n e)
+
+pub nearest_value : (kind : NonfiniteBehavior) (negative past : Bool) (a b n : ℕ) → 0 < b → past ≡ upper (a % b) (b - a % b) (eqb (a / b % 2) 1) → n ≡ cond past (b - a % b) (a % b) → signed_quanta kind (not (beq negative past)) n ≡ rest_of kind negative a (b * nearest_quotient a b)
+nearest_value kind true true a b n p t e = nearest_past kind true a b n p t e
+nearest_value kind false true a b n p t e = nearest_past kind false a b n p t e
+nearest_value kind true false a b n p t e = nearest_within kind true a b n t e
+nearest_value kind false false a b n p t e = nearest_within kind false a b n t e
+
+pub nearest_small : (past : Bool) (a b n : ℕ) → 0 < b → past ≡ upper (a % b) (b - a % b) (eqb (a / b % 2) 1) → n ≡ cond past (b - a % b) (a % b) → 2 * n ≤ b
+nearest_small true a b n p t e =
+    let l : a % b < b = mod-lt a p in
+    let f : b - a % b ≤ a % b = upper_far (a % b) b (eqb (a / b % 2) 1) t in
+    omega arith
+nearest_small false a b n p t e =
+    let l : a % b < b = mod-lt a p in
+    let f : a % b ≤ b - a % b = lower_far (a % b) b (eqb (a / b % 2) 1) t in
+    omega arith
+
+-- the same choice and distance in other units
+pub past_in : (past : Bool) (x y a b w : ℕ) → 0 < w → 0 < b → x ≡ a * w → y ≡ b * w → past ≡ upper (x % y) (y - x % y) (eqb (x / y % 2) 1) → past ≡ upper (a % b) (b - a % b) (eqb (a / b % 2) 1)
+past_in past x y a b w p q e f h =
+    let l : a % b < b = mod-lt a q in
+    let m : a % b ≤ b = omega arith in
+    let r : a % b * w ≡ x % y = sym (rest_in x y a b w (x % y) p e f refl) in
+    let o : eqb (a / b % 2) 1 ≡ eqb (x / y % 2) 1 = sym (ap (λ (z : ℕ). eqb (z % 2) 1) (quotient_in x y a b w p e f)) in
+    h ∙ sym (upper_level (a % b) b w (x % y) y (eqb (a / b % 2) 1) (eqb (x / y % 2) 1) p m r (sym f) o)
+
+pub distance_in : (past : Bool) (x y a b w d : ℕ) → 0 < w → 0 < b → x ≡ a * w → y ≡ b * w → d ≡ cond past (y - x % y) (x % y) → d ≡ cond past (b - a % b) (a % b) * w
+distance_in true x y a b w d p q e f h =
+    let l : a % b < b = mod-lt a q in
+    let m : a % b ≤ b = omega arith in
+    let r : x % y ≡ a % b * w = rest_in x y a b w (x % y) p e f refl in
+    let k : (b - a % b) * w ≡ b * w - a % b * w = difference_scaled b (a % b) w m in
+    omega arith
+distance_in false x y a b w d p q e f h = h ∙ rest_in x y a b w (x % y) p e f refl
+
+-- a point that is not above the divisor is at no higher place
+pub place_within : (precision s place b t high low : ℕ) → 0 < precision → (place ≡ 0) ⊎ (2 ^ (precision - 1) ≤ s) → s * 2 ^ place ≤ b → t < 2 ^ precision → b * 2 ^ low ≡ t * 2 ^ high → place ≤ high
+place_within precision s place b t high low z (inl e) l f h = omega arith
+place_within precision s place b t high low z (inr e) l f h =
+    ⊎_elim
+    (λ (g : high < place).
+    let m : t * 2 ^ high < s * 2 ^ place = below_divisor precision t high s place z f e g in
+    let o : 1 ≤ 2 ^ low = pow_pos low in
+    let k : b * 1 ≤ b * 2 ^ low = mul-le-mul_left b o in
+    absurd (omega arith))
+    (λ (g : place ≤ high). g)
+    (cases_lt high place)

@@ -1,0 +1,143 @@
+-- A whole quotient, by one multiple of the divisor less at a time.
+use Rattle.std.proofs.Common.{◌≡◌, ℕ, true, false, eqb, ◌+◌, ◌-◌, ◌*◌, ◌/◌, ◌%◌, ◌^◌, ◌<◌, ◌≤◌, count_ones, sym, ap, ◌∙◌, subst, arith, lit<}
+use lib.Count.{ones, ones_in}
+use Rattle.std.proofs.Math.Nat.{mul-le-mul_right, mul-le-mul_left, mul-lt-mul_of_pos_right, pow-le-pow_right, div-lt_iff_lt-mul, mod-eq_of_lt, div-eq_of_lt, mul-pos, add-mul-div_right, add-mul-mod_self_right}
+use Rattle.std.proofs.lemmas.Nat.{pow-add, pow_pos, ones_cat, ones-le}
+use Rattle.apfloat_base.proofs.Existence.{two_pos}
+
+pub twice_power : (n : ℕ) → 2 ^ (n + 1) ≡ 2 * 2 ^ n
+twice_power n = let e : 2 ^ (n + 1) ≡ 2 ^ n * 2 = pow-add 2 n 1 in omega arith
+
+-- r less 2 ^ k times the divisor d is s
+pub record IsTurn (d r s k : ℕ) : Type 0 where
+  pub taken : r ≡ s + 2 ^ k * d
+  pub below : s < 2 ^ k * d
+
+pub turn_rest : (d r s k : ℕ) → IsTurn d r s k → r % d ≡ s % d
+turn_rest d r s k t = ap (λ (x : ℕ). x % d) t.taken ∙ add-mul-mod_self_right s (2 ^ k) d
+
+pub turn_quotient : (d r s k : ℕ) → 0 < d → IsTurn d r s k → r / d ≡ s / d + 2 ^ k
+turn_quotient d r s k p t = ap (λ (x : ℕ). x / d) t.taken ∙ add-mul-div_right s (2 ^ k) p
+
+pub turn_small : (d r s k : ℕ) → 0 < d → IsTurn d r s k → s / d < 2 ^ k
+turn_small d r s k p t = (div-lt_iff_lt-mul p).1 t.below
+
+pub turn_ones : (d r s k : ℕ) → 0 < d → IsTurn d r s k → count_ones (r / d) ≡ 1 + count_ones (s / d)
+unfolding ones ones_in
+turn_ones d r s k p t =
+    let q = turn_quotient d r s k p t in
+    let l = turn_small d r s k p t in
+    let e : r / d ≡ 1 * 2 ^ k + s / d = omega arith in
+    ap count_ones e ∙ ones_cat k 1 (s / d) l
+
+pub turn_odd : (d r s : ℕ) → 0 < d → IsTurn d r s 0 → r / d ≡ 1
+turn_odd d r s p t =
+    let q = turn_quotient d r s 0 p t in
+    let l = turn_small d r s 0 p t in
+    omega arith
+
+pub turn_even : (d r s k : ℕ) → 0 < d → 0 < k → IsTurn d r s k → r / d % 2 ≡ s / d % 2
+turn_even d r s k p g t =
+    let q = turn_quotient d r s k p t in
+    let j : k ≡ (k - 1) + 1 = omega arith in
+    let e : 2 ^ k ≡ 2 * 2 ^ (k - 1) = ap (λ (x : ℕ). 2 ^ x) j ∙ twice_power (k - 1) in
+    let f : r / d ≡ s / d + 2 ^ (k - 1) * 2 = omega arith in
+    ap (λ (x : ℕ). x % 2) f ∙ add-mul-mod_self_right (s / d) (2 ^ (k - 1)) 2
+
+-- one subtraction, by significands and places
+pub is_turn : (r p t q s b : ℕ) → (s + t) * 2 ^ b ≡ r * 2 ^ p → s < t → q ≤ b → IsTurn (t * 2 ^ q) (r * 2 ^ p) (s * 2 ^ b) (b - q)
+is_turn r p t q s b e l g =
+    let w : b ≡ (b - q) + q = omega arith in
+    let a : 2 ^ b ≡ 2 ^ (b - q) * 2 ^ q = ap (λ (x : ℕ). 2 ^ x) w ∙ pow-add 2 (b - q) q in
+    let c : t * 2 ^ b ≡ t * (2 ^ (b - q) * 2 ^ q) = ap (λ (x : ℕ). t * x) a in
+    let m : s * 2 ^ b < t * 2 ^ b = mul-lt-mul_of_pos_right l (pow_pos b) in
+    record { taken = omega arith; below = omega arith }
+
+-- a significand at a place below the divisor's is less than it
+pub below_divisor : (precision r p t q : ℕ) → 0 < precision → r < 2 ^ precision → 2 ^ (precision - 1) ≤ t → p < q → r * 2 ^ p < t * 2 ^ q
+below_divisor precision r p t q z f l g =
+    let h : p + 1 ≤ q = omega arith in
+    let a : r * 2 ^ p < 2 ^ precision * 2 ^ p = mul-lt-mul_of_pos_right f (pow_pos p) in
+    let w : precision ≡ (precision - 1) + 1 = omega arith in
+    let b : 2 ^ precision ≡ 2 * 2 ^ (precision - 1) = ap (λ (x : ℕ). 2 ^ x) w ∙ twice_power (precision - 1) in
+    let b' : 2 ^ precision * 2 ^ p ≡ 2 * 2 ^ (precision - 1) * 2 ^ p = ap (λ (x : ℕ). x * 2 ^ p) b in
+    let c : 2 ^ (p + 1) ≡ 2 * 2 ^ p = twice_power p in
+    let c' : 2 ^ (precision - 1) * 2 ^ (p + 1) ≡ 2 ^ (precision - 1) * (2 * 2 ^ p) = ap (λ (x : ℕ). 2 ^ (precision - 1) * x) c in
+    let d : 2 ^ (p + 1) ≤ 2 ^ q = pow-le-pow_right two_pos h in
+    let e : 2 ^ (precision - 1) * 2 ^ (p + 1) ≤ 2 ^ (precision - 1) * 2 ^ q = mul-le-mul_left (2 ^ (precision - 1)) d in
+    let k : 2 ^ (precision - 1) * 2 ^ q ≤ t * 2 ^ q = mul-le-mul_right (2 ^ q) l in
+    omega arith
+
+-- the digits of the whole quotient
+pub few_digits : (precision r p t q : ℕ) → 0 < precision → r < 2 ^ precision → 2 ^ (precision - 1) ≤ t → q ≤ p → count_ones (r * 2 ^ p / (t * 2 ^ q)) ≤ p + 1 - q
+few_digits precision r p t q z f l g =
+    let h : 0 < 2 ^ (precision - 1) = pow_pos (precision - 1) in
+    let u : 0 < t = omega arith in
+    let d : 0 < t * 2 ^ q = mul-pos u (pow_pos q) in
+    let i : p < p + 1 = omega arith in
+    let a : r * 2 ^ p < t * 2 ^ (p + 1) = below_divisor precision r p t (p + 1) z f l i in
+    let w : p + 1 ≡ (p + 1 - q) + q = omega arith in
+    let b : 2 ^ (p + 1) ≡ 2 ^ (p + 1 - q) * 2 ^ q = ap (λ (x : ℕ). 2 ^ x) w ∙ pow-add 2 (p + 1 - q) q in
+    let c : t * 2 ^ (p + 1) ≡ t * (2 ^ (p + 1 - q) * 2 ^ q) = ap (λ (x : ℕ). t * x) b in
+    ones-le (p + 1 - q) (r * 2 ^ p / (t * 2 ^ q)) ((div-lt_iff_lt-mul d).1 (omega arith))
+
+-- digits moved up
+pub moved_up : (s j p : ℕ) → j ≤ p → s * 2 ^ j * 2 ^ (p - j) ≡ s * 2 ^ p
+moved_up s j p l =
+    let w : j + (p - j) ≡ p = omega arith in
+    let e : 2 ^ j * 2 ^ (p - j) ≡ 2 ^ p = sym (pow-add 2 j (p - j)) ∙ ap (λ (x : ℕ). 2 ^ x) w in
+    let f : s * (2 ^ j * 2 ^ (p - j)) ≡ s * 2 ^ p = ap (λ (x : ℕ). s * x) e in
+    omega arith
+
+-- one place lower
+pub one_lower : (r t p : ℕ) → 0 < p → t ≤ 2 * r → (2 * r - t + t) * 2 ^ (p - 1) ≡ r * 2 ^ p
+one_lower r t p z l =
+    let w : p ≡ (p - 1) + 1 = omega arith in
+    let e : 2 ^ p ≡ 2 * 2 ^ (p - 1) = ap (λ (x : ℕ). 2 ^ x) w ∙ twice_power (p - 1) in
+    let f : r * 2 ^ p ≡ r * (2 * 2 ^ (p - 1)) = ap (λ (x : ℕ). r * x) e in
+    let g : 2 * r - t + t ≡ 2 * r = omega arith in
+    let h : (2 * r - t + t) * 2 ^ (p - 1) ≡ 2 * r * 2 ^ (p - 1) = ap (λ (x : ℕ). x * 2 ^ (p - 1)) g in
+    omega arith
+
+-- twice half of the powers
+pub whole_power : (precision : ℕ) → 0 < precision → 2 ^ precision ≡ 2 * 2 ^ (precision - 1)
+whole_power precision z = let w : precision ≡ (precision - 1) + 1 = omega arith in ap (λ (x : ℕ). 2 ^ x) w ∙ twice_power (precision - 1)
+
+pub turn_less : (d r s k : ℕ) → 0 < d → IsTurn d r s k → s < r
+turn_less d r s k p t =
+    let a = t.taken in
+    let m : 0 < 2 ^ k * d = mul-pos (pow_pos k) p in
+    omega arith
+
+-- ---- less than the divisor is left
+
+pub left_all : (d r : ℕ) → r < d → r ≡ r % d
+left_all d r l = sym (mod-eq_of_lt l)
+
+pub none_set : (d r : ℕ) → r < d → 0 ≡ count_ones (r / d)
+none_set d r l =
+    let e : count_ones (r / d) ≡ count_ones 0 = ap count_ones (div-eq_of_lt l) in
+    let z : count_ones 0 ≤ 0 = ones-le 0 0 (lit< tt) in
+    omega arith
+
+pub not_odd : (d r : ℕ) → r < d → false ≡ eqb (r / d % 2) 1
+not_odd d r l = sym (ap (λ (q : ℕ). eqb (q % 2) 1) (div-eq_of_lt l))
+
+pub at_place : (r t p q : ℕ) → r < t → p ≡ q → r * 2 ^ p < t * 2 ^ q
+at_place r t p q l e = subst (λ (x : ℕ). r * 2 ^ p < t * 2 ^ x) e (mul-lt-mul_of_pos_right l (pow_pos p))
+
+pub divisor_pos : (precision t q : ℕ) → 2 ^ (precision - 1) ≤ t → 0 < t * 2 ^ q
+divisor_pos precision t q l =
+    let h : 0 < 2 ^ (precision - 1) = pow_pos (precision - 1) in
+    let u : 0 < t = omega arith in
+    mul-pos u (pow_pos q)
+
+-- the turn at the lowest power
+pub last_turn : (d r s k : ℕ) → k ≡ 0 → IsTurn d r s k → IsTurn d r s 0
+last_turn d r s k e t = subst (λ (x : ℕ). IsTurn d r s x) e t
+
+pub last_below : (d r s : ℕ) → IsTurn d r s 0 → s < d
+last_below d r s t = let b = t.below in omega arith
+
+pub last_odd : (d r s x : ℕ) → 0 < d → IsTurn d r s 0 → r / d % 2 ≡ x / d % 2 → true ≡ eqb (x / d % 2) 1
+last_odd d r s x p t e = ap (λ (q : ℕ). eqb (q % 2) 1) (sym (turn_odd d r s p t)) ∙ ap (λ (q : ℕ). eqb q 1) e

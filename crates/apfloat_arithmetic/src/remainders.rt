@@ -1,0 +1,311 @@
+//! Remainders: by the quotient cut toward zero, and by the whole number nearest to the quotient. Both are exact.
+//!
+//! The digits of the quotient are found from the highest on. Each turn subtracts the greatest multiple of the divisor by
+//! a power of two that is not above what is left, so there is a turn for each digit that is one. A significand stands at
+//! a place, which is counted from that of the last digit of the least number whose significand has all its digits.
+
+ghost use Rattle.std.specs.Prelude.{◌≡◌, ℕ, ◌+◌, ◌-◌, ◌*◌, ◌/◌, ◌%◌, ◌^◌, ◌<◌, ◌≤◌, ◌⊎◌, Bool, false, true, eqb, ltb, count_ones, cond, pos, neg_ℤ, ◌≤ℤ◌, ◌+ℤ◌, ◌-ℤ◌};
+ghost use Rattle.apfloat_base.specs.declared.kinds.Category.{Category};
+ghost use Rattle.apfloat_base.specs.declared.kinds.Round.{Round};
+ghost use Rattle.apfloat_base.specs.Flags.{bits_of};
+ghost use Rattle.apfloat_base.specs.Rounding.{ok_bits, takes_above};
+ghost use Rattle.apfloat_base.specs.Remainders.{truncated_quotient, nearest_quotient, rest_of, IsRemainder, IsTruncatedRemainder, IsNearestRemainder, ones_of_quotient};
+ghost use Rattle.apfloat_unpacked.specs.Shapes.{IsShape, format_at};
+ghost use Rattle.apfloat_unpacked.specs.Stored.{IsOperandAt, IsNormal, IsStored, datum_at, quanta_at};
+
+use apfloat_base::sig::digits;
+use apfloat_base::{Category, ExpInt, Status, StatusAnd};
+use apfloat_unpacked::shape::Shape;
+use apfloat_unpacked::unpacked::{Unpacked, quanta_of};
+
+/// `significand * 2^place` units.
+#[derive(Clone, Copy, Debug)]
+struct Point {
+    significand: u128,
+    place: u32,
+}
+
+/// The same number with its digits moved up, to the precision or to the least place.
+#[inline]
+fn raised(precision: u32, point: Point, least: u32) -> Point
+    requires precise { precision ≤ 125 }
+    requires fits { point.significand < 2 ^ precision }
+    requires above { least ≤ point.place }
+    ensures same { result.significand * 2 ^ result.place ≡ point.significand * 2 ^ point.place }
+    ensures fits { result.significand < 2 ^ precision }
+    ensures full { (result.place ≡ least) ⊎ (2 ^ (precision - 1) ≤ result.significand) }
+    ensures least { least ≤ result.place }
+    ensures lower { result.place ≤ point.place }
+{
+    if point.significand == 0 {
+        return Point {
+            significand: 0,
+            place: least,
+        };
+    }
+    let free = precision - digits(point.significand);
+    let room = point.place - least;
+    let shift = if free < room { free } else { room };
+    Point {
+        significand: point.significand << shift,
+        place: point.place - shift,
+    }
+}
+
+/// What is left after the greatest multiple of the divisor by a power of two that is not above the rest.
+#[inline]
+fn less_multiple(rest: Point, divisor: Point) -> Point
+    requires narrow { rest.significand < 2 ^ 126 }
+    requires close { rest.significand < 2 * divisor.significand }
+    requires reaches { ((divisor.place < rest.place) × (divisor.significand ≤ 2 * rest.significand)) ⊎ ((divisor.place ≡ rest.place) × (divisor.significand ≤ rest.significand)) }
+    ensures taken { (result.significand + divisor.significand) * 2 ^ result.place ≡ rest.significand * 2 ^ rest.place }
+    ensures below { result.significand < divisor.significand }
+    ensures least { divisor.place ≤ result.place }
+{
+    if rest.significand >= divisor.significand {
+        Point {
+            significand: rest.significand - divisor.significand,
+            place: rest.place,
+        }
+    } else {
+        Point {
+            significand: 2 * rest.significand - divisor.significand,
+            place: rest.place - 1,
+        }
+    }
+}
+
+/// What is left of a number, after how many subtractions, and whether the whole quotient is odd.
+#[derive(Clone, Copy, Debug)]
+struct Rest {
+    point: Point,
+    steps: u32,
+    odd: bool,
+}
+
+/// The rest of `x` by a divisor.
+fn rest_by(precision: u32, x: Point, y: Point) -> Rest
+    requires some { 0 < precision }
+    requires precise { precision ≤ 125 }
+    requires x_fits { x.significand < 2 ^ precision }
+    requires x_full { 2 ^ (precision - 1) ≤ x.significand }
+    requires y_fits { y.significand < 2 ^ precision }
+    requires y_full { 2 ^ (precision - 1) ≤ y.significand }
+    requires near { x.place ≤ 33554432 }
+    ensures rest { result.point.significand * 2 ^ result.point.place ≡ x.significand * 2 ^ x.place % (y.significand * 2 ^ y.place) }
+    ensures steps { result.steps ≡ count_ones (x.significand * 2 ^ x.place / (y.significand * 2 ^ y.place)) }
+    ensures odd { result.odd ≡ eqb (x.significand * 2 ^ x.place / (y.significand * 2 ^ y.place) % 2) 1 }
+    ensures fits { result.point.significand < 2 ^ precision }
+    ensures low { result.point.place ≤ y.place }
+{
+    if x.place < y.place {
+        return Rest {
+            point: x,
+            steps: 0,
+            odd: false,
+        };
+    }
+    let mut steps: u32 = 0;
+    let mut rest = x;
+    while rest.place > y.place || rest.significand >= y.significand {
+        let less = less_multiple(rest, y);
+        steps += 1;
+        if less.place == y.place {
+            return Rest {
+                point: less,
+                steps,
+                odd: true,
+            };
+        }
+        rest = raised(precision, less, y.place);
+    }
+    Rest {
+        point: rest,
+        steps,
+        odd: false,
+    }
+}
+
+/// Whether the upper neighbour is the nearest, a tie to the even one.
+#[inline]
+fn is_upper_nearest(below_by: u128, above_by: u128, odd: bool) -> bool
+    ensures { result ≡ takes_above Round.NearestTiesToEven false below_by above_by odd }
+{
+    above_by < below_by || (above_by == below_by && odd)
+}
+
+/// How far a number is from the nearest multiple of a divisor, and whether that multiple is past it.
+#[derive(Clone, Copy, Debug)]
+struct Nearest {
+    point: Point,
+    past: bool,
+}
+
+/// How far the nearest multiple of the divisor is from `x`, and whether it is above.
+fn nearest_by(precision: u32, x: Point, y: Point) -> Nearest
+    requires some { 0 < precision }
+    requires precise { precision ≤ 125 }
+    requires x_fits { x.significand < 2 ^ precision }
+    requires x_full { 2 ^ (precision - 1) ≤ x.significand }
+    requires y_fits { y.significand < 2 ^ precision }
+    requires y_full { 2 ^ (precision - 1) ≤ y.significand }
+    requires near { x.place ≤ 33554432 }
+    ensures past { result.past ≡ takes_above Round.NearestTiesToEven false (x.significand * 2 ^ x.place % (y.significand * 2 ^ y.place)) (y.significand * 2 ^ y.place - x.significand * 2 ^ x.place % (y.significand * 2 ^ y.place)) (eqb (x.significand * 2 ^ x.place / (y.significand * 2 ^ y.place) % 2) 1) }
+    ensures distance { result.point.significand * 2 ^ result.point.place ≡ cond result.past (y.significand * 2 ^ y.place - x.significand * 2 ^ x.place % (y.significand * 2 ^ y.place)) (x.significand * 2 ^ x.place % (y.significand * 2 ^ y.place)) }
+    ensures fits { result.point.significand < 2 ^ precision }
+    ensures low { result.point.place ≤ y.place }
+{
+    let rest = rest_by(precision, x, y);
+    let gap = y.place - rest.point.place;
+    // two places and more below the divisor is less than half of it
+    if gap > 1 {
+        return Nearest {
+            point: rest.point,
+            past: false,
+        };
+    }
+    let divisor = if gap == 1 {
+        2 * y.significand
+    } else {
+        y.significand
+    };
+    let other = divisor - rest.point.significand;
+    if is_upper_nearest(rest.point.significand, other, rest.odd) {
+        return Nearest {
+            point: Point {
+                significand: other,
+                place: rest.point.place,
+            },
+            past: true,
+        };
+    }
+    Nearest {
+        point: rest.point,
+        past: false,
+    }
+}
+
+/// An operand at its place.
+#[inline]
+fn point_of(shape: Shape, x: Unpacked) -> Point
+    requires lawful { IsShape shape }
+    requires operand { IsOperandAt shape.precision shape.min_exp shape.max_exp x.significand x.exponent }
+    ensures significand { result.significand ≡ x.significand }
+    ensures place { pos result.place ≡ ((x.exponent -ℤ shape.min_exp) +ℤ pos (shape.precision - 1)) }
+    ensures near { result.place ≤ 33554432 }
+{
+    Point {
+        significand: x.significand,
+        place: (x.exponent - shape.min_exp + (shape.precision - 1) as ExpInt) as u32,
+    }
+}
+
+/// The same number in quanta, where it is a whole number of them.
+#[inline]
+fn in_quanta(precision: u32, point: Point) -> Point
+    requires some { 0 < precision }
+    requires precise { precision ≤ 125 }
+    requires fits { point.significand < 2 ^ precision }
+    ensures fits { result.significand < 2 ^ precision }
+    ensures lower { result.place ≤ point.place }
+    ensures same { (n : ℕ) → point.significand * 2 ^ point.place ≡ n * 2 ^ (precision - 1) → result.significand * 2 ^ result.place ≡ n }
+{
+    let quantum = precision - 1;
+    if point.place > quantum {
+        let high = raised(precision, point, quantum);
+        Point {
+            significand: high.significand,
+            place: high.place - quantum,
+        }
+    } else {
+        Point {
+            significand: point.significand >> (quantum - point.place),
+            place: 0,
+        }
+    }
+}
+
+/// What is left of `x` by the quotient cut toward zero, in quanta.
+fn truncated_rest(shape: Shape, x: Unpacked, y: Unpacked) -> Rest
+    requires lawful { IsShape shape }
+    requires x { IsNormal shape x.significand x.exponent }
+    requires y { IsNormal shape y.significand y.exponent }
+    ensures fits { result.point.significand < 2 ^ shape.precision }
+    ensures near { result.point.place ≤ 33554432 }
+    ensures quanta { result.point.significand * 2 ^ result.point.place ≡ quanta_at shape.min_exp x.significand x.exponent % quanta_at shape.min_exp y.significand y.exponent }
+    ensures steps { result.steps ≡ count_ones (truncated_quotient (quanta_at shape.min_exp x.significand x.exponent) (quanta_at shape.min_exp y.significand y.exponent)) }
+{
+    let rest = rest_by(shape.precision, point_of(shape, x), point_of(shape, y));
+    Rest {
+        point: in_quanta(shape.precision, rest.point),
+        steps: rest.steps,
+        odd: rest.odd,
+    }
+}
+
+/// How far the nearest multiple of `y` is from `x`, in quanta, and whether it is above.
+fn nearest_rest(shape: Shape, x: Unpacked, y: Unpacked) -> Nearest
+    requires lawful { IsShape shape }
+    requires x { IsNormal shape x.significand x.exponent }
+    requires y { IsNormal shape y.significand y.exponent }
+    ensures fits { result.point.significand < 2 ^ shape.precision }
+    ensures near { result.point.place ≤ 33554432 }
+    ensures past { let m = quanta_at shape.min_exp x.significand x.exponent in let n = quanta_at shape.min_exp y.significand y.exponent in
+        result.past ≡ takes_above Round.NearestTiesToEven false (m % n) (n - m % n) (eqb (m / n % 2) 1) }
+    ensures quanta { let m = quanta_at shape.min_exp x.significand x.exponent in let n = quanta_at shape.min_exp y.significand y.exponent in
+        result.point.significand * 2 ^ result.point.place ≡ cond result.past (n - m % n) (m % n) }
+{
+    let nearest = nearest_by(shape.precision, point_of(shape, x), point_of(shape, y));
+    Nearest {
+        point: in_quanta(shape.precision, nearest.point),
+        past: nearest.past,
+    }
+}
+
+/// An answer, and after how many subtractions.
+#[derive(Clone, Copy, Debug)]
+pub struct Remainder {
+    pub answer: StatusAnd<Unpacked>,
+    pub steps: u32,
+}
+
+/// The remainder of numbers by the quotient cut toward zero, which is the exact answer, and after how many subtractions.
+fn truncated_number(shape: Shape, x: Unpacked, y: Unpacked) -> Remainder
+    requires lawful { IsShape shape }
+    requires x { IsNormal shape x.significand x.exponent }
+    requires y { IsNormal shape y.significand y.exponent }
+    ensures stored { IsStored shape result.answer.value }
+    ensures value { let m = quanta_at shape.min_exp x.significand x.exponent in let n = quanta_at shape.min_exp y.significand y.exponent in
+        datum_at shape result.answer.value ≡ rest_of shape.nonfinite x.negative m (n * truncated_quotient m n) }
+    ensures status { bits_of result.answer.status ≡ ok_bits }
+    ensures steps { result.steps ≡ count_ones (truncated_quotient (quanta_at shape.min_exp x.significand x.exponent) (quanta_at shape.min_exp y.significand y.exponent)) }
+{
+    let Rest {
+        point,
+        steps,
+        odd: _,
+    } = truncated_rest(shape, x, y);
+    Remainder {
+        answer: Status::OK.and(quanta_of(shape, x.negative, point.significand, point.place)),
+        steps,
+    }
+}
+
+/// The remainder of numbers by the whole number nearest to the quotient, which is the exact answer.
+fn nearest_number(shape: Shape, x: Unpacked, y: Unpacked) -> StatusAnd<Unpacked>
+    requires lawful { IsShape shape }
+    requires x { IsNormal shape x.significand x.exponent }
+    requires y { IsNormal shape y.significand y.exponent }
+    ensures stored { IsStored shape result.value }
+    ensures value { let m = quanta_at shape.min_exp x.significand x.exponent in let n = quanta_at shape.min_exp y.significand y.exponent in
+        datum_at shape result.value ≡ rest_of shape.nonfinite x.negative m (n * nearest_quotient m n) }
+    ensures status { bits_of result.status ≡ ok_bits }
+{
+    let nearest = nearest_rest(shape, x, y);
+    Status::OK.and(quanta_of(
+        shape,
+        x.negative != nearest.past,
+        nearest.point.significand,
+        nearest.point.place,
+    ))
+}
