@@ -27,3 +27,4 @@ pub mod ZeroTexts
 pub mod FarMagnitudes
 pub mod SingleScalings
 pub mod Totals
+pub mod NanMembers

@@ -5,6 +5,7 @@
 #![tactic(auto)]
 
 pub mod bits;
+pub mod nans;
 pub mod normalize;
 pub mod shape;
 pub mod unpacked;

@@ -1,0 +1,229 @@
+//! NaNs: which of them signal, and the answers that are NaNs (IEEE 754-2008 6.2).
+
+ghost use Rattle.std.specs.Prelude.{◌≡◌, ℕ, ◌<◌, bit_and};
+ghost use Rattle.apfloat_base.specs.declared.kinds.Category.TheVariants.{NaN};
+ghost use Rattle.apfloat_base.specs.Flags.{bits_of};
+ghost use Rattle.apfloat_base.specs.Format.{nan_base, payload_mask, quiet_bits};
+ghost use Rattle.apfloat_base.specs.Datum.{nan};
+ghost use Rattle.apfloat_base.specs.Members.{IsNanSignificand};
+ghost use Rattle.apfloat_base.specs.Nan.{quiet_bit, is_signaling, is_signaling_nan, quieted, quiet_significand, signaling_significand, cleared, with_payload, nan_sign, qnan, snan, invalid_if, IsOfNan, IsOfNans, IsInvalid};
+ghost use Rattle.apfloat_unpacked.specs.Shapes.{IsShape, format_at};
+ghost use Rattle.apfloat_unpacked.specs.Stored.{IsStored, datum_at};
+
+use crate::shape::Shape;
+use crate::unpacked::{Unpacked, nan_of};
+use apfloat_base::sig::power_of_two;
+use apfloat_base::{Category, NonfiniteBehavior, Status, StatusAnd};
+
+/// The bits that every NaN's significand has.
+#[inline]
+fn nan_base(shape: Shape) -> u128
+    requires { IsShape shape }
+    ensures { result ≡ nan_base (format_at shape) }
+{
+    match shape.nonfinite {
+        NonfiniteBehavior::IEEE754 => 0,
+        NonfiniteBehavior::NanOnly => power_of_two(shape.precision - 1) - 1,
+        NonfiniteBehavior::NanNegativeZero => 0,
+    }
+}
+
+/// The bits that a payload may set.
+#[inline]
+fn payload_mask(shape: Shape) -> u128
+    requires { IsShape shape }
+    ensures { result ≡ payload_mask (format_at shape) }
+{
+    match shape.nonfinite {
+        NonfiniteBehavior::IEEE754 => power_of_two(shape.precision - 1) - 1,
+        NonfiniteBehavior::NanOnly => 0,
+        NonfiniteBehavior::NanNegativeZero => 0,
+    }
+}
+
+/// Of the bits that make a NaN quiet, the one that an operation sets.
+#[inline]
+fn quiet_bit(shape: Shape) -> u128
+    requires { IsShape shape }
+    ensures { result ≡ quiet_bit (format_at shape) }
+{
+    match shape.nonfinite {
+        NonfiniteBehavior::IEEE754 => power_of_two(shape.precision - 2),
+        NonfiniteBehavior::NanOnly => 0,
+        NonfiniteBehavior::NanNegativeZero => 0,
+    }
+}
+
+/// The bits that make a NaN quiet: where the integer bit is written, that bit is one of them.
+#[inline]
+fn quiet_bits(shape: Shape) -> u128
+    requires { IsShape shape }
+    ensures { result ≡ quiet_bits (format_at shape) }
+{
+    match shape.nonfinite {
+        NonfiniteBehavior::IEEE754 => {
+            if shape.explicit_integer_bit {
+                3 * power_of_two(shape.precision - 2)
+            } else {
+                power_of_two(shape.precision - 2)
+            }
+        }
+        NonfiniteBehavior::NanOnly => 0,
+        NonfiniteBehavior::NanNegativeZero => 0,
+    }
+}
+
+/// Whether a NaN with that significand signals.
+#[inline]
+pub fn signals(shape: Shape, significand: u128) -> bool
+    requires { IsShape shape }
+    ensures { result ≡ is_signaling (format_at shape) significand }
+{
+    let bits = quiet_bits(shape);
+    significand & bits != bits
+}
+
+/// Whether a value is a NaN that signals.
+#[inline]
+pub fn is_signaling(shape: Shape, x: Unpacked) -> bool
+    requires lawful { IsShape shape }
+    requires stored { IsStored shape x }
+    ensures { result ≡ is_signaling_nan (format_at shape) (datum_at shape x) }
+{
+    match x.category {
+        Category::NaN => signals(shape, x.significand),
+        Category::Infinity => false,
+        Category::Normal => false,
+        Category::Zero => false,
+    }
+}
+
+/// The significand of a NaN made quiet, with its payload.
+#[inline]
+pub fn quieted_significand(shape: Shape, significand: u128) -> u128
+    requires lawful { IsShape shape }
+    requires nan { IsNanSignificand shape.nonfinite shape.explicit_integer_bit shape.precision significand }
+    ensures value { result ≡ quieted (format_at shape) significand }
+    ensures nan { IsNanSignificand shape.nonfinite shape.explicit_integer_bit shape.precision result }
+{
+    if signals(shape, significand) {
+        significand | quiet_bit(shape)
+    } else {
+        significand
+    }
+}
+
+/// The significand of the quiet NaN with that payload.
+#[inline]
+fn quiet_significand(shape: Shape, payload: u128) -> u128
+    requires { IsShape shape }
+    ensures value { result ≡ quiet_significand (format_at shape) payload }
+    ensures nan { IsNanSignificand shape.nonfinite shape.explicit_integer_bit shape.precision result }
+{
+    (nan_base(shape) | quiet_bits(shape)) | (payload & payload_mask(shape))
+}
+
+/// The significand, with a payload where it has none: an infinity would be written with that.
+#[inline]
+fn with_payload(shape: Shape, significand: u128) -> u128
+    requires { IsShape shape }
+    ensures { result ≡ with_payload (format_at shape) significand }
+{
+    if significand & payload_mask(shape) == 0 {
+        significand | (quiet_bit(shape) / 2)
+    } else {
+        significand
+    }
+}
+
+/// The significand of the signaling NaN with that payload.
+#[inline]
+fn signaling_significand(shape: Shape, payload: u128) -> u128
+    requires { IsShape shape }
+    ensures value { result ≡ signaling_significand (format_at shape) payload }
+    ensures nan { IsNanSignificand shape.nonfinite shape.explicit_integer_bit shape.precision result }
+{
+    let quiet = quiet_significand(shape, payload);
+    with_payload(shape, quiet - (quiet & quiet_bit(shape)))
+}
+
+/// The positive quiet NaN with those bits of a payload that the format has (6.2.1).
+#[inline]
+pub fn quiet_nan(shape: Shape, payload: u128) -> Unpacked
+    requires { IsShape shape }
+    ensures stored { IsStored shape result }
+    ensures datum { datum_at shape result ≡ qnan (format_at shape) payload }
+{
+    nan_of(shape, false, quiet_significand(shape, payload))
+}
+
+/// The positive signaling NaN with those bits of a payload that the format has, and with some payload (6.2.1). Where a
+/// format has only one NaN, it is that one.
+#[inline]
+pub fn signaling_nan(shape: Shape, payload: u128) -> Unpacked
+    requires { IsShape shape }
+    ensures stored { IsStored shape result }
+    ensures datum { datum_at shape result ≡ snan (format_at shape) payload }
+{
+    nan_of(shape, false, signaling_significand(shape, payload))
+}
+
+/// The NaN, made quiet.
+#[inline]
+fn quieted(shape: Shape, x: Unpacked) -> Unpacked
+    requires lawful { IsShape shape }
+    requires stored { IsStored shape x }
+    requires nan { x.category ≡ NaN }
+    ensures stored { IsStored shape result }
+    ensures datum { datum_at shape result ≡ nan x.negative (quieted (format_at shape) x.significand) }
+{
+    nan_of(shape, x.negative, quieted_significand(shape, x.significand))
+}
+
+/// The status of an operation on NaNs, of which one may signal (7.2).
+#[inline]
+fn status_of(signaling: bool) -> Status
+    ensures { bits_of result ≡ invalid_if signaling }
+{
+    if signaling {
+        Status::INVALID_OP
+    } else {
+        Status::OK
+    }
+}
+
+/// What an operation answers whose one NaN among its operands is `x` (6.2.3).
+#[inline]
+pub fn propagated(shape: Shape, x: Unpacked) -> StatusAnd<Unpacked>
+    requires lawful { IsShape shape }
+    requires stored { IsStored shape x }
+    requires nan { x.category ≡ NaN }
+    ensures stored { IsStored shape result.value }
+    ensures delivered { IsOfNan (format_at shape) x.negative x.significand (datum_at shape result.value) (bits_of result.status) }
+{
+    status_of(signals(shape, x.significand)).and(quieted(shape, x))
+}
+
+/// What an operation answers whose left operand `x` is a NaN: that one, and the flag of whichever signals (6.2.3).
+#[inline]
+pub fn propagated_left(shape: Shape, x: Unpacked, y: Unpacked) -> StatusAnd<Unpacked>
+    requires lawful { IsShape shape }
+    requires x_stored { IsStored shape x }
+    requires y_stored { IsStored shape y }
+    requires nan { x.category ≡ NaN }
+    ensures stored { IsStored shape result.value }
+    ensures delivered { IsOfNans (format_at shape) x.negative x.significand (datum_at shape y) (datum_at shape result.value) (bits_of result.status) }
+{
+    let signaling = signals(shape, x.significand) || is_signaling(shape, y);
+    status_of(signaling).and(quieted(shape, x))
+}
+
+/// What an invalid operation answers (7.2): the quiet NaN without a payload.
+#[inline]
+pub fn invalid(shape: Shape) -> StatusAnd<Unpacked>
+    requires { IsShape shape }
+    ensures stored { IsStored shape result.value }
+    ensures delivered { IsInvalid (format_at shape) (datum_at shape result.value) (bits_of result.status) }
+{
+    Status::INVALID_OP.and(quiet_nan(shape, 0))
+}
