@@ -1,2 +1,3 @@
 mod WholeQuotients
 mod NearestMultiples
+pub mod ProductExponents

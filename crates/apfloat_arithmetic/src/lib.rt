@@ -4,4 +4,6 @@
 //! `apfloat_ieee` brings the constants of a type to it.
 #![tactic(auto)]
 
+pub mod products;
+pub mod quotients;
 pub mod remainders;

@@ -1,0 +1,69 @@
+-- Products and quotients of stored numbers: their exponents, counted from the quantum's.
+use Rattle.std.proofs.Common.{refl, ◌≡◌, ℕ, ◌+◌, ◌-◌, ◌*◌, ◌^◌, ◌<◌, ◌≤◌, sym, ap, ◌∙◌, arith, ℤ, pos, negsuc, ◌+ℤ◌, ◌-ℤ◌, ◌≤ℤ◌, to_z, of_z, w32}
+use Rattle.std.specs.Prelude.{neg_ℤ, unsigned_abs}
+use Rattle.std.proofs.lemmas.Int.{ints, to_z-of_z}
+use Rattle.std.proofs.Math.Nat.{pow-le-pow_right}
+use Rattle.std.proofs.lemmas.Nat.{pow_pos}
+use borrow.Author.Differences.{fits_in}
+use Rattle.apfloat_base.specs.declared.sig.loss.Loss.{Loss}
+use Rattle.apfloat_base.specs.Standing.{StandsFor, up, down}
+use Rattle.apfloat_base.proofs.Existence.{two_pos}
+use Rattle.apfloat_base.proofs.Fractions.{product_stands, quotient_stands}
+use Rattle.apfloat_unpacked.specs.declared.shape.Shape.{Shape}
+use Rattle.apfloat_unpacked.specs.Shapes.{IsShape, format_at}
+use Rattle.apfloat_unpacked.specs.Stored.{IsNormal, IsQuantaAt, quanta_at}
+
+-- the quantum is 2 ^ -scale
+pub scale_is : (s : Shape) → IsShape s → pos (format_at s).scale ≡ pos (s.precision - 1) -ℤ s.min_exp
+scale_is s l = omega (arith, ints, l.precision_low, l.min_exp_high)
+
+-- the exponent of a number that is stored, with bounds
+pub record IsNear (e : ℤ) : Type 0 where
+  pub near : e ≤ℤ pos 1048576
+  pub far : neg_ℤ (pos 1048701) ≤ℤ e
+  pub word : to_z w32 (of_z w32 e) ≡ e
+
+pub normal_near : (s : Shape) (m : ℕ) (e : ℤ) → IsShape s → IsNormal s m e → IsNear e
+normal_near s m e l n =
+    let o = n.operand in
+    let near : e ≤ℤ pos 1048576 = omega (arith, ints, l.max_exp_high, o.greatest) in
+    let far : neg_ℤ (pos 1048701) ≤ℤ e = omega (arith, ints, l.min_exp_low, l.precision_high, o.least) in
+    record {
+      near = near;
+      far = far;
+      word = to_z-of_z w32 e (fits_in w32 e (omega (arith, ints)));
+    }
+
+-- a significand of at most 64 digits
+pub short_fits : (precision m : ℕ) → precision ≤ 64 → m < 2 ^ precision → m < 2 ^ 64
+short_fits precision m l h =
+    let k : 2 ^ precision ≤ 2 ^ 64 = pow-le-pow_right two_pos l in
+    omega arith
+
+balanced_product : (precision scale : ℕ) (min_exp x y r : ℤ) → 3 ≤ precision → pos scale ≡ pos (precision - 1) -ℤ min_exp → r ≡ ((x +ℤ y) -ℤ pos (2 * (precision - 1)))
+    → up (x -ℤ min_exp) + up (y -ℤ min_exp) + down (r +ℤ pos scale) ≡ down (x -ℤ min_exp) + down (y -ℤ min_exp) + (scale + up (r +ℤ pos scale))
+balanced_product precision scale min_exp x y r t l e = omega (arith, ints)
+
+balanced_quotient : (precision places scale : ℕ) (min_exp x y r : ℤ) → 3 ≤ precision → pos scale ≡ pos (precision - 1) -ℤ min_exp → r ≡ ((x -ℤ y) -ℤ pos places)
+    → down (x -ℤ min_exp) + places + up (y -ℤ min_exp) + up (r +ℤ pos scale) ≡ scale + down (r +ℤ pos scale) + (down (y -ℤ min_exp) + up (x -ℤ min_exp))
+balanced_quotient precision places scale min_exp x y r t l e = omega (arith, ints)
+
+-- the product of the significands stands for the product of the numbers, both in quanta
+pub product_is : (s : Shape) (x y r : ℤ) (m n p : ℕ) → IsShape s → IsNormal s m x → IsNormal s n y → p ≡ m * n → r ≡ ((x +ℤ y) -ℤ pos (2 * (s.precision - 1)))
+    → quanta_at s.min_exp m x * quanta_at s.min_exp n y * 2 ^ down (r +ℤ pos (format_at s).scale) ≡ p * (2 ^ (format_at s).scale * 2 ^ up (r +ℤ pos (format_at s).scale))
+product_is s x y r m n p l hx hy v e =
+    let unit : ℤ = r +ℤ pos (format_at s).scale in
+    product_stands m n (quanta_at s.min_exp m x) (quanta_at s.min_exp n y) (up (x -ℤ s.min_exp)) (up (y -ℤ s.min_exp)) (down (x -ℤ s.min_exp)) (down (y -ℤ s.min_exp)) (format_at s).scale (up unit) (down unit)
+    hx.whole hy.whole (balanced_product s.precision (format_at s).scale s.min_exp x y r l.precision_low (scale_is s l) e)
+    ∙ ap (λ (z : ℕ). z * (2 ^ (format_at s).scale * 2 ^ up unit)) (sym v)
+
+-- the quotient of the significands stands for the quotient of the numbers
+pub quotient_is : (s : Shape) (x y r : ℤ) (places q : ℕ) (loss : Loss) (m n : ℕ) → IsShape s → IsNormal s m x → IsNormal s n y → r ≡ ((x -ℤ y) -ℤ pos places) → StandsFor q loss (m * 2 ^ places) n
+    → StandsFor q loss (quanta_at s.min_exp m x * 2 ^ (format_at s).scale * 2 ^ down (r +ℤ pos (format_at s).scale)) (quanta_at s.min_exp n y * 2 ^ up (r +ℤ pos (format_at s).scale))
+quotient_is s x y r places q loss m n l hx hy e h =
+    let unit : ℤ = r +ℤ pos (format_at s).scale in
+    quotient_stands q loss m n (quanta_at s.min_exp m x) (quanta_at s.min_exp n y) places (up (x -ℤ s.min_exp)) (up (y -ℤ s.min_exp)) (down (x -ℤ s.min_exp)) (down (y -ℤ s.min_exp)) (format_at s).scale (up unit) (down unit)
+    hx.whole hy.whole (balanced_quotient s.precision places (format_at s).scale s.min_exp x y r l.precision_low (scale_is s l) e) h
+
+pub normal_some : (s : Shape) (m : ℕ) (e : ℤ) → IsNormal s m e → 0 < m
+normal_some s m e n = let p : 0 < 2 ^ (s.precision - 1) = pow_pos (s.precision - 1) in let f = n.operand.full in omega arith

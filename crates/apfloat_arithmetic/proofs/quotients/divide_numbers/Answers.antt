@@ -1,0 +1,51 @@
+use Rattle.std.proofs.Common.{◌≡◌, ◌+◌, ◌*◌, ◌^◌, ◌<◌, ◌≤◌, ◌-◌, ℕ, Bool, ℤ, w32, to_z, of_z, sym, subst, arith, inr}
+use Rattle.std.proofs.Math.Nat.{pow-le-pow_right}
+use Rattle.std.proofs.lemmas.Int.{to_z-of_z}
+use Rattle.std.proofs.lemmas.Nat.{pow_pos}
+use Rattle.apfloat_base.specs.Flags.{bits_of}
+use Rattle.apfloat_base.specs.Rounding.{IsDelivered}
+use Rattle.apfloat_base.proofs.Existence.{two_pos}
+use Rattle.apfloat_base.proofs.Fractions.{quotient_full}
+use Rattle.apfloat_base.proofs.Losses.{twice_half}
+use Rattle.apfloat_unpacked.specs.Shapes.{format_at}
+use Rattle.apfloat_unpacked.specs.Stored.{quanta_at, datum_at}
+use Rattle.apfloat_unpacked.specs.StoredBack.{quanta_some}
+use Rattle.apfloat_arithmetic.proofs.ProductExponents.{normal_near, normal_some, quotient_is}
+use Rattle.apfloat_arithmetic.proofs.quotients.divide_numbers.Goals as goal
+
+pub divide-quotient-requires-clause-some : goal.divide-quotient-requires-clause-some
+divide-quotient-requires-clause-some c = normal_some c.args.shape c.args.y.significand c.args.y.exponent c.requires.right
+
+pub divide-quotient-requires-clause-narrow : goal.divide-quotient-requires-clause-narrow
+divide-quotient-requires-clause-narrow c =
+    let l = c.requires.lawful.precision_high in
+    let a : 2 ^ c.args.shape.precision ≤ 2 ^ 125 = pow-le-pow_right two_pos l in
+    let f = c.requires.right.operand.fits in
+    omega arith
+
+pub divide-quotient-requires-clause-close : goal.divide-quotient-requires-clause-close
+divide-quotient-requires-clause-close c =
+    let p = c.requires.lawful.precision_low in
+    let t : 2 * 2 ^ (c.args.shape.precision - 1) ≡ 2 ^ c.args.shape.precision = twice_half c.args.shape.precision (omega arith) in
+    let f = c.requires.left.operand.fits in
+    let g = c.requires.right.operand.full in
+    omega arith
+
+pub deliver-requires-clause-fine : goal.deliver-requires-clause-fine
+deliver-requires-clause-fine c =
+    let s = c.args.shape in
+    let t = c.requires.lawful.precision_low in
+    inr (inr (quotient_full c.divide-quotient.result.whole c.args.x.significand c.args.y.significand s.precision (s.precision + 1)
+    (normal_some s c.args.y.significand c.args.y.exponent c.requires.right) c.requires.left.operand.full c.requires.right.operand.fits (omega arith) (omega arith) c.divide-quotient.ensures.quotient))
+
+pub returns-clause-delivered : goal.returns-clause-delivered
+returns-clause-delivered c =
+    let s = c.args.shape in
+    let x = normal_near s c.args.x.significand c.args.x.exponent c.requires.lawful c.requires.left in
+    let y = normal_near s c.args.y.significand c.args.y.exponent c.requires.lawful c.requires.right in
+    let v = rw (x.word, y.word) at c.quotient_exponent.ensures.value in
+    let w : to_z w32 (of_z w32 c.quotient_exponent.result) ≡ c.quotient_exponent.result = to_z-of_z w32 c.quotient_exponent.result (record { sfits = c.quotient_exponent.type_inv }) in
+    let g = rw w at c.deliver.ensures.delivered in
+    let d = g (quanta_at s.min_exp c.args.x.significand c.args.x.exponent * 2 ^ (format_at s).scale) (quanta_at s.min_exp c.args.y.significand c.args.y.exponent) (quanta_some s c.args.y.significand c.args.y.exponent c.requires.right)
+    (quotient_is s c.args.x.exponent c.args.y.exponent c.quotient_exponent.result (s.precision + 1) c.divide-quotient.result.whole c.divide-quotient.result.loss c.args.x.significand c.args.y.significand c.requires.lawful c.requires.left c.requires.right v c.divide-quotient.ensures.stands) in
+    subst (λ (b : Bool). IsDelivered (format_at s) c.args.round b (quanta_at s.min_exp c.args.x.significand c.args.x.exponent * 2 ^ (format_at s).scale) (quanta_at s.min_exp c.args.y.significand c.args.y.exponent) (datum_at s c.deliver.result.value) (bits_of c.deliver.result.status)) c.product_sign.ensures d

@@ -1,0 +1,53 @@
+//! Quotients.
+
+ghost use Rattle.std.specs.Prelude.{◌≡◌, ◌-◌, ◌*◌, ◌^◌, ◌≤◌, pos, neg_ℤ, ◌≤ℤ◌, ◌-ℤ◌};
+ghost use Rattle.apfloat_base.specs.Flags.{bits_of};
+ghost use Rattle.apfloat_base.specs.Exact.{product_sign};
+ghost use Rattle.apfloat_base.specs.Rounding.{IsDelivered};
+ghost use Rattle.apfloat_base.specs.Quotients.{IsQuotient};
+ghost use Rattle.apfloat_unpacked.specs.Shapes.{IsShape, format_at};
+ghost use Rattle.apfloat_unpacked.specs.Stored.{IsStored, IsNormal, quanta_at, datum_at};
+
+use crate::products::product_sign;
+use apfloat_base::{ExpInt, Round, StatusAnd, sig};
+use apfloat_unpacked::normalize::deliver;
+use apfloat_unpacked::shape::Shape;
+use apfloat_unpacked::unpacked::Unpacked;
+
+/// The exponent of the last digit of a quotient with so many places below the exponents' difference.
+#[inline]
+fn quotient_exponent(left: ExpInt, right: ExpInt, places: u32) -> ExpInt
+    requires left_near { left ≤ℤ pos 1048576 }
+    requires left_far { neg_ℤ (pos 1048701) ≤ℤ left }
+    requires right_near { right ≤ℤ pos 1048576 }
+    requires right_far { neg_ℤ (pos 1048701) ≤ℤ right }
+    requires short { places ≤ 128 }
+    ensures value { result ≡ (left -ℤ right) -ℤ pos places }
+    ensures near { result ≤ℤ pos 2097652 }
+    ensures far { neg_ℤ (pos 2097652) ≤ℤ result }
+{
+    left - right - places as ExpInt
+}
+
+/// The quotient of two finite numbers that are not zero, rounded once.
+///
+/// One place more than the precision is enough for all the digits of the format, whatever the significands are.
+#[inline]
+fn divide_numbers(shape: Shape, x: Unpacked, y: Unpacked, round: Round) -> StatusAnd<Unpacked>
+    requires lawful { IsShape shape }
+    requires left { IsNormal shape x.significand x.exponent }
+    requires right { IsNormal shape y.significand y.exponent }
+    ensures stored { IsStored shape result.value }
+    ensures delivered { IsDelivered (format_at shape) round (product_sign x.negative y.negative) (quanta_at shape.min_exp x.significand x.exponent * 2 ^ (format_at shape).scale) (quanta_at shape.min_exp y.significand y.exponent) (datum_at shape result.value) (bits_of result.status) }
+{
+    let places = shape.precision + 1;
+    let quotient = sig::divide(x.significand, y.significand, places);
+    deliver(
+        shape,
+        quotient.whole,
+        quotient_exponent(x.exponent, y.exponent, places),
+        quotient.loss,
+        round,
+        product_sign(x.negative, y.negative),
+    )
+}
