@@ -1,0 +1,2 @@
+pub mod KeptDigits
+pub mod Scanning

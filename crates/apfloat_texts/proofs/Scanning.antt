@@ -1,0 +1,70 @@
+-- A significand is read to its end.
+use Rattle.std.proofs.Common.{◌≡◌, ℕ, ◌+◌, ◌-◌, ◌<◌, ◌≤◌, Bool, true, false, not, ◌&&◌, if◌then◌else◌, refl, sym, ap, ◌∙◌, subst, arith, List, [], ◌∷◌, length, take, drop, get_or, filter, ltb, cond}
+use Rattle.std.proofs.lemmas.List.{take_all}
+use Rattle.std.specs.Prelude.{Result, Ok, Err, IsErrAnd, MatchResult}
+use Rattle.apfloat_base.specs.declared.sig.loss.Loss.{Loss}
+use Rattle.apfloat_base.specs.Digits.{begins, is_empty, is_hexadecimal}
+use Rattle.apfloat_base.specs.Texts.{is_dot, is_digit_or_dot, significand_of, behind_significand}
+use Rattle.apfloat_base.specs.Literals.{places_behind_dot}
+use Rattle.apfloat_texts.specs.Scans.{IsKept, IsScan, IsScanned}
+
+-- ---- lists
+
+-- a list with a first item, as a pattern takes it apart
+pub parted : (P : List ℕ → Type 0) (xs : List ℕ) → 1 ≤ length xs → P xs → P (get_or xs 0 0 ∷ take (length xs - 1) (drop 1 xs))
+parted P [] h p = absurd (omega (arith, h))
+parted P (x ∷ xs) h p =
+    let e : length (x ∷ xs) - 1 ≡ length xs = omega arith in
+    let t : take (length (x ∷ xs) - 1) xs ≡ xs = ap (λ (n : ℕ). take n xs) e ∙ take_all (length xs) xs (omega arith) in
+    subst (λ (l : List ℕ). P (x ∷ l)) (sym t) p
+
+pub begins_empty : (test : ℕ → Bool) (xs : List ℕ) → length xs < 1 → begins test xs ≡ false
+begins_empty test [] h = refl
+begins_empty test (x ∷ xs) h = absurd (omega (arith, h))
+
+pub begins_first : (test : ℕ → Bool) (xs : List ℕ) → 1 ≤ length xs → test (get_or xs 0 0) ≡ false → begins test xs ≡ false
+begins_first test [] h e = refl
+begins_first test (x ∷ xs) h e = e
+
+-- ---- results
+
+-- what the exit of a `?` returns
+pub refused_by : {T E : Type 0} (r : Result T E) (e : E) (P : T → Type 0) (Q : E → Type 0) → IsErrAnd r (λ y. y ≡ e) → Q e → MatchResult r P Q
+refused_by (Ok x) e P Q is q = absurd is
+refused_by (Err y) e P Q is q = subst Q (sym is) q
+
+-- ---- the end of a significand
+
+ended : (left : List ℕ) → begins is_digit_or_dot left ≡ false → significand_of left ≡ []
+ended [] h = refl
+ended (c ∷ left) h = rw h refl
+
+unmoved : (left : List ℕ) → begins is_digit_or_dot left ≡ false → behind_significand left ≡ left
+unmoved [] h = refl
+unmoved (c ∷ left) h = rw h refl
+
+one_at_most : (b : Bool) → ltb 1 ((if b then 1 else 0) + 0) ≡ false
+one_at_most true = refl
+one_at_most false = refl
+
+no_more : (b : Bool) (places : ℕ) → places + (if b then 0 else 0) ≡ places
+no_more true places = omega arith
+no_more false places = omega arith
+
+only_not : (b : Bool) → (not b && true) ≡ not b
+only_not true = refl
+only_not false = refl
+
+pub scan_ended : (rest left : List ℕ) (significand : ℕ) (loss : Loss) (cut places : ℕ) (pointed some : Bool)
+    → IsScan rest left significand loss cut places pointed some → begins is_digit_or_dot left ≡ false → IsScanned rest left significand loss cut places some
+scan_ended rest left significand loss cut places pointed some s h =
+    let e = ended left h in
+    record {
+      kept = subst (λ (n : ℕ). IsKept n significand loss cut) (sym (rw e at s.number_is)) s.kept;
+      places_are = rw e at s.places_is ∙ no_more pointed places;
+      one_dot = ap (λ (n : ℕ). ltb 1 n) (rw e at s.dots_are) ∙ one_at_most pointed;
+      empty_is = rw e at s.empty_is ∙ only_not some;
+      tail_is = s.tail_is ∙ unmoved left h;
+      cut_fits = omega (arith, s.cut_fits);
+      places_fit = omega (arith, s.places_fit);
+    }

@@ -1,0 +1,46 @@
+//! What can be wrong with a text, and the words of its refusal.
+
+ghost use Rattle.std.specs.Prelude.{◌≡◌};
+ghost use Rattle.apfloat_base.specs.Texts.{words};
+ghost use Rattle.apfloat_texts.specs.Faults.{fault_at};
+
+use apfloat_base::ParseError;
+
+/// What is wrong with a text first, from the left.
+#[derive(Clone, Copy, Debug)]
+pub enum Fault {
+    EmptyText,
+    LoneMark,
+    NoLiteral,
+    LonePrefix,
+    SecondDot,
+    WrongInSignificand,
+    NoDigits,
+    WrongInExponent,
+    NoExponentDigits,
+    NoExponent,
+}
+
+impl Fault {
+    ghost use Rattle.std.specs.Prelude.{◌≡◌};
+    ghost use Rattle.apfloat_base.specs.Texts.{words};
+    ghost use Rattle.apfloat_texts.specs.Faults.{fault_at};
+
+    /// The refusal that says so.
+    pub fn refusal(self) -> ParseError
+        ensures { result.0.now ≡ words (fault_at self) }
+    {
+        ParseError(match self {
+            Fault::EmptyText => "Invalid string length",
+            Fault::LoneMark => "String has no digits",
+            Fault::NoLiteral => "Not a special or hexadecimal literal",
+            Fault::LonePrefix => "Invalid string",
+            Fault::SecondDot => "String contains multiple dots",
+            Fault::WrongInSignificand => "Invalid character in significand",
+            Fault::NoDigits => "Significand has no digits",
+            Fault::WrongInExponent => "Invalid character in exponent",
+            Fault::NoExponentDigits => "Exponent has no digits",
+            Fault::NoExponent => "Hex strings require an exponent",
+        })
+    }
+}

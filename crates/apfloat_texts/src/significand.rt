@@ -1,0 +1,190 @@
+//! The significand of a hexadecimal text: its leading bits, and what the other digits are of the last of them.
+
+ghost use Rattle.std.specs.Prelude.{◌≡◌, ℕ, ◌+◌, ◌*◌, ◌^◌, ◌<◌, ◌≤◌, true, false, ltb, length, filter, MatchResult, IsTrue};
+ghost use Rattle.apfloat_base.specs.Standing.{StandsFor};
+ghost use Rattle.apfloat_base.specs.Digits.{is_hexadecimal, digit_value};
+ghost use Rattle.apfloat_base.specs.Texts.{is_dot, is_digit_or_dot, significand_of, behind_significand};
+ghost use Rattle.apfloat_base.specs.Literals.{digits_number, places_behind_dot};
+ghost use Rattle.apfloat_texts.specs.Scans.{IsKept, IsScan, IsScanned};
+ghost use Rattle.apfloat_texts.specs.declared.fault.Fault.TheVariants.{SecondDot};
+
+use crate::characters::{digit_value, is_digit_or_dot};
+use crate::fault::Fault;
+use apfloat_base::sig::{Loss, loss_of_rest};
+
+/// The leading bits of a number, and what is lost of it where its `cut` last hexadecimal digits are cut off.
+#[derive(Clone, Copy, Debug)]
+pub struct Digits {
+    pub significand: u128,
+    pub loss: Loss,
+    pub cut: usize,
+}
+
+/// What is lost with one more digit cut off, where digits were cut off before.
+#[inline]
+fn loss_behind(loss: Loss, digit: u8) -> Loss
+    requires { digit < 16 }
+    ensures { (number significand half : ℕ) → 0 < half → StandsFor significand loss number (2 * half) → StandsFor significand result (number * 16 + digit) (16 * (2 * half)) }
+{
+    match loss {
+        Loss::ExactlyZero => {
+            if digit == 0 {
+                Loss::ExactlyZero
+            } else {
+                Loss::LessThanHalf
+            }
+        }
+        Loss::LessThanHalf => Loss::LessThanHalf,
+        Loss::ExactlyHalf => {
+            if digit == 0 {
+                Loss::ExactlyHalf
+            } else {
+                Loss::MoreThanHalf
+            }
+        }
+        Loss::MoreThanHalf => Loss::MoreThanHalf,
+    }
+}
+
+impl Digits {
+    ghost use Rattle.std.specs.Prelude.{◌≡◌, ℕ, ◌+◌, ◌*◌, ◌^◌, ◌<◌, ◌≤◌};
+    ghost use Rattle.apfloat_texts.specs.Scans.{IsKept};
+
+    /// No digits yet.
+    fn none() -> Digits
+        ensures kept { IsKept 0 result.significand result.loss result.cut }
+        ensures cut { result.cut ≡ 0 }
+    {
+        Digits {
+            significand: 0,
+            loss: Loss::ExactlyZero,
+            cut: 0,
+        }
+    }
+
+    /// The digits with one more behind them.
+    #[inline]
+    fn followed_by(self, digit: u8) -> Digits
+        requires small { digit < 16 }
+        requires room { self.cut < usize.MAX }
+        ensures kept { (number : ℕ) → IsKept number self.significand self.loss self.cut → IsKept (number * 16 + digit) result.significand result.loss result.cut }
+        ensures cut { result.cut ≤ self.cut + 1 }
+    {
+        if self.significand < 1 << 124 {
+            return Digits {
+                significand: self.significand * 16 + u128::from(digit),
+                loss: Loss::ExactlyZero,
+                cut: 0,
+            };
+        }
+        let loss = if self.cut == 0 {
+            loss_of_rest(u128::from(digit), 8, Loss::ExactlyZero)
+        } else {
+            loss_behind(self.loss, digit)
+        };
+        Digits {
+            significand: self.significand,
+            loss,
+            cut: self.cut + 1,
+        }
+    }
+}
+
+/// A significand as far as it was read.
+#[derive(Clone, Copy, Debug)]
+pub struct Scan {
+    pub digits: Digits,
+    /// How many of the digits stand behind the dot.
+    pub places: usize,
+    /// Whether the dot was read.
+    pub pointed: bool,
+    /// Whether a digit was read.
+    pub some: bool,
+}
+
+impl Scan {
+    ghost use Rattle.std.specs.Prelude.{◌≡◌, ℕ, ◌+◌, ◌<◌, List, ◌∷◌, length, filter, ltb, true, IsTrue, MatchResult};
+    ghost use Rattle.apfloat_base.specs.Digits.{is_hexadecimal};
+    ghost use Rattle.apfloat_base.specs.Texts.{is_dot, is_digit_or_dot, significand_of};
+    ghost use Rattle.apfloat_texts.specs.Scans.{IsScan};
+    ghost use Rattle.apfloat_texts.specs.declared.fault.Fault.{Fault};
+    ghost use Rattle.apfloat_texts.specs.declared.fault.Fault.TheVariants.{SecondDot};
+
+    /// Nothing was read.
+    fn none() -> Scan
+        ensures { (rest : List ℕ) → IsScan rest rest result.digits.significand result.digits.loss result.digits.cut result.places result.pointed result.some }
+    {
+        Scan {
+            digits: Digits::none(),
+            places: 0,
+            pointed: false,
+            some: false,
+        }
+    }
+
+    /// With one more digit.
+    #[inline]
+    fn with_digit(self, byte: u8) -> Scan
+        requires digit { IsTrue (is_hexadecimal byte) }
+        requires cut { self.digits.cut < usize.MAX }
+        requires places { self.places < usize.MAX }
+        ensures { (rest left : List ℕ) → IsScan rest (byte ∷ left) self.digits.significand self.digits.loss self.digits.cut self.places self.pointed self.some → IsScan rest left result.digits.significand result.digits.loss result.digits.cut result.places result.pointed result.some }
+    {
+        Scan {
+            digits: self.digits.followed_by(digit_value(byte)),
+            places: if self.pointed {
+                self.places + 1
+            } else {
+                self.places
+            },
+            pointed: self.pointed,
+            some: true,
+        }
+    }
+
+    /// With the dot.
+    #[inline]
+    fn with_dot(self) -> Result<Scan, Fault>
+        ensures { (rest left : List ℕ) → IsScan rest (46 ∷ left) self.digits.significand self.digits.loss self.digits.cut self.places self.pointed self.some → MatchResult result (λ scan. IsScan rest left scan.digits.significand scan.digits.loss scan.digits.cut scan.places scan.pointed scan.some) (λ fault. (fault ≡ SecondDot) × (ltb 1 (length (filter is_dot (significand_of rest))) ≡ true)) }
+    {
+        if self.pointed {
+            return Err(Fault::SecondDot);
+        }
+        Ok(Scan {
+            digits: self.digits,
+            places: self.places,
+            pointed: true,
+            some: self.some,
+        })
+    }
+
+    /// With one more character.
+    #[inline]
+    fn with(self, byte: u8) -> Result<Scan, Fault>
+        requires passes { IsTrue (is_digit_or_dot byte) }
+        requires cut { self.digits.cut < usize.MAX }
+        requires places { self.places < usize.MAX }
+        ensures { (rest left : List ℕ) → IsScan rest (byte ∷ left) self.digits.significand self.digits.loss self.digits.cut self.places self.pointed self.some → MatchResult result (λ scan. IsScan rest left scan.digits.significand scan.digits.loss scan.digits.cut scan.places scan.pointed scan.some) (λ fault. (fault ≡ SecondDot) × (ltb 1 (length (filter is_dot (significand_of rest))) ≡ true)) }
+    {
+        if byte == b'.' {
+            self.with_dot()
+        } else {
+            Ok(self.with_digit(byte))
+        }
+    }
+}
+
+/// The significand at the start of what stands behind the prefix, and what follows it.
+pub fn scanned(rest: &[u8]) -> Result<(Scan, &[u8]), Fault>
+    ensures { MatchResult result (λ answer. IsScanned rest.now answer.1.now answer.0.digits.significand answer.0.digits.loss answer.0.digits.cut answer.0.places answer.0.some) (λ fault. (fault ≡ SecondDot) × (ltb 1 (length (filter is_dot (significand_of rest.now))) ≡ true)) }
+{
+    let mut scan = Scan::none();
+    let mut left = rest;
+    while let [byte, behind @ ..] = left
+        && is_digit_or_dot(*byte)
+    {
+        scan = scan.with(*byte)?;
+        left = behind;
+    }
+    Ok((scan, left))
+}
