@@ -5,11 +5,11 @@ ghost use Rattle.apfloat_base.specs.WholeNumbers.{IsFromUnsigned};
 ghost use Rattle.apfloat_unpacked.specs.Shapes.{IsShape, format_at};
 ghost use Rattle.apfloat_unpacked.specs.Stored.{IsStored, datum_at};
 
+use apfloat_base::sig::Loss;
+use apfloat_base::{Round, StatusAnd};
 use apfloat_unpacked::normalize::deliver;
 use apfloat_unpacked::shape::Shape;
 use apfloat_unpacked::unpacked::Unpacked;
-use apfloat_base::sig::Loss;
-use apfloat_base::{Round, StatusAnd};
 
 /// A whole number, rounded once.
 #[inline]

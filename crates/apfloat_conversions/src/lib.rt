@@ -4,4 +4,5 @@
 //! `apfloat_ieee` brings the constants of a type to it.
 #![tactic(auto)]
 
+pub mod formats;
 pub mod integers;
