@@ -1,3 +1,4 @@
 mod WholeQuotients
 mod NearestMultiples
 pub mod ProductExponents
+pub mod ExactAnswers

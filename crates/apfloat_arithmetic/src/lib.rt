@@ -4,6 +4,7 @@
 //! `apfloat_ieee` brings the constants of a type to it.
 #![tactic(auto)]
 
+mod exact;
 pub mod products;
 pub mod quotients;
 pub mod remainders;

@@ -2,17 +2,21 @@
 
 ghost use Rattle.std.specs.Prelude.{◌≡◌, ◌-◌, ◌*◌, ◌^◌, ◌≤◌, pos, neg_ℤ, ◌≤ℤ◌, ◌-ℤ◌};
 ghost use Rattle.apfloat_base.specs.Flags.{bits_of};
+ghost use Rattle.apfloat_base.specs.Answer.{IsAnswer};
+ghost use Rattle.apfloat_base.specs.Constants.{infinity_of};
 ghost use Rattle.apfloat_base.specs.Exact.{product_sign};
 ghost use Rattle.apfloat_base.specs.Rounding.{IsDelivered};
-ghost use Rattle.apfloat_base.specs.Quotients.{IsQuotient};
+ghost use Rattle.apfloat_base.specs.Quotients.{IsQuotient, div_by_zero_bit};
 ghost use Rattle.apfloat_unpacked.specs.Shapes.{IsShape, format_at};
 ghost use Rattle.apfloat_unpacked.specs.Stored.{IsStored, IsNormal, quanta_at, datum_at};
 
+use crate::exact::{exact_infinity, exact_zero};
 use crate::products::product_sign;
-use apfloat_base::{ExpInt, Round, StatusAnd, sig};
+use apfloat_base::{Category, ExpInt, Round, Status, StatusAnd, sig};
+use apfloat_unpacked::nans::{invalid, propagated, propagated_left};
 use apfloat_unpacked::normalize::deliver;
 use apfloat_unpacked::shape::Shape;
-use apfloat_unpacked::unpacked::Unpacked;
+use apfloat_unpacked::unpacked::{Unpacked, infinity_of};
 
 /// The exponent of the last digit of a quotient with so many places below the exponents' difference.
 #[inline]
@@ -50,4 +54,47 @@ fn divide_numbers(shape: Shape, x: Unpacked, y: Unpacked, round: Round) -> Statu
         round,
         product_sign(x.negative, y.negative),
     )
+}
+
+/// A finite number that is not zero, divided by a zero (7.3).
+#[inline]
+fn divided_by_zero(shape: Shape, negative: bool) -> StatusAnd<Unpacked>
+    requires { IsShape shape }
+    ensures stored { IsStored shape result.value }
+    ensures answer { IsAnswer (infinity_of (format_at shape) negative) div_by_zero_bit (datum_at shape result.value) (bits_of result.status) }
+{
+    Status::DIV_BY_ZERO.and(infinity_of(shape, negative))
+}
+
+/// The quotient of two values, rounded once (IEEE 754-2008 5.4.1, division).
+#[inline]
+pub fn divide(shape: Shape, x: Unpacked, y: Unpacked, round: Round) -> StatusAnd<Unpacked>
+    requires lawful { IsShape shape }
+    requires left { IsStored shape x }
+    requires right { IsStored shape y }
+    ensures stored { IsStored shape result.value }
+    ensures delivered { IsQuotient (format_at shape) round (datum_at shape x) (datum_at shape y) (datum_at shape result.value) (bits_of result.status) }
+{
+    let negative = product_sign(x.negative, y.negative);
+    match x.category {
+        Category::Normal => match y.category {
+            Category::Normal => divide_numbers(shape, x, y, round),
+            Category::Zero => divided_by_zero(shape, negative),
+            Category::Infinity => exact_zero(shape, negative),
+            Category::NaN => propagated(shape, y),
+        },
+        Category::Zero => match y.category {
+            Category::Normal => exact_zero(shape, negative),
+            Category::Zero => invalid(shape),
+            Category::Infinity => exact_zero(shape, negative),
+            Category::NaN => propagated(shape, y),
+        },
+        Category::Infinity => match y.category {
+            Category::Normal => exact_infinity(shape, negative),
+            Category::Zero => exact_infinity(shape, negative),
+            Category::Infinity => invalid(shape),
+            Category::NaN => propagated(shape, y),
+        },
+        Category::NaN => propagated_left(shape, x, y),
+    }
 }

@@ -1,0 +1,44 @@
+-- Zeros that are exact, and values by their categories.
+use Rattle.std.proofs.Common.{refl, sym, subst, ◌≡◌, ℕ, ◌*◌, ◌^◌, ◌<◌, Bool, arith}
+use Rattle.std.proofs.lemmas.Nat.{pow_pos}
+use Rattle.std.proofs.lemmas.Bool.{ne_eqb}
+use Rattle.apfloat_base.specs.declared.kinds.Round.{Round}
+use Rattle.apfloat_base.specs.declared.kinds.Category.{Category}
+use Rattle.apfloat_base.specs.Format.{Format, largest}
+use Rattle.apfloat_base.specs.Datum.{Datum, finite}
+use Rattle.apfloat_base.specs.Exact.{product_sign}
+use Rattle.apfloat_base.specs.Products.{IsProduct}
+use Rattle.apfloat_base.specs.Quotients.{IsQuotient}
+use Rattle.apfloat_base.specs.Grid.{IsOnGrid}
+use Rattle.apfloat_base.specs.Rounding.{ok_bits, signed_quanta, IsDelivered}
+use Rattle.apfloat_base.proofs.Laws.{exact_delivered}
+use Rattle.apfloat_unpacked.specs.declared.shape.Shape.{Shape}
+use Rattle.apfloat_unpacked.specs.declared.unpacked.Unpacked.{Unpacked}
+use Rattle.apfloat_unpacked.specs.Stored.{datum_at, datum_by}
+
+pub zero_on_grid : (precision : ℕ) → IsOnGrid precision 0
+zero_on_grid precision = record { significand = 0; place = 0; fits = pow_pos precision; is = refl }
+
+pub zero_delivered : (f : Format) (mode : Round) (negative : Bool) (parts : ℕ) → 0 < parts → IsDelivered f mode negative 0 parts (signed_quanta f.nonfinite negative 0) ok_bits
+zero_delivered f mode negative parts p = exact_delivered f mode negative 0 0 parts p (zero_on_grid f.precision) (omega arith) (omega arith)
+
+-- what is said of two data is said of what two values stand for
+pub by_categories : (P : Datum → Datum → Type 0) (s : Shape) (x y : Unpacked) (k l : Category) → x.category ≡ k → y.category ≡ l → P (datum_by k s x) (datum_by l s y) → P (datum_at s x) (datum_at s y)
+by_categories P s x y k l d e h = subst (λ (a : Category). P (datum_by a s x) (datum_at s y)) (sym d) (subst (λ (b : Category). P (datum_by k s x) (datum_by b s y)) (sym e) h)
+
+pub zero_product : (f : Format) (mode : Round) (b c sign : Bool) (m n : ℕ) (value : Datum) (status : ℕ) → sign ≡ product_sign b c → m * n ≡ 0
+    → ((parts : ℕ) → 0 < parts → IsDelivered f mode sign 0 parts value status) → IsProduct f mode (finite b m) (finite c n) value status
+zero_product f mode b c sign m n value status e z h =
+    let d : IsDelivered f mode sign (m * n) (2 ^ f.scale) value status = subst (λ (x : ℕ). IsDelivered f mode sign x (2 ^ f.scale) value status) (sym z) (h (2 ^ f.scale) (pow_pos f.scale)) in
+    subst (λ (x : Bool). IsDelivered f mode x (m * n) (2 ^ f.scale) value status) e d
+
+pub some_quotient : (f : Format) (mode : Round) (b c : Bool) (m n : ℕ) (value : Datum) (status : ℕ) → 0 < n
+    → IsDelivered f mode (product_sign b c) (m * 2 ^ f.scale) n value status → IsQuotient f mode (finite b m) (finite c n) value status
+some_quotient f mode b c m n value status p h = rw (ne_eqb n 0 (λ z. omega (arith, z, p))) h
+
+pub zero_quotient : (f : Format) (mode : Round) (b c sign : Bool) (n : ℕ) (value : Datum) (status : ℕ) → 0 < n → sign ≡ product_sign b c
+    → ((parts : ℕ) → 0 < parts → IsDelivered f mode sign 0 parts value status) → IsQuotient f mode (finite b 0) (finite c n) value status
+zero_quotient f mode b c sign n value status p e h =
+    let z : 0 ≡ 0 * 2 ^ f.scale = omega arith in
+    let d : IsDelivered f mode sign (0 * 2 ^ f.scale) n value status = subst (λ (x : ℕ). IsDelivered f mode sign x n value status) z (h n p) in
+    some_quotient f mode b c 0 n value status p (subst (λ (x : Bool). IsDelivered f mode x (0 * 2 ^ f.scale) n value status) e d)

@@ -1,0 +1,37 @@
+//! Answers that need no rounding: zeros and infinities.
+
+ghost use Rattle.std.specs.Prelude.{◌≡◌, ℕ, ◌<◌};
+ghost use Rattle.apfloat_base.specs.declared.kinds.NonfiniteBehavior.TheVariants.{IEEE754};
+ghost use Rattle.apfloat_base.specs.declared.kinds.Round.{Round};
+ghost use Rattle.apfloat_base.specs.Flags.{bits_of};
+ghost use Rattle.apfloat_base.specs.Datum.{infinite};
+ghost use Rattle.apfloat_base.specs.Answer.{IsAnswer};
+ghost use Rattle.apfloat_base.specs.Rounding.{ok_bits, signed_quanta, IsDelivered};
+ghost use Rattle.apfloat_unpacked.specs.Shapes.{IsShape, format_at};
+ghost use Rattle.apfloat_unpacked.specs.Stored.{IsStored, datum_at};
+
+use apfloat_base::{Status, StatusAnd};
+use apfloat_unpacked::shape::Shape;
+use apfloat_unpacked::unpacked::{Unpacked, infinity_of, zero_of};
+
+/// A zero that is exact, with that sign where the format has one for it.
+#[inline]
+pub fn exact_zero(shape: Shape, negative: bool) -> StatusAnd<Unpacked>
+    requires { IsShape shape }
+    ensures stored { IsStored shape result.value }
+    ensures answer { IsAnswer (signed_quanta shape.nonfinite negative 0) ok_bits (datum_at shape result.value) (bits_of result.status) }
+    ensures delivered { (round : Round) (parts : ℕ) → 0 < parts → IsDelivered (format_at shape) round negative 0 parts (datum_at shape result.value) (bits_of result.status) }
+{
+    Status::OK.and(zero_of(shape, negative))
+}
+
+/// The infinity of that sign, exact, of a format that has it.
+#[inline]
+pub fn exact_infinity(shape: Shape, negative: bool) -> StatusAnd<Unpacked>
+    requires lawful { IsShape shape }
+    requires infinities { shape.nonfinite ≡ IEEE754 }
+    ensures stored { IsStored shape result.value }
+    ensures answer { IsAnswer (infinite negative) ok_bits (datum_at shape result.value) (bits_of result.status) }
+{
+    Status::OK.and(infinity_of(shape, negative))
+}
