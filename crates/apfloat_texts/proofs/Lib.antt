@@ -1,2 +1,3 @@
 pub mod KeptDigits
 pub mod Scanning
+pub mod Saturations

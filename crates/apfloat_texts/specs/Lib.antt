@@ -1,2 +1,4 @@
 pub mod Faults
+pub mod Marks
 pub mod Scans
+pub mod Saturation

@@ -6,5 +6,7 @@
 #![tactic(auto)]
 
 mod characters;
+mod exponent;
 mod fault;
+mod mark;
 mod significand;

@@ -1,0 +1,115 @@
+//! The exponent of a hexadecimal text.
+
+ghost use Rattle.std.specs.Prelude.{◌≡◌, ◌⊎◌, ℕ, ◌+◌, ◌*◌, ◌^◌, ◌<◌, ◌≤◌, ℤ, pos, neg_ℤ, ◌+ℤ◌, ◌-ℤ◌, ◌≤ℤ◌, List, length, drop, not, true, false, Some, None, MatchResult, IsTrue};
+ghost use Rattle.apfloat_base.specs.Digits.{every, is_empty, is_decimal, digit_value, number};
+ghost use Rattle.apfloat_base.specs.Specials.{mark_of, behind_mark};
+ghost use Rattle.apfloat_base.specs.Texts.{exponent_fault, tail_fault};
+ghost use Rattle.apfloat_base.specs.Literals.{exponent_number};
+ghost use Rattle.apfloat_texts.specs.Faults.{fault_at};
+ghost use Rattle.apfloat_texts.specs.Saturation.{IsSaturated, IsNear, fault_behind};
+
+use crate::characters::{digit_value, is_decimal};
+use crate::fault::Fault;
+use crate::mark::split_mark;
+use apfloat_base::ExpInt;
+
+/// A number that is not counted on from here.
+const FAR: u128 = 1 << 96;
+
+/// The number with one more decimal digit behind it, or some number from `FAR` up in place of another one.
+#[inline]
+fn with_digit(number: u128, digit: u8) -> u128
+    requires small { digit < 16 }
+    requires fits { number < 2 ^ 100 }
+    ensures saturated { (exact : ℕ) → IsSaturated exact number → IsSaturated (exact * 10 + digit) result }
+    ensures fits { result < 2 ^ 100 }
+{
+    if number < FAR {
+        number * 10 + u128::from(digit)
+    } else {
+        number
+    }
+}
+
+/// The number that decimal digits stand for.
+fn magnitude(digits: &[u8]) -> Result<u128, Fault>
+    ensures { MatchResult result (λ n. IsSaturated (number 10 digits.now) n × (n < 2 ^ 100) × (exponent_fault digits.now ≡ None)) (λ fault. exponent_fault digits.now ≡ Some (fault_at fault)) }
+{
+    if digits.is_empty() {
+        return Err(Fault::NoExponentDigits);
+    }
+    let mut number = 0;
+    let mut left = digits;
+    while let [byte, behind @ ..] = left {
+        if !is_decimal(*byte) {
+            return Err(Fault::WrongInExponent);
+        }
+        number = with_digit(number, digit_value(*byte));
+        left = behind;
+    }
+    Ok(number)
+}
+
+/// The exponent that is written behind the letter.
+fn signed(text: &[u8]) -> Result<i128, Fault>
+    ensures { MatchResult result (λ e. IsNear (2 ^ 96) (exponent_number text.now) e × (e ≤ℤ pos (2 ^ 100)) × (neg_ℤ (pos (2 ^ 100)) ≤ℤ e) × (exponent_fault (behind_mark text.now) ≡ None)) (λ fault. exponent_fault (behind_mark text.now) ≡ Some (fault_at fault)) }
+{
+    let (mark, digits) = split_mark(text);
+    let magnitude = magnitude(digits)? as i128;
+    Ok(if mark.is_minus() {
+        -magnitude
+    } else {
+        magnitude
+    })
+}
+
+/// The exponent in what follows a significand with some digit or with none.
+pub fn exponent_in(tail: &[u8], some: bool) -> Result<i128, Fault>
+    ensures { MatchResult result (λ e. IsNear (2 ^ 96) (exponent_number (drop 1 tail.now)) e × (e ≤ℤ pos (2 ^ 100)) × (neg_ℤ (pos (2 ^ 100)) ≤ℤ e) × (fault_behind some tail.now ≡ None)) (λ fault. fault_behind some tail.now ≡ Some (fault_at fault)) }
+{
+    match tail {
+        [b'p' | b'P', exponent @ ..] if some => signed(exponent),
+        [b'p' | b'P', ..] => Err(Fault::NoDigits),
+        [_, ..] => Err(Fault::WrongInSignificand),
+        [] if some => Err(Fault::NoExponent),
+        [] => Err(Fault::NoDigits),
+    }
+}
+
+/// The exponent of the last digit that is kept, of a number with `cut` digits less and with `places` digits behind its dot.
+#[inline]
+fn unit_of(exponent: i128, cut: usize, places: usize) -> i128
+    requires high { exponent ≤ℤ pos (2 ^ 100) }
+    requires low { neg_ℤ (pos (2 ^ 100)) ≤ℤ exponent }
+    ensures { result ≡ (exponent +ℤ pos (4 * cut)) -ℤ pos (4 * places) }
+{
+    exponent + 4 * cut as i128 - 4 * places as i128
+}
+
+/// The exponent, or the farthest one on its side.
+#[inline]
+fn clamped(exponent: i128) -> ExpInt
+    ensures near { IsNear 4194304 exponent result }
+    ensures high { result ≤ℤ pos 4194304 }
+    ensures low { neg_ℤ (pos 4194304) ≤ℤ result }
+{
+    if exponent > 4194304 {
+        4194304
+    } else if exponent < -4194304 {
+        -4194304
+    } else {
+        exponent as ExpInt
+    }
+}
+
+/// The exponent of the last digit that is kept, or one that is past every value on its side.
+#[inline]
+pub fn unit_exponent(exponent: i128, cut: usize, places: usize) -> ExpInt
+    requires high { exponent ≤ℤ pos (2 ^ 100) }
+    requires low { neg_ℤ (pos (2 ^ 100)) ≤ℤ exponent }
+    ensures near { (exact : ℤ) → IsNear (2 ^ 96) exact exponent → IsNear 4194304 ((exact +ℤ pos (4 * cut)) -ℤ pos (4 * places)) result }
+    ensures high { result ≤ℤ pos 4194304 }
+    ensures low { neg_ℤ (pos 4194304) ≤ℤ result }
+{
+    clamped(unit_of(exponent, cut, places))
+}
