@@ -2,3 +2,4 @@ mod WholeQuotients
 mod NearestMultiples
 pub mod ProductExponents
 pub mod ExactAnswers
+mod SpecialRemainders

@@ -15,6 +15,7 @@ ghost use Rattle.apfloat_unpacked.specs.Stored.{IsOperandAt, IsNormal, IsStored,
 
 use apfloat_base::sig::digits;
 use apfloat_base::{Category, ExpInt, Status, StatusAnd};
+use apfloat_unpacked::nans::{invalid, propagated, propagated_left};
 use apfloat_unpacked::shape::Shape;
 use apfloat_unpacked::unpacked::{Unpacked, quanta_of};
 
@@ -255,7 +256,9 @@ fn nearest_rest(shape: Shape, x: Unpacked, y: Unpacked) -> Nearest
     ensures quanta { let m = quanta_at shape.min_exp x.significand x.exponent in let n = quanta_at shape.min_exp y.significand y.exponent in
         result.point.significand * 2 ^ result.point.place ≡ cond result.past (n - m % n) (m % n) }
 {
-    let nearest = nearest_by(shape.precision, point_of(shape, x), point_of(shape, y));
+    let number = point_of(shape, x);
+    let divisor = point_of(shape, y);
+    let nearest = nearest_by(shape.precision, number, divisor);
     Nearest {
         point: in_quanta(shape.precision, nearest.point),
         past: nearest.past,
@@ -308,4 +311,89 @@ fn nearest_number(shape: Shape, x: Unpacked, y: Unpacked) -> StatusAnd<Unpacked>
         nearest.point.significand,
         nearest.point.place,
     ))
+}
+
+/// Whether both operands are finite and not zero.
+#[inline]
+fn are_normal(x: Unpacked, y: Unpacked) -> bool
+    ensures yes { result ≡ true → (x.category ≡ Category.Normal) × (y.category ≡ Category.Normal) }
+    ensures no { result ≡ false → x.category ≡ Category.Normal → y.category ≡ Category.Normal → ⊥ }
+{
+    x.category == Category::Normal && y.category == Category::Normal
+}
+
+/// The remainder of a finite operand, where it is zero or the divisor is no number other than zero.
+fn special_divisor(shape: Shape, x: Unpacked, y: Unpacked) -> StatusAnd<Unpacked>
+    requires lawful { IsShape shape }
+    requires x_stored { IsStored shape x }
+    requires y_stored { IsStored shape y }
+    requires finite { (x.category ≡ Category.Zero) ⊎ (x.category ≡ Category.Normal) }
+    requires special { x.category ≡ Category.Normal → y.category ≡ Category.Normal → ⊥ }
+    ensures stored { IsStored shape result.value }
+    ensures delivered { (quotient : ℕ → ℕ → ℕ) → ((n : ℕ) → 0 < n → quotient 0 n ≡ 0) → IsRemainder (format_at shape) quotient (datum_at shape x) (datum_at shape y) (datum_at shape result.value) (bits_of result.status) }
+{
+    match y.category {
+        Category::NaN => propagated(shape, y),
+        Category::Zero => invalid(shape),
+        Category::Infinity => Status::OK.and(x),
+        Category::Normal => Status::OK.and(x),
+    }
+}
+
+/// The remainder, where not both operands are numbers other than zero: the quotient does not matter.
+fn special_remainder(shape: Shape, x: Unpacked, y: Unpacked) -> StatusAnd<Unpacked>
+    requires lawful { IsShape shape }
+    requires x_stored { IsStored shape x }
+    requires y_stored { IsStored shape y }
+    requires special { x.category ≡ Category.Normal → y.category ≡ Category.Normal → ⊥ }
+    ensures stored { IsStored shape result.value }
+    ensures delivered { (quotient : ℕ → ℕ → ℕ) → ((n : ℕ) → 0 < n → quotient 0 n ≡ 0) → IsRemainder (format_at shape) quotient (datum_at shape x) (datum_at shape y) (datum_at shape result.value) (bits_of result.status) }
+{
+    match x.category {
+        Category::NaN => propagated_left(shape, x, y),
+        Category::Infinity => match y.category {
+            Category::NaN => propagated(shape, y),
+            Category::Infinity => invalid(shape),
+            Category::Zero => invalid(shape),
+            Category::Normal => invalid(shape),
+        },
+        Category::Zero => special_divisor(shape, x, y),
+        Category::Normal => special_divisor(shape, x, y),
+    }
+}
+
+/// The remainder by the quotient cut toward zero, and after how many subtractions.
+///
+/// NaNs, infinities and a zero divisor are answered without any.
+pub fn truncated_remainder(shape: Shape, x: Unpacked, y: Unpacked) -> Remainder
+    requires lawful { IsShape shape }
+    requires x { IsStored shape x }
+    requires y { IsStored shape y }
+    ensures stored { IsStored shape result.answer.value }
+    ensures delivered { IsTruncatedRemainder (format_at shape) (datum_at shape x) (datum_at shape y) (datum_at shape result.answer.value) (bits_of result.answer.status) }
+    ensures steps { result.steps ≡ ones_of_quotient (datum_at shape x) (datum_at shape y) }
+{
+    if are_normal(x, y) {
+        truncated_number(shape, x, y)
+    } else {
+        Remainder {
+            answer: special_remainder(shape, x, y),
+            steps: 0,
+        }
+    }
+}
+
+/// The remainder by the whole number nearest to the quotient, a tie to the even one (IEEE 754-2008 5.3.1).
+pub fn nearest_remainder(shape: Shape, x: Unpacked, y: Unpacked) -> StatusAnd<Unpacked>
+    requires lawful { IsShape shape }
+    requires x { IsStored shape x }
+    requires y { IsStored shape y }
+    ensures stored { IsStored shape result.value }
+    ensures delivered { IsNearestRemainder (format_at shape) (datum_at shape x) (datum_at shape y) (datum_at shape result.value) (bits_of result.status) }
+{
+    if are_normal(x, y) {
+        nearest_number(shape, x, y)
+    } else {
+        special_remainder(shape, x, y)
+    }
 }

@@ -30,7 +30,7 @@ fn nan_base(shape: Shape) -> u128
 
 /// The bits that a payload may set.
 #[inline]
-fn payload_mask(shape: Shape) -> u128
+pub fn payload_mask(shape: Shape) -> u128
     requires { IsShape shape }
     ensures { result ≡ payload_mask (format_at shape) }
 {
@@ -115,7 +115,7 @@ pub fn quieted_significand(shape: Shape, significand: u128) -> u128
 
 /// The significand of the quiet NaN with that payload.
 #[inline]
-fn quiet_significand(shape: Shape, payload: u128) -> u128
+pub fn quiet_significand(shape: Shape, payload: u128) -> u128
     requires { IsShape shape }
     ensures value { result ≡ quiet_significand (format_at shape) payload }
     ensures nan { IsNanSignificand shape.nonfinite shape.explicit_integer_bit shape.precision result }
@@ -182,7 +182,7 @@ fn quieted(shape: Shape, x: Unpacked) -> Unpacked
 
 /// The status of an operation on NaNs, of which one may signal (7.2).
 #[inline]
-fn status_of(signaling: bool) -> Status
+pub fn status_of(signaling: bool) -> Status
     ensures { bits_of result ≡ invalid_if signaling }
 {
     if signaling {

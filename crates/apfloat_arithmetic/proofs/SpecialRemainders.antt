@@ -1,0 +1,62 @@
+-- Remainders of operands that are not both numbers other than zero, by their categories.
+use Rattle.std.proofs.Common.{◌≡◌, ◌⊎◌, inl, inr, ℕ, Bool, ◌*◌, ◌%◌, ◌<◌, refl, sym, ap, ◌∙◌, subst, arith}
+use Rattle.std.proofs.lemmas.Bool.{ne_eqb}
+use Rattle.std.proofs.Math.Nat.{div-eq_of_lt, mod-eq_of_lt}
+use Rattle.apfloat_base.specs.declared.kinds.Category.{Category}
+use Rattle.apfloat_base.specs.declared.kinds.Category.TheVariants.{Normal, Zero}
+use Rattle.apfloat_base.specs.declared.kinds.NonfiniteBehavior.{NonfiniteBehavior}
+use Rattle.apfloat_base.specs.Datum.{Datum, finite}
+use Rattle.apfloat_base.specs.Answer.{IsAnswer}
+use Rattle.apfloat_base.specs.Rounding.{ok_bits, zero_sign}
+use Rattle.apfloat_base.specs.Remainders.{IsRemainder, rest_of, truncated_quotient, nearest_quotient}
+use Rattle.apfloat_unpacked.specs.declared.shape.Shape.{Shape}
+use Rattle.apfloat_unpacked.specs.declared.unpacked.Unpacked.{Unpacked}
+use Rattle.apfloat_unpacked.specs.Shapes.{format_at}
+use Rattle.apfloat_unpacked.specs.Stored.{IsStoredBy, datum_by, quanta_at}
+use Rattle.apfloat_unpacked.specs.StoredBack.{quanta_some}
+
+abbrev pub Says : Shape → (ℕ → ℕ → ℕ) → Category → Category → Unpacked → Unpacked → Datum → ℕ → Type 0
+Says s quotient k l x y value status = IsRemainder (format_at s) quotient (datum_by k s x) (datum_by l s y) value status
+
+-- a number other than zero on the right
+pub by_number : (s : Shape) (quotient : ℕ → ℕ → ℕ) (x y : Unpacked) (m : ℕ) (value : Datum) (status : ℕ) → IsStoredBy Normal s y
+    → IsAnswer (rest_of s.nonfinite x.negative m (quanta_at s.min_exp y.significand y.exponent * quotient m (quanta_at s.min_exp y.significand y.exponent))) ok_bits value status
+    → IsRemainder (format_at s) quotient (finite x.negative m) (datum_by Normal s y) value status
+by_number s quotient x y m value status t h =
+    let p = quanta_some s y.significand y.exponent t in
+    rw (ne_eqb (quanta_at s.min_exp y.significand y.exponent) 0 (λ z. omega (arith, z, p))) h
+
+zero_rest : (kind : NonfiniteBehavior) (b : Bool) (n q : ℕ) → q ≡ 0 → b ≡ zero_sign kind b → finite b 0 ≡ rest_of kind b 0 (n * q)
+zero_rest kind b n q e z = let w : n * 0 ≡ 0 = omega arith in rw (e, w) (ap (λ (u : Bool). finite u 0) z)
+
+zero_by_number : (s : Shape) (quotient : ℕ → ℕ → ℕ) (x y : Unpacked) (value : Datum) (status : ℕ) → IsStoredBy Zero s x → IsStoredBy Normal s y
+    → ((n : ℕ) → 0 < n → quotient 0 n ≡ 0) → IsAnswer (finite x.negative 0) ok_bits value status → Says s quotient Zero Normal x y value status
+zero_by_number s quotient x y value status u t q h =
+    let n : ℕ = quanta_at s.min_exp y.significand y.exponent in
+    let e = zero_rest s.nonfinite x.negative n (quotient 0 n) (q n (quanta_some s y.significand y.exponent t)) u.sign_is in
+    by_number s quotient x y 0 value status t (subst (λ (d : Datum). IsAnswer d ok_bits value status) e h)
+
+pub of_zero : (s : Shape) (quotient : ℕ → ℕ → ℕ) (k l : Category) (x y : Unpacked) (value : Datum) (status : ℕ) → (k ≡ Zero) ⊎ (k ≡ Normal) → (k ≡ Normal → ⊥) → l ≡ Normal
+    → IsStoredBy k s x → IsStoredBy l s y → ((n : ℕ) → 0 < n → quotient 0 n ≡ 0) → IsAnswer (datum_by k s x) ok_bits value status → Says s quotient k l x y value status
+of_zero s quotient k l x y value status (inr z) n e t u q h = absurd (n z)
+of_zero s quotient k l x y value status (inl z) n e t u q h =
+    subst (λ (o : Category). IsStoredBy o s x → IsAnswer (datum_by o s x) ok_bits value status → Says s quotient o l x y value status) (sym z)
+    (λ t h. subst (λ (o : Category). IsStoredBy o s y → Says s quotient Zero o x y value status) (sym e) (λ u. zero_by_number s quotient x y value status t u q h) u) t h
+
+-- ---- both numbers other than zero
+
+pub of_numbers : (s : Shape) (quotient : ℕ → ℕ → ℕ) (k l : Category) (x y : Unpacked) (value : Datum) (status : ℕ) → k ≡ Normal → l ≡ Normal → IsStoredBy l s y
+    → IsAnswer (rest_of s.nonfinite x.negative (quanta_at s.min_exp x.significand x.exponent) (quanta_at s.min_exp y.significand y.exponent * quotient (quanta_at s.min_exp x.significand x.exponent) (quanta_at s.min_exp y.significand y.exponent))) ok_bits value status
+    → Says s quotient k l x y value status
+of_numbers s quotient k l x y value status e f u h =
+    subst (λ (o : Category). Says s quotient o l x y value status) (sym e)
+    (subst (λ (o : Category). IsStoredBy o s y → Says s quotient Normal o x y value status) (sym f)
+    (λ u. by_number s quotient x y (quanta_at s.min_exp x.significand x.exponent) value status u h) u)
+
+-- ---- the quotients of zero
+
+pub truncated_zero : (n : ℕ) → 0 < n → truncated_quotient 0 n ≡ 0
+truncated_zero n p = div-eq_of_lt p
+
+pub nearest_zero : (n : ℕ) → 0 < n → nearest_quotient 0 n ≡ 0
+nearest_zero n p = let e : 0 % n ≡ 0 = mod-eq_of_lt p in rw e (div-eq_of_lt p)
