@@ -3,3 +3,4 @@ mod NearestMultiples
 pub mod ProductExponents
 pub mod ExactAnswers
 mod SpecialRemainders
+mod Additions

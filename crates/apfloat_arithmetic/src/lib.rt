@@ -8,3 +8,4 @@ mod exact;
 pub mod products;
 pub mod quotients;
 pub mod remainders;
+pub mod sums;

@@ -1,0 +1,93 @@
+//! Sums and differences, rounded once (IEEE 754-2008 5.4.1, 6.1, 6.3).
+
+ghost use Rattle.std.specs.Prelude.{◌≡◌, pos, ◌+ℤ◌, ◌-ℤ◌, ◌≤ℤ◌};
+ghost use Rattle.apfloat_base.specs.Exact.{signed, IsRounded};
+ghost use Rattle.apfloat_base.specs.Flags.{bits_of};
+ghost use Rattle.apfloat_base.specs.Sums.{zero_sum_sign};
+ghost use Rattle.apfloat_unpacked.specs.Shapes.{IsShape, format_at};
+ghost use Rattle.apfloat_unpacked.specs.Stored.{IsNormal, IsStored, datum_at, quanta_at};
+
+use apfloat_base::sig::{Loss, Term, Total, add_terms, is_zero};
+use apfloat_base::{ExpInt, Round, StatusAnd};
+use apfloat_unpacked::normalize::deliver;
+use apfloat_unpacked::shape::Shape;
+use apfloat_unpacked::unpacked::Unpacked;
+
+/// The exponent of a number's last digit.
+#[inline]
+fn last_exponent(shape: Shape, exponent: ExpInt) -> ExpInt
+    requires lawful { IsShape shape }
+    requires least { ((shape.min_exp +ℤ pos 1) -ℤ pos shape.precision) ≤ℤ exponent }
+    requires greatest { exponent ≤ℤ shape.max_exp }
+    ensures { (result +ℤ pos shape.precision) ≡ (exponent +ℤ pos 1) }
+{
+    exponent - (shape.precision as ExpInt - 1)
+}
+
+/// The number, by the exponent of its last digit.
+#[inline]
+fn term_of(shape: Shape, x: Unpacked) -> Term
+    requires lawful { IsShape shape }
+    requires normal { IsNormal shape x.significand x.exponent }
+    ensures negative { result.negative ≡ x.negative }
+    ensures significand { result.significand ≡ x.significand }
+    ensures exponent { (result.exponent +ℤ pos shape.precision) ≡ (x.exponent +ℤ pos 1) }
+{
+    Term {
+        negative: x.negative,
+        exponent: last_exponent(shape, x.exponent),
+        significand: x.significand,
+    }
+}
+
+/// The sign of an exact zero that is a sum of numbers with these signs (IEEE 754-2008 6.3).
+#[inline]
+fn sign_of_zero(round: Round, left: bool, right: bool) -> bool
+    ensures { result ≡ zero_sum_sign round left right }
+{
+    if left == right {
+        return left;
+    }
+    match round {
+        Round::NearestTiesToEven => false,
+        Round::TowardPositive => false,
+        Round::TowardNegative => true,
+        Round::TowardZero => false,
+        Round::NearestTiesToAway => false,
+    }
+}
+
+/// The sign of a total; `of_zero` where it is exactly zero.
+#[inline]
+fn sign_of_total(total: Total, of_zero: bool) -> bool
+    ensures zero { total.significand ≡ 0 → total.loss ≡ Loss.ExactlyZero → result ≡ of_zero }
+    ensures other { (total.significand ≡ 0 → total.loss ≡ Loss.ExactlyZero → ⊥) → result ≡ total.negative }
+{
+    if is_zero(total) {
+        of_zero
+    } else {
+        total.negative
+    }
+}
+
+/// The sum of two finite numbers that are not zero.
+#[inline]
+fn add_numbers(shape: Shape, x: Unpacked, y: Unpacked, round: Round) -> StatusAnd<Unpacked>
+    requires lawful { IsShape shape }
+    requires x_normal { IsNormal shape x.significand x.exponent }
+    requires y_normal { IsNormal shape y.significand y.exponent }
+    ensures stored { IsStored shape result.value }
+    ensures delivered { IsRounded (format_at shape) round (zero_sum_sign round x.negative y.negative) (signed x.negative (quanta_at shape.min_exp x.significand x.exponent) +ℤ signed y.negative (quanta_at shape.min_exp y.significand y.exponent)) 1 (datum_at shape result.value) (bits_of result.status) }
+{
+    let total = add_terms(term_of(shape, x), term_of(shape, y));
+    let of_zero = sign_of_zero(round, x.negative, y.negative);
+    let negative = sign_of_total(total, of_zero);
+    deliver(
+        shape,
+        total.significand,
+        total.exponent,
+        total.loss,
+        round,
+        negative,
+    )
+}
