@@ -4,3 +4,4 @@ pub mod ProductExponents
 pub mod ExactAnswers
 mod SpecialRemainders
 mod Additions
+mod SumCases

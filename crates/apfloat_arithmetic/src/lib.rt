@@ -8,4 +8,5 @@ mod exact;
 pub mod products;
 pub mod quotients;
 pub mod remainders;
+pub mod signs;
 pub mod sums;

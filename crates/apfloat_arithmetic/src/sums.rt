@@ -3,15 +3,19 @@
 ghost use Rattle.std.specs.Prelude.{◌≡◌, pos, ◌+ℤ◌, ◌-ℤ◌, ◌≤ℤ◌};
 ghost use Rattle.apfloat_base.specs.Exact.{signed, IsRounded};
 ghost use Rattle.apfloat_base.specs.Flags.{bits_of};
-ghost use Rattle.apfloat_base.specs.Sums.{zero_sum_sign};
+ghost use Rattle.apfloat_base.specs.Datum.{finite, infinite};
+ghost use Rattle.apfloat_base.specs.Sums.{zero_sum_sign, IsSum, IsDifference};
+ghost use Rattle.apfloat_arithmetic.specs.Subtrahends.{added};
 ghost use Rattle.apfloat_unpacked.specs.Shapes.{IsShape, format_at};
 ghost use Rattle.apfloat_unpacked.specs.Stored.{IsNormal, IsStored, datum_at, quanta_at};
 
+use crate::signs::negated;
 use apfloat_base::sig::{Loss, Term, Total, add_terms, is_zero};
-use apfloat_base::{ExpInt, Round, StatusAnd};
+use apfloat_base::{Category, ExpInt, Round, Status, StatusAnd};
+use apfloat_unpacked::nans::{invalid, propagated, propagated_left};
 use apfloat_unpacked::normalize::deliver;
 use apfloat_unpacked::shape::Shape;
-use apfloat_unpacked::unpacked::Unpacked;
+use apfloat_unpacked::unpacked::{Unpacked, zero_of};
 
 /// The exponent of a number's last digit.
 #[inline]
@@ -90,4 +94,109 @@ fn add_numbers(shape: Shape, x: Unpacked, y: Unpacked, round: Round) -> StatusAn
         round,
         negative,
     )
+}
+
+/// The sum of an infinity and any value.
+#[inline]
+fn add_to_infinity(shape: Shape, x: Unpacked, y: Unpacked) -> StatusAnd<Unpacked>
+    requires lawful { IsShape shape }
+    requires infinite { x.category ≡ Category.Infinity }
+    requires x_stored { IsStored shape x }
+    requires y_stored { IsStored shape y }
+    ensures stored { IsStored shape result.value }
+    ensures delivered { (mode : Round) → IsSum (format_at shape) mode (infinite x.negative) (datum_at shape y) (datum_at shape result.value) (bits_of result.status) }
+{
+    match y.category {
+        Category::NaN => propagated(shape, y),
+        Category::Infinity => {
+            if x.negative == y.negative {
+                Status::OK.and(x)
+            } else {
+                invalid(shape)
+            }
+        }
+        Category::Normal => Status::OK.and(x),
+        Category::Zero => Status::OK.and(x),
+    }
+}
+
+/// The sum of a zero and any value.
+#[inline]
+fn add_to_zero(shape: Shape, x: Unpacked, y: Unpacked, round: Round) -> StatusAnd<Unpacked>
+    requires lawful { IsShape shape }
+    requires y_stored { IsStored shape y }
+    ensures stored { IsStored shape result.value }
+    ensures delivered { IsSum (format_at shape) round (finite x.negative 0) (datum_at shape y) (datum_at shape result.value) (bits_of result.status) }
+{
+    match y.category {
+        Category::NaN => propagated(shape, y),
+        Category::Infinity => Status::OK.and(y),
+        Category::Normal => Status::OK.and(y),
+        Category::Zero => {
+            let negative = sign_of_zero(round, x.negative, y.negative);
+            Status::OK.and(zero_of(shape, negative))
+        }
+    }
+}
+
+/// The sum of a finite number that is not zero and any value.
+#[inline]
+fn add_to_number(shape: Shape, x: Unpacked, y: Unpacked, round: Round) -> StatusAnd<Unpacked>
+    requires lawful { IsShape shape }
+    requires normal { x.category ≡ Category.Normal }
+    requires x_stored { IsStored shape x }
+    requires y_stored { IsStored shape y }
+    ensures stored { IsStored shape result.value }
+    ensures delivered { IsSum (format_at shape) round (finite x.negative (quanta_at shape.min_exp x.significand x.exponent)) (datum_at shape y) (datum_at shape result.value) (bits_of result.status) }
+{
+    match y.category {
+        Category::Normal => add_numbers(shape, x, y, round),
+        Category::Zero => Status::OK.and(x),
+        Category::Infinity => Status::OK.and(y),
+        Category::NaN => propagated(shape, y),
+    }
+}
+
+/// `x + y`, rounded once (IEEE 754-2008 5.4.1).
+#[inline]
+pub fn add(shape: Shape, x: Unpacked, y: Unpacked, round: Round) -> StatusAnd<Unpacked>
+    requires lawful { IsShape shape }
+    requires x_stored { IsStored shape x }
+    requires y_stored { IsStored shape y }
+    ensures stored { IsStored shape result.value }
+    ensures delivered { IsSum (format_at shape) round (datum_at shape x) (datum_at shape y) (datum_at shape result.value) (bits_of result.status) }
+{
+    match x.category {
+        Category::Normal => add_to_number(shape, x, y, round),
+        Category::Zero => add_to_zero(shape, x, y, round),
+        Category::Infinity => add_to_infinity(shape, x, y),
+        Category::NaN => propagated_left(shape, x, y),
+    }
+}
+
+/// What is added where a value is subtracted: a NaN is not negated.
+#[inline]
+fn added(shape: Shape, y: Unpacked) -> Unpacked
+    requires { IsStored shape y }
+    ensures stored { IsStored shape result }
+    ensures datum { datum_at shape result ≡ added shape.nonfinite (datum_at shape y) }
+{
+    match y.category {
+        Category::Normal => negated(shape, y),
+        Category::Zero => negated(shape, y),
+        Category::Infinity => negated(shape, y),
+        Category::NaN => y,
+    }
+}
+
+/// `x - y`, rounded once (IEEE 754-2008 5.4.1).
+#[inline]
+pub fn subtract(shape: Shape, x: Unpacked, y: Unpacked, round: Round) -> StatusAnd<Unpacked>
+    requires lawful { IsShape shape }
+    requires x_stored { IsStored shape x }
+    requires y_stored { IsStored shape y }
+    ensures stored { IsStored shape result.value }
+    ensures delivered { IsDifference (format_at shape) round (datum_at shape x) (datum_at shape y) (datum_at shape result.value) (bits_of result.status) }
+{
+    add(shape, x, added(shape, y), round)
 }

@@ -28,3 +28,4 @@ pub mod FarMagnitudes
 pub mod SingleScalings
 pub mod Totals
 pub mod NanMembers
+pub mod SumLaws

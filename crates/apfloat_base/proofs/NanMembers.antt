@@ -27,7 +27,7 @@ twice p h =
     let a : 2 ^ (p - 1) ≡ 2 ^ (1 + (p - 2)) = ap (λ (x : ℕ). 2 ^ x) (omega arith) in
     let b : 2 ^ p ≡ 2 ^ (2 + (p - 2)) = ap (λ (x : ℕ). 2 ^ x) (omega arith) in
     let c : 2 ^ (p - 2) ≡ 2 ^ (1 + (p - 3)) = ap (λ (x : ℕ). 2 ^ x) (omega arith) in
-    (a ∙ pow-add 2 1 (p - 2) , b ∙ pow-add 2 2 (p - 2) , c ∙ pow-add 2 1 (p - 3) , pow_pos (p - 3))
+    (a ∙ pow-add 2 1 (p - 2), b ∙ pow-add 2 2 (p - 2), c ∙ pow-add 2 1 (p - 3), pow_pos (p - 3))
 
 -- a number with a lower bit set is no power of two
 or_no_power : (s i j : ℕ) → i ≢ j → bit_or s (2 ^ j) ≢ 2 ^ i
@@ -37,14 +37,14 @@ or_no_power s i j apart e =
     omega (arith, a, pow_apart i j apart, z)
 
 pub or_member : (k : NonfiniteBehavior) (e : Bool) (p s : ℕ) → 3 ≤ p → IsNanSignificand k e p s → IsNanSignificand k e p (bit_or s (quiet_bit_of k p))
-or_member IEEE754 false p s h (some , below) =
+or_member IEEE754 false p s h (some, below) =
     let t = twice p h in let g = le_or_l s (2 ^ (p - 2)) in
     let l : 2 ^ (p - 2) < 2 ^ (p - 1) = omega (arith, t) in
-    (omega (arith, g, some) , or_lt (p - 1) s (2 ^ (p - 2)) below l)
-or_member IEEE754 true p s h (below , other) =
+    (omega (arith, g, some), or_lt (p - 1) s (2 ^ (p - 2)) below l)
+or_member IEEE754 true p s h (below, other) =
     let t = twice p h in
     let l : 2 ^ (p - 2) < 2 ^ p = omega (arith, t) in
-    (or_lt p s (2 ^ (p - 2)) below l , or_no_power s (p - 1) (p - 2) (λ e. omega arith))
+    (or_lt p s (2 ^ (p - 2)) below l, or_no_power s (p - 1) (p - 2) (λ e. omega arith))
 or_member NanOnly e p s h m = rw (or_zero_r s) m
 or_member NanNegativeZero e p s h m = rw (or_zero_r s) m
 
@@ -61,7 +61,7 @@ quiet_kinds IEEE754 false p payload h =
     let g = le_or_l (bit_or 0 (2 ^ (p - 2))) (bit_and payload (2 ^ (p - 1) - 1)) in
     let l : bit_or 0 (2 ^ (p - 2)) < 2 ^ (p - 1) = omega (arith, t, q) in
     let r : bit_and payload (2 ^ (p - 1) - 1) < 2 ^ (p - 1) = omega (arith, t, m) in
-    (omega (arith, t, q, g) , or_lt (p - 1) (bit_or 0 (2 ^ (p - 2))) (bit_and payload (2 ^ (p - 1) - 1)) l r)
+    (omega (arith, t, q, g), or_lt (p - 1) (bit_or 0 (2 ^ (p - 2))) (bit_and payload (2 ^ (p - 1) - 1)) l r)
 quiet_kinds IEEE754 true p payload h =
     let t = twice p h in
     let q : bit_or 0 (3 * 2 ^ (p - 2)) ≡ 3 * 2 ^ (p - 2) = or_zero_l (3 * 2 ^ (p - 2)) in
@@ -70,7 +70,7 @@ quiet_kinds IEEE754 true p payload h =
     let z : 0 < 2 ^ (p - 2) = pow_pos (p - 2) in
     let l : bit_or 0 (3 * 2 ^ (p - 2)) < 2 ^ p = omega (arith, t, q, z) in
     let r : bit_and payload (2 ^ (p - 1) - 1) < 2 ^ p = omega (arith, t, m, z) in
-    (or_lt p (bit_or 0 (3 * 2 ^ (p - 2))) (bit_and payload (2 ^ (p - 1) - 1)) l r , λ e. omega (arith, t, q, g, e, z))
+    (or_lt p (bit_or 0 (3 * 2 ^ (p - 2))) (bit_and payload (2 ^ (p - 1) - 1)) l r, λ e. omega (arith, t, q, g, e, z))
 quiet_kinds NanOnly e p payload h = let b = nan_base_of NanOnly p in rw (and_zero_r payload) rw (or_zero_r (bit_or b 0)) rw (or_zero_r b) refl
 quiet_kinds NanNegativeZero e p payload h = rw (and_zero_r payload) refl
 
@@ -91,7 +91,7 @@ or_nothing q = ap (λ (x : ℕ). bit_or x 0) (less_nothing q) ∙ or_zero_r q
 
 signaling_kinds : (k : NonfiniteBehavior) (e : Bool) (p q : ℕ) → 3 ≤ p → IsNanSignificand k e p q →
     IsNanSignificand k e p (let c = q - bit_and q (quiet_bit_of k p) in if eqb (bit_and c (payload_mask_of k p)) 0 then bit_or c (quiet_bit_of k p / 2) else c)
-signaling_kinds IEEE754 false p q h (some , below) =
+signaling_kinds IEEE754 false p q h (some, below) =
     let t = twice p h in
     let c = q - bit_and q (2 ^ (p - 2)) in
     let l : c < 2 ^ (p - 1) = omega arith in
@@ -99,17 +99,17 @@ signaling_kinds IEEE754 false p q h (some , below) =
     let m : 2 ^ (p - 2) / 2 < 2 ^ (p - 1) = omega (arith, t, half) in
     let g = le_or_r c (2 ^ (p - 2) / 2) in
     if_case (IsNanSignificand IEEE754 false p) (eqb (bit_and c (2 ^ (p - 1) - 1)) 0)
-    (λ _. (omega (arith, t, half, g) , or_lt (p - 1) c (2 ^ (p - 2) / 2) l m))
-    (λ n. (ne_zero_pos c (λ z. lit_apart (bit_and c (2 ^ (p - 1) - 1)) (ap (λ (x : ℕ). bit_and x (2 ^ (p - 1) - 1)) z ∙ and_zero_l (2 ^ (p - 1) - 1)) n) , l))
-signaling_kinds IEEE754 true p q h (below , other) =
+    (λ _. (omega (arith, t, half, g), or_lt (p - 1) c (2 ^ (p - 2) / 2) l m))
+    (λ n. (ne_zero_pos c (λ z. lit_apart (bit_and c (2 ^ (p - 1) - 1)) (ap (λ (x : ℕ). bit_and x (2 ^ (p - 1) - 1)) z ∙ and_zero_l (2 ^ (p - 1) - 1)) n), l))
+signaling_kinds IEEE754 true p q h (below, other) =
     let t = twice p h in
     let c = q - bit_and q (2 ^ (p - 2)) in
     let l : c < 2 ^ p = omega arith in
     let half : 2 ^ (p - 2) / 2 ≡ 2 ^ (p - 3) = omega (arith, t) in
     let m : 2 ^ (p - 2) / 2 < 2 ^ p = omega (arith, t, half) in
     if_case (IsNanSignificand IEEE754 true p) (eqb (bit_and c (2 ^ (p - 1) - 1)) 0)
-    (λ _. (or_lt p c (2 ^ (p - 2) / 2) l m , λ e. or_no_power c (p - 1) (p - 3) (λ x. omega arith) (ap (bit_or c) (sym half) ∙ e)))
-    (λ n. (l , λ e. lit_apart (bit_and c (2 ^ (p - 1) - 1)) (ap (λ (x : ℕ). bit_and x (2 ^ (p - 1) - 1)) e ∙ and_mask (2 ^ (p - 1)) (p - 1) ∙ mod_self (2 ^ (p - 1))) n))
+    (λ _. (or_lt p c (2 ^ (p - 2) / 2) l m, λ e. or_no_power c (p - 1) (p - 3) (λ x. omega arith) (ap (bit_or c) (sym half) ∙ e)))
+    (λ n. (l, λ e. lit_apart (bit_and c (2 ^ (p - 1) - 1)) (ap (λ (x : ℕ). bit_and x (2 ^ (p - 1) - 1)) e ∙ and_mask (2 ^ (p - 1)) (p - 1) ∙ mod_self (2 ^ (p - 1))) n))
 signaling_kinds NanOnly e p q h m =
     if_case (IsNanSignificand NanOnly e p) (eqb (bit_and (q - bit_and q 0) 0) 0)
     (λ _. subst (λ (x : ℕ). IsNanSignificand NanOnly e p x) (sym (or_nothing q)) m) (λ _. subst (λ (x : ℕ). IsNanSignificand NanOnly e p x) (sym (less_nothing q)) m)

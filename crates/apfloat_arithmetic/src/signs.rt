@@ -1,0 +1,38 @@
+//! The other sign (IEEE 754-2008 5.5.1).
+
+ghost use Rattle.std.specs.Prelude.{◌≡◌, not};
+ghost use Rattle.apfloat_base.specs.Negation.{negated};
+ghost use Rattle.apfloat_unpacked.specs.Shapes.{IsShape};
+ghost use Rattle.apfloat_unpacked.specs.Stored.{IsStored, datum_at};
+
+use apfloat_base::Category;
+use apfloat_unpacked::shape::Shape;
+use apfloat_unpacked::unpacked::{Unpacked, nan_of, zero_of};
+
+/// The value with the other sign; the one zero and the one NaN of a format that has no signs for them stay as they are.
+#[inline]
+pub fn negated(shape: Shape, x: Unpacked) -> Unpacked
+    requires { IsStored shape x }
+    ensures stored { IsStored shape result }
+    ensures datum { datum_at shape result ≡ negated shape.nonfinite (datum_at shape x) }
+{
+    match x.category {
+        Category::Zero => zero_of(shape, !x.negative),
+        Category::NaN => nan_of(shape, !x.negative, x.significand),
+        Category::Infinity => turned(x),
+        Category::Normal => turned(x),
+    }
+}
+
+/// What is stored of the value, with the other sign.
+#[inline]
+fn turned(x: Unpacked) -> Unpacked
+    ensures { result ≡ record x { negative = not x.negative } }
+{
+    Unpacked {
+        significand: x.significand,
+        exponent: x.exponent,
+        category: x.category,
+        negative: !x.negative,
+    }
+}
