@@ -1,3 +1,4 @@
 pub mod KeptDigits
 pub mod Scanning
 pub mod Saturations
+pub mod ReadNumbers

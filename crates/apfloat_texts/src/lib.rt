@@ -9,4 +9,5 @@ mod characters;
 mod exponent;
 mod fault;
 mod mark;
+mod number;
 mod significand;

@@ -1,0 +1,47 @@
+//! The number of a significand and an exponent.
+
+ghost use Rattle.std.specs.Prelude.{◌≡◌, ◌⊎◌, ℕ, ◌*◌, ◌^◌, ◌≤◌, ℤ, pos, neg_ℤ, ◌-ℤ◌, ◌+ℤ◌, ◌≤ℤ◌};
+ghost use Rattle.apfloat_base.specs.Flags.{bits_of};
+ghost use Rattle.apfloat_base.specs.Readings.{IsScaledDelivery};
+ghost use Rattle.apfloat_unpacked.specs.Shapes.{IsShape, format_at};
+ghost use Rattle.apfloat_unpacked.specs.Stored.{IsStored, datum_at};
+ghost use Rattle.apfloat_texts.specs.Scans.{IsKept};
+ghost use Rattle.apfloat_texts.specs.Saturation.{IsNear};
+
+use crate::exponent::unit_exponent;
+use crate::significand::Digits;
+use apfloat_base::{Round, Status, StatusAnd};
+use apfloat_unpacked::normalize::deliver;
+use apfloat_unpacked::shape::Shape;
+use apfloat_unpacked::unpacked::{Unpacked, zero_of};
+
+/// The number with those digits, of which `places` stand behind the dot, times 2 to the power of `exponent`, rounded
+/// once. An exponent that is not counted on is as good as the exact one.
+pub fn delivered(
+    shape: Shape,
+    negative: bool,
+    digits: Digits,
+    places: usize,
+    exponent: i128,
+    round: Round,
+) -> StatusAnd<Unpacked>
+    requires lawful { IsShape shape }
+    requires kept { (number : ℕ) × IsKept number digits.significand digits.loss digits.cut }
+    requires high { exponent ≤ℤ pos (2 ^ 100) }
+    requires low { neg_ℤ (pos (2 ^ 100)) ≤ℤ exponent }
+    ensures stored { IsStored shape result.value }
+    ensures delivered { (number : ℕ) (exact : ℤ) → IsKept number digits.significand digits.loss digits.cut → IsNear (2 ^ 96) exact exponent → IsScaledDelivery (format_at shape) round negative number ((exact -ℤ pos (4 * places)) +ℤ pos (format_at shape).scale) (datum_at shape result.value) (bits_of result.status) }
+{
+    if digits.significand == 0 {
+        return Status::OK.and(zero_of(shape, negative));
+    }
+    let unit = unit_exponent(exponent, digits.cut, places);
+    deliver(
+        shape,
+        digits.significand,
+        unit,
+        digits.loss,
+        round,
+        negative,
+    )
+}
