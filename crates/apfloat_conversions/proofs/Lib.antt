@@ -1,0 +1,4 @@
+mod Operands
+mod Wholes
+mod Limits
+mod Nexts

@@ -1,12 +1,16 @@
-//! Whole numbers into a format.
+//! Whole numbers into a format and out of it.
 
+ghost use Rattle.std.specs.Prelude.{◌≡◌, ◌-◌, ◌^◌, ◌≤◌, false, if◌then◌else◌};
+ghost use Rattle.apfloat_base.specs.Datum.{finite};
 ghost use Rattle.apfloat_base.specs.Flags.{bits_of};
-ghost use Rattle.apfloat_base.specs.WholeNumbers.{IsFromUnsigned};
+ghost use Rattle.apfloat_base.specs.WholeNumbers.{IsFromUnsigned, inexact_unless};
+ghost use Rattle.apfloat_base.specs.WholeNumbersOut.{IsToUnsigned};
 ghost use Rattle.apfloat_unpacked.specs.Shapes.{IsShape, format_at};
-ghost use Rattle.apfloat_unpacked.specs.Stored.{IsStored, datum_at};
+ghost use Rattle.apfloat_unpacked.specs.Stored.{IsStored, IsNormal, quanta_at, datum_at};
 
+use crate::whole::{Whole, whole_of};
 use apfloat_base::sig::Loss;
-use apfloat_base::{Round, StatusAnd};
+use apfloat_base::{Category, Round, Status, StatusAnd};
 use apfloat_unpacked::normalize::deliver;
 use apfloat_unpacked::shape::Shape;
 use apfloat_unpacked::unpacked::Unpacked;
@@ -19,4 +23,96 @@ pub fn from_unsigned(shape: Shape, number: u128, round: Round) -> StatusAnd<Unpa
     ensures delivered { IsFromUnsigned (format_at shape) round number (datum_at shape result.value) (bits_of result.status) }
 {
     deliver(shape, number, 0, Loss::ExactlyZero, round, false)
+}
+
+/// A whole number that a value became, and whether it is the value.
+#[derive(Clone, Copy, Debug)]
+pub struct Unsigned {
+    pub answer: StatusAnd<u128>,
+    pub is_exact: bool,
+}
+
+/// The status of a whole number in range.
+#[inline]
+pub fn status_of(exact: bool) -> Status
+    ensures { bits_of result ≡ inexact_unless exact }
+{
+    if exact { Status::OK } else { Status::INEXACT }
+}
+
+/// The greatest whole number of so many binary digits.
+#[inline]
+fn greatest(width: u32) -> u128
+    requires low { 1 ≤ width }
+    requires high { width ≤ 128 }
+    ensures { result ≡ 2 ^ width - 1 }
+{
+    u128::MAX >> (128 - width)
+}
+
+/// The answer for a value out of range: the end of the range.
+#[inline]
+fn out_of_range(number: u128) -> Unsigned
+    ensures number { result.answer.value ≡ number }
+    ensures status { bits_of result.answer.status ≡ 1 }
+    ensures inexact { result.is_exact ≡ false }
+{
+    Unsigned {
+        answer: Status::INVALID_OP.and(number),
+        is_exact: false,
+    }
+}
+
+/// The end of the range on the side of a sign.
+#[inline]
+fn limit_of(width: u32, negative: bool) -> u128
+    requires low { 1 ≤ width }
+    requires high { width ≤ 128 }
+    ensures { result ≡ (if negative then 0 else 2 ^ width - 1) }
+{
+    if negative { 0 } else { greatest(width) }
+}
+
+/// A finite number that is not zero as a whole number of so many binary digits.
+#[inline]
+fn number_to_unsigned(shape: Shape, x: Unpacked, width: u32, round: Round) -> Unsigned
+    requires lawful { IsShape shape }
+    requires normal { IsNormal shape x.significand x.exponent }
+    requires low { 1 ≤ width }
+    requires high { width ≤ 128 }
+    ensures { IsToUnsigned (format_at shape) round width (finite x.negative (quanta_at shape.min_exp x.significand x.exponent)) result.answer.value (bits_of result.answer.status) result.is_exact }
+{
+    let limit = limit_of(width, x.negative);
+    match whole_of(shape, x, round) {
+        None => out_of_range(limit),
+        Some(whole) => {
+            if whole.magnitude > limit {
+                out_of_range(limit)
+            } else {
+                Unsigned {
+                    answer: status_of(whole.exact).and(whole.magnitude),
+                    is_exact: whole.exact,
+                }
+            }
+        }
+    }
+}
+
+/// A value as a whole number of so many binary digits.
+pub fn to_unsigned(shape: Shape, x: Unpacked, width: u32, round: Round) -> Unsigned
+    requires lawful { IsShape shape }
+    requires stored { IsStored shape x }
+    requires low { 1 ≤ width }
+    requires high { width ≤ 128 }
+    ensures { IsToUnsigned (format_at shape) round width (datum_at shape x) result.answer.value (bits_of result.answer.status) result.is_exact }
+{
+    match x.category {
+        Category::Normal => number_to_unsigned(shape, x, width, round),
+        Category::Zero => Unsigned {
+            answer: Status::OK.and(0),
+            is_exact: !x.negative,
+        },
+        Category::Infinity => out_of_range(limit_of(width, x.negative)),
+        Category::NaN => out_of_range(0),
+    }
 }

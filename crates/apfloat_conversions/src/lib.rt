@@ -4,5 +4,9 @@
 //! `apfloat_ieee` brings the constants of a type to it.
 #![tactic(auto)]
 
+pub mod exponents;
 pub mod formats;
 pub mod integers;
+pub mod integral;
+pub mod scaling;
+pub mod whole;

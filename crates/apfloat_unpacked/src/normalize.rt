@@ -106,7 +106,7 @@ fn keep(precision: u32, significand: u128, unit: ExpInt, loss: Loss) -> Kept
 
 /// Whether the mode moves a significand up for what was lost.
 #[inline]
-fn moves_up(mode: Round, negative: bool, loss: Loss, odd: bool) -> bool
+pub fn moves_up(mode: Round, negative: bool, loss: Loss, odd: bool) -> bool
     ensures { result ≡ rounds_up mode negative loss odd }
 {
     match loss {

@@ -1,0 +1,91 @@
+-- Whole numbers of so many binary digits, and the ends of their range.
+use Rattle.std.proofs.Common.{◌≡◌, ℕ, ◌+◌, ◌-◌, ◌*◌, ◌/◌, ◌^◌, ◌<◌, ◌≤◌, Bool, true, false, cond, not, ◌&&◌, eqb, sym, refl, ap, ◌∙◌, subst, arith, ℤ, pos, neg_ℤ, ◌≤ℤ◌, ◌<ℤ◌, int_lt}
+use Rattle.std.proofs.Math.Nat.{div-eq_of_lt-le, pow-le-pow_right}
+use Rattle.std.proofs.lemmas.Nat.{pow-add, pow_pos}
+use Rattle.std.proofs.lemmas.Int.{ints}
+use Rattle.std.proofs.lemmas.Bool.{ne_eqb}
+use Rattle.apfloat_base.specs.declared.kinds.Round.{Round}
+use Rattle.apfloat_base.specs.Format.{Format}
+use Rattle.apfloat_base.specs.Datum.{finite}
+use Rattle.apfloat_base.specs.Exact.{signed}
+use Rattle.apfloat_base.specs.WholeNumbers.{whole_pick, whole_quanta, inexact_unless}
+use Rattle.apfloat_base.specs.WholeNumbersOut.{IsToUnsigned, ranged, exact_or_not}
+use Rattle.apfloat_base.proofs.Existence.{two_pos}
+
+pub greatest_is : (width : ℕ) → width ≤ 128 → (2 ^ 128 - 1) / 2 ^ (128 - width) ≡ 2 ^ width - 1
+greatest_is width h =
+    let e : width + (128 - width) ≡ 128 = omega arith in
+    let s : 2 ^ 128 ≡ 2 ^ width * 2 ^ (128 - width) = ap (λ (x : ℕ). 2 ^ x) (sym e) ∙ pow-add 2 width (128 - width) in
+    let p : 0 < 2 ^ (128 - width) = pow_pos (128 - width) in
+    let q : 0 < 2 ^ width = pow_pos width in
+    let k : 2 ^ width ≡ 2 ^ width - 1 + 1 = omega arith in
+    let m : 2 ^ width * 2 ^ (128 - width) ≡ (2 ^ width - 1 + 1) * 2 ^ (128 - width) = ap (λ (x : ℕ). x * 2 ^ (128 - width)) k in
+    div-eq_of_lt-le (2 ^ (128 - width)) (omega (arith, s, m, p)) (omega (arith, s, m, p))
+
+less_so : (a b : ℤ) → a <ℤ b → int_lt a b ≡ true
+less_so a b h = by (int_lt a b) refl
+  where
+    by : (t : Bool) → int_lt a b ≡ t → t ≡ true
+    by true e = refl
+    by false e = absurd (omega (arith, ints))
+
+less_not : (a b : ℤ) → b ≤ℤ a → int_lt a b ≡ false
+less_not a b h = by (int_lt a b) refl
+  where
+    by : (t : Bool) → int_lt a b ≡ t → t ≡ false
+    by false e = refl
+    by true e = absurd (omega (arith, ints))
+
+-- the end of the range on the side of a sign
+abbrev pub limit : ℕ → Bool → ℕ
+limit width negative = cond negative 0 (2 ^ width - 1)
+
+signed_in : (b : Bool) (width mag : ℕ) → mag ≤ limit width b → signed b mag ≡ pos mag
+signed_in true width mag h = let e : mag ≡ 0 = omega arith in rw e refl
+signed_in false width mag h = refl
+
+limit_high : (b : Bool) (width mag : ℕ) → mag ≤ limit width b → pos mag ≤ℤ pos (2 ^ width - 1)
+limit_high true width mag h = omega (arith, ints)
+limit_high false width mag h = omega (arith, ints)
+
+no_zero : (b exact : Bool) → (exact && not (b && false)) ≡ exact
+no_zero true true = refl
+no_zero true false = refl
+no_zero false true = refl
+no_zero false false = refl
+
+ranged_in : (width : ℕ) (b : Bool) (mag : ℕ) (exact : Bool) → mag ≤ limit width b → ranged (pos 0) (pos (2 ^ width - 1)) (signed b mag) (exact_or_not (signed b mag) exact (b && false)) ≡ record { number = pos mag; status = inexact_unless exact; is_exact = exact }
+ranged_in width b mag exact h =
+    let low : int_lt (pos mag) (pos 0) ≡ false = less_not (pos mag) (pos 0) (omega (arith, ints)) in
+    let high : int_lt (pos (2 ^ width - 1)) (pos mag) ≡ false = less_not (pos (2 ^ width - 1)) (pos mag) (limit_high b width mag h) in
+    rw (signed_in b width mag h, low, high, no_zero b exact) refl
+
+pub in_range : (f : Format) (mode : Round) (width : ℕ) (b : Bool) (n mag st : ℕ) (exact : Bool) → 0 < n → mag ≡ whole_pick mode b n (2 ^ f.scale) → exact ≡ eqb (whole_quanta f mode b n) n → mag ≤ limit width b → st ≡ inexact_unless exact
+    → IsToUnsigned f mode width (finite b n) mag st exact
+in_range f mode width b n mag st exact p i x h t =
+    let z : eqb n 0 ≡ false = ne_eqb n 0 (λ e. omega (arith, e, p)) in
+    let r = ranged_in width b mag exact h in
+    rw (z, ← x, ← i, r) (record { number_is = refl; status_is = t; is_exact_is = refl })
+
+ranged_out : (width : ℕ) (b : Bool) (mag : ℕ) (exact : Bool) → limit width b < mag → ranged (pos 0) (pos (2 ^ width - 1)) (signed b mag) (exact_or_not (signed b mag) exact (b && false)) ≡ record { number = pos (limit width b); status = 1; is_exact = false }
+ranged_out width true mag exact h =
+    let low : int_lt (neg_ℤ (pos mag)) (pos 0) ≡ true = less_so (neg_ℤ (pos mag)) (pos 0) (omega (arith, ints, h)) in
+    rw low refl
+ranged_out width false mag exact h =
+    let low : int_lt (pos mag) (pos 0) ≡ false = less_not (pos mag) (pos 0) (omega (arith, ints)) in
+    let high : int_lt (pos (2 ^ width - 1)) (pos mag) ≡ true = less_so (pos (2 ^ width - 1)) (pos mag) (omega (arith, ints, h)) in
+    rw (low, high) refl
+
+pub outside : (f : Format) (mode : Round) (width : ℕ) (b : Bool) (n number st : ℕ) (exact : Bool) → 0 < n → limit width b < whole_pick mode b n (2 ^ f.scale) → number ≡ limit width b → st ≡ 1 → exact ≡ false
+    → IsToUnsigned f mode width (finite b n) number st exact
+outside f mode width b n number st exact p h e t x =
+    let z : eqb n 0 ≡ false = ne_eqb n 0 (λ q. omega (arith, q, p)) in
+    let r = ranged_out width b (whole_pick mode b n (2 ^ f.scale)) (eqb (whole_quanta f mode b n) n) h in
+    rw (z, r) (record { number_is = ap (λ (k : ℕ). pos k) e; status_is = t; is_exact_is = x })
+
+pub limit_small : (width : ℕ) (b : Bool) (pick : ℕ) → width ≤ 128 → 2 ^ 128 ≤ pick → limit width b < pick
+limit_small width true pick h l = omega arith
+limit_small width false pick h l =
+    let a : 2 ^ width ≤ 2 ^ 128 = pow-le-pow_right two_pos h in
+    let p : 0 < 2 ^ width = pow_pos width in
+    omega (arith, a, p, l)

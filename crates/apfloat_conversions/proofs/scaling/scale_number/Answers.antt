@@ -1,0 +1,21 @@
+use Rattle.std.proofs.Common.{◌≡◌, ◌-◌, pos, ◌+ℤ◌, ◌-ℤ◌, to_z, of_z, w32}
+use Rattle.std.proofs.lemmas.Int.{to_z-of_z}
+use Rattle.apfloat_base.specs.Flags.{bits_of}
+use Rattle.apfloat_unpacked.specs.Stored.{datum_at}
+use Rattle.apfloat_conversions.proofs.Operands.{exponent_word, scale_delivered}
+use Rattle.apfloat_conversions.proofs.scaling.scale_number.Goals as goal
+
+pub returns-clause-delivered : goal.returns-clause-delivered
+returns-clause-delivered c =
+    let s = c.args.shape in
+    let ex = exponent_word s c.args.x.significand c.args.x.exponent c.requires.lawful c.requires.normal in
+    let ej = to_z-of_z w32 c.args.places c.ranges.places in
+    let en : to_z w32 (of_z w32 c.clamped-near.result) ≡ c.clamped-near.result = to_z-of_z w32 c.clamped-near.result (record { sfits = c.clamped-near.type_inv }) in
+    let em : to_z w32 (of_z w32 c.moved.result) ≡ c.moved.result = to_z-of_z w32 c.moved.result (record { sfits = c.moved.type_inv }) in
+    let el : to_z w32 (of_z w32 c.last_exponent-exponent.result) ≡ c.last_exponent-exponent.result = to_z-of_z w32 c.last_exponent-exponent.result (record { sfits = c.last_exponent-exponent.type_inv }) in
+    let is = rw ej at c.clamped-near.ensures.is in
+    let w = rw (ex, en) at c.moved.ensures.value in
+    let l = rw em at c.last_exponent-exponent.ensures.value in
+    let v : c.last_exponent-exponent.result ≡ ((c.args.x.exponent +ℤ c.clamped-near.result) -ℤ pos (s.precision - 1)) = rw w at l in
+    scale_delivered s c.args.x.significand c.args.x.exponent c.args.places c.clamped-near.result c.last_exponent-exponent.result c.args.round c.args.x.negative (datum_at s c.deliver.result.value) (bits_of c.deliver.result.status)
+    c.requires.lawful c.requires.normal (record { low = c.clamped-near.ensures.low; high = c.clamped-near.ensures.high; is = is }) v (rw el at c.deliver.ensures.delivered)

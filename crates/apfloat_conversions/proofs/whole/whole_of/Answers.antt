@@ -1,0 +1,52 @@
+use Rattle.std.proofs.Common.{◌≡◌, ◌-◌, ◌*◌, ◌^◌, ◌<◌, ◌≤◌, sym, ◌∙◌, arith, w32, to_z, of_z}
+use Rattle.std.proofs.Math.Nat.{pow-le-pow_right}
+use Rattle.std.proofs.lemmas.Int.{ints, to_z-of_z}
+use Rattle.std.proofs.lemmas.Nat.{pow_pos}
+use Rattle.apfloat_base.proofs.Existence.{two_pos}
+use Rattle.apfloat_unpacked.specs.Shapes.{format_at}
+use Rattle.apfloat_unpacked.specs.Stored.{quanta_at}
+use Rattle.apfloat_conversions.proofs.Operands.{exponent_word, scale_is}
+use Rattle.apfloat_conversions.proofs.Wholes.{too_large, places_up, places_down, whole_exactly, exactly_so}
+use Rattle.apfloat_conversions.proofs.whole.whole_of.Goals as goal
+
+pub returns-then-x-ge128 : goal.returns-then-x-ge128
+returns-then-x-ge128 c =
+    let s = c.args.shape in
+    let g = c.if-x-ge128.true in
+    let p = c.requires.lawful.precision_high in
+    let n = c.requires.normal in
+    too_large c.args.round c.args.x.negative (s.precision - 1) (format_at s).scale s.min_exp c.args.x.exponent c.args.x.significand (quanta_at s.min_exp c.args.x.significand c.args.x.exponent)
+    (omega (arith, p)) (scale_is s c.requires.lawful) n.operand.full (omega (arith, ints, g)) n.whole
+
+pub returns-then-exponent-ge0 : goal.returns-then-exponent-ge0
+returns-then-exponent-ge0 c =
+    let s = c.args.shape in
+    let a = quanta_at s.min_exp c.args.x.significand c.args.x.exponent in
+    let ex = exponent_word s c.args.x.significand c.args.x.exponent c.requires.lawful c.requires.normal in
+    let v = rw ex at c.last_exponent-exponent.ensures.value in
+    let w : to_z w32 (of_z w32 c.last_exponent-exponent.result) ≡ c.last_exponent-exponent.result = to_z-of_z w32 c.last_exponent-exponent.result (record { sfits = c.last_exponent-exponent.type_inv }) in
+    let k = rw w at c.steps_between.ensures in
+    let e = places_up (s.precision - 1) (format_at s).scale s.min_exp c.args.x.exponent c.last_exponent-exponent.result c.args.x.significand a c.steps_between.result (scale_is s c.requires.lawful) v k c.requires.normal.whole in
+    let p = pow_pos (format_at s).scale in
+    record {
+      magnitude_is = c.raised.ensures ∙ sym (whole_exactly c.args.round c.args.x.negative (c.args.x.significand * 2 ^ c.steps_between.result) a (2 ^ (format_at s).scale) p e);
+      exact_is = exactly_so c.args.round c.args.x.negative (c.args.x.significand * 2 ^ c.steps_between.result) a (2 ^ (format_at s).scale) p e;
+    }
+
+pub round_fraction-requires : goal.round_fraction-requires
+round_fraction-requires c =
+    let l = c.requires.lawful.precision_high in
+    let a : 2 ^ c.args.shape.precision ≤ 2 ^ 125 = pow-le-pow_right two_pos l in
+    let f = c.requires.normal.operand.fits in
+    omega (arith, a, f)
+
+pub returns : goal.returns
+returns c =
+    let s = c.args.shape in
+    let a = quanta_at s.min_exp c.args.x.significand c.args.x.exponent in
+    let ex = exponent_word s c.args.x.significand c.args.x.exponent c.requires.lawful c.requires.normal in
+    let v = rw ex at c.last_exponent-exponent.ensures.value in
+    let w : to_z w32 (of_z w32 c.last_exponent-exponent.result) ≡ c.last_exponent-exponent.result = to_z-of_z w32 c.last_exponent-exponent.result (record { sfits = c.last_exponent-exponent.type_inv }) in
+    let k = rw w at c.steps_between-2.ensures in
+    c.round_fraction.ensures.picked a (2 ^ (format_at s).scale) (pow_pos (format_at s).scale)
+    (places_down (s.precision - 1) (format_at s).scale s.min_exp c.args.x.exponent c.last_exponent-exponent.result c.args.x.significand a c.steps_between-2.result (scale_is s c.requires.lawful) v k c.requires.normal.whole)

@@ -1,0 +1,14 @@
+-- The whole number that a mode picks beside a magnitude, as the engine hands it on.
+use Rattle.std.specs.Prelude.{◌≡◌, ℕ, ◌*◌, ◌^◌, ◌≤◌, Bool, eqb, Option, Some, None}
+use Rattle.apfloat_base.specs.declared.kinds.Round.{Round}
+use Rattle.apfloat_base.specs.WholeNumbers.{whole_pick}
+use Rattle.apfloat_conversions.specs.declared.whole.Whole.{Whole}
+
+-- it, and whether it is the magnitude itself
+pub record IsPicked (mode : Round) (negative : Bool) (amount parts : ℕ) (whole : Whole) : Type 0 where
+  pub magnitude_is : whole.magnitude ≡ whole_pick mode negative amount parts
+  pub exact_is : whole.exact ≡ eqb (whole_pick mode negative amount parts * parts) amount
+
+abbrev pub IsPickedWithin : Round → Bool → ℕ → ℕ → Option Whole → Type 0
+IsPickedWithin mode negative amount parts (Some whole) = IsPicked mode negative amount parts whole
+IsPickedWithin mode negative amount parts None = 2 ^ 128 ≤ whole_pick mode negative amount parts

@@ -1,0 +1,50 @@
+//! Values rounded to whole numbers of their format.
+
+ghost use Rattle.std.specs.Prelude.{◌≡◌};
+ghost use Rattle.apfloat_base.specs.declared.kinds.Category.TheVariants.{Normal};
+ghost use Rattle.apfloat_base.specs.Flags.{bits_of};
+ghost use Rattle.apfloat_base.specs.WholeNumbers.{IsRoundToIntegral};
+ghost use Rattle.apfloat_unpacked.specs.Shapes.{IsShape, format_at};
+ghost use Rattle.apfloat_unpacked.specs.Stored.{IsStored, IsNormal, quanta_at, datum_at};
+
+use crate::exponents::last_exponent;
+use crate::integers::status_of;
+use crate::whole::round_fraction;
+use apfloat_base::sig::steps_between;
+use apfloat_base::{Category, Round, Status, StatusAnd};
+use apfloat_unpacked::nans::propagated;
+use apfloat_unpacked::shape::Shape;
+use apfloat_unpacked::unpacked::{Unpacked, quanta_of};
+
+/// A finite number that is not zero, rounded to a whole number.
+#[inline]
+fn round_number(shape: Shape, x: Unpacked, round: Round) -> StatusAnd<Unpacked>
+    requires lawful { IsShape shape }
+    requires number { x.category ≡ Normal }
+    requires normal { IsNormal shape x.significand x.exponent }
+    ensures stored { IsStored shape result.value }
+    ensures delivered { IsRoundToIntegral (format_at shape) round (datum_at shape x) (datum_at shape result.value) (bits_of result.status) }
+{
+    let exponent = last_exponent(shape, x.exponent);
+    if exponent >= 0 {
+        return Status::OK.and(x);
+    }
+    let places = steps_between(0, exponent);
+    let whole = round_fraction(x.significand, places, round, x.negative);
+    status_of(whole.exact).and(quanta_of(shape, x.negative, whole.magnitude, shape.scale()))
+}
+
+/// A value rounded to a whole number of its format (IEEE 754-2008 5.9, roundToIntegralExact).
+pub fn round_to_integral(shape: Shape, x: Unpacked, round: Round) -> StatusAnd<Unpacked>
+    requires lawful { IsShape shape }
+    requires stored { IsStored shape x }
+    ensures stored { IsStored shape result.value }
+    ensures delivered { IsRoundToIntegral (format_at shape) round (datum_at shape x) (datum_at shape result.value) (bits_of result.status) }
+{
+    match x.category {
+        Category::Normal => round_number(shape, x, round),
+        Category::NaN => propagated(shape, x),
+        Category::Zero => Status::OK.and(x),
+        Category::Infinity => Status::OK.and(x),
+    }
+}

@@ -1,0 +1,158 @@
+//! Values times powers of two, and values taken apart into a fraction and a power of two.
+
+ghost use Rattle.std.specs.Prelude.{◌≡◌, ◌⊎◌, ◌*◌, ◌^◌, pos, neg_ℤ, ◌+ℤ◌, ◌≤ℤ◌};
+ghost use Rattle.apfloat_base.specs.Exact.{up, down};
+ghost use Rattle.apfloat_base.specs.Exponents.{IsIlogb, IsFrexp, IsFraction};
+ghost use Rattle.apfloat_base.specs.Flags.{bits_of};
+ghost use Rattle.apfloat_base.specs.Rounding.{IsDelivered};
+ghost use Rattle.apfloat_base.specs.Scaling.{IsScaling};
+ghost use Rattle.apfloat_unpacked.specs.Shapes.{IsShape, format_at};
+ghost use Rattle.apfloat_unpacked.specs.Stored.{IsStored, IsNormal, quanta_at, datum_at};
+
+use crate::exponents::last_exponent;
+use apfloat_base::sig::Loss;
+use apfloat_base::{Category, ExpInt, IEK_INF, IEK_NAN, IEK_ZERO, Round, StatusAnd};
+use apfloat_unpacked::nans::propagated;
+use apfloat_unpacked::normalize::deliver;
+use apfloat_unpacked::shape::Shape;
+use apfloat_unpacked::unpacked::Unpacked;
+
+/// The amount, or the farthest one on its side that rounding has to see: past it no answer changes.
+#[inline]
+pub fn clamped(places: ExpInt) -> ExpInt
+    ensures low { neg_ℤ (pos 6000000) ≤ℤ result }
+    ensures high { result ≤ℤ pos 6000000 }
+    ensures is { (result ≡ places) ⊎ (((result ≡ pos 6000000) × (pos 6000000 ≤ℤ places)) ⊎ ((result ≡ neg_ℤ (pos 6000000)) × (places ≤ℤ neg_ℤ (pos 6000000)))) }
+{
+    if places > 6000000 {
+        6000000
+    } else if places < -6000000 {
+        -6000000
+    } else {
+        places
+    }
+}
+
+/// The exponent that is so many places higher.
+#[inline]
+fn moved(exponent: ExpInt, places: ExpInt) -> ExpInt
+    requires near { exponent ≤ℤ pos 1048576 }
+    requires far { neg_ℤ (pos 1048704) ≤ℤ exponent }
+    requires low { neg_ℤ (pos 6000000) ≤ℤ places }
+    requires high { places ≤ℤ pos 6000000 }
+    ensures value { result ≡ exponent +ℤ places }
+    ensures near { result ≤ℤ pos 7340032 }
+    ensures far { neg_ℤ (pos 7340032) ≤ℤ result }
+{
+    exponent + places
+}
+
+/// A finite number that is not zero, times 2 to the power of `places`, rounded once.
+#[inline]
+fn scale_number(shape: Shape, x: Unpacked, places: ExpInt, round: Round) -> StatusAnd<Unpacked>
+    requires lawful { IsShape shape }
+    requires normal { IsNormal shape x.significand x.exponent }
+    ensures stored { IsStored shape result.value }
+    ensures delivered { IsDelivered (format_at shape) round x.negative (quanta_at shape.min_exp x.significand x.exponent * 2 ^ up places) (2 ^ down places) (datum_at shape result.value) (bits_of result.status) }
+{
+    let near = clamped(places);
+    let exponent = last_exponent(shape, moved(x.exponent, near));
+    deliver(
+        shape,
+        x.significand,
+        exponent,
+        Loss::ExactlyZero,
+        round,
+        x.negative,
+    )
+}
+
+/// A value times 2 to the power of `places`, rounded once (IEEE 754-2008 5.3.3, scaleB).
+pub fn scaled(shape: Shape, x: Unpacked, places: ExpInt, round: Round) -> Unpacked
+    requires lawful { IsShape shape }
+    requires stored { IsStored shape x }
+    ensures stored { IsStored shape result }
+    ensures scaled { IsScaling (format_at shape) round (datum_at shape x) places (datum_at shape result) }
+{
+    match x.category {
+        Category::Normal => scale_number(shape, x, places, round).value,
+        Category::NaN => propagated(shape, x).value,
+        Category::Zero => x,
+        Category::Infinity => x,
+    }
+}
+
+/// The exponent of the highest digit of a value, or what stands for it (IEEE 754-2008 5.3.3, logB).
+#[inline]
+pub fn ilogb(shape: Shape, x: Unpacked) -> ExpInt
+    requires lawful { IsShape shape }
+    requires stored { IsStored shape x }
+    ensures { IsIlogb (format_at shape) (datum_at shape x) result }
+{
+    match x.category {
+        Category::Normal => x.exponent,
+        Category::Zero => IEK_ZERO,
+        Category::Infinity => IEK_INF,
+        Category::NaN => IEK_NAN,
+    }
+}
+
+/// A value of magnitude from 0.5 to below 1, and an exponent.
+#[derive(Clone, Copy, Debug)]
+pub struct Fraction {
+    pub value: Unpacked,
+    pub exponent: ExpInt,
+}
+
+/// The exponent one place higher.
+#[inline]
+pub fn raised(exponent: ExpInt) -> ExpInt
+    requires { exponent ≤ℤ pos 8388608 }
+    ensures { result ≡ exponent +ℤ pos 1 }
+{
+    exponent + 1
+}
+
+/// The fraction of a finite number that is not zero, and its exponent.
+#[inline]
+fn number_fraction(shape: Shape, x: Unpacked) -> Fraction
+    requires lawful { IsShape shape }
+    requires normal { IsNormal shape x.significand x.exponent }
+    ensures stored { IsStored shape result.value }
+    ensures fraction { IsFraction (format_at shape) x.negative (quanta_at shape.min_exp x.significand x.exponent) (datum_at shape result.value) result.exponent }
+{
+    Fraction {
+        value: Unpacked {
+            significand: x.significand,
+            exponent: -1,
+            category: Category::Normal,
+            negative: x.negative,
+        },
+        exponent: raised(x.exponent),
+    }
+}
+
+/// The fraction of a value and its exponent, whose product is the value; of a value that is no number or zero, itself
+/// and what stands for its exponent.
+pub fn fraction(shape: Shape, x: Unpacked) -> Fraction
+    requires lawful { IsShape shape }
+    requires stored { IsStored shape x }
+    ensures stored { IsStored shape result.value }
+    ensures fraction { IsFrexp (format_at shape) (datum_at shape x) (datum_at shape result.value) result.exponent }
+{
+    match x.category {
+        Category::Normal => number_fraction(shape, x),
+        Category::Zero => Fraction {
+            value: x,
+            exponent: 0,
+        },
+        Category::Infinity => Fraction {
+            value: x,
+            exponent: IEK_INF,
+        },
+        Category::NaN => Fraction {
+            value: propagated(shape, x).value,
+            exponent: IEK_NAN,
+        },
+    }
+}

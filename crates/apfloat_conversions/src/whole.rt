@@ -1,0 +1,88 @@
+//! The whole number that a mode picks beside a number.
+
+ghost use Rattle.std.specs.Prelude.{◌≡◌, ℕ, ◌+◌, ◌*◌, ◌/◌, ◌^◌, ◌<◌, ◌≤◌, true, false};
+ghost use Rattle.apfloat_base.specs.declared.sig.loss.Loss.{Loss};
+ghost use Rattle.apfloat_unpacked.specs.Shapes.{IsShape, format_at};
+ghost use Rattle.apfloat_unpacked.specs.Stored.{IsNormal, quanta_at};
+ghost use Rattle.apfloat_conversions.specs.Wholes.{IsPicked, IsPickedWithin};
+
+use crate::exponents::last_exponent;
+use apfloat_base::Round;
+use apfloat_base::sig::{Loss, power_of_two, shift_right, steps_between};
+use apfloat_unpacked::normalize::moves_up;
+use apfloat_unpacked::shape::Shape;
+use apfloat_unpacked::unpacked::Unpacked;
+
+/// The magnitude of a whole number, and whether it is the number that it stands for.
+#[derive(Clone, Copy, Debug)]
+pub struct Whole {
+    pub magnitude: u128,
+    pub exact: bool,
+}
+
+/// Whether nothing was lost.
+#[inline]
+fn is_exact(loss: Loss) -> bool
+    ensures whole { result ≡ true → loss ≡ Loss.ExactlyZero }
+    ensures lost { result ≡ false → loss ≡ Loss.ExactlyZero → ⊥ }
+{
+    match loss {
+        Loss::ExactlyZero => true,
+        Loss::LessThanHalf => false,
+        Loss::ExactlyHalf => false,
+        Loss::MoreThanHalf => false,
+    }
+}
+
+/// The whole number beside `significand * 2^-places`.
+#[inline]
+pub fn round_fraction(significand: u128, places: u32, round: Round, negative: bool) -> Whole
+    requires { significand < 2 ^ 125 }
+    ensures bound { result.magnitude ≤ significand / 2 ^ places + 1 }
+    ensures picked { (amount parts : ℕ) → 0 < parts → amount * 2 ^ places ≡ significand * parts → IsPicked round negative amount parts result }
+{
+    let kept = shift_right(significand, places, Loss::ExactlyZero);
+    let exact = is_exact(kept.loss);
+    if moves_up(round, negative, kept.loss, kept.significand % 2 == 1) {
+        Whole {
+            magnitude: kept.significand + 1,
+            exact,
+        }
+    } else {
+        Whole {
+            magnitude: kept.significand,
+            exact,
+        }
+    }
+}
+
+/// The whole number `significand * 2^places`.
+#[inline]
+fn raised(precision: u32, significand: u128, places: u32) -> u128
+    requires some { 0 < precision }
+    requires fits { significand < 2 ^ precision }
+    requires near { precision + places ≤ 128 }
+    ensures { result ≡ significand * 2 ^ places }
+{
+    significand * power_of_two(places)
+}
+
+/// The whole number beside a finite number that is not zero, if it is below `2^128`.
+#[inline]
+pub fn whole_of(shape: Shape, x: Unpacked, round: Round) -> Option<Whole>
+    requires lawful { IsShape shape }
+    requires normal { IsNormal shape x.significand x.exponent }
+    ensures { IsPickedWithin round x.negative (quanta_at shape.min_exp x.significand x.exponent) (2 ^ (format_at shape).scale) result }
+{
+    if x.exponent >= 128 {
+        return None;
+    }
+    let exponent = last_exponent(shape, x.exponent);
+    if exponent >= 0 {
+        return Some(Whole {
+            magnitude: raised(shape.precision, x.significand, steps_between(exponent, 0)),
+            exact: true,
+        });
+    }
+    Some(round_fraction(x.significand, steps_between(0, exponent), round, x.negative))
+}
