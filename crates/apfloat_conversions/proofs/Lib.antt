@@ -2,3 +2,4 @@ mod Operands
 mod Wholes
 mod Limits
 mod Nexts
+mod Fractions

@@ -9,10 +9,13 @@ use Rattle.apfloat_base.specs.declared.sig.loss.Loss.{Loss}
 use Rattle.apfloat_base.specs.declared.sig.loss.Loss.TheVariants.{ExactlyZero, LessThanHalf, ExactlyHalf, MoreThanHalf}
 use Rattle.apfloat_base.specs.Standing.{StandsFor, up, down}
 use Rattle.apfloat_base.specs.Enclosure.{rounds_up}
-use Rattle.apfloat_base.specs.Rounding.{takes_above, pick_between}
-use Rattle.apfloat_base.specs.WholeNumbers.{whole_pick}
+use Rattle.apfloat_base.specs.Format.{Format}
+use Rattle.apfloat_base.specs.Datum.{Datum, finite}
+use Rattle.apfloat_base.specs.Rounding.{takes_above, pick_between, signed_quanta}
+use Rattle.apfloat_base.specs.WholeNumbers.{whole_pick, whole_quanta, inexact_unless, IsRoundToIntegral}
 use Rattle.apfloat_base.proofs.Existence.{two_pos}
-use Rattle.apfloat_base.proofs.Losses.{stands_to, stands_past}
+use Rattle.apfloat_base.proofs.Deliveries.{signed_some}
+use Rattle.apfloat_base.proofs.Losses.{stands_to, stands_past, twice_half}
 use Rattle.apfloat_base.proofs.KeptDigits.{stands_cancel}
 use Rattle.apfloat_base.proofs.Picks.{kept, takes_less, takes_half, takes_more}
 use Rattle.apfloat_base.proofs.SingleScalings.{scaled_stands}
@@ -155,3 +158,26 @@ cut_below s q k f e =
     let w : 1 ≤ 2 ^ k = pow_pos k in
     let b : s / 2 ^ k * 1 ≤ s / 2 ^ k * 2 ^ k = mul-le-mul_left (s / 2 ^ k) w in
     omega (arith, a, b, e, f)
+
+-- with a place cut off, what is left can grow by one
+pub whole_fits : (p s k mag : ℕ) → 0 < p → s < 2 ^ p → 1 ≤ k → mag ≤ s / 2 ^ k + 1 → mag ≤ 2 ^ (p - 1)
+whole_fits p s k mag q f l h =
+    let a : s / 2 ^ k * 2 ^ k + s % 2 ^ k ≡ s = div-add-mod' s (2 ^ k) in
+    let w : 2 ^ 1 ≤ 2 ^ k = pow-le-pow_right two_pos l in
+    let b : s / 2 ^ k * 2 ≤ s / 2 ^ k * 2 ^ k = mul-le-mul_left (s / 2 ^ k) w in
+    let t : 2 * 2 ^ (p - 1) ≡ 2 ^ p = twice_half p q in
+    omega (arith, a, b, t, f, h)
+
+-- ---- a number rounded to a whole number
+
+pub integral_picked : (f : Format) (mode : Round) (b : Bool) (n mag : ℕ) (exact : Bool) (v : Datum) (st : ℕ) → mag ≡ whole_pick mode b n (2 ^ f.scale) → exact ≡ eqb (whole_quanta f mode b n) n → v ≡ signed_quanta f.nonfinite b (mag * 2 ^ f.scale) → st ≡ inexact_unless exact
+    → IsRoundToIntegral f mode (finite b n) v st
+integral_picked f mode b n mag exact v st i x w t = record {
+  value_is = w ∙ ap (λ (k : ℕ). signed_quanta f.nonfinite b (k * 2 ^ f.scale)) i;
+  status_is = t ∙ ap (λ (k : Bool). inexact_unless k) x;
+}
+
+pub integral_stays : (f : Format) (mode : Round) (b : Bool) (n q : ℕ) → 0 < n → n ≡ q * 2 ^ f.scale → IsRoundToIntegral f mode (finite b n) (finite b n) 0
+integral_stays f mode b n q p e =
+    integral_picked f mode b n q true (finite b n) 0 (sym (whole_exactly mode b q n (2 ^ f.scale) (pow_pos f.scale) e)) (exactly_so mode b q n (2 ^ f.scale) (pow_pos f.scale) e)
+    (sym (signed_some f.nonfinite b n p) ∙ ap (λ (k : ℕ). signed_quanta f.nonfinite b k) e) refl

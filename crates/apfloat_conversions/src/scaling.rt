@@ -134,7 +134,7 @@ fn number_fraction(shape: Shape, x: Unpacked) -> Fraction
 
 /// The fraction of a value and its exponent, whose product is the value; of a value that is no number or zero, itself
 /// and what stands for its exponent.
-pub fn fraction(shape: Shape, x: Unpacked) -> Fraction
+pub fn fraction_of(shape: Shape, x: Unpacked) -> Fraction
     requires lawful { IsShape shape }
     requires stored { IsStored shape x }
     ensures stored { IsStored shape result.value }

@@ -7,8 +7,8 @@ use Rattle.apfloat_conversions.proofs.whole.round_fraction.Goals as goal
 pub overflow_add-result : goal.overflow_add-result
 overflow_add-result c = record { fits = cut_below c.args.significand c.shift_right-kept.result.significand c.args.places c.requires c.shift_right-kept.ensures.quotient }
 
-pub returns-clause-picked-then-moves_up : goal.returns-clause-picked-then-moves_up
-returns-clause-picked-then-moves_up c = λ amount parts p e.
+pub returns-then-moves_up-clause-picked : goal.returns-then-moves_up-clause-picked
+returns-then-moves_up-clause-picked c = λ amount parts p e.
     let q = c.shift_right-kept.result.significand in
     let loss = c.shift_right-kept.result.loss in
     let st = cut_whole_stands c.args.significand q c.args.places amount parts loss e (c.shift_right-kept.ensures.stands (c.args.significand * parts) parts p refl) in
@@ -17,8 +17,8 @@ returns-clause-picked-then-moves_up c = λ amount parts p e.
       exact_is = exact_at c.args.round c.args.negative q amount parts loss c.is_exact-exact.result p st c.is_exact-exact.ensures.whole c.is_exact-exact.ensures.lost;
     }
 
-pub returns-clause-picked-else-moves_up : goal.returns-clause-picked-else-moves_up
-returns-clause-picked-else-moves_up c = λ amount parts p e.
+pub returns-else-moves_up-clause-picked : goal.returns-else-moves_up-clause-picked
+returns-else-moves_up-clause-picked c = λ amount parts p e.
     let q = c.shift_right-kept.result.significand in
     let loss = c.shift_right-kept.result.loss in
     let st = cut_whole_stands c.args.significand q c.args.places amount parts loss e (c.shift_right-kept.ensures.stands (c.args.significand * parts) parts p refl) in

@@ -1,0 +1,76 @@
+use Rattle.std.proofs.Common.{◌≡◌, ◌+◌, ◌-◌, ◌*◌, ◌/◌, ◌^◌, ◌<◌, ◌≤◌, ap, sym, subst, ◌∙◌, refl, arith, ℕ, pos, ◌-ℤ◌, ◌≤ℤ◌, to_z, of_z, w32}
+use Rattle.std.proofs.lemmas.Int.{ints, to_z-of_z}
+use Rattle.std.proofs.lemmas.Nat.{pow_pos}
+use Rattle.apfloat_base.specs.Format.{largest}
+use Rattle.apfloat_base.specs.Standing.{up, down}
+use Rattle.apfloat_base.specs.Rounding.{signed_quanta}
+use Rattle.apfloat_unpacked.specs.Shapes.{format_at}
+use Rattle.apfloat_unpacked.specs.Stored.{quanta_at, datum_at}
+use Rattle.apfloat_unpacked.specs.StoredBack.{quanta_some}
+use Rattle.apfloat_base.proofs.Losses.{twice_half}
+use Rattle.apfloat_conversions.proofs.Operands.{exponent_word, scale_is, scale_in_span, half_within, significand_small}
+use Rattle.apfloat_conversions.proofs.Wholes.{places_up, places_down, up_of, whole_fits, integral_picked, integral_stays}
+use Rattle.apfloat_conversions.proofs.integral.round_number.Goals as goal
+
+pub returns-then-exponent-ge0-clause-delivered : goal.returns-then-exponent-ge0-clause-delivered
+returns-then-exponent-ge0-clause-delivered c =
+    let s = c.args.shape in
+    let m = c.args.x.significand in
+    let x = c.args.x.exponent in
+    let n = c.requires.normal in
+    let a = quanta_at s.min_exp m x in
+    let r = c.last_exponent-exponent.result in
+    let ex = exponent_word s m x c.requires.lawful n in
+    let v = rw ex at c.last_exponent-exponent.ensures.value in
+    let w : to_z w32 (of_z w32 c.last_exponent-exponent.result) ≡ c.last_exponent-exponent.result = to_z-of_z w32 c.last_exponent-exponent.result (record { sfits = c.last_exponent-exponent.type_inv }) in
+    let g = c.if-exponent-ge0.true in
+    let l : pos 0 ≤ℤ c.last_exponent-exponent.result = omega (arith, ints, g, w) in
+    let k : pos (up c.last_exponent-exponent.result) ≡ c.last_exponent-exponent.result = up_of c.last_exponent-exponent.result l in
+    let e = places_up (s.precision - 1) (format_at s).scale s.min_exp x r m a (up r) (scale_is s c.requires.lawful) v (omega (arith, ints, k)) n.whole in
+    rw (c.and.ensures.value, c.and.ensures.status, c.requires.number) (integral_stays (format_at s) c.args.round c.args.x.negative a (m * 2 ^ up r) (quanta_some s m x n) e)
+
+pub round_fraction-whole-requires : goal.round_fraction-whole-requires
+round_fraction-whole-requires c = significand_small c.args.shape c.args.x.significand c.requires.lawful c.requires.normal.operand.fits
+
+half_bound : (c : goal.After-scale) → c.round_fraction-whole.result.magnitude ≤ 2 ^ (c.args.shape.precision - 1)
+half_bound c =
+    let three = c.requires.lawful.precision_low in
+    let g = c.if-exponent-ge0.false in
+    let w : to_z w32 (of_z w32 c.last_exponent-exponent.result) ≡ c.last_exponent-exponent.result = to_z-of_z w32 c.last_exponent-exponent.result (record { sfits = c.last_exponent-exponent.type_inv }) in
+    let k = rw w at c.steps_between-places.ensures in
+    let l : 1 ≤ c.steps_between-places.result = omega (arith, ints, g, w, k) in
+    whole_fits c.args.shape.precision c.args.x.significand c.steps_between-places.result c.round_fraction-whole.result.magnitude (omega (arith, three)) c.requires.normal.operand.fits l c.round_fraction-whole.ensures.bound
+
+pub quanta_of-requires-clause-fits : goal.quanta_of-requires-clause-fits
+quanta_of-requires-clause-fits c =
+    let s = c.args.shape in
+    let h = half_bound c in
+    let three = c.requires.lawful.precision_low in
+    let t : 2 * 2 ^ (s.precision - 1) ≡ 2 ^ s.precision = twice_half s.precision (omega (arith, three)) in
+    let p : 0 < 2 ^ (s.precision - 1) = pow_pos (s.precision - 1) in
+    omega (arith, h, t, p)
+
+pub quanta_of-requires-clause-within : goal.quanta_of-requires-clause-within
+quanta_of-requires-clause-within c =
+    let s = c.args.shape in
+    let h = half_bound c in
+    let r = scale_in_span s c.requires.lawful in
+    subst (λ (k : ℕ). c.round_fraction-whole.result.magnitude * 2 ^ k ≤ largest (format_at s)) (sym c.scale.ensures.value)
+    (half_within s c.round_fraction-whole.result.magnitude (format_at s).scale c.requires.lawful h (omega (arith, r)))
+
+pub returns-clause-delivered : goal.returns-clause-delivered
+returns-clause-delivered c =
+    let s = c.args.shape in
+    let m = c.args.x.significand in
+    let x = c.args.x.exponent in
+    let n = c.requires.normal in
+    let a = quanta_at s.min_exp m x in
+    let r = c.last_exponent-exponent.result in
+    let ex = exponent_word s m x c.requires.lawful n in
+    let v = rw ex at c.last_exponent-exponent.ensures.value in
+    let w : to_z w32 (of_z w32 c.last_exponent-exponent.result) ≡ c.last_exponent-exponent.result = to_z-of_z w32 c.last_exponent-exponent.result (record { sfits = c.last_exponent-exponent.type_inv }) in
+    let k = rw w at c.steps_between-places.ensures in
+    let i = c.round_fraction-whole.ensures.picked a (2 ^ (format_at s).scale) (pow_pos (format_at s).scale)
+    (places_down (s.precision - 1) (format_at s).scale s.min_exp x r m a c.steps_between-places.result (scale_is s c.requires.lawful) v k n.whole) in
+    let d = rw c.scale.ensures.value at c.quanta_of.ensures.datum in
+    rw (c.and-2.ensures.value, c.and-2.ensures.status, c.requires.number) (integral_picked (format_at s) c.args.round c.args.x.negative a c.round_fraction-whole.result.magnitude c.round_fraction-whole.result.exact (datum_at s c.quanta_of.result) _ i.magnitude_is i.exact_is d c.status_of.ensures)

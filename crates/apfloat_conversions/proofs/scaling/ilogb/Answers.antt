@@ -1,0 +1,19 @@
+use Rattle.std.proofs.Common.{false, ◌≡◌, eqb, arith}
+use Rattle.std.proofs.lemmas.Bool.{ne_eqb}
+use Rattle.apfloat_unpacked.specs.Shapes.{format_at}
+use Rattle.apfloat_unpacked.specs.Stored.{quanta_at}
+use Rattle.apfloat_unpacked.specs.StoredBack.{quanta_some}
+use Rattle.apfloat_conversions.proofs.Operands.{exponent_word, scale_is}
+use Rattle.apfloat_conversions.proofs.Nexts.{logarithm_is}
+use Rattle.apfloat_conversions.proofs.scaling.ilogb.Goals as goal
+
+pub returns-in-Normal : goal.returns-in-Normal
+returns-in-Normal c =
+    let s = c.args.shape in
+    let m = c.args.x.significand in
+    let e = c.args.x.exponent in
+    let n = rw c.in-Normal.is at c.requires.stored in
+    let p = quanta_some s m e n in
+    let z : eqb (quanta_at s.min_exp m e) 0 ≡ false = ne_eqb _ 0 (λ q. omega (arith, p, q)) in
+    let w = exponent_word s m e c.requires.lawful n in
+    rw (c.in-Normal.is, z, w) (logarithm_is (format_at s) s.precision s.min_exp s.max_exp e m (quanta_at s.min_exp m e) c.requires.lawful.precision_low (scale_is s c.requires.lawful) n.operand n.whole)
