@@ -1,3 +1,4 @@
+mod Comparisons
 mod WholeQuotients
 mod NearestMultiples
 pub mod ProductExponents

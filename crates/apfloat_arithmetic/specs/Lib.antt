@@ -1,1 +1,2 @@
 pub mod Subtrahends
+pub mod Sides

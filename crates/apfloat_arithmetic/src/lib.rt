@@ -7,6 +7,7 @@
 mod exact;
 pub mod products;
 pub mod quotients;
+pub mod order;
 pub mod remainders;
 pub mod signs;
 pub mod sums;

@@ -1,0 +1,249 @@
+-- The order of data: by exponents and significands, and by where they stand.
+use Rattle.std.proofs.Common.{◌≡◌, ℕ, ◌+◌, ◌*◌, ◌^◌, ◌<◌, ◌≤◌, Bool, true, false, ℤ, pos, ◌<ℤ◌, zero, suc, Some, sym, refl, ap, ◌∙◌, arith}
+use Rattle.std.specs.Prelude.{neg_ℤ}
+use Rattle.std.specs.Bool.{Decides}
+use Rattle.std.specs.declared.cmp.Ordering.{Ordering}
+use Rattle.std.specs.declared.cmp.Ordering.TheVariants.{Less, Equal, Greater}
+use Rattle.std.specs.Ordering.{nat_cmp, int_cmp, ordering_then}
+use Rattle.std.specs.Cmp.{nat_cmp_is, int_cmp_is, ranks, int_ranks}
+use Rattle.std.proofs.lemmas.Cmp.{by_ranked}
+use Rattle.std.proofs.lemmas.Int.{ints}
+use Rattle.std.proofs.lemmas.Nat.{pow_pos}
+use Rattle.std.proofs.lemmas.Bool.{and_parts, eqb-true, eq-eqb}
+use Rattle.std.proofs.Math.Nat.{mul-lt-mul_of_pos_right, lt_of_mul-lt-mul_right, pow-le-pow_right, two-pow-succ}
+use Rattle.apfloat_base.proofs.Existence.{two_pos}
+use Rattle.apfloat_base.specs.declared.kinds.Category.{Category}
+use Rattle.apfloat_base.specs.declared.kinds.Category.TheVariants.{Infinity, NaN, Normal, Zero}
+use Rattle.apfloat_base.specs.Datum.{Datum, finite, infinite, nan}
+use Rattle.apfloat_base.specs.Exact.{same_sign}
+use Rattle.apfloat_base.specs.Classes.{is_nan, same_datum}
+use Rattle.apfloat_base.specs.Order.{number, compared}
+use Rattle.apfloat_unpacked.specs.declared.shape.Shape.{Shape}
+use Rattle.apfloat_unpacked.specs.declared.unpacked.Unpacked.{Unpacked}
+use Rattle.apfloat_unpacked.specs.Stored.{IsNormal, IsStored, IsStoredBy, datum_at, datum_by, quanta_at, unpacked_of}
+use Rattle.apfloat_unpacked.specs.StoredBack.{IsFull, top_of, full_low, full_high, normal_full, quanta_some, comes_back}
+use Rattle.apfloat_arithmetic.specs.Sides.{number_side, side}
+
+-- ---- two numbers with all their digits: the exponents come first
+
+below_top : (precision s n u d t m v e : ℕ) → IsFull precision s n u d → IsFull precision t m v e → top_of precision u d < top_of precision v e → n < m
+below_top precision s n u d t m v e f g h =
+    let a = full_high _ _ _ _ _ f in
+    let b = full_low _ _ _ _ _ g in
+    let c : 2 ^ suc (top_of precision u d) ≤ 2 ^ top_of precision v e = pow-le-pow_right two_pos h in
+    omega (arith, a, b, c, two-pow-succ (top_of precision u d))
+
+below_exponent : (shape : Shape) (s : ℕ) (d : ℤ) (t : ℕ) (e : ℤ) → IsNormal shape s d → IsNormal shape t e → d <ℤ e → quanta_at shape.min_exp s d < quanta_at shape.min_exp t e
+below_exponent shape s d t e m n h =
+    let f = normal_full shape s d m in
+    let g = normal_full shape t e n in
+    below_top _ _ _ _ _ _ _ _ _ f g (omega (arith, ints, h, f.short, g.short))
+
+below_significand : (precision s n t m u d : ℕ) → IsFull precision s n u d → IsFull precision t m u d → s < t → n < m
+below_significand precision s n t m u d f g h =
+    let a : s * 2 ^ u < t * 2 ^ u = mul-lt-mul_of_pos_right h (pow_pos u) in
+    let b = f.same in
+    let c = g.same in
+    let l : n * 2 ^ d < m * 2 ^ d = omega arith in
+    lt_of_mul-lt-mul_right (2 ^ d) l
+
+at_one_exponent : (shape : Shape) (s t : ℕ) (e : ℤ) → IsNormal shape s e → IsNormal shape t e → nat_cmp s t ≡ nat_cmp (quanta_at shape.min_exp s e) (quanta_at shape.min_exp t e)
+at_one_exponent shape s t e m n =
+    let f = normal_full shape s e m in
+    let g = normal_full shape t e n in
+    by_ranked (s < t) (s ≡ t) (t < s) (nat_cmp s t) (ranks s t)
+    (λ c h. c ∙ nat_cmp_is _ _ Less (below_significand _ _ _ _ _ _ _ f g h))
+    (λ c h. c ∙ nat_cmp_is _ _ Equal (ap (λ x. quanta_at shape.min_exp x e) h))
+    (λ c h. c ∙ nat_cmp_is _ _ Greater (below_significand _ _ _ _ _ _ _ g f h))
+
+pub exponents_first : (shape : Shape) (s : ℕ) (d : ℤ) (t : ℕ) (e : ℤ) → IsNormal shape s d → IsNormal shape t e
+    → ordering_then (int_cmp d e) (nat_cmp s t) ≡ nat_cmp (quanta_at shape.min_exp s d) (quanta_at shape.min_exp t e)
+exponents_first shape s d t e m n =
+    by_ranked (d <ℤ e) (d ≡ e) (e <ℤ d) (int_cmp d e) (int_ranks d e)
+    (λ c h. ap (λ x. ordering_then x (nat_cmp s t)) c ∙ nat_cmp_is _ _ Less (below_exponent shape s d t e m n h))
+    (λ c h.
+    let k : IsNormal shape s e = rw h at m in
+    ap (λ x. ordering_then x (nat_cmp s t)) c ∙ at_one_exponent shape s t e k n ∙ ap (λ x. nat_cmp (quanta_at shape.min_exp s x) (quanta_at shape.min_exp t e)) (sym h))
+    (λ c h. ap (λ x. ordering_then x (nat_cmp s t)) c ∙ nat_cmp_is _ _ Greater (below_exponent shape t e s d n m h))
+
+-- ---- numbers of one sign
+
+both_positive : (m n : ℕ) → nat_cmp m n ≡ int_cmp (pos m) (pos n)
+both_positive m n =
+    by_ranked (m < n) (m ≡ n) (n < m) (nat_cmp m n) (ranks m n)
+    (λ e h. e ∙ int_cmp_is (pos m) (pos n) Less (omega (arith, ints, h)))
+    (λ e h. e ∙ int_cmp_is (pos m) (pos n) Equal (ap pos h))
+    (λ e h. e ∙ int_cmp_is (pos m) (pos n) Greater (omega (arith, ints, h)))
+
+both_negative : (m n : ℕ) → nat_cmp n m ≡ int_cmp (neg_ℤ (pos m)) (neg_ℤ (pos n))
+both_negative m n =
+    by_ranked (n < m) (n ≡ m) (m < n) (nat_cmp n m) (ranks n m)
+    (λ e h. e ∙ int_cmp_is (neg_ℤ (pos m)) (neg_ℤ (pos n)) Less (omega (arith, ints, h)))
+    (λ e h. e ∙ int_cmp_is (neg_ℤ (pos m)) (neg_ℤ (pos n)) Equal (ap (λ x. neg_ℤ (pos x)) (sym h)))
+    (λ e h. e ∙ int_cmp_is (neg_ℤ (pos m)) (neg_ℤ (pos n)) Greater (omega (arith, ints, h)))
+
+-- and of two, where one may be zero
+
+below_both : (m n : ℕ) → 0 < m + n → Less ≡ int_cmp (neg_ℤ (pos m)) (pos n)
+below_both m n h = int_cmp_is (neg_ℤ (pos m)) (pos n) Less (omega (arith, ints, h))
+
+above_both : (m n : ℕ) → 0 < m + n → Greater ≡ int_cmp (pos m) (neg_ℤ (pos n))
+above_both m n h = int_cmp_is (pos m) (neg_ℤ (pos n)) Greater (omega (arith, ints, h))
+
+-- ---- where a value stands
+
+some_side : (b : Bool) (n : ℕ) → 0 < n → number_side b ≡ side (finite b n)
+some_side b zero h = absurd (omega arith)
+some_side b (suc n) h = refl
+
+pub side_of_normal : (shape : Shape) (x : Unpacked) (b : Bool) → x.category ≡ Normal → x.negative ≡ b → IsStored shape x → number_side b ≡ side (datum_at shape x)
+side_of_normal shape x b e f h =
+    let n : IsNormal shape x.significand x.exponent = rw e at h in
+    rw (e, ← f) (some_side x.negative _ (quanta_some shape x.significand x.exponent n))
+
+one_sign : (a b : Bool) → number_side a ≡ number_side b → b ≡ a
+one_sign true true e = refl
+one_sign true false e = cc
+one_sign false true e = cc
+one_sign false false e = refl
+
+near_end : (a b : Bool) → number_side a ≡ side (infinite b) → ⊥
+near_end true true e = cc
+near_end true false e = cc
+near_end false true e = cc
+near_end false false e = cc
+
+-- beside a number that is not zero stands only one of its sign
+number_beside : (k : Category) (shape : Shape) (y : Unpacked) (b : Bool) → IsStoredBy k shape y → number_side b ≡ side (datum_by k shape y) → (k ≡ Normal) × (y.negative ≡ b)
+number_beside Normal shape y b h e =
+    let q = some_side y.negative _ (quanta_some shape y.significand y.exponent h) in
+    (refl, one_sign b y.negative (e ∙ sym q))
+number_beside Zero shape y true h e = cc
+number_beside Zero shape y false h e = cc
+number_beside Infinity shape y b h e = absurd (near_end b y.negative e)
+number_beside NaN shape y true h e = cc
+number_beside NaN shape y false h e = cc
+
+pub beside_normal : (shape : Shape) (y : Unpacked) (b : Bool) → IsStored shape y → number_side b ≡ side (datum_at shape y) → (y.category ≡ Normal) × (y.negative ≡ b)
+beside_normal shape y b h e = number_beside y.category shape y b h e
+
+-- two numbers of one sign
+pub beside_negative : (shape : Shape) (x y : Unpacked) → x.category ≡ Normal → x.negative ≡ true → IsStored shape x → IsStored shape y → side (datum_at shape x) ≡ side (datum_at shape y) → (r : Ordering)
+    → (IsNormal shape y.significand y.exponent → IsNormal shape x.significand x.exponent → r ≡ nat_cmp (quanta_at shape.min_exp y.significand y.exponent) (quanta_at shape.min_exp x.significand x.exponent))
+    → r ≡ int_cmp (number (datum_at shape x)) (number (datum_at shape y))
+beside_negative shape x y e f h k s r g =
+    let p = beside_normal shape y true k (side_of_normal shape x true e f h ∙ s) in
+    let a : IsNormal shape x.significand x.exponent = rw e at h in
+    let b : IsNormal shape y.significand y.exponent = rw p.0 at k in
+    rw (e, f, p.0, p.1) (g b a ∙ both_negative (quanta_at shape.min_exp x.significand x.exponent) (quanta_at shape.min_exp y.significand y.exponent))
+
+pub beside_positive : (shape : Shape) (x y : Unpacked) → x.category ≡ Normal → x.negative ≡ false → IsStored shape x → IsStored shape y → side (datum_at shape x) ≡ side (datum_at shape y) → (r : Ordering)
+    → (IsNormal shape x.significand x.exponent → IsNormal shape y.significand y.exponent → r ≡ nat_cmp (quanta_at shape.min_exp x.significand x.exponent) (quanta_at shape.min_exp y.significand y.exponent))
+    → r ≡ int_cmp (number (datum_at shape x)) (number (datum_at shape y))
+beside_positive shape x y e f h k s r g =
+    let p = beside_normal shape y false k (side_of_normal shape x false e f h ∙ s) in
+    let a : IsNormal shape x.significand x.exponent = rw e at h in
+    let b : IsNormal shape y.significand y.exponent = rw p.0 at k in
+    rw (e, f, p.0, p.1) (g a b ∙ both_positive (quanta_at shape.min_exp x.significand x.exponent) (quanta_at shape.min_exp y.significand y.exponent))
+
+-- ---- by the sides, and on one side by the numbers
+
+pub by_sides : (x y : Datum) (r : Ordering) → is_nan x ≡ false → is_nan y ≡ false → (side x ≡ side y → r ≡ int_cmp (number x) (number y))
+    → Some (ordering_then (nat_cmp (side x) (side y)) r) ≡ compared x y
+by_sides (nan a s) y r e f h = cc
+by_sides (infinite a) (nan b t) r e f h = cc
+by_sides (finite a m) (nan b t) r e f h = cc
+by_sides (infinite true) (infinite true) r e f h = ap Some (h refl)
+by_sides (infinite true) (infinite false) r e f h = refl
+by_sides (infinite false) (infinite true) r e f h = refl
+by_sides (infinite false) (infinite false) r e f h = ap Some (h refl)
+by_sides (infinite true) (finite b zero) r e f h = refl
+by_sides (infinite false) (finite b zero) r e f h = refl
+by_sides (infinite true) (finite true (suc n)) r e f h = refl
+by_sides (infinite false) (finite true (suc n)) r e f h = refl
+by_sides (infinite true) (finite false (suc n)) r e f h = refl
+by_sides (infinite false) (finite false (suc n)) r e f h = refl
+by_sides (finite a zero) (infinite true) r e f h = refl
+by_sides (finite a zero) (infinite false) r e f h = refl
+by_sides (finite true (suc m)) (infinite true) r e f h = refl
+by_sides (finite true (suc m)) (infinite false) r e f h = refl
+by_sides (finite false (suc m)) (infinite true) r e f h = refl
+by_sides (finite false (suc m)) (infinite false) r e f h = refl
+by_sides (finite a zero) (finite b zero) r e f h = ap Some (h refl)
+by_sides (finite true zero) (finite true (suc n)) r e f h = ap Some (above_both 0 (suc n) (omega arith))
+by_sides (finite false zero) (finite true (suc n)) r e f h = ap Some (above_both 0 (suc n) (omega arith))
+by_sides (finite true zero) (finite false (suc n)) r e f h = ap Some (below_both 0 (suc n) (omega arith))
+by_sides (finite false zero) (finite false (suc n)) r e f h = ap Some (below_both 0 (suc n) (omega arith))
+by_sides (finite true (suc m)) (finite true zero) r e f h = ap Some (below_both (suc m) 0 (omega arith))
+by_sides (finite true (suc m)) (finite false zero) r e f h = ap Some (below_both (suc m) 0 (omega arith))
+by_sides (finite false (suc m)) (finite true zero) r e f h = ap Some (above_both (suc m) 0 (omega arith))
+by_sides (finite false (suc m)) (finite false zero) r e f h = ap Some (above_both (suc m) 0 (omega arith))
+by_sides (finite true (suc m)) (finite true (suc n)) r e f h = ap Some (h refl)
+by_sides (finite true (suc m)) (finite false (suc n)) r e f h = ap Some (below_both (suc m) (suc n) (omega arith))
+by_sides (finite false (suc m)) (finite true (suc n)) r e f h = ap Some (above_both (suc m) (suc n) (omega arith))
+by_sides (finite false (suc m)) (finite false (suc n)) r e f h = ap Some (h refl)
+
+-- ---- sameness
+
+same_sign_is : (a b : Bool) → same_sign a b ≡ true → a ≡ b
+same_sign_is true true e = refl
+same_sign_is true false e = cc
+same_sign_is false true e = cc
+same_sign_is false false e = refl
+
+same_sign_of : (a : Bool) → same_sign a a ≡ true
+same_sign_of true = refl
+same_sign_of false = refl
+
+same_is : (x y : Datum) → same_datum x y ≡ true → x ≡ y
+same_is (finite a m) (finite b n) e =
+    let p = and_parts _ _ e in
+    rw (same_sign_is a b p.0, eqb-true m n p.1) refl
+same_is (infinite a) (infinite b) e = ap infinite (same_sign_is a b e)
+same_is (nan a s) (nan b t) e =
+    let p = and_parts _ _ e in
+    rw (same_sign_is a b p.0, eqb-true s t p.1) refl
+same_is (finite a m) (infinite b) e = cc
+same_is (finite a m) (nan b t) e = cc
+same_is (infinite a) (finite b n) e = cc
+same_is (infinite a) (nan b t) e = cc
+same_is (nan a s) (finite b n) e = cc
+same_is (nan a s) (infinite b) e = cc
+
+same_of : (x : Datum) → same_datum x x ≡ true
+same_of (finite a m) = rw (same_sign_of a, eq-eqb m m refl) refl
+same_of (infinite a) = same_sign_of a
+same_of (nan a s) = rw (same_sign_of a, eq-eqb s s refl) refl
+
+off_by : (r : Bool) → (r ≡ true → ⊥) → false ≡ r
+off_by true h = absurd (h refl)
+off_by false h = refl
+
+parts_same : (x y : Unpacked) → x.significand ≡ y.significand → x.exponent ≡ y.exponent → x.category ≡ y.category → x.negative ≡ y.negative → x ≡ y
+parts_same x y a b c d = rw (sym a, sym b, sym c, sym d) refl
+
+-- what is stored is the same exactly where the data are
+stored_same : (shape : Shape) (x y : Unpacked) → IsStored shape x → IsStored shape y → same_datum (datum_at shape x) (datum_at shape y) ≡ true → x ≡ y
+stored_same shape x y h k e =
+    sym (comes_back shape x h) ∙ ap (unpacked_of shape) {x = datum_at shape x} {y = datum_at shape y} (same_is (datum_at shape x) (datum_at shape y) e) ∙ comes_back shape y k
+
+abbrev pub IsSameClass : Unpacked → Unpacked → Type 0
+IsSameClass x y = (x.category ≡ y.category) × (x.negative ≡ y.negative)
+
+abbrev pub IsSameNumber : Unpacked → Unpacked → Type 0
+IsSameNumber x y = (x.significand ≡ y.significand) × (x.exponent ≡ y.exponent)
+
+pub same_both : (shape : Shape) (x y : Unpacked) (a b : Bool) → IsStored shape x → IsStored shape y → Decides a (IsSameClass x y) → Decides b (IsSameNumber x y) → a ≡ true
+    → b ≡ same_datum (datum_at shape x) (datum_at shape y)
+same_both shape x y a true h k c n e =
+    let p = c.0 e in
+    let q = n.0 refl in
+    rw (parts_same x y q.0 q.1 p.0 p.1) (sym (same_of (datum_at shape y)))
+same_both shape x y a false h k c n e = off_by _ (λ t.
+    let z : false ≡ true = n.1 (ap (λ u. u.significand) (stored_same shape x y h k t), ap (λ u. u.exponent) (stored_same shape x y h k t)) in
+    cc)
+
+pub other_class : (shape : Shape) (x y : Unpacked) (a : Bool) → IsStored shape x → IsStored shape y → Decides a (IsSameClass x y) → a ≡ false → a ≡ same_datum (datum_at shape x) (datum_at shape y)
+other_class shape x y a h k c e = e ∙ off_by _ (λ t.
+    let z : a ≡ true = c.1 (ap (λ u. u.category) (stored_same shape x y h k t), ap (λ u. u.negative) (stored_same shape x y h k t)) in
+    cc)

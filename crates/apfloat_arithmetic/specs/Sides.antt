@@ -1,0 +1,13 @@
+-- Where a datum stands: below the numbers, among the negative ones, at zero, among the positive ones, above them.
+use Rattle.std.specs.Prelude.{ℕ, zero, suc, Bool, if◌then◌else◌}
+use Rattle.apfloat_base.specs.Datum.{Datum, finite, infinite, nan}
+
+-- of a number that is not zero
+abbrev pub number_side : Bool → ℕ
+number_side negative = if negative then 1 else 3
+
+abbrev pub side : Datum → ℕ
+side (finite b zero) = 2
+side (finite b (suc n)) = number_side b
+side (infinite b) = if b then 0 else 4
+side (nan b s) = 2

@@ -1,0 +1,123 @@
+//! The order of values, and their sameness.
+
+ghost use Rattle.std.specs.Prelude.{◌≡◌};
+ghost use Rattle.std.specs.Bool.{Decides};
+ghost use Rattle.std.specs.Ordering.{nat_cmp, int_cmp};
+ghost use Rattle.apfloat_base.specs.declared.kinds.Category.TheVariants.{Normal};
+ghost use Rattle.apfloat_base.specs.Classes.{is_nan, same_datum};
+ghost use Rattle.apfloat_base.specs.Order.{number, compared, compared_magnitudes};
+ghost use Rattle.apfloat_unpacked.specs.declared.shape.Shape.{Shape};
+ghost use Rattle.apfloat_unpacked.specs.Stored.{IsNormal, IsStored, datum_at, quanta_at};
+ghost use Rattle.apfloat_arithmetic.specs.Sides.{side};
+
+use apfloat_base::Category;
+use apfloat_unpacked::unpacked::Unpacked;
+use std::cmp::Ordering;
+
+/// The order of two numbers by what is stored of them: their significands have all digits, so that the exponents come
+/// first.
+#[inline]
+fn compare_significands(x: Unpacked, y: Unpacked) -> Ordering
+    ensures { (shape : Shape) → IsNormal shape x.significand x.exponent → IsNormal shape y.significand y.exponent → result ≡ nat_cmp (quanta_at shape.min_exp x.significand x.exponent) (quanta_at shape.min_exp y.significand y.exponent) }
+{
+    x.exponent
+        .cmp(&y.exponent)
+        .then(x.significand.cmp(&y.significand))
+}
+
+/// The order of the magnitudes of two finite values that are not zero.
+#[inline]
+pub fn compare_magnitudes(x: Unpacked, y: Unpacked) -> Ordering
+    requires left { x.category ≡ Normal }
+    requires right { y.category ≡ Normal }
+    ensures { (shape : Shape) → IsStored shape x → IsStored shape y → result ≡ compared_magnitudes (datum_at shape x) (datum_at shape y) }
+{
+    compare_significands(x, y)
+}
+
+#[inline]
+fn is_nan(x: Unpacked) -> bool
+    ensures { (shape : Shape) → result ≡ is_nan (datum_at shape x) }
+{
+    match x.category {
+        Category::NaN => true,
+        Category::Infinity => false,
+        Category::Normal => false,
+        Category::Zero => false,
+    }
+}
+
+/// Where a value stands: below the numbers, among the negative ones, at zero, among the positive ones, above them.
+#[inline]
+fn side(x: Unpacked) -> u8
+    ensures { (shape : Shape) → IsStored shape x → result ≡ side (datum_at shape x) }
+{
+    match x.category {
+        Category::Infinity => if x.negative { 0 } else { 4 },
+        Category::Normal => if x.negative { 1 } else { 3 },
+        Category::Zero => 2,
+        Category::NaN => 2,
+    }
+}
+
+/// The order of two values that stand on one side.
+#[inline]
+fn compare_beside(x: Unpacked, y: Unpacked) -> Ordering
+    ensures { (shape : Shape) → IsStored shape x → IsStored shape y → side (datum_at shape x) ≡ side (datum_at shape y) → result ≡ int_cmp (number (datum_at shape x)) (number (datum_at shape y)) }
+{
+    match x.category {
+        Category::Normal => {
+            if x.negative {
+                compare_significands(y, x)
+            } else {
+                compare_significands(x, y)
+            }
+        }
+        Category::Infinity => Ordering::Equal,
+        Category::Zero => Ordering::Equal,
+        Category::NaN => Ordering::Equal,
+    }
+}
+
+/// The order of two values as numbers: both zeros are equal, the infinities stand at the ends, and a NaN beside none
+/// (IEEE 754-2008 5.11).
+#[inline]
+pub fn compare(x: Unpacked, y: Unpacked) -> Option<Ordering>
+    ensures { (shape : Shape) → IsStored shape x → IsStored shape y → result ≡ compared (datum_at shape x) (datum_at shape y) }
+{
+    if is_nan(x) || is_nan(y) {
+        return None;
+    }
+    Some(side(x).cmp(&side(y)).then(compare_beside(x, y)))
+}
+
+#[inline]
+fn same_category(x: Category, y: Category) -> bool
+    ensures { Decides result (x ≡ y) }
+{
+    x == y
+}
+
+/// Whether two values have one class and one sign.
+#[inline]
+fn same_class(x: Unpacked, y: Unpacked) -> bool
+    ensures { Decides result ((x.category ≡ y.category) × (x.negative ≡ y.negative)) }
+{
+    same_category(x.category, y.category) && x.negative == y.negative
+}
+
+/// Whether two values have one significand and one exponent.
+#[inline]
+fn same_number(x: Unpacked, y: Unpacked) -> bool
+    ensures { Decides result ((x.significand ≡ y.significand) × (x.exponent ≡ y.exponent)) }
+{
+    x.significand == y.significand && x.exponent == y.exponent
+}
+
+/// Whether two values are one: of one class and sign, and with the same number or the same significand of a NaN.
+#[inline]
+pub fn is_same(x: Unpacked, y: Unpacked) -> bool
+    ensures { (shape : Shape) → IsStored shape x → IsStored shape y → result ≡ same_datum (datum_at shape x) (datum_at shape y) }
+{
+    same_class(x, y) && same_number(x, y)
+}
