@@ -5,9 +5,9 @@
 #![tactic(auto)]
 
 mod exact;
+pub mod order;
 pub mod products;
 pub mod quotients;
-pub mod order;
 pub mod remainders;
 pub mod signs;
 pub mod sums;
