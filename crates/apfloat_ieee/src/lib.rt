@@ -9,6 +9,7 @@ mod debug;
 pub mod float;
 pub mod formats;
 pub mod impls;
+pub mod products;
 pub mod semantics;
 
 pub use apfloat_base::NonfiniteBehavior;
