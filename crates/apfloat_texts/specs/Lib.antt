@@ -2,3 +2,4 @@ pub mod Faults
 pub mod Marks
 pub mod Scans
 pub mod Saturation
+pub mod Literals

@@ -8,6 +8,7 @@
 mod characters;
 mod exponent;
 mod fault;
+mod literal;
 mod mark;
 mod number;
 mod significand;

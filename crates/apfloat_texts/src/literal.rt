@@ -1,0 +1,33 @@
+//! Hexadecimal numbers, behind their prefix.
+
+ghost use Rattle.std.specs.Prelude.{◌≡◌, Some, None, MatchResult};
+ghost use Rattle.apfloat_base.specs.Texts.{behind_prefix_fault};
+ghost use Rattle.apfloat_unpacked.specs.Shapes.{IsShape};
+ghost use Rattle.apfloat_texts.specs.Faults.{fault_at};
+ghost use Rattle.apfloat_texts.specs.Literals.{IsLiteralRead};
+
+use crate::exponent::exponent_in;
+use crate::fault::Fault;
+use crate::number::delivered;
+use crate::significand::scanned;
+use apfloat_base::{Round, StatusAnd};
+use apfloat_unpacked::shape::Shape;
+use apfloat_unpacked::unpacked::Unpacked;
+
+/// The number that stands behind the prefix, rounded once, or what is wrong with it first.
+pub fn read_literal(
+    shape: Shape,
+    negative: bool,
+    rest: &[u8],
+    round: Round,
+) -> Result<StatusAnd<Unpacked>, Fault>
+    requires { IsShape shape }
+    ensures { MatchResult result (λ answer. IsLiteralRead shape round negative rest.now answer) (λ fault. behind_prefix_fault rest.now ≡ Some (fault_at fault)) }
+{
+    if rest.is_empty() {
+        return Err(Fault::LonePrefix);
+    }
+    let (scan, tail) = scanned(rest)?;
+    let exponent = exponent_in(tail, scan.some)?;
+    Ok(delivered(shape, negative, scan.digits, scan.places, exponent, round))
+}
