@@ -3,3 +3,5 @@ pub mod Scanning
 pub mod Saturations
 pub mod ReadNumbers
 pub mod Readings
+pub mod Payloads
+pub mod Parentheses

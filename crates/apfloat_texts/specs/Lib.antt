@@ -3,3 +3,4 @@ pub mod Marks
 pub mod Scans
 pub mod Saturation
 pub mod Literals
+pub mod Payloads

@@ -1,7 +1,7 @@
 //! The characters that numbers are made of.
 
 ghost use Rattle.std.specs.Prelude.{◌≡◌, ◌<◌, IsTrue};
-ghost use Rattle.apfloat_base.specs.Digits.{is_decimal, is_hexadecimal, digit_value};
+ghost use Rattle.apfloat_base.specs.Digits.{is_decimal, is_octal, is_hexadecimal, digit_value};
 ghost use Rattle.apfloat_base.specs.Texts.{is_digit_or_dot};
 
 /// 0 to 9.
@@ -10,6 +10,14 @@ pub fn is_decimal(byte: u8) -> bool
     ensures { result ≡ is_decimal byte }
 {
     matches!(byte, b'0'..=b'9')
+}
+
+/// 0 to 7.
+#[inline]
+pub fn is_octal(byte: u8) -> bool
+    ensures { result ≡ is_octal byte }
+{
+    matches!(byte, b'0'..=b'7')
 }
 
 /// 0 to 9, and a to f of either case.

@@ -11,4 +11,6 @@ mod fault;
 mod literal;
 mod mark;
 mod number;
+mod payload;
 mod significand;
+mod special;

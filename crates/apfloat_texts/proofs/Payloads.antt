@@ -1,0 +1,75 @@
+-- The digits of a payload are read one by one.
+use Rattle.std.proofs.Common.{◌≡◌, ℕ, ◌+◌, ◌*◌, ◌^◌, ◌<◌, ◌≤◌, ◌==◌, Bool, true, false, not, ◌&&◌, ltb, if◌then◌else◌, List, [], ◌∷◌, length, fold, Option, Some, None, refl, ap, ◌∙◌, arith, lit<}
+use Rattle.std.proofs.lemmas.Bool.{le-ltb, lt-ltb, ltb-false, ltb-true}
+use Rattle.std.proofs.Math.Nat.{mul-le-mul_left}
+use Rattle.apfloat_base.specs.Digits.{every, is_empty, digit_value}
+use Rattle.apfloat_base.specs.Specials.{Radix, sixteen, eight, ten, is_digit_of, base_of, payload_of_digits}
+use Rattle.apfloat_texts.specs.Payloads.{longer, next, read_on, IsPayloadRead}
+
+-- ---- one digit
+
+accepted : (b e l : Bool) (x : Option ℕ) → b ≡ true → (if b && e && l then x else None) ≡ (if e && l then x else None)
+accepted true e l x h = refl
+accepted false e l x h = cc
+
+refused : (b e l : Bool) (x : Option ℕ) → b ≡ false → (if b && e && l then x else None) ≡ None
+refused true e l x h = cc
+refused false e l x h = refl
+
+too_large : (e l : Bool) (x : Option ℕ) → l ≡ false → (if e && l then x else None) ≡ None
+too_large true true x h = cc
+too_large true false x h = refl
+too_large false l x h = refl
+
+grown : (radix : Radix) (n c : ℕ) → n ≤ longer radix n c
+grown sixteen n c = omega arith
+grown eight n c = omega arith
+grown ten n c = omega arith
+
+-- more digits make no smaller number
+fold_grows : (radix : Radix) (n : ℕ) (digits : List ℕ) → n ≤ fold (longer radix) n digits
+fold_grows radix n [] = omega arith
+fold_grows radix n (c ∷ digits) =
+    let more = fold_grows radix (longer radix n c) digits in
+    let one = grown radix n c in
+    omega (arith, more, one)
+
+stops : (radix : Radix) (n c : ℕ) (digits : List ℕ) (b l : Bool) → is_digit_of radix c ≡ b → ltb (longer radix n c) (2 ^ 128) ≡ l
+    → (if b && l then Some (longer radix n c) else None) ≡ None → read_on radix n (c ∷ digits) ≡ None
+stops radix n c digits false l p q e = refused (is_digit_of radix c) (every (is_digit_of radix) digits) _ _ p
+stops radix n c digits true false p q e =
+    let g = fold_grows radix (longer radix n c) digits in
+    let f = ltb-false (longer radix n c) (2 ^ 128) q in
+    accepted (is_digit_of radix c) (every (is_digit_of radix) digits) _ _ p
+    ∙ too_large (every (is_digit_of radix) digits) _ _ (le-ltb _ _ (omega (arith, g, f)))
+stops radix n c digits true true p q e = cc
+
+goes : (radix : Radix) (n c m : ℕ) (digits : List ℕ) (b l : Bool) → is_digit_of radix c ≡ b → ltb (longer radix n c) (2 ^ 128) ≡ l
+    → (if b && l then Some (longer radix n c) else None) ≡ Some m → (m < 2 ^ 128) × (read_on radix n (c ∷ digits) ≡ read_on radix m digits)
+goes radix n c m digits false l p q e = cc
+goes radix n c m digits true false p q e = cc
+goes radix n c m digits true true p q e =
+    let same : longer radix n c ≡ m = cc in
+    let small = ltb-true (longer radix n c) (2 ^ 128) q in
+    (omega (arith, same, small), accepted (is_digit_of radix c) (every (is_digit_of radix) digits) _ _ p ∙ ap (λ (k : ℕ). read_on radix k digits) same)
+
+-- ---- all of them
+
+from_first : (radix : Radix) (digits : List ℕ) → is_empty digits ≡ false → payload_of_digits radix digits ≡ read_on radix 0 digits
+from_first radix [] h = cc
+from_first radix (c ∷ digits) h = refl
+
+pub payload_starts : (radix : Radix) (digits : List ℕ) → is_empty digits ≡ false → IsPayloadRead radix digits digits 0
+payload_starts radix digits h = record { small = lit< tt; read = from_first radix digits h }
+
+pub payload_stops : (radix : Radix) (digits left : List ℕ) (n c : ℕ) → IsPayloadRead radix digits (c ∷ left) n → next radix n c ≡ None → payload_of_digits radix digits ≡ None
+payload_stops radix digits left n c i e = i.read ∙ stops radix n c left _ _ refl refl e
+
+pub payload_goes : (radix : Radix) (digits left : List ℕ) (n c m : ℕ) → IsPayloadRead radix digits (c ∷ left) n → next radix n c ≡ Some m → IsPayloadRead radix digits left m
+payload_goes radix digits left n c m i e =
+    let g = goes radix n c m left _ _ refl refl e in
+    record { small = g.0; read = i.read ∙ g.1 }
+
+pub payload_ends : (radix : Radix) (digits left : List ℕ) (n : ℕ) → length left < 1 → IsPayloadRead radix digits left n → payload_of_digits radix digits ≡ Some n
+payload_ends radix digits [] n h i = i.read ∙ ap (λ (b : Bool). if true && b then Some n else None) (lt-ltb n (2 ^ 128) i.small)
+payload_ends radix digits (c ∷ left) n h i = absurd (omega (arith, h))

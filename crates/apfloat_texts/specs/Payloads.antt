@@ -1,0 +1,40 @@
+-- The bases of payloads and the specials of the code as those of the model.
+use Rattle.std.specs.Prelude.{◌≡◌, ℕ, ◌+◌, ◌*◌, ◌^◌, ◌<◌, Bool, false, true, not, ◌&&◌, ltb, if◌then◌else◌, List, take, drop, fold, Option, Some, None}
+use Rattle.apfloat_base.specs.Digits.{every, is_empty, digit_value}
+use Rattle.apfloat_base.specs.Specials as model
+use Rattle.apfloat_texts.specs.declared.payload.Radix.{Radix}
+use Rattle.apfloat_texts.specs.declared.payload.Radix.TheVariants.{Sixteen, Eight, Ten}
+use Rattle.apfloat_texts.specs.declared.special.Special.{Special}
+use Rattle.apfloat_texts.specs.declared.special.Special.TheVariants.{Infinity, Quiet, Signaling}
+
+abbrev pub radix_at : Radix → model.Radix
+radix_at Sixteen = model.sixteen
+radix_at Eight = model.eight
+radix_at Ten = model.ten
+
+-- a number with one more digit behind it, if it is below 2 ^ 128
+abbrev pub longer : model.Radix → ℕ → ℕ → ℕ
+longer radix n c = n * model.base_of radix + digit_value c
+
+abbrev pub next : model.Radix → ℕ → ℕ → Option ℕ
+next radix n c = if model.is_digit_of radix c && ltb (longer radix n c) (2 ^ 128) then Some (longer radix n c) else None
+
+-- the number whose first digits say n and whose other digits are these, if it is below 2 ^ 128
+abbrev pub read_on : model.Radix → ℕ → List ℕ → Option ℕ
+read_on radix n digits =
+    if every (model.is_digit_of radix) digits && ltb (fold (longer radix) n digits) (2 ^ 128) then Some (fold (longer radix) n digits) else None
+
+-- what is said of a payload by the digits that were read and by those that are left
+pub record IsPayloadRead (radix : model.Radix) (digits left : List ℕ) (number : ℕ) : Type 0 where
+  pub small : number < 2 ^ 128
+  pub read : model.payload_of_digits radix digits ≡ read_on radix number left
+
+-- the payload behind the name of a NaN
+abbrev pub named_payload : List ℕ → Option ℕ
+named_payload text = if model.is_nan_name (take 3 text) then model.payload_of (drop 3 text) else None
+
+abbrev pub meaning_at : Bool → Option Special → Option model.Meaning
+meaning_at negative None = None
+meaning_at negative (Some Infinity) = Some (model.infinity negative)
+meaning_at negative (Some (Quiet payload)) = Some (model.not_a_number negative false payload)
+meaning_at negative (Some (Signaling payload)) = Some (model.not_a_number negative true payload)

@@ -1,0 +1,116 @@
+//! Payloads of NaNs.
+
+ghost use Rattle.std.specs.Prelude.{◌≡◌, ◌<◌, ◌^◌};
+ghost use Rattle.apfloat_base.specs.Specials.{radix_of, behind_prefix, behind_plus, is_digit_of, base_of, payload_of_digits, plain_payload, payload_of};
+ghost use Rattle.apfloat_texts.specs.Payloads.{radix_at, next};
+
+use crate::characters::{digit_value, is_decimal, is_hexadecimal, is_octal};
+
+/// The base that a payload is written in.
+#[derive(Clone, Copy, Debug)]
+pub enum Radix {
+    Sixteen,
+    Eight,
+    Ten,
+}
+
+impl Radix {
+    ghost use Rattle.std.specs.Prelude.{◌≡◌};
+    ghost use Rattle.apfloat_base.specs.Specials.{is_digit_of, base_of};
+    ghost use Rattle.apfloat_texts.specs.Payloads.{radix_at};
+
+    /// The base as a number.
+    #[inline]
+    fn base(self) -> u128
+        ensures { result ≡ base_of (radix_at self) }
+    {
+        match self {
+            Radix::Sixteen => 16,
+            Radix::Eight => 8,
+            Radix::Ten => 10,
+        }
+    }
+
+    /// Whether the character is a digit of that base.
+    #[inline]
+    fn has_digit(self, byte: u8) -> bool
+        ensures { result ≡ is_digit_of (radix_at self) byte }
+    {
+        match self {
+            Radix::Sixteen => is_hexadecimal(byte),
+            Radix::Eight => is_octal(byte),
+            Radix::Ten => is_decimal(byte),
+        }
+    }
+}
+
+/// The base that the prefix shows, and what stands behind it: `0x`, or else a 0 with something behind it, or else none.
+fn split_radix(text: &[u8]) -> (Radix, &[u8])
+    ensures radix { radix_at result.0 ≡ radix_of text.now }
+    ensures behind { result.1.now ≡ behind_prefix (radix_of text.now) text.now }
+{
+    match text {
+        [b'0', b'x' | b'X', digits @ ..] => (Radix::Sixteen, digits),
+        [b'0', digits @ ..] if !digits.is_empty() => (Radix::Eight, digits),
+        _ => (Radix::Ten, text),
+    }
+}
+
+/// What stands behind the one plus that may stand there.
+fn skip_plus(text: &[u8]) -> &[u8]
+    ensures { result.now ≡ behind_plus text.now }
+{
+    match text {
+        [b'+', behind @ ..] => behind,
+        _ => text,
+    }
+}
+
+/// The number with one more digit behind it, if it is below 2^128.
+#[inline]
+fn with_digit(radix: Radix, number: u128, byte: u8) -> Option<u128>
+    ensures { result ≡ next (radix_at radix) number byte }
+{
+    if !radix.has_digit(byte) {
+        return None;
+    }
+    let digit = digit_value(byte);
+    number
+        .checked_mul(radix.base())?
+        .checked_add(u128::from(digit))
+}
+
+/// The number that one or more digits stand for, if it is below 2^128.
+fn number_of(radix: Radix, digits: &[u8]) -> Option<u128>
+    ensures { result ≡ payload_of_digits (radix_at radix) digits.now }
+{
+    if digits.is_empty() {
+        return None;
+    }
+    let mut number = 0;
+    let mut left = digits;
+    while let [byte, behind @ ..] = left {
+        number = with_digit(radix, number, *byte)?;
+        left = behind;
+    }
+    Some(number)
+}
+
+/// A payload without parentheses.
+fn plain(text: &[u8]) -> Option<u128>
+    ensures { result ≡ plain_payload text.now }
+{
+    let (radix, digits) = split_radix(text);
+    number_of(radix, skip_plus(digits))
+}
+
+/// What stands behind the name of a NaN: nothing, or a payload, plain or in one pair of parentheses.
+pub fn payload(text: &[u8]) -> Option<u128>
+    ensures { result ≡ payload_of text.now }
+{
+    match text {
+        [] => Some(0),
+        [b'(', inside @ .., b')'] => plain(inside),
+        _ => plain(text),
+    }
+}

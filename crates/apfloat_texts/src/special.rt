@@ -1,0 +1,72 @@
+//! The texts of infinities and NaNs.
+
+ghost use Rattle.std.specs.Prelude.{◌≡◌, Bool, true, false, drop, if◌then◌else◌};
+ghost use Rattle.apfloat_base.specs.Digits.{same, begins};
+ghost use Rattle.apfloat_base.specs.Specials.{is_infinity, is_minus, is_s, named_nan, special_meaning};
+ghost use Rattle.apfloat_texts.specs.Marks.{mark_at};
+ghost use Rattle.apfloat_texts.specs.Payloads.{named_payload, meaning_at};
+
+use crate::mark::Mark;
+use crate::payload::payload;
+
+/// An infinity or a NaN with its payload.
+#[derive(Clone, Copy, Debug)]
+pub enum Special {
+    Infinity,
+    Quiet(u128),
+    Signaling(u128),
+}
+
+/// Whether the text is that name.
+fn is_named(body: &[u8], name: &[u8]) -> bool
+    ensures { result ≡ same body.now name.now }
+{
+    body == name
+}
+
+/// Whether the text names an infinity, by the mark in front of it.
+fn names_infinity(mark: Mark, body: &[u8]) -> bool
+    ensures { result ≡ is_infinity (mark_at mark) body.now }
+{
+    match mark {
+        Mark::Unmarked => is_named(body, b"inf") || is_named(body, b"INFINITY"),
+        Mark::Plus => is_named(body, b"Inf"),
+        Mark::Minus => {
+            is_named(body, b"Inf") || is_named(body, b"inf") || is_named(body, b"INFINITY")
+        }
+    }
+}
+
+/// The payload behind the name of a NaN.
+fn payload_behind_name(text: &[u8]) -> Option<u128>
+    ensures { result ≡ named_payload text.now }
+{
+    match text {
+        [b'n', b'a', b'n', behind @ ..] => payload(behind),
+        [b'N', b'a', b'N', behind @ ..] => payload(behind),
+        _ => None,
+    }
+}
+
+/// The NaN of a text without a plus.
+fn nan(body: &[u8]) -> Option<Special>
+    ensures { (negative : Bool) → meaning_at negative result ≡ (if begins is_s body.now then named_nan negative true (drop 1 body.now) else named_nan negative false body.now) }
+{
+    match body {
+        [b's' | b'S', name @ ..] => Some(Special::Signaling(payload_behind_name(name)?)),
+        _ => Some(Special::Quiet(payload_behind_name(body)?)),
+    }
+}
+
+/// The infinity or the NaN of a text, by its mark and by what stands behind it.
+pub fn special_of(mark: Mark, body: &[u8]) -> Option<Special>
+    ensures { meaning_at (is_minus (mark_at mark)) result ≡ special_meaning (mark_at mark) body.now }
+{
+    if names_infinity(mark, body) {
+        return Some(Special::Infinity);
+    }
+    match mark {
+        Mark::Plus => None,
+        Mark::Unmarked | Mark::Minus => nan(body),
+    }
+}
