@@ -29,3 +29,4 @@ pub mod SingleScalings
 pub mod Totals
 pub mod NanMembers
 pub mod SumLaws
+pub mod ExactConversions

@@ -3,3 +3,4 @@ mod Wholes
 mod Limits
 mod Nexts
 mod Fractions
+mod ConvertedValues

@@ -1,0 +1,60 @@
+-- A finite datum whose number is one of the other format too comes through as it is.
+use Rattle.std.proofs.Common.{◌≡◌, ℕ, Bool, true, false, not, eqb, zero, suc, ◌+◌, ◌*◌, ◌^◌, ◌<◌, ◌≤◌, refl, sym, ap, ◌∙◌, subst, arith}
+use Rattle.std.proofs.lemmas.Bool.{ne_eqb}
+use Rattle.std.proofs.lemmas.Nat.{pow_pos}
+use Rattle.std.proofs.Math.Nat.{mul-pos}
+use Rattle.apfloat_base.specs.declared.kinds.Round.{Round}
+use Rattle.apfloat_base.specs.Format.{Format}
+use Rattle.apfloat_base.specs.Datum.{Datum, finite, infinite, nan}
+use Rattle.apfloat_base.specs.Rounding.{ok_bits, zero_sign, signed_quanta, IsDelivered}
+use Rattle.apfloat_base.specs.Members.{IsFiniteOf}
+use Rattle.apfloat_base.specs.Exact.{same_sign}
+use Rattle.apfloat_base.specs.Conversions.{IsConversion, IsConverted, IsConvertedNumber, IsExactlyConverted, loses_zero_sign, IsKept}
+use Rattle.apfloat_base.proofs.Deliveries.{signed_some}
+use Rattle.apfloat_base.proofs.Laws.{exact_delivered, delivered_once}
+
+same_itself : (b : Bool) → same_sign b b ≡ true
+same_itself true = refl
+same_itself false = refl
+
+-- neither number is zero where the other is not
+both_some : (m n p q : ℕ) → n * 2 ^ p ≡ m * 2 ^ q → 0 < m → 0 < n
+both_some m zero p q e l =
+    let a : 0 < m * 2 ^ q = mul-pos l (pow_pos q) in
+    absurd (omega arith)
+both_some m (suc n) p q e l = omega arith
+
+number_exactly : (f g : Format) (mode : Round) (b : Bool) (m n : ℕ) (value : Datum) (status : ℕ) (loses_info : Bool) → 0 < m → n * 2 ^ f.scale ≡ m * 2 ^ g.scale → IsFiniteOf g b n
+    → IsConvertedNumber f g mode b m value status loses_info → IsConverted (finite b n) ok_bits false value status loses_info
+number_exactly f g mode b m n value status loses_info l e t h =
+    let d = exact_delivered g mode b n (m * 2 ^ g.scale) (2 ^ f.scale) (pow_pos f.scale) t.on_grid t.within (sym e) in
+    let o = delivered_once g mode b (m * 2 ^ g.scale) (2 ^ f.scale) value (signed_quanta g.nonfinite b n) status ok_bits h.is_delivered d in
+    let p : 0 < n = both_some m n f.scale g.scale e l in
+    record {
+      value_is = o.0 ∙ signed_some g.nonfinite b n p;
+      status_is = o.1;
+      loses_is = h.loses_is ∙ ap (λ (s : ℕ). not (eqb s ok_bits)) o.1;
+    }
+
+zero_exactly : (g : Format) (b : Bool) (value : Datum) (status : ℕ) (loses_info : Bool) → b ≡ zero_sign g.nonfinite b
+    → IsKept (finite (zero_sign g.nonfinite b) 0) (loses_zero_sign g b) value status loses_info → IsConverted (finite b 0) ok_bits false value status loses_info
+zero_exactly g b value status loses_info z h =
+    let k : loses_zero_sign g b ≡ false = rw (← z) (ap not (same_itself b)) in
+    let r = rw k at h in
+    record { value_is = r.value_is ∙ ap (λ (s : Bool). finite s 0) (sym z); status_is = r.status_is; loses_is = r.loses_is }
+
+no_quanta : (n p q : ℕ) → n * 2 ^ p ≡ 0 * 2 ^ q → n ≡ 0
+no_quanta zero p q e = refl
+no_quanta (suc n) p q e =
+    let a : 0 < suc n * 2 ^ p = mul-pos (omega arith) (pow_pos p) in
+    absurd (omega arith)
+
+pub exactly_converted : (f g : Format) (mode : Round) (x value : Datum) (status : ℕ) (loses_info : Bool) → IsConversion f g mode x value status loses_info → IsExactlyConverted f g x value status loses_info
+exactly_converted f g mode (nan b s) value status loses_info h = tt
+exactly_converted f g mode (infinite b) value status loses_info h = tt
+exactly_converted f g mode (finite b zero) value status loses_info h = λ n e t.
+    let z = no_quanta n f.scale g.scale e in
+    rw z (zero_exactly g b value status loses_info (t.zero_has z) h)
+exactly_converted f g mode (finite b (suc m)) value status loses_info h = λ n e t.
+    let k : eqb (suc m) 0 ≡ false = ne_eqb (suc m) 0 (λ z. absurd (omega (arith, z))) in
+    number_exactly f g mode b (suc m) n value status loses_info (omega arith) e t (rw k at h)

@@ -1,0 +1,65 @@
+-- Conversions by the category of the value, and NaNs' significands.
+use Rattle.std.proofs.Common.{◌≡◌, ℕ, Bool, true, false, eqb, ◌+◌, ◌-◌, ◌*◌, ◌/◌, ◌%◌, ◌^◌, ◌<◌, ◌≤◌, refl, sym, ap, ◌∙◌, subst, arith}
+use Rattle.std.proofs.lemmas.Bool.{ne_eqb}
+use Rattle.std.proofs.lemmas.Nat.{pow_pos}
+use Rattle.std.proofs.Math.Nat.{mod-eq_of_lt, pow-le-pow_right}
+use Rattle.apfloat_base.specs.declared.kinds.Category.{Category}
+use Rattle.apfloat_base.specs.declared.kinds.Category.TheVariants.{Normal, Zero}
+use Rattle.apfloat_base.specs.declared.kinds.Round.{Round}
+use Rattle.apfloat_base.specs.declared.kinds.NonfiniteBehavior.{NonfiniteBehavior}
+use Rattle.apfloat_base.specs.declared.kinds.NonfiniteBehavior.TheVariants.{IEEE754, NanOnly, NanNegativeZero}
+use Rattle.apfloat_base.specs.Datum.{Datum, finite}
+use Rattle.apfloat_base.specs.Rounding.{zero_sign}
+use Rattle.apfloat_base.specs.Members.{IsNanSignificand}
+use Rattle.apfloat_base.specs.Conversions.{IsConversion, IsConvertedNumber, IsKept, loses_zero_sign}
+use Rattle.apfloat_base.proofs.Existence.{two_pos}
+use Rattle.apfloat_base.proofs.Losses.{twice_half}
+use Rattle.apfloat_base.proofs.KeptDigits.{fits_shifted}
+use Rattle.apfloat_unpacked.specs.declared.shape.Shape.{Shape}
+use Rattle.apfloat_unpacked.specs.declared.unpacked.Unpacked.{Unpacked}
+use Rattle.apfloat_unpacked.specs.Shapes.{format_at}
+use Rattle.apfloat_unpacked.specs.Stored.{IsStoredBy, datum_by, quanta_at}
+use Rattle.apfloat_unpacked.specs.StoredBack.{quanta_some}
+
+abbrev Says : Shape → Shape → Round → Category → Unpacked → Datum → ℕ → Bool → Type 0
+Says from into mode k x value status loses_info = IsConversion (format_at from) (format_at into) mode (datum_by k from x) value status loses_info
+
+number_converted : (from into : Shape) (mode : Round) (x : Unpacked) (value : Datum) (status : ℕ) (loses_info : Bool) → IsStoredBy Normal from x
+    → IsConvertedNumber (format_at from) (format_at into) mode x.negative (quanta_at from.min_exp x.significand x.exponent) value status loses_info
+    → Says from into mode Normal x value status loses_info
+number_converted from into mode x value status loses_info t h =
+    let p = quanta_some from x.significand x.exponent t in
+    rw (ne_eqb (quanta_at from.min_exp x.significand x.exponent) 0 (λ z. omega (arith, z, p))) h
+
+pub of_number : (from into : Shape) (mode : Round) (k : Category) (x : Unpacked) (value : Datum) (status : ℕ) (loses_info : Bool) → k ≡ Normal → IsStoredBy k from x
+    → IsConvertedNumber (format_at from) (format_at into) mode x.negative (quanta_at from.min_exp x.significand x.exponent) value status loses_info
+    → Says from into mode k x value status loses_info
+of_number from into mode k x value status loses_info e t h =
+    subst (λ (o : Category). IsStoredBy o from x → Says from into mode o x value status loses_info) (sym e)
+    (λ t. number_converted from into mode x value status loses_info t h) t
+
+pub of_zero : (from into : Shape) (mode : Round) (k : Category) (x : Unpacked) (value : Datum) (status : ℕ) (loses_info : Bool) → k ≡ Zero
+    → IsKept (finite (zero_sign into.nonfinite x.negative) 0) (loses_zero_sign (format_at into) x.negative) value status loses_info
+    → Says from into mode k x value status loses_info
+of_zero from into mode k x value status loses_info e h = subst (λ (o : Category). Says from into mode o x value status loses_info) (sym e) h
+
+-- ---- NaNs
+
+pub nan_fits : (kind : NonfiniteBehavior) (explicit : Bool) (precision s : ℕ) → 3 ≤ precision → IsNanSignificand kind explicit precision s → s < 2 ^ precision
+nan_fits IEEE754 false precision s l h =
+    let t = twice_half precision (omega arith) in
+    let a = h.1 in
+    omega arith
+nan_fits IEEE754 true precision s l h = h.0
+nan_fits NanOnly explicit precision s l h =
+    let t = twice_half precision (omega arith) in
+    let p : 0 < 2 ^ (precision - 1) = pow_pos (precision - 1) in
+    omega arith
+nan_fits NanNegativeZero explicit precision s l h = let p : 0 < 2 ^ precision = pow_pos precision in omega arith
+
+-- moved to the greater precision it still has a place
+pub moved_in : (s p q j : ℕ) → q ≤ 125 → p ≤ 125 → s < 2 ^ p → j ≡ q - p → s * 2 ^ j % 2 ^ 128 ≡ s * 2 ^ (q - p)
+moved_in s p q j l m h e =
+    let f : s * 2 ^ (q - p) < 2 ^ 125 = fits_shifted s p (q - p) 125 h (omega arith) in
+    let g : s * 2 ^ (q - p) < 2 ^ 128 = omega arith in
+    rw e (mod-eq_of_lt g)
