@@ -5,6 +5,8 @@
 
 #[cfg(test)]
 mod comparison;
+#[cfg(test)]
+mod example;
 pub mod formats;
 pub mod plain;
 #[cfg(test)]

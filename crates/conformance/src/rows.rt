@@ -5,6 +5,7 @@ mod classes;
 mod constants;
 mod texts;
 mod whole_numbers;
+mod whole_numbers_in_other_formats;
 
 use rustc_apfloat::Round;
 

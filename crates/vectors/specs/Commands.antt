@@ -4,7 +4,7 @@ use Rattle.rustc_apfloat.specs.declared.Round.{Round}
 use Rattle.rustc_apfloat.specs.declared.Round.TheVariants.{NearestTiesToEven, TowardPositive, TowardNegative, TowardZero, NearestTiesToAway}
 use Rattle.rustc_apfloat.specs.Digits.{same, every, is_empty, is_decimal, number}
 use Rattle.rustc_apfloat.specs.Lawful.{Constants}
-use Rattle.rustc_apfloat.specs.Formats.{half_constants, single_constants, double_constants}
+use Rattle.rustc_apfloat.specs.Formats.{half_constants, single_constants, double_constants, quad_constants, bfloat_constants, e5m2_constants, e4m3fn_constants, e4m3fnuz_constants, x87_constants}
 
 -- ---- the words that are known
 
@@ -13,6 +13,12 @@ formats =
     (codes "half", half_constants)
     ∷ (codes "single", single_constants)
     ∷ (codes "double", double_constants)
+    ∷ (codes "quad", quad_constants)
+    ∷ (codes "bfloat", bfloat_constants)
+    ∷ (codes "e5m2", e5m2_constants)
+    ∷ (codes "e4m3fn", e4m3fn_constants)
+    ∷ (codes "e4m3fnuz", e4m3fnuz_constants)
+    ∷ (codes "x87", x87_constants)
     ∷ []
 
 pub data Operation : Type 0 where

@@ -7,7 +7,10 @@ ghost use Rattle.vectors.specs.Commands.{whole_number, with_format, with_mode, w
 ghost use Rattle.vectors.specs.Replies.{IsLineOf, IsOnly, IsReply, IsReplyTo, digit_count, reply_of};
 
 use crate::words::{mode_named, number_of};
-use rustc_apfloat::ieee::{DoubleS, HalfS, IeeeFloat, Semantics, SingleS};
+use rustc_apfloat::ieee::{
+    BFloatS, DoubleS, Float8E4M3FNS, Float8E4M3FNUZS, Float8E5M2S, HalfS, IeeeFloat, QuadS,
+    Semantics, SingleS, X87DoubleExtendedS,
+};
 use rustc_apfloat::{Float, Status, StatusAnd};
 
 /// The reply to a command.
@@ -54,6 +57,12 @@ fn answer<'a>(
         "half" => answer_in::<HalfS>(operation, mode, operands),
         "single" => answer_in::<SingleS>(operation, mode, operands),
         "double" => answer_in::<DoubleS>(operation, mode, operands),
+        "quad" => answer_in::<QuadS>(operation, mode, operands),
+        "bfloat" => answer_in::<BFloatS>(operation, mode, operands),
+        "e5m2" => answer_in::<Float8E5M2S>(operation, mode, operands),
+        "e4m3fn" => answer_in::<Float8E4M3FNS>(operation, mode, operands),
+        "e4m3fnuz" => answer_in::<Float8E4M3FNUZS>(operation, mode, operands),
+        "x87" => answer_in::<X87DoubleExtendedS>(operation, mode, operands),
         unknown => Reply::Refused(unknown),
     }
 }

@@ -30,4 +30,6 @@ fn words_of_system(rt: &(impl Env + AllocGlobal)) -> io::Result<Vec<String>> {
 }
 
 #[cfg(test)]
+mod samples;
+#[cfg(test)]
 mod tests;

@@ -1,0 +1,88 @@
+//! The example of the README.
+
+ghost use Rattle.std.specs.Prelude.{◌-◌, ◌^◌, pos, negsuc, true, false, refl};
+ghost use Rattle.apfloat_base.specs.declared.kinds.NonfiniteBehavior.TheVariants.{IEEE754};
+ghost use Rattle.rustc_apfloat.specs.LawTest.{lawful_from_test};
+
+use rustc_apfloat::ieee::{Half, HalfS, IeeeFloat, NonfiniteBehavior, Semantics};
+use rustc_apfloat::{ExpInt, Flags, Float, Round, Status};
+
+/// A format of a user's own: eight bits, four of them the exponent, with infinities as IEEE 754 has them.
+#[derive(Clone, Copy)]
+struct EightS;
+
+impl Semantics for EightS {
+    const BITS: usize = 8;
+
+    const EXP_BITS: usize = 4;
+
+    const PRECISION: usize = 4;
+
+    const NONFINITE_BEHAVIOR: NonfiniteBehavior = NonfiniteBehavior::IEEE754;
+
+    const MAX_EXP: ExpInt = 7;
+
+    const IEEE_MAX_EXP: ExpInt = 7;
+
+    const MIN_EXP: ExpInt = -6;
+
+    const IEEE_MIN_EXP: ExpInt = -6;
+
+    const NAN_SIGNIFICAND_BASE: u128 = 0;
+
+    const NAN_PAYLOAD_MASK: u128 = (1 << 3) - 1;
+
+    const QNAN_SIGNIFICAND: u128 = 1 << 2;
+
+    const EXPLICIT_INTEGER_BIT: bool = false;
+
+    const TINY_BEFORE_ROUNDING: bool = false;
+
+    ghost BITS = { 8 };
+
+    ghost EXP_BITS = { 4 };
+
+    ghost PRECISION = { 4 };
+
+    ghost NONFINITE_BEHAVIOR = { IEEE754 };
+
+    ghost MAX_EXP = { pos 7 };
+
+    ghost IEEE_MAX_EXP = { pos 7 };
+
+    ghost MIN_EXP = { negsuc 5 };
+
+    ghost IEEE_MIN_EXP = { negsuc 5 };
+
+    ghost NAN_SIGNIFICAND_BASE = { 0 };
+
+    ghost NAN_PAYLOAD_MASK = { 2 ^ 3 - 1 };
+
+    ghost QNAN_SIGNIFICAND = { 2 ^ 2 };
+
+    ghost EXPLICIT_INTEGER_BIT = { false };
+
+    ghost TINY_BEFORE_ROUNDING = { false };
+
+    ghost lawful = { lawful_from_test _ refl };
+}
+
+type Eight = IeeeFloat<EightS>;
+
+#[test]
+fn whole_numbers_in_binary16(rt: HostRuntime) {
+    let answer = Half::from_u128_r(464, Round::NearestTiesToEven);
+    assert_eq!(rt; HalfS::to_bits(answer.value), 0x5f40);
+    assert_eq!(rt; answer.status, Status::OK);
+}
+
+#[test]
+fn whole_numbers_in_a_format_of_a_users_own(rt: HostRuntime) {
+    let nearest = Eight::from_u128(250);
+    assert_eq!(rt; nearest.value.to_bits(), 0x78);
+    assert_eq!(rt; nearest.status, Status::OVERFLOW.union(Status::INEXACT));
+
+    let below = Eight::from_u128_r(250, Round::TowardZero);
+    assert_eq!(rt; below.value.to_bits(), 0x77);
+    assert_eq!(rt; below.status, Status::INEXACT);
+}
