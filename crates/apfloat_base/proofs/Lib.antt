@@ -30,3 +30,4 @@ pub mod Totals
 pub mod NanMembers
 pub mod SumLaws
 pub mod ExactConversions
+pub mod NextBack

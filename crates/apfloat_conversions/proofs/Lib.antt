@@ -4,3 +4,4 @@ mod Limits
 mod Nexts
 mod Fractions
 mod ConvertedValues
+mod Steps

@@ -141,7 +141,7 @@ down_le (negsuc k) n h = let l : k + 1 ≤ n = omega (arith, ints) in omega (ari
 pub operand_down : (precision : ℕ) (min_exp max_exp x : ℤ) → 3 ≤ precision → ((min_exp +ℤ pos 1) -ℤ pos precision) ≤ℤ x → down (x -ℤ min_exp) ≤ precision - 1
 operand_down precision min_exp max_exp x t l = down_le (x -ℤ min_exp) (precision - 1) (omega (arith, ints))
 
-room_cases : (x m z : ℤ) → z ≡ (m -ℤ x) → x ≤ℤ m → ((x +ℤ pos 1) ≤ℤ m) ⊎ (x ≡ m)
+pub room_cases : (x m z : ℤ) → z ≡ (m -ℤ x) → x ≤ℤ m → ((x +ℤ pos 1) ≤ℤ m) ⊎ (x ≡ m)
 room_cases x m (pos zero) e l = inr (omega (arith, ints, e, l))
 room_cases x m (pos (suc k)) e l = inl (omega (arith, ints, e, l))
 room_cases x m (negsuc k) e l = absurd (omega (arith, ints, e, l))

@@ -36,6 +36,9 @@ exponent_word s m e law n =
     let o = n.operand in
     to_z-of_z w32 e (fits_in w32 e (omega (arith, ints, law, o)))
 
+pub greatest_word : (s : Shape) → IsShape s → to_z w32 (of_z w32 s.max_exp) ≡ s.max_exp
+greatest_word s law = to_z-of_z w32 s.max_exp (fits_in w32 s.max_exp (omega (arith, ints, law)))
+
 -- ---- times a power of two
 
 abbrev pub DeliversOf : Shape → Round → Bool → ℕ → ℤ → Datum → ℕ → Type 0

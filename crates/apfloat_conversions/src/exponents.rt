@@ -18,3 +18,21 @@ pub fn last_exponent(shape: Shape, exponent: ExpInt) -> ExpInt
 {
     exponent - (shape.precision - 1) as ExpInt
 }
+
+/// The exponent one place higher.
+#[inline]
+pub fn raised(exponent: ExpInt) -> ExpInt
+    requires { exponent ≤ℤ pos 8388608 }
+    ensures { result ≡ exponent +ℤ pos 1 }
+{
+    exponent + 1
+}
+
+/// The exponent one place lower.
+#[inline]
+pub fn lowered(exponent: ExpInt) -> ExpInt
+    requires { neg_ℤ (pos 8388608) ≤ℤ exponent }
+    ensures { result ≡ exponent -ℤ pos 1 }
+{
+    exponent - 1
+}

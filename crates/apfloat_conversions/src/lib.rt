@@ -8,5 +8,6 @@ pub mod exponents;
 pub mod formats;
 pub mod integers;
 pub mod integral;
+pub mod neighbours;
 pub mod scaling;
 pub mod whole;

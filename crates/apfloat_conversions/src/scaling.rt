@@ -9,7 +9,7 @@ ghost use Rattle.apfloat_base.specs.Scaling.{IsScaling};
 ghost use Rattle.apfloat_unpacked.specs.Shapes.{IsShape, format_at};
 ghost use Rattle.apfloat_unpacked.specs.Stored.{IsStored, IsNormal, quanta_at, datum_at};
 
-use crate::exponents::last_exponent;
+use crate::exponents::{last_exponent, raised};
 use apfloat_base::sig::Loss;
 use apfloat_base::{Category, ExpInt, IEK_INF, IEK_NAN, IEK_ZERO, Round, StatusAnd};
 use apfloat_unpacked::nans::propagated;
@@ -102,15 +102,6 @@ pub fn ilogb(shape: Shape, x: Unpacked) -> ExpInt
 pub struct Fraction {
     pub value: Unpacked,
     pub exponent: ExpInt,
-}
-
-/// The exponent one place higher.
-#[inline]
-pub fn raised(exponent: ExpInt) -> ExpInt
-    requires { exponent ≤ℤ pos 8388608 }
-    ensures { result ≡ exponent +ℤ pos 1 }
-{
-    exponent + 1
 }
 
 /// The fraction of a finite number that is not zero, and its exponent.

@@ -1,0 +1,83 @@
+use Rattle.std.proofs.Common.{◌≡◌, ℕ, ◌+◌, ◌-◌, ◌^◌, ◌<◌, ◌≤◌, ℤ, pos, ◌+ℤ◌, ◌-ℤ◌, ◌≤ℤ◌, to_z, of_z, w32, arith, ap, subst, ◌∙◌, sym}
+use Rattle.std.proofs.lemmas.Int.{to_z-of_z}
+use Rattle.apfloat_base.proofs.Losses.{twice_half}
+use Rattle.apfloat_unpacked.specs.Stored.{quanta_at}
+use Rattle.apfloat_conversions.proofs.Operands.{exponent_word}
+use Rattle.apfloat_conversions.proofs.Nexts.{room_below}
+use Rattle.apfloat_conversions.proofs.Steps.{IsBefore, step_below, before_stays, before_lowers, before_stored, before_is, before_least}
+use Rattle.apfloat_conversions.proofs.neighbours.next_less.Goals as goal
+
+pub overflow_sub-result : goal.overflow_sub-result
+overflow_sub-result c =
+    let s = c.args.shape in
+    let ex = exponent_word s c.args.x.significand c.args.x.exponent c.requires.lawful c.requires.normal in
+    step_below s c.args.x.significand c.step.result c.args.x.exponent c.requires.lawful c.requires.normal.operand.least c.requires.normal.operand.full (rw ex at c.step.ensures)
+
+stays : (c : goal.After-struct_told-then-x-integer_bit-1) → IsBefore c.args.shape (quanta_at c.args.shape.min_exp c.args.x.significand c.args.x.exponent) (c.args.x.significand - c.step.result) c.args.x.exponent
+stays c =
+    let s = c.args.shape in
+    let ex = exponent_word s c.args.x.significand c.args.x.exponent c.requires.lawful c.requires.normal in
+    let t = c.if-x-integer_bit.true in
+    let e = c.integer_bit.ensures in
+    before_stays s c.args.x.significand c.step.result c.args.x.exponent c.requires.lawful c.requires.normal (rw ex at c.step.ensures) (omega (arith, t, e))
+
+pub returns-then-x-integer_bit-clause-stored : goal.returns-then-x-integer_bit-clause-stored
+returns-then-x-integer_bit-clause-stored c =
+    let s = c.args.shape in
+    let ex = exponent_word s c.args.x.significand c.args.x.exponent c.requires.lawful c.requires.normal in
+    rw ex (before_stored s (quanta_at s.min_exp c.args.x.significand c.args.x.exponent) (c.args.x.significand - c.step.result) c.args.x.exponent c.requires.normal.within (stays c))
+
+pub returns-then-x-integer_bit-clause-next : goal.returns-then-x-integer_bit-clause-next
+returns-then-x-integer_bit-clause-next c =
+    let s = c.args.shape in
+    let ex = exponent_word s c.args.x.significand c.args.x.exponent c.requires.lawful c.requires.normal in
+    rw ex (before_is s (quanta_at s.min_exp c.args.x.significand c.args.x.exponent) (c.args.x.significand - c.step.result) c.args.x.exponent c.requires.normal.within (stays c))
+
+-- a significand that is not above the integer bit is it
+is_half : (m bit half : ℕ) → m ≤ bit → bit ≡ half → half ≤ m → m ≡ half
+is_half m bit half f e g = omega arith
+
+pub returns-then-x-least_exponent-clause-next : goal.returns-then-x-least_exponent-clause-next
+returns-then-x-least_exponent-clause-next c =
+    let s = c.args.shape in
+    let ex = exponent_word s c.args.x.significand c.args.x.exponent c.requires.lawful c.requires.normal in
+    let el : to_z w32 (of_z w32 c.least_exponent.result) ≡ c.least_exponent.result = to_z-of_z w32 c.least_exponent.result (record { sfits = c.least_exponent.type_inv }) in
+    let i : c.args.x.exponent ≡ ((s.min_exp +ℤ pos 1) -ℤ pos s.precision) = sym ex ∙ ap (to_z w32) c.if-x-least_exponent.true ∙ el ∙ c.least_exponent.ensures in
+    rw c.zero_of.ensures.datum (before_least s c.args.x.significand c.args.x.exponent c.requires.lawful c.requires.normal (is_half c.args.x.significand c.integer_bit.result (2 ^ (s.precision - 1)) c.if-x-integer_bit.false c.integer_bit.ensures c.requires.normal.operand.full) i)
+
+low : (c : goal.After-step-2) → ((c.args.shape.min_exp +ℤ pos 1) -ℤ pos c.args.shape.precision) ≤ℤ c.lowered-exponent.result
+low c =
+    let s = c.args.shape in
+    let ex = exponent_word s c.args.x.significand c.args.x.exponent c.requires.lawful c.requires.normal in
+    let r = rw ex at c.lowered-exponent.ensures in
+    let f = c.if-x-least_exponent.false in
+    let n = c.least_exponent.ensures in
+    subst (λ (z : ℤ). ((s.min_exp +ℤ pos 1) -ℤ pos s.precision) ≤ℤ z) (sym r) (room_below ((s.min_exp +ℤ pos 1) -ℤ pos s.precision) c.args.x.exponent c.requires.normal.operand.least (λ e. f (ap (of_z w32) (e ∙ sym n))))
+
+pub overflow_sub-result-2 : goal.overflow_sub-result-2
+overflow_sub-result-2 c =
+    let s = c.args.shape in
+    let three = c.requires.lawful.precision_low in
+    let ey : to_z w32 (of_z w32 c.lowered-exponent.result) ≡ c.lowered-exponent.result = to_z-of_z w32 c.lowered-exponent.result (record { sfits = c.lowered-exponent.type_inv }) in
+    let p = c.power_of_two.ensures in
+    let t = twice_half s.precision (omega (arith, three)) in
+    step_below s c.power_of_two.result c.step-2.result c.lowered-exponent.result c.requires.lawful (low c) (omega (arith, p, t)) (rw ey at c.step-2.ensures)
+
+lowers : (c : goal.After-step-2) → IsBefore c.args.shape (quanta_at c.args.shape.min_exp c.args.x.significand c.args.x.exponent) (c.power_of_two.result - c.step-2.result) c.lowered-exponent.result
+lowers c =
+    let s = c.args.shape in
+    let ex = exponent_word s c.args.x.significand c.args.x.exponent c.requires.lawful c.requires.normal in
+    let ey : to_z w32 (of_z w32 c.lowered-exponent.result) ≡ c.lowered-exponent.result = to_z-of_z w32 c.lowered-exponent.result (record { sfits = c.lowered-exponent.type_inv }) in
+    before_lowers s c.args.x.significand c.power_of_two.result c.step-2.result c.args.x.exponent c.lowered-exponent.result c.requires.lawful c.requires.normal (is_half c.args.x.significand c.integer_bit.result (2 ^ (s.precision - 1)) c.if-x-integer_bit.false c.integer_bit.ensures c.requires.normal.operand.full) c.power_of_two.ensures (rw ex at c.lowered-exponent.ensures) (low c) (rw ey at c.step-2.ensures)
+
+pub returns-clause-stored : goal.returns-clause-stored
+returns-clause-stored c =
+    let s = c.args.shape in
+    let ey : to_z w32 (of_z w32 c.lowered-exponent.result) ≡ c.lowered-exponent.result = to_z-of_z w32 c.lowered-exponent.result (record { sfits = c.lowered-exponent.type_inv }) in
+    rw ey (before_stored s (quanta_at s.min_exp c.args.x.significand c.args.x.exponent) (c.power_of_two.result - c.step-2.result) c.lowered-exponent.result c.requires.normal.within (lowers c))
+
+pub returns-clause-next : goal.returns-clause-next
+returns-clause-next c =
+    let s = c.args.shape in
+    let ey : to_z w32 (of_z w32 c.lowered-exponent.result) ≡ c.lowered-exponent.result = to_z-of_z w32 c.lowered-exponent.result (record { sfits = c.lowered-exponent.type_inv }) in
+    rw ey (before_is s (quanta_at s.min_exp c.args.x.significand c.args.x.exponent) (c.power_of_two.result - c.step-2.result) c.lowered-exponent.result c.requires.normal.within (lowers c))

@@ -1,0 +1,162 @@
+//! The next value up.
+
+ghost use Rattle.std.specs.Prelude.{◌≡◌, ◌^◌, ◌<◌, eqb, pos, ◌+ℤ◌, ◌-ℤ◌, ◌≤ℤ◌};
+ghost use Rattle.apfloat_base.specs.declared.kinds.Category.TheVariants.{NaN};
+ghost use Rattle.apfloat_base.specs.Exact.{down};
+ghost use Rattle.apfloat_base.specs.Flags.{bits_of};
+ghost use Rattle.apfloat_base.specs.Format.{largest};
+ghost use Rattle.apfloat_base.specs.NextUp.{IsNextGreater, IsNextLess, IsNextOfNumber, IsNextUp};
+ghost use Rattle.apfloat_unpacked.specs.Shapes.{IsShape, format_at};
+ghost use Rattle.apfloat_unpacked.specs.Stored.{IsStored, IsNormal, quanta_at, datum_at};
+
+use crate::exponents::{lowered, raised};
+use apfloat_base::sig::{power_of_two, steps_between};
+use apfloat_base::{Category, ExpInt, Status, StatusAnd};
+use apfloat_unpacked::nans::{quiet_significand, signals};
+use apfloat_unpacked::shape::Shape;
+use apfloat_unpacked::unpacked::{Unpacked, infinity_of, largest_of, nan_of, smallest_of, zero_of};
+
+/// How far apart neighbours are at an exponent, in units of a significand's last digit: one, or a quantum.
+#[inline]
+fn step(shape: Shape, exponent: ExpInt) -> u128
+    requires lawful { IsShape shape }
+    requires least { ((shape.min_exp +ℤ pos 1) -ℤ pos shape.precision) ≤ℤ exponent }
+    requires greatest { exponent ≤ℤ shape.max_exp }
+    ensures { result ≡ 2 ^ down (exponent -ℤ shape.min_exp) }
+{
+    if exponent >= shape.min_exp {
+        1
+    } else {
+        power_of_two(steps_between(shape.min_exp, exponent))
+    }
+}
+
+/// The exponent of one quantum.
+#[inline]
+fn least_exponent(shape: Shape) -> ExpInt
+    requires { IsShape shape }
+    ensures { result ≡ (shape.min_exp +ℤ pos 1) -ℤ pos shape.precision }
+{
+    shape.min_exp + 1 - shape.precision as ExpInt
+}
+
+/// Whether the magnitude is the largest.
+#[inline]
+fn is_largest(shape: Shape, x: Unpacked) -> bool
+    requires lawful { IsShape shape }
+    requires normal { IsNormal shape x.significand x.exponent }
+    ensures { result ≡ eqb (quanta_at shape.min_exp x.significand x.exponent) (largest (format_at shape)) }
+{
+    if x.exponent == shape.max_exp {
+        x.significand == shape.greatest_significand()
+    } else {
+        false
+    }
+}
+
+/// The least number that is greater than a positive one below the largest.
+#[inline]
+fn next_greater(shape: Shape, x: Unpacked) -> Unpacked
+    requires lawful { IsShape shape }
+    requires normal { IsNormal shape x.significand x.exponent }
+    requires below { quanta_at shape.min_exp x.significand x.exponent < largest (format_at shape) }
+    ensures stored { IsStored shape result }
+    ensures next { IsNextGreater (format_at shape) (quanta_at shape.min_exp x.significand x.exponent) (datum_at shape result) 0 }
+{
+    let significand = x.significand + step(shape, x.exponent);
+    if significand < power_of_two(shape.precision) {
+        Unpacked {
+            significand,
+            exponent: x.exponent,
+            category: Category::Normal,
+            negative: false,
+        }
+    } else {
+        Unpacked {
+            significand: shape.integer_bit(),
+            exponent: raised(x.exponent),
+            category: Category::Normal,
+            negative: false,
+        }
+    }
+}
+
+/// The greatest magnitude that is less than that of a negative number, with its sign.
+#[inline]
+fn next_less(shape: Shape, x: Unpacked) -> Unpacked
+    requires lawful { IsShape shape }
+    requires normal { IsNormal shape x.significand x.exponent }
+    ensures stored { IsStored shape result }
+    ensures next { IsNextLess (format_at shape) (quanta_at shape.min_exp x.significand x.exponent) (datum_at shape result) 0 }
+{
+    if x.significand > shape.integer_bit() {
+        return Unpacked {
+            significand: x.significand - step(shape, x.exponent),
+            exponent: x.exponent,
+            category: Category::Normal,
+            negative: true,
+        };
+    }
+    if x.exponent == least_exponent(shape) {
+        return zero_of(shape, true);
+    }
+    let exponent = lowered(x.exponent);
+    Unpacked {
+        significand: power_of_two(shape.precision) - step(shape, exponent),
+        exponent,
+        category: Category::Normal,
+        negative: true,
+    }
+}
+
+/// The next value up from a finite number that is not zero.
+#[inline]
+fn next_of_number(shape: Shape, x: Unpacked) -> Unpacked
+    requires lawful { IsShape shape }
+    requires normal { IsNormal shape x.significand x.exponent }
+    ensures stored { IsStored shape result }
+    ensures next { IsNextOfNumber (format_at shape) x.negative (quanta_at shape.min_exp x.significand x.exponent) (datum_at shape result) 0 }
+{
+    if x.negative {
+        next_less(shape, x)
+    } else if is_largest(shape, x) {
+        infinity_of(shape, false)
+    } else {
+        next_greater(shape, x)
+    }
+}
+
+/// What the next value up from a NaN is: it, or where it signals the quiet one without a payload.
+#[inline]
+fn next_of_nan(shape: Shape, x: Unpacked) -> StatusAnd<Unpacked>
+    requires lawful { IsShape shape }
+    requires stored { IsStored shape x }
+    requires nan { x.category ≡ NaN }
+    ensures stored { IsStored shape result.value }
+    ensures next { IsNextUp (format_at shape) (datum_at shape x) (datum_at shape result.value) (bits_of result.status) }
+{
+    if signals(shape, x.significand) {
+        Status::INVALID_OP.and(nan_of(shape, x.negative, quiet_significand(shape, 0)))
+    } else {
+        Status::OK.and(x)
+    }
+}
+
+/// The least value that compares greater (IEEE 754-2008 5.3.1, nextUp).
+pub fn next_up(shape: Shape, x: Unpacked) -> StatusAnd<Unpacked>
+    requires lawful { IsShape shape }
+    requires stored { IsStored shape x }
+    ensures stored { IsStored shape result.value }
+    ensures next { IsNextUp (format_at shape) (datum_at shape x) (datum_at shape result.value) (bits_of result.status) }
+{
+    match x.category {
+        Category::Normal => Status::OK.and(next_of_number(shape, x)),
+        Category::Zero => Status::OK.and(smallest_of(shape)),
+        Category::Infinity => Status::OK.and(if x.negative {
+            largest_of(shape, true)
+        } else {
+            x
+        }),
+        Category::NaN => next_of_nan(shape, x),
+    }
+}
