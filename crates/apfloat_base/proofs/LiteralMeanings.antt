@@ -1,11 +1,11 @@
 -- What a hexadecimal text without a fault means, by its parts.
 use mathlib.Core.Bool.{Bool}
-use Rattle.std.proofs.Common.{◌≡◌, ◌⊎◌, ℕ, refl, sym, ap, ◌∙◌, inl, inr, List, ◌∷◌, drop, codes, Option, Some, None, ℤ}
+use Rattle.std.proofs.Common.{◌≡◌, ◌⊎◌, ℕ, true, refl, inl, inr, ⊎_elim, List, ◌++◌, drop, codes, Option, None, ℤ}
 use Rattle.apfloat_base.specs.Specials.{hexadecimal, mark_of, behind_mark, is_minus}
-use Rattle.apfloat_base.specs.Texts.{IsHexadecimal, Means, behind_prefix_fault}
+use Rattle.apfloat_base.specs.Texts.{IsHexadecimal, Means, begins_literal, behind_prefix_fault}
 use Rattle.apfloat_base.specs.Literals.{digits_number, places_behind_dot, exponent_text, exponent_number}
 use Rattle.apfloat_base.proofs.OneMeaning.{literal_of_hexadecimal, IsLiteral}
-use Rattle.apfloat_base.proofs.EachText.{literal_from, IsAnyHexadecimal}
+use Rattle.apfloat_base.proofs.EachText.{literal_from, begun_of, IsAnyHexadecimal}
 
 by_parts : (body rest : List ℕ) → drop 2 body ≡ rest → IsAnyHexadecimal body
     → IsHexadecimal body (digits_number rest) (places_behind_dot rest) (exponent_number (exponent_text rest))
@@ -15,9 +15,12 @@ by_parts body rest e x =
     let i : IsHexadecimal body x.h x.f x.e = x.is in
     rw (← m.h_is, ← m.f_is, ← m.e_is) i
 
-pub literal_meaning : (text rest : List ℕ) → (behind_mark text ≡ 48 ∷ 120 ∷ rest) ⊎ (behind_mark text ≡ 48 ∷ 88 ∷ rest) → behind_prefix_fault rest ≡ None
-    → Means text (hexadecimal (is_minus (mark_of text)) (digits_number rest) (places_behind_dot rest) (exponent_number (exponent_text rest)))
-literal_meaning text rest (inl p) n =
-    (refl, by_parts (behind_mark text) rest (ap (λ (t : List ℕ). drop 2 t) p) (literal_from (behind_mark text) (codes "0x") rest p (inl refl) n))
-literal_meaning text rest (inr p) n =
-    (refl, by_parts (behind_mark text) rest (ap (λ (t : List ℕ). drop 2 t) p) (literal_from (behind_mark text) (codes "0X") rest p (inr refl) n))
+pub literal_meaning : (text : List ℕ) → begins_literal (behind_mark text) ≡ true → behind_prefix_fault (drop 2 (behind_mark text)) ≡ None
+    → Means text (hexadecimal (is_minus (mark_of text)) (digits_number (drop 2 (behind_mark text))) (places_behind_dot (drop 2 (behind_mark text))) (exponent_number (exponent_text (drop 2 (behind_mark text)))))
+literal_meaning text b n =
+    let body = behind_mark text in
+    let rest = drop 2 body in
+    ⊎_elim
+    (λ (p : body ≡ codes "0x" ++ rest). (refl, by_parts body rest refl (literal_from body (codes "0x") rest p (inl refl) n)))
+    (λ (p : body ≡ codes "0X" ++ rest). (refl, by_parts body rest refl (literal_from body (codes "0X") rest p (inr refl) n)))
+    (begun_of body b)

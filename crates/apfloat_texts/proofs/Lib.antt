@@ -5,3 +5,4 @@ pub mod ReadNumbers
 pub mod Readings
 pub mod Payloads
 pub mod Parentheses
+pub mod TextReadings

@@ -4,3 +4,4 @@ pub mod Scans
 pub mod Saturation
 pub mod Literals
 pub mod Payloads
+pub mod TextsRead

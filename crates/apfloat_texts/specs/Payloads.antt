@@ -33,8 +33,11 @@ pub record IsPayloadRead (radix : model.Radix) (digits left : List ℕ) (number 
 abbrev pub named_payload : List ℕ → Option ℕ
 named_payload text = if model.is_nan_name (take 3 text) then model.payload_of (drop 3 text) else None
 
+abbrev pub meaning_of : Bool → Special → model.Meaning
+meaning_of negative Infinity = model.infinity negative
+meaning_of negative (Quiet payload) = model.not_a_number negative false payload
+meaning_of negative (Signaling payload) = model.not_a_number negative true payload
+
 abbrev pub meaning_at : Bool → Option Special → Option model.Meaning
 meaning_at negative None = None
-meaning_at negative (Some Infinity) = Some (model.infinity negative)
-meaning_at negative (Some (Quiet payload)) = Some (model.not_a_number negative false payload)
-meaning_at negative (Some (Signaling payload)) = Some (model.not_a_number negative true payload)
+meaning_at negative (Some special) = Some (meaning_of negative special)

@@ -12,5 +12,8 @@ mod literal;
 mod mark;
 mod number;
 mod payload;
+mod reading;
 mod significand;
 mod special;
+
+pub use reading::read;

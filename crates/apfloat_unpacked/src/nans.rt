@@ -138,7 +138,7 @@ fn with_payload(shape: Shape, significand: u128) -> u128
 
 /// The significand of the signaling NaN with that payload.
 #[inline]
-fn signaling_significand(shape: Shape, payload: u128) -> u128
+pub fn signaling_significand(shape: Shape, payload: u128) -> u128
     requires { IsShape shape }
     ensures value { result ≡ signaling_significand (format_at shape) payload }
     ensures nan { IsNanSignificand shape.nonfinite shape.explicit_integer_bit shape.precision result }

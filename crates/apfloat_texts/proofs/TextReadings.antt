@@ -1,0 +1,70 @@
+-- The reading of a text by its special or by its literal.
+use Rattle.std.proofs.Common.{◌≡◌, ℕ, Bool, true, false, refl, sym, ap, ◌∙◌, subst, List, [], ◌∷◌, drop, Option, Some, None}
+use Rattle.std.specs.Prelude.{Result, Ok, Err, MatchResult}
+use Rattle.apfloat_base.specs.declared.kinds.Round.{Round}
+use Rattle.apfloat_base.specs.declared.status.StatusAnd.{StatusAnd}
+use Rattle.apfloat_base.specs.Flags.{bits_of}
+use Rattle.apfloat_base.specs.Format.{Format}
+use Rattle.apfloat_base.specs.Datum.{Datum}
+use Rattle.apfloat_base.specs.Digits.{is_empty}
+use Rattle.apfloat_base.specs.Specials.{hexadecimal, mark_of, behind_mark, is_minus, special_of}
+use Rattle.apfloat_base.specs.Texts.{Means, begins_literal, behind_prefix_fault, fault_of}
+use Rattle.apfloat_base.specs.Literals.{digits_number, places_behind_dot, exponent_text, exponent_number}
+use Rattle.apfloat_base.specs.Readings.{IsMeant, IsReading}
+use Rattle.apfloat_base.proofs.LiteralMeanings.{literal_meaning}
+use Rattle.apfloat_unpacked.specs.declared.shape.Shape.{Shape}
+use Rattle.apfloat_unpacked.specs.declared.unpacked.Unpacked.{Unpacked}
+use Rattle.apfloat_unpacked.specs.Shapes.{format_at}
+use Rattle.apfloat_unpacked.specs.Stored.{IsStored, datum_at}
+use Rattle.apfloat_texts.specs.declared.fault.Fault.{Fault}
+use Rattle.apfloat_texts.specs.declared.special.Special.{Special}
+use Rattle.apfloat_texts.specs.declared.special.Special.TheVariants.{Infinity, Quiet, Signaling}
+use Rattle.apfloat_texts.specs.Faults.{fault_at}
+use Rattle.apfloat_texts.specs.Literals.{IsLiteralRead}
+use Rattle.apfloat_texts.specs.Payloads.{meaning_of}
+use Rattle.apfloat_texts.specs.TextsRead.{IsTextRead}
+
+means_special : (text : List ℕ) (negative : Bool) (special : Special) → special_of text ≡ Some (meaning_of negative special) → Means text (meaning_of negative special)
+means_special text negative Infinity e = e
+means_special text negative (Quiet payload) e = e
+means_special text negative (Signaling payload) e = e
+
+pub special_read : (shape : Shape) (mode : Round) (text : List ℕ) (negative : Bool) (special : Special) (value : Unpacked) (answer : StatusAnd Unpacked)
+    → special_of text ≡ Some (meaning_of negative special) → IsStored shape value → ((m : Round) → IsMeant (format_at shape) m (meaning_of negative special) (datum_at shape value) 0)
+    → answer.value ≡ value → bits_of answer.status ≡ 0 → IsTextRead shape mode text answer
+special_read shape mode text negative special value answer e stored meant v s =
+    record {
+      stored = subst (λ (x : Unpacked). IsStored shape x) (sym v) stored;
+      reading = record {
+        meaning = meaning_of negative special;
+        means = means_special text negative special e;
+        is_meant =
+            subst (λ (b : ℕ). IsMeant (format_at shape) mode (meaning_of negative special) (datum_at shape answer.value) b) (sym s)
+            (subst (λ (x : Unpacked). IsMeant (format_at shape) mode (meaning_of negative special) (datum_at shape x) 0) (sym v) (meant mode));
+      };
+    }
+
+literal_fault_is : (text : List ℕ) → is_empty text ≡ false → is_empty (behind_mark text) ≡ false → special_of text ≡ None → begins_literal (behind_mark text) ≡ true
+    → fault_of text ≡ behind_prefix_fault (drop 2 (behind_mark text))
+literal_fault_is text t b s l = rw (t, b, s, l) refl
+
+text_of_literal : (shape : Shape) (mode : Round) (text : List ℕ) (answer : StatusAnd Unpacked) → begins_literal (behind_mark text) ≡ true
+    → IsLiteralRead shape mode (is_minus (mark_of text)) (drop 2 (behind_mark text)) answer → IsTextRead shape mode text answer
+text_of_literal shape mode text answer l r =
+    let rest = drop 2 (behind_mark text) in
+    record {
+      stored = r.stored;
+      reading = record {
+        meaning = hexadecimal (is_minus (mark_of text)) (digits_number rest) (places_behind_dot rest) (exponent_number (exponent_text rest));
+        means = literal_meaning text l r.no_fault;
+        is_meant = r.delivered;
+      };
+    }
+
+pub literal_text : (shape : Shape) (mode : Round) (text rest : List ℕ) (negative : Bool) (result : Result (StatusAnd Unpacked) Fault)
+    → is_empty text ≡ false → is_empty (behind_mark text) ≡ false → special_of text ≡ None → begins_literal (behind_mark text) ≡ true
+    → rest ≡ drop 2 (behind_mark text) → negative ≡ is_minus (mark_of text)
+    → MatchResult result (λ answer. IsLiteralRead shape mode negative rest answer) (λ fault. behind_prefix_fault rest ≡ Some (fault_at fault))
+    → MatchResult result (λ answer. IsTextRead shape mode text answer) (λ fault. fault_of text ≡ Some (fault_at fault))
+literal_text shape mode text rest negative (Ok answer) t b s l r n h = text_of_literal shape mode text answer l (rw (r, n) at h)
+literal_text shape mode text rest negative (Err fault) t b s l r n h = literal_fault_is text t b s l ∙ (rw r at h)
