@@ -3,6 +3,7 @@ mod WholeQuotients
 mod NearestMultiples
 pub mod ProductExponents
 pub mod ExactAnswers
+mod NumberClasses
 mod SpecialRemainders
 mod Additions
 mod SumCases

@@ -67,3 +67,9 @@ quotient_is s x y r places q loss m n l hx hy e h =
 
 pub normal_some : (s : Shape) (m : ℕ) (e : ℤ) → IsNormal s m e → 0 < m
 normal_some s m e n = let p : 0 < 2 ^ (s.precision - 1) = pow_pos (s.precision - 1) in let f = n.operand.full in omega arith
+
+pub min_exp_word : (s : Shape) → IsShape s → to_z w32 (of_z w32 s.min_exp) ≡ s.min_exp
+min_exp_word s l = to_z-of_z w32 s.min_exp (fits_in w32 s.min_exp (omega (arith, ints, l.min_exp_low, l.min_exp_high)))
+
+pub max_exp_word : (s : Shape) → IsShape s → to_z w32 (of_z w32 s.max_exp) ≡ s.max_exp
+max_exp_word s l = to_z-of_z w32 s.max_exp (fits_in w32 s.max_exp (omega (arith, ints, l.max_exp_low, l.max_exp_high)))

@@ -4,6 +4,7 @@
 //! `apfloat_ieee` brings the constants of a type to it.
 #![tactic(auto)]
 
+pub mod classes;
 mod exact;
 pub mod order;
 pub mod products;

@@ -1,16 +1,21 @@
 //! `Float` for each format, and what stands beside it: `Default` and `Debug`.
 
-ghost use Rattle.std.specs.Prelude.{◌≡◌, ◌^◌, ◌<◌, ℕ, false};
+ghost use Rattle.std.specs.Prelude.{◌≡◌, ◌^◌, ◌<◌, ℕ, false, leb, IsTrue, refl};
 ghost use Rattle.apfloat_base.specs.Flags.{Gives};
 ghost use Rattle.apfloat_base.specs.Members.{IsMember};
-ghost use Rattle.apfloat_base.specs.Classes.{category_of, is_negative};
+ghost use Rattle.apfloat_base.specs.Classes.{category_of, is_negative, is_denormal};
+ghost use Rattle.apfloat_base.specs.Products.{IsProduct, IsOpposite};
+ghost use Rattle.apfloat_base.specs.Quotients.{IsQuotient};
+ghost use Rattle.std.proofs.lemmas.Bool.{leb-true};
 ghost use Rattle.apfloat_base.specs.Constants.{zero_datum, smallest_datum, infinity_datum, largest_datum, smallest_normalized_datum};
 ghost use Rattle.apfloat_base.specs.Layout.{datum_of, IsEncodedBy};
 ghost use Rattle.apfloat_base.specs.WholeNumbers.{IsFromUnsigned};
 ghost use Rattle.apfloat_ieee.specs.Types.{format_of, layout_of};
 
 use crate::float::{IeeeFloat, read, shape_of, write};
+use crate::products::{product, quotient};
 use crate::semantics::Semantics;
+use apfloat_arithmetic::classes::is_denormal;
 use apfloat_base::{Category, ExpInt, Float, Round, StatusAnd};
 use apfloat_conversions::integers::from_unsigned;
 use apfloat_unpacked::unpacked::{
@@ -35,6 +40,8 @@ impl<S: Semantics> Float for IeeeFloat<S> {
 
     const MIN_EXP: ExpInt = S::MIN_EXP;
 
+    const MULTIPLIES: bool = S::PRECISION <= 64;
+
     ghost BITS = { S.BITS };
 
     ghost PRECISION = { S.PRECISION };
@@ -42,6 +49,8 @@ impl<S: Semantics> Float for IeeeFloat<S> {
     ghost MAX_EXP = { S.MAX_EXP };
 
     ghost MIN_EXP = { S.MIN_EXP };
+
+    ghost MULTIPLIES = { leb S.PRECISION 64 };
 
     ghost the_zero = { zero_datum };
 
@@ -56,6 +65,12 @@ impl<S: Semantics> Float for IeeeFloat<S> {
     ghost category_of = { category_of };
 
     ghost sign_of = { is_negative };
+
+    ghost denormal = { is_denormal (format_of S.Semantics) };
+
+    ghost multiplies = { λ x y mode answer. Gives (IsProduct (format_of S.Semantics) mode x y) answer };
+
+    ghost divides = { λ x y mode answer. Gives (IsQuotient (format_of S.Semantics) mode x y) answer };
 
     ghost value_of_bits = { datum_of (format_of S.Semantics) (layout_of S.Semantics) };
 
@@ -86,6 +101,20 @@ impl<S: Semantics> Float for IeeeFloat<S> {
     #[inline]
     fn smallest_normalized() -> Self {
         IeeeFloat::packed(smallest_normalized_of(shape_of::<S>()))
+    }
+
+    #[inline]
+    fn mul_r(self, rhs: Self, round: Round) -> StatusAnd<Self>
+        requires { IsTrue (leb S.PRECISION 64) }
+        ensures product { Gives (IsProduct (format_of S.Semantics) round self rhs) result }
+        ensures opposite { Gives (IsOpposite (format_of S.Semantics) round self rhs) result }
+    {
+        product(self, rhs, round)
+    }
+
+    #[inline]
+    fn div_r(self, rhs: Self, round: Round) -> StatusAnd<Self> {
+        quotient(self, rhs, round)
     }
 
     #[inline]
@@ -125,6 +154,27 @@ impl<S: Semantics> Float for IeeeFloat<S> {
     fn is_negative(self) -> bool {
         self.unpacked().negative
     }
+
+    #[inline]
+    fn is_denormal(self) -> bool {
+        is_denormal(shape_of::<S>(), self.unpacked())
+    }
+
+    ghost can_mul_law = { λ m x y. leb-true S.PRECISION 64 m };
+
+    ghost mul_law = { λ x y r h. h };
+
+    ghost can_mul_assign_law = { λ m x y. leb-true S.PRECISION 64 m };
+
+    ghost mul_assign_law = { λ x y z h. (record { status = record { 0 = h.0 }; value = z }, h.1, refl) };
+
+    ghost can_div_law = { λ x y. tt };
+
+    ghost div_law = { λ x y r h. h };
+
+    ghost can_div_assign_law = { λ x y. tt };
+
+    ghost div_assign_law = { λ x y z h. (record { status = record { 0 = h.0 }; value = z }, h.1, refl) };
 
     ghost default_law = { λ x h. h };
 }

@@ -1,0 +1,36 @@
+//! Classes of values (IEEE 754-2008 5.7.2).
+
+ghost use Rattle.std.specs.Prelude.{◌≡◌, ltb};
+ghost use Rattle.apfloat_base.specs.Format.{smallest_normalized};
+ghost use Rattle.apfloat_base.specs.Classes.{is_denormal};
+ghost use Rattle.apfloat_unpacked.specs.Shapes.{IsShape, format_at};
+ghost use Rattle.apfloat_unpacked.specs.Stored.{IsStored, IsNormal, quanta_at, datum_at};
+
+use apfloat_base::Category;
+use apfloat_unpacked::shape::Shape;
+use apfloat_unpacked::unpacked::Unpacked;
+
+/// Whether a number is below the smallest one whose significand has all digits.
+#[inline]
+pub fn is_below_normal(shape: Shape, x: Unpacked) -> bool
+    requires lawful { IsShape shape }
+    requires normal { IsNormal shape x.significand x.exponent }
+    ensures { result ≡ ltb (quanta_at shape.min_exp x.significand x.exponent) (smallest_normalized (format_at shape)) }
+{
+    x.exponent < shape.min_exp
+}
+
+/// Whether the value is a number, not zero, and of less magnitude than the smallest normalized one.
+#[inline]
+pub fn is_denormal(shape: Shape, x: Unpacked) -> bool
+    requires lawful { IsShape shape }
+    requires stored { IsStored shape x }
+    ensures { result ≡ is_denormal (format_at shape) (datum_at shape x) }
+{
+    match x.category {
+        Category::Normal => is_below_normal(shape, x),
+        Category::Zero => false,
+        Category::Infinity => false,
+        Category::NaN => false,
+    }
+}
