@@ -7,3 +7,4 @@ mod NumberClasses
 mod SpecialRemainders
 mod Additions
 mod SumCases
+mod StepBounds

@@ -1,5 +1,5 @@
 -- Remainders of operands that are not both numbers other than zero, by their categories.
-use Rattle.std.proofs.Common.{◌≡◌, ◌⊎◌, inl, inr, ℕ, Bool, ◌*◌, ◌%◌, ◌<◌, refl, sym, ap, ◌∙◌, subst, arith}
+use Rattle.std.proofs.Common.{◌≡◌, ◌⊎◌, inl, inr, ℕ, Bool, count_ones, ◌*◌, ◌/◌, ◌%◌, ◌<◌, refl, sym, ap, ◌∙◌, subst, arith}
 use Rattle.std.proofs.lemmas.Bool.{ne_eqb}
 use Rattle.std.proofs.Math.Nat.{div-eq_of_lt, mod-eq_of_lt}
 use Rattle.apfloat_base.specs.declared.kinds.Category.{Category}
@@ -8,7 +8,7 @@ use Rattle.apfloat_base.specs.declared.kinds.NonfiniteBehavior.{NonfiniteBehavio
 use Rattle.apfloat_base.specs.Datum.{Datum, finite}
 use Rattle.apfloat_base.specs.Answer.{IsAnswer}
 use Rattle.apfloat_base.specs.Rounding.{ok_bits, zero_sign}
-use Rattle.apfloat_base.specs.Remainders.{IsRemainder, rest_of, truncated_quotient, nearest_quotient}
+use Rattle.apfloat_base.specs.Remainders.{IsRemainder, ones_of_quotient, rest_of, truncated_quotient, nearest_quotient}
 use Rattle.apfloat_unpacked.specs.declared.shape.Shape.{Shape}
 use Rattle.apfloat_unpacked.specs.declared.unpacked.Unpacked.{Unpacked}
 use Rattle.apfloat_unpacked.specs.Shapes.{format_at}
@@ -52,6 +52,19 @@ of_numbers s quotient k l x y value status e f u h =
     subst (λ (o : Category). Says s quotient o l x y value status) (sym e)
     (subst (λ (o : Category). IsStoredBy o s y → Says s quotient Normal o x y value status) (sym f)
     (λ u. by_number s quotient x y (quanta_at s.min_exp x.significand x.exponent) value status u h) u)
+
+number_ones : (s : Shape) (x y : Unpacked) (m : ℕ) → IsStoredBy Normal s y
+    → count_ones (m / quanta_at s.min_exp y.significand y.exponent) ≡ ones_of_quotient (finite x.negative m) (datum_by Normal s y)
+number_ones s x y m t =
+    let p = quanta_some s y.significand y.exponent t in
+    rw (ne_eqb (quanta_at s.min_exp y.significand y.exponent) 0 (λ z. omega (arith, z, p))) refl
+
+pub ones_of_numbers : (s : Shape) (k l : Category) (x y : Unpacked) → k ≡ Normal → l ≡ Normal → IsStoredBy l s y
+    → count_ones (quanta_at s.min_exp x.significand x.exponent / quanta_at s.min_exp y.significand y.exponent) ≡ ones_of_quotient (datum_by k s x) (datum_by l s y)
+ones_of_numbers s k l x y e f u =
+    subst (λ (o : Category). count_ones (quanta_at s.min_exp x.significand x.exponent / quanta_at s.min_exp y.significand y.exponent) ≡ ones_of_quotient (datum_by o s x) (datum_by l s y)) (sym e)
+    (subst (λ (o : Category). IsStoredBy o s y → count_ones (quanta_at s.min_exp x.significand x.exponent / quanta_at s.min_exp y.significand y.exponent) ≡ ones_of_quotient (datum_by Normal s x) (datum_by o s y)) (sym f)
+    (λ u. number_ones s x y (quanta_at s.min_exp x.significand x.exponent) u) u)
 
 -- ---- the quotients of zero
 

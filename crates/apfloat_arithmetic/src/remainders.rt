@@ -4,11 +4,12 @@
 //! a power of two that is not above what is left, so there is a turn for each digit that is one. A significand stands at
 //! a place, which is counted from that of the last digit of the least number whose significand has all its digits.
 
-ghost use Rattle.std.specs.Prelude.{◌≡◌, ℕ, ◌+◌, ◌-◌, ◌*◌, ◌/◌, ◌%◌, ◌^◌, ◌<◌, ◌≤◌, ◌⊎◌, Bool, false, true, eqb, ltb, count_ones, cond, pos, neg_ℤ, ◌≤ℤ◌, ◌+ℤ◌, ◌-ℤ◌};
+ghost use Rattle.std.specs.Prelude.{◌≡◌, ℕ, ◌+◌, ◌-◌, ◌*◌, ◌/◌, ◌%◌, ◌^◌, ◌<◌, ◌≤◌, ◌⊎◌, Bool, false, true, eqb, ltb, count_ones, cond, ℤ, pos, neg_ℤ, ◌≤ℤ◌, ◌+ℤ◌, ◌-ℤ◌};
 ghost use Rattle.apfloat_base.specs.declared.kinds.Category.{Category};
 ghost use Rattle.apfloat_base.specs.declared.kinds.Round.{Round};
 ghost use Rattle.apfloat_base.specs.Flags.{bits_of};
 ghost use Rattle.apfloat_base.specs.Rounding.{ok_bits, takes_above};
+ghost use Rattle.apfloat_base.specs.Exponents.{IsIlogb};
 ghost use Rattle.apfloat_base.specs.Remainders.{truncated_quotient, nearest_quotient, rest_of, IsRemainder, IsTruncatedRemainder, IsNearestRemainder, ones_of_quotient};
 ghost use Rattle.apfloat_unpacked.specs.Shapes.{IsShape, format_at};
 ghost use Rattle.apfloat_unpacked.specs.Stored.{IsOperandAt, IsNormal, IsStored, datum_at, quanta_at};
@@ -372,6 +373,7 @@ pub fn truncated_remainder(shape: Shape, x: Unpacked, y: Unpacked) -> Remainder
     ensures stored { IsStored shape result.answer.value }
     ensures delivered { IsTruncatedRemainder (format_at shape) (datum_at shape x) (datum_at shape y) (datum_at shape result.answer.value) (bits_of result.answer.status) }
     ensures steps { result.steps ≡ ones_of_quotient (datum_at shape x) (datum_at shape y) }
+    ensures few { (a b : ℤ) → IsIlogb (format_at shape) (datum_at shape x) a → IsIlogb (format_at shape) (datum_at shape y) b → 0 < result.steps → pos result.steps ≤ℤ ((a -ℤ b) +ℤ pos 1) }
 {
     if are_normal(x, y) {
         truncated_number(shape, x, y)
