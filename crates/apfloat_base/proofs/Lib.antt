@@ -31,3 +31,4 @@ pub mod NanMembers
 pub mod SumLaws
 pub mod ExactConversions
 pub mod NextBack
+pub mod SignedNumbers

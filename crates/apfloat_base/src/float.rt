@@ -1,15 +1,18 @@
 //! The trait of floating-point types.
 
-ghost use Rattle.std.specs.Prelude.{◌≡◌, ℕ, ℤ, ◌^◌, ◌<◌, Bool, IsTrue};
+ghost use Rattle.std.specs.Prelude.{◌≡◌, ℕ, ℤ, pos, neg_ℤ, ◌^◌, ◌<◌, Bool, IsTrue, not, if◌then◌else◌};
+ghost use Rattle.std.specs.Option.{unwrap_or};
+ghost use Rattle.apfloat_base.specs.Exact.{same_sign};
+ghost use Rattle.apfloat_base.specs.Negation.{swapped};
 ghost use Rattle.apfloat_base.specs.declared.kinds.Category.{Category};
 ghost use Rattle.apfloat_base.specs.declared.kinds.Round.{Round};
 ghost use Rattle.apfloat_base.specs.declared.kinds.Round.TheVariants.{NearestTiesToEven};
-ghost use Rattle.apfloat_base.specs.Classes.{is_number_category};
+ghost use Rattle.apfloat_base.specs.Classes.{is_nan_category, is_number_category};
 ghost use Rattle.apfloat_base.specs.declared.status.StatusAnd.{StatusAnd};
 
 use crate::kinds::{Category, ExpInt, Round};
 use crate::status::StatusAnd;
-use std::ops::{Div, DivAssign, Mul, MulAssign};
+use std::ops::{Add, AddAssign, Div, DivAssign, Mul, MulAssign, Neg, Sub, SubAssign};
 
 /// A floating-point type.
 ///
@@ -17,8 +20,13 @@ use std::ops::{Div, DivAssign, Mul, MulAssign};
 /// where it is stated by one. `IeeeFloat` sets them to the definitions of the model.
 pub trait Float: Copy
     + Default
+    + Neg<Output = Self>
+    + AddAssign
+    + SubAssign
     + MulAssign
     + DivAssign
+    + Add<Output = StatusAnd<Self>>
+    + Sub<Output = StatusAnd<Self>>
     + Mul<Output = StatusAnd<Self>>
     + Div<Output = StatusAnd<Self>> {
     /// How many bits a value is written with; 0 where values are for computing only.
@@ -56,9 +64,24 @@ pub trait Float: Copy
 
     ghost the_smallest_normalized: { Self };
 
+    // The NaNs of a payload.
+    ghost quiet_nan_of: { ℕ → Self };
+
+    ghost signaling_nan_of: { ℕ → Self };
+
+    // What sums and differences are.
+    ghost adds: { Self → Self → Round → StatusAnd Self → Type 0 };
+
+    ghost subtracts: { Self → Self → Round → StatusAnd Self → Type 0 };
+
+    // The value with the other sign.
+    ghost negated: { Self → Self };
+
     ghost category_of: { Self → Category };
 
     ghost sign_of: { Self → Bool };
+
+    ghost signals: { Self → Bool };
 
     ghost denormal: { Self → Bool };
 
@@ -75,6 +98,8 @@ pub trait Float: Copy
     // What a whole number becomes.
     ghost converts_unsigned: { ℕ → Round → StatusAnd Self → Type 0 };
 
+    ghost converts_signed: { ℤ → Round → StatusAnd Self → Type 0 };
+
     /// +0.
     fn zero() -> Self
         ensures { result ≡ the_zero };
@@ -87,6 +112,22 @@ pub trait Float: Copy
     fn infinity() -> Self
         ensures { result ≡ the_infinity };
 
+    /// The positive quiet NaN without a payload (IEEE 754-2008 6.2).
+    fn nan() -> Self
+        ensures { result ≡ quiet_nan_of 0 }
+    {
+        Self::qnan(None)
+    }
+
+    /// The positive quiet NaN with a payload, of which the format keeps the bits that it has (IEEE 754-2008 6.2.1).
+    fn qnan(payload: Option<u128>) -> Self
+        ensures { result ≡ quiet_nan_of (unwrap_or payload 0) };
+
+    /// The positive signaling NaN with a payload, of which the format keeps the bits that it has; without any it has one
+    /// of its own, and a format with one NaN has only that (IEEE 754-2008 6.2.1).
+    fn snan(payload: Option<u128>) -> Self
+        ensures { result ≡ signaling_nan_of (unwrap_or payload 0) };
+
     /// The greatest finite value.
     fn largest() -> Self
         ensures { result ≡ the_largest };
@@ -94,6 +135,15 @@ pub trait Float: Copy
     /// The smallest positive value that is not denormal, 2 to the power of `MIN_EXP`.
     fn smallest_normalized() -> Self
         ensures { result ≡ the_smallest_normalized };
+
+    /// `self + rhs`, rounded once (IEEE 754-2008 5.4.1). Infinities of unlike signs raise INVALID_OP and answer a NaN; an
+    /// exact zero of unlike operands is +0, and toward negative -0 (6.3).
+    fn add_r(self, rhs: Self, round: Round) -> StatusAnd<Self>
+        ensures { adds self rhs round result };
+
+    /// `self - rhs`, rounded once (IEEE 754-2008 5.4.1), as the sum of `self` and `-rhs`; but a NaN is not negated.
+    fn sub_r(self, rhs: Self, round: Round) -> StatusAnd<Self>
+        ensures { subtracts self rhs round result };
 
     /// The product, rounded once (IEEE 754-2008 5.4.1, multiplication).
     ///
@@ -111,6 +161,24 @@ pub trait Float: Copy
     fn div_r(self, rhs: Self, round: Round) -> StatusAnd<Self>
         ensures { divides self rhs round result };
 
+    /// The value without its sign (IEEE 754-2008 5.5.1, abs). A NaN too loses its sign, and none is signaled.
+    fn abs(self) -> Self
+        ensures { result ≡ (if sign_of self then negated self else self) }
+    {
+        if self.is_negative() { -self } else { self }
+    }
+
+    /// The value with the sign of `rhs` (IEEE 754-2008 5.5.1, copySign), also of and for NaNs; none is signaled.
+    fn copy_sign(self, rhs: Self) -> Self
+        ensures { result ≡ (if not (same_sign (sign_of self) (sign_of rhs)) then negated self else self) }
+    {
+        if self.is_negative() != rhs.is_negative() {
+            -self
+        } else {
+            self
+        }
+    }
+
     /// The value that is written as `bits`; bits at and above `BITS` are not looked at.
     fn from_bits(bits: u128) -> Self
         requires { PRECISION < BITS }
@@ -123,6 +191,24 @@ pub trait Float: Copy
         ensures below { result < 2 ^ BITS }
         ensures back { value_of_bits result ≡ self };
 
+    /// A signed whole number, rounded once (IEEE 754-2008 5.4.1, convertFromInt).
+    fn from_i128_r(input: i128, round: Round) -> StatusAnd<Self>
+        ensures { converts_signed input round result }
+    {
+        if input < 0 {
+            Self::from_u128_r(input.unsigned_abs(), -round).map(|value| -value)
+        } else {
+            Self::from_u128_r(input as u128, round)
+        }
+    }
+
+    /// A signed whole number, rounded once to the nearest value, a tie to the even one.
+    fn from_i128(input: i128) -> StatusAnd<Self>
+        ensures { converts_signed input NearestTiesToEven result }
+    {
+        Self::from_i128_r(input, Round::NearestTiesToEven)
+    }
+
     /// A whole number, rounded once (IEEE 754-2008 5.4.1, convertFromInt).
     fn from_u128_r(input: u128, round: Round) -> StatusAnd<Self>
         ensures { converts_unsigned input round result };
@@ -133,6 +219,17 @@ pub trait Float: Copy
     {
         Self::from_u128_r(input, Round::NearestTiesToEven)
     }
+
+    /// Whether the value is a NaN, quiet or signaling (IEEE 754-2008 5.7.2, isNaN).
+    fn is_nan(self) -> bool
+        ensures { result ≡ is_nan_category (category_of self) }
+    {
+        self.category() == Category::NaN
+    }
+
+    /// Whether the value is a signaling NaN (IEEE 754-2008 5.7.2, isSignaling). No NaN of a format with one NaN is.
+    fn is_signaling(self) -> bool
+        ensures { result ≡ signals self };
 
     /// What the value is.
     fn category(self) -> Category
@@ -176,4 +273,32 @@ pub trait Float: Copy
     ghost div_assign_law: { (x y z : Self) → Self.div_assign_gives x y z → (r : StatusAnd Self) × divides x y NearestTiesToEven r × (z ≡ r.value) };
 
     ghost default_law: { (x : Self) → Self.is_default x → x ≡ the_zero };
+
+    // The operators are the calls, rounded to the nearest value, a tie to the even one.
+
+    ghost can_neg_law: { (x : Self) → Self.can_neg x };
+
+    ghost neg_law: { (x r : Self) → Self.neg_gives x r → r ≡ negated x };
+
+    ghost can_add_law: { (x y : Self) → Self.can_add x y };
+
+    ghost add_law: { (x y : Self) (r : StatusAnd Self) → Self.add_gives x y r → adds x y NearestTiesToEven r };
+
+    ghost can_add_assign_law: { (x y : Self) → Self.can_add_assign x y };
+
+    ghost add_assign_law: { (x y z : Self) → Self.add_assign_gives x y z → (r : StatusAnd Self) × adds x y NearestTiesToEven r × (z ≡ r.value) };
+
+    ghost can_sub_law: { (x y : Self) → Self.can_sub x y };
+
+    ghost sub_law: { (x y : Self) (r : StatusAnd Self) → Self.sub_gives x y r → subtracts x y NearestTiesToEven r };
+
+    ghost can_sub_assign_law: { (x y : Self) → Self.can_sub_assign x y };
+
+    ghost sub_assign_law: { (x y z : Self) → Self.sub_assign_gives x y z → (r : StatusAnd Self) × subtracts x y NearestTiesToEven r × (z ≡ r.value) };
+
+    // A signed whole number is its magnitude, rounded under the negated mode where it is below zero.
+
+    ghost signed_above_law: { (n : ℕ) (mode : Round) (r : StatusAnd Self) → converts_unsigned n mode r → converts_signed (pos n) mode r };
+
+    ghost signed_below_law: { (n : ℕ) (mode : Round) (r : StatusAnd Self) → 0 < n → converts_unsigned n (swapped mode) r → converts_signed (neg_ℤ (pos n)) mode (record { status = r.status; value = negated r.value }) };
 }

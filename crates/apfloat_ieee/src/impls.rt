@@ -1,7 +1,11 @@
 //! `Float` for each format, and what stands beside it: `Default` and `Debug`.
 
 ghost use Rattle.std.specs.Prelude.{◌≡◌, ◌^◌, ◌<◌, ℕ, false, leb, IsTrue, refl};
-ghost use Rattle.apfloat_base.specs.Flags.{Gives};
+ghost use Rattle.apfloat_base.specs.Flags.{Gives, bits_of};
+ghost use Rattle.apfloat_base.specs.Nan.{qnan, snan, is_signaling_nan};
+ghost use Rattle.apfloat_base.specs.Negation.{negated};
+ghost use Rattle.apfloat_base.specs.Sums.{IsSum, IsDifference};
+ghost use Rattle.apfloat_base.proofs.SignedNumbers.{signed_above, signed_below, largest_some};
 ghost use Rattle.apfloat_base.specs.Members.{IsMember};
 ghost use Rattle.apfloat_base.specs.Classes.{category_of, is_negative, is_denormal};
 ghost use Rattle.apfloat_base.specs.Products.{IsProduct, IsOpposite};
@@ -9,15 +13,17 @@ ghost use Rattle.apfloat_base.specs.Quotients.{IsQuotient};
 ghost use Rattle.std.proofs.lemmas.Bool.{leb-true};
 ghost use Rattle.apfloat_base.specs.Constants.{zero_datum, smallest_datum, infinity_datum, largest_datum, smallest_normalized_datum};
 ghost use Rattle.apfloat_base.specs.Layout.{datum_of, IsEncodedBy};
-ghost use Rattle.apfloat_base.specs.WholeNumbers.{IsFromUnsigned};
+ghost use Rattle.apfloat_base.specs.WholeNumbers.{IsFromUnsigned, IsFromSigned};
 ghost use Rattle.apfloat_ieee.specs.Types.{format_of, layout_of};
 
 use crate::float::{IeeeFloat, read, shape_of, write};
 use crate::products::{product, quotient};
 use crate::semantics::Semantics;
+use crate::sums::{difference, sum};
 use apfloat_arithmetic::classes::is_denormal;
 use apfloat_base::{Category, ExpInt, Float, Round, StatusAnd};
 use apfloat_conversions::integers::from_unsigned;
+use apfloat_unpacked::nans::{is_signaling, quiet_nan, signaling_nan};
 use apfloat_unpacked::unpacked::{
     infinity_of, largest_of, smallest_normalized_of, smallest_of, zero_of,
 };
@@ -62,9 +68,21 @@ impl<S: Semantics> Float for IeeeFloat<S> {
 
     ghost the_smallest_normalized = { smallest_normalized_datum (format_of S.Semantics) };
 
+    ghost quiet_nan_of = { qnan (format_of S.Semantics) };
+
+    ghost signaling_nan_of = { snan (format_of S.Semantics) };
+
+    ghost adds = { λ x y mode answer. Gives (IsSum (format_of S.Semantics) mode x y) answer };
+
+    ghost subtracts = { λ x y mode answer. Gives (IsDifference (format_of S.Semantics) mode x y) answer };
+
+    ghost negated = { negated (format_of S.Semantics).nonfinite };
+
     ghost category_of = { category_of };
 
     ghost sign_of = { is_negative };
+
+    ghost signals = { is_signaling_nan (format_of S.Semantics) };
 
     ghost denormal = { is_denormal (format_of S.Semantics) };
 
@@ -77,6 +95,8 @@ impl<S: Semantics> Float for IeeeFloat<S> {
     ghost writes_bits = { λ x bits. IsEncodedBy (format_of S.Semantics) (layout_of S.Semantics) bits x };
 
     ghost converts_unsigned = { λ number mode answer. Gives (IsFromUnsigned (format_of S.Semantics) mode number) answer };
+
+    ghost converts_signed = { λ number mode answer. Gives (IsFromSigned (format_of S.Semantics) mode number) answer };
 
     #[inline]
     fn zero() -> Self {
@@ -94,6 +114,16 @@ impl<S: Semantics> Float for IeeeFloat<S> {
     }
 
     #[inline]
+    fn qnan(payload: Option<u128>) -> Self {
+        IeeeFloat::packed(quiet_nan(shape_of::<S>(), payload.unwrap_or(0)))
+    }
+
+    #[inline]
+    fn snan(payload: Option<u128>) -> Self {
+        IeeeFloat::packed(signaling_nan(shape_of::<S>(), payload.unwrap_or(0)))
+    }
+
+    #[inline]
     fn largest() -> Self {
         IeeeFloat::packed(largest_of(shape_of::<S>(), false))
     }
@@ -101,6 +131,16 @@ impl<S: Semantics> Float for IeeeFloat<S> {
     #[inline]
     fn smallest_normalized() -> Self {
         IeeeFloat::packed(smallest_normalized_of(shape_of::<S>()))
+    }
+
+    #[inline]
+    fn add_r(self, rhs: Self, round: Round) -> StatusAnd<Self> {
+        sum(self, rhs, round)
+    }
+
+    #[inline]
+    fn sub_r(self, rhs: Self, round: Round) -> StatusAnd<Self> {
+        difference(self, rhs, round)
     }
 
     #[inline]
@@ -143,6 +183,11 @@ impl<S: Semantics> Float for IeeeFloat<S> {
     }
 
     #[inline]
+    fn is_signaling(self) -> bool {
+        is_signaling(shape_of::<S>(), self.unpacked())
+    }
+
+    #[inline]
     fn category(self) -> Category
         ensures category { result ≡ category_of self }
         ensures member { IsMember (format_of S.Semantics) self }
@@ -177,4 +222,28 @@ impl<S: Semantics> Float for IeeeFloat<S> {
     ghost div_assign_law = { λ x y z h. (record { status = record { 0 = h.0 }; value = z }, h.1, refl) };
 
     ghost default_law = { λ x h. h };
+
+    ghost can_neg_law = { λ x. tt };
+
+    ghost neg_law = { λ x r h. h };
+
+    ghost can_add_law = { λ x y. tt };
+
+    ghost add_law = { λ x y r h. h };
+
+    ghost can_add_assign_law = { λ x y. tt };
+
+    ghost add_assign_law = { λ x y z h. h };
+
+    ghost can_sub_law = { λ x y. tt };
+
+    ghost sub_law = { λ x y r h. h };
+
+    ghost can_sub_assign_law = { λ x y. tt };
+
+    ghost sub_assign_law = { λ x y z h. h };
+
+    ghost signed_above_law = { λ n mode r h. signed_above (format_of S.Semantics) mode n r.value (bits_of r.status) h };
+
+    ghost signed_below_law = { λ n mode r p h. signed_below (format_of S.Semantics) mode n r.value (bits_of r.status) (largest_some S.lawful) p h };
 }

@@ -11,6 +11,7 @@ pub mod formats;
 pub mod impls;
 pub mod products;
 pub mod semantics;
+pub mod sums;
 
 pub use apfloat_base::NonfiniteBehavior;
 pub use float::IeeeFloat;
