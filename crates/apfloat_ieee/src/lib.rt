@@ -10,6 +10,7 @@ pub mod float;
 pub mod formats;
 pub mod impls;
 pub mod products;
+pub mod remainder;
 pub mod semantics;
 pub mod sums;
 
