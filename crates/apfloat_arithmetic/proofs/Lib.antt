@@ -4,6 +4,8 @@ mod NearestMultiples
 pub mod ProductExponents
 pub mod ExactAnswers
 mod NumberClasses
+mod PowerFactors
+mod ExactInverses
 mod SpecialRemainders
 mod Additions
 mod SumCases

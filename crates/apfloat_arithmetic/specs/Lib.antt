@@ -1,2 +1,3 @@
 pub mod Subtrahends
 pub mod Sides
+pub mod Inverses

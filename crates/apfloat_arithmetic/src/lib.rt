@@ -6,6 +6,7 @@
 
 pub mod classes;
 mod exact;
+pub mod inverses;
 pub mod order;
 pub mod products;
 pub mod quotients;

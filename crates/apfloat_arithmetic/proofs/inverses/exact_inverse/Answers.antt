@@ -1,0 +1,40 @@
+use Rattle.std.proofs.Common.{◌≡◌, sym, subst, refl, pos, ◌-ℤ◌, to_z, of_z, w32, ℤ}
+use Rattle.std.specs.Prelude.{neg_ℤ, Option, Some, None}
+use Rattle.apfloat_base.specs.declared.kinds.Category.{Category}
+use Rattle.apfloat_base.specs.declared.kinds.Category.TheVariants.{Normal}
+use Rattle.apfloat_base.specs.Datum.{Datum, finite}
+use Rattle.apfloat_base.specs.Exponents.{IsExactInverse}
+use Rattle.apfloat_unpacked.specs.declared.unpacked.Unpacked.{Unpacked}
+use Rattle.apfloat_unpacked.specs.Shapes.{format_at}
+use Rattle.apfloat_unpacked.specs.Stored.{IsStored, IsStoredBy, IsNormal, quanta_at, datum_by}
+use Rattle.apfloat_arithmetic.proofs.ProductExponents.{normal_near}
+use Rattle.apfloat_arithmetic.proofs.ExactInverses.{same_value, opposite_word, inverted_normal, inverse_answer, no_inverse_answer}
+use Rattle.apfloat_arithmetic.proofs.inverses.exact_inverse.Goals as goal
+
+pub returns-then-is_invertible-clause-stored : goal.returns-then-is_invertible-clause-stored
+returns-then-is_invertible-clause-stored c = λ inverse h.
+    let s = c.args.shape in
+    let x = c.args.x in
+    let n : IsNormal s x.significand x.exponent = subst (λ (k : Category). IsStoredBy k s x) c.in-Normal.is c.requires.stored in
+    let w = (normal_near s x.significand x.exponent c.requires.lawful n).word in
+    let e = opposite_word s x.significand x.exponent c.requires.lawful n in
+    let i = inverted_normal s x.significand x.exponent c.requires.lawful n (c.is_invertible.ensures.yes c.if-is_invertible.true) in
+    subst (λ (y : Unpacked). IsStored s y) (same_value _ inverse h) (rw (w, e) i)
+
+pub returns-then-is_invertible-clause-inverse : goal.returns-then-is_invertible-clause-inverse
+returns-then-is_invertible-clause-inverse c =
+    let s = c.args.shape in
+    let x = c.args.x in
+    let n : IsNormal s x.significand x.exponent = subst (λ (k : Category). IsStoredBy k s x) c.in-Normal.is c.requires.stored in
+    let w = (normal_near s x.significand x.exponent c.requires.lawful n).word in
+    let e = opposite_word s x.significand x.exponent c.requires.lawful n in
+    let a = inverse_answer s x.negative x.significand x.exponent c.requires.lawful n (c.is_invertible.ensures.yes c.if-is_invertible.true) in
+    rw (w, e) (subst (λ (k : Category). IsExactInverse (format_at s) (datum_by k s x) (Some (finite x.negative (quanta_at s.min_exp x.significand (neg_ℤ x.exponent))))) (sym c.in-Normal.is) a)
+
+pub returns-else-is_invertible-clause-inverse : goal.returns-else-is_invertible-clause-inverse
+returns-else-is_invertible-clause-inverse c =
+    let s = c.args.shape in
+    let x = c.args.x in
+    let n : IsNormal s x.significand x.exponent = subst (λ (k : Category). IsStoredBy k s x) c.in-Normal.is c.requires.stored in
+    subst (λ (k : Category). IsExactInverse (format_at s) (datum_by k s x) None) (sym c.in-Normal.is)
+    (no_inverse_answer s x.negative x.significand x.exponent c.requires.lawful n (c.is_invertible.ensures.no c.if-is_invertible.false))

@@ -1,0 +1,10 @@
+-- Numbers with an exact inverse, by what is stored of them.
+use Rattle.std.specs.Prelude.{◌≡◌, ℕ, ◌-◌, ◌^◌, ℤ, neg_ℤ, ◌≤ℤ◌}
+use Rattle.apfloat_unpacked.specs.declared.shape.Shape.{Shape}
+
+-- 2 ^ exponent, where neither it nor 2 ^ -exponent is denormal or too large
+pub record IsInvertible (s : Shape) (significand : ℕ) (exponent : ℤ) : Type 0 where
+  pub power : significand ≡ 2 ^ (s.precision - 1)
+  pub normal : s.min_exp ≤ℤ exponent
+  pub inverse_normal : s.min_exp ≤ℤ neg_ℤ exponent
+  pub inverse_within : neg_ℤ exponent ≤ℤ s.max_exp

@@ -1,0 +1,53 @@
+//! Exact inverses.
+
+ghost use Rattle.std.specs.Prelude.{◌≡◌, Option, Some, true, false};
+ghost use Rattle.std.specs.Option.{option_map};
+ghost use Rattle.apfloat_base.specs.Exponents.{IsExactInverse};
+ghost use Rattle.apfloat_unpacked.specs.Shapes.{IsShape, format_at};
+ghost use Rattle.apfloat_unpacked.specs.Stored.{IsStored, IsNormal, datum_at};
+ghost use Rattle.apfloat_arithmetic.specs.Inverses.{IsInvertible};
+
+use apfloat_base::Category;
+use apfloat_unpacked::shape::Shape;
+use apfloat_unpacked::unpacked::Unpacked;
+
+/// Whether a number is a power of two, and neither it nor its inverse is denormal or too large for the format.
+#[inline]
+fn is_invertible(shape: Shape, x: Unpacked) -> bool
+    requires lawful { IsShape shape }
+    requires normal { IsNormal shape x.significand x.exponent }
+    ensures yes { result ≡ true → IsInvertible shape x.significand x.exponent }
+    ensures no { result ≡ false → IsInvertible shape x.significand x.exponent → ⊥ }
+{
+    if x.significand != shape.integer_bit() || x.exponent < shape.min_exp {
+        return false;
+    }
+    shape.min_exp <= -x.exponent && -x.exponent <= shape.max_exp
+}
+
+/// The inverse of a power of two, where both of them are numbers of the format and not denormal.
+#[inline]
+pub fn exact_inverse(shape: Shape, x: Unpacked) -> Option<Unpacked>
+    requires lawful { IsShape shape }
+    requires stored { IsStored shape x }
+    ensures stored { (inverse : Unpacked) → result ≡ Some inverse → IsStored shape inverse }
+    ensures inverse { IsExactInverse (format_at shape) (datum_at shape x) (option_map (datum_at shape) result) }
+{
+    match x.category {
+        Category::Normal => {
+            if is_invertible(shape, x) {
+                Some(Unpacked {
+                    significand: x.significand,
+                    exponent: -x.exponent,
+                    category: Category::Normal,
+                    negative: x.negative,
+                })
+            } else {
+                None
+            }
+        }
+        Category::Zero => None,
+        Category::Infinity => None,
+        Category::NaN => None,
+    }
+}
