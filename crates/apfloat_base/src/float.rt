@@ -1,6 +1,6 @@
 //! The trait of floating-point types.
 
-ghost use Rattle.std.specs.Prelude.{◌≡◌, ℕ, ℤ, pos, neg_ℤ, ◌^◌, ◌<◌, Bool, IsTrue, not, if◌then◌else◌};
+ghost use Rattle.std.specs.Prelude.{◌≡◌, ℕ, ℤ, pos, neg_ℤ, ◌^◌, ◌<◌, Bool, IsTrue, Option, not, if◌then◌else◌};
 ghost use Rattle.std.specs.Option.{unwrap_or};
 ghost use Rattle.apfloat_base.specs.Exact.{same_sign};
 ghost use Rattle.apfloat_base.specs.Negation.{swapped};
@@ -89,6 +89,9 @@ pub trait Float: Copy
     ghost multiplies: { Self → Self → Round → StatusAnd Self → Type 0 };
 
     ghost divides: { Self → Self → Round → StatusAnd Self → Type 0 };
+
+    // What is answered for the exact inverse.
+    ghost inverts: { Self → Option Self → Type 0 };
 
     // The value of bits, and the bits of a value.
     ghost value_of_bits: { ℕ → Self };
@@ -243,6 +246,10 @@ pub trait Float: Copy
     /// (IEEE 754-2008 5.7.2, isSubnormal).
     fn is_denormal(self) -> bool
         ensures { result ≡ denormal self };
+
+    /// The inverse of a power of two, where both of them are numbers of the type and not denormal; the sign is kept.
+    fn get_exact_inverse(self) -> Option<Self>
+        ensures { inverts self result };
 
     /// Whether the value is a number and not zero.
     fn is_finite_non_zero(self) -> bool

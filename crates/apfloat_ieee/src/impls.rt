@@ -8,6 +8,7 @@ ghost use Rattle.apfloat_base.specs.Sums.{IsSum, IsDifference};
 ghost use Rattle.apfloat_base.proofs.SignedNumbers.{signed_above, signed_below, largest_some};
 ghost use Rattle.apfloat_base.specs.Members.{IsMember};
 ghost use Rattle.apfloat_base.specs.Classes.{category_of, is_negative, is_denormal};
+ghost use Rattle.apfloat_base.specs.Exponents.{IsExactInverse};
 ghost use Rattle.apfloat_base.specs.Products.{IsProduct, IsOpposite};
 ghost use Rattle.apfloat_base.specs.Quotients.{IsQuotient};
 ghost use Rattle.std.proofs.lemmas.Bool.{leb-true};
@@ -17,7 +18,7 @@ ghost use Rattle.apfloat_base.specs.WholeNumbers.{IsFromUnsigned, IsFromSigned};
 ghost use Rattle.apfloat_ieee.specs.Types.{format_of, layout_of};
 
 use crate::float::{IeeeFloat, read, shape_of, write};
-use crate::products::{product, quotient};
+use crate::products::{inverse, product, quotient};
 use crate::semantics::Semantics;
 use crate::sums::{difference, sum};
 use apfloat_arithmetic::classes::is_denormal;
@@ -89,6 +90,8 @@ impl<S: Semantics> Float for IeeeFloat<S> {
     ghost multiplies = { λ x y mode answer. Gives (IsProduct (format_of S.Semantics) mode x y) answer };
 
     ghost divides = { λ x y mode answer. Gives (IsQuotient (format_of S.Semantics) mode x y) answer };
+
+    ghost inverts = { IsExactInverse (format_of S.Semantics) };
 
     ghost value_of_bits = { datum_of (format_of S.Semantics) (layout_of S.Semantics) };
 
@@ -203,6 +206,11 @@ impl<S: Semantics> Float for IeeeFloat<S> {
     #[inline]
     fn is_denormal(self) -> bool {
         is_denormal(shape_of::<S>(), self.unpacked())
+    }
+
+    #[inline]
+    fn get_exact_inverse(self) -> Option<Self> {
+        inverse(self)
     }
 
     ghost can_mul_law = { λ m x y. leb-true S.PRECISION 64 m };
