@@ -1,4 +1,5 @@
 pub mod Numerals
+pub mod HexadecimalNumbers
 pub mod Hexadecimals
 pub mod Flags
 pub mod Once

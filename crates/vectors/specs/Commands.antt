@@ -1,10 +1,14 @@
 -- What the words of a command ask for, or the word of its refusal.
-use Rattle.std.specs.Prelude.{ℕ, ◌^◌, Bool, not, ◌&&◌, ◌==◌, nat_lt, nat_le, if◌then◌else◌, List, [], ◌∷◌, length, drop, slice_index_or, codes, Option, Some, None, ok_or, Result, Ok, Err}
+use Rattle.std.specs.Prelude.{ℕ, ◌^◌, Bool, true, not, ◌&&◌, ◌==◌, nat_lt, nat_le, if◌then◌else◌, List, [], ◌∷◌, length, take, drop, slice_index_or, codes, Option, Some, None, ok_or, Result, Ok, Err}
 use Rattle.rustc_apfloat.specs.declared.Round.{Round}
 use Rattle.rustc_apfloat.specs.declared.Round.TheVariants.{NearestTiesToEven, TowardPositive, TowardNegative, TowardZero, NearestTiesToAway}
-use Rattle.rustc_apfloat.specs.Digits.{same, every, is_empty, is_decimal, number}
+use Rattle.rustc_apfloat.specs.Digits.{same, every, is_empty, is_decimal, is_hexadecimal, number}
 use Rattle.rustc_apfloat.specs.Lawful.{Constants}
 use Rattle.rustc_apfloat.specs.Formats.{half_constants, single_constants, double_constants, quad_constants, bfloat_constants, e5m2_constants, e4m3fn_constants, e4m3fnuz_constants, x87_constants}
+use Rattle.vectors.specs.declared.operation.Operation.{Operation}
+use Rattle.vectors.specs.declared.operation.Operation.TheVariants.{OfTwo, WholeNumber}
+use Rattle.vectors.specs.declared.operation.Arithmetic.{Arithmetic}
+use Rattle.vectors.specs.declared.operation.Arithmetic.TheVariants.{Sum, Difference, Product, Quotient}
 
 -- ---- the words that are known
 
@@ -21,12 +25,13 @@ formats =
     ∷ (codes "x87", x87_constants)
     ∷ []
 
-pub data Operation : Type 0 where
-  whole_number : Operation
-
 abbrev pub operations : List (List ℕ × Operation)
 operations =
-    (codes "int", whole_number)
+    (codes "add", OfTwo Sum)
+    ∷ (codes "sub", OfTwo Difference)
+    ∷ (codes "mul", OfTwo Product)
+    ∷ (codes "div", OfTwo Quotient)
+    ∷ (codes "int", WholeNumber)
     ∷ []
 
 abbrev pub modes : List (List ℕ × Round)
@@ -43,10 +48,39 @@ abbrev pub found : {A : Type 0} → List (List ℕ × A) → List ℕ → Option
 found [] word = None
 found (row ∷ rows) word = if same word row.0 then Some row.1 else found rows word
 
--- ---- operands
+-- ---- operations
 
 abbrev pub operand_count : Operation → ℕ
-operand_count whole_number = 1
+operand_count (OfTwo arithmetic) = 2
+operand_count WholeNumber = 1
+
+-- a product needs a precision of 64 at most, for its digits
+abbrev pub may_compute : ℕ → Arithmetic → Bool
+may_compute precision Sum = true
+may_compute precision Difference = true
+may_compute precision Product = nat_le precision 64
+may_compute precision Quotient = true
+
+-- whether a format of that precision has the operation
+abbrev pub is_supported : ℕ → Operation → Bool
+is_supported precision (OfTwo arithmetic) = may_compute precision arithmetic
+is_supported precision WholeNumber = true
+
+-- ---- operands
+
+-- 1 to 32 hexadecimal digits, behind 0x or without it, of a number below 2 ^ width
+abbrev pub behind_0x : List ℕ → List ℕ
+behind_0x word = if same (take 2 word) (codes "0x") then drop 2 word else word
+
+abbrev pub are_bits : ℕ → List ℕ → Bool
+are_bits width digits =
+    not (is_empty digits) && nat_le (length digits) 32 && every is_hexadecimal digits && nat_lt (number 16 digits) (2 ^ width)
+
+abbrev pub bits_of_digits : ℕ → List ℕ → Option ℕ
+bits_of_digits width digits = if are_bits width digits then Some (number 16 digits) else None
+
+abbrev pub bits_of_word : ℕ → List ℕ → Option ℕ
+bits_of_word width word = bits_of_digits width (behind_0x word)
 
 -- decimal digits of a number below 2 ^ 128
 abbrev pub is_whole_number : List ℕ → Bool
@@ -61,8 +95,9 @@ word_at words place = slice_index_or words place []
 
 -- ---- what is asked
 
--- an operation with what its operands say
+-- an operation with what its operands say: bits, or a number
 pub data Call : Type 0 where
+  of_two : Arithmetic → ℕ → ℕ → Call
   from_whole_number : ℕ → Call
 
 pub record Request : Type 0 where
@@ -71,7 +106,7 @@ pub record Request : Type 0 where
   pub call : Call
 
 -- Below, a request or the word of the first fault. The faults in their order: the count of the words, the format, the
--- operation, the mode, the count of the operands, an operand.
+-- operation, the mode, the count of the operands, an operation that the format does not have, an operand.
 
 infixl 10 ◌>>=◌
 abbrev pub ◌>>=◌ : {A B : Type 0} → Result A (List ℕ) → (A → Result B (List ℕ)) → Result B (List ℕ)
@@ -84,22 +119,34 @@ provided holds word request = if holds then request else Err word
 abbrev pub arguments : List ℕ
 arguments = codes "arguments"
 
+abbrev pub with_bits : Constants → List ℕ → Result ℕ (List ℕ)
+with_bits c word = ok_or (bits_of_word c.bits word) word
+
+abbrev pub with_two : Constants → Arithmetic → List ℕ → List ℕ → Result Call (List ℕ)
+with_two c arithmetic left right =
+    with_bits c left >>= λ x. with_bits c right >>= λ y. Ok (of_two arithmetic x y)
+
 abbrev pub with_whole_number : List ℕ → Result Call (List ℕ)
 with_whole_number word = ok_or (whole_number_of word) word >>= λ n. Ok (from_whole_number n)
 
-abbrev pub with_operands : Operation → List (List ℕ) → Result Call (List ℕ)
-with_operands whole_number operands = with_whole_number (word_at operands 0)
+abbrev pub with_operands : Constants → Operation → List (List ℕ) → Result Call (List ℕ)
+with_operands c (OfTwo arithmetic) operands = with_two c arithmetic (word_at operands 0) (word_at operands 1)
+with_operands c WholeNumber operands = with_whole_number (word_at operands 0)
 
-abbrev pub with_mode : Constants → Operation → List ℕ → List (List ℕ) → Result Request (List ℕ)
-with_mode c operation mode operands =
+abbrev pub requested : Constants → Round → Result Call (List ℕ) → Result Request (List ℕ)
+requested c mode asked = asked >>= λ call. Ok (record { constants = c; mode = mode; call = call })
+
+-- the operation stands beside its word
+abbrev pub with_mode : Constants → Operation → List ℕ → List ℕ → List (List ℕ) → Result Request (List ℕ)
+with_mode c known operation mode operands =
     ok_or (found modes mode) mode >>= λ rounding.
-    provided (length operands == operand_count operation) arguments
-    (with_operands operation operands >>= λ call.
-    Ok (record { constants = c; mode = rounding; call = call }))
+    provided (length operands == operand_count known) arguments
+    (provided (is_supported c.precision known) operation
+    (requested c rounding (with_operands c known operands)))
 
 abbrev pub with_operation : Constants → List ℕ → List ℕ → List (List ℕ) → Result Request (List ℕ)
 with_operation c operation mode operands =
-    ok_or (found operations operation) operation >>= λ known. with_mode c known mode operands
+    ok_or (found operations operation) operation >>= λ known. with_mode c known operation mode operands
 
 abbrev pub with_format : List ℕ → List ℕ → List ℕ → List (List ℕ) → Result Request (List ℕ)
 with_format format operation mode operands =

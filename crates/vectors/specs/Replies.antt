@@ -7,11 +7,16 @@ use Rattle.rustc_apfloat.specs.declared.Round.{Round}
 use Rattle.rustc_apfloat.specs.Flags.{bits_of}
 use Rattle.rustc_apfloat.specs.Format.{Format}
 use Rattle.rustc_apfloat.specs.Datum.{Datum}
+use Rattle.rustc_apfloat.specs.Sums.{IsSum, IsDifference}
+use Rattle.rustc_apfloat.specs.Products.{IsProduct}
+use Rattle.rustc_apfloat.specs.Quotients.{IsQuotient}
 use Rattle.rustc_apfloat.specs.WholeNumbers.{IsFromUnsigned}
-use Rattle.rustc_apfloat.specs.Layout.{IsEncodedBy}
+use Rattle.rustc_apfloat.specs.Layout.{datum_of, IsEncodedBy}
 use Rattle.rustc_apfloat.specs.Lawful.{Constants, format_with, layout_with}
 use Rattle.vectors.specs.declared.command.Reply as program
-use Rattle.vectors.specs.Commands.{Call, from_whole_number, Request, asked}
+use Rattle.vectors.specs.declared.operation.Arithmetic.{Arithmetic}
+use Rattle.vectors.specs.declared.operation.Arithmetic.TheVariants.{Sum, Difference, Product, Quotient}
+use Rattle.vectors.specs.Commands.{Call, of_two, from_whole_number, Request, asked}
 
 -- bits with the number of their hexadecimal digits and the flags, or the word of a refusal
 pub data Reply : Type 0 where
@@ -29,9 +34,22 @@ digit_count (refused word) = 0
 
 -- ---- the reply
 
+-- what an operation on two values answers
+abbrev pub IsOfTwo : Arithmetic → Format → Round → Datum → Datum → Datum → ℕ → Type 0
+IsOfTwo Sum f mode x y value status = IsSum f mode x y value status
+IsOfTwo Difference f mode x y value status = IsDifference f mode x y value status
+IsOfTwo Product f mode x y value status = IsProduct f mode x y value status
+IsOfTwo Quotient f mode x y value status = IsQuotient f mode x y value status
+
+-- the value that is written as bits
+abbrev pub value_of : Constants → ℕ → Datum
+value_of c bits = datum_of (format_with c) (layout_with c) bits
+
 -- what a call answers in a format
-abbrev pub IsAnswerOf : Call → Format → Round → Datum → ℕ → Type 0
-IsAnswerOf (from_whole_number n) f mode value status = IsFromUnsigned f mode n value status
+abbrev pub IsAnswerOf : Call → Constants → Round → Datum → ℕ → Type 0
+IsAnswerOf (of_two arithmetic x y) c mode value status =
+    IsOfTwo arithmetic (format_with c) mode (value_of c x) (value_of c y) value status
+IsAnswerOf (from_whole_number n) c mode value status = IsFromUnsigned (format_with c) mode n value status
 
 -- the bits of a value of the format, and its status
 pub record IsLineOf (c : Constants) (value : Datum) (status : ℕ) (reply : Reply) : Type 0 where
@@ -43,7 +61,7 @@ pub record IsLineOf (c : Constants) (value : Datum) (status : ℕ) (reply : Repl
 pub record IsAnswered (request : Request) (reply : Reply) : Type 0 where
   pub value : Datum
   pub status : ℕ
-  pub answers : IsAnswerOf request.call (format_with request.constants) request.mode value status
+  pub answers : IsAnswerOf request.call request.constants request.mode value status
   pub is_line : IsLineOf request.constants value status reply
 
 abbrev pub IsReplyTo : Result Request (List ℕ) → Reply → Type 0

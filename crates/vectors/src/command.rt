@@ -1,17 +1,19 @@
 //! What the program replies to a command.
 
-ghost use Rattle.std.specs.Prelude.{◌≡◌, ◌≤◌, ◌<◌, map, string_bytes};
+ghost use Rattle.std.specs.Prelude.{◌≡◌, ◌≤◌, ◌<◌, length, map, string_bytes, true};
 ghost use Rattle.rustc_apfloat.specs.Flags.{bits_of};
 ghost use Rattle.rustc_apfloat.specs.Types.{constants_of};
-ghost use Rattle.vectors.specs.Commands.{whole_number, with_format, with_mode, with_operation};
+ghost use Rattle.vectors.specs.declared.operation.Operation.TheVariants.{OfTwo};
+ghost use Rattle.vectors.specs.Commands.{bits_of_word, is_supported, operand_count, requested, with_format, with_operands, with_operation, with_two, with_whole_number};
 ghost use Rattle.vectors.specs.Replies.{IsLineOf, IsOnly, IsReply, IsReplyTo, digit_count, reply_of};
 
-use crate::words::{mode_named, number_of};
+use crate::operation::{Arithmetic, Operation, answer_of_two};
+use crate::words::{bits_of, mode_named, number_of, operation_named};
 use rustc_apfloat::ieee::{
     BFloatS, DoubleS, Float8E4M3FNS, Float8E4M3FNUZS, Float8E5M2S, HalfS, IeeeFloat, QuadS,
     Semantics, SingleS, X87DoubleExtendedS,
 };
-use rustc_apfloat::{Float, Status, StatusAnd};
+use rustc_apfloat::{Float, Round, Status, StatusAnd};
 
 /// The reply to a command.
 #[derive(Clone, Copy, Debug)]
@@ -79,28 +81,78 @@ fn answer_in<'a, S: Semantics>(
         (reply_of result) }
     ensures short { digit_count (reply_of result) ≤ 32 }
 {
-    match operation {
-        "int" => from_whole_number::<S>(mode, operands),
-        unknown => Reply::Refused(unknown),
-    }
-}
-
-// A whole number, rounded to a format.
-fn from_whole_number<'a, S: Semantics>(mode: &'a str, operands: &'a [String]) -> Reply<'a>
-    requires { S.PRECISION < S.BITS }
-    ensures reply { let words = map string_bytes operands.now in IsOnly
-        (IsReplyTo (with_mode (constants_of S.Semantics) whole_number mode.now words))
-        (reply_of result) }
-    ensures short { digit_count (reply_of result) ≤ 32 }
-{
+    let Some(known) = operation_named(operation) else {
+        return Reply::Refused(operation);
+    };
     let Some(round) = mode_named(mode) else {
         return Reply::Refused(mode);
     };
-    let [operand] = operands else {
+    if operands.len() != known.operand_count() {
         return Reply::Refused(ARGUMENTS);
+    }
+    if !known.is_supported(S::PRECISION) {
+        return Reply::Refused(operation);
+    }
+    answer_to::<S>(known, round, operands)
+}
+
+// The answer of an operation to its operands.
+fn answer_to<'a, S: Semantics>(
+    operation: Operation,
+    round: Round,
+    operands: &'a [String],
+) -> Reply<'a>
+    requires written { S.PRECISION < S.BITS }
+    requires count { length operands.now ≡ operand_count operation }
+    requires supported { is_supported S.PRECISION operation ≡ true }
+    ensures reply { let words = map string_bytes operands.now in
+        let c = constants_of S.Semantics in IsOnly
+        (IsReplyTo (requested c round (with_operands c operation words)))
+        (reply_of result) }
+    ensures short { digit_count (reply_of result) ≤ 32 }
+{
+    let first = operands[0].as_str();
+    match operation {
+        Operation::OfTwo(arithmetic) => {
+            of_two::<S>(arithmetic, round, first, operands[1].as_str())
+        }
+        Operation::WholeNumber => from_whole_number::<S>(round, first),
+    }
+}
+
+// An operation on two values.
+fn of_two<'a, S: Semantics>(
+    operation: Arithmetic,
+    round: Round,
+    left: &'a str,
+    right: &'a str,
+) -> Reply<'a>
+    requires written { S.PRECISION < S.BITS }
+    requires supported { is_supported S.PRECISION (OfTwo operation) ≡ true }
+    ensures reply { let c = constants_of S.Semantics in IsOnly
+        (IsReplyTo (requested c round (with_two c operation left.now right.now)))
+        (reply_of result) }
+    ensures short { digit_count (reply_of result) ≤ 32 }
+{
+    let Some(x) = bits_of(left, S::BITS) else {
+        return Reply::Refused(left);
     };
-    let Some(number) = number_of(operand.as_str()) else {
-        return Reply::Refused(operand.as_str());
+    let Some(y) = bits_of(right, S::BITS) else {
+        return Reply::Refused(right);
+    };
+    line(answer_of_two(operation, round, S::from_bits(x), S::from_bits(y)))
+}
+
+// A whole number, rounded to a format.
+fn from_whole_number<'a, S: Semantics>(round: Round, word: &'a str) -> Reply<'a>
+    requires { S.PRECISION < S.BITS }
+    ensures reply { IsOnly
+        (IsReplyTo (requested (constants_of S.Semantics) round (with_whole_number word.now)))
+        (reply_of result) }
+    ensures short { digit_count (reply_of result) ≤ 32 }
+{
+    let Some(number) = number_of(word) else {
+        return Reply::Refused(word);
     };
     line(IeeeFloat::<S>::from_u128_r(number, round))
 }

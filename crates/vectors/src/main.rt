@@ -5,6 +5,7 @@
 #![tactic(auto)]
 
 mod command;
+mod operation;
 mod output;
 mod words;
 

@@ -57,7 +57,7 @@ fn expect_reply<R: Abort + AllocGlobal>(rt: &R, command: &str, reply: &str) -> R
     Ok(())
 }
 
-static WORKED: [(&str, &str); 16] = [
+static WORKED: [(&str, &str); 28] = [
     ("half int even 464", "5f40 OK"),
     ("half int even 0", "0000 OK"),
     ("half int even 2049", "6800 INEXACT"),
@@ -80,6 +80,24 @@ static WORKED: [(&str, &str); 16] = [
     ("e4m3fn int even 465", "7f OVERFLOW|INEXACT"),
     ("e4m3fn int even 480", "7f OVERFLOW|INEXACT"),
     ("e4m3fn int zero 480", "7e INEXACT"),
+    ("half div even 3c00 4200", "3555 INEXACT"),
+    ("half mul even 0x0001 3800", "0000 UNDERFLOW|INEXACT"),
+    ("half mul up 1 3800", "0001 UNDERFLOW|INEXACT"),
+    ("half mul even 0400 3BFF", "0400 INEXACT"),
+    ("e4m3fn div even 38 80", "ff DIV_BY_ZERO"),
+    (
+        "half div even 0x00000000000000000000000000003c00 3c00",
+        "3c00 OK",
+    ),
+    (
+        "quad div even 0 0",
+        "7fff8000000000000000000000000000 INVALID_OP",
+    ),
+    ("half add even 7bff 4c00", "7c00 OVERFLOW|INEXACT"),
+    ("half add zero 7bff 4c00", "7bff INEXACT"),
+    ("half sub even 3c00 3c00", "0000 OK"),
+    ("half sub down 3c00 3c00", "8000 OK"),
+    ("half add even 7d00 3c00", "7f00 INVALID_OP"),
 ];
 
 #[test]
@@ -87,7 +105,7 @@ fn answers_worked_commands(rt: HostRuntime) -> Result<(), Fail> {
     expect_replies(&rt, &WORKED)
 }
 
-static FAULTS: [(&str, &str); 24] = [
+static FAULTS: [(&str, &str); 41] = [
     ("half", "refused: arguments"),
     ("half int even", "refused: arguments"),
     ("half int even 1 2 3 4", "refused: arguments"),
@@ -121,6 +139,26 @@ static FAULTS: [(&str, &str); 24] = [
         "half int even 10000000000000000000000000000000000000000000000000000000000000000x",
         "refused: 10000000000000000000000000000000000000000000000000000000000000000x",
     ),
+    ("quad mul even 0", "refused: arguments"),
+    ("quad mul odd 0 0", "refused: odd"),
+    ("quad mul even 0 0", "refused: mul"),
+    ("quad mul even zz 0", "refused: mul"),
+    ("half div even 3c00", "refused: arguments"),
+    ("half div even 3c00 3c00 3c00", "refused: arguments"),
+    ("half div even  3c00", "refused: "),
+    ("half div even 0x 3c00", "refused: 0x"),
+    ("half div even 0X3c00 3c00", "refused: 0X3c00"),
+    ("half div even 10000 zz", "refused: 10000"),
+    ("half div even 3c00 10000", "refused: 10000"),
+    ("half div even 3c00 3g", "refused: 3g"),
+    ("half div even 3c00 -1", "refused: -1"),
+    (
+        "half div even 000000000000000000000000000003c00 1",
+        "refused: 000000000000000000000000000003c00",
+    ),
+    ("half add odd 3c00 3c00", "refused: odd"),
+    ("half add even 3c00", "refused: arguments"),
+    ("e5m2 sub even 0 100", "refused: 100"),
 ];
 
 #[test]
@@ -132,6 +170,16 @@ fn names_the_first_fault(rt: HostRuntime) -> Result<(), Fail> {
 fn answers_samples_of_whole_numbers(rt: HostRuntime) -> Result<(), Fail> {
     expect_replies(&rt, &samples::WHOLE_NUMBERS)?;
     expect_replies(&rt, &samples::WHOLE_NUMBERS_IN_OTHER_FORMATS)
+}
+
+#[test]
+fn answers_samples_of_sums_and_differences(rt: HostRuntime) -> Result<(), Fail> {
+    expect_replies(&rt, &samples::SUMS_AND_DIFFERENCES)
+}
+
+#[test]
+fn answers_samples_of_products_and_quotients(rt: HostRuntime) -> Result<(), Fail> {
+    expect_replies(&rt, &samples::PRODUCTS_AND_QUOTIENTS)
 }
 
 // Leading zeros are read, however many.
