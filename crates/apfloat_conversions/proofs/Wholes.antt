@@ -1,10 +1,11 @@
 -- The whole number that a mode picks.
-use Rattle.std.proofs.Common.{◌≡◌, ℕ, ◌+◌, ◌-◌, ◌*◌, ◌/◌, ◌%◌, ◌^◌, ◌<◌, ◌≤◌, Bool, true, false, cond, eqb, sym, refl, ap, ◌∙◌, subst, arith, ℤ, pos, negsuc, ◌-ℤ◌, ◌≤ℤ◌}
+use Rattle.std.proofs.Common.{◌≡◌, ℕ, ◌+◌, ◌-◌, ◌*◌, ◌/◌, ◌%◌, ◌^◌, ◌<◌, ◌≤◌, Bool, true, false, cond, eqb, sym, refl, ap, ◌∙◌, subst, ⊎_elim, arith, ℤ, pos, negsuc, ◌-ℤ◌, ◌≤ℤ◌}
 use Rattle.std.proofs.Math.Nat.{mul-mod_left, mul-div_cancel, div-eq_of_lt-le, div-one, mul-le-mul_right, mul-le-mul_left, pow-le-pow_right, mul-lt-mul_of_pos_right}
 use Rattle.std.proofs.lemmas.Nat.{div-add-mod', pow-add, pow_pos}
 use Rattle.std.proofs.lemmas.Int.{ints}
-use Rattle.std.proofs.lemmas.Bool.{eq-eqb, ne_eqb, false≢true}
+use Rattle.std.proofs.lemmas.Bool.{cases_eq, eq-eqb, ne_eqb, false≢true}
 use Rattle.apfloat_base.specs.declared.kinds.Round.{Round}
+use Rattle.apfloat_base.specs.declared.kinds.Round.TheVariants.{TowardZero}
 use Rattle.apfloat_base.specs.declared.sig.loss.Loss.{Loss}
 use Rattle.apfloat_base.specs.declared.sig.loss.Loss.TheVariants.{ExactlyZero, LessThanHalf, ExactlyHalf, MoreThanHalf}
 use Rattle.apfloat_base.specs.Standing.{StandsFor, up, down}
@@ -181,3 +182,21 @@ pub integral_stays : (f : Format) (mode : Round) (b : Bool) (n q : ℕ) → 0 < 
 integral_stays f mode b n q p e =
     integral_picked f mode b n q true (finite b n) 0 (sym (whole_exactly mode b q n (2 ^ f.scale) (pow_pos f.scale) e)) (exactly_so mode b q n (2 ^ f.scale) (pow_pos f.scale) e)
     (sym (signed_some f.nonfinite b n p) ∙ ap (λ (k : ℕ). signed_quanta f.nonfinite b k) e) refl
+
+-- ---- toward zero a whole number stays, and no other does
+
+pub whole_toward_zero : (negative : Bool) (amount parts : ℕ) → 0 < parts → eqb (whole_pick TowardZero negative amount parts * parts) amount ≡ eqb (amount % parts) 0
+whole_toward_zero negative amount parts p =
+    let m : amount / parts * parts + amount % parts ≡ amount = div-add-mod' amount parts in
+    ⊎_elim
+    (λ (e : amount % parts ≡ 0).
+    let z = eq-eqb (amount % parts) 0 e in
+    let q : amount / parts * parts ≡ amount = omega (arith, m, e) in
+    rw z (eq-eqb (amount / parts * parts) amount q))
+    (λ (e : amount % parts ≡ 0 → ⊥).
+    let z = ne_eqb (amount % parts) 0 e in
+    rw z (ne_eqb (amount / parts * parts) amount (λ q. e (omega (arith, m, q)))))
+    (cases_eq (amount % parts) 0)
+
+pub whole_multiple : (q amount parts : ℕ) → amount ≡ q * parts → true ≡ eqb (amount % parts) 0
+whole_multiple q amount parts e = sym (eq-eqb (amount % parts) 0 (ap (λ (x : ℕ). x % parts) e ∙ mul-mod_left q parts))

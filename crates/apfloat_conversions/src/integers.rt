@@ -1,6 +1,6 @@
 //! Whole numbers into a format and out of it.
 
-ghost use Rattle.std.specs.Prelude.{◌≡◌, ◌-◌, ◌^◌, ◌≤◌, false, if◌then◌else◌};
+ghost use Rattle.std.specs.Prelude.{◌≡◌, ◌-◌, ◌^◌, ◌<◌, ◌≤◌, false, if◌then◌else◌};
 ghost use Rattle.apfloat_base.specs.Datum.{finite};
 ghost use Rattle.apfloat_base.specs.Flags.{bits_of};
 ghost use Rattle.apfloat_base.specs.WholeNumbers.{IsFromUnsigned, inexact_unless};
@@ -68,7 +68,8 @@ fn out_of_range(number: u128) -> Unsigned
 fn limit_of(width: u32, negative: bool) -> u128
     requires low { 1 ≤ width }
     requires high { width ≤ 128 }
-    ensures { result ≡ (if negative then 0 else 2 ^ width - 1) }
+    ensures value { result ≡ (if negative then 0 else 2 ^ width - 1) }
+    ensures fits { result < 2 ^ width }
 {
     if negative { 0 } else { greatest(width) }
 }
@@ -80,7 +81,8 @@ fn number_to_unsigned(shape: Shape, x: Unpacked, width: u32, round: Round) -> Un
     requires normal { IsNormal shape x.significand x.exponent }
     requires low { 1 ≤ width }
     requires high { width ≤ 128 }
-    ensures { IsToUnsigned (format_at shape) round width (finite x.negative (quanta_at shape.min_exp x.significand x.exponent)) result.answer.value (bits_of result.answer.status) result.is_exact }
+    ensures whole { IsToUnsigned (format_at shape) round width (finite x.negative (quanta_at shape.min_exp x.significand x.exponent)) result.answer.value (bits_of result.answer.status) result.is_exact }
+    ensures fits { result.answer.value < 2 ^ width }
 {
     let limit = limit_of(width, x.negative);
     match whole_of(shape, x, round) {
@@ -104,7 +106,8 @@ pub fn to_unsigned(shape: Shape, x: Unpacked, width: u32, round: Round) -> Unsig
     requires stored { IsStored shape x }
     requires low { 1 ≤ width }
     requires high { width ≤ 128 }
-    ensures { IsToUnsigned (format_at shape) round width (datum_at shape x) result.answer.value (bits_of result.answer.status) result.is_exact }
+    ensures whole { IsToUnsigned (format_at shape) round width (datum_at shape x) result.answer.value (bits_of result.answer.status) result.is_exact }
+    ensures fits { result.answer.value < 2 ^ width }
 {
     match x.category {
         Category::Normal => number_to_unsigned(shape, x, width, round),

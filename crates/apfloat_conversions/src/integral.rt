@@ -1,6 +1,7 @@
 //! Values rounded to whole numbers of their format.
 
-ghost use Rattle.std.specs.Prelude.{◌≡◌};
+ghost use Rattle.std.specs.Prelude.{◌≡◌, ◌%◌, ◌^◌, eqb};
+ghost use Rattle.apfloat_base.specs.Classes.{is_integer};
 ghost use Rattle.apfloat_base.specs.declared.kinds.Category.TheVariants.{Normal};
 ghost use Rattle.apfloat_base.specs.Flags.{bits_of};
 ghost use Rattle.apfloat_base.specs.WholeNumbers.{IsRoundToIntegral};
@@ -46,5 +47,35 @@ pub fn round_to_integral(shape: Shape, x: Unpacked, round: Round) -> StatusAnd<U
         Category::NaN => propagated(shape, x),
         Category::Zero => Status::OK.and(x),
         Category::Infinity => Status::OK.and(x),
+    }
+}
+
+/// Whether a finite number that is not zero is a whole number.
+#[inline]
+fn is_whole_number(shape: Shape, x: Unpacked) -> bool
+    requires lawful { IsShape shape }
+    requires normal { IsNormal shape x.significand x.exponent }
+    ensures { result ≡ eqb (quanta_at shape.min_exp x.significand x.exponent % 2 ^ (format_at shape).scale) 0 }
+{
+    let exponent = last_exponent(shape, x.exponent);
+    if exponent >= 0 {
+        return true;
+    }
+    let places = steps_between(0, exponent);
+    round_fraction(x.significand, places, Round::TowardZero, x.negative).exact
+}
+
+/// Whether a value is finite and a whole number, zeros too.
+#[inline]
+pub fn is_integer(shape: Shape, x: Unpacked) -> bool
+    requires lawful { IsShape shape }
+    requires stored { IsStored shape x }
+    ensures { result ≡ is_integer (format_at shape) (datum_at shape x) }
+{
+    match x.category {
+        Category::Normal => is_whole_number(shape, x),
+        Category::Zero => true,
+        Category::Infinity => false,
+        Category::NaN => false,
     }
 }
