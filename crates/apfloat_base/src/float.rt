@@ -12,7 +12,9 @@ ghost use Rattle.apfloat_base.specs.declared.status.StatusAnd.{StatusAnd};
 
 use crate::kinds::{Category, ExpInt, Round};
 use crate::status::StatusAnd;
-use std::ops::{Add, AddAssign, Div, DivAssign, Mul, MulAssign, Neg, Sub, SubAssign};
+use std::ops::{
+    Add, AddAssign, Div, DivAssign, Mul, MulAssign, Neg, Rem, RemAssign, Sub, SubAssign,
+};
 
 /// A floating-point type.
 ///
@@ -25,10 +27,12 @@ pub trait Float: Copy
     + SubAssign
     + MulAssign
     + DivAssign
+    + RemAssign
     + Add<Output = StatusAnd<Self>>
     + Sub<Output = StatusAnd<Self>>
     + Mul<Output = StatusAnd<Self>>
-    + Div<Output = StatusAnd<Self>> {
+    + Div<Output = StatusAnd<Self>>
+    + Rem<Output = StatusAnd<Self>> {
     /// How many bits a value is written with; 0 where values are for computing only.
     const BITS: usize;
 
@@ -92,6 +96,11 @@ pub trait Float: Copy
 
     // What is answered for the exact inverse.
     ghost inverts: { Self → Option Self → Type 0 };
+
+    // What is left by the quotient cut toward zero, and by the whole number nearest to the quotient.
+    ghost leaves: { Self → Self → StatusAnd Self → Type 0 };
+
+    ghost leaves_nearest: { Self → Self → StatusAnd Self → Type 0 };
 
     // The value of bits, and the bits of a value.
     ghost value_of_bits: { ℕ → Self };
@@ -163,6 +172,22 @@ pub trait Float: Copy
     /// answered, made quiet (6.2.3).
     fn div_r(self, rhs: Self, round: Round) -> StatusAnd<Self>
         ensures { divides self rhs round result };
+
+    /// The remainder `self - rhs * n`, with `n` the whole number nearest to the quotient, a tie to the even one
+    /// (IEEE 754-2008 5.3.1, remainder). It is exact.
+    ///
+    /// A zero that is left has the sign of `self` where the format has such a zero, and an infinity leaves a finite value
+    /// as it is. The remainder of an infinity, and that by a zero, are invalid (7.2): the quiet NaN without a payload,
+    /// with `INVALID_OP`. A NaN operand is answered, made quiet (6.2.3).
+    fn ieee_rem(self, rhs: Self) -> StatusAnd<Self>
+        ensures { leaves_nearest self rhs result };
+
+    /// The remainder `self - rhs * t`, with `t` the quotient cut toward zero, as C's `fmod` has it. It is exact, and has
+    /// the sign of `self`.
+    ///
+    /// Zeros, infinities and NaNs are answered as by `ieee_rem`.
+    fn c_fmod(self, rhs: Self) -> StatusAnd<Self>
+        ensures { leaves self rhs result };
 
     /// The value without its sign (IEEE 754-2008 5.5.1, abs). A NaN too loses its sign, and none is signaled.
     fn abs(self) -> Self
@@ -278,6 +303,14 @@ pub trait Float: Copy
     ghost can_div_assign_law: { (x y : Self) → Self.can_div_assign x y };
 
     ghost div_assign_law: { (x y z : Self) → Self.div_assign_gives x y z → (r : StatusAnd Self) × divides x y NearestTiesToEven r × (z ≡ r.value) };
+
+    ghost can_rem_law: { (x y : Self) → Self.can_rem x y };
+
+    ghost rem_law: { (x y : Self) (r : StatusAnd Self) → Self.rem_gives x y r → leaves x y r };
+
+    ghost can_rem_assign_law: { (x y : Self) → Self.can_rem_assign x y };
+
+    ghost rem_assign_law: { (x y z : Self) → Self.rem_assign_gives x y z → (r : StatusAnd Self) × leaves x y r × (z ≡ r.value) };
 
     ghost default_law: { (x : Self) → Self.is_default x → x ≡ the_zero };
 

@@ -6,6 +6,7 @@ ghost use Rattle.apfloat_base.specs.Nan.{qnan, snan, is_signaling_nan};
 ghost use Rattle.apfloat_base.specs.Negation.{negated};
 ghost use Rattle.apfloat_base.specs.Sums.{IsSum, IsDifference};
 ghost use Rattle.apfloat_base.proofs.SignedNumbers.{signed_above, signed_below, largest_some};
+ghost use Rattle.apfloat_base.specs.Remainders.{IsTruncatedRemainder, IsNearestRemainder};
 ghost use Rattle.apfloat_base.specs.Members.{IsMember};
 ghost use Rattle.apfloat_base.specs.Classes.{category_of, is_negative, is_denormal};
 ghost use Rattle.apfloat_base.specs.Exponents.{IsExactInverse};
@@ -19,6 +20,7 @@ ghost use Rattle.apfloat_ieee.specs.Types.{format_of, layout_of};
 
 use crate::float::{IeeeFloat, read, shape_of, write};
 use crate::products::{inverse, product, quotient};
+use crate::remainder::{nearest, truncated};
 use crate::semantics::Semantics;
 use crate::sums::{difference, sum};
 use apfloat_arithmetic::classes::is_denormal;
@@ -93,6 +95,10 @@ impl<S: Semantics> Float for IeeeFloat<S> {
 
     ghost inverts = { IsExactInverse (format_of S.Semantics) };
 
+    ghost leaves = { λ x y answer. Gives (IsTruncatedRemainder (format_of S.Semantics) x y) answer };
+
+    ghost leaves_nearest = { λ x y answer. Gives (IsNearestRemainder (format_of S.Semantics) x y) answer };
+
     ghost value_of_bits = { datum_of (format_of S.Semantics) (layout_of S.Semantics) };
 
     ghost writes_bits = { λ x bits. IsEncodedBy (format_of S.Semantics) (layout_of S.Semantics) bits x };
@@ -158,6 +164,16 @@ impl<S: Semantics> Float for IeeeFloat<S> {
     #[inline]
     fn div_r(self, rhs: Self, round: Round) -> StatusAnd<Self> {
         quotient(self, rhs, round)
+    }
+
+    #[inline]
+    fn ieee_rem(self, rhs: Self) -> StatusAnd<Self> {
+        nearest(self, rhs)
+    }
+
+    #[inline]
+    fn c_fmod(self, rhs: Self) -> StatusAnd<Self> {
+        truncated(self, rhs)
     }
 
     #[inline]
@@ -228,6 +244,14 @@ impl<S: Semantics> Float for IeeeFloat<S> {
     ghost can_div_assign_law = { λ x y. tt };
 
     ghost div_assign_law = { λ x y z h. (record { status = record { 0 = h.0 }; value = z }, h.1, refl) };
+
+    ghost can_rem_law = { λ x y. tt };
+
+    ghost rem_law = { λ x y r h. h };
+
+    ghost can_rem_assign_law = { λ x y. tt };
+
+    ghost rem_assign_law = { λ x y z h. (record { status = record { 0 = h.0 }; value = z }, h.1, refl) };
 
     ghost default_law = { λ x h. h };
 
