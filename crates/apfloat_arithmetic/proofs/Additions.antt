@@ -107,7 +107,7 @@ zero_amount q loss amount unit a b h =
     let s : StandsFor 0 ExactlyZero amount unit = subst (λ (x : ℕ). StandsFor x ExactlyZero amount unit) a (subst (λ (x : Loss). StandsFor q x amount unit) b h) in
     omega (arith, s)
 
-read_sum : (of_zero : Bool) (base e unit : ℤ) (k m n : ℕ) (s t negative : Bool) (q : ℕ) (loss : Loss) → e ≡ ((unit +ℤ base) +ℤ pos k)
+pub read_sum : (of_zero : Bool) (base e unit : ℤ) (k m n : ℕ) (s t negative : Bool) (q : ℕ) (loss : Loss) → e ≡ ((unit +ℤ base) +ℤ pos k)
     → StandsForSigned base (signed s (m * 2 ^ k) +ℤ signed t (n * 2 ^ k)) negative e q loss → IsRead of_zero (signed s m +ℤ signed t n) negative unit q loss
 read_sum of_zero base e unit k m n s t negative q loss d h =
     let w : 0 < 2 ^ k = pow_pos k in

@@ -6,6 +6,8 @@ pub mod ExactAnswers
 mod NumberClasses
 mod PowerFactors
 mod ExactInverses
+mod WideTerms
+mod FusedCases
 mod SpecialRemainders
 mod Additions
 mod SumCases

@@ -6,6 +6,7 @@
 
 pub mod classes;
 mod exact;
+pub mod fused;
 pub mod inverses;
 pub mod order;
 pub mod products;

@@ -46,7 +46,7 @@ fn term_of(shape: Shape, x: Unpacked) -> Term
 
 /// The sign of an exact zero that is a sum of numbers with these signs (IEEE 754-2008 6.3).
 #[inline]
-fn sign_of_zero(round: Round, left: bool, right: bool) -> bool
+pub(crate) fn sign_of_zero(round: Round, left: bool, right: bool) -> bool
     ensures { result ≡ zero_sum_sign round left right }
 {
     if left == right {
@@ -63,7 +63,7 @@ fn sign_of_zero(round: Round, left: bool, right: bool) -> bool
 
 /// The sign of a total; `of_zero` where it is exactly zero.
 #[inline]
-fn sign_of_total(total: Total, of_zero: bool) -> bool
+pub(crate) fn sign_of_total(total: Total, of_zero: bool) -> bool
     ensures zero { total.significand ≡ 0 → total.loss ≡ Loss.ExactlyZero → result ≡ of_zero }
     ensures other { (total.significand ≡ 0 → total.loss ≡ Loss.ExactlyZero → ⊥) → result ≡ total.negative }
 {
