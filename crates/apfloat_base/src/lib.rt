@@ -4,6 +4,7 @@
 //! The mathematical model stands in `specs/`; `docs/MODEL.md` at the root of the repository reads it aloud.
 #![tactic(auto)]
 
+pub mod convert;
 pub mod float;
 pub mod kinds;
 pub mod parse_error;
@@ -11,6 +12,7 @@ pub mod sig;
 pub mod status;
 
 pub use bitflags::Flags;
+pub use convert::FloatConvert;
 pub use float::Float;
 pub use kinds::{Category, ExpInt, IEK_INF, IEK_NAN, IEK_ZERO, NonfiniteBehavior, Round};
 pub use parse_error::ParseError;

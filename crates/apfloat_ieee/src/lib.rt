@@ -5,6 +5,7 @@
 //! the generic calls only bring a type's constants to them.
 #![tactic(auto)]
 
+mod convert;
 mod debug;
 pub mod float;
 pub mod formats;

@@ -1,0 +1,35 @@
+//! The trait of conversions between two floating-point types.
+
+ghost use Rattle.std.specs.Prelude.{Bool};
+ghost use Rattle.apfloat_base.specs.declared.kinds.Round.{Round};
+ghost use Rattle.apfloat_base.specs.declared.kinds.Round.TheVariants.{NearestTiesToEven};
+ghost use Rattle.apfloat_base.specs.declared.status.StatusAnd.{StatusAnd};
+
+use crate::float::Float;
+use crate::kinds::Round;
+use crate::status::StatusAnd;
+
+/// A type whose values convert to `T`.
+///
+/// Its ghost member says what the conversion answers, and whether information was lost.
+pub trait FloatConvert<T: Float>: Float {
+    ghost converts: { Self → Round → StatusAnd T → Bool → Type 0 };
+
+    /// The value in `T`, rounded once (IEEE 754-2008 5.4.2, convertFormat), and in `loses_info` whether information was
+    /// lost.
+    ///
+    /// A number loses information exactly where the status is not OK. A zero whose sign `T` does not have, and an
+    /// infinity where it has none, lose information with `INEXACT`. A NaN is made quiet, with `INVALID_OP` if it
+    /// signaled; it loses information where a bit of its payload that was set, or all of the payload, does not come
+    /// through, or the integer bit of a signaling one.
+    fn convert_r(self, round: Round, loses_info: &mut bool) -> StatusAnd<T>
+        ensures { converts self round result loses_info.new };
+
+    /// The value in `T`, rounded once to the nearest value, a tie to the even one, and in `loses_info` whether
+    /// information was lost.
+    fn convert(self, loses_info: &mut bool) -> StatusAnd<T>
+        ensures { converts self NearestTiesToEven result loses_info.new }
+    {
+        self.convert_r(Round::NearestTiesToEven, loses_info)
+    }
+}
