@@ -1,20 +1,24 @@
 -- Sums whose exact result is a value of the format, and sums that grow.
-use Rattle.std.proofs.Common.{◌≡◌, ℕ, zero, suc, ℤ, pos, negsuc, neg_ℤ, ◌+ℤ◌, ◌-ℤ◌, ◌≤ℤ◌, ◌+◌, ◌-◌, ◌*◌, ◌^◌, ◌<◌, ◌≤◌, ◌⊎◌, Bool, true, false, not, sym, refl, ap, ◌∙◌, subst, inl, inr, ⊎_elim, lit<, arith}
+use Rattle.std.proofs.Common.{◌≡◌, ℕ, zero, suc, ℤ, pos, negsuc, neg_ℤ, ◌+ℤ◌, ◌-ℤ◌, ◌≤ℤ◌, ◌+◌, ◌-◌, ◌*◌, ◌^◌, ◌<◌, ◌≤◌, ◌⊎◌, Bool, true, false, not, cond, ltb, eqb, sym, refl, ap, ◌∙◌, subst, inl, inr, ⊎_elim, lit<, arith}
+use Rattle.std.specs.Prelude.{IsTrue}
 use Rattle.std.proofs.Math.Nat.{le_of_mul-le-mul_right}
 use Rattle.std.proofs.lemmas.Nat.{pow-add, pow_pos}
-use Rattle.std.proofs.lemmas.Bool.{cases_lt, false≢true}
+use Rattle.std.proofs.lemmas.Bool.{cases_lt, false≢true, ne_eqb}
 use Rattle.std.proofs.lemmas.Int.{ints}
 use Rattle.apfloat_base.specs.declared.kinds.Round.{Round}
 use Rattle.apfloat_base.specs.declared.kinds.NonfiniteBehavior.{NonfiniteBehavior}
 use Rattle.apfloat_base.specs.declared.kinds.NonfiniteBehavior.TheVariants.{IEEE754, NanOnly, NanNegativeZero}
 use Rattle.apfloat_base.specs.Exact.{up, down, signed, sign_of, magnitude, IsRounded}
-use Rattle.apfloat_base.specs.Format.{Format, largest}
+use Rattle.apfloat_base.specs.Format.{Format, largest, nan_base}
 use Rattle.apfloat_base.specs.Datum.{Datum, finite, infinite, nan}
 use Rattle.apfloat_base.specs.Grid.{IsOnGrid}
-use Rattle.apfloat_base.specs.Members.{IsFiniteOf}
-use Rattle.apfloat_base.specs.Rounding.{IsDelivered, zero_sign, signed_quanta, ok_bits}
+use Rattle.apfloat_base.specs.Members.{IsFiniteOf, IsMember}
+use Rattle.apfloat_base.specs.Classes.{is_finite}
+use Rattle.apfloat_base.specs.Order.{number, AtMost}
+use Rattle.apfloat_base.specs.Sums.{IsSum, IsDifference, zero_sum_sign, IsExactly, IsNearby, IsMonotone}
+use Rattle.apfloat_base.specs.Rounding.{IsDelivered, delivered_value, leads_out, past_largest, zero_sign, signed_quanta, ok_bits}
 use Rattle.apfloat_base.proofs.Deliveries.{signed_some}
-use Rattle.apfloat_base.proofs.Laws.{delivered_once, exact_delivered}
+use Rattle.apfloat_base.proofs.Laws.{delivered_once, exact_delivered, pick_grows}
 
 -- ---- a sum with a zero, and of zeros
 
@@ -57,3 +61,213 @@ zero_rounded f mode of_zero b c =
     let z : (signed b 0 +ℤ signed c 0) ≡ pos 0 = and_zero b c 0 ∙ no_sign b in
     let g : IsOnGrid f.precision 0 = record { significand = 0; place = 0; fits = pow_pos f.precision; is = refl } in
     rw z (exact_delivered f mode of_zero 0 0 1 (omega arith) g (omega arith) (omega arith))
+
+-- ---- the difference of near numbers
+
+-- a multiple of a point's place, not above the point, is on the grid
+close_at : (precision d s p k : ℕ) → s < 2 ^ precision → d ≡ k * 2 ^ p → d ≤ s * 2 ^ p → IsOnGrid precision d
+close_at precision d s p k h q l =
+    let l' : k * 2 ^ p ≤ s * 2 ^ p = omega arith in
+    let k' : k ≤ s = le_of_mul-le-mul_right l' (pow_pos p) in
+    record { significand = k; place = p; fits = omega arith; is = q }
+
+raised_place : (t p j : ℕ) → p ≤ j → t * 2 ^ j ≡ t * 2 ^ (j - p) * 2 ^ p
+raised_place t p j l =
+    let e : j ≡ (j - p) + p = omega arith in
+    let a : 2 ^ j ≡ 2 ^ (j - p) * 2 ^ p = ap (λ (x : ℕ). 2 ^ x) e ∙ pow-add 2 (j - p) p in
+    ap (λ (x : ℕ). t * x) a ∙ omega arith
+
+left_over : (a s u d : ℕ) → 0 < u → a * u ≡ s * u + d → d ≡ (a - s) * u
+left_over a s u d p e =
+    let l' : s * u ≤ a * u = omega arith in
+    let l : s ≤ a = le_of_mul-le-mul_right l' p in
+    let g : s + (a - s) ≡ a = omega arith in
+    let k : (s + (a - s)) * u ≡ a * u = ap (λ (x : ℕ). x * u) g in
+    omega arith
+
+-- d is how far two points are apart, of which the first has the lower place
+close_low : (precision s p t j d : ℕ) → s < 2 ^ precision → p ≤ j → (t * 2 ^ j ≡ s * 2 ^ p + d) ⊎ (s * 2 ^ p ≡ t * 2 ^ j + d) → d ≤ s * 2 ^ p → IsOnGrid precision d
+close_low precision s p t j d h l (inl e) q =
+    let r : t * 2 ^ j ≡ t * 2 ^ (j - p) * 2 ^ p = raised_place t p j l in
+    close_at precision d s p (t * 2 ^ (j - p) - s) h (left_over (t * 2 ^ (j - p)) s (2 ^ p) d (pow_pos p) (sym r ∙ e)) q
+close_low precision s p t j d h l (inr e) q =
+    let r : t * 2 ^ j ≡ t * 2 ^ (j - p) * 2 ^ p = raised_place t p j l in
+    close_at precision d s p (s - t * 2 ^ (j - p)) h (left_over s (t * 2 ^ (j - p)) (2 ^ p) d (pow_pos p) (e ∙ ap (λ (x : ℕ). x + d) r)) q
+
+swap_sides : (A B : Type 0) → A ⊎ B → B ⊎ A
+swap_sides A B (inl a) = inr a
+swap_sides A B (inr b) = inl b
+
+pub close_on_grid : (precision m n d : ℕ) → IsOnGrid precision m → IsOnGrid precision n → (m ≡ n + d) ⊎ (n ≡ m + d) → m ≤ 2 * n → n ≤ 2 * m → IsOnGrid precision d
+close_on_grid precision m n d x y e a b =
+    let e' : (x.significand * 2 ^ x.place ≡ y.significand * 2 ^ y.place + d) ⊎ (y.significand * 2 ^ y.place ≡ x.significand * 2 ^ x.place + d) =
+    subst (λ (z : ℕ). (x.significand * 2 ^ x.place ≡ z + d) ⊎ (z ≡ x.significand * 2 ^ x.place + d)) y.is (subst (λ (z : ℕ). (z ≡ n + d) ⊎ (n ≡ z + d)) x.is e) in
+    let f : (d ≤ m) × (d ≤ n) = ⊎_elim (λ (z : m ≡ n + d). (omega arith, omega arith)) (λ (z : n ≡ m + d). (omega arith, omega arith)) e in
+    let f₀ = f.0 in let f₁ = f.1 in
+    let dx : d ≤ x.significand * 2 ^ x.place = subst (λ (z : ℕ). d ≤ z) x.is f₀ in
+    let dy : d ≤ y.significand * 2 ^ y.place = subst (λ (z : ℕ). d ≤ z) y.is f₁ in
+    ⊎_elim
+    (λ (l : x.place < y.place). let l' : x.place ≤ y.place = omega arith in close_low precision x.significand x.place y.significand y.place d x.fits l' (swap_sides _ _ e') dx)
+    (λ (l : y.place ≤ x.place). close_low precision y.significand y.place x.significand x.place d y.fits l e' dy)
+    (cases_lt x.place y.place)
+
+one_side : (z : ℤ) → (up z ≡ 0) ⊎ (down z ≡ 0)
+one_side (pos n) = inr refl
+one_side (negsuc n) = inl refl
+
+far_apart : (m n : ℕ) → (m ≡ n + magnitude (pos m -ℤ pos n)) ⊎ (n ≡ m + magnitude (pos m -ℤ pos n))
+far_apart m n =
+    ⊎_elim
+    (λ (z : up (pos m -ℤ pos n) ≡ 0). inr (omega (arith, ints)))
+    (λ (z : down (pos m -ℤ pos n) ≡ 0). inl (omega (arith, ints)))
+    (one_side (pos m -ℤ pos n))
+
+far_below : (m n d top : ℕ) → (m ≡ n + d) ⊎ (n ≡ m + d) → m ≤ top → n ≤ top → d ≤ top
+far_below m n d top (inl e) a b = omega arith
+far_below m n d top (inr e) a b = omega arith
+
+-- a value with the sign and the magnitude of a number is that number
+exactly : (kind : NonfiniteBehavior) (of_zero : Bool) (z : ℤ) (v : Datum) (s : ℕ) → v ≡ signed_quanta kind (sign_of of_zero z) (magnitude z) → s ≡ ok_bits → IsExactly z v s
+exactly kind of_zero (pos zero) v s h e = record { negative = zero_sign kind of_zero; quanta = 0; value_is = h; number_is = no_sign (zero_sign kind of_zero); status_is = e }
+exactly kind of_zero (pos (suc n)) v s h e = record { negative = false; quanta = suc n; value_is = h ∙ ap (λ (x : ℕ). signed_quanta kind false x) (magnitude_signed false (suc n)) ∙ signed_some kind false (suc n) (omega arith); number_is = refl; status_is = e }
+exactly kind of_zero (negsuc n) v s h e = record { negative = true; quanta = suc n; value_is = h ∙ ap (λ (x : ℕ). signed_quanta kind true x) (magnitude_signed true (suc n)) ∙ signed_some kind true (suc n) (omega arith); number_is = refl; status_is = e }
+
+pub nearby_numbers : (f : Format) (mode : Round) (of_zero : Bool) (m n : ℕ) (v : Datum) (s : ℕ) → IsFiniteOf f false m → IsFiniteOf f false n → m ≤ 2 * n → n ≤ 2 * m
+    → IsRounded f mode of_zero (pos m -ℤ pos n) 1 v s → IsExactly (pos m -ℤ pos n) v s
+nearby_numbers f mode of_zero m n v s x y a b h =
+    let d = magnitude (pos m -ℤ pos n) in
+    let e = far_apart m n in
+    let g : IsOnGrid f.precision d = close_on_grid f.precision m n d x.on_grid y.on_grid e a b in
+    let r = delivered_once f mode (sign_of of_zero (pos m -ℤ pos n)) d 1 v (signed_quanta f.nonfinite (sign_of of_zero (pos m -ℤ pos n)) d) s ok_bits h
+    (exact_delivered f mode (sign_of of_zero (pos m -ℤ pos n)) d d 1 (omega arith) g (far_below m n d (largest f) e x.within y.within) (omega arith)) in
+    exactly f.nonfinite of_zero (pos m -ℤ pos n) v s r.0 r.1
+
+minus_is : (m n : ℕ) → (signed false m +ℤ signed true n) ≡ (pos m -ℤ pos n)
+minus_is m n = omega (arith, ints)
+
+-- a difference of near numbers is exact
+pub nearby : (f : Format) (mode : Round) (x y v : Datum) (s : ℕ) → IsMember f x → IsMember f y → IsDifference f mode x y v s → IsNearby x y v s
+nearby f mode x y v s hx hy h = λ m n p q sm sn a b.
+    let d : IsDifference f mode (finite false m) (finite false n) v s = rw (p, q) at h in
+    let k : IsSum f mode (finite false m) (finite true n) v s = rw (ne_eqb n 0 (λ z. omega (arith, sn, z))) at d in
+    let r = rw (minus_is m n) at k in
+    let xm : IsFiniteOf f false m = rw p at hx in
+    let yn : IsFiniteOf f false n = rw q at hy in
+    nearby_numbers f mode (zero_sum_sign mode false true) m n v s xm yn a b r
+
+-- ---- sums that grow
+
+-- the value for a pick, where the format has infinities
+abbrev at : Bool → Bool → Bool → ℕ → ℕ → Datum
+at past out negative top p = cond past (cond out (infinite negative) (finite negative top)) (finite negative p)
+
+signed_is : (negative : Bool) (p : ℕ) → signed_quanta IEEE754 negative p ≡ finite negative p
+signed_is negative zero = refl
+signed_is negative (suc n) = let e : eqb (suc n) 0 ≡ false = ne_eqb (suc n) 0 (λ z. omega arith) in rw e refl
+
+value_is : (f : Format) (mode : Round) (negative : Bool) (p : ℕ) → f.nonfinite ≡ IEEE754 → delivered_value f mode negative p ≡ at (ltb (largest f) p) (leads_out mode negative) negative (largest f) p
+value_is f mode negative p e =
+    ap (λ (k : NonfiniteBehavior). cond (ltb (largest f) p) (cond (leads_out mode negative) (past_largest k (nan_base f) negative) (finite negative (largest f))) (signed_quanta k negative p)) e
+    ∙ ap (λ (v : Datum). cond (ltb (largest f) p) (cond (leads_out mode negative) (infinite negative) (finite negative (largest f))) v) (signed_is negative p)
+
+up_grows : (b d out : Bool) (top p q : ℕ) → ltb top p ≡ b → ltb top q ≡ d → p ≤ q → AtMost (at b out false top p) (at d out false top q)
+up_grows true true true top p q x y l = inr refl
+up_grows true true false top p q x y l = omega (arith, ints)
+up_grows true false out top p q x y l = absurd (grind arith)
+up_grows false true true top p q x y l = refl
+up_grows false true false top p q x y l = let h : p ≤ top = grind arith in omega (arith, ints)
+up_grows false false out top p q x y l = omega (arith, ints)
+
+down_grows : (b d out : Bool) (top p q : ℕ) → ltb top p ≡ b → ltb top q ≡ d → q ≤ p → AtMost (at b out true top p) (at d out true top q)
+down_grows true true true top p q x y l = inl refl
+down_grows true true false top p q x y l = omega (arith, ints)
+down_grows false true out top p q x y l = absurd (grind arith)
+down_grows true false true top p q x y l = refl
+down_grows true false false top p q x y l = let h : q ≤ top = grind arith in omega (arith, ints)
+down_grows false false out top p q x y l = omega (arith, ints)
+
+across : (b d out past : Bool) (top p q : ℕ) → AtMost (at b out true top p) (at d past false top q)
+across true true true true top p q = inl refl
+across true true true false top p q = refl
+across true true false true top p q = refl
+across true true false false top p q = omega (arith, ints)
+across true false true past top p q = refl
+across true false false past top p q = omega (arith, ints)
+across false true out true top p q = refl
+across false true out false top p q = omega (arith, ints)
+across false false out past top p q = omega (arith, ints)
+
+-- how the signs and the magnitudes of two numbers in order are to each other
+pub data Ordered : Bool → ℕ → Bool → ℕ → Type 0 where
+  both_up : (x y : ℕ) → x ≤ y → Ordered false x false y
+  both_down : (x y : ℕ) → y ≤ x → Ordered true x true y
+  apart : (x y : ℕ) → Ordered true x false y
+  zeros : (s t : Bool) → Ordered s 0 t 0
+
+from_zero : (s : Bool) (n : ℕ) → Ordered s 0 false n
+from_zero true n = apart 0 n
+from_zero false n = both_up 0 n (omega arith)
+
+to_zero : (s : Bool) (n : ℕ) → Ordered true n s 0
+to_zero true n = both_down n 0 (omega arith)
+to_zero false n = apart n 0
+
+ordered : (of_zero of_other : Bool) (a b : ℤ) → a ≤ℤ b → Ordered (sign_of of_zero a) (magnitude a) (sign_of of_other b) (magnitude b)
+ordered of_zero of_other (pos zero) (pos zero) l = zeros of_zero of_other
+ordered of_zero of_other (pos zero) (pos (suc n)) l = from_zero of_zero (magnitude (pos (suc n)))
+ordered of_zero of_other (pos (suc m)) (pos zero) l = absurd (omega (arith, ints))
+ordered of_zero of_other (pos (suc m)) (pos (suc n)) l = both_up (magnitude (pos (suc m))) (magnitude (pos (suc n))) (omega (arith, ints))
+ordered of_zero of_other (pos m) (negsuc n) l = absurd (omega (arith, ints))
+ordered of_zero of_other (negsuc m) (pos zero) l = to_zero of_other (magnitude (negsuc m))
+ordered of_zero of_other (negsuc m) (pos (suc n)) l = apart (magnitude (negsuc m)) (magnitude (pos (suc n)))
+ordered of_zero of_other (negsuc m) (negsuc n) l = both_down (magnitude (negsuc m)) (magnitude (negsuc n)) (omega (arith, ints))
+
+zeros_ordered : (s t : Bool) → signed s 0 ≤ℤ signed t 0
+zeros_ordered true true = omega (arith, ints)
+zeros_ordered true false = omega (arith, ints)
+zeros_ordered false true = omega (arith, ints)
+zeros_ordered false false = omega (arith, ints)
+
+zero_is : (f : Format) (mode : Round) (s : Bool) (v : Datum) (i : ℕ) → f.nonfinite ≡ IEEE754 → IsDelivered f mode s 0 1 v i → v ≡ finite s 0
+zero_is f mode s v i e d =
+    let g : IsOnGrid f.precision 0 = record { significand = 0; place = 0; fits = pow_pos f.precision; is = refl } in
+    let x = delivered_once f mode s 0 1 v (signed_quanta f.nonfinite s 0) i ok_bits d (exact_delivered f mode s 0 0 1 (omega arith) g (omega arith) (omega arith)) in
+    x.0 ∙ ap (λ (k : NonfiniteBehavior). signed_quanta k s 0) e
+
+grows_at : (f : Format) (mode : Round) (s t : Bool) (x y : ℕ) (v w : Datum) (i j : ℕ) → f.nonfinite ≡ IEEE754 → Ordered s x t y → IsDelivered f mode s x 1 v i → IsDelivered f mode t y 1 w j → AtMost v w
+grows_at f mode s t x y v w i j e (both_up a b l) d g =
+    let k : d.pick ≤ g.pick = pick_grows f.precision mode false a b 1 d.pick g.pick (lit< tt) l d.is_pick g.is_pick in
+    let h = up_grows (ltb (largest f) d.pick) (ltb (largest f) g.pick) (leads_out mode false) (largest f) d.pick g.pick refl refl k in
+    subst (λ (z : Datum). AtMost z w) (sym (d.value_is ∙ value_is f mode false d.pick e)) (subst (λ (z : Datum). AtMost (at (ltb (largest f) d.pick) (leads_out mode false) false (largest f) d.pick) z) (sym (g.value_is ∙ value_is f mode false g.pick e)) h)
+grows_at f mode s t x y v w i j e (both_down a b l) d g =
+    let k : g.pick ≤ d.pick = pick_grows f.precision mode true b a 1 g.pick d.pick (lit< tt) l g.is_pick d.is_pick in
+    let h = down_grows (ltb (largest f) d.pick) (ltb (largest f) g.pick) (leads_out mode true) (largest f) d.pick g.pick refl refl k in
+    subst (λ (z : Datum). AtMost z w) (sym (d.value_is ∙ value_is f mode true d.pick e)) (subst (λ (z : Datum). AtMost (at (ltb (largest f) d.pick) (leads_out mode true) true (largest f) d.pick) z) (sym (g.value_is ∙ value_is f mode true g.pick e)) h)
+grows_at f mode s t x y v w i j e (apart a b) d g =
+    let h = across (ltb (largest f) d.pick) (ltb (largest f) g.pick) (leads_out mode true) (leads_out mode false) (largest f) d.pick g.pick in
+    subst (λ (z : Datum). AtMost z w) (sym (d.value_is ∙ value_is f mode true d.pick e)) (subst (λ (z : Datum). AtMost (at (ltb (largest f) d.pick) (leads_out mode true) true (largest f) d.pick) z) (sym (g.value_is ∙ value_is f mode false g.pick e)) h)
+grows_at f mode s t x y v w i j e (zeros b c) d g =
+    let p = zero_is f mode b v i e d in
+    let q = zero_is f mode c w j e g in
+    rw (p, q) (zeros_ordered b c)
+
+pub sum_grows : (f : Format) (mode : Round) (of_zero of_other : Bool) (a b : ℤ) (v w : Datum) (i j : ℕ) → f.nonfinite ≡ IEEE754 → a ≤ℤ b → IsRounded f mode of_zero a 1 v i → IsRounded f mode of_other b 1 w j → AtMost v w
+sum_grows f mode of_zero of_other a b v w i j e l d g = grows_at f mode (sign_of of_zero a) (sign_of of_other b) (magnitude a) (magnitude b) v w i j e (ordered of_zero of_other a b l) d g
+
+more_together : (a b z : ℤ) → a ≤ℤ b → (a +ℤ z) ≤ℤ (b +ℤ z)
+more_together a b z l = omega (arith, ints)
+
+grows_to : (f : Format) (mode : Round) (b d : Bool) (m n : ℕ) (v : Datum) (s : ℕ) → IsSum f mode (finite b m) (finite d n) v s → f.nonfinite ≡ IEEE754
+    → (y greater : Datum) (status : ℕ) → IsTrue (is_finite y) → signed b m ≤ℤ number y → IsSum f mode y (finite d n) greater status → AtMost v greater
+grows_to f mode b d m n v s h e (finite c k) w i p l g =
+    sum_grows f mode (zero_sum_sign mode b d) (zero_sum_sign mode c d) (signed b m +ℤ signed d n) (signed c k +ℤ signed d n) v w s i e (more_together (signed b m) (signed c k) (signed d n) l) h g
+grows_to f mode b d m n v s h e (infinite c) w i p l g = absurd (false≢true p)
+grows_to f mode b d m n v s h e (nan c t) w i p l g = absurd (false≢true p)
+
+-- a sum of numbers does not fall as one of them grows
+pub monotone : (f : Format) (mode : Round) (x z v : Datum) (s : ℕ) → IsSum f mode x z v s → IsMonotone f mode x z v
+monotone f mode (finite b m) (finite d n) v s h = λ e p q y w i r l g. grows_to f mode b d m n v s h e y w i r l g
+monotone f mode (finite b m) (infinite d) v s h = λ e p q. absurd (false≢true q)
+monotone f mode (finite b m) (nan d t) v s h = λ e p q. absurd (false≢true q)
+monotone f mode (infinite b) z v s h = λ e p. absurd (false≢true p)
+monotone f mode (nan b t) z v s h = λ e p. absurd (false≢true p)
