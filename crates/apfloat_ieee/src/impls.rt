@@ -4,7 +4,7 @@ ghost use Rattle.std.specs.Prelude.{◌≡◌, ◌^◌, ◌<◌, ℕ, false, leb
 ghost use Rattle.apfloat_base.specs.Flags.{Gives, bits_of};
 ghost use Rattle.apfloat_base.specs.Nan.{qnan, snan, is_signaling_nan};
 ghost use Rattle.apfloat_base.specs.Negation.{negated};
-ghost use Rattle.apfloat_base.specs.Sums.{IsSum, IsDifference};
+ghost use Rattle.apfloat_base.specs.Sums.{IsSum, IsDifference, IsMonotone, IsNearby};
 ghost use Rattle.apfloat_base.proofs.SignedNumbers.{signed_above, signed_below, largest_some};
 ghost use Rattle.apfloat_base.specs.Remainders.{IsTruncatedRemainder, IsNearestRemainder};
 ghost use Rattle.apfloat_base.specs.Members.{IsMember};
@@ -143,12 +143,18 @@ impl<S: Semantics> Float for IeeeFloat<S> {
     }
 
     #[inline]
-    fn add_r(self, rhs: Self, round: Round) -> StatusAnd<Self> {
+    fn add_r(self, rhs: Self, round: Round) -> StatusAnd<Self>
+        ensures sum { Gives (IsSum (format_of S.Semantics) round self rhs) result }
+        ensures monotone { IsMonotone (format_of S.Semantics) round self rhs result.value }
+    {
         sum(self, rhs, round)
     }
 
     #[inline]
-    fn sub_r(self, rhs: Self, round: Round) -> StatusAnd<Self> {
+    fn sub_r(self, rhs: Self, round: Round) -> StatusAnd<Self>
+        ensures difference { Gives (IsDifference (format_of S.Semantics) round self rhs) result }
+        ensures nearby { Gives (IsNearby self rhs) result }
+    {
         difference(self, rhs, round)
     }
 

@@ -5,7 +5,7 @@ ghost use Rattle.apfloat_base.specs.declared.kinds.Round.TheVariants.{NearestTie
 ghost use Rattle.apfloat_base.specs.declared.status.StatusAnd.{StatusAnd};
 ghost use Rattle.apfloat_base.specs.Flags.{Gives};
 ghost use Rattle.apfloat_base.specs.Negation.{negated};
-ghost use Rattle.apfloat_base.specs.Sums.{IsSum, IsDifference};
+ghost use Rattle.apfloat_base.specs.Sums.{IsSum, IsDifference, IsMonotone, IsNearby};
 ghost use Rattle.apfloat_ieee.specs.Types.{format_of};
 
 use crate::float::{IeeeFloat, shape_of};
@@ -15,26 +15,29 @@ use apfloat_arithmetic::sums::{add, subtract};
 use apfloat_base::{Round, StatusAnd};
 use std::ops::{Add, AddAssign, Neg, Sub, SubAssign};
 
-/// The sum of two values, rounded once.
+/// The sum of two values, rounded once. In a format with infinities it does not fall as a finite `x` grows.
 #[inline]
 pub(crate) fn sum<S: Semantics>(
     x: IeeeFloat<S>,
     y: IeeeFloat<S>,
     round: Round,
 ) -> StatusAnd<IeeeFloat<S>>
-    ensures { Gives (IsSum (format_of S.Semantics) round x y) result }
+    ensures sum { Gives (IsSum (format_of S.Semantics) round x y) result }
+    ensures monotone { IsMonotone (format_of S.Semantics) round x y result.value }
 {
     IeeeFloat::answered(add(shape_of::<S>(), x.unpacked(), y.unpacked(), round))
 }
 
-/// The difference of two values, rounded once.
+/// The difference of two values, rounded once. That of positive numbers is exact where neither is more than twice the
+/// other.
 #[inline]
 pub(crate) fn difference<S: Semantics>(
     x: IeeeFloat<S>,
     y: IeeeFloat<S>,
     round: Round,
 ) -> StatusAnd<IeeeFloat<S>>
-    ensures { Gives (IsDifference (format_of S.Semantics) round x y) result }
+    ensures difference { Gives (IsDifference (format_of S.Semantics) round x y) result }
+    ensures nearby { Gives (IsNearby x y) result }
 {
     IeeeFloat::answered(subtract(shape_of::<S>(), x.unpacked(), y.unpacked(), round))
 }
