@@ -1,12 +1,12 @@
 //! The trait of floating-point types.
 
-ghost use Rattle.std.specs.Prelude.{◌≡◌, ℕ, ℤ, pos, neg_ℤ, ◌^◌, ◌<◌, Bool, IsTrue, Option, not, if◌then◌else◌};
+ghost use Rattle.std.specs.Prelude.{◌≡◌, ℕ, ℤ, pos, neg_ℤ, ◌^◌, ◌<◌, ◌≤◌, Bool, IsTrue, Option, not, if◌then◌else◌};
 ghost use Rattle.std.specs.Option.{unwrap_or};
 ghost use Rattle.apfloat_base.specs.Exact.{same_sign};
 ghost use Rattle.apfloat_base.specs.Negation.{swapped};
 ghost use Rattle.apfloat_base.specs.declared.kinds.Category.{Category};
 ghost use Rattle.apfloat_base.specs.declared.kinds.Round.{Round};
-ghost use Rattle.apfloat_base.specs.declared.kinds.Round.TheVariants.{NearestTiesToEven};
+ghost use Rattle.apfloat_base.specs.declared.kinds.Round.TheVariants.{NearestTiesToEven, TowardZero};
 ghost use Rattle.apfloat_base.specs.Classes.{is_nan_category, is_number_category};
 ghost use Rattle.apfloat_base.specs.declared.status.StatusAnd.{StatusAnd};
 
@@ -112,6 +112,23 @@ pub trait Float: Copy
 
     ghost converts_signed: { ℤ → Round → StatusAnd Self → Type 0 };
 
+    // The whole number beside a value, as a value and as an integer of so many binary digits; whether the value is one.
+    ghost rounds_to_integral: { Self → Round → StatusAnd Self → Type 0 };
+
+    ghost is_whole: { Self → Bool };
+
+    ghost converts_to_unsigned: { Self → ℕ → Round → StatusAnd ℕ → Bool → Type 0 };
+
+    // The neighbour above.
+    ghost steps_up: { Self → StatusAnd Self → Type 0 };
+
+    // A value times a power of two, its exponent, and its fraction with an exponent.
+    ghost scales: { Self → ℤ → Round → Self → Type 0 };
+
+    ghost has_exponent: { Self → ℤ → Type 0 };
+
+    ghost has_fraction: { Self → Round → Self → ℤ → Type 0 };
+
     /// +0.
     fn zero() -> Self
         ensures { result ≡ the_zero };
@@ -189,6 +206,17 @@ pub trait Float: Copy
     fn c_fmod(self, rhs: Self) -> StatusAnd<Self>
         ensures { leaves self rhs result };
 
+    /// The whole number that the mode picks beside the value, with its sign (IEEE 754-2008 5.9, roundToIntegralExact);
+    /// INEXACT says that it is not the value. Infinities and zeros stay as they are; a NaN is made quiet, and is invalid
+    /// where it signals.
+    fn round_to_integral(self, round: Round) -> StatusAnd<Self>
+        ensures { rounds_to_integral self round result };
+
+    /// The least value that compares greater (IEEE 754-2008 5.3.1, nextUp), always exact. The positive infinity and a
+    /// quiet NaN stay as they are; a signaling NaN is invalid.
+    fn next_up(self) -> StatusAnd<Self>
+        ensures { steps_up self result };
+
     /// The value without its sign (IEEE 754-2008 5.5.1, abs). A NaN too loses its sign, and none is signaled.
     fn abs(self) -> Self
         ensures { result ≡ (if sign_of self then negated self else self) }
@@ -248,6 +276,28 @@ pub trait Float: Copy
         Self::from_u128_r(input, Round::NearestTiesToEven)
     }
 
+    /// The value as a whole number of `width` binary digits without a sign, rounded by the mode (IEEE 754-2008 5.4.1,
+    /// convertToInteger).
+    ///
+    /// A number out of range gives the end of the range, and a NaN gives 0; both are invalid. INEXACT says that the number
+    /// was no whole one. `is_exact` tells whether the whole number is the value; for -0 it is false.
+    fn to_u128_r(self, width: usize, round: Round, is_exact: &mut bool) -> StatusAnd<u128>
+        requires low { 1 ≤ width }
+        requires high { width ≤ 128 }
+        ensures answer { converts_to_unsigned self width round result is_exact.new }
+        ensures fits { result.value < 2 ^ width };
+
+    /// The value as a whole number of `width` binary digits without a sign, cut toward zero.
+    fn to_u128(self, width: usize) -> StatusAnd<u128>
+        requires low { 1 ≤ width }
+        requires high { width ≤ 128 }
+        ensures answer { (exact : Bool) × converts_to_unsigned self width TowardZero result exact }
+        ensures fits { result.value < 2 ^ width }
+    {
+        let mut is_exact = true;
+        self.to_u128_r(width, Round::TowardZero, &mut is_exact)
+    }
+
     /// Whether the value is a NaN, quiet or signaling (IEEE 754-2008 5.7.2, isNaN).
     fn is_nan(self) -> bool
         ensures { result ≡ is_nan_category (category_of self) }
@@ -286,6 +336,40 @@ pub trait Float: Copy
             Category::Infinity => false,
             Category::NaN => false,
         }
+    }
+
+    /// Whether the value is finite and a whole number, zeros too.
+    fn is_integer(self) -> bool
+        ensures { result ≡ is_whole self };
+
+    /// The exponent of the highest binary digit, of a denormal value too (IEEE 754-2008 5.3.3, logB): 2 to its power is at
+    /// most the magnitude, and twice that is more. `IEK_ZERO`, `IEK_INF` and `IEK_NAN` stand for those of other values.
+    fn ilogb(self) -> ExpInt
+        ensures { has_exponent self result };
+
+    /// The value times 2 to the power of `exp`, rounded once (IEEE 754-2008 5.3.3, scaleB). Infinities and zeros stay as
+    /// they are, and a NaN is made quiet. Flags are not told.
+    fn scalbn_r(self, exp: ExpInt, round: Round) -> Self
+        ensures { scales self exp round result };
+
+    /// The value times 2 to the power of `exp`, rounded once to the nearest value, a tie to the even one.
+    fn scalbn(self, exp: ExpInt) -> Self
+        ensures { scales self exp NearestTiesToEven result }
+    {
+        self.scalbn_r(exp, Round::NearestTiesToEven)
+    }
+
+    /// The fraction of the value, of magnitude from 0.5 to below 1, with the exponent `exp`: the value is exactly the
+    /// fraction times 2 to the power of `exp`. A zero is its own fraction with 0, an infinity with `IEK_INF`, and a NaN,
+    /// made quiet, with `IEK_NAN`.
+    fn frexp_r(self, exp: &mut ExpInt, round: Round) -> Self
+        ensures { has_fraction self round result exp.new };
+
+    /// The fraction of the value and its exponent, in the mode to the nearest value.
+    fn frexp(self, exp: &mut ExpInt) -> Self
+        ensures { has_fraction self NearestTiesToEven result exp.new }
+    {
+        self.frexp_r(exp, Round::NearestTiesToEven)
     }
 
     ghost can_mul_law: { IsTrue MULTIPLIES → (x y : Self) → Self.can_mul x y };

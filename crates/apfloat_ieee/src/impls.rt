@@ -1,21 +1,26 @@
 //! `Float` for each format, and what stands beside it: `Default` and `Debug`.
 
-ghost use Rattle.std.specs.Prelude.{◌≡◌, ◌^◌, ◌<◌, ℕ, false, leb, IsTrue, refl};
+ghost use Rattle.std.specs.Prelude.{◌≡◌, ◌^◌, ◌<◌, ℕ, true, false, leb, IsTrue, refl};
 ghost use Rattle.apfloat_base.specs.Flags.{Gives, bits_of};
 ghost use Rattle.apfloat_base.specs.Nan.{qnan, snan, is_signaling_nan};
 ghost use Rattle.apfloat_base.specs.Negation.{negated};
 ghost use Rattle.apfloat_base.specs.Sums.{IsSum, IsDifference, IsMonotone, IsNearby};
 ghost use Rattle.apfloat_base.proofs.SignedNumbers.{signed_above, signed_below, largest_some};
 ghost use Rattle.apfloat_base.specs.Remainders.{IsTruncatedRemainder, IsNearestRemainder};
+ghost use Rattle.apfloat_base.specs.Exponents.{IsExactInverse, IsIlogb, IsFrexp};
 ghost use Rattle.apfloat_base.specs.Members.{IsMember};
-ghost use Rattle.apfloat_base.specs.Classes.{category_of, is_negative, is_denormal};
-ghost use Rattle.apfloat_base.specs.Exponents.{IsExactInverse};
+ghost use Rattle.apfloat_base.specs.declared.kinds.NonfiniteBehavior.TheVariants.{IEEE754};
+ghost use Rattle.apfloat_base.specs.Classes.{category_of, is_negative, is_denormal, is_finite_non_zero, is_integer};
 ghost use Rattle.apfloat_base.specs.Products.{IsProduct, IsOpposite};
 ghost use Rattle.apfloat_base.specs.Quotients.{IsQuotient};
 ghost use Rattle.std.proofs.lemmas.Bool.{leb-true};
 ghost use Rattle.apfloat_base.specs.Constants.{zero_datum, smallest_datum, infinity_datum, largest_datum, smallest_normalized_datum};
 ghost use Rattle.apfloat_base.specs.Layout.{datum_of, IsEncodedBy};
-ghost use Rattle.apfloat_base.specs.WholeNumbers.{IsFromUnsigned, IsFromSigned};
+ghost use Rattle.apfloat_base.specs.NextUp.{IsNextUp, IsNextDown};
+ghost use Rattle.apfloat_base.specs.Rounding.{ok_bits};
+ghost use Rattle.apfloat_base.specs.Scaling.{IsScaling};
+ghost use Rattle.apfloat_base.specs.WholeNumbers.{IsFromUnsigned, IsFromSigned, IsRoundToIntegral};
+ghost use Rattle.apfloat_base.specs.WholeNumbersOut.{IsToUnsigned};
 ghost use Rattle.apfloat_ieee.specs.Types.{format_of, layout_of};
 
 use crate::float::{IeeeFloat, read, shape_of, write};
@@ -25,7 +30,10 @@ use crate::semantics::Semantics;
 use crate::sums::{difference, sum};
 use apfloat_arithmetic::classes::is_denormal;
 use apfloat_base::{Category, ExpInt, Float, Round, StatusAnd};
-use apfloat_conversions::integers::from_unsigned;
+use apfloat_conversions::integers::{from_unsigned, to_unsigned};
+use apfloat_conversions::integral::{is_integer, round_to_integral};
+use apfloat_conversions::neighbours::next_up;
+use apfloat_conversions::scaling::{fraction_of, ilogb, scaled};
 use apfloat_unpacked::nans::{is_signaling, quiet_nan, signaling_nan};
 use apfloat_unpacked::unpacked::{
     infinity_of, largest_of, smallest_normalized_of, smallest_of, zero_of,
@@ -107,6 +115,20 @@ impl<S: Semantics> Float for IeeeFloat<S> {
 
     ghost converts_signed = { λ number mode answer. Gives (IsFromSigned (format_of S.Semantics) mode number) answer };
 
+    ghost rounds_to_integral = { λ x mode answer. Gives (IsRoundToIntegral (format_of S.Semantics) mode x) answer };
+
+    ghost is_whole = { is_integer (format_of S.Semantics) };
+
+    ghost converts_to_unsigned = { λ x width mode answer exact. IsToUnsigned (format_of S.Semantics) mode width x answer.value (bits_of answer.status) exact };
+
+    ghost steps_up = { λ x answer. Gives (IsNextUp (format_of S.Semantics) x) answer };
+
+    ghost scales = { λ x places mode value. IsScaling (format_of S.Semantics) mode x places value };
+
+    ghost has_exponent = { λ x exponent. IsIlogb (format_of S.Semantics) x exponent };
+
+    ghost has_fraction = { λ x mode value exponent. IsFrexp (format_of S.Semantics) x value exponent };
+
     #[inline]
     fn zero() -> Self {
         IeeeFloat::packed(zero_of(shape_of::<S>(), false))
@@ -183,6 +205,19 @@ impl<S: Semantics> Float for IeeeFloat<S> {
     }
 
     #[inline]
+    fn round_to_integral(self, round: Round) -> StatusAnd<Self> {
+        IeeeFloat::answered(round_to_integral(shape_of::<S>(), self.unpacked(), round))
+    }
+
+    #[inline]
+    fn next_up(self) -> StatusAnd<Self>
+        ensures next { Gives (IsNextUp (format_of S.Semantics) self) result }
+        ensures back { S.NONFINITE_BEHAVIOR ≡ IEEE754 → is_finite_non_zero self ≡ true → IsNextDown (format_of S.Semantics) result.value self ok_bits }
+    {
+        IeeeFloat::answered(next_up(shape_of::<S>(), self.unpacked()))
+    }
+
+    #[inline]
     fn from_bits(bits: u128) -> Self
         requires { S.PRECISION < S.BITS }
         ensures read { result ≡ datum_of (format_of S.Semantics) (layout_of S.Semantics) bits }
@@ -205,6 +240,13 @@ impl<S: Semantics> Float for IeeeFloat<S> {
     #[inline]
     fn from_u128_r(input: u128, round: Round) -> StatusAnd<Self> {
         IeeeFloat::answered(from_unsigned(shape_of::<S>(), input, round))
+    }
+
+    #[inline]
+    fn to_u128_r(self, width: usize, round: Round, is_exact: &mut bool) -> StatusAnd<u128> {
+        let whole = to_unsigned(shape_of::<S>(), self.unpacked(), width as u32, round);
+        *is_exact = whole.is_exact;
+        whole.answer
     }
 
     #[inline]
@@ -231,8 +273,30 @@ impl<S: Semantics> Float for IeeeFloat<S> {
     }
 
     #[inline]
+    fn is_integer(self) -> bool {
+        is_integer(shape_of::<S>(), self.unpacked())
+    }
+
+    #[inline]
     fn get_exact_inverse(self) -> Option<Self> {
         inverse(self)
+    }
+
+    #[inline]
+    fn ilogb(self) -> ExpInt {
+        ilogb(shape_of::<S>(), self.unpacked())
+    }
+
+    #[inline]
+    fn scalbn_r(self, exp: ExpInt, round: Round) -> Self {
+        IeeeFloat::packed(scaled(shape_of::<S>(), self.unpacked(), exp, round))
+    }
+
+    #[inline]
+    fn frexp_r(self, exp: &mut ExpInt, _round: Round) -> Self {
+        let fraction = fraction_of(shape_of::<S>(), self.unpacked());
+        *exp = fraction.exponent;
+        IeeeFloat::packed(fraction.value)
     }
 
     ghost can_mul_law = { λ m x y. leb-true S.PRECISION 64 m };
