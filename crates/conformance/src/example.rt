@@ -77,6 +77,17 @@ fn whole_numbers_in_binary16(rt: HostRuntime) {
 }
 
 #[test]
+fn sums_in_binary16(rt: HostRuntime) {
+    let one = Half::from_bits(0x3c00);
+    let third = Half::from_bits(0x3555);
+    let answer = one + third;
+    assert_eq!(rt; answer.value.to_bits(), 0x3d55);
+    assert_eq!(rt; answer.status, Status::INEXACT);
+    let above = one.add_r(third, Round::TowardPositive);
+    assert_eq!(rt; above.value.to_bits(), 0x3d56);
+}
+
+#[test]
 fn whole_numbers_in_a_format_of_a_users_own(rt: HostRuntime) {
     let nearest = Eight::from_u128(250);
     assert_eq!(rt; nearest.value.to_bits(), 0x78);

@@ -3,6 +3,14 @@
 mod bits;
 mod classes;
 mod constants;
+mod differences;
+mod nans;
+mod patterns;
+mod products;
+mod quotients;
+mod signed_numbers;
+mod signs;
+mod sums;
 mod texts;
 mod whole_numbers;
 mod whole_numbers_in_other_formats;
@@ -23,4 +31,10 @@ const OK: u8 = 0x00;
 
 const INEXACT: u8 = 0x10;
 
+const INVALID_OP: u8 = 0x01;
+
+const DIV_BY_ZERO: u8 = 0x02;
+
 const OVERFLOW_INEXACT: u8 = 0x14;
+
+const UNDERFLOW_INEXACT: u8 = 0x18;

@@ -1,0 +1,61 @@
+//! Every pattern of the small formats: read and written, with its sign turned, and in a wider format.
+
+ghost use Rattle.std.specs.Prelude.{◌<◌};
+
+use rustc_apfloat::ieee::{BFloatS, Float8E4M3FNS, Float8E4M3FNUZS, Float8E5M2S, HalfS, Semantics};
+use std::process::Abort;
+
+/// The bits of a value are those it was read from.
+fn check_bits<S: Semantics>(rt: &impl Abort, patterns: u64)
+    requires { S.PRECISION < S.BITS }
+{
+    for pattern in 0..patterns {
+        let bits = u128::from(pattern);
+        assert_eq!(rt; S::to_bits(S::from_bits(bits)), bits, "{bits:x}");
+    }
+}
+
+/// A value with its sign turned has the bits that `turned` says, and turned again its own.
+fn check_sign<S: Semantics>(rt: &impl Abort, bits: u128, turned: u128)
+    requires { S.PRECISION < S.BITS }
+{
+    let negated = -S::from_bits(bits);
+    assert_eq!(rt; S::to_bits(negated), turned, "{bits:x}");
+    assert_eq!(rt; S::to_bits(-negated), bits, "{bits:x}");
+}
+
+fn check_signs<S: Semantics>(rt: &impl Abort, patterns: u64)
+    requires { S.PRECISION < S.BITS }
+{
+    let minus = u128::from(patterns / 2);
+    for pattern in 0..patterns {
+        let bits = u128::from(pattern);
+        check_sign::<S>(rt, bits, bits ^ minus);
+    }
+}
+
+#[test]
+fn bits_come_back(rt: HostRuntime) {
+    check_bits::<BFloatS>(&rt, 1 << 16);
+    check_bits::<Float8E5M2S>(&rt, 1 << 8);
+    check_bits::<Float8E4M3FNS>(&rt, 1 << 8);
+    check_bits::<Float8E4M3FNUZS>(&rt, 1 << 8);
+}
+
+#[test]
+fn signs_turn(rt: HostRuntime) {
+    check_signs::<HalfS>(&rt, 1 << 16);
+    check_signs::<BFloatS>(&rt, 1 << 16);
+    check_signs::<Float8E5M2S>(&rt, 1 << 8);
+    check_signs::<Float8E4M3FNS>(&rt, 1 << 8);
+}
+
+/// The zero and the NaN have one sign alone.
+#[test]
+fn signs_turn_where_zero_has_none(rt: HostRuntime) {
+    for pattern in 0..256u64 {
+        let bits = u128::from(pattern);
+        let turned = if bits % 0x80 == 0 { bits } else { bits ^ 0x80 };
+        check_sign::<Float8E4M3FNUZS>(&rt, bits, turned);
+    }
+}
