@@ -33,6 +33,7 @@ pub mod Specials
 pub mod Texts
 pub mod Literals
 pub mod Readings
+pub mod Parsing
 pub mod Log
 pub mod Standing
 pub mod Enclosure

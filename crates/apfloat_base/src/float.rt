@@ -1,6 +1,6 @@
 //! The trait of floating-point types.
 
-ghost use Rattle.std.specs.Prelude.{◌≡◌, ℕ, ℤ, pos, neg_ℤ, ◌^◌, ◌<◌, ◌≤◌, Bool, IsTrue, Option, not, if◌then◌else◌};
+ghost use Rattle.std.specs.Prelude.{◌≡◌, ℕ, ℤ, pos, neg_ℤ, ◌^◌, ◌<◌, ◌≤◌, Bool, IsTrue, Option, not, if◌then◌else◌, List, Result};
 ghost use Rattle.std.specs.Option.{unwrap_or};
 ghost use Rattle.apfloat_base.specs.Exact.{same_sign};
 ghost use Rattle.apfloat_base.specs.Negation.{swapped};
@@ -8,13 +8,17 @@ ghost use Rattle.apfloat_base.specs.declared.kinds.Category.{Category};
 ghost use Rattle.apfloat_base.specs.declared.kinds.Round.{Round};
 ghost use Rattle.apfloat_base.specs.declared.kinds.Round.TheVariants.{NearestTiesToEven, TowardZero};
 ghost use Rattle.apfloat_base.specs.Classes.{is_nan_category, is_number_category};
+ghost use Rattle.apfloat_base.specs.declared.parse_error.ParseError.{ParseError};
 ghost use Rattle.apfloat_base.specs.declared.status.StatusAnd.{StatusAnd};
+ghost use Rattle.apfloat_base.specs.Parsing.{without_status};
 
 use crate::kinds::{Category, ExpInt, Round};
+use crate::parse_error::ParseError;
 use crate::status::StatusAnd;
 use std::ops::{
     Add, AddAssign, Div, DivAssign, Mul, MulAssign, Neg, Rem, RemAssign, Sub, SubAssign,
 };
+use std::str::FromStr;
 
 /// A floating-point type.
 ///
@@ -22,6 +26,7 @@ use std::ops::{
 /// where it is stated by one. `IeeeFloat` sets them to the definitions of the model.
 pub trait Float: Copy
     + Default
+    + FromStr<Err = ParseError>
     + Neg<Output = Self>
     + AddAssign
     + SubAssign
@@ -128,6 +133,9 @@ pub trait Float: Copy
     ghost has_exponent: { Self → ℤ → Type 0 };
 
     ghost has_fraction: { Self → Round → Self → ℤ → Type 0 };
+
+    // What reading a text answers.
+    ghost reads: { List ℕ → Round → Result (StatusAnd Self) ParseError → Type 0 };
 
     /// +0.
     fn zero() -> Self
@@ -309,6 +317,15 @@ pub trait Float: Copy
     fn is_signaling(self) -> bool
         ensures { result ≡ signals self };
 
+    /// The value of a text, rounded once, or the refusal of a text without a meaning (IEEE 754-2008 5.12,
+    /// convertFromHexCharacter).
+    ///
+    /// A text is an optional mark and then an infinity, `inf`, `Inf` or `INFINITY`; a NaN, `nan` or `NaN`, with an `s` in
+    /// front if it signals and with a payload behind it, plain or in parentheses; or a hexadecimal number, as
+    /// `-0x1.8p-1`, of any length and with any exponent. Decimal numbers are refused.
+    fn from_str_r(s: &str, round: Round) -> Result<StatusAnd<Self>, ParseError>
+        ensures { reads s.now round result };
+
     /// What the value is.
     fn category(self) -> Category
         ensures { result ≡ category_of self };
@@ -395,6 +412,8 @@ pub trait Float: Copy
     ghost can_rem_assign_law: { (x y : Self) → Self.can_rem_assign x y };
 
     ghost rem_assign_law: { (x y z : Self) → Self.rem_assign_gives x y z → (r : StatusAnd Self) × leaves x y r × (z ≡ r.value) };
+
+    ghost read_law: { (text : List ℕ) (r : Result Self ParseError) → Self.from_str_gives text r → (answer : Result (StatusAnd Self) ParseError) × reads text NearestTiesToEven answer × (r ≡ without_status answer) };
 
     ghost default_law: { (x : Self) → Self.is_default x → x ≡ the_zero };
 

@@ -21,6 +21,7 @@ ghost use Rattle.apfloat_base.specs.Rounding.{ok_bits};
 ghost use Rattle.apfloat_base.specs.Scaling.{IsScaling};
 ghost use Rattle.apfloat_base.specs.WholeNumbers.{IsFromUnsigned, IsFromSigned, IsRoundToIntegral};
 ghost use Rattle.apfloat_base.specs.WholeNumbersOut.{IsToUnsigned};
+ghost use Rattle.apfloat_base.specs.Parsing.{IsParsed};
 ghost use Rattle.apfloat_ieee.specs.Types.{format_of, layout_of};
 
 use crate::float::{IeeeFloat, read, shape_of, write};
@@ -28,8 +29,9 @@ use crate::products::{inverse, product, quotient};
 use crate::remainder::{nearest, truncated};
 use crate::semantics::Semantics;
 use crate::sums::{difference, sum};
+use crate::text::read_text;
 use apfloat_arithmetic::classes::is_denormal;
-use apfloat_base::{Category, ExpInt, Float, Round, StatusAnd};
+use apfloat_base::{Category, ExpInt, Float, ParseError, Round, StatusAnd};
 use apfloat_conversions::integers::{from_unsigned, to_unsigned};
 use apfloat_conversions::integral::{is_integer, round_to_integral};
 use apfloat_conversions::neighbours::next_up;
@@ -128,6 +130,8 @@ impl<S: Semantics> Float for IeeeFloat<S> {
     ghost has_exponent = { λ x exponent. IsIlogb (format_of S.Semantics) x exponent };
 
     ghost has_fraction = { λ x mode value exponent. IsFrexp (format_of S.Semantics) x value exponent };
+
+    ghost reads = { λ text mode answer. IsParsed (format_of S.Semantics) mode text answer };
 
     #[inline]
     fn zero() -> Self {
@@ -255,6 +259,11 @@ impl<S: Semantics> Float for IeeeFloat<S> {
     }
 
     #[inline]
+    fn from_str_r(s: &str, round: Round) -> Result<StatusAnd<Self>, ParseError> {
+        read_text::<S>(s, round)
+    }
+
+    #[inline]
     fn category(self) -> Category
         ensures category { result ≡ category_of self }
         ensures member { IsMember (format_of S.Semantics) self }
@@ -322,6 +331,8 @@ impl<S: Semantics> Float for IeeeFloat<S> {
     ghost can_rem_assign_law = { λ x y. tt };
 
     ghost rem_assign_law = { λ x y z h. (record { status = record { 0 = h.0 }; value = z }, h.1, refl) };
+
+    ghost read_law = { λ text r h. h };
 
     ghost default_law = { λ x h. h };
 

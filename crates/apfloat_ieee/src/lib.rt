@@ -14,6 +14,7 @@ pub mod products;
 pub mod remainder;
 pub mod semantics;
 pub mod sums;
+pub mod text;
 
 pub use apfloat_base::NonfiniteBehavior;
 pub use float::IeeeFloat;

@@ -1,0 +1,19 @@
+-- What a call that reads a text answers (IEEE 754-2008 5.12).
+use Rattle.std.specs.Prelude.{ℕ, List, Result, Ok, Err}
+use Rattle.apfloat_base.specs.declared.kinds.Round.{Round}
+use Rattle.apfloat_base.specs.declared.parse_error.ParseError.{ParseError}
+use Rattle.apfloat_base.specs.declared.status.StatusAnd.{StatusAnd}
+use Rattle.apfloat_base.specs.Flags.{Gives}
+use Rattle.apfloat_base.specs.Format.{Format}
+use Rattle.apfloat_base.specs.Datum.{Datum}
+use Rattle.apfloat_base.specs.Readings.{IsReading, IsRefusal}
+
+-- the value and the status of the text's meaning, or a refusal with the words of its first fault
+abbrev pub IsParsed : Format → Round → List ℕ → Result (StatusAnd Datum) ParseError → Type 0
+IsParsed f mode text (Ok answer) = Gives (IsReading f mode text) answer
+IsParsed f mode text (Err error) = IsRefusal text error.0.now
+
+-- an answer without its status
+abbrev pub without_status : {A E : Type 0} → Result (StatusAnd A) E → Result A E
+without_status (Ok answer) = Ok answer.value
+without_status (Err error) = Err error
