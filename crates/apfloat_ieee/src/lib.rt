@@ -9,6 +9,7 @@ mod convert;
 mod debug;
 pub mod float;
 pub mod formats;
+pub mod fused;
 pub mod impls;
 pub mod products;
 pub mod remainder;
