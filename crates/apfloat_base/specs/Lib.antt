@@ -20,6 +20,9 @@ pub mod Conversions
 pub mod Remainders
 pub mod Classes
 pub mod Order
+pub mod OrderLaws
+pub mod Predicates
+pub mod PredicatesAgree
 pub mod Signs
 pub mod NextUp
 pub mod Exponents

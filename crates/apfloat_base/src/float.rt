@@ -1,20 +1,24 @@
 //! The trait of floating-point types.
 
-ghost use Rattle.std.specs.Prelude.{◌≡◌, ℕ, ℤ, pos, neg_ℤ, ◌^◌, ◌<◌, ◌≤◌, Bool, IsTrue, Option, not, if◌then◌else◌, List, Result};
+ghost use Rattle.std.specs.Prelude.{◌≡◌, ℕ, ℤ, pos, neg_ℤ, ◌^◌, ◌<◌, ◌≤◌, Bool, IsTrue, Option, not, if◌then◌else◌, List, Result, ◌&&◌};
+ghost use Rattle.std.specs.declared.cmp.Ordering.{Ordering};
 ghost use Rattle.std.specs.Option.{unwrap_or};
 ghost use Rattle.apfloat_base.specs.Exact.{same_sign};
 ghost use Rattle.apfloat_base.specs.Negation.{swapped};
 ghost use Rattle.apfloat_base.specs.declared.kinds.Category.{Category};
+ghost use Rattle.apfloat_base.specs.declared.kinds.Category.TheVariants.{Normal};
 ghost use Rattle.apfloat_base.specs.declared.kinds.Round.{Round};
 ghost use Rattle.apfloat_base.specs.declared.kinds.Round.TheVariants.{NearestTiesToEven, TowardZero};
 ghost use Rattle.apfloat_base.specs.Classes.{is_nan_category, is_number_category};
 ghost use Rattle.apfloat_base.specs.declared.parse_error.ParseError.{ParseError};
+ghost use Rattle.apfloat_base.specs.Predicates.{is_zero_category, is_infinite_category, is_finite_category, min_by, max_by, minimum_by, maximum_by, signed_like};
 ghost use Rattle.apfloat_base.specs.declared.status.StatusAnd.{StatusAnd};
 ghost use Rattle.apfloat_base.specs.Parsing.{without_status};
 
 use crate::kinds::{Category, ExpInt, Round};
 use crate::parse_error::ParseError;
 use crate::status::StatusAnd;
+use std::cmp::Ordering;
 use std::ops::{
     Add, AddAssign, Div, DivAssign, Mul, MulAssign, Neg, Rem, RemAssign, Sub, SubAssign,
 };
@@ -26,6 +30,8 @@ use std::str::FromStr;
 /// where it is stated by one. `IeeeFloat` sets them to the definitions of the model.
 pub trait Float: Copy
     + Default
+    + PartialEq
+    + PartialOrd
     + FromStr<Err = ParseError>
     + Neg<Output = Self>
     + AddAssign
@@ -106,6 +112,11 @@ pub trait Float: Copy
     ghost leaves: { Self → Self → StatusAnd Self → Type 0 };
 
     ghost leaves_nearest: { Self → Self → StatusAnd Self → Type 0 };
+
+    // Whether two values are one, and the order of the magnitudes of two numbers that are not zero.
+    ghost same: { Self → Self → Bool };
+
+    ghost magnitude_order: { Self → Self → Ordering };
 
     // The value of bits, and the bits of a value.
     ghost value_of_bits: { ℕ → Self };
@@ -306,6 +317,123 @@ pub trait Float: Copy
         self.to_u128_r(width, Round::TowardZero, &mut is_exact)
     }
 
+    /// The value of a text, rounded once, or the refusal of a text without a meaning (IEEE 754-2008 5.12,
+    /// convertFromHexCharacter).
+    ///
+    /// A text is an optional mark and then an infinity, `inf`, `Inf` or `INFINITY`; a NaN, `nan` or `NaN`, with an `s` in
+    /// front if it signals and with a payload behind it, plain or in parentheses; or a hexadecimal number, as
+    /// `-0x1.8p-1`, of any length and with any exponent. Decimal numbers are refused.
+    fn from_str_r(s: &str, round: Round) -> Result<StatusAnd<Self>, ParseError>
+        ensures { reads s.now round result };
+
+    /// The order of the magnitudes of two finite values that are not zero.
+    fn cmp_abs_normal(self, rhs: Self) -> Ordering
+        requires left { category_of self ≡ Normal }
+        requires right { category_of rhs ≡ Normal }
+        ensures { result ≡ magnitude_order self rhs };
+
+    /// Whether both are one value: of one category and sign, and with the same number, or the same significand of a NaN.
+    /// So a NaN is the same as itself, and -0 is not the same as +0.
+    fn bitwise_eq(self, rhs: Self) -> bool
+        ensures { result ≡ same self rhs };
+
+    /// The lesser value (IEEE 754-2008 5.3.1, minNum): beside a NaN the other one, and `self` where neither is less.
+    fn min(self, other: Self) -> Self
+        ensures { result ≡ min_by category_of Self.partial_cmp self other }
+    {
+        if self.is_nan() {
+            other
+        } else if other.is_nan() {
+            self
+        } else if other < self {
+            other
+        } else {
+            self
+        }
+    }
+
+    /// The greater value (IEEE 754-2008 5.3.1, maxNum): beside a NaN the other one, and `self` where neither is greater.
+    fn max(self, other: Self) -> Self
+        ensures { result ≡ max_by category_of Self.partial_cmp self other }
+    {
+        if self.is_nan() {
+            other
+        } else if other.is_nan() {
+            self
+        } else if self < other {
+            other
+        } else {
+            self
+        }
+    }
+
+    /// The lesser value (IEEE 754-2019 9.6, minimum): the first NaN where there is one, as it is, and -0 is below +0.
+    fn minimum(self, other: Self) -> Self
+        ensures { result ≡ minimum_by category_of sign_of Self.partial_cmp self other }
+    {
+        if self.is_nan() {
+            self
+        } else if other.is_nan() {
+            other
+        } else if self.is_zero() && other.is_zero() && self.is_negative() != other.is_negative() {
+            if self.is_negative() { self } else { other }
+        } else {
+            self.min(other)
+        }
+    }
+
+    /// The greater value (IEEE 754-2019 9.6, maximum): the first NaN where there is one, as it is, and -0 is below +0.
+    fn maximum(self, other: Self) -> Self
+        ensures { result ≡ maximum_by category_of sign_of Self.partial_cmp self other }
+    {
+        if self.is_nan() {
+            self
+        } else if other.is_nan() {
+            other
+        } else if self.is_zero() && other.is_zero() && self.is_negative() != other.is_negative() {
+            if self.is_negative() { other } else { self }
+        } else {
+            self.max(other)
+        }
+    }
+
+    /// Whether the sign is minus, also of a zero or a NaN (IEEE 754-2008 5.7.2, isSignMinus).
+    fn is_negative(self) -> bool
+        ensures { result ≡ sign_of self };
+
+    /// Whether the value is a number with all digits: not zero and not denormal (IEEE 754-2008 5.7.2, isNormal).
+    fn is_normal(self) -> bool
+        ensures { result ≡ (is_number_category (category_of self) && not (denormal self)) }
+    {
+        self.is_finite_non_zero() && !self.is_denormal()
+    }
+
+    /// Whether the value is a number (IEEE 754-2008 5.7.2, isFinite).
+    fn is_finite(self) -> bool
+        ensures { result ≡ is_finite_category (category_of self) }
+    {
+        !self.is_nan() && !self.is_infinite()
+    }
+
+    /// Whether the value is +0 or -0 (IEEE 754-2008 5.7.2, isZero).
+    fn is_zero(self) -> bool
+        ensures { result ≡ is_zero_category (category_of self) }
+    {
+        self.category() == Category::Zero
+    }
+
+    /// Whether the value is a number, not zero, of less magnitude than the smallest value that is not denormal
+    /// (IEEE 754-2008 5.7.2, isSubnormal).
+    fn is_denormal(self) -> bool
+        ensures { result ≡ denormal self };
+
+    /// Whether the value is an infinity (IEEE 754-2008 5.7.2, isInfinite).
+    fn is_infinite(self) -> bool
+        ensures { result ≡ is_infinite_category (category_of self) }
+    {
+        self.category() == Category::Infinity
+    }
+
     /// Whether the value is a NaN, quiet or signaling (IEEE 754-2008 5.7.2, isNaN).
     fn is_nan(self) -> bool
         ensures { result ≡ is_nan_category (category_of self) }
@@ -317,31 +445,16 @@ pub trait Float: Copy
     fn is_signaling(self) -> bool
         ensures { result ≡ signals self };
 
-    /// The value of a text, rounded once, or the refusal of a text without a meaning (IEEE 754-2008 5.12,
-    /// convertFromHexCharacter).
-    ///
-    /// A text is an optional mark and then an infinity, `inf`, `Inf` or `INFINITY`; a NaN, `nan` or `NaN`, with an `s` in
-    /// front if it signals and with a payload behind it, plain or in parentheses; or a hexadecimal number, as
-    /// `-0x1.8p-1`, of any length and with any exponent. Decimal numbers are refused.
-    fn from_str_r(s: &str, round: Round) -> Result<StatusAnd<Self>, ParseError>
-        ensures { reads s.now round result };
-
     /// What the value is.
     fn category(self) -> Category
         ensures { result ≡ category_of self };
 
-    /// Whether the sign is minus, also of a zero or a NaN (IEEE 754-2008 5.7.2, isSignMinus).
-    fn is_negative(self) -> bool
-        ensures { result ≡ sign_of self };
-
-    /// Whether the value is a number, not zero, of less magnitude than the smallest value that is not denormal
-    /// (IEEE 754-2008 5.7.2, isSubnormal).
-    fn is_denormal(self) -> bool
-        ensures { result ≡ denormal self };
-
-    /// The inverse of a power of two, where both of them are numbers of the type and not denormal; the sign is kept.
-    fn get_exact_inverse(self) -> Option<Self>
-        ensures { inverts self result };
+    /// Whether the value is neither +0 nor -0: true of a NaN.
+    fn is_non_zero(self) -> bool
+        ensures { result ≡ not (is_zero_category (category_of self)) }
+    {
+        !self.is_zero()
+    }
 
     /// Whether the value is a number and not zero.
     fn is_finite_non_zero(self) -> bool
@@ -355,9 +468,62 @@ pub trait Float: Copy
         }
     }
 
+    /// Whether the value is +0.
+    fn is_pos_zero(self) -> bool
+        ensures { result ≡ (is_zero_category (category_of self) && not (sign_of self)) }
+    {
+        self.is_zero() && !self.is_negative()
+    }
+
+    /// Whether the value is -0.
+    fn is_neg_zero(self) -> bool
+        ensures { result ≡ (is_zero_category (category_of self) && sign_of self) }
+    {
+        self.is_zero() && self.is_negative()
+    }
+
+    /// Whether the value is the positive infinity.
+    fn is_pos_infinity(self) -> bool
+        ensures { result ≡ (is_infinite_category (category_of self) && not (sign_of self)) }
+    {
+        self.is_infinite() && !self.is_negative()
+    }
+
+    /// Whether the value is the negative infinity.
+    fn is_neg_infinity(self) -> bool
+        ensures { result ≡ (is_infinite_category (category_of self) && sign_of self) }
+    {
+        self.is_infinite() && self.is_negative()
+    }
+
+    /// Whether the value is one quantum of either sign, the smallest magnitude that is not zero.
+    fn is_smallest(self) -> bool
+        ensures { result ≡ same self (signed_like sign_of negated the_smallest self) }
+    {
+        self.bitwise_eq(Self::smallest().copy_sign(self))
+    }
+
+    /// Whether the value has the magnitude of the smallest value that is not denormal.
+    fn is_smallest_normalized(self) -> bool
+        ensures { result ≡ same self (signed_like sign_of negated the_smallest_normalized self) }
+    {
+        self.bitwise_eq(Self::smallest_normalized().copy_sign(self))
+    }
+
+    /// Whether the value has the magnitude of the greatest finite value.
+    fn is_largest(self) -> bool
+        ensures { result ≡ same self (signed_like sign_of negated the_largest self) }
+    {
+        self.bitwise_eq(Self::largest().copy_sign(self))
+    }
+
     /// Whether the value is finite and a whole number, zeros too.
     fn is_integer(self) -> bool
         ensures { result ≡ is_whole self };
+
+    /// The inverse of a power of two, where both of them are numbers of the type and not denormal; the sign is kept.
+    fn get_exact_inverse(self) -> Option<Self>
+        ensures { inverts self result };
 
     /// The exponent of the highest binary digit, of a denormal value too (IEEE 754-2008 5.3.3, logB): 2 to its power is at
     /// most the magnitude, and twice that is more. `IEK_ZERO`, `IEK_INF` and `IEK_NAN` stand for those of other values.

@@ -10,7 +10,8 @@ ghost use Rattle.apfloat_base.specs.Remainders.{IsTruncatedRemainder, IsNearestR
 ghost use Rattle.apfloat_base.specs.Exponents.{IsExactInverse, IsIlogb, IsFrexp};
 ghost use Rattle.apfloat_base.specs.Members.{IsMember};
 ghost use Rattle.apfloat_base.specs.declared.kinds.NonfiniteBehavior.TheVariants.{IEEE754};
-ghost use Rattle.apfloat_base.specs.Classes.{category_of, is_negative, is_denormal, is_finite_non_zero, is_integer};
+ghost use Rattle.apfloat_base.specs.Classes.{category_of, is_negative, is_denormal, is_finite_non_zero, is_integer, same_datum};
+ghost use Rattle.apfloat_base.specs.Order.{compared_magnitudes};
 ghost use Rattle.apfloat_base.specs.Products.{IsProduct, IsOpposite};
 ghost use Rattle.apfloat_base.specs.Quotients.{IsQuotient};
 ghost use Rattle.std.proofs.lemmas.Bool.{leb-true};
@@ -25,6 +26,7 @@ ghost use Rattle.apfloat_base.specs.Parsing.{IsParsed};
 ghost use Rattle.apfloat_ieee.specs.Types.{format_of, layout_of};
 
 use crate::float::{IeeeFloat, read, shape_of, write};
+use crate::order::{is_same, magnitude_order};
 use crate::products::{inverse, product, quotient};
 use crate::remainder::{nearest, truncated};
 use crate::semantics::Semantics;
@@ -40,6 +42,7 @@ use apfloat_unpacked::nans::{is_signaling, quiet_nan, signaling_nan};
 use apfloat_unpacked::unpacked::{
     infinity_of, largest_of, smallest_normalized_of, smallest_of, zero_of,
 };
+use std::cmp::Ordering;
 
 impl<S: Semantics> Default for IeeeFloat<S> {
     ghost is_default = { λ x. x ≡ zero_datum };
@@ -108,6 +111,10 @@ impl<S: Semantics> Float for IeeeFloat<S> {
     ghost leaves = { λ x y answer. Gives (IsTruncatedRemainder (format_of S.Semantics) x y) answer };
 
     ghost leaves_nearest = { λ x y answer. Gives (IsNearestRemainder (format_of S.Semantics) x y) answer };
+
+    ghost same = { same_datum };
+
+    ghost magnitude_order = { compared_magnitudes };
 
     ghost value_of_bits = { datum_of (format_of S.Semantics) (layout_of S.Semantics) };
 
@@ -251,6 +258,16 @@ impl<S: Semantics> Float for IeeeFloat<S> {
         let whole = to_unsigned(shape_of::<S>(), self.unpacked(), width as u32, round);
         *is_exact = whole.is_exact;
         whole.answer
+    }
+
+    #[inline]
+    fn cmp_abs_normal(self, rhs: Self) -> Ordering {
+        magnitude_order(self, rhs)
+    }
+
+    #[inline]
+    fn bitwise_eq(self, rhs: Self) -> bool {
+        is_same(self, rhs)
     }
 
     #[inline]

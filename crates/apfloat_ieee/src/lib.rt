@@ -11,6 +11,7 @@ pub mod float;
 pub mod formats;
 pub mod fused;
 pub mod impls;
+pub mod order;
 pub mod products;
 pub mod remainder;
 pub mod semantics;

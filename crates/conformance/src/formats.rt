@@ -1,11 +1,26 @@
 //! Formats of a user's own: each writes its constants and proves its law by one line.
 
+pub mod broad;
+pub mod deep;
+pub mod least_finite;
+pub mod precise;
+pub mod ten;
+pub mod vast;
+pub mod written_bit;
+
 ghost use Rattle.std.specs.Prelude.{◌-◌, ◌^◌, pos, negsuc, true, false, refl};
 ghost use Rattle.apfloat_base.specs.declared.kinds.NonfiniteBehavior.TheVariants.{IEEE754};
 ghost use Rattle.rustc_apfloat.specs.LawTest.{lawful_from_test};
 
+pub use broad::{Broad, BroadS};
+pub use deep::{Deep, DeepS};
+pub use least_finite::{LeastFinite, LeastFiniteS};
+pub use precise::{Precise, PreciseS};
 use rustc_apfloat::ExpInt;
 use rustc_apfloat::ieee::{IeeeFloat, NonfiniteBehavior, Semantics};
+pub use ten::{Ten, TenS};
+pub use vast::{Vast, VastS};
+pub use written_bit::{WrittenBit, WrittenBitS};
 
 /// Seven bits, whose exponents are all one above those of IEEE 754.
 #[derive(Clone, Copy)]

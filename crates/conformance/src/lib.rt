@@ -8,6 +8,8 @@ mod comparison;
 #[cfg(test)]
 mod example;
 pub mod formats;
+#[cfg(test)]
+mod limits;
 pub mod plain;
 #[cfg(test)]
 mod rows;

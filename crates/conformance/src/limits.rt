@@ -1,0 +1,156 @@
+//! Formats of a user's own at the limits of the law: the calls need no more of them than their law.
+
+ghost use Rattle.std.specs.Prelude.{◌<◌};
+
+use crate::formats::{
+    Broad, Deep, Least, LeastFinite, Precise, Ten, Vast, WrittenBit,
+};
+use rustc_apfloat::{Category, Flags, Float, Round};
+use std::cmp::Ordering;
+use std::process::Abort;
+
+const EVEN: Round = Round::NearestTiesToEven;
+
+const ZERO: Round = Round::TowardZero;
+
+const OK: u8 = 0x00;
+
+const INEXACT: u8 = 0x10;
+
+const OVERFLOW_INEXACT: u8 = 0x14;
+
+/// What a whole number becomes: another whole number, or what stands past the largest value.
+#[derive(Clone, Copy)]
+enum Answer {
+    Number(u128),
+    Past,
+}
+
+/// A number, a mode, the answer and the bits of its status.
+type Row = (u128, Round, Answer, u8);
+
+/// The largest value is 14.
+static FEW_DIGITS: [Row; 4] = [
+    (14, EVEN, Answer::Number(14), OK),
+    (15, EVEN, Answer::Past, OVERFLOW_INEXACT),
+    (15, ZERO, Answer::Number(14), INEXACT),
+    (9, EVEN, Answer::Number(8), INEXACT),
+];
+
+/// The largest value is 12.
+static LEAST_FINITE: [Row; 4] = [
+    (12, EVEN, Answer::Number(12), OK),
+    (13, EVEN, Answer::Number(12), INEXACT),
+    (14, EVEN, Answer::Past, OVERFLOW_INEXACT),
+    (14, ZERO, Answer::Number(12), INEXACT),
+];
+
+/// The largest value is 2^126 - 2.
+static PRECISE: [Row; 4] = [
+    ((1 << 125) + 1, EVEN, Answer::Number(1 << 125), INEXACT),
+    ((1 << 126) - 2, EVEN, Answer::Number((1 << 126) - 2), OK),
+    ((1 << 126) - 1, EVEN, Answer::Past, OVERFLOW_INEXACT),
+    (
+        (1 << 126) - 1,
+        ZERO,
+        Answer::Number((1 << 126) - 2),
+        INEXACT,
+    ),
+];
+
+static VAST: [Row; 3] = [
+    ((1 << 125) + 1, EVEN, Answer::Number(1 << 125), INEXACT),
+    ((1 << 125) - 1, EVEN, Answer::Number((1 << 125) - 1), OK),
+    (
+        u128::MAX,
+        ZERO,
+        Answer::Number(u128::MAX - 7),
+        INEXACT,
+    ),
+];
+
+static BROAD: [Row; 2] = [
+    ((1 << 107) + 1, EVEN, Answer::Number(1 << 107), INEXACT),
+    ((1 << 107) - 1, EVEN, Answer::Number((1 << 107) - 1), OK),
+];
+
+static WRITTEN_BIT: [Row; 3] = [
+    (257, EVEN, Answer::Number(256), INEXACT),
+    (65280, EVEN, Answer::Number(65280), OK),
+    (65408, EVEN, Answer::Past, OVERFLOW_INEXACT),
+];
+
+/// The largest value is 30 * 2^12.
+static TEN: [Row; 4] = [
+    (122880, EVEN, Answer::Number(122880), OK),
+    (124928, EVEN, Answer::Number(122880), INEXACT),
+    (126976, EVEN, Answer::Past, OVERFLOW_INEXACT),
+    (126976, ZERO, Answer::Number(122880), INEXACT),
+];
+
+fn check_rows<F: Float>(rt: &impl Abort, rows: &[Row]) {
+    for (number, mode, answer, status) in rows {
+        let got = F::from_u128_r(*number, *mode);
+        let value = match *answer {
+            Answer::Number(value) => F::from_u128(value).value,
+            Answer::Past => F::infinity(),
+        };
+        assert!(rt; got.value.bitwise_eq(value), "{number} {mode:?}");
+        assert_eq!(rt; got.status.bits(), *status, "{number} {mode:?}");
+    }
+}
+
+/// The order of the ends of a format, and what its minima and maxima are.
+fn check_ends<F: Float>(rt: &impl Abort) {
+    let ends = [F::zero(), F::smallest(), F::largest()];
+    assert!(rt; ends[0] < ends[1]);
+    assert!(rt; ends[1] < ends[2]);
+    assert!(rt; F::smallest() < F::smallest_normalized());
+    assert!(rt; F::smallest_normalized() < F::largest());
+    assert_eq!(rt; F::smallest().cmp_abs_normal(F::largest()), Ordering::Less);
+    assert!(rt; F::smallest().min(F::largest()).bitwise_eq(F::smallest()));
+    assert!(rt; F::smallest().maximum(F::largest()).bitwise_eq(F::largest()));
+    assert!(rt; F::smallest().is_denormal());
+    assert!(rt; F::smallest_normalized().is_normal());
+}
+
+/// The bits of 1, of the largest value and of what stands past it.
+fn check_bits<F: Float>(rt: &impl Abort, one: u128, largest: u128, past: u128)
+    requires { F.PRECISION < F.BITS }
+{
+    assert_eq!(rt; F::from_u128(1).value.to_bits(), one);
+    assert_eq!(rt; F::largest().to_bits(), largest);
+    assert_eq!(rt; F::infinity().to_bits(), past);
+    assert!(rt; F::from_bits(largest).bitwise_eq(F::largest()));
+}
+
+#[test]
+fn limits_without_bits(rt: HostRuntime) {
+    check_rows::<Least>(&rt, &FEW_DIGITS);
+    check_rows::<Deep>(&rt, &FEW_DIGITS);
+    check_rows::<LeastFinite>(&rt, &LEAST_FINITE);
+    check_rows::<Precise>(&rt, &PRECISE);
+    check_rows::<Vast>(&rt, &VAST);
+    check_ends::<Deep>(&rt);
+    check_ends::<Precise>(&rt);
+    check_ends::<Vast>(&rt);
+    assert_eq!(rt; LeastFinite::infinity().category(), Category::NaN);
+}
+
+#[test]
+fn limits_with_bits(rt: HostRuntime) {
+    check_rows::<Broad>(&rt, &BROAD);
+    check_rows::<WrittenBit>(&rt, &WRITTEN_BIT);
+    check_rows::<Ten>(&rt, &TEN);
+    check_ends::<Broad>(&rt);
+    check_ends::<WrittenBit>(&rt);
+    check_ends::<Ten>(&rt);
+    check_bits::<Broad>(
+        &rt,
+        0xfffff << 106,
+        (0x1fffff << 106) - 1,
+        0x1fffff << 106,
+    );
+    check_bits::<WrittenBit>(&rt, 0x0f80, 0x1eff, 0x1f80);
+    check_bits::<Ten>(&rt, 0x0f0, 0x1fe, 0x1ff);
+}
