@@ -5,7 +5,7 @@
 #![tactic(auto)]
 
 pub use apfloat_base::{
-    Category, ExpInt, Flags, Float, IEK_INF, IEK_NAN, IEK_ZERO, Round, Status, StatusAnd,
+    Category, ExpInt, Flags, Float, FloatConvert, IEK_INF, IEK_NAN, IEK_ZERO, Round, Status, StatusAnd,
 };
 pub use apfloat_ieee as ieee;
 
