@@ -2,6 +2,8 @@
 
 ghost use Rattle.std.specs.Prelude.{◌≡◌, ℕ, ◌-◌, ◌*◌, ◌^◌, ◌<◌, ◌≤◌, ◌⊎◌, pos, neg_ℤ, ◌+ℤ◌, ◌≤ℤ◌, false};
 ghost use Rattle.apfloat_base.specs.declared.sig.loss.Loss.{Loss};
+ghost use Rattle.apfloat_base.specs.Classes.{category_of};
+ghost use Rattle.apfloat_base.specs.Members.{IsMember};
 ghost use Rattle.apfloat_base.specs.Flags.{Gives};
 ghost use Rattle.apfloat_base.specs.Rounding.{IsDelivered};
 ghost use Rattle.apfloat_base.specs.Standing.{StandsFor, up, down};
@@ -112,6 +114,8 @@ impl<S: Semantics> IeeeFloat<S> {
     pub(crate) fn unpacked(self) -> Unpacked
         ensures stored { IsStored (shape_of S.Semantics) result }
         ensures datum { self ≡ datum_at (shape_of S.Semantics) result }
+        ensures category { result.category ≡ category_of self }
+        ensures member { IsMember (format_of S.Semantics) self }
     {
         self.unpacked
     }

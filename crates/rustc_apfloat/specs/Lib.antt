@@ -9,6 +9,7 @@ pub use Rattle.apfloat_base.specs.Nan
 pub use Rattle.apfloat_base.specs.Constants
 pub use Rattle.apfloat_base.specs.Members
 pub use Rattle.apfloat_base.specs.Exact
+pub use Rattle.apfloat_base.specs.Totals
 pub use Rattle.apfloat_base.specs.Sums
 pub use Rattle.apfloat_base.specs.Products
 pub use Rattle.apfloat_base.specs.Quotients
@@ -32,6 +33,8 @@ pub use Rattle.apfloat_base.specs.Digits
 pub use Rattle.apfloat_base.specs.Specials
 pub use Rattle.apfloat_base.specs.Texts
 pub use Rattle.apfloat_base.specs.Readings
+pub use Rattle.apfloat_base.specs.Literals
+pub use Rattle.apfloat_base.specs.Parsing
 pub use Rattle.apfloat_base.specs.Log
 pub use Rattle.apfloat_base.specs.Standing
 pub use Rattle.apfloat_base.specs.Enclosure

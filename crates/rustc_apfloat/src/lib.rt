@@ -1,11 +1,12 @@
 //! Correctly rounded software floating point on whole numbers: a port of the Rust crate `rustc_apfloat` (LLVM's
 //! APFloat) whose every call is proved against a mathematical model.
 //!
-//! The root has statuses, rounding modes and the trait `Float`; `ieee` has the formats and `IeeeFloat`.
+//! The root has statuses, rounding modes and the traits `Float` and `FloatConvert`; `ieee` has the formats and `IeeeFloat`.
 #![tactic(auto)]
 
 pub use apfloat_base::{
-    Category, ExpInt, Flags, Float, FloatConvert, IEK_INF, IEK_NAN, IEK_ZERO, Round, Status, StatusAnd,
+    Category, ExpInt, Flags, Float, FloatConvert, IEK_INF, IEK_NAN, IEK_ZERO, ParseError, Round,
+    Status, StatusAnd,
 };
 pub use apfloat_ieee as ieee;
 
