@@ -135,8 +135,10 @@ pub trait Float: Copy
 
     ghost converts_to_unsigned: { Self → ℕ → Round → StatusAnd ℕ → Bool → Type 0 };
 
-    // The neighbour above.
+    // The neighbours above and below.
     ghost steps_up: { Self → StatusAnd Self → Type 0 };
+
+    ghost steps_down: { Self → StatusAnd Self → Type 0 };
 
     // A value times a power of two, its exponent, and its fraction with an exponent.
     ghost scales: { Self → ℤ → Round → Self → Type 0 };
@@ -235,6 +237,13 @@ pub trait Float: Copy
     /// quiet NaN stay as they are; a signaling NaN is invalid.
     fn next_up(self) -> StatusAnd<Self>
         ensures { steps_up self result };
+
+    /// The greatest value that compares less (IEEE 754-2008 5.3.1, nextDown), by the next value up from the negation.
+    fn next_down(self) -> StatusAnd<Self>
+        ensures { steps_down self result }
+    {
+        (-self).next_up().map(|value| -value)
+    }
 
     /// The value without its sign (IEEE 754-2008 5.5.1, abs). A NaN too loses its sign, and none is signaled.
     fn abs(self) -> Self
@@ -580,6 +589,8 @@ pub trait Float: Copy
     ghost rem_assign_law: { (x y z : Self) → Self.rem_assign_gives x y z → (r : StatusAnd Self) × leaves x y r × (z ≡ r.value) };
 
     ghost read_law: { (text : List ℕ) (r : Result Self ParseError) → Self.from_str_gives text r → (answer : Result (StatusAnd Self) ParseError) × reads text NearestTiesToEven answer × (r ≡ without_status answer) };
+
+    ghost steps_down_law: { (x : Self) (r : StatusAnd Self) → steps_up (negated x) r → steps_down x (record { status = r.status; value = negated r.value }) };
 
     ghost default_law: { (x : Self) → Self.is_default x → x ≡ the_zero };
 

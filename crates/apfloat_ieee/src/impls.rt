@@ -132,6 +132,8 @@ impl<S: Semantics> Float for IeeeFloat<S> {
 
     ghost steps_up = { λ x answer. Gives (IsNextUp (format_of S.Semantics) x) answer };
 
+    ghost steps_down = { λ x answer. Gives (IsNextDown (format_of S.Semantics) x) answer };
+
     ghost scales = { λ x places mode value. IsScaling (format_of S.Semantics) mode x places value };
 
     ghost has_exponent = { λ x exponent. IsIlogb (format_of S.Semantics) x exponent };
@@ -350,6 +352,8 @@ impl<S: Semantics> Float for IeeeFloat<S> {
     ghost rem_assign_law = { λ x y z h. (record { status = record { 0 = h.0 }; value = z }, h.1, refl) };
 
     ghost read_law = { λ text r h. h };
+
+    ghost steps_down_law = { λ x r h. record { up_of_negated = r.value; is_next_up = h; is = refl } };
 
     ghost default_law = { λ x h. h };
 
