@@ -5,10 +5,11 @@ use Rattle.rustc_apfloat.specs.declared.Round.TheVariants.{NearestTiesToEven, To
 use Rattle.rustc_apfloat.specs.Digits.{same, every, is_empty, is_decimal, is_hexadecimal, number}
 use Rattle.rustc_apfloat.specs.Lawful.{Constants}
 use Rattle.rustc_apfloat.specs.Formats.{half_constants, single_constants, double_constants, quad_constants, bfloat_constants, e5m2_constants, e4m3fn_constants, e4m3fnuz_constants, x87_constants}
+use Rattle.rustc_apfloat.specs.Texts.{Fault, fault_of, words}
 use Rattle.vectors.specs.declared.operation.Operation.{Operation}
-use Rattle.vectors.specs.declared.operation.Operation.TheVariants.{OfTwo, WholeNumber}
+use Rattle.vectors.specs.declared.operation.Operation.TheVariants.{OfTwo, FusedSum, WholeNumber, Text}
 use Rattle.vectors.specs.declared.operation.Arithmetic.{Arithmetic}
-use Rattle.vectors.specs.declared.operation.Arithmetic.TheVariants.{Sum, Difference, Product, Quotient}
+use Rattle.vectors.specs.declared.operation.Arithmetic.TheVariants.{Sum, Difference, Product, Quotient, NearestRemainder, TruncatedRemainder}
 
 -- ---- the words that are known
 
@@ -31,7 +32,11 @@ operations =
     ∷ (codes "sub", OfTwo Difference)
     ∷ (codes "mul", OfTwo Product)
     ∷ (codes "div", OfTwo Quotient)
+    ∷ (codes "rem", OfTwo NearestRemainder)
+    ∷ (codes "mod", OfTwo TruncatedRemainder)
+    ∷ (codes "fma", FusedSum)
     ∷ (codes "int", WholeNumber)
+    ∷ (codes "parse", Text)
     ∷ []
 
 abbrev pub modes : List (List ℕ × Round)
@@ -52,19 +57,25 @@ found (row ∷ rows) word = if same word row.0 then Some row.1 else found rows w
 
 abbrev pub operand_count : Operation → ℕ
 operand_count (OfTwo arithmetic) = 2
+operand_count FusedSum = 3
 operand_count WholeNumber = 1
+operand_count Text = 1
 
--- a product needs a precision of 64 at most, for its digits
+-- a product needs a precision of 64 at most, for its digits; a fused sum one of 63
 abbrev pub may_compute : ℕ → Arithmetic → Bool
 may_compute precision Sum = true
 may_compute precision Difference = true
 may_compute precision Product = nat_le precision 64
 may_compute precision Quotient = true
+may_compute precision NearestRemainder = true
+may_compute precision TruncatedRemainder = true
 
 -- whether a format of that precision has the operation
 abbrev pub is_supported : ℕ → Operation → Bool
 is_supported precision (OfTwo arithmetic) = may_compute precision arithmetic
+is_supported precision FusedSum = nat_le precision 63
 is_supported precision WholeNumber = true
+is_supported precision Text = true
 
 -- ---- operands
 
@@ -95,10 +106,12 @@ word_at words place = slice_index_or words place []
 
 -- ---- what is asked
 
--- an operation with what its operands say: bits, or a number
+-- an operation with what its operands say: bits, a number, or a text
 pub data Call : Type 0 where
   of_two : Arithmetic → ℕ → ℕ → Call
+  fused_sum : ℕ → ℕ → ℕ → Call
   from_whole_number : ℕ → Call
+  from_text : List ℕ → Call
 
 pub record Request : Type 0 where
   pub constants : Constants
@@ -126,12 +139,26 @@ abbrev pub with_two : Constants → Arithmetic → List ℕ → List ℕ → Res
 with_two c arithmetic left right =
     with_bits c left >>= λ x. with_bits c right >>= λ y. Ok (of_two arithmetic x y)
 
+abbrev pub with_three : Constants → List ℕ → List ℕ → List ℕ → Result Call (List ℕ)
+with_three c left right addend =
+    with_bits c left >>= λ x. with_bits c right >>= λ y. with_bits c addend >>= λ z. Ok (fused_sum x y z)
+
 abbrev pub with_whole_number : List ℕ → Result Call (List ℕ)
 with_whole_number word = ok_or (whole_number_of word) word >>= λ n. Ok (from_whole_number n)
 
+-- a text, or the words of its first fault
+abbrev pub without_fault : Option Fault → List ℕ → Result Call (List ℕ)
+without_fault None text = Ok (from_text text)
+without_fault (Some fault) text = Err (words fault)
+
+abbrev pub with_text : List ℕ → Result Call (List ℕ)
+with_text text = without_fault (fault_of text) text
+
 abbrev pub with_operands : Constants → Operation → List (List ℕ) → Result Call (List ℕ)
 with_operands c (OfTwo arithmetic) operands = with_two c arithmetic (word_at operands 0) (word_at operands 1)
+with_operands c FusedSum operands = with_three c (word_at operands 0) (word_at operands 1) (word_at operands 2)
 with_operands c WholeNumber operands = with_whole_number (word_at operands 0)
+with_operands c Text operands = with_text (word_at operands 0)
 
 abbrev pub requested : Constants → Round → Result Call (List ℕ) → Result Request (List ℕ)
 requested c mode asked = asked >>= λ call. Ok (record { constants = c; mode = mode; call = call })

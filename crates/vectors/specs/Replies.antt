@@ -10,13 +10,16 @@ use Rattle.rustc_apfloat.specs.Datum.{Datum}
 use Rattle.rustc_apfloat.specs.Sums.{IsSum, IsDifference}
 use Rattle.rustc_apfloat.specs.Products.{IsProduct}
 use Rattle.rustc_apfloat.specs.Quotients.{IsQuotient}
+use Rattle.rustc_apfloat.specs.FusedSums.{IsFusedSum}
+use Rattle.rustc_apfloat.specs.Remainders.{IsNearestRemainder, IsTruncatedRemainder}
 use Rattle.rustc_apfloat.specs.WholeNumbers.{IsFromUnsigned}
+use Rattle.rustc_apfloat.specs.Readings.{IsReading}
 use Rattle.rustc_apfloat.specs.Layout.{datum_of, IsEncodedBy}
 use Rattle.rustc_apfloat.specs.Lawful.{Constants, format_with, layout_with}
 use Rattle.vectors.specs.declared.command.Reply as program
 use Rattle.vectors.specs.declared.operation.Arithmetic.{Arithmetic}
-use Rattle.vectors.specs.declared.operation.Arithmetic.TheVariants.{Sum, Difference, Product, Quotient}
-use Rattle.vectors.specs.Commands.{Call, of_two, from_whole_number, Request, asked}
+use Rattle.vectors.specs.declared.operation.Arithmetic.TheVariants.{Sum, Difference, Product, Quotient, NearestRemainder, TruncatedRemainder}
+use Rattle.vectors.specs.Commands.{Call, of_two, fused_sum, from_whole_number, from_text, Request, asked}
 
 -- bits with the number of their hexadecimal digits and the flags, or the word of a refusal
 pub data Reply : Type 0 where
@@ -40,6 +43,8 @@ IsOfTwo Sum f mode x y value status = IsSum f mode x y value status
 IsOfTwo Difference f mode x y value status = IsDifference f mode x y value status
 IsOfTwo Product f mode x y value status = IsProduct f mode x y value status
 IsOfTwo Quotient f mode x y value status = IsQuotient f mode x y value status
+IsOfTwo NearestRemainder f mode x y value status = IsNearestRemainder f x y value status
+IsOfTwo TruncatedRemainder f mode x y value status = IsTruncatedRemainder f x y value status
 
 -- the value that is written as bits
 abbrev pub value_of : Constants → ℕ → Datum
@@ -49,7 +54,10 @@ value_of c bits = datum_of (format_with c) (layout_with c) bits
 abbrev pub IsAnswerOf : Call → Constants → Round → Datum → ℕ → Type 0
 IsAnswerOf (of_two arithmetic x y) c mode value status =
     IsOfTwo arithmetic (format_with c) mode (value_of c x) (value_of c y) value status
+IsAnswerOf (fused_sum x y z) c mode value status =
+    IsFusedSum (format_with c) mode (value_of c x) (value_of c y) (value_of c z) value status
 IsAnswerOf (from_whole_number n) c mode value status = IsFromUnsigned (format_with c) mode n value status
+IsAnswerOf (from_text text) c mode value status = IsReading (format_with c) mode text value status
 
 -- the bits of a value of the format, and its status
 pub record IsLineOf (c : Constants) (value : Datum) (status : ℕ) (reply : Reply) : Type 0 where

@@ -3,8 +3,8 @@
 ghost use Rattle.std.specs.Prelude.{◌≡◌, ◌≤◌, ◌<◌, length, map, string_bytes, true};
 ghost use Rattle.rustc_apfloat.specs.Flags.{bits_of};
 ghost use Rattle.rustc_apfloat.specs.Types.{constants_of};
-ghost use Rattle.vectors.specs.declared.operation.Operation.TheVariants.{OfTwo};
-ghost use Rattle.vectors.specs.Commands.{bits_of_word, is_supported, operand_count, requested, with_format, with_operands, with_operation, with_two, with_whole_number};
+ghost use Rattle.vectors.specs.declared.operation.Operation.TheVariants.{OfTwo, FusedSum};
+ghost use Rattle.vectors.specs.Commands.{bits_of_word, is_supported, operand_count, requested, with_format, with_operands, with_operation, with_three, with_two, with_text, with_whole_number};
 ghost use Rattle.vectors.specs.Replies.{IsLineOf, IsOnly, IsReply, IsReplyTo, digit_count, reply_of};
 
 use crate::operation::{Arithmetic, Operation, answer_of_two};
@@ -116,7 +116,11 @@ fn answer_to<'a, S: Semantics>(
         Operation::OfTwo(arithmetic) => {
             of_two::<S>(arithmetic, round, first, operands[1].as_str())
         }
+        Operation::FusedSum => {
+            fused_sum::<S>(round, first, operands[1].as_str(), operands[2].as_str())
+        }
         Operation::WholeNumber => from_whole_number::<S>(round, first),
+        Operation::Text => from_text::<S>(round, first),
     }
 }
 
@@ -143,6 +147,32 @@ fn of_two<'a, S: Semantics>(
     line(answer_of_two(operation, round, S::from_bits(x), S::from_bits(y)))
 }
 
+// A product plus a third value, rounded once.
+fn fused_sum<'a, S: Semantics>(
+    round: Round,
+    left: &'a str,
+    right: &'a str,
+    addend: &'a str,
+) -> Reply<'a>
+    requires written { S.PRECISION < S.BITS }
+    requires supported { is_supported S.PRECISION FusedSum ≡ true }
+    ensures reply { let c = constants_of S.Semantics in IsOnly
+        (IsReplyTo (requested c round (with_three c left.now right.now addend.now)))
+        (reply_of result) }
+    ensures short { digit_count (reply_of result) ≤ 32 }
+{
+    let Some(x) = bits_of(left, S::BITS) else {
+        return Reply::Refused(left);
+    };
+    let Some(y) = bits_of(right, S::BITS) else {
+        return Reply::Refused(right);
+    };
+    let Some(z) = bits_of(addend, S::BITS) else {
+        return Reply::Refused(addend);
+    };
+    line(S::from_bits(x).mul_add_r(S::from_bits(y), S::from_bits(z), round))
+}
+
 // A whole number, rounded to a format.
 fn from_whole_number<'a, S: Semantics>(round: Round, word: &'a str) -> Reply<'a>
     requires { S.PRECISION < S.BITS }
@@ -155,6 +185,20 @@ fn from_whole_number<'a, S: Semantics>(round: Round, word: &'a str) -> Reply<'a>
         return Reply::Refused(word);
     };
     line(IeeeFloat::<S>::from_u128_r(number, round))
+}
+
+// The value that a text means.
+fn from_text<'a, S: Semantics>(round: Round, text: &'a str) -> Reply<'a>
+    requires { S.PRECISION < S.BITS }
+    ensures reply { IsOnly
+        (IsReplyTo (requested (constants_of S.Semantics) round (with_text text.now)))
+        (reply_of result) }
+    ensures short { digit_count (reply_of result) ≤ 32 }
+{
+    match IeeeFloat::<S>::from_str_r(text, round) {
+        Ok(answer) => line(answer),
+        Err(error) => Reply::Refused(error.0),
+    }
 }
 
 // The bits and the flags of an answer.

@@ -17,6 +17,8 @@ pub enum Arithmetic {
     Difference,
     Product,
     Quotient,
+    NearestRemainder,
+    TruncatedRemainder,
 }
 
 /// An operation.
@@ -24,8 +26,12 @@ pub enum Arithmetic {
 pub enum Operation {
     /// Of two values.
     OfTwo(Arithmetic),
+    /// Of three values: the product of the first two plus the third.
+    FusedSum,
     /// A whole number, rounded to the format.
     WholeNumber,
+    /// The text of a value.
+    Text,
 }
 
 impl Operation {
@@ -35,7 +41,9 @@ impl Operation {
     {
         match self {
             Operation::OfTwo(_) => 2,
+            Operation::FusedSum => 3,
             Operation::WholeNumber => 1,
+            Operation::Text => 1,
         }
     }
 
@@ -45,6 +53,7 @@ impl Operation {
     {
         match self {
             Operation::OfTwo(Arithmetic::Product) => precision <= 64,
+            Operation::FusedSum => precision <= 63,
             _ => true,
         }
     }
@@ -65,5 +74,7 @@ pub fn answer_of_two<S: Semantics>(
         Arithmetic::Difference => x.sub_r(y, round),
         Arithmetic::Product => x.mul_r(y, round),
         Arithmetic::Quotient => x.div_r(y, round),
+        Arithmetic::NearestRemainder => x.ieee_rem(y),
+        Arithmetic::TruncatedRemainder => x.c_fmod(y),
     }
 }

@@ -724,3 +724,441 @@ pub static SUMS_AND_DIFFERENCES: [(&str, &str); 72] = [
     ),
     ("HALF sub down fe00 fe00", "refused: HALF"),
 ];
+
+pub static REMAINDERS: [(&str, &str); 54] = [
+    ("single rem away a8e26c03 0000000f", "80000007 OK"),
+    ("e5m2 mod down c9 46", "c4 OK"),
+    ("e5m2 mod up 000000000000000000000000000000d3 f7", "d3 OK"),
+    (
+        "quad mod away 808f0000000000000000000000000001 808e0000000000000000000000000000",
+        "801f0000000000000000000000000000 OK",
+    ),
+    ("half mod up 5800 0aa1", "058e OK"),
+    ("e5m2 rem down c7 0x0000000000000000000b6", "30 OK"),
+    (
+        "double rem zero 8000000004000000 8000000000000001",
+        "8000000000000000 OK",
+    ),
+    (
+        "quad mod even dfad69e721f248773a80000000000000 5faeffffffffffffffffffffffffffff",
+        "dfad69e721f248773a80000000000000 OK",
+    ),
+    (
+        "quad rem down 291ad74582e96ccda5410aeafc3796c2 00590000000000000000000000000003",
+        "8056b22167ca37754b0b813dd29de628 OK",
+    ),
+    ("half rem up d001 18b1", "8220 OK"),
+    (
+        "double rem zero 837b833d69d330ee 837b833d69d330ee",
+        "8000000000000000 OK",
+    ),
+    ("bfloat mod even 3c7e 0000", "7fc0 INVALID_OP"),
+    (
+        "double mod even 0485f5b380000000 0000000000000000",
+        "7ff8000000000000 INVALID_OP",
+    ),
+    ("e5m2 rem up 01 43", "01 OK"),
+    ("e4m3fn mod even fe 7e", "80 OK"),
+    (
+        "x87 rem down 80000000000000000100 000000000000000000fe",
+        "80000000000000000002 OK",
+    ),
+    ("e4m3fnuz rem even a0 81", "00 OK"),
+    ("e4m3fnuz mod down e9 77", "e9 OK"),
+    ("half mod zero 7500 f90a", "7500 OK"),
+    ("e4m3fn rem away 1e 1e", "00 OK"),
+    ("e4m3fn mod away 88 05", "83 OK"),
+    (
+        "double mod down 3da0000000000000 3eaffffffffffffe",
+        "3da0000000000000 OK",
+    ),
+    ("single rem down 34c9a198 d7800000", "34c9a198 OK"),
+    ("bfloat rem away 7f6f f803", "775c OK"),
+    ("bfloat rem away 0003 8002", "8001 OK"),
+    (
+        "quad rem down df96890554fc7e5c0000000000000000 5ed80000000000000000000000000000",
+        "80000000000000000000000000000000 OK",
+    ),
+    (
+        "e5m2 rem zero 0x000000000000000000000000000000000 d0",
+        "refused: 0x000000000000000000000000000000000",
+    ),
+    ("e4m3fn rem down 06 8f", "06 OK"),
+    (
+        "x87 rem even 00000000000000000000 6028a02105f7df800000",
+        "00000000000000000000 OK",
+    ),
+    (
+        "x87 mod down 8001E89015A952972DB6 0002e89015a952972db6",
+        "8001e89015a952972db6 OK",
+    ),
+    ("e4m3fnuz mod even 80 a4", "80 OK"),
+    (
+        "e5m2 mod Even bc 000000000000000000000000000000cf",
+        "refused: Even",
+    ),
+    (
+        "x87 mod down 8644ccbdc633ec2e3f4f 00000000000000800003",
+        "80000000000000714ae2 OK",
+    ),
+    ("half rem even 2bff 2c00", "8200 OK"),
+    ("bfloat mod down 6c48z 81efz", "refused: 6c48z"),
+    ("single mod down c8800000 408007ff", "bd3ff800 OK"),
+    ("single mod away 0x6700001f 66124948", "65924948 OK"),
+    ("e4m3fn rem away 171 7d", "refused: 171"),
+    ("e4m3fnuz rem down 60 60", "00 OK"),
+    (
+        "HALF mod zero 7fff9ab7ad0e9191e806 4a81f194fd705cfec04b",
+        "refused: HALF",
+    ),
+    ("single mod Even 377ffffe ff800000", "refused: Even"),
+    ("bfloat mod away c28f 8022", "800a OK"),
+    (
+        "e4m3fn mod away 000000000000000000000000000000000 10",
+        "refused: 000000000000000000000000000000000",
+    ),
+    (
+        "double mod down 3e00000000007fff 00000000000000000000000000005000 0 0 0",
+        "refused: arguments",
+    ),
+    (
+        "single rem even 0x000000000000000000000000000000000 e37e1e86",
+        "refused: 0x000000000000000000000000000000000",
+    ),
+    ("double rem down 8040000000000000 1.0", "refused: 1.0"),
+    ("quad mod", "refused: arguments"),
+    (
+        "half rem zero 1cae0 0x000000000000000000000008006",
+        "refused: 1cae0",
+    ),
+    ("e4m3fnuz rem zero 0x e0", "refused: 0x"),
+    ("fallback rem zero be00 be20", "refused: fallback"),
+    ("e4m3fnuz mod down 1_0 81", "refused: 1_0"),
+    ("half mod away 0X1 800a", "refused: 0X1"),
+    ("bfloat rem even 8046 8046 0", "refused: arguments"),
+    ("x87 mod even 0004bc02eba547c3299d", "refused: arguments"),
+];
+
+pub static FUSED_SUMS: [(&str, &str); 46] = [
+    (
+        "single fma away 0x0000000000003f2f5619 487FFFFF 0x000000000000000000000005db94a",
+        "482f5618 INEXACT",
+    ),
+    (
+        "x87 fma zero c000b6e4811bca626859 4001b6e4811bca626859",
+        "refused: arguments",
+    ),
+    (
+        "quad fma down 2029b4ec45604e56f18712db65ce33ba 2029b4ec45604e56f18712db65ce33bb",
+        "refused: arguments",
+    ),
+    ("e4m3fn fma up a0 9a 82", "03 OK"),
+    ("bfloat fma away 4142 4280 feed", "feed INEXACT"),
+    (
+        "double fma zero 8000000000000003 3f0ffffffffffffe 8001000000000000",
+        "8001000000000000 UNDERFLOW|INEXACT",
+    ),
+    (
+        "double fma zero 8003469f5be03ee4 80010805cc56b31b 7ff7b824e7378bdc",
+        "7fffb824e7378bdc INVALID_OP",
+    ),
+    ("half fma up 2c41 0001 0241", "0242 UNDERFLOW|INEXACT"),
+    ("e5m2 fma even 0x86 fd 90", "ff INVALID_OP"),
+    ("half fma up d8 1ec4 1000", "1001 INEXACT"),
+    ("e5m2 fma up 6c dc b3", "fb INEXACT"),
+    ("e5m2 fma zero 7f 0x000000000000000052 08", "7f OK"),
+    (
+        "double fma even 3fc0000000000000 ad5c1ccc00000000 b080000000000000",
+        "b080000000000000 INEXACT",
+    ),
+    ("half fma up fe00 1ffe 03ff", "fe00 OK"),
+    ("bfloat fma away 8042 7f00 3f82", "bc80 OK"),
+    (
+        "half fma away 1 1484 00000000000000000000000000008001",
+        "8001 UNDERFLOW|INEXACT",
+    ),
+    ("e4m3fnuz fma zero 35 6f 81", "64 INEXACT"),
+    (
+        "double fma down 62b0400000000000 995b8dda115dab0b 000df1f90d2ff145",
+        "bc1bfc1179a321b8 INEXACT",
+    ),
+    ("bfloat fma away 0c7f 0x0000000000062b 0180", "0180 INEXACT"),
+    ("e5m2 fma away b6 09 04", "00 UNDERFLOW|INEXACT"),
+    ("e4m3fnuz fma even 80 46 01", "80 OK"),
+    ("half fma away 0xf820 8001 8000", "1820 OK"),
+    ("e4m3fn fma down 6a ff 52", "ff OK"),
+    (
+        "double fma away 3f58472988fb9904 3f10400000000000 8000000000000002",
+        "3e78a8462f1f8768 INEXACT",
+    ),
+    ("bfloat fma zero 0xbd8d 802b 8180", "817e INEXACT"),
+    (
+        "e5m2 fma zero d3 7c 000000000000000000000000000000fe",
+        "fe OK",
+    ),
+    ("e4m3fnuz fma even 80 a2 b0", "80 OK"),
+    (
+        "e4m3fnuz fma away 000000000000000000000000000000aa 00000000000000000000000000000000 6d",
+        "6d OK",
+    ),
+    ("e4m3fnuz fma zero 89 90 0c", "0c INEXACT"),
+    (
+        "single fma up 57fa645b fe800000 7f7fffff",
+        "ff7fffff INEXACT",
+    ),
+    ("e4m3fn fma even 06 b4 04", "80 UNDERFLOW|INEXACT"),
+    ("bfloat fma zero 8000 7f10 46d2", "46d2 OK"),
+    ("single fma zero 7f800000 477fffff 00416b67", "7f800000 OK"),
+    (
+        "single fma down 330afd37 02800000 80000002",
+        "00000002 UNDERFLOW|INEXACT",
+    ),
+    (
+        "single fma down 80138144 29800003 00000001",
+        "00000000 UNDERFLOW|INEXACT",
+    ),
+    ("e4m3fn fma up 84 0x00 2e", "2e OK"),
+    ("e4m3fn fma even b3 05 03", "80 UNDERFLOW|INEXACT"),
+    ("half fma down 81d2 0020 8a2d 0 0 0", "refused: arguments"),
+    ("x fma away be000002 00000000 80000003", "refused: x"),
+    (
+        "e4m3fnuz fma zero 80z 00000000000000000000000000000070z 09z",
+        "refused: 80z",
+    ),
+    ("double fma away 603ab56718000000", "refused: arguments"),
+    ("bfloat fma zero 0040 b8d4 ٣", "refused: ٣"),
+    (
+        "fallback fma away 3fdbfffffffffffffffffffffffffffe 80000000000000000000000800000000",
+        "refused: fallback",
+    ),
+    ("e4m3 fma away fc00 6f4f 8800", "refused: e4m3"),
+    (
+        "single fma odd 000000000000000000000000ff800000 3c080100 b771976d",
+        "refused: odd",
+    ),
+    ("e5m2 fma away 8d d0 82 0 0 0 0", "refused: arguments"),
+];
+
+pub static TEXTS: [(&str, &str); 74] = [
+    (
+        "single parse away -0x0.05p+1n",
+        "refused: Invalid character in exponent",
+    ),
+    (
+        "double parse up -0x28A02518FFF0CD23BCAB6EE24356DEAA00000000000000000000000000000000000000000000000000000000000000000000000000000000000000000000000000000000000000000000000000000000000000000000000000000000000000000000000000000000000000000000000000000000p-67",
+        "f59450128c7ff866 INEXACT",
+    ),
+    (
+        "e4m3fnuz parse down +0X00000000000000000000000000000017FFFFFFFFFp-36",
+        "63 INEXACT",
+    ),
+    (
+        "half parse down +0X0000000000000000000000000",
+        "refused: Hex strings require an exponent",
+    ),
+    ("half parse away snan", "7d00 OK"),
+    (
+        "single parse zero -Snan(0x+de176edd74d94341f954",
+        "refused: Not a special or hexadecimal literal",
+    ),
+    (
+        "e4m3fn parse up -0X1ffffffffffffffffffffffffffffffffffffffffffffffffffffffff.fffffffffffffffffffp-00000232",
+        "83 UNDERFLOW|INEXACT",
+    ),
+    ("half parse away 0X5p2", "4d00 OK"),
+    (
+        "double parse away +0x10000000000001p-53",
+        "3fe0000000000001 OK",
+    ),
+    (
+        "double parse even +0X0.000000000000000000000000000000000p-892",
+        "0000000000000000 OK",
+    ),
+    ("x87 parse even +0X", "refused: Invalid string"),
+    (
+        "half parse even sNaN13819208384794749680188219151419865922900969)",
+        "refused: Not a special or hexadecimal literal",
+    ),
+    (
+        "e4m3fn parse zero 0x0000000000000000000000000000000003F.p-015",
+        "00 UNDERFLOW|INEXACT",
+    ),
+    ("e4m3fnuz parse up -0xB11D8.p-13", "f3 INEXACT"),
+    ("x87 parse away -0x0.p-3", "80000000000000000000 OK"),
+    ("half parse even NaN", "7e00 OK"),
+    (
+        "x87 parse down 0X2.e59588505a367355P-16384",
+        "00005cb2b10a0b46ce6a UNDERFLOW|INEXACT",
+    ),
+    (
+        "double parse zero 0x00000000000000000000000000000010000000001p985",
+        "7fefffffffffffff INEXACT",
+    ),
+    (
+        "bfloat parse away +0x7ffffffffffffffffffffffffffffffffp-262",
+        "0004 UNDERFLOW|INEXACT",
+    ),
+    (
+        "bfloat parse even +nan(152280246278712836132300919233325079757",
+        "refused: Not a special or hexadecimal literal",
+    ),
+    (
+        "e4m3fn parse up -0x0000000000000000000000000000000000000000000000000000000000000000000000000000000000000000000000000000000000000000000000000000000000000000000000000000000000000000000000000000000000000000000000000000000065.p-13",
+        "86 UNDERFLOW|INEXACT",
+    ),
+    (
+        "quad parse up -0x000000000000000000000000000007fffffffffffffffffffffffffffffffP8787",
+        "e2d0ffffffffffffffffffffffffffff INEXACT",
+    ),
+    (
+        "e4m3fnuz parse down -0x000000000000000000000000000000A9P-6",
+        "cb INEXACT",
+    ),
+    (
+        "e4m3fnuz parse even +NaN0X0000000x0000000000000000000000000000000020EfEC4a",
+        "refused: Not a special or hexadecimal literal",
+    ),
+    (
+        "double parse down -0Sxa9f8fcf6d06f97.p-62",
+        "refused: Not a special or hexadecimal literal",
+    ),
+    ("single parse up Snan0X0000F", "7f80000f OK"),
+    ("half parse down 0x214Ep-16", "3029 INEXACT"),
+    ("single parse up -sNaN0+50655", "ff8051ad OK"),
+    (
+        "x87 parse even -0x.0000000000000000000000000000000003p-16311",
+        "80000000000000000001 UNDERFLOW|INEXACT",
+    ),
+    (
+        "x87 parse even 0x3367fc580c1ac78fdffffffffffffffffffffffffffffffff.P-16576",
+        "000066cff8b018358f20 UNDERFLOW|INEXACT",
+    ),
+    ("bfloat parse down -sNaN(+607)", "ff9f OK"),
+    ("e4m3fnuz parse down 0x.10000000001p-2", "10 INEXACT"),
+    ("double parse down -nan+0", "fff8000000000000 OK"),
+    ("e4m3fnuz parse away 0X3ap-16", "01 UNDERFLOW|INEXACT"),
+    (
+        "x87 parse up 0x0000000000000000000000000000000000000000000000000000000000000000000000000000000000000000000000000000000000000000000000000000000000000000000000000000000000000000000000000000000000000000000000000000000013c021be405f6909.p-0000052",
+        "40079e010df202fb4848 OK",
+    ),
+    (
+        "double parse even -0x1fffffffffffff800000000000000000000000000000000000.000000000000000000000000000000000000000p827",
+        "fff0000000000000 OVERFLOW|INEXACT",
+    ),
+    (
+        "x87 parse zero -0xb2e53d2c59c2b4c63.p-64",
+        "c002b2e53d2c59c2b4c6 INEXACT",
+    ),
+    ("half parse zero -0X11p10", "f440 OK"),
+    ("e4m3fnuz parse even 0x04.p-8", "10 OK"),
+    (
+        "quad parse zero 0x131de225b3cad980b141b8012f26p-1019",
+        "3c7031de225b3cad980b141b8012f260 OK",
+    ),
+    ("e5m2 parse zero +0X5Ep-5", "41 INEXACT"),
+    (
+        "quad parse down -0x8.0000000002P-16495",
+        "80000000000000000000000000000005 UNDERFLOW|INEXACT",
+    ),
+    (
+        "e5m2 parse away 0x.5800000000000000000000000000000000000000000000000000000000000000000000000001P3",
+        "42 INEXACT",
+    ),
+    (
+        "e5m2 parse up -0x.5p+00000000000000000000000000000000000000003",
+        "c1 OK",
+    ),
+    (
+        "single parse down -0x00000000000000000000000000000080000100.p-0000000000000000000000000000000000000000157",
+        "80800001 OK",
+    ),
+    (
+        "bfloat parse zero Snan(0X0000000000000000000000000000000000000000b)",
+        "7f8b OK",
+    ),
+    ("bfloat parse up 0x27.7p-136", "0005 UNDERFLOW|INEXACT"),
+    (
+        "quad parse up 0x3FFFFFFFFFFFFFFFFFFFFFFFFFFFF0p16268",
+        "7fff0000000000000000000000000000 OVERFLOW|INEXACT",
+    ),
+    (
+        "e5m2 parse even -0,5p3",
+        "refused: Not a special or hexadecimal literal",
+    ),
+    (
+        "half parse down -0X0060000000000000000.0000000000000000P-0000082",
+        "8180 OK",
+    ),
+    (
+        "quad parse away -nan(338947177102173076390527987144013790237)",
+        "ffffda0f36ff14c3ff5192e02bc23c1d OK",
+    ),
+    (
+        "quad parse even 0x0.20000000000000000000000000003p1",
+        "3ffd0000000000000000000000000002 INEXACT",
+    ),
+    (
+        "quad parse down 0x14644geae73374597d0a7b060e6873p-16379",
+        "refused: Invalid character in significand",
+    ),
+    (
+        "e5m2 parse zero x325C763FF2EECEFF05C6D2C9EC9806F04p-0000135",
+        "refused: Not a special or hexadecimal literal",
+    ),
+    ("single parse even sNaN", "7fa00000 OK"),
+    ("e5m2 parse up -0XEFp-240", "80 UNDERFLOW|INEXACT"),
+    (
+        "e4m3fn parse up -snan(0X0000000000000000I000000000000000000000003bF792DA15Ec5)",
+        "refused: Not a special or hexadecimal literal",
+    ),
+    ("e4m3fn parse zero 0x0p-2", "00 OK"),
+    (
+        "single parse away +0xe.e034c78af1aab7p-50",
+        "286e034c INEXACT",
+    ),
+    (
+        "e5m2 parse away +0x0000000000000000000000000000000001cp-21",
+        "01 UNDERFLOW|INEXACT",
+    ),
+    (
+        "double parse up N",
+        "refused: Not a special or hexadecimal literal",
+    ),
+    (
+        "x87 parse up +Sn5an",
+        "refused: Not a special or hexadecimal literal",
+    ),
+    ("bfloat parse up 0x.0p-19", "0000 OK"),
+    (
+        "bfloat parse even -0x7ffffffffffffffffffffffffffffffffffffffffffffffffffffffffffffffffffffff.ffffffp-278",
+        "c200 INEXACT",
+    ),
+    (
+        "e4m3fn parse even -0x140000000",
+        "refused: Hex strings require an exponent",
+    ),
+    ("e5m2 parse even SNaN(0xf)", "7d OK"),
+    ("single parse down -0x.0p+11", "80000000 OK"),
+    ("bfloat parse even ", "refused: Invalid string length"),
+    (
+        "e4m3fn parse away -sNaN(0X+00085E2DeBa220D4F782fE3)",
+        "ff OK",
+    ),
+    (
+        "e4m3fnuz parse even -1X7.1p",
+        "refused: Not a special or hexadecimal literal",
+    ),
+    ("e4m3fn parse zero 0x00E000P-24", "01 UNDERFLOW|INEXACT"),
+    (
+        "quad parse down SNaN0X+0005dc6F957fa5eF4aaec7CFbDbE1E4eA88f",
+        "refused: Not a special or hexadecimal literal",
+    ),
+    (
+        "f32 parse even +0x0000000000000000000000000000002DB616417FFE0C55D0CB4A72F5606F7ACp-126",
+        "refused: f32",
+    ),
+    (
+        "HALF parse up -0X6cca665c24c58203319f86fbf81P-1077",
+        "refused: HALF",
+    ),
+];

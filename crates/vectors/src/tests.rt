@@ -57,7 +57,7 @@ fn expect_reply<R: Abort + AllocGlobal>(rt: &R, command: &str, reply: &str) -> R
     Ok(())
 }
 
-static WORKED: [(&str, &str); 28] = [
+static WORKED: [(&str, &str); 38] = [
     ("half int even 464", "5f40 OK"),
     ("half int even 0", "0000 OK"),
     ("half int even 2049", "6800 INEXACT"),
@@ -98,6 +98,16 @@ static WORKED: [(&str, &str); 28] = [
     ("half sub even 3c00 3c00", "0000 OK"),
     ("half sub down 3c00 3c00", "8000 OK"),
     ("half add even 7d00 3c00", "7f00 INVALID_OP"),
+    ("half rem even 4500 4000", "3c00 OK"),
+    ("half rem zero 4700 4000", "bc00 OK"),
+    ("half mod even c400 4000", "8000 OK"),
+    ("half fma even 0d89 09c8 8001", "0000 UNDERFLOW|INEXACT"),
+    ("half fma down 0d89 09c8 8001", "0000 UNDERFLOW|INEXACT"),
+    ("half fma up 0d89 09c8 8001", "0001 UNDERFLOW|INEXACT"),
+    ("half parse even 0x1.ffep+15", "7c00 OVERFLOW|INEXACT"),
+    ("half parse zero 0x1.ffep+15", "7bff INEXACT"),
+    ("single parse even nan(0x2a)", "7fc0002a OK"),
+    ("single parse even -snan", "ffa00000 OK"),
 ];
 
 #[test]
@@ -105,7 +115,7 @@ fn answers_worked_commands(rt: HostRuntime) -> Result<(), Fail> {
     expect_replies(&rt, &WORKED)
 }
 
-static FAULTS: [(&str, &str); 41] = [
+static FAULTS: [(&str, &str); 54] = [
     ("half", "refused: arguments"),
     ("half int even", "refused: arguments"),
     ("half int even 1 2 3 4", "refused: arguments"),
@@ -159,6 +169,28 @@ static FAULTS: [(&str, &str); 41] = [
     ("half add odd 3c00 3c00", "refused: odd"),
     ("half add even 3c00", "refused: arguments"),
     ("e5m2 sub even 0 100", "refused: 100"),
+    ("x87 fma even 0 0 0", "refused: fma"),
+    ("quad fma even 0 0 0", "refused: fma"),
+    ("quad fma even 0 0", "refused: arguments"),
+    ("half fma even 1 x 1", "refused: x"),
+    ("half fma even 1 1 10000", "refused: 10000"),
+    ("half rem odd 1 1", "refused: odd"),
+    ("half mod even 1", "refused: arguments"),
+    (
+        "half parse even 0x1",
+        "refused: Hex strings require an exponent",
+    ),
+    ("half parse even ", "refused: Invalid string length"),
+    ("half parse even - +", "refused: arguments"),
+    ("half parse even -", "refused: String has no digits"),
+    (
+        "half parse even 0x1.2.3p0",
+        "refused: String contains multiple dots",
+    ),
+    (
+        "half parse even 1.0",
+        "refused: Not a special or hexadecimal literal",
+    ),
 ];
 
 #[test]
@@ -180,6 +212,21 @@ fn answers_samples_of_sums_and_differences(rt: HostRuntime) -> Result<(), Fail> 
 #[test]
 fn answers_samples_of_products_and_quotients(rt: HostRuntime) -> Result<(), Fail> {
     expect_replies(&rt, &samples::PRODUCTS_AND_QUOTIENTS)
+}
+
+#[test]
+fn answers_samples_of_remainders(rt: HostRuntime) -> Result<(), Fail> {
+    expect_replies(&rt, &samples::REMAINDERS)
+}
+
+#[test]
+fn answers_samples_of_fused_sums(rt: HostRuntime) -> Result<(), Fail> {
+    expect_replies(&rt, &samples::FUSED_SUMS)
+}
+
+#[test]
+fn answers_samples_of_texts(rt: HostRuntime) -> Result<(), Fail> {
+    expect_replies(&rt, &samples::TEXTS)
 }
 
 // Leading zeros are read, however many.

@@ -17,7 +17,11 @@ pub fn operation_named(word: &str) -> Option<Operation>
         "sub" => Some(Operation::OfTwo(Arithmetic::Difference)),
         "mul" => Some(Operation::OfTwo(Arithmetic::Product)),
         "div" => Some(Operation::OfTwo(Arithmetic::Quotient)),
+        "rem" => Some(Operation::OfTwo(Arithmetic::NearestRemainder)),
+        "mod" => Some(Operation::OfTwo(Arithmetic::TruncatedRemainder)),
+        "fma" => Some(Operation::FusedSum),
         "int" => Some(Operation::WholeNumber),
+        "parse" => Some(Operation::Text),
         _ => None,
     }
 }
