@@ -11,7 +11,7 @@ use Rattle.apfloat_base.specs.Format.{Format, largest, greatest_significand, nan
 use Rattle.apfloat_base.specs.Datum.{Datum, finite}
 use Rattle.apfloat_base.specs.Standing.{StandsFor}
 use Rattle.apfloat_base.specs.Enclosure.{IsEnclosed, rounds_up}
-use Rattle.apfloat_base.specs.Rounding.{IsPick, IsDelivered, past_largest, signed_quanta, delivered_value, leads_out, is_tiny}
+use Rattle.apfloat_base.specs.Rounding.{IsPick, IsDelivered, past_largest, signed_quanta, leads_out, is_tiny}
 use Rattle.apfloat_base.proofs.Picks.{kept, pick_is, pick_unique}
 use Rattle.apfloat_base.proofs.Existence.{two_pos}
 use Rattle.apfloat_base.proofs.Losses.{stands_past, stands_to}

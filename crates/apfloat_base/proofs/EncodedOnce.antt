@@ -1,15 +1,15 @@
 -- A datum has one encoding: its fields follow from it.
-use Rattle.std.proofs.Common.{◌≡◌, ℕ, ◌+◌, ◌-◌, ◌*◌, ◌/◌, ◌^◌, ◌<◌, ◌≤◌, Bool, true, false, cond, eqb, leb, ltb, sym, refl, ap, ◌∙◌, subst, ⊎_elim, arith}
-use Rattle.std.specs.Prelude.{◌&&◌, IsTrue}
+use Rattle.std.proofs.Common.{◌≡◌, ℕ, ◌+◌, ◌-◌, ◌*◌, ◌/◌, ◌^◌, ◌<◌, ◌≤◌, Bool, true, false, cond, eqb, leb, ltb, sym, refl, ap, ◌∙◌, ⊎_elim, arith}
+use Rattle.std.specs.Prelude.{IsTrue}
 use mathlib.Core.Bool.{true≢false}
 use Rattle.std.proofs.lemmas.Nat.{pow_pos, pow-add, shl-shr}
-use Rattle.std.proofs.lemmas.Bool.{cases_eq, cases_lt, eq-eqb, ne_eqb, le-leb, lt-leb, leb-true, ltb-true, and_left, and_right, and_parts}
+use Rattle.std.proofs.lemmas.Bool.{cases_eq, eq-eqb, ne_eqb, le-leb, lt-leb, leb-true, ltb-true, and_left, and_right}
 use Rattle.std.proofs.Math.Nat.{mul-le-mul_right, mul-le-mul_left, mul-lt-mul_of_pos_right}
 use Rattle.apfloat_base.specs.declared.kinds.NonfiniteBehavior.{NonfiniteBehavior}
 use Rattle.apfloat_base.specs.declared.kinds.NonfiniteBehavior.TheVariants.{IEEE754, NanOnly, NanNegativeZero}
-use Rattle.apfloat_base.specs.Format.{Format, smallest_normalized, nan_base, nan_base_of}
+use Rattle.apfloat_base.specs.Format.{Format, smallest_normalized}
 use Rattle.apfloat_base.specs.Datum.{Datum, finite, infinite, nan}
-use Rattle.apfloat_base.specs.Layout.{Layout, Fields, all_ones, trailing_bits, fields_of, has_all_ones, implied_number, implied_datum, written_number, written_datum, datum_of_fields, is_canonical, is_canonical_written, IsEncodedBy}
+use Rattle.apfloat_base.specs.Layout.{Layout, Fields, all_ones, trailing_bits, fields_of, implied_number, implied_datum, written_number, written_datum, datum_of_fields, is_canonical, is_canonical_written, IsEncodedBy}
 use Rattle.apfloat_base.specs.Lawful.{MayBeExplicit}
 use Rattle.apfloat_base.specs.Interchange.{IsInterchange, AreWithin, bits_of_fields}
 use Rattle.apfloat_base.specs.Log.{log2}

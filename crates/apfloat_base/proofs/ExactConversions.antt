@@ -1,12 +1,12 @@
 -- A finite datum whose number is one of the other format too comes through as it is.
-use Rattle.std.proofs.Common.{◌≡◌, ℕ, Bool, true, false, not, eqb, zero, suc, ◌+◌, ◌*◌, ◌^◌, ◌<◌, ◌≤◌, refl, sym, ap, ◌∙◌, subst, arith}
+use Rattle.std.proofs.Common.{◌≡◌, ℕ, Bool, true, false, not, eqb, zero, suc, ◌*◌, ◌^◌, ◌<◌, refl, sym, ap, ◌∙◌, arith}
 use Rattle.std.proofs.lemmas.Bool.{ne_eqb}
 use Rattle.std.proofs.lemmas.Nat.{pow_pos}
 use Rattle.std.proofs.Math.Nat.{mul-pos}
 use Rattle.apfloat_base.specs.declared.kinds.Round.{Round}
 use Rattle.apfloat_base.specs.Format.{Format}
 use Rattle.apfloat_base.specs.Datum.{Datum, finite, infinite, nan}
-use Rattle.apfloat_base.specs.Rounding.{ok_bits, zero_sign, signed_quanta, IsDelivered}
+use Rattle.apfloat_base.specs.Rounding.{ok_bits, zero_sign, signed_quanta}
 use Rattle.apfloat_base.specs.Members.{IsFiniteOf}
 use Rattle.apfloat_base.specs.Exact.{same_sign}
 use Rattle.apfloat_base.specs.Conversions.{IsConversion, IsConverted, IsConvertedNumber, IsExactlyConverted, loses_zero_sign, IsKept}

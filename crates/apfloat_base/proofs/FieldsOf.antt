@@ -1,5 +1,5 @@
 -- The fields of each kind of datum, and that their bits encode it.
-use Rattle.std.proofs.Common.{◌≡◌, ◌≢◌, ℕ, ◌+◌, ◌-◌, ◌*◌, ◌^◌, ◌<◌, ◌≤◌, Bool, true, false, cond, eqb, leb, ltb, sym, refl, ap, ◌∙◌, subst, ⊎_elim, arith}
+use Rattle.std.proofs.Common.{◌≡◌, ℕ, ◌+◌, ◌-◌, ◌*◌, ◌^◌, ◌<◌, ◌≤◌, Bool, true, false, cond, eqb, sym, refl, ap, ◌∙◌, subst, ⊎_elim, arith}
 use Rattle.std.specs.Prelude.{◌&&◌, IsTrue}
 use mathlib.Core.Bool.{true≢false}
 use Rattle.std.proofs.lemmas.Nat.{pow_pos, pow-add}
@@ -7,17 +7,17 @@ use Rattle.std.proofs.lemmas.Bool.{cases_eq, cases_lt, eq-eqb, ne_eqb, le-leb, l
 use Rattle.std.proofs.Math.Nat.{pow-le-pow_right, mul-le-mul_right, mul-le-mul_left, mul-lt-mul_of_pos_right, le_of_mul-le-mul_right}
 use Rattle.apfloat_base.specs.declared.kinds.NonfiniteBehavior.{NonfiniteBehavior}
 use Rattle.apfloat_base.specs.declared.kinds.NonfiniteBehavior.TheVariants.{IEEE754, NanOnly, NanNegativeZero}
-use Rattle.apfloat_base.specs.Format.{Format, smallest_normalized, largest, greatest_significand, nan_base}
+use Rattle.apfloat_base.specs.Format.{Format, smallest_normalized, largest, greatest_significand}
 use Rattle.apfloat_base.specs.Datum.{Datum, finite, infinite, nan}
 use Rattle.apfloat_base.specs.Rounding.{zero_sign}
-use Rattle.apfloat_base.specs.Members.{IsNanSignificand, IsNanOf}
-use Rattle.apfloat_base.specs.Layout.{Layout, Fields, all_ones, trailing_bits, fields_of, implied_number, implied_datum, written_number, written_datum, datum_of_fields, is_canonical, is_canonical_written, IsEncodedBy}
-use Rattle.apfloat_base.specs.Lawful.{MayBeExplicit, more_exponents}
-use Rattle.apfloat_base.specs.Interchange.{IsInterchange, AreWithin, AreFieldsOf, bits_of_fields}
+use Rattle.apfloat_base.specs.Members.{IsNanSignificand}
+use Rattle.apfloat_base.specs.Layout.{Layout, Fields, all_ones, trailing_bits, implied_datum, written_datum, datum_of_fields, is_canonical, is_canonical_written, IsEncodedBy}
+use Rattle.apfloat_base.specs.Lawful.{MayBeExplicit}
+use Rattle.apfloat_base.specs.Interchange.{IsInterchange, AreFieldsOf, bits_of_fields}
 use Rattle.apfloat_base.proofs.Existence.{two_pos}
 use Rattle.apfloat_base.proofs.Losses.{twice_half}
 use Rattle.apfloat_base.proofs.Encodings.{fields_back, bits_below}
-use Rattle.apfloat_base.proofs.EncodedOnce.{fields_with, explicit_kind}
+use Rattle.apfloat_base.proofs.EncodedOnce.{fields_with}
 
 -- the bits of the fields of a datum encode it
 pub fields_encode : (f : Format) (layout : Layout) (x : Fields) (datum : Datum) → IsInterchange f layout → AreFieldsOf f layout x datum → IsEncodedBy f layout (bits_of_fields f layout x) datum

@@ -1,6 +1,5 @@
 -- What a hexadecimal text without a fault means, by its parts.
-use mathlib.Core.Bool.{Bool}
-use Rattle.std.proofs.Common.{◌≡◌, ◌⊎◌, ℕ, true, refl, inl, inr, ⊎_elim, List, ◌++◌, drop, codes, Option, None, ℤ}
+use Rattle.std.proofs.Common.{◌≡◌, ℕ, true, refl, inl, inr, ⊎_elim, List, ◌++◌, drop, codes, None}
 use Rattle.apfloat_base.specs.Specials.{hexadecimal, mark_of, behind_mark, is_minus}
 use Rattle.apfloat_base.specs.Texts.{IsHexadecimal, Means, begins_literal, behind_prefix_fault}
 use Rattle.apfloat_base.specs.Literals.{digits_number, places_behind_dot, exponent_text, exponent_number}

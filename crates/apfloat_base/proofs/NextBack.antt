@@ -1,13 +1,12 @@
 -- From the neighbour above, the neighbour below is the number again.
-use Rattle.std.proofs.Common.{◌≡◌, ℕ, ◌+◌, ◌-◌, ◌*◌, ◌^◌, ◌<◌, ◌≤◌, Bool, true, false, not, ltb, eqb, sym, refl, ap, ◌∙◌, subst, ⊎_elim, arith}
+use Rattle.std.proofs.Common.{◌≡◌, ℕ, ◌+◌, ◌-◌, ◌^◌, ◌<◌, ◌≤◌, Bool, true, false, not, ltb, eqb, sym, refl, ap, ◌∙◌, subst, ⊎_elim, arith}
 use Rattle.std.proofs.lemmas.Bool.{cases_lt, cases_eq, eq-eqb, ne_eqb, le-ltb, false≢true}
 use Rattle.apfloat_base.specs.declared.kinds.NonfiniteBehavior.{NonfiniteBehavior}
-use Rattle.apfloat_base.specs.declared.kinds.NonfiniteBehavior.TheVariants.{IEEE754, NanOnly, NanNegativeZero}
+use Rattle.apfloat_base.specs.declared.kinds.NonfiniteBehavior.TheVariants.{IEEE754}
 use Rattle.apfloat_base.specs.Format.{Format, largest}
 use Rattle.apfloat_base.specs.Datum.{Datum, finite, infinite, nan}
 use Rattle.apfloat_base.specs.Grid.{IsOnGrid, IsBelow, IsAbove}
 use Rattle.apfloat_base.specs.Rounding.{signed_quanta, past_largest}
-use Rattle.apfloat_base.specs.Answer.{IsAnswer}
 use Rattle.apfloat_base.specs.Members.{IsMember, IsFiniteOf}
 use Rattle.apfloat_base.specs.Classes.{is_finite_non_zero}
 use Rattle.apfloat_base.specs.Negation.{negated}

@@ -1,14 +1,12 @@
 -- Products under opposite rounding.
 use Rattle.std.proofs.Common.{◌≡◌, ℕ, zero, suc, ◌<◌, ◌*◌, ◌^◌, Bool, true, false, not, sym, refl, subst, arith}
 use Rattle.std.proofs.lemmas.Bool.{ne_eqb, false≢true}
-use Rattle.std.specs.Prelude.{IsTrue}
 use Rattle.apfloat_base.specs.declared.kinds.Round.{Round}
 use Rattle.apfloat_base.specs.declared.kinds.NonfiniteBehavior.{NonfiniteBehavior}
 use Rattle.apfloat_base.specs.Format.{Format, largest}
 use Rattle.apfloat_base.specs.Datum.{Datum, finite, infinite, nan}
 use Rattle.apfloat_base.specs.Rounding.{IsDelivered}
 use Rattle.apfloat_base.specs.Negation.{swapped, negated}
-use Rattle.apfloat_base.specs.Classes.{is_finite_non_zero}
 use Rattle.apfloat_base.specs.Exact.{product_sign}
 use Rattle.apfloat_base.specs.Products.{IsProduct, IsOpposite}
 use Rattle.apfloat_base.proofs.Laws.{delivered_swapped}

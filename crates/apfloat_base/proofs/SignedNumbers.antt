@@ -1,5 +1,5 @@
 -- A signed whole number in a format, by its magnitude.
-use Rattle.std.proofs.Common.{◌≡◌, ℕ, zero, suc, ℤ, pos, neg_ℤ, ◌-◌, ◌*◌, ◌^◌, ◌<◌, ◌≤◌, true, false, refl, arith}
+use Rattle.std.proofs.Common.{◌≡◌, ℕ, zero, suc, pos, neg_ℤ, ◌-◌, ◌*◌, ◌^◌, ◌<◌, ◌≤◌, true, false, refl, arith}
 use Rattle.std.proofs.Math.Nat.{mul-lt-mul_of_pos_right}
 use Rattle.std.proofs.lemmas.Nat.{pow_pos}
 use Rattle.apfloat_base.specs.declared.kinds.NonfiniteBehavior.{NonfiniteBehavior}
@@ -10,7 +10,6 @@ use Rattle.apfloat_base.specs.Datum.{Datum}
 use Rattle.apfloat_base.specs.Format.{Format, largest, greatest_significand}
 use Rattle.apfloat_base.specs.Lawful.{Constants, IsLawful, format_with}
 use Rattle.apfloat_base.specs.Negation.{negated, swapped}
-use Rattle.apfloat_base.specs.Rounding.{IsDelivered}
 use Rattle.apfloat_base.specs.WholeNumbers.{IsFromUnsigned, IsFromSigned}
 use Rattle.apfloat_base.proofs.Deliveries.{four}
 use Rattle.apfloat_base.proofs.Losses.{twice_half}

@@ -1,5 +1,5 @@
 -- Sums whose exact result is a value of the format, and sums that grow.
-use Rattle.std.proofs.Common.{◌≡◌, ℕ, zero, suc, ℤ, pos, negsuc, neg_ℤ, ◌+ℤ◌, ◌-ℤ◌, ◌≤ℤ◌, ◌+◌, ◌-◌, ◌*◌, ◌^◌, ◌<◌, ◌≤◌, ◌⊎◌, Bool, true, false, not, cond, ltb, eqb, sym, refl, ap, ◌∙◌, subst, inl, inr, ⊎_elim, lit<, arith}
+use Rattle.std.proofs.Common.{◌≡◌, ℕ, zero, suc, ℤ, pos, negsuc, ◌+ℤ◌, ◌-ℤ◌, ◌≤ℤ◌, ◌+◌, ◌-◌, ◌*◌, ◌^◌, ◌<◌, ◌≤◌, ◌⊎◌, Bool, true, false, cond, ltb, eqb, sym, refl, ap, ◌∙◌, subst, inl, inr, ⊎_elim, lit<, arith}
 use Rattle.std.specs.Prelude.{IsTrue}
 use Rattle.std.proofs.Math.Nat.{le_of_mul-le-mul_right}
 use Rattle.std.proofs.lemmas.Nat.{pow-add, pow_pos}
@@ -7,7 +7,7 @@ use Rattle.std.proofs.lemmas.Bool.{cases_lt, false≢true, ne_eqb}
 use Rattle.std.proofs.lemmas.Int.{ints}
 use Rattle.apfloat_base.specs.declared.kinds.Round.{Round}
 use Rattle.apfloat_base.specs.declared.kinds.NonfiniteBehavior.{NonfiniteBehavior}
-use Rattle.apfloat_base.specs.declared.kinds.NonfiniteBehavior.TheVariants.{IEEE754, NanOnly, NanNegativeZero}
+use Rattle.apfloat_base.specs.declared.kinds.NonfiniteBehavior.TheVariants.{IEEE754}
 use Rattle.apfloat_base.specs.Exact.{up, down, signed, sign_of, magnitude, IsRounded}
 use Rattle.apfloat_base.specs.Format.{Format, largest, nan_base}
 use Rattle.apfloat_base.specs.Datum.{Datum, finite, infinite, nan}
