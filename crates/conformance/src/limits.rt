@@ -2,9 +2,7 @@
 
 ghost use Rattle.std.specs.Prelude.{◌<◌};
 
-use crate::formats::{
-    Broad, Deep, Least, LeastFinite, Precise, Ten, Vast, WrittenBit,
-};
+use crate::formats::{Broad, Deep, Least, LeastFinite, Precise, Ten, Vast, WrittenBit};
 use rustc_apfloat::{Category, Flags, Float, Round};
 use std::cmp::Ordering;
 use std::process::Abort;
@@ -61,12 +59,7 @@ static PRECISE: [Row; 4] = [
 static VAST: [Row; 3] = [
     ((1 << 125) + 1, EVEN, Answer::Number(1 << 125), INEXACT),
     ((1 << 125) - 1, EVEN, Answer::Number((1 << 125) - 1), OK),
-    (
-        u128::MAX,
-        ZERO,
-        Answer::Number(u128::MAX - 7),
-        INEXACT,
-    ),
+    (u128::MAX, ZERO, Answer::Number(u128::MAX - 7), INEXACT),
 ];
 
 static BROAD: [Row; 2] = [
@@ -102,12 +95,9 @@ fn check_rows<F: Float>(rt: &impl Abort, rows: &[Row]) {
 
 /// The order of the ends of a format, and what its minima and maxima are.
 fn check_ends<F: Float>(rt: &impl Abort) {
-    let ends = [F::zero(), F::smallest(), F::largest()];
-    assert!(rt; ends[0] < ends[1]);
-    assert!(rt; ends[1] < ends[2]);
+    assert!(rt; F::zero() < F::smallest());
     assert!(rt; F::smallest() < F::smallest_normalized());
     assert!(rt; F::smallest_normalized() < F::largest());
-    assert_eq!(rt; F::smallest().cmp_abs_normal(F::largest()), Ordering::Less);
     assert!(rt; F::smallest().min(F::largest()).bitwise_eq(F::smallest()));
     assert!(rt; F::smallest().maximum(F::largest()).bitwise_eq(F::largest()));
     assert!(rt; F::smallest().is_denormal());
@@ -145,12 +135,11 @@ fn limits_with_bits(rt: HostRuntime) {
     check_ends::<Broad>(&rt);
     check_ends::<WrittenBit>(&rt);
     check_ends::<Ten>(&rt);
-    check_bits::<Broad>(
-        &rt,
-        0xfffff << 106,
-        (0x1fffff << 106) - 1,
-        0x1fffff << 106,
+    assert_eq!(rt;
+        Ten::smallest().cmp_abs_normal(Ten::smallest_normalized()),
+        Ordering::Less
     );
+    check_bits::<Broad>(&rt, 0xfffff << 106, (0x1fffff << 106) - 1, 0x1fffff << 106);
     check_bits::<WrittenBit>(&rt, 0x0f80, 0x1eff, 0x1f80);
     check_bits::<Ten>(&rt, 0x0f0, 0x1fe, 0x1ff);
 }
