@@ -41,3 +41,4 @@ pub mod Log
 pub mod Standing
 pub mod Enclosure
 pub mod Totals
+pub mod SignedWholes

@@ -1,6 +1,6 @@
 //! The trait of floating-point types.
 
-ghost use Rattle.std.specs.Prelude.{◌≡◌, ℕ, ℤ, pos, neg_ℤ, ◌^◌, ◌<◌, ◌≤◌, Bool, IsTrue, Option, not, if◌then◌else◌, List, Result, ◌&&◌};
+ghost use Rattle.std.specs.Prelude.{◌≡◌, ℕ, ℤ, pos, neg_ℤ, ◌-◌, ◌^◌, ◌<◌, ◌≤◌, Bool, true, false, IsTrue, Option, not, if◌then◌else◌, List, Result, ◌&&◌};
 ghost use Rattle.std.specs.declared.cmp.Ordering.{Ordering};
 ghost use Rattle.std.specs.Option.{unwrap_or};
 ghost use Rattle.apfloat_base.specs.Exact.{same_sign};
@@ -14,10 +14,12 @@ ghost use Rattle.apfloat_base.specs.declared.parse_error.ParseError.{ParseError}
 ghost use Rattle.apfloat_base.specs.Predicates.{is_zero_category, is_infinite_category, is_finite_category, min_by, max_by, minimum_by, maximum_by, signed_like};
 ghost use Rattle.apfloat_base.specs.declared.status.StatusAnd.{StatusAnd};
 ghost use Rattle.apfloat_base.specs.Parsing.{without_status};
+ghost use Rattle.apfloat_base.specs.Flags.{bits_of};
+ghost use Rattle.apfloat_base.specs.SignedWholes.{IsNegatedWhole};
 
 use crate::kinds::{Category, ExpInt, Round};
 use crate::parse_error::ParseError;
-use crate::status::StatusAnd;
+use crate::status::{Status, StatusAnd};
 use std::cmp::Ordering;
 use std::ops::{
     Add, AddAssign, Div, DivAssign, Mul, MulAssign, Neg, Rem, RemAssign, Sub, SubAssign,
@@ -134,6 +136,8 @@ pub trait Float: Copy
     ghost is_whole: { Self → Bool };
 
     ghost converts_to_unsigned: { Self → ℕ → Round → StatusAnd ℕ → Bool → Type 0 };
+
+    ghost converts_to_signed: { Self → ℕ → Round → StatusAnd ℤ → Bool → Type 0 };
 
     // The neighbours above and below.
     ghost steps_up: { Self → StatusAnd Self → Type 0 };
@@ -302,6 +306,36 @@ pub trait Float: Copy
         ensures { converts_unsigned input NearestTiesToEven result }
     {
         Self::from_u128_r(input, Round::NearestTiesToEven)
+    }
+
+    /// The value as a whole number of `width` binary digits in two's complement, rounded by the mode (IEEE 754-2008 5.4.1,
+    /// convertToInteger).
+    ///
+    /// A number out of range gives the end of the range, and a NaN gives 0; both are invalid. INEXACT says that the number
+    /// was no whole one. `is_exact` tells whether the whole number is the value; for -0 it is false.
+    fn to_i128_r(self, width: usize, round: Round, is_exact: &mut bool) -> StatusAnd<i128>
+        requires low { 2 ≤ width }
+        requires high { width ≤ 128 }
+        ensures { converts_to_signed self width round result is_exact.new }
+    {
+        if self.is_negative() {
+            let is_zero = self.is_zero();
+            let magnitude = (-self).to_u128_r(width, -round, is_exact);
+            negated_whole(width, magnitude, is_zero, is_exact)
+        } else {
+            let magnitude = self.to_u128_r(width - 1, round, is_exact);
+            magnitude.status.and(signed(width - 1, magnitude.value))
+        }
+    }
+
+    /// The value as a whole number of `width` binary digits in two's complement, cut toward zero.
+    fn to_i128(self, width: usize) -> StatusAnd<i128>
+        requires low { 2 ≤ width }
+        requires high { width ≤ 128 }
+        ensures { (exact : Bool) × converts_to_signed self width TowardZero result exact }
+    {
+        let mut is_exact = true;
+        self.to_i128_r(width, Round::TowardZero, &mut is_exact)
     }
 
     /// The value as a whole number of `width` binary digits without a sign, rounded by the mode (IEEE 754-2008 5.4.1,
@@ -592,6 +626,10 @@ pub trait Float: Copy
 
     ghost steps_down_law: { (x : Self) (r : StatusAnd Self) → steps_up (negated x) r → steps_down x (record { status = r.status; value = negated r.value }) };
 
+    ghost to_signed_above_law: { (x : Self) (width : ℕ) (mode : Round) (number : StatusAnd ℕ) (exact : Bool) → sign_of x ≡ false → converts_to_unsigned x (width - 1) mode number exact → converts_to_signed x width mode (record { status = number.status; value = pos number.value }) exact };
+
+    ghost to_signed_below_law: { (x : Self) (width : ℕ) (mode : Round) (number : StatusAnd ℕ) (exact : Bool) (answer : StatusAnd ℤ) (is_exact : Bool) → sign_of x ≡ true → 2 ≤ width → converts_to_unsigned (negated x) width (swapped mode) number exact → IsNegatedWhole (is_zero_category (category_of x)) width number.value (bits_of number.status) exact answer.value (bits_of answer.status) is_exact → converts_to_signed x width mode answer is_exact };
+
     ghost default_law: { (x : Self) → Self.is_default x → x ≡ the_zero };
 
     // The operators are the calls, rounded to the nearest value, a tie to the even one.
@@ -621,4 +659,51 @@ pub trait Float: Copy
     ghost signed_above_law: { (n : ℕ) (mode : Round) (r : StatusAnd Self) → converts_unsigned n mode r → converts_signed (pos n) mode r };
 
     ghost signed_below_law: { (n : ℕ) (mode : Round) (r : StatusAnd Self) → 0 < n → converts_unsigned n (swapped mode) r → converts_signed (neg_ℤ (pos n)) mode (record { status = r.status; value = negated r.value }) };
+}
+
+/// A whole number of so many binary digits as a signed one.
+#[inline]
+fn signed(width: usize, magnitude: u128) -> i128
+    requires narrow { width ≤ 127 }
+    requires fits { magnitude < 2 ^ width }
+    ensures { result ≡ pos magnitude }
+{
+    magnitude as i128
+}
+
+/// A whole number of at most 2 to the power of 127, with a minus sign.
+#[inline]
+fn minus(magnitude: u128) -> i128
+    requires { magnitude ≤ 2 ^ 127 }
+    ensures { result ≡ neg_ℤ (pos magnitude) }
+{
+    if magnitude == 1 << 127 {
+        i128::MIN
+    } else {
+        -(magnitude as i128)
+    }
+}
+
+/// The signed whole number of a value with a minus sign, from the unsigned one of its magnitude.
+#[inline]
+fn negated_whole(
+    width: usize,
+    magnitude: StatusAnd<u128>,
+    is_zero: bool,
+    is_exact: &mut bool,
+) -> StatusAnd<i128>
+    requires low { 2 ≤ width }
+    requires high { width ≤ 128 }
+    ensures { IsNegatedWhole is_zero width magnitude.value (bits_of magnitude.status) is_exact.old result.value (bits_of result.status) is_exact.new }
+{
+    if is_zero {
+        *is_exact = false;
+    }
+    let limit = 1u128 << (width - 1);
+    if magnitude.value > limit {
+        *is_exact = false;
+        Status::INVALID_OP.and(minus(limit))
+    } else {
+        magnitude.status.and(minus(magnitude.value))
+    }
 }

@@ -5,3 +5,4 @@ mod Nexts
 mod Fractions
 mod ConvertedValues
 mod Steps
+pub mod ToSigned

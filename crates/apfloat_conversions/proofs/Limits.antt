@@ -22,14 +22,14 @@ greatest_is width h =
     let m : 2 ^ width * 2 ^ (128 - width) ≡ (2 ^ width - 1 + 1) * 2 ^ (128 - width) = ap (λ (x : ℕ). x * 2 ^ (128 - width)) k in
     div-eq_of_lt-le (2 ^ (128 - width)) (omega (arith, s, m, p)) (omega (arith, s, m, p))
 
-less_so : (a b : ℤ) → a <ℤ b → int_lt a b ≡ true
+pub less_so : (a b : ℤ) → a <ℤ b → int_lt a b ≡ true
 less_so a b h = by (int_lt a b) refl
   where
     by : (t : Bool) → int_lt a b ≡ t → t ≡ true
     by true e = refl
     by false e = absurd (omega (arith, ints))
 
-less_not : (a b : ℤ) → b ≤ℤ a → int_lt a b ≡ false
+pub less_not : (a b : ℤ) → b ≤ℤ a → int_lt a b ≡ false
 less_not a b h = by (int_lt a b) refl
   where
     by : (t : Bool) → int_lt a b ≡ t → t ≡ false
@@ -54,7 +54,7 @@ no_zero true false = refl
 no_zero false true = refl
 no_zero false false = refl
 
-ranged_in : (width : ℕ) (b : Bool) (mag : ℕ) (exact : Bool) → mag ≤ limit width b → ranged (pos 0) (pos (2 ^ width - 1)) (signed b mag) (exact_or_not (signed b mag) exact (b && false)) ≡ record { number = pos mag; status = inexact_unless exact; is_exact = exact }
+pub ranged_in : (width : ℕ) (b : Bool) (mag : ℕ) (exact : Bool) → mag ≤ limit width b → ranged (pos 0) (pos (2 ^ width - 1)) (signed b mag) (exact_or_not (signed b mag) exact (b && false)) ≡ record { number = pos mag; status = inexact_unless exact; is_exact = exact }
 ranged_in width b mag exact h =
     let low : int_lt (pos mag) (pos 0) ≡ false = less_not (pos mag) (pos 0) (omega (arith, ints)) in
     let high : int_lt (pos (2 ^ width - 1)) (pos mag) ≡ false = less_not (pos (2 ^ width - 1)) (pos mag) (limit_high b width mag h) in
@@ -67,7 +67,7 @@ in_range f mode width b n mag st exact p i x h t =
     let r = ranged_in width b mag exact h in
     rw (z, ← x, ← i, r) (record { number_is = refl; status_is = t; is_exact_is = refl })
 
-ranged_out : (width : ℕ) (b : Bool) (mag : ℕ) (exact : Bool) → limit width b < mag → ranged (pos 0) (pos (2 ^ width - 1)) (signed b mag) (exact_or_not (signed b mag) exact (b && false)) ≡ record { number = pos (limit width b); status = 1; is_exact = false }
+pub ranged_out : (width : ℕ) (b : Bool) (mag : ℕ) (exact : Bool) → limit width b < mag → ranged (pos 0) (pos (2 ^ width - 1)) (signed b mag) (exact_or_not (signed b mag) exact (b && false)) ≡ record { number = pos (limit width b); status = 1; is_exact = false }
 ranged_out width true mag exact h =
     let low : int_lt (neg_ℤ (pos mag)) (pos 0) ≡ true = less_so (neg_ℤ (pos mag)) (pos 0) (omega (arith, ints, h)) in
     rw low refl

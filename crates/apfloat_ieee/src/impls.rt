@@ -21,7 +21,8 @@ ghost use Rattle.apfloat_base.specs.NextUp.{IsNextUp, IsNextDown};
 ghost use Rattle.apfloat_base.specs.Rounding.{ok_bits};
 ghost use Rattle.apfloat_base.specs.Scaling.{IsScaling};
 ghost use Rattle.apfloat_base.specs.WholeNumbers.{IsFromUnsigned, IsFromSigned, IsRoundToIntegral};
-ghost use Rattle.apfloat_base.specs.WholeNumbersOut.{IsToUnsigned};
+ghost use Rattle.apfloat_base.specs.WholeNumbersOut.{IsToUnsigned, IsToSigned};
+ghost use Rattle.apfloat_conversions.proofs.ToSigned.{to_signed_above, to_signed_below};
 ghost use Rattle.apfloat_base.specs.Parsing.{IsParsed};
 ghost use Rattle.apfloat_ieee.specs.Types.{format_of, layout_of};
 
@@ -129,6 +130,8 @@ impl<S: Semantics> Float for IeeeFloat<S> {
     ghost is_whole = { is_integer (format_of S.Semantics) };
 
     ghost converts_to_unsigned = { λ x width mode answer exact. IsToUnsigned (format_of S.Semantics) mode width x answer.value (bits_of answer.status) exact };
+
+    ghost converts_to_signed = { λ x width mode answer exact. IsToSigned (format_of S.Semantics) mode width x answer.value (bits_of answer.status) exact };
 
     ghost steps_up = { λ x answer. Gives (IsNextUp (format_of S.Semantics) x) answer };
 
@@ -354,6 +357,10 @@ impl<S: Semantics> Float for IeeeFloat<S> {
     ghost read_law = { λ text r h. h };
 
     ghost steps_down_law = { λ x r h. record { up_of_negated = r.value; is_next_up = h; is = refl } };
+
+    ghost to_signed_above_law = { λ x width mode number exact z h. to_signed_above (format_of S.Semantics) mode width x number.value (bits_of number.status) exact z h };
+
+    ghost to_signed_below_law = { λ x width mode number exact answer is_exact z w h g. to_signed_below (format_of S.Semantics) mode width x number.value (bits_of number.status) exact answer.value (bits_of answer.status) is_exact z w h g };
 
     ghost default_law = { λ x h. h };
 
