@@ -3,7 +3,14 @@
 mod bits;
 mod classes;
 mod constants;
+mod conversions;
+mod counted_remainders;
 mod differences;
+mod fractions;
+mod fused_sums;
+mod integral_values;
+mod inverses;
+mod logarithms;
 mod nans;
 mod patterns;
 mod products;

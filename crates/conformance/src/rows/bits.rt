@@ -3,7 +3,7 @@
 ghost use Rattle.std.specs.Prelude.{◌<◌};
 
 use crate::formats::SevenS;
-use rustc_apfloat::ieee::{DoubleS, HalfS, IeeeFloat, Semantics, SingleS};
+use rustc_apfloat::ieee::{DoubleS, HalfS, IeeeFloat, Semantics, SingleS, X87DoubleExtendedS};
 use rustc_apfloat::{Category, Float};
 use std::process::Abort;
 
@@ -117,4 +117,11 @@ fn edges_of_single(rt: HostRuntime) {
 #[test]
 fn edges_of_double(rt: HostRuntime) {
     check_edges::<DoubleS>(&rt, DOUBLE, &[0, 1, 2, 1022, 1023, 1024, 2045, 2046, 2047]);
+}
+
+/// A number without its integer bit is read as a NaN, and written with an exponent of all ones.
+#[test]
+fn number_without_its_integer_bit(rt: HostRuntime) {
+    let x = X87DoubleExtendedS::from_bits(0x3fff4000000000000000);
+    assert_eq!(rt; X87DoubleExtendedS::to_bits(x), 0x7fff4000000000000000);
 }
