@@ -4,8 +4,8 @@ ghost use Rattle.std.specs.Prelude.{◌-◌, ◌^◌, pos, negsuc, true, false, 
 ghost use Rattle.apfloat_base.specs.declared.kinds.NonfiniteBehavior.TheVariants.{IEEE754};
 ghost use Rattle.rustc_apfloat.specs.LawTest.{lawful_from_test};
 
-use rustc_apfloat::ieee::{Half, HalfS, IeeeFloat, NonfiniteBehavior, Semantics};
-use rustc_apfloat::{ExpInt, Flags, Float, Round, Status};
+use rustc_apfloat::ieee::{Half, IeeeFloat, NonfiniteBehavior, Semantics};
+use rustc_apfloat::{ExpInt, Flags, Float, Round, Status, StatusAnd};
 
 /// A format of a user's own: eight bits, four of them the exponent, with infinities as IEEE 754 has them.
 #[derive(Clone, Copy)]
@@ -69,11 +69,16 @@ impl Semantics for EightS {
 
 type Eight = IeeeFloat<EightS>;
 
+/// The bits of the binary16 value nearest to a number, with the status of its rounding.
+fn bits_of(number: u128) -> StatusAnd<u128> {
+    let answer = Half::from_u128_r(number, Round::NearestTiesToEven);
+    answer.status.and(answer.value.to_bits())
+}
+
 #[test]
 fn whole_numbers_in_binary16(rt: HostRuntime) {
-    let answer = Half::from_u128_r(464, Round::NearestTiesToEven);
-    assert_eq!(rt; HalfS::to_bits(answer.value), 0x5f40);
-    assert_eq!(rt; answer.status, Status::OK);
+    assert_eq!(rt; bits_of(464), Status::OK.and(0x5f40));
+    assert_eq!(rt; bits_of(2049), Status::INEXACT.and(0x6800));
 }
 
 #[test]

@@ -1,6 +1,7 @@
 //! Calls with outside values, as tables.
 
 mod bits;
+mod canonical_bits;
 mod classes;
 mod constants;
 mod conversions;
@@ -12,6 +13,7 @@ mod integral_values;
 mod inverses;
 mod logarithms;
 mod long_texts;
+mod magnitudes;
 mod minima;
 mod nans;
 mod nearest_remainders;
@@ -26,6 +28,7 @@ mod refused_texts;
 mod sameness;
 mod scalings;
 mod signed_numbers;
+mod signed_numbers_out;
 mod signs;
 mod sums;
 mod texts;
