@@ -33,6 +33,7 @@ mod signs;
 mod sums;
 mod texts;
 mod truncated_remainders;
+mod values_below;
 mod whole_numbers;
 mod whole_numbers_in_other_formats;
 mod whole_numbers_out;
