@@ -13,3 +13,4 @@ mod limits;
 pub mod plain;
 #[cfg(test)]
 mod rows;
+pub mod widest;
