@@ -1,20 +1,16 @@
 -- Zeros that are exact, and values by their categories.
-use Rattle.std.proofs.Common.{refl, sym, subst, ◌≡◌, ℕ, ◌*◌, ◌^◌, ◌<◌, ◌≤◌, Bool, arith}
-use Rattle.std.proofs.Math.Nat.{mul-pos, pow-le-pow_right}
+use Rattle.std.proofs.Common.{refl, sym, subst, ◌≡◌, ℕ, ◌*◌, ◌^◌, ◌<◌, Bool, arith}
 use Rattle.std.proofs.lemmas.Nat.{pow_pos}
 use Rattle.std.proofs.lemmas.Bool.{ne_eqb}
 use Rattle.apfloat_base.specs.declared.kinds.Round.{Round}
 use Rattle.apfloat_base.specs.declared.kinds.Category.{Category}
-use Rattle.apfloat_base.specs.declared.kinds.NonfiniteBehavior.{NonfiniteBehavior}
-use Rattle.apfloat_base.specs.declared.kinds.NonfiniteBehavior.TheVariants.{IEEE754, NanOnly, NanNegativeZero}
-use Rattle.apfloat_base.specs.Format.{Format, largest, greatest_significand}
+use Rattle.apfloat_base.specs.Format.{Format}
 use Rattle.apfloat_base.specs.Datum.{Datum, finite}
 use Rattle.apfloat_base.specs.Exact.{product_sign}
 use Rattle.apfloat_base.specs.Products.{IsProduct}
 use Rattle.apfloat_base.specs.Quotients.{IsQuotient}
 use Rattle.apfloat_base.specs.Grid.{IsOnGrid}
 use Rattle.apfloat_base.specs.Rounding.{ok_bits, signed_quanta, IsDelivered}
-use Rattle.apfloat_base.proofs.Existence.{two_pos}
 use Rattle.apfloat_base.proofs.Laws.{exact_delivered}
 use Rattle.apfloat_unpacked.specs.declared.shape.Shape.{Shape}
 use Rattle.apfloat_unpacked.specs.declared.unpacked.Unpacked.{Unpacked}
@@ -46,11 +42,3 @@ zero_quotient f mode b c sign n value status p e h =
     let z : 0 ≡ 0 * 2 ^ f.scale = omega arith in
     let d : IsDelivered f mode sign (0 * 2 ^ f.scale) n value status = subst (λ (x : ℕ). IsDelivered f mode sign x n value status) z (h n p) in
     some_quotient f mode b c 0 n value status p (subst (λ (x : Bool). IsDelivered f mode x (0 * 2 ^ f.scale) n value status) e d)
-
-greatest_some : (kind : NonfiniteBehavior) (precision : ℕ) → 3 ≤ precision → 0 < greatest_significand kind precision
-greatest_some IEEE754 precision l = let a : 2 ^ 3 ≤ 2 ^ precision = pow-le-pow_right two_pos l in omega arith
-greatest_some NanOnly precision l = let a : 2 ^ 3 ≤ 2 ^ precision = pow-le-pow_right two_pos l in omega arith
-greatest_some NanNegativeZero precision l = let a : 2 ^ 3 ≤ 2 ^ precision = pow-le-pow_right two_pos l in omega arith
-
-pub largest_some : (f : Format) → 3 ≤ f.precision → 0 < largest f
-largest_some f l = mul-pos (greatest_some f.nonfinite f.precision l) (pow_pos f.span)

@@ -158,10 +158,6 @@ pub trait Float: Copy
     fn zero() -> Self
         ensures { result ≡ the_zero };
 
-    /// The smallest positive value, a denormal one.
-    fn smallest() -> Self
-        ensures { result ≡ the_smallest };
-
     /// The positive infinity; in a format without infinities its positive NaN.
     fn infinity() -> Self
         ensures { result ≡ the_infinity };
@@ -185,6 +181,10 @@ pub trait Float: Copy
     /// The greatest finite value.
     fn largest() -> Self
         ensures { result ≡ the_largest };
+
+    /// The smallest positive value, a denormal one.
+    fn smallest() -> Self
+        ensures { result ≡ the_smallest };
 
     /// The smallest positive value that is not denormal, 2 to the power of `MIN_EXP`.
     fn smallest_normalized() -> Self
@@ -272,13 +272,6 @@ pub trait Float: Copy
         requires { PRECISION < BITS }
         ensures { result ≡ value_of_bits bits };
 
-    /// The bits of the value.
-    fn to_bits(self) -> u128
-        requires { PRECISION < BITS }
-        ensures written { writes_bits self result }
-        ensures below { result < 2 ^ BITS }
-        ensures back { value_of_bits result ≡ self };
-
     /// A signed whole number, rounded once (IEEE 754-2008 5.4.1, convertFromInt).
     fn from_i128_r(input: i128, round: Round) -> StatusAnd<Self>
         ensures { converts_signed input round result }
@@ -307,6 +300,22 @@ pub trait Float: Copy
     {
         Self::from_u128_r(input, Round::NearestTiesToEven)
     }
+
+    /// The value of a text, rounded once, or the refusal of a text without a meaning (IEEE 754-2008 5.12,
+    /// convertFromHexCharacter).
+    ///
+    /// A text is an optional mark and then an infinity, `inf`, `Inf` or `INFINITY`; a NaN, `nan` or `NaN`, with an `s` in
+    /// front if it signals and with a payload behind it, plain or in parentheses; or a hexadecimal number, as
+    /// `-0x1.8p-1`, of any length and with any exponent. Decimal numbers are refused.
+    fn from_str_r(s: &str, round: Round) -> Result<StatusAnd<Self>, ParseError>
+        ensures { reads s.now round result };
+
+    /// The bits of the value.
+    fn to_bits(self) -> u128
+        requires { PRECISION < BITS }
+        ensures written { writes_bits self result }
+        ensures below { result < 2 ^ BITS }
+        ensures back { value_of_bits result ≡ self };
 
     /// The value as a whole number of `width` binary digits in two's complement, rounded by the mode (IEEE 754-2008 5.4.1,
     /// convertToInteger).
@@ -359,15 +368,6 @@ pub trait Float: Copy
         let mut is_exact = true;
         self.to_u128_r(width, Round::TowardZero, &mut is_exact)
     }
-
-    /// The value of a text, rounded once, or the refusal of a text without a meaning (IEEE 754-2008 5.12,
-    /// convertFromHexCharacter).
-    ///
-    /// A text is an optional mark and then an infinity, `inf`, `Inf` or `INFINITY`; a NaN, `nan` or `NaN`, with an `s` in
-    /// front if it signals and with a payload behind it, plain or in parentheses; or a hexadecimal number, as
-    /// `-0x1.8p-1`, of any length and with any exponent. Decimal numbers are refused.
-    fn from_str_r(s: &str, round: Round) -> Result<StatusAnd<Self>, ParseError>
-        ensures { reads s.now round result };
 
     /// The order of the magnitudes of two finite values that are not zero.
     fn cmp_abs_normal(self, rhs: Self) -> Ordering

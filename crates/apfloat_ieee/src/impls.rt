@@ -151,11 +151,6 @@ impl<S: Semantics> Float for IeeeFloat<S> {
     }
 
     #[inline]
-    fn smallest() -> Self {
-        IeeeFloat::packed(smallest_of(shape_of::<S>()))
-    }
-
-    #[inline]
     fn infinity() -> Self {
         IeeeFloat::packed(infinity_of(shape_of::<S>(), false))
     }
@@ -173,6 +168,11 @@ impl<S: Semantics> Float for IeeeFloat<S> {
     #[inline]
     fn largest() -> Self {
         IeeeFloat::packed(largest_of(shape_of::<S>(), false))
+    }
+
+    #[inline]
+    fn smallest() -> Self {
+        IeeeFloat::packed(smallest_of(shape_of::<S>()))
     }
 
     #[inline]
@@ -243,6 +243,16 @@ impl<S: Semantics> Float for IeeeFloat<S> {
     }
 
     #[inline]
+    fn from_u128_r(input: u128, round: Round) -> StatusAnd<Self> {
+        IeeeFloat::answered(from_unsigned(shape_of::<S>(), input, round))
+    }
+
+    #[inline]
+    fn from_str_r(s: &str, round: Round) -> Result<StatusAnd<Self>, ParseError> {
+        read_text::<S>(s, round)
+    }
+
+    #[inline]
     fn to_bits(self) -> u128
         requires { S.PRECISION < S.BITS }
         ensures written { IsEncodedBy (format_of S.Semantics) (layout_of S.Semantics) result self }
@@ -251,11 +261,6 @@ impl<S: Semantics> Float for IeeeFloat<S> {
         ensures only { (other : ℕ) → IsEncodedBy (format_of S.Semantics) (layout_of S.Semantics) other self → other ≡ result }
     {
         write::<S>(self)
-    }
-
-    #[inline]
-    fn from_u128_r(input: u128, round: Round) -> StatusAnd<Self> {
-        IeeeFloat::answered(from_unsigned(shape_of::<S>(), input, round))
     }
 
     #[inline]
@@ -276,13 +281,18 @@ impl<S: Semantics> Float for IeeeFloat<S> {
     }
 
     #[inline]
-    fn is_signaling(self) -> bool {
-        is_signaling(shape_of::<S>(), self.unpacked())
+    fn is_negative(self) -> bool {
+        self.unpacked().negative
     }
 
     #[inline]
-    fn from_str_r(s: &str, round: Round) -> Result<StatusAnd<Self>, ParseError> {
-        read_text::<S>(s, round)
+    fn is_denormal(self) -> bool {
+        is_denormal(shape_of::<S>(), self.unpacked())
+    }
+
+    #[inline]
+    fn is_signaling(self) -> bool {
+        is_signaling(shape_of::<S>(), self.unpacked())
     }
 
     #[inline]
@@ -291,16 +301,6 @@ impl<S: Semantics> Float for IeeeFloat<S> {
         ensures member { IsMember (format_of S.Semantics) self }
     {
         self.unpacked().category
-    }
-
-    #[inline]
-    fn is_negative(self) -> bool {
-        self.unpacked().negative
-    }
-
-    #[inline]
-    fn is_denormal(self) -> bool {
-        is_denormal(shape_of::<S>(), self.unpacked())
     }
 
     #[inline]
@@ -386,5 +386,5 @@ impl<S: Semantics> Float for IeeeFloat<S> {
 
     ghost signed_above_law = { λ n mode r h. signed_above (format_of S.Semantics) mode n r.value (bits_of r.status) h };
 
-    ghost signed_below_law = { λ n mode r p h. signed_below (format_of S.Semantics) mode n r.value (bits_of r.status) (largest_some S.lawful) p h };
+    ghost signed_below_law = { λ n mode r p h. signed_below (format_of S.Semantics) mode n r.value (bits_of r.status) (largest_some (format_of S.Semantics) S.lawful.precision_low) p h };
 }

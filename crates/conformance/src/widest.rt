@@ -2,6 +2,10 @@
 
 ghost use Rattle.std.specs.Prelude.{pos, negsuc, false, refl};
 ghost use Rattle.apfloat_base.specs.declared.kinds.NonfiniteBehavior.TheVariants.{NanNegativeZero};
+ghost use Rattle.apfloat_base.specs.Flags.{Gives};
+ghost use Rattle.apfloat_base.specs.FusedSums.{IsFusedSum};
+ghost use Rattle.apfloat_base.specs.Products.{IsProduct};
+ghost use Rattle.apfloat_ieee.specs.Types.{format_of};
 ghost use Rattle.rustc_apfloat.specs.LawTest.{lawful_from_test};
 
 use rustc_apfloat::ieee::{IeeeFloat, NonfiniteBehavior, Semantics};
@@ -128,10 +132,9 @@ impl Semantics for WidestFusedSumsS {
 }
 
 /// The square of a value of the widest format that has products.
-pub fn square(
-    x: IeeeFloat<WidestProductsS>,
-    round: Round,
-) -> StatusAnd<IeeeFloat<WidestProductsS>> {
+pub fn square(x: IeeeFloat<WidestProductsS>, round: Round) -> StatusAnd<IeeeFloat<WidestProductsS>>
+    ensures { Gives (IsProduct (format_of WidestProductsS.Semantics) round x x) result }
+{
     x.mul_r(x, round)
 }
 
@@ -139,6 +142,8 @@ pub fn square(
 pub fn square_and_itself(
     x: IeeeFloat<WidestFusedSumsS>,
     round: Round,
-) -> StatusAnd<IeeeFloat<WidestFusedSumsS>> {
+) -> StatusAnd<IeeeFloat<WidestFusedSumsS>>
+    ensures { Gives (IsFusedSum (format_of WidestFusedSumsS.Semantics) round x x x) result }
+{
     x.mul_add_r(x, x, round)
 }

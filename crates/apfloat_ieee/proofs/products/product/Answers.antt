@@ -2,7 +2,7 @@ use Rattle.std.proofs.Common.{◌≡◌, ℕ}
 use Rattle.apfloat_base.specs.Flags.{bits_of}
 use Rattle.apfloat_base.specs.Products.{IsProduct}
 use Rattle.apfloat_base.proofs.ProductLaws.{opposite_product}
-use Rattle.apfloat_arithmetic.proofs.ExactAnswers.{largest_some}
+use Rattle.apfloat_base.proofs.SignedNumbers.{largest_some}
 use Rattle.apfloat_ieee.specs.Types.{shape_of, format_of}
 use Rattle.apfloat_ieee.proofs.products.product.Goals as goal
 
