@@ -1,11 +1,15 @@
-//! The example of the README.
+//! The examples of the README and of the page for callers.
 
 ghost use Rattle.std.specs.Prelude.{◌-◌, ◌^◌, pos, negsuc, true, false, refl};
 ghost use Rattle.apfloat_base.specs.declared.kinds.NonfiniteBehavior.TheVariants.{IEEE754};
+ghost use Rattle.apfloat_base.specs.declared.kinds.Round.TheVariants.{NearestTiesToEven};
+ghost use Rattle.rustc_apfloat.specs.Flags.{Gives};
+ghost use Rattle.rustc_apfloat.specs.Types.{format_of};
+ghost use Rattle.rustc_apfloat.specs.WholeNumbers.{IsFromUnsigned};
 ghost use Rattle.rustc_apfloat.specs.LawTest.{lawful_from_test};
 
 use rustc_apfloat::ieee::{Half, IeeeFloat, NonfiniteBehavior, Semantics};
-use rustc_apfloat::{ExpInt, Flags, Float, Round, Status, StatusAnd};
+use rustc_apfloat::{ExpInt, Flags, Float, Round, Status, StatusAnd, unpack};
 
 /// A format of a user's own: eight bits, four of them the exponent, with infinities as IEEE 754 has them.
 #[derive(Clone, Copy)]
@@ -75,6 +79,13 @@ fn bits_of(number: u128) -> StatusAnd<u128> {
     answer.status.and(answer.value.to_bits())
 }
 
+/// A whole number in any format, to the nearest value.
+fn nearest<S: Semantics>(number: u128) -> StatusAnd<IeeeFloat<S>>
+    ensures { Gives (IsFromUnsigned (format_of S.Semantics) NearestTiesToEven number) result }
+{
+    IeeeFloat::<S>::from_u128_r(number, Round::NearestTiesToEven)
+}
+
 #[test]
 fn whole_numbers_in_binary16(rt: HostRuntime) {
     assert_eq!(rt; bits_of(464), Status::OK.and(0x5f40));
@@ -101,4 +112,21 @@ fn whole_numbers_in_a_format_of_a_users_own(rt: HostRuntime) {
     let below = Eight::from_u128_r(250, Round::TowardZero);
     assert_eq!(rt; below.value.to_bits(), 0x77);
     assert_eq!(rt; below.status, Status::INEXACT);
+}
+
+#[test]
+fn nearest_whole_numbers(rt: HostRuntime) {
+    let answer = nearest::<EightS>(9);
+    assert_eq!(rt; answer.value.to_bits(), 0x51);
+    assert_eq!(rt; answer.status, Status::OK);
+}
+
+#[test]
+fn statuses_of_two_answers(rt: HostRuntime) {
+    let mut status;
+    let above = unpack!(status =, Half::from_u128_r(2049, Round::TowardPositive));
+    assert_eq!(rt; status, Status::INEXACT);
+    let infinite = unpack!(status |=, above * Half::from_bits(0x7bff));
+    assert_eq!(rt; status, Status::OVERFLOW.union(Status::INEXACT));
+    assert!(rt; infinite.is_infinite());
 }

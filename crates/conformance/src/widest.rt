@@ -2,14 +2,10 @@
 
 ghost use Rattle.std.specs.Prelude.{pos, negsuc, false, refl};
 ghost use Rattle.apfloat_base.specs.declared.kinds.NonfiniteBehavior.TheVariants.{NanNegativeZero};
-ghost use Rattle.apfloat_base.specs.Flags.{Gives};
-ghost use Rattle.apfloat_base.specs.FusedSums.{IsFusedSum};
-ghost use Rattle.apfloat_base.specs.Products.{IsProduct};
-ghost use Rattle.apfloat_ieee.specs.Types.{format_of};
 ghost use Rattle.rustc_apfloat.specs.LawTest.{lawful_from_test};
 
 use rustc_apfloat::ieee::{IeeeFloat, NonfiniteBehavior, Semantics};
-use rustc_apfloat::{ExpInt, Float, Round, StatusAnd};
+use rustc_apfloat::{ExpInt, Float, Round, Status, StatusAnd};
 
 /// 64 digits, as many as products take.
 #[derive(Clone, Copy)]
@@ -131,19 +127,34 @@ impl Semantics for WidestFusedSumsS {
     ghost lawful = { lawful_from_test _ refl };
 }
 
-/// The square of a value of the widest format that has products.
-pub fn square(x: IeeeFloat<WidestProductsS>, round: Round) -> StatusAnd<IeeeFloat<WidestProductsS>>
-    ensures { Gives (IsProduct (format_of WidestProductsS.Semantics) round x x) result }
-{
+// The square of a value of the widest format that has products.
+fn square(
+    x: IeeeFloat<WidestProductsS>,
+    round: Round,
+) -> StatusAnd<IeeeFloat<WidestProductsS>> {
     x.mul_r(x, round)
 }
 
-/// The square of a value of the widest format that has fused sums, plus the value.
-pub fn square_and_itself(
+// The square of a value of the widest format that has fused sums, plus the value.
+fn square_and_itself(
     x: IeeeFloat<WidestFusedSumsS>,
     round: Round,
-) -> StatusAnd<IeeeFloat<WidestFusedSumsS>>
-    ensures { Gives (IsFusedSum (format_of WidestFusedSumsS.Semantics) round x x x) result }
-{
+) -> StatusAnd<IeeeFloat<WidestFusedSumsS>> {
     x.mul_add_r(x, x, round)
+}
+
+#[test]
+fn products_of_64_digits(rt: HostRuntime) {
+    let x = IeeeFloat::from_u128((1 << 40) + 1).value;
+    let above = square(x, Round::TowardPositive);
+    assert_eq!(rt; above.status, Status::INEXACT);
+    assert_eq!(rt; above.value.to_u128(128).value, (1 << 80) + (1 << 41) + (1 << 17));
+}
+
+#[test]
+fn fused_sums_of_63_digits(rt: HostRuntime) {
+    let x = IeeeFloat::from_u128((1 << 40) + 1).value;
+    let nearest = square_and_itself(x, Round::NearestTiesToEven);
+    assert_eq!(rt; nearest.status, Status::INEXACT);
+    assert_eq!(rt; nearest.value.to_u128(128).value, (1 << 80) + (3 << 40));
 }
