@@ -32,3 +32,5 @@ pub mod SumLaws
 pub mod ExactConversions
 pub mod NextBack
 pub mod SignedNumbers
+pub mod RowsIn
+pub mod Rows
