@@ -34,3 +34,4 @@ pub mod NextBack
 pub mod SignedNumbers
 pub mod RowsIn
 pub mod Rows
+pub mod RowsExact
