@@ -35,3 +35,4 @@ pub mod SignedNumbers
 pub mod RowsIn
 pub mod Rows
 pub mod RowsExact
+pub mod RowsTexts
