@@ -12,7 +12,7 @@ use apfloat_unpacked::unpacked::Unpacked;
 
 /// Whether a number is below the smallest one whose significand has all digits.
 #[inline]
-pub fn is_below_normal(shape: Shape, x: Unpacked) -> bool
+fn is_below_normal(shape: Shape, x: Unpacked) -> bool
     requires lawful { IsShape shape }
     requires normal { IsNormal shape x.significand x.exponent }
     ensures { result ≡ ltb (quanta_at shape.min_exp x.significand x.exponent) (smallest_normalized (format_at shape)) }

@@ -5,12 +5,14 @@ use Rattle.std.proofs.lemmas.Nat.{pow_pos}
 use Rattle.std.proofs.lemmas.Bool.{eqb-true, ne_eqb, lt-ltb, lt-leb, le-leb, le-ltb, cases_lt}
 use Rattle.std.specs.Ordering.{partial_lt}
 use Rattle.apfloat_base.specs.declared.kinds.NonfiniteBehavior.{NonfiniteBehavior}
-use Rattle.apfloat_base.specs.Format.{Format, smallest_normalized}
+use Rattle.apfloat_base.specs.Format.{Format, smallest_normalized, largest}
+use Rattle.apfloat_base.specs.Constants.{smallest_datum, smallest_normalized_datum, largest_datum}
+use Rattle.apfloat_base.specs.Signs.{abs, copy_sign}
 use Rattle.apfloat_base.specs.Negation.{negated}
 use Rattle.apfloat_base.specs.declared.kinds.Category.TheVariants.{Normal, Zero}
 use Rattle.apfloat_base.specs.Datum.{Datum, finite, infinite, nan}
 use Rattle.apfloat_base.specs.Exact.{same_sign}
-use Rattle.apfloat_base.specs.Classes.{is_finite, is_infinite, is_nan, is_negative, is_zero, is_denormal, is_normal, is_finite_non_zero, quanta_of, same_datum, category_of, is_nan_category, is_number_category}
+use Rattle.apfloat_base.specs.Classes.{is_finite, is_infinite, is_nan, is_negative, is_zero, is_denormal, is_normal, is_finite_non_zero, is_smallest, is_smallest_normalized, is_largest, quanta_of, same_datum, category_of, is_nan_category, is_number_category}
 use Rattle.apfloat_base.specs.Order.{compared, min_num, max_num, minimum, maximum}
 use Rattle.apfloat_base.specs.Predicates.{is_finite_category, is_infinite_category, is_zero_category, min_by, max_by, minimum_by, maximum_by, signed_like}
 
@@ -149,3 +151,18 @@ pub magnitude_agrees : (kind : NonfiniteBehavior) (m : ℕ) (x : Datum) → 0 < 
 magnitude_agrees kind m (finite b n) h = rw (sign_alone kind m (finite b n) (finite b m) refl, turned_number kind b m h, same_sign_self b) refl
 magnitude_agrees kind m (infinite b) h = rw (sign_alone kind m (infinite b) (finite b m) refl, turned_number kind b m h) refl
 magnitude_agrees kind m (nan b s) h = rw (sign_alone kind m (nan b s) (finite b m) refl, turned_number kind b m h) refl
+
+pub smallest_agrees : (f : Format) (x : Datum) → same_datum x (signed_like is_negative (negated f.nonfinite) smallest_datum x) ≡ is_smallest x
+smallest_agrees f x = magnitude_agrees f.nonfinite 1 x (omega arith)
+
+pub smallest_normalized_agrees : (f : Format) (x : Datum) → same_datum x (signed_like is_negative (negated f.nonfinite) (smallest_normalized_datum f) x) ≡ is_smallest_normalized f x
+smallest_normalized_agrees f x = magnitude_agrees f.nonfinite (smallest_normalized f) x (pow_pos (f.precision - 1))
+
+pub largest_agrees : (f : Format) (x : Datum) → 0 < largest f → same_datum x (signed_like is_negative (negated f.nonfinite) (largest_datum f) x) ≡ is_largest f x
+largest_agrees f x h = magnitude_agrees f.nonfinite (largest f) x h
+
+pub abs_agrees : (f : Format) (x : Datum) → (if is_negative x then negated f.nonfinite x else x) ≡ abs f x
+abs_agrees f x = refl
+
+pub copy_sign_agrees : (f : Format) (x y : Datum) → signed_like is_negative (negated f.nonfinite) x y ≡ copy_sign f x y
+copy_sign_agrees f x y = refl

@@ -209,17 +209,17 @@ pub trait Float: Copy
 
     /// The quotient, rounded once (IEEE 754-2008 5.4.1, division).
     ///
-    /// A number divided by a zero is the infinity of its sign, with `DIV_BY_ZERO` (7.3). A zero divided by a zero and an
-    /// infinity by an infinity are invalid (7.2): the quiet NaN without a payload, with `INVALID_OP`. A NaN operand is
-    /// answered, made quiet (6.2.3).
+    /// A number divided by a zero is the infinity with the sign of the quotient, or the NaN in its place, with
+    /// `DIV_BY_ZERO` (7.3). A zero divided by a zero and an infinity by an infinity are invalid (7.2): the quiet NaN
+    /// without a payload, with `INVALID_OP`. A NaN operand is answered, made quiet (6.2.3).
     fn div_r(self, rhs: Self, round: Round) -> StatusAnd<Self>
         ensures { divides self rhs round result };
 
     /// The remainder `self - rhs * n`, with `n` the whole number nearest to the quotient, a tie to the even one
     /// (IEEE 754-2008 5.3.1, remainder). It is exact.
     ///
-    /// A zero that is left has the sign of `self` where the format has such a zero, and an infinity leaves a finite value
-    /// as it is. The remainder of an infinity, and that by a zero, are invalid (7.2): the quiet NaN without a payload,
+    /// A zero that is left has the sign of `self` where the format has such a zero, and an infinite `rhs` leaves a finite
+    /// value as it is. The remainder of an infinity, and that by a zero, are invalid (7.2): the quiet NaN without a payload,
     /// with `INVALID_OP`. A NaN operand is answered, made quiet (6.2.3).
     fn ieee_rem(self, rhs: Self) -> StatusAnd<Self>
         ensures { leaves_nearest self rhs result };
@@ -237,8 +237,9 @@ pub trait Float: Copy
     fn round_to_integral(self, round: Round) -> StatusAnd<Self>
         ensures { rounds_to_integral self round result };
 
-    /// The least value that compares greater (IEEE 754-2008 5.3.1, nextUp), always exact. The positive infinity and a
-    /// quiet NaN stay as they are; a signaling NaN is invalid.
+    /// The least value that compares greater (IEEE 754-2008 5.3.1, nextUp), always exact. Above the largest value stands
+    /// the infinity, or the NaN in its place. The positive infinity and a quiet NaN stay as they are; a signaling NaN is
+    /// invalid, and answers the quiet NaN of its sign without a payload.
     fn next_up(self) -> StatusAnd<Self>
         ensures { steps_up self result };
 

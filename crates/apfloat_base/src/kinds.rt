@@ -8,10 +8,13 @@ use std::ops::Neg;
 /// What a value is. Denormal values are `Normal` too.
 #[derive(Clone, Copy, PartialEq, Eq, Debug)]
 pub enum Category {
+    /// An infinity of either sign.
     Infinity,
+    /// A NaN, quiet or signaling.
     NaN,
     /// Finite and not zero.
     Normal,
+    /// A zero of either sign.
     Zero,
 }
 

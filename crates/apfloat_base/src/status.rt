@@ -68,7 +68,9 @@ impl Status {
 /// A value with the status of the operation that made it. The status comes first in the order.
 #[derive(Clone, Copy, PartialEq, Eq, PartialOrd, Ord, Debug)]
 pub struct StatusAnd<T> {
+    /// The flags that the operation raised.
     pub status: Status,
+    /// What it answers.
     pub value: T,
 }
 

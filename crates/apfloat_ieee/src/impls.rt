@@ -1,4 +1,4 @@
-//! `Float` for each format, and what stands beside it: `Default` and `Debug`.
+//! `Float` for each format, and `Default`.
 
 ghost use Rattle.std.specs.Prelude.{◌≡◌, ◌^◌, ◌<◌, ℕ, true, false, leb, IsTrue, refl};
 ghost use Rattle.apfloat_base.specs.Flags.{Gives, bits_of};

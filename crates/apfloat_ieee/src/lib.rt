@@ -1,8 +1,8 @@
 //! Binary floating-point formats, and arithmetic on the values of one format.
 //!
 //! A format is a type that implements `Semantics`; `IeeeFloat<S>` is a value of the format `S`. The work is done by the
-//! functions of `apfloat_unpacked`, `apfloat_arithmetic`, `apfloat_conversions` and `apfloat_texts` over a `Shape`, the constants of a format that rounding reads;
-//! the generic calls only bring a type's constants to them.
+//! functions of `apfloat_unpacked`, `apfloat_arithmetic`, `apfloat_conversions` and `apfloat_texts` over a `Shape`, the
+//! constants of a format that rounding reads; the generic calls only bring a type's constants to them.
 #![tactic(auto)]
 
 mod convert;

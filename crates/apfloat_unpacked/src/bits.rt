@@ -18,15 +18,20 @@ use apfloat_base::{Category, NonfiniteBehavior};
 /// How many bits a value is written with, and how many of them are the biased exponent.
 #[derive(Clone, Copy, Debug)]
 pub struct Widths {
+    /// All bits of an encoding.
     pub bits: u32,
+    /// Those of the biased exponent.
     pub exponent_bits: u32,
 }
 
 /// The fields of bits.
 #[derive(Clone, Copy, Debug)]
 pub struct Fields {
+    /// Whether the sign bit is set.
     pub negative: bool,
+    /// The exponent above the least one, and 1 more; 0 for zeros and denormal values.
     pub biased_exponent: u128,
+    /// The digits of the significand that are written.
     pub trailing: u128,
 }
 

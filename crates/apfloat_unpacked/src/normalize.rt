@@ -228,7 +228,7 @@ fn overflowed(shape: Shape, mode: Round, negative: bool) -> StatusAnd<Unpacked>
             .union(Status::INEXACT)
             .and(infinity_of(shape, negative))
     } else {
-        Status::INEXACT.and(quanta_of(shape, negative, shape.greatest_significand(), shape.span()))
+        Status::INEXACT.and(largest_of(shape, negative))
     }
 }
 

@@ -9,11 +9,17 @@ use apfloat_base::{ExpInt, NonfiniteBehavior};
 /// The constants of a format that rounding reads.
 #[derive(Clone, Copy, Debug)]
 pub struct Shape {
+    /// The binary digits of a significand, the integer bit included.
     pub precision: u32,
+    /// The exponent of the smallest normalized value.
     pub min_exp: ExpInt,
+    /// The exponent of the largest value.
     pub max_exp: ExpInt,
+    /// Which values the format has that are no numbers.
     pub nonfinite: NonfiniteBehavior,
+    /// Whether encodings have the integer bit.
     pub explicit_integer_bit: bool,
+    /// Whether tininess is told before rounding.
     pub tiny_before_rounding: bool,
 }
 

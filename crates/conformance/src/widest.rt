@@ -128,10 +128,7 @@ impl Semantics for WidestFusedSumsS {
 }
 
 // The square of a value of the widest format that has products.
-fn square(
-    x: IeeeFloat<WidestProductsS>,
-    round: Round,
-) -> StatusAnd<IeeeFloat<WidestProductsS>> {
+fn square(x: IeeeFloat<WidestProductsS>, round: Round) -> StatusAnd<IeeeFloat<WidestProductsS>> {
     x.mul_r(x, round)
 }
 
@@ -148,7 +145,10 @@ fn products_of_64_digits(rt: HostRuntime) {
     let x = IeeeFloat::from_u128((1 << 40) + 1).value;
     let above = square(x, Round::TowardPositive);
     assert_eq!(rt; above.status, Status::INEXACT);
-    assert_eq!(rt; above.value.to_u128(128).value, (1 << 80) + (1 << 41) + (1 << 17));
+    assert_eq!(rt;
+        above.value.to_u128(128).value,
+        (1 << 80) + (1 << 41) + (1 << 17)
+    );
 }
 
 #[test]

@@ -17,10 +17,14 @@ pub use Rattle.apfloat_base.specs.FusedSums
 pub use Rattle.apfloat_base.specs.Scaling
 pub use Rattle.apfloat_base.specs.WholeNumbers
 pub use Rattle.apfloat_base.specs.WholeNumbersOut
+pub use Rattle.apfloat_base.specs.SignedWholes
 pub use Rattle.apfloat_base.specs.Conversions
 pub use Rattle.apfloat_base.specs.Remainders
 pub use Rattle.apfloat_base.specs.Classes
 pub use Rattle.apfloat_base.specs.Order
+pub use Rattle.apfloat_base.specs.OrderLaws
+pub use Rattle.apfloat_base.specs.Predicates
+pub use Rattle.apfloat_base.specs.PredicatesAgree
 pub use Rattle.apfloat_base.specs.Signs
 pub use Rattle.apfloat_base.specs.NextUp
 pub use Rattle.apfloat_base.specs.Exponents

@@ -1,5 +1,5 @@
 //! Correctly rounded software floating point on whole numbers: a port of the Rust crate `rustc_apfloat` (LLVM's
-//! APFloat) whose every call is proved against a mathematical model.
+//! APFloat) whose every operation is proved against a mathematical model.
 //!
 //! The root has statuses, rounding modes and the traits `Float` and `FloatConvert`; `ieee` has the formats and `IeeeFloat`.
 #![tactic(auto)]

@@ -6,9 +6,13 @@ ghost use Rattle.apfloat_base.specs.Standing.{StandsFor};
 /// What part of the lowest kept bit was cut off.
 #[derive(Clone, Copy, PartialEq, Eq, Debug)]
 pub enum Loss {
+    /// Nothing.
     ExactlyZero,
+    /// Something, and less than half of it.
     LessThanHalf,
+    /// Half of it.
     ExactlyHalf,
+    /// More than half of it, and less than the whole.
     MoreThanHalf,
 }
 
