@@ -3,7 +3,7 @@
 ghost use Rattle.std.specs.Prelude.{◌<◌};
 
 use crate::formats::{Least, Seven};
-use rustc_apfloat::ieee::{Double, Half, Single};
+use rustc_apfloat::ieee::{Double, Float8E4M3FN, Float8E4M3FNUZ, Half, Single};
 use rustc_apfloat::{Category, ExpInt, Float};
 use std::process::Abort;
 
@@ -60,6 +60,20 @@ fn named_values(rt: HostRuntime) {
         infinity: 0x38,
     };
     check::<Seven>(&rt, seven);
+    let e4m3fn = Named {
+        smallest: 0x01,
+        smallest_normalized: 0x08,
+        largest: 0x7e,
+        infinity: 0x7f,
+    };
+    check::<Float8E4M3FN>(&rt, e4m3fn);
+    let e4m3fnuz = Named {
+        smallest: 0x01,
+        smallest_normalized: 0x08,
+        largest: 0x7f,
+        infinity: 0x80,
+    };
+    check::<Float8E4M3FNUZ>(&rt, e4m3fnuz);
 }
 
 /// Of a type without bits only the categories can be told here.
