@@ -12,7 +12,7 @@ use std::process::Abort;
 
 /// What is asked of a value.
 #[derive(Clone, Copy, Debug)]
-enum Predicate {
+pub enum Predicate {
     Normal,
     Finite,
     Zero,
@@ -36,7 +36,7 @@ enum Predicate {
 /// A predicate, bits, and whether it holds of them.
 type Row = (Predicate, u128, bool);
 
-static HALF: [Row; 17] = [
+static HALF: [Row; 18] = [
     (Predicate::Normal, 0x8400, true),
     (Predicate::Finite, 0xc711, true),
     (Predicate::Zero, 0x7bff, false),
@@ -54,9 +54,10 @@ static HALF: [Row; 17] = [
     (Predicate::Negative, 0x8001, true),
     (Predicate::Denormal, 0x3900, false),
     (Predicate::Signaling, 0xfbff, false),
+    (Predicate::Signaling, 0x7d00, true),
 ];
 
-static SINGLE: [Row; 16] = [
+static SINGLE: [Row; 17] = [
     (Predicate::Normal, 0x0b7ffffe, true),
     (Predicate::Zero, 0x00800000, false),
     (Predicate::Infinite, 0xff800000, true),
@@ -73,6 +74,7 @@ static SINGLE: [Row; 16] = [
     (Predicate::Negative, 0xff800000, true),
     (Predicate::Denormal, 0x91800fff, false),
     (Predicate::Signaling, 0x00800000, false),
+    (Predicate::Signaling, 0xffa00000, true),
 ];
 
 static DOUBLE: [Row; 17] = [
@@ -246,7 +248,7 @@ static E4M3FNUZ: [Row; 18] = [
     (Predicate::Signaling, 0x05, false),
 ];
 
-static X87: [Row; 18] = [
+static X87: [Row; 19] = [
     (Predicate::Normal, 0xbffe8000000040000000, true),
     (Predicate::Finite, 0x00000000000000000001, true),
     (Predicate::Zero, 0x5fe7ffffffffffffffff, false),
@@ -265,6 +267,7 @@ static X87: [Row; 18] = [
     (Predicate::Negative, 0xebc59000000004000000, true),
     (Predicate::Denormal, 0xffff8000000000000000, false),
     (Predicate::Signaling, 0x00018000000000000000, false),
+    (Predicate::Signaling, 0x7fff4000000000000001, true),
 ];
 
 static SEVEN: [Row; 16] = [
@@ -307,7 +310,7 @@ static HALF_TINY_BEFORE: [Row; 18] = [
     (Predicate::Signaling, 0xe3ff, false),
 ];
 
-static WRITTEN_BIT: [Row; 17] = [
+static WRITTEN_BIT: [Row; 18] = [
     (Predicate::Normal, 0x0180, true),
     (Predicate::Zero, 0x2000, true),
     (Predicate::Infinite, 0x0001, false),
@@ -325,6 +328,7 @@ static WRITTEN_BIT: [Row; 17] = [
     (Predicate::Negative, 0x0000, false),
     (Predicate::Denormal, 0x207e, true),
     (Predicate::Signaling, 0x2ea0, false),
+    (Predicate::Signaling, 0x1fa0, true),
 ];
 
 static TEN: [Row; 17] = [
@@ -347,7 +351,7 @@ static TEN: [Row; 17] = [
     (Predicate::Signaling, 0x2e0, false),
 ];
 
-fn holds<S: Semantics>(predicate: Predicate, x: IeeeFloat<S>) -> bool {
+pub fn holds<S: Semantics>(predicate: Predicate, x: IeeeFloat<S>) -> bool {
     match predicate {
         Predicate::Normal => x.is_normal(),
         Predicate::Finite => x.is_finite(),

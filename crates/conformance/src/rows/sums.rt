@@ -2,7 +2,7 @@
 
 ghost use Rattle.std.specs.Prelude.{◌<◌};
 
-use crate::formats::{HalfTinyBeforeS, SevenS};
+use crate::formats::{HalfTinyBeforeS, SevenS, TenS, WrittenBitS};
 use crate::rows::{AWAY, DOWN, EVEN, INEXACT, INVALID_OP, OK, OVERFLOW_INEXACT, UP, ZERO};
 use rustc_apfloat::ieee::{
     BFloatS, DoubleS, Float8E4M3FNS, Float8E4M3FNUZS, Float8E5M2S, HalfS, QuadS, Semantics,
@@ -357,6 +357,16 @@ static HALF_TINY_BEFORE: [Row; 4] = [
     (0xbe9c, 0x4400, DOWN, 0x40b2, OK),
 ];
 
+static WRITTEN_BIT: [Row; 2] = [
+    (0x006e, 0x08ff, ZERO, 0x08ff, INEXACT),
+    (0x09e6, 0x29e7, AWAY, 0x2280, OK),
+];
+
+static TEN: [Row; 2] = [
+    (0x0c1, 0x337, EVEN, 0x337, INEXACT),
+    (0x13e, 0x33e, UP, 0x000, OK),
+];
+
 fn check<S: Semantics>(rt: &impl Abort, rows: &[Row])
     requires { S.PRECISION < S.BITS }
 {
@@ -380,4 +390,19 @@ fn sums(rt: HostRuntime) {
     check::<X87DoubleExtendedS>(&rt, &X87);
     check::<SevenS>(&rt, &SEVEN);
     check::<HalfTinyBeforeS>(&rt, &HALF_TINY_BEFORE);
+    check::<WrittenBitS>(&rt, &WRITTEN_BIT);
+    check::<TenS>(&rt, &TEN);
+}
+
+/// A NaN without its integer bit signals still when it has been made quiet.
+#[test]
+fn sum_that_signals_still(rt: HostRuntime) {
+    let x = X87DoubleExtendedS::from_bits(0x7fff0000000000000001);
+    let one = X87DoubleExtendedS::from_bits(0x3fff8000000000000000);
+    for mode in [EVEN, UP, DOWN, ZERO, AWAY] {
+        let answer = x.add_r(one, mode);
+        assert_eq!(rt; answer.value.to_bits(), 0x7fff4000000000000001);
+        assert_eq!(rt; answer.status.bits(), INVALID_OP);
+        assert!(rt; answer.value.is_signaling());
+    }
 }
