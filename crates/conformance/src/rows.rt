@@ -7,6 +7,7 @@ mod constants;
 mod conversions;
 mod counted_remainders;
 mod differences;
+mod every_conversion;
 mod fractions;
 mod fused_sums;
 mod integral_values;
@@ -40,7 +41,8 @@ mod whole_numbers_out;
 mod wider;
 mod without_bits;
 
-use rustc_apfloat::Round;
+use rustc_apfloat::{Flags, Float, Round};
+use std::process::Abort;
 
 const EVEN: Round = Round::NearestTiesToEven;
 
@@ -63,3 +65,17 @@ const DIV_BY_ZERO: u8 = 0x02;
 const OVERFLOW_INEXACT: u8 = 0x14;
 
 const UNDERFLOW_INEXACT: u8 = 0x18;
+
+/// The value that a text has exactly.
+fn value_of<F: Float>(rt: &impl Abort, text: &str) -> F {
+    match F::from_str_r(text, EVEN) {
+        Ok(answer) => {
+            assert_eq!(rt; answer.status.bits(), OK, "{text}");
+            answer.value
+        }
+        Err(error) => {
+            assert_eq!(rt; error.0, "", "{text}");
+            F::nan()
+        }
+    }
+}
