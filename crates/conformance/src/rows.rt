@@ -7,6 +7,7 @@ mod constants;
 mod conversions;
 mod counted_remainders;
 mod differences;
+mod equality;
 mod every_conversion;
 mod fractions;
 mod fused_sums;

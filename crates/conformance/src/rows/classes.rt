@@ -2,8 +2,10 @@
 
 ghost use Rattle.std.specs.Prelude.{◌<◌};
 
-use crate::formats::{HalfTinyBefore, Seven};
-use rustc_apfloat::ieee::{Double, Half, Single};
+use crate::formats::{HalfTinyBefore, Seven, Ten, WrittenBit};
+use rustc_apfloat::ieee::{
+    BFloat, Double, Float8E4M3FN, Float8E4M3FNUZ, Float8E5M2, Half, Quad, Single, X87DoubleExtended,
+};
 use rustc_apfloat::{Category, Float};
 use std::process::Abort;
 
@@ -79,6 +81,37 @@ static HALF_TINY_BEFORE: [Row; 8] = [
     (0x9000, Category::Normal, true),
 ];
 
+static QUAD: [Row; 2] = [
+    (0x84e25f8a3ff8211332b6438415110b66, Category::Normal, true),
+    (0xc003ecda737ba0af64beb0a9de8e1fe6, Category::Normal, true),
+];
+
+static BFLOAT: [Row; 2] = [
+    (0xff7e, Category::Normal, true),
+    (0x7f61, Category::Normal, false),
+];
+
+static E5M2: [Row; 2] = [(0x7f, Category::NaN, false), (0xc3, Category::Normal, true)];
+
+static E4M3FN: [Row; 2] = [(0xe8, Category::Normal, true), (0x7f, Category::NaN, false)];
+
+static E4M3FNUZ: [Row; 2] = [
+    (0xeb, Category::Normal, true),
+    (0xbd, Category::Normal, true),
+];
+
+static X87: [Row; 2] = [
+    (0x80000000000000000000, Category::Zero, true),
+    (0x3fff4000000000000000, Category::NaN, false),
+];
+
+static WRITTEN_BIT: [Row; 2] = [
+    (0x2181, Category::Normal, true),
+    (0x1f80, Category::Infinity, false),
+];
+
+static TEN: [Row; 2] = [(0x200, Category::Zero, true), (0x3ff, Category::NaN, true)];
+
 fn check<F: Float>(rt: &impl Abort, rows: &[Row])
     requires { F.PRECISION < F.BITS }
 {
@@ -96,4 +129,12 @@ fn classes(rt: HostRuntime) {
     check::<Double>(&rt, &DOUBLE);
     check::<Seven>(&rt, &SEVEN);
     check::<HalfTinyBefore>(&rt, &HALF_TINY_BEFORE);
+    check::<Quad>(&rt, &QUAD);
+    check::<BFloat>(&rt, &BFLOAT);
+    check::<Float8E5M2>(&rt, &E5M2);
+    check::<Float8E4M3FN>(&rt, &E4M3FN);
+    check::<Float8E4M3FNUZ>(&rt, &E4M3FNUZ);
+    check::<X87DoubleExtended>(&rt, &X87);
+    check::<WrittenBit>(&rt, &WRITTEN_BIT);
+    check::<Ten>(&rt, &TEN);
 }

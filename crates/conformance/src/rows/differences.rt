@@ -2,7 +2,7 @@
 
 ghost use Rattle.std.specs.Prelude.{◌<◌};
 
-use crate::formats::{HalfTinyBeforeS, SevenS};
+use crate::formats::{HalfTinyBeforeS, SevenS, TenS, WrittenBitS};
 use crate::rows::{AWAY, DOWN, EVEN, INEXACT, INVALID_OP, OK, UP, ZERO};
 use rustc_apfloat::ieee::{
     BFloatS, DoubleS, Float8E4M3FNS, Float8E4M3FNUZS, Float8E5M2S, HalfS, QuadS, Semantics,
@@ -331,6 +331,16 @@ static HALF_TINY_BEFORE: [Row; 7] = [
     (0x9fbf, 0x480f, EVEN, 0xc810, INEXACT),
 ];
 
+static WRITTEN_BIT: [Row; 2] = [
+    (0x1f14, 0x02e3, ZERO, 0x1f54, INVALID_OP),
+    (0x0003, 0x3efe, DOWN, 0x1efe, INEXACT),
+];
+
+static TEN: [Row; 2] = [
+    (0x211, 0x380, EVEN, 0x180, INEXACT),
+    (0x00f, 0x20f, UP, 0x01e, OK),
+];
+
 fn check<S: Semantics>(rt: &impl Abort, rows: &[Row])
     requires { S.PRECISION < S.BITS }
 {
@@ -354,4 +364,6 @@ fn differences(rt: HostRuntime) {
     check::<X87DoubleExtendedS>(&rt, &X87);
     check::<SevenS>(&rt, &SEVEN);
     check::<HalfTinyBeforeS>(&rt, &HALF_TINY_BEFORE);
+    check::<WrittenBitS>(&rt, &WRITTEN_BIT);
+    check::<TenS>(&rt, &TEN);
 }

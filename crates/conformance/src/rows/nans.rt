@@ -2,7 +2,7 @@
 
 ghost use Rattle.std.specs.Prelude.{◌<◌};
 
-use crate::formats::{HalfTinyBeforeS, SevenS};
+use crate::formats::{HalfTinyBeforeS, SevenS, TenS, WrittenBitS};
 use rustc_apfloat::Float;
 use rustc_apfloat::ieee::{
     BFloatS, DoubleS, Float8E4M3FNS, Float8E4M3FNUZS, Float8E5M2S, HalfS, IeeeFloat, QuadS,
@@ -210,6 +210,22 @@ static HALF_TINY_BEFORE: [Row; 12] = [
     (true, None, 0x7d00),
 ];
 
+static WRITTEN_BIT: [Row; 6] = [
+    (false, Some(0xe8d9a8cd091fbd1801435303b51896ba), 0x1ffa),
+    (false, Some(0x1), 0x1fc1),
+    (false, Some(0x0), 0x1fc0),
+    (true, Some(0x7bfec943829f8a55a1bcc33eb0c4116b), 0x1fab),
+    (true, None, 0x1fa0),
+    (true, Some(0xfb), 0x1fbb),
+];
+
+static TEN: [Row; 4] = [
+    (false, Some(0x108cf76bb05fda750f6b0bba93a60bed), 0x1ff),
+    (false, None, 0x1ff),
+    (true, Some(0x5501a6f8e6b43eda4066b28587bc1fa9), 0x1ff),
+    (true, None, 0x1ff),
+];
+
 fn check<S: Semantics>(rt: &impl Abort, rows: &[Row])
     requires { S.PRECISION < S.BITS }
 {
@@ -236,4 +252,6 @@ fn nans_of_payloads(rt: HostRuntime) {
     check::<X87DoubleExtendedS>(&rt, &X87);
     check::<SevenS>(&rt, &SEVEN);
     check::<HalfTinyBeforeS>(&rt, &HALF_TINY_BEFORE);
+    check::<WrittenBitS>(&rt, &WRITTEN_BIT);
+    check::<TenS>(&rt, &TEN);
 }

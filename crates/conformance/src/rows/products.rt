@@ -2,7 +2,7 @@
 
 ghost use Rattle.std.specs.Prelude.{◌<◌, ◌≤◌};
 
-use crate::formats::{HalfTinyBeforeS, SevenS};
+use crate::formats::{HalfTinyBeforeS, SevenS, TenS, WrittenBitS};
 use crate::rows::{
     AWAY, DOWN, EVEN, INEXACT, INVALID_OP, OK, OVERFLOW_INEXACT, UNDERFLOW_INEXACT, UP, ZERO,
 };
@@ -234,6 +234,16 @@ static HALF_TINY_BEFORE: [Row; 6] = [
     (0x287f, 0x96a9, ZERO, 0x83be, UNDERFLOW_INEXACT),
 ];
 
+static WRITTEN_BIT: [Row; 2] = [
+    (0x001a, 0x0fc8, EVEN, 0x0029, UNDERFLOW_INEXACT),
+    (0x3eca, 0x1795, AWAY, 0x3f80, OVERFLOW_INEXACT),
+];
+
+static TEN: [Row; 2] = [
+    (0x004, 0x0af, EVEN, 0x000, UNDERFLOW_INEXACT),
+    (0x0dd, 0x342, EVEN, 0x330, INEXACT),
+];
+
 fn check<S: Semantics>(rt: &impl Abort, rows: &[Row])
     requires written { S.PRECISION < S.BITS }
     requires short { S.PRECISION ≤ 64 }
@@ -257,4 +267,6 @@ fn products(rt: HostRuntime) {
     check::<X87DoubleExtendedS>(&rt, &X87);
     check::<SevenS>(&rt, &SEVEN);
     check::<HalfTinyBeforeS>(&rt, &HALF_TINY_BEFORE);
+    check::<WrittenBitS>(&rt, &WRITTEN_BIT);
+    check::<TenS>(&rt, &TEN);
 }

@@ -2,7 +2,7 @@
 
 ghost use Rattle.std.specs.Prelude.{◌<◌};
 
-use crate::formats::{HalfTinyBeforeS, SevenS};
+use crate::formats::{HalfTinyBeforeS, SevenS, TenS, WrittenBitS};
 use crate::rows::{
     AWAY, DIV_BY_ZERO, DOWN, EVEN, INEXACT, INVALID_OP, OK, OVERFLOW_INEXACT, UNDERFLOW_INEXACT,
     UP, ZERO,
@@ -347,6 +347,16 @@ static HALF_TINY_BEFORE: [Row; 7] = [
     (0xb801, 0xfd00, EVEN, 0xff00, INVALID_OP),
 ];
 
+static WRITTEN_BIT: [Row; 2] = [
+    (0x1f0a, 0x0c87, DOWN, 0x1f4a, INVALID_OP),
+    (0x07f3, 0x28e8, EVEN, 0x2e86, INEXACT),
+];
+
+static TEN: [Row; 2] = [
+    (0x0f7, 0x00e, UP, 0x1db, INEXACT),
+    (0x08f, 0x18f, DOWN, 0x004, OK),
+];
+
 fn check<S: Semantics>(rt: &impl Abort, rows: &[Row])
     requires { S.PRECISION < S.BITS }
 {
@@ -370,4 +380,6 @@ fn quotients(rt: HostRuntime) {
     check::<X87DoubleExtendedS>(&rt, &X87);
     check::<SevenS>(&rt, &SEVEN);
     check::<HalfTinyBeforeS>(&rt, &HALF_TINY_BEFORE);
+    check::<WrittenBitS>(&rt, &WRITTEN_BIT);
+    check::<TenS>(&rt, &TEN);
 }

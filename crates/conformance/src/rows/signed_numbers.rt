@@ -2,7 +2,7 @@
 
 ghost use Rattle.std.specs.Prelude.{◌<◌};
 
-use crate::formats::{HalfTinyBeforeS, SevenS};
+use crate::formats::{HalfTinyBeforeS, SevenS, TenS, WrittenBitS};
 use crate::rows::{AWAY, DOWN, EVEN, INEXACT, OK, OVERFLOW_INEXACT, UP, ZERO};
 use rustc_apfloat::ieee::{
     BFloatS, DoubleS, Float8E4M3FNS, Float8E4M3FNUZS, Float8E5M2S, HalfS, IeeeFloat, QuadS,
@@ -341,6 +341,21 @@ static HALF_TINY_BEFORE: [Row; 14] = [
     (-549621596159, DOWN, 0xfc00, OVERFLOW_INEXACT),
 ];
 
+static WRITTEN_BIT: [Row; 2] = [
+    (-32713, DOWN, 0x3e80, INEXACT),
+    (
+        -170141183460469231731687303715884105726,
+        EVEN,
+        0x3f80,
+        OVERFLOW_INEXACT,
+    ),
+];
+
+static TEN: [Row; 2] = [
+    (-315251973915934721, DOWN, 0x3ff, OVERFLOW_INEXACT),
+    (-16896, DOWN, 0x3d1, INEXACT),
+];
+
 fn check<S: Semantics>(rt: &impl Abort, rows: &[Row])
     requires { S.PRECISION < S.BITS }
 {
@@ -364,4 +379,6 @@ fn signed_numbers(rt: HostRuntime) {
     check::<X87DoubleExtendedS>(&rt, &X87);
     check::<SevenS>(&rt, &SEVEN);
     check::<HalfTinyBeforeS>(&rt, &HALF_TINY_BEFORE);
+    check::<WrittenBitS>(&rt, &WRITTEN_BIT);
+    check::<TenS>(&rt, &TEN);
 }

@@ -2,7 +2,7 @@
 
 ghost use Rattle.std.specs.Prelude.{◌<◌};
 
-use crate::formats::{HalfTinyBeforeS, SevenS};
+use crate::formats::{HalfTinyBeforeS, SevenS, TenS, WrittenBitS};
 use rustc_apfloat::Float;
 use rustc_apfloat::ieee::{
     BFloatS, DoubleS, Float8E4M3FNS, Float8E4M3FNUZS, Float8E5M2S, HalfS, IeeeFloat, QuadS,
@@ -312,6 +312,21 @@ static HALF_TINY_BEFORE: [Row; 5] = [
     (Call::WithSign, 0x3afa, 0xc060, 0xbafa),
 ];
 
+static WRITTEN_BIT: [Row; 4] = [
+    (Call::Negation, 0x2eff, 0, 0x0eff),
+    (Call::Negation, 0x3180, 0, 0x1180),
+    (Call::Magnitude, 0x0181, 0, 0x0181),
+    (Call::WithSign, 0x10ba, 0x0004, 0x10ba),
+];
+
+static TEN: [Row; 5] = [
+    (Call::Negation, 0x000, 0, 0x200),
+    (Call::Negation, 0x1e0, 0, 0x3e0),
+    (Call::Magnitude, 0x2e4, 0, 0x0e4),
+    (Call::WithSign, 0x20e, 0x002, 0x00e),
+    (Call::WithSign, 0x2df, 0x0df, 0x0df),
+];
+
 fn answer_of<S: Semantics>(call: Call, x: IeeeFloat<S>, sign: IeeeFloat<S>) -> IeeeFloat<S> {
     match call {
         Call::Negation => -x,
@@ -342,4 +357,6 @@ fn signs(rt: HostRuntime) {
     check::<X87DoubleExtendedS>(&rt, &X87);
     check::<SevenS>(&rt, &SEVEN);
     check::<HalfTinyBeforeS>(&rt, &HALF_TINY_BEFORE);
+    check::<WrittenBitS>(&rt, &WRITTEN_BIT);
+    check::<TenS>(&rt, &TEN);
 }

@@ -2,6 +2,7 @@
 
 ghost use Rattle.std.specs.Prelude.{◌<◌};
 
+use crate::formats::{TenS, WrittenBitS};
 use crate::rows::{AWAY, DOWN, EVEN, INEXACT, OK, OVERFLOW_INEXACT, UP, ZERO};
 use rustc_apfloat::ieee::{
     BFloatS, Float8E4M3FNS, Float8E4M3FNUZS, Float8E5M2S, IeeeFloat, QuadS, Semantics,
@@ -206,6 +207,16 @@ static X87: [Row; 11] = [
     ),
 ];
 
+static WRITTEN_BIT: [Row; 2] = [
+    (108292, EVEN, 0x1f80, OVERFLOW_INEXACT),
+    (7175, UP, 0x1be1, INEXACT),
+];
+
+static TEN: [Row; 2] = [
+    (24542453, AWAY, 0x1ff, OVERFLOW_INEXACT),
+    (505, DOWN, 0x17f, INEXACT),
+];
+
 fn check<S: Semantics>(rt: &impl Abort, rows: &[Row])
     requires { S.PRECISION < S.BITS }
 {
@@ -224,4 +235,6 @@ fn whole_numbers(rt: HostRuntime) {
     check::<Float8E4M3FNS>(&rt, &E4M3FN);
     check::<Float8E4M3FNUZS>(&rt, &E4M3FNUZ);
     check::<X87DoubleExtendedS>(&rt, &X87);
+    check::<WrittenBitS>(&rt, &WRITTEN_BIT);
+    check::<TenS>(&rt, &TEN);
 }
