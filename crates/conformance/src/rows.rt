@@ -18,6 +18,7 @@ mod long_texts;
 mod magnitudes;
 mod minima;
 mod nans;
+mod narrowest;
 mod nearest_remainders;
 mod neighbours;
 mod order;
