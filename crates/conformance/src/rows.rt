@@ -21,6 +21,7 @@ mod nans;
 mod narrowest;
 mod nearest_remainders;
 mod neighbours;
+mod operators;
 mod order;
 mod patterns;
 mod predicates;
