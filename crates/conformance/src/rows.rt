@@ -25,6 +25,7 @@ mod operators;
 mod order;
 mod patterns;
 mod predicates;
+mod prefixes;
 mod products;
 mod quotients;
 mod readings;
