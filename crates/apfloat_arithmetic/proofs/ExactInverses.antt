@@ -1,7 +1,7 @@
 -- Exact inverses of stored numbers.
-use Rattle.std.proofs.Common.{refl, sym, ap, subst, ◌∙◌, ◌≡◌, ℕ, ◌+◌, ◌-◌, ◌*◌, ◌^◌, ◌<◌, ◌≤◌, ℤ, pos, ◌+ℤ◌, ◌-ℤ◌, ◌≤ℤ◌, ◌<ℤ◌, to_z, of_z, w32, Bool, ⊎_elim, arith}
+use Rattle.std.proofs.Common.{refl, sym, ap, subst, ◌∙◌, ◌≡◌, ℕ, ◌+◌, ◌-◌, ◌*◌, ◌^◌, ◌<◌, ◌≤◌, ℤ, pos, ◌-ℤ◌, ◌≤ℤ◌, to_z, of_z, w32, Bool, ⊎_elim, arith}
 use Rattle.std.specs.Prelude.{neg_ℤ, unsigned_abs, Option, Some, None}
-use Rattle.std.proofs.Math.Nat.{mul-le-mul_left, mul-le-mul_right, mul-lt-mul_of_pos_right, pow-le-pow_right, eq_of_mul-eq-mul_right, lt_of_mul-lt-mul_right, mul-pos}
+use Rattle.std.proofs.Math.Nat.{mul-le-mul_left, mul-le-mul_right, mul-lt-mul_of_pos_right, pow-le-pow_right, mul-pos}
 use Rattle.std.proofs.lemmas.Nat.{pow_pos, pow-add}
 use Rattle.std.proofs.lemmas.Bool.{cases_lt}
 use Rattle.std.proofs.lemmas.Int.{ints, by_lt_z, to_z-of_z}
@@ -9,7 +9,7 @@ use borrow.Author.Differences.{fits_in}
 use Rattle.apfloat_base.specs.declared.kinds.NonfiniteBehavior.{NonfiniteBehavior}
 use Rattle.apfloat_base.specs.declared.kinds.NonfiniteBehavior.TheVariants.{IEEE754, NanOnly, NanNegativeZero}
 use Rattle.apfloat_base.specs.Exact.{up, down}
-use Rattle.apfloat_base.specs.Format.{largest, greatest_significand, smallest_normalized}
+use Rattle.apfloat_base.specs.Format.{largest, greatest_significand}
 use Rattle.apfloat_base.specs.Exponents.{AreInverse, IsExactInverse}
 use Rattle.apfloat_base.specs.Datum.{finite}
 use Rattle.apfloat_base.proofs.Existence.{two_pos}

@@ -1,12 +1,12 @@
 -- Fused sums with a product or an addend that is zero.
-use Rattle.std.proofs.Common.{◌≡◌, ℕ, ◌+ℤ◌, ◌*◌, ◌^◌, ◌<◌, ℤ, pos, Bool, true, false, refl, sym, ap, subst, ◌∙◌, arith}
+use Rattle.std.proofs.Common.{◌≡◌, ℕ, ◌+ℤ◌, ◌*◌, ◌^◌, ◌<◌, ℤ, pos, Bool, true, false, refl, ap, subst, ◌∙◌, arith}
 use Rattle.std.proofs.Math.Nat.{mul-pos}
 use Rattle.std.proofs.lemmas.Nat.{pow_pos}
 use Rattle.apfloat_base.specs.declared.kinds.Round.{Round}
 use Rattle.apfloat_base.specs.Datum.{Datum, finite}
 use Rattle.apfloat_base.specs.Format.{Format}
 use Rattle.apfloat_base.specs.Members.{IsFiniteOf}
-use Rattle.apfloat_base.specs.Exact.{product_sign, signed, sign_of, magnitude, IsRounded}
+use Rattle.apfloat_base.specs.Exact.{product_sign, signed, IsRounded}
 use Rattle.apfloat_base.specs.Rounding.{ok_bits, signed_quanta, IsDelivered}
 use Rattle.apfloat_base.specs.Sums.{zero_sum_sign}
 use Rattle.apfloat_base.specs.FusedSums.{IsFusedSum}

@@ -1,12 +1,12 @@
 -- Where a number stands beside the smallest one whose significand has all digits.
-use Rattle.std.proofs.Common.{refl, sym, subst, ◌≡◌, ℕ, ◌+◌, ◌-◌, ◌*◌, ◌^◌, ◌<◌, ◌≤◌, ℤ, pos, ◌-ℤ◌, ◌<ℤ◌, ◌≤ℤ◌, Bool, true, false, not, T, ◌∙◌, arith}
-use Rattle.std.specs.Prelude.{unsigned_abs, ltb, ◌&&◌}
+use Rattle.std.proofs.Common.{refl, sym, subst, ◌≡◌, ℕ, ◌-◌, ◌*◌, ◌^◌, ◌<◌, ◌≤◌, ℤ, ◌-ℤ◌, ◌<ℤ◌, ◌≤ℤ◌, Bool, true, false, not, T, arith}
+use Rattle.std.specs.Prelude.{unsigned_abs, ltb}
 use Rattle.std.specs.Int.Signed.{lt_z, lt_z_yes, lt_z_no}
 use Rattle.std.proofs.Math.Nat.{mul-le-mul_left}
 use Rattle.std.proofs.lemmas.Nat.{pow_pos}
 use Rattle.std.proofs.lemmas.Bool.{lt-ltb, le-ltb}
 use Rattle.std.proofs.lemmas.Int.{ints}
-use Rattle.apfloat_base.specs.Datum.{Datum, finite}
+use Rattle.apfloat_base.specs.Datum.{finite}
 use Rattle.apfloat_base.specs.Classes.{is_denormal}
 use Rattle.apfloat_base.specs.Format.{Format, smallest_normalized}
 use Rattle.apfloat_unpacked.specs.declared.shape.Shape.{Shape}

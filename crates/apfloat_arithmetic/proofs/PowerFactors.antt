@@ -3,7 +3,6 @@ use Rattle.std.proofs.Common.{refl, sym, ap, ◌∙◌, ◌≡◌, ℕ, zero, su
 use Rattle.std.proofs.Math.Nat.{div-add-mod', mod-lt, pow-le-pow_right}
 use Rattle.std.proofs.lemmas.Bool.{cases_lt}
 use Rattle.apfloat_base.proofs.Existence.{two_pos}
-use Rattle.apfloat_base.proofs.Losses.{twice_half}
 use Rattle.apfloat_base.proofs.Powers.{twice_power}
 
 pub record IsPower (n : ℕ) : Type 0 where

@@ -1,8 +1,8 @@
 -- The count of ones of a quotient is at most that of its digits, by the exponents of the operands.
-use Rattle.std.proofs.Common.{◌≡◌, ℕ, zero, suc, Bool, true, false, eqb, ◌+◌, ◌-◌, ◌*◌, ◌/◌, ◌^◌, ◌<◌, ◌≤◌, count_ones, refl, sym, ap, ◌∙◌, subst, ⊎_elim, arith, lit<, ℤ, pos, ◌+ℤ◌, ◌-ℤ◌, ◌≤ℤ◌}
+use Rattle.std.proofs.Common.{◌≡◌, ℕ, zero, suc, false, eqb, ◌+◌, ◌-◌, ◌*◌, ◌/◌, ◌^◌, ◌<◌, ◌≤◌, count_ones, ap, ◌∙◌, ⊎_elim, arith, lit<, ℤ, pos, ◌+ℤ◌, ◌-ℤ◌, ◌≤ℤ◌}
 use Rattle.std.proofs.lemmas.Int.{ints}
 use Rattle.std.proofs.lemmas.Bool.{ne_eqb, cases_lt}
-use Rattle.std.proofs.lemmas.Nat.{pow-add, pow_pos, ones-le}
+use Rattle.std.proofs.lemmas.Nat.{pow-add, ones-le}
 use Rattle.std.proofs.Math.Nat.{mul-le-mul_left, pow-le-pow_right, div-lt_iff_lt-mul, div-eq_of_lt}
 use Rattle.apfloat_base.specs.Format.{Format}
 use Rattle.apfloat_base.specs.Datum.{Datum, finite, infinite, nan}

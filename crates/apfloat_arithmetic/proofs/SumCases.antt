@@ -12,7 +12,7 @@ use Rattle.apfloat_base.specs.Negation.{negated}
 use Rattle.apfloat_base.specs.Exact.{signed}
 use Rattle.apfloat_base.specs.Rounding.{ok_bits}
 use Rattle.apfloat_base.specs.Sums.{IsSum, zero_sum_sign}
-use Rattle.apfloat_base.proofs.SumLaws.{number_rounded, zero_rounded, and_zero, zero_and}
+use Rattle.apfloat_base.proofs.SumLaws.{number_rounded, and_zero, zero_and}
 use Rattle.apfloat_unpacked.specs.declared.shape.Shape.{Shape}
 use Rattle.apfloat_unpacked.specs.declared.unpacked.Unpacked.{Unpacked}
 use Rattle.apfloat_unpacked.specs.Shapes.{format_at}

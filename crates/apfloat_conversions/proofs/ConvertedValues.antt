@@ -1,8 +1,8 @@
 -- Conversions by the category of the value, and NaNs' significands.
-use Rattle.std.proofs.Common.{◌≡◌, ℕ, Bool, true, false, eqb, ◌+◌, ◌-◌, ◌*◌, ◌/◌, ◌%◌, ◌^◌, ◌<◌, ◌≤◌, refl, sym, ap, ◌∙◌, subst, arith}
+use Rattle.std.proofs.Common.{◌≡◌, ℕ, Bool, true, false, ◌-◌, ◌*◌, ◌%◌, ◌^◌, ◌<◌, ◌≤◌, sym, subst, arith}
 use Rattle.std.proofs.lemmas.Bool.{ne_eqb}
 use Rattle.std.proofs.lemmas.Nat.{pow_pos}
-use Rattle.std.proofs.Math.Nat.{mod-eq_of_lt, pow-le-pow_right}
+use Rattle.std.proofs.Math.Nat.{mod-eq_of_lt}
 use Rattle.apfloat_base.specs.declared.kinds.Category.{Category}
 use Rattle.apfloat_base.specs.declared.kinds.Category.TheVariants.{Normal, Zero}
 use Rattle.apfloat_base.specs.declared.kinds.Round.{Round}
@@ -12,7 +12,6 @@ use Rattle.apfloat_base.specs.Datum.{Datum, finite}
 use Rattle.apfloat_base.specs.Rounding.{zero_sign}
 use Rattle.apfloat_base.specs.Members.{IsNanSignificand}
 use Rattle.apfloat_base.specs.Conversions.{IsConversion, IsConvertedNumber, IsKept, loses_zero_sign}
-use Rattle.apfloat_base.proofs.Existence.{two_pos}
 use Rattle.apfloat_base.proofs.Losses.{twice_half}
 use Rattle.apfloat_base.proofs.KeptDigits.{fits_shifted}
 use Rattle.apfloat_unpacked.specs.declared.shape.Shape.{Shape}

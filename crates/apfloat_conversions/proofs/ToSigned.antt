@@ -1,5 +1,5 @@
 -- Signed whole numbers out, by the unsigned one of the magnitude.
-use Rattle.std.proofs.Common.{◌≡◌, ◌≢◌, ℕ, ◌+◌, ◌-◌, ◌*◌, ◌/◌, ◌%◌, ◌^◌, ◌<◌, ◌≤◌, Bool, true, false, cond, not, ◌&&◌, eqb, sym, refl, ap, ◌∙◌, subst, ⊎_elim, arith, ℤ, pos, neg_ℤ, ◌≤ℤ◌, ◌<ℤ◌, int_lt, zero, suc}
+use Rattle.std.proofs.Common.{◌≡◌, ℕ, ◌+◌, ◌-◌, ◌*◌, ◌/◌, ◌%◌, ◌^◌, ◌<◌, ◌≤◌, Bool, true, false, cond, ◌&&◌, eqb, sym, refl, ap, ◌∙◌, subst, ⊎_elim, arith, ℤ, pos, neg_ℤ, ◌≤ℤ◌, int_lt}
 use Rattle.std.proofs.Math.Nat.{pow-le-pow_right}
 use Rattle.std.proofs.lemmas.Nat.{pow_pos}
 use Rattle.std.proofs.lemmas.Int.{ints}
@@ -17,7 +17,7 @@ use Rattle.apfloat_base.specs.Predicates.{is_zero_category}
 use Rattle.apfloat_base.specs.Negation.{swapped, negated, negated_nan, negated_zero}
 use Rattle.apfloat_base.specs.Rounding.{takes_above}
 use Rattle.apfloat_base.specs.WholeNumbers.{whole_pick, whole_quanta, inexact_unless}
-use Rattle.apfloat_base.specs.WholeNumbersOut.{IsToUnsigned, IsToSigned, IsWhole, Whole, ranged, exact_or_not, invalid_whole, whole_within}
+use Rattle.apfloat_base.specs.WholeNumbersOut.{IsToUnsigned, IsToSigned, IsWhole, Whole, ranged, exact_or_not, invalid_whole}
 use Rattle.apfloat_base.proofs.Existence.{two_pos}
 use Rattle.apfloat_base.proofs.Losses.{twice_half}
 use Rattle.apfloat_conversions.proofs.Limits.{less_so, less_not, ranged_in, ranged_out}

@@ -1,9 +1,8 @@
 -- The digits of a payload are read one by one.
-use Rattle.std.proofs.Common.{◌≡◌, ℕ, ◌+◌, ◌*◌, ◌^◌, ◌<◌, ◌≤◌, ◌==◌, Bool, true, false, not, ◌&&◌, ltb, if◌then◌else◌, List, [], ◌∷◌, length, fold, Option, Some, None, refl, ap, ◌∙◌, arith, lit<}
+use Rattle.std.proofs.Common.{◌≡◌, ℕ, ◌^◌, ◌<◌, ◌≤◌, Bool, true, false, ◌&&◌, ltb, if◌then◌else◌, List, [], ◌∷◌, length, fold, Option, Some, None, refl, ap, ◌∙◌, arith, lit<}
 use Rattle.std.proofs.lemmas.Bool.{le-ltb, lt-ltb, ltb-false, ltb-true}
-use Rattle.std.proofs.Math.Nat.{mul-le-mul_left}
-use Rattle.apfloat_base.specs.Digits.{every, is_empty, digit_value}
-use Rattle.apfloat_base.specs.Specials.{Radix, sixteen, eight, ten, is_digit_of, base_of, payload_of_digits}
+use Rattle.apfloat_base.specs.Digits.{every, is_empty}
+use Rattle.apfloat_base.specs.Specials.{Radix, sixteen, eight, ten, is_digit_of, payload_of_digits}
 use Rattle.apfloat_texts.specs.Payloads.{longer, next, read_on, IsPayloadRead}
 
 -- ---- one digit

@@ -1,5 +1,5 @@
 -- What was read of a text is what the model says of it.
-use Rattle.std.proofs.Common.{◌≡◌, ◌⊎◌, ℕ, ◌*◌, Bool, true, false, refl, sym, ap, ◌∙◌, subst, List, [], ◌∷◌, length, drop, ◌==◌, Option, Some, None, ℤ, pos, negsuc, neg_ℤ, ◌+ℤ◌, ◌-ℤ◌, ◌≤ℤ◌, ◌^◌, ◌<◌, ◌≤◌, arith, FitsSigned}
+use Rattle.std.proofs.Common.{◌≡◌, ℕ, ◌*◌, Bool, false, refl, sym, List, [], ◌∷◌, length, drop, ◌==◌, None, ℤ, pos, negsuc, neg_ℤ, ◌+ℤ◌, ◌-ℤ◌, ◌≤ℤ◌, ◌^◌, ◌<◌, ◌≤◌, arith, FitsSigned}
 use Rattle.std.proofs.lemmas.Int.{ints}
 use Rattle.std.specs.Int.{w128}
 use Rattle.apfloat_base.specs.declared.kinds.Round.{Round}
@@ -14,7 +14,7 @@ use Rattle.apfloat_unpacked.specs.declared.shape.Shape.{Shape}
 use Rattle.apfloat_unpacked.specs.declared.unpacked.Unpacked.{Unpacked}
 use Rattle.apfloat_unpacked.specs.Shapes.{format_at}
 use Rattle.apfloat_unpacked.specs.Stored.{IsStored, datum_at}
-use Rattle.apfloat_texts.specs.Scans.{IsKept, IsScanned}
+use Rattle.apfloat_texts.specs.Scans.{IsScanned}
 use Rattle.apfloat_texts.specs.Saturation.{fault_behind}
 use Rattle.apfloat_texts.specs.Literals.{IsLiteralRead}
 

@@ -1,11 +1,10 @@
 -- A significand is read to its end.
-use Rattle.std.proofs.Common.{◌≡◌, ℕ, ◌+◌, ◌-◌, ◌<◌, ◌≤◌, Bool, true, false, not, ◌&&◌, if◌then◌else◌, refl, sym, ap, ◌∙◌, subst, arith, List, [], ◌∷◌, length, take, drop, get_or, filter, ltb, cond}
+use Rattle.std.proofs.Common.{◌≡◌, ℕ, ◌+◌, ◌-◌, ◌<◌, ◌≤◌, Bool, true, false, not, ◌&&◌, if◌then◌else◌, refl, sym, ap, ◌∙◌, subst, arith, List, [], ◌∷◌, length, take, drop, get_or, ltb}
 use Rattle.std.proofs.lemmas.List.{take_all}
 use Rattle.std.specs.Prelude.{Result, Ok, Err, IsErrAnd, MatchResult}
 use Rattle.apfloat_base.specs.declared.sig.loss.Loss.{Loss}
-use Rattle.apfloat_base.specs.Digits.{begins, is_empty, is_hexadecimal}
-use Rattle.apfloat_base.specs.Texts.{is_dot, is_digit_or_dot, significand_of, behind_significand}
-use Rattle.apfloat_base.specs.Literals.{places_behind_dot}
+use Rattle.apfloat_base.specs.Digits.{begins}
+use Rattle.apfloat_base.specs.Texts.{is_digit_or_dot, significand_of, behind_significand}
 use Rattle.apfloat_texts.specs.Scans.{IsKept, IsScan, IsScanned}
 
 -- ---- lists

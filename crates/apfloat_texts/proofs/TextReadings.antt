@@ -1,16 +1,14 @@
 -- The reading of a text by its special or by its literal.
-use Rattle.std.proofs.Common.{◌≡◌, ℕ, Bool, true, false, refl, sym, ap, ◌∙◌, subst, List, [], ◌∷◌, drop, Option, Some, None}
+use Rattle.std.proofs.Common.{◌≡◌, ℕ, Bool, true, false, refl, sym, ◌∙◌, subst, List, drop, Some, None}
 use Rattle.std.specs.Prelude.{Result, Ok, Err, MatchResult}
 use Rattle.apfloat_base.specs.declared.kinds.Round.{Round}
 use Rattle.apfloat_base.specs.declared.status.StatusAnd.{StatusAnd}
 use Rattle.apfloat_base.specs.Flags.{bits_of}
-use Rattle.apfloat_base.specs.Format.{Format}
-use Rattle.apfloat_base.specs.Datum.{Datum}
 use Rattle.apfloat_base.specs.Digits.{is_empty}
 use Rattle.apfloat_base.specs.Specials.{hexadecimal, mark_of, behind_mark, is_minus, special_of}
 use Rattle.apfloat_base.specs.Texts.{Means, begins_literal, behind_prefix_fault, fault_of}
 use Rattle.apfloat_base.specs.Literals.{digits_number, places_behind_dot, exponent_text, exponent_number}
-use Rattle.apfloat_base.specs.Readings.{IsMeant, IsReading}
+use Rattle.apfloat_base.specs.Readings.{IsMeant}
 use Rattle.apfloat_base.proofs.LiteralMeanings.{literal_meaning}
 use Rattle.apfloat_unpacked.specs.declared.shape.Shape.{Shape}
 use Rattle.apfloat_unpacked.specs.declared.unpacked.Unpacked.{Unpacked}

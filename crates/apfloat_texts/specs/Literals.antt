@@ -1,10 +1,8 @@
 -- What is said of the number that stands behind the prefix of a text.
-use Rattle.std.specs.Prelude.{◌≡◌, ◌*◌, pos, ◌+ℤ◌, ◌-ℤ◌, ℕ, Bool, List, Option, Some, None, Result, MatchResult}
+use Rattle.std.specs.Prelude.{◌≡◌, ◌*◌, pos, ◌+ℤ◌, ◌-ℤ◌, ℕ, Bool, List, None}
 use Rattle.apfloat_base.specs.declared.kinds.Round.{Round}
 use Rattle.apfloat_base.specs.declared.status.StatusAnd.{StatusAnd}
 use Rattle.apfloat_base.specs.Flags.{bits_of}
-use Rattle.apfloat_base.specs.Format.{Format}
-use Rattle.apfloat_base.specs.Datum.{Datum}
 use Rattle.apfloat_base.specs.Texts.{behind_prefix_fault}
 use Rattle.apfloat_base.specs.Literals.{digits_number, places_behind_dot, exponent_text, exponent_number}
 use Rattle.apfloat_base.specs.Readings.{IsScaledDelivery}

@@ -1,21 +1,18 @@
 -- What is stored is a value of the format, of the category that it says.
-use Rattle.std.proofs.Common.{◌≡◌, ℕ, ◌+◌, ◌-◌, ◌*◌, ◌^◌, ◌<◌, ◌≤◌, ◌⊎◌, Bool, ℤ, pos, negsuc, ◌-ℤ◌, zero, suc, inl, inr, sym, refl, ap, ◌∙◌, subst, ⊎_elim, arith}
-use Rattle.std.proofs.lemmas.Int.{ints}
+use Rattle.std.proofs.Common.{◌≡◌, ℕ, ◌*◌, ◌^◌, ◌<◌, ◌≤◌, ◌⊎◌, ℤ, pos, negsuc, ◌-ℤ◌, inl, inr, sym, refl, ap, ◌∙◌, arith}
 use Rattle.std.proofs.lemmas.Nat.{pow_pos}
 use Rattle.std.proofs.lemmas.Bool.{ne_eqb}
 use Rattle.std.proofs.Math.Nat.{mul-le-mul_left}
 use Rattle.apfloat_base.specs.declared.kinds.Category.{Category}
 use Rattle.apfloat_base.specs.declared.kinds.Category.TheVariants.{Infinity, NaN, Normal, Zero}
 use Rattle.apfloat_base.specs.Exact.{up, down}
-use Rattle.apfloat_base.specs.Format.{largest}
 use Rattle.apfloat_base.specs.Grid.{IsOnGrid}
-use Rattle.apfloat_base.specs.Datum.{Datum}
 use Rattle.apfloat_base.specs.Classes.{category_of}
 use Rattle.apfloat_base.specs.Members.{IsMember}
 use Rattle.apfloat_unpacked.specs.declared.shape.Shape.{Shape}
 use Rattle.apfloat_unpacked.specs.declared.unpacked.Unpacked.{Unpacked}
-use Rattle.apfloat_unpacked.specs.Shapes.{IsShape, format_at}
-use Rattle.apfloat_unpacked.specs.Stored.{IsNormal, IsStored, IsStoredBy, datum_at, datum_by, quanta_at}
+use Rattle.apfloat_unpacked.specs.Shapes.{format_at}
+use Rattle.apfloat_unpacked.specs.Stored.{IsStored, IsStoredBy, datum_at, datum_by, quanta_at}
 use Rattle.apfloat_unpacked.specs.StoredBack.{quanta_some}
 
 category_by : (k : Category) (s : Shape) (x : Unpacked) → IsStoredBy k s x → category_of (datum_by k s x) ≡ k

@@ -1,11 +1,10 @@
 -- What is stored comes back from the datum that it stands for.
-use Rattle.std.specs.Prelude.{Bool, false, ◌≡◌, ℕ, ◌+◌, ◌-◌, ◌*◌, ◌/◌, ◌^◌, ◌<◌, ◌≤◌, ℤ, pos, ◌+ℤ◌, ◌-ℤ◌}
-use Rattle.std.proofs.Common.{arith, suc, zero, refl, sym, ap, ◌∙◌, eqb, ⊎_elim}
+use Rattle.std.specs.Prelude.{Bool, false, ◌≡◌, ℕ, ◌+◌, ◌-◌, ◌*◌, ◌/◌, ◌^◌, ◌<◌, ◌≤◌, ℤ, ◌-ℤ◌}
+use Rattle.std.proofs.Common.{arith, suc, zero, refl, sym, ap, ◌∙◌, eqb}
 use Rattle.std.proofs.lemmas.Int.{ints}
-use Rattle.std.proofs.lemmas.Nat.{leading_top, pow_pos, pow-add, shl-shr}
-use Rattle.std.proofs.lemmas.Bool.{ne_eqb, cases_order}
-use Rattle.std.proofs.Math.Nat.{two-pow-succ, mul-le-mul_right, mul-lt-mul_of_pos_right, le_of_mul-le-mul_right, lt_of_mul-lt-mul_right, eq_of_mul-eq-mul_right}
-use Rattle.std.proofs.Math.Pow.{pow_mono}
+use Rattle.std.proofs.lemmas.Nat.{pow_pos, pow-add, shl-shr}
+use Rattle.std.proofs.lemmas.Bool.{ne_eqb}
+use Rattle.std.proofs.Math.Nat.{mul-le-mul_right, mul-lt-mul_of_pos_right, le_of_mul-le-mul_right, lt_of_mul-lt-mul_right, eq_of_mul-eq-mul_right}
 use Rattle.apfloat_base.specs.declared.kinds.Category.{Category}
 use Rattle.apfloat_base.specs.declared.kinds.Category.TheVariants.{Infinity, NaN, Normal, Zero}
 use Rattle.apfloat_base.specs.Exact.{up, down}
@@ -14,7 +13,7 @@ use Rattle.apfloat_unpacked.specs.declared.shape.Shape.{Shape}
 use Rattle.apfloat_unpacked.specs.declared.unpacked.Unpacked.{Unpacked}
 use Rattle.apfloat_base.specs.Log.{log2}
 use Rattle.apfloat_base.proofs.Logarithms.{log2_is}
-use Rattle.apfloat_unpacked.specs.Stored.{IsOperandAt, IsQuantaAt, quanta_at, IsNormal, IsStored, IsStoredBy, datum_at, datum_by, unpacked_of, unpacked_number, exponent_at}
+use Rattle.apfloat_unpacked.specs.Stored.{quanta_at, IsNormal, IsStored, IsStoredBy, datum_at, datum_by, unpacked_of, unpacked_number, exponent_at}
 
 -- ---- a number: n * 2 ^ d is s * 2 ^ u, and s has all its digits
 

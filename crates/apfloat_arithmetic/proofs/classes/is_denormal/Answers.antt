@@ -1,6 +1,5 @@
 use Rattle.std.proofs.Common.{sym, subst, ◌≡◌, ◌∙◌}
 use Rattle.apfloat_base.specs.declared.kinds.Category.{Category}
-use Rattle.apfloat_base.specs.declared.kinds.Category.TheVariants.{Normal}
 use Rattle.apfloat_base.specs.Classes.{is_denormal}
 use Rattle.apfloat_unpacked.specs.Shapes.{format_at}
 use Rattle.apfloat_unpacked.specs.Stored.{IsStoredBy, IsNormal, quanta_at, datum_by}

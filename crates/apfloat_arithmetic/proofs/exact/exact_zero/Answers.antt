@@ -1,8 +1,5 @@
-use Rattle.std.proofs.Common.{◌≡◌, sym, ◌∙◌, ap, subst, ℕ}
-use Rattle.apfloat_base.specs.declared.status.Status.{Status}
-use Rattle.apfloat_base.specs.Datum.{Datum}
-use Rattle.apfloat_base.specs.Flags.{bits_of}
-use Rattle.apfloat_base.specs.Rounding.{ok_bits, signed_quanta, IsDelivered}
+use Rattle.std.proofs.Common.{◌≡◌, ◌∙◌, ap}
+use Rattle.apfloat_base.specs.Rounding.{signed_quanta}
 use Rattle.apfloat_unpacked.specs.Shapes.{format_at}
 use Rattle.apfloat_unpacked.specs.Stored.{datum_at}
 use Rattle.apfloat_arithmetic.proofs.ExactAnswers.{zero_delivered}

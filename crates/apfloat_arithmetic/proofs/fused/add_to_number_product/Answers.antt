@@ -1,4 +1,4 @@
-use Rattle.std.proofs.Common.{◌≡◌, ℕ, refl}
+use Rattle.std.proofs.Common.{refl}
 use Rattle.apfloat_base.specs.declared.kinds.Category.TheVariants.{Zero}
 use Rattle.apfloat_base.specs.Flags.{bits_of}
 use Rattle.apfloat_base.specs.Datum.{finite}

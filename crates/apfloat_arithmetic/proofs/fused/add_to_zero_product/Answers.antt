@@ -1,4 +1,4 @@
-use Rattle.std.proofs.Common.{◌≡◌, ◌∙◌, ℕ, Bool, refl, sym, ap}
+use Rattle.std.proofs.Common.{◌∙◌, Bool, refl, sym, ap}
 use Rattle.apfloat_base.specs.declared.kinds.Category.TheVariants.{Normal, Zero}
 use Rattle.apfloat_base.specs.Flags.{bits_of}
 use Rattle.apfloat_base.specs.Datum.{finite}

@@ -1,8 +1,7 @@
-use Rattle.std.proofs.Common.{◌≡◌, sym, subst, refl, pos, ◌-ℤ◌, to_z, of_z, w32, ℤ}
-use Rattle.std.specs.Prelude.{neg_ℤ, Option, Some, None}
+use Rattle.std.proofs.Common.{sym, subst}
+use Rattle.std.specs.Prelude.{neg_ℤ, Some, None}
 use Rattle.apfloat_base.specs.declared.kinds.Category.{Category}
-use Rattle.apfloat_base.specs.declared.kinds.Category.TheVariants.{Normal}
-use Rattle.apfloat_base.specs.Datum.{Datum, finite}
+use Rattle.apfloat_base.specs.Datum.{finite}
 use Rattle.apfloat_base.specs.Exponents.{IsExactInverse}
 use Rattle.apfloat_unpacked.specs.declared.unpacked.Unpacked.{Unpacked}
 use Rattle.apfloat_unpacked.specs.Shapes.{format_at}

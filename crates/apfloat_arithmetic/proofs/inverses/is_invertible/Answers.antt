@@ -1,7 +1,5 @@
-use Rattle.std.proofs.Common.{◌≡◌, ℕ, ◌-◌, ◌^◌, ◌≤ℤ◌, ◌-ℤ◌, pos, to_z, of_z, w32, ℤ, T, Bool, not, sym, subst, arith}
-use Rattle.std.specs.Prelude.{neg_ℤ}
-use lib.Signed.{le_z, le_z_yes, lt_z_no}
-use Rattle.std.proofs.lemmas.Int.{ints}
+use Rattle.std.proofs.Common.{T, Bool, not, sym, subst, arith}
+use lib.Signed.{le_z_yes, lt_z_no}
 use Rattle.apfloat_arithmetic.proofs.ProductExponents.{normal_near, min_exp_word, max_exp_word}
 use Rattle.apfloat_arithmetic.proofs.ExactInverses.{opposite_word}
 use Rattle.apfloat_arithmetic.proofs.inverses.is_invertible.Goals as goal

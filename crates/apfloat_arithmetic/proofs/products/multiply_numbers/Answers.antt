@@ -1,4 +1,4 @@
-use Rattle.std.proofs.Common.{◌≡◌, ◌*◌, ◌^◌, ℕ, Bool, ℤ, w32, to_z, of_z, sym, subst}
+use Rattle.std.proofs.Common.{◌≡◌, ◌*◌, ◌^◌, Bool, w32, to_z, of_z, subst}
 use Rattle.std.proofs.lemmas.Int.{to_z-of_z}
 use Rattle.std.proofs.lemmas.Nat.{pow_pos}
 use Rattle.apfloat_base.specs.Flags.{bits_of}

@@ -1,4 +1,4 @@
-use Rattle.std.proofs.Common.{◌≡◌, ◌<◌, ℕ, ap, subst}
+use Rattle.std.proofs.Common.{subst}
 use Rattle.apfloat_base.specs.declared.kinds.Category.{Category}
 use Rattle.apfloat_base.specs.declared.kinds.Category.TheVariants.{Normal, Zero}
 use Rattle.apfloat_base.specs.Datum.{Datum}

@@ -1,5 +1,4 @@
-use Rattle.std.proofs.Common.{◌≡◌, ◌<◌, ap, ◌∙◌}
-use Rattle.apfloat_unpacked.specs.Stored.{datum_at}
+use Rattle.std.proofs.Common.{◌∙◌}
 use Rattle.apfloat_unpacked.specs.StoredBack.{quanta_some}
 use Rattle.apfloat_arithmetic.proofs.NearestMultiples.{nearest_value}
 use Rattle.apfloat_arithmetic.proofs.remainders.nearest_number.Goals as goal

@@ -1,4 +1,4 @@
-use Rattle.std.proofs.Common.{◌≡◌, ℕ, ◌-◌, ◌*◌, ◌%◌, ◌^◌, count_ones, ap, ◌∙◌, ◌-ℤ◌}
+use Rattle.std.proofs.Common.{ℕ, ◌-◌, ◌%◌, ◌^◌, count_ones, ap, ◌∙◌, ◌-ℤ◌}
 use Rattle.std.proofs.lemmas.Nat.{pow_pos}
 use Rattle.apfloat_unpacked.specs.Stored.{quanta_at}
 use Rattle.apfloat_arithmetic.proofs.NearestMultiples.{operand_scaled, rest_in, quotient_in}

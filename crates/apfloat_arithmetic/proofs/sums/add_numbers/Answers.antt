@@ -1,4 +1,4 @@
-use Rattle.std.proofs.Common.{◌≡◌, ◌-◌, ◌*◌, ◌^◌, ◌≤◌, ◌+ℤ◌, ℤ, Bool, pos, subst, refl, to_z, of_z, w32, arith}
+use Rattle.std.proofs.Common.{◌≡◌, ◌-◌, ◌^◌, ◌≤◌, ◌+ℤ◌, Bool, pos, subst, refl, to_z, of_z, w32, arith}
 use Rattle.std.proofs.lemmas.Int.{ints}
 use Rattle.apfloat_base.specs.Exact.{signed, sign_of, magnitude}
 use Rattle.apfloat_base.specs.Flags.{bits_of}

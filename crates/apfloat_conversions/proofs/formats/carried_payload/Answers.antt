@@ -1,4 +1,4 @@
-use Rattle.std.proofs.Common.{◌≡◌, ◌-◌, ◌*◌, ◌%◌, ◌^◌, refl}
+use Rattle.std.proofs.Common.{refl}
 use Rattle.apfloat_conversions.proofs.ConvertedValues.{moved_in}
 use Rattle.apfloat_conversions.proofs.formats.carried_payload.Goals as goal
 

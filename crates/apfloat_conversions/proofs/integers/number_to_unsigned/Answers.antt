@@ -1,10 +1,8 @@
-use Rattle.std.proofs.Common.{◌<◌, ◌≤◌, ◌∙◌, subst, sym, ℕ, arith, ◌^◌}
-use Rattle.apfloat_base.specs.WholeNumbers.{whole_pick}
+use Rattle.std.proofs.Common.{◌≤◌, subst, ℕ, arith}
 use Rattle.apfloat_unpacked.specs.Shapes.{format_at}
 use Rattle.apfloat_unpacked.specs.Stored.{quanta_at}
 use Rattle.apfloat_unpacked.specs.StoredBack.{quanta_some}
-use Rattle.apfloat_conversions.specs.Wholes.{IsPicked}
-use Rattle.apfloat_conversions.proofs.Limits.{limit, in_range, outside, limit_small}
+use Rattle.apfloat_conversions.proofs.Limits.{limit, in_range}
 use Rattle.apfloat_conversions.proofs.integers.number_to_unsigned.Goals as goal
 
 pub returns-else-whole-limit-clause-whole : goal.returns-else-whole-limit-clause-whole

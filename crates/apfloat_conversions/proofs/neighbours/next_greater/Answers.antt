@@ -1,4 +1,4 @@
-use Rattle.std.proofs.Common.{◌≡◌, ◌+◌, ◌-◌, ◌^◌, ◌<◌, ◌≤◌, pos, ◌+ℤ◌, to_z, of_z, w32, arith, ◌∙◌, sym}
+use Rattle.std.proofs.Common.{◌≡◌, ◌+◌, to_z, of_z, w32, arith}
 use Rattle.std.proofs.lemmas.Int.{to_z-of_z}
 use Rattle.apfloat_unpacked.specs.Stored.{quanta_at}
 use Rattle.apfloat_conversions.proofs.Operands.{exponent_word}

@@ -1,9 +1,7 @@
-use Rattle.std.proofs.Common.{◌≡◌, ◌-◌, ◌*◌, ◌^◌, ◌<◌, ◌≤◌, ap, arith, sym, subst, negsuc, pos, ◌-ℤ◌, ◌≤ℤ◌, to_z, of_z, w32, refl}
-use Rattle.std.proofs.lemmas.Int.{ints, to_z-of_z}
-use Rattle.apfloat_base.specs.Standing.{up, down}
-use Rattle.apfloat_unpacked.specs.Shapes.{format_at, IsShape}
-use Rattle.apfloat_unpacked.specs.Stored.{quanta_at, IsNormal}
-use Rattle.apfloat_unpacked.specs.declared.shape.Shape.{Shape}
+use Rattle.std.proofs.Common.{◌≡◌, ◌*◌, ◌^◌, negsuc, ◌-ℤ◌, to_z, of_z, w32, refl}
+use Rattle.std.proofs.lemmas.Int.{to_z-of_z}
+use Rattle.apfloat_base.specs.Standing.{up}
+use Rattle.apfloat_unpacked.specs.Stored.{quanta_at}
 use Rattle.apfloat_unpacked.proofs.StoredNumbers.{quanta_is}
 use Rattle.apfloat_conversions.proofs.Operands.{exponent_word}
 use Rattle.apfloat_conversions.proofs.Fractions.{fraction_size, fraction_number}

@@ -1,5 +1,4 @@
-use Rattle.std.proofs.Common.{ℕ, ◌+◌, ◌*◌, ◌/◌, ◌^◌, ◌<◌, ◌≤◌, sym, ◌∙◌, refl, arith}
-use Rattle.std.proofs.lemmas.Nat.{pow_pos}
+use Rattle.std.proofs.Common.{◌*◌, sym, ◌∙◌, refl}
 use Rattle.apfloat_base.proofs.Points.{kept_moved, kept_stayed}
 use Rattle.apfloat_conversions.proofs.Wholes.{whole_at, exact_at, cut_whole_stands, cut_below}
 use Rattle.apfloat_conversions.proofs.whole.round_fraction.Goals as goal

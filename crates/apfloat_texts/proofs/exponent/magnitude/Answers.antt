@@ -1,4 +1,4 @@
-use Rattle.std.proofs.Common.{◌≡◌, List, ℕ, sym}
+use Rattle.std.proofs.Common.{List, ℕ, sym}
 use Rattle.apfloat_texts.specs.Saturation.{IsCounted}
 use Rattle.apfloat_texts.proofs.Scanning.{parted}
 use Rattle.apfloat_texts.proofs.Saturations.{count_goes}

@@ -1,4 +1,4 @@
-use Rattle.std.proofs.Common.{◌≡◌, ◌∙◌, List, ℕ, sym}
+use Rattle.std.proofs.Common.{◌∙◌, List, ℕ, sym}
 use Rattle.apfloat_texts.specs.Payloads.{radix_at, IsPayloadRead}
 use Rattle.apfloat_texts.proofs.Scanning.{parted}
 use Rattle.apfloat_texts.proofs.Payloads.{payload_stops, payload_goes}

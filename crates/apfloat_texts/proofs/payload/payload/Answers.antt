@@ -1,4 +1,4 @@
-use Rattle.std.proofs.Common.{◌≡◌, ◌∙◌, ap, sym, rules}
+use Rattle.std.proofs.Common.{◌∙◌, ap, sym, rules}
 use Rattle.apfloat_base.specs.Specials.{plain_payload}
 use Rattle.apfloat_texts.proofs.Parentheses.{inside_is, within, without_start, without_end, too_short}
 use Rattle.apfloat_texts.proofs.payload.payload.Goals as goal

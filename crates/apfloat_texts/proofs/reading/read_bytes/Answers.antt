@@ -1,4 +1,4 @@
-use Rattle.std.proofs.Common.{◌≡◌, ◌∙◌, List, ℕ, drop, sym, ap}
+use Rattle.std.proofs.Common.{◌∙◌, List, ℕ, drop, sym, ap}
 use Rattle.apfloat_base.specs.Flags.{bits_of}
 use Rattle.apfloat_base.specs.Digits.{is_empty}
 use Rattle.apfloat_base.specs.Specials.{is_minus}

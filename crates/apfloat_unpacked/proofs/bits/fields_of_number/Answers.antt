@@ -1,4 +1,4 @@
-use Rattle.std.proofs.Common.{Bool, true, false, ℕ, subst, ◌≡◌, ◌+◌, ◌-◌, ◌*◌, ◌/◌, ◌^◌, ◌≤◌, ◌<◌, sym, refl, arith, ℤ, pos, ◌-ℤ◌, cond, to_z, of_z, w32}
+use Rattle.std.proofs.Common.{Bool, true, false, ℕ, subst, ◌≡◌, ◌+◌, ◌-◌, ◌*◌, ◌^◌, ◌≤◌, refl, arith, ℤ, pos, ◌-ℤ◌, cond}
 use Rattle.std.proofs.lemmas.Int.{ints}
 use Rattle.apfloat_base.specs.Format.{smallest_normalized, largest}
 use Rattle.apfloat_base.specs.Datum.{finite}

@@ -1,14 +1,12 @@
-use Rattle.std.proofs.Common.{◌≡◌, ◌-◌, ◌^◌, ◌<◌, ◌∙◌, sym, refl, ap, subst, Bool, true, false, ℕ, cond, arith}
+use Rattle.std.proofs.Common.{◌≡◌, ◌-◌, refl, subst, Bool, true, false, ℕ, cond}
 use Rattle.std.proofs.lemmas.Nat.{pow_pos}
-use Rattle.apfloat_base.specs.Format.{smallest_normalized}
-use Rattle.apfloat_base.specs.Datum.{finite, infinite}
+use Rattle.apfloat_base.specs.Datum.{infinite}
 use Rattle.apfloat_base.specs.Interchange.{AreFieldsOf}
 use Rattle.apfloat_base.specs.Layout.{all_ones}
 use Rattle.apfloat_base.proofs.EncodedOnce.{fields_with}
 use Rattle.apfloat_base.proofs.FieldsOf.{low_fields_of, infinity_fields_of}
 use Rattle.apfloat_unpacked.specs.Shapes.{format_at}
 use Rattle.apfloat_unpacked.specs.Encoded.{layout_at}
-use Rattle.apfloat_unpacked.specs.Stored.{IsStoredBy}
 use Rattle.apfloat_unpacked.proofs.bits.fields_of_value.Goals as goal
 
 pub returns-in-Zero : goal.returns-in-Zero

@@ -1,4 +1,4 @@
-use Rattle.std.proofs.Common.{◌≡◌, ◌^◌, ◌<◌}
+use Rattle.std.proofs.Common.{◌^◌, ◌<◌}
 use Rattle.apfloat_base.proofs.EncodedOnce.{explicit_kind}
 use Rattle.apfloat_base.proofs.Ranges.{ieee_within}
 use Rattle.apfloat_unpacked.specs.Shapes.{format_at}

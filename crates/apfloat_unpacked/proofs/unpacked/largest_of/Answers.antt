@@ -1,4 +1,4 @@
-use Rattle.std.proofs.Common.{◌≡◌, ◌<◌, ◌-◌, ◌*◌, ◌^◌, refl, arith}
+use Rattle.std.proofs.Common.{◌<◌, ◌-◌, ◌*◌, ◌^◌, refl, arith}
 use Rattle.std.proofs.lemmas.Nat.{pow_pos}
 use Rattle.std.proofs.Math.Nat.{mul-pos}
 use Rattle.apfloat_base.proofs.Deliveries.{signed_some}

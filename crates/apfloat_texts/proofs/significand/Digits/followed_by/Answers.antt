@@ -1,6 +1,5 @@
-use Rattle.std.proofs.Common.{arith, ◌≡◌, ℕ, ◌+◌, ◌*◌, ◌^◌, ◌<◌, ◌≤◌}
+use Rattle.std.proofs.Common.{arith, ◌≡◌, ℕ, ◌<◌}
 use Rattle.apfloat_texts.proofs.KeptDigits.{with_first_cut, with_next_cut}
-use Rattle.apfloat_texts.specs.Scans.{IsKept}
 use Rattle.apfloat_texts.proofs.significand.Digits.followed_by.Goals as goal
 use Rattle.apfloat_texts.proofs.significand.Digits.followed_by.Goals.{then-self-eq0, else-self-eq0}
 
