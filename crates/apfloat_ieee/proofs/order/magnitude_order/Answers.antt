@@ -1,5 +1,3 @@
-use Rattle.std.proofs.Common.{sym, ◌∙◌}
-use Rattle.apfloat_unpacked.proofs.StoredMembers.{category_is}
 use Rattle.apfloat_ieee.specs.Types.{shape_of}
 use Rattle.apfloat_ieee.proofs.order.magnitude_order.Goals as goal
 
