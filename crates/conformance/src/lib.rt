@@ -1,6 +1,7 @@
-//! Tests of the library against outside values, through its public calls alone.
+//! What tests across crates need: formats of a user's own, and a plain slow program of one rounding, with which the
+//! kernel is compared.
 //!
-//! Beside them stand what they need: formats of a user's own, and a plain slow program of one rounding.
+//! Outside values stand as tables in the crates `conformance_arithmetic` and `conformance_conversions`.
 #![tactic(auto)]
 
 #[cfg(test)]
@@ -11,6 +12,5 @@ pub mod formats;
 #[cfg(test)]
 mod limits;
 pub mod plain;
-#[cfg(test)]
-mod rows;
-pub mod widest;
+pub mod tables;
+mod widest;

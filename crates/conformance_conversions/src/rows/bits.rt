@@ -1,0 +1,127 @@
+//! Bits to values and back.
+
+ghost use Rattle.std.specs.Prelude.{◌<◌};
+
+use conformance::formats::SevenS;
+use rustc_apfloat::ieee::{DoubleS, HalfS, IeeeFloat, Semantics, SingleS, X87DoubleExtendedS};
+use rustc_apfloat::{Category, Float};
+use std::process::Abort;
+
+/// How many bits of an interchange format are its biased exponent and its fraction.
+#[derive(Clone, Copy)]
+struct Fields {
+    exponent_bits: u32,
+    fraction_bits: u32,
+}
+
+const HALF: Fields = Fields {
+    exponent_bits: 5,
+    fraction_bits: 10,
+};
+
+const SINGLE: Fields = Fields {
+    exponent_bits: 8,
+    fraction_bits: 23,
+};
+
+const DOUBLE: Fields = Fields {
+    exponent_bits: 11,
+    fraction_bits: 52,
+};
+
+const SEVEN: Fields = Fields {
+    exponent_bits: 3,
+    fraction_bits: 3,
+};
+
+/// What the bits of a format with infinities stand for.
+fn category_of(fields: Fields, bits: u128) -> Category
+    requires exponent { fields.exponent_bits < 32 }
+    requires fraction { fields.fraction_bits < 64 }
+{
+    let fractions = 2u128.pow(fields.fraction_bits);
+    let exponents = 2u128.pow(fields.exponent_bits);
+    let exponent = bits / fractions % exponents;
+    match (exponent, bits % fractions) {
+        (0, 0) => Category::Zero,
+        (_, fraction) if exponent < exponents - 1 => Category::Normal,
+        (_, 0) => Category::Infinity,
+        (_, _) => Category::NaN,
+    }
+}
+
+/// The bits become a value of the category and the sign that stand in them, and come back from it. Whatever stands
+/// above them is not looked at.
+fn check<S: Semantics>(rt: &impl Abort, fields: Fields, bits: u128)
+    requires written { S.PRECISION < S.BITS }
+    requires exponent { fields.exponent_bits < 32 }
+    requires fraction { fields.fraction_bits < 64 }
+{
+    let x = S::from_bits(bits);
+    assert_eq!(rt; S::to_bits(x), bits);
+    assert_eq!(rt; x.category(), category_of(fields, bits), "{bits:x}");
+    let unsigned = fields.exponent_bits + fields.fraction_bits;
+    assert_eq!(rt; x.is_negative(), bits >= 1 << unsigned, "{bits:x}");
+    for above in [0, 1 << (unsigned + 1), u128::MAX << (unsigned + 1)] {
+        let same: IeeeFloat<S> = Float::from_bits(bits | above);
+        assert_eq!(rt; same.to_bits(), bits);
+    }
+}
+
+/// Every pattern of a small format.
+fn check_all<S: Semantics>(rt: &impl Abort, fields: Fields, patterns: u64)
+    requires written { S.PRECISION < S.BITS }
+    requires exponent { fields.exponent_bits < 32 }
+    requires fraction { fields.fraction_bits < 64 }
+{
+    for bits in 0..patterns {
+        check::<S>(rt, fields, u128::from(bits));
+    }
+}
+
+/// Fractions of one bit, and of all bits below it or from it on, beside these biased exponents.
+fn check_edges<S: Semantics>(rt: &impl Abort, fields: Fields, exponents: &[u128])
+    requires written { S.PRECISION < S.BITS }
+    requires exponent { fields.exponent_bits < 32 }
+    requires fraction { fields.fraction_bits < 64 }
+{
+    let sign = 1 << (fields.exponent_bits + fields.fraction_bits);
+    let all = 2u128.pow(fields.fraction_bits) - 1;
+    for exponent in exponents {
+        let positive = *exponent << fields.fraction_bits;
+        for place in 0..fields.fraction_bits {
+            let bit = 2u128.pow(place);
+            for fraction in [bit, bit - 1, all ^ (bit - 1)] {
+                check::<S>(rt, fields, positive | fraction);
+                check::<S>(rt, fields, sign | positive | fraction);
+            }
+        }
+    }
+}
+
+#[test]
+fn all_of_half(rt: HostRuntime) {
+    check_all::<HalfS>(&rt, HALF, 1 << 16);
+}
+
+#[test]
+fn all_of_seven(rt: HostRuntime) {
+    check_all::<SevenS>(&rt, SEVEN, 1 << 7);
+}
+
+#[test]
+fn edges_of_single(rt: HostRuntime) {
+    check_edges::<SingleS>(&rt, SINGLE, &[0, 1, 2, 126, 127, 128, 253, 254, 255]);
+}
+
+#[test]
+fn edges_of_double(rt: HostRuntime) {
+    check_edges::<DoubleS>(&rt, DOUBLE, &[0, 1, 2, 1022, 1023, 1024, 2045, 2046, 2047]);
+}
+
+/// A number without its integer bit is read as a NaN, and written with an exponent of all ones.
+#[test]
+fn number_without_its_integer_bit(rt: HostRuntime) {
+    let x = X87DoubleExtendedS::from_bits(0x3fff4000000000000000);
+    assert_eq!(rt; X87DoubleExtendedS::to_bits(x), 0x7fff4000000000000000);
+}
