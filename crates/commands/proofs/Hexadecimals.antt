@@ -1,0 +1,74 @@
+-- Hexadecimal digits written from the last one on.
+use Rattle.std.proofs.Common.{◌≡◌, ℕ, suc, zero, ◌+◌, ◌-◌, ◌*◌, ◌/◌, ◌%◌, ◌^◌, ◌<◌, ◌≤◌, List, ◌∷◌, length, take, drop, set, refl, sym, ap, ◌∙◌, arith, add-one, add-zero, add-suc, length-set, []}
+use Rattle.std.proofs.lemmas.List.{drop-set, take_all}
+use Rattle.std.proofs.Math.Nat.{div-div-eq-div-mul, div-one, pow-suc}
+use Rattle.std.proofs.Math.ListN.{drop_of_length-le}
+use Rattle.commands.specs.Replies.{hexadecimal_digit, hexadecimal_text}
+
+-- the last places of a text have their digits, and the rest is what stands above them
+pub record IsWrittenTo (number rest place : ℕ) (text : List ℕ) : Type 0 where
+  pub size : length text ≡ 32
+  pub rest_is : rest ≡ number / 16 ^ place
+  pub digits : drop (32 - place) text ≡ hexadecimal_text number place
+
+text_more : (number place : ℕ) → hexadecimal_text number (place + 1) ≡ hexadecimal_digit (number / 16 ^ place % 16) ∷ hexadecimal_text number place
+unfolding hexadecimal_text
+text_more number place = rw (add-one place) refl
+
+text_none : (number : ℕ) → hexadecimal_text number 0 ≡ []
+unfolding hexadecimal_text
+text_none number = refl
+
+rest_more : (number rest place : ℕ) → rest ≡ number / 16 ^ place → rest / 16 ≡ number / 16 ^ (place + 1)
+rest_more number rest place e =
+    let longer : 16 ^ place * 16 ≡ 16 ^ (place + 1) = rw (add-one place) (sym (pow-suc 16 place)) in
+    ap (λ n. n / 16) e ∙ div-div-eq-div-mul number (16 ^ place) 16 ∙ ap (λ n. number / n) longer
+
+pub write_none : (number : ℕ) (text : List ℕ) → length text ≡ 32 → IsWrittenTo number number 0 text
+write_none number text size = record {
+  size = size;
+  rest_is = sym (div-one number);
+  digits = (let short : length text ≤ 32 = omega arith in drop_of_length-le text short) ∙ sym (text_none number);
+}
+
+digits_more : (number rest place digit : ℕ) (text : List ℕ) → place < 32 → IsWrittenTo number rest place text
+    → digit ≡ hexadecimal_digit (rest % 16) → drop (32 - (place + 1)) (set text (31 - place) digit) ≡ hexadecimal_text number (place + 1)
+digits_more number rest place digit text within so_far digit_is =
+    let here : 32 - (place + 1) ≡ 31 - place = omega arith in
+    let behind : 31 - place + 1 ≡ 32 - place = omega arith in
+    let size = so_far.size in
+    let inside : 31 - place < length text = omega arith in
+    ap (λ n. drop n (set text (31 - place) digit)) here
+    ∙ drop-set text (31 - place) digit inside
+    ∙ ap (λ n. digit ∷ drop n text) behind
+    ∙ ap (λ l. digit ∷ l) so_far.digits
+    ∙ ap (λ d. d ∷ hexadecimal_text number place) (digit_is ∙ ap (λ n. hexadecimal_digit (n % 16)) so_far.rest_is)
+    ∙ sym (text_more number place)
+
+pub write_more : (number rest place digit : ℕ) (text : List ℕ) → place < 32 → IsWrittenTo number rest place text
+    → digit ≡ hexadecimal_digit (rest % 16) → IsWrittenTo number (rest / 16) (place + 1) (set text (31 - place) digit)
+write_more number rest place digit text within so_far digit_is = record {
+  size = length-set text _ _ ∙ so_far.size;
+  rest_is = rest_more number rest place so_far.rest_is;
+  digits = digits_more number rest place digit text within so_far digit_is;
+}
+
+text_drop : (number digits more : ℕ) → drop more (hexadecimal_text number (digits + more)) ≡ hexadecimal_text number digits
+unfolding hexadecimal_text
+text_drop number digits zero = rw (add-zero digits) refl
+text_drop number digits (suc more) = rw (add-suc digits more) (text_drop number digits more)
+
+length-text : (number digits : ℕ) → length (hexadecimal_text number digits) ≡ digits
+unfolding hexadecimal_text
+length-text number zero = refl
+length-text number (suc digits) = ap suc (length-text number digits)
+
+-- the last digits of all
+pub last_digits : (number digits : ℕ) (text : List ℕ) → digits ≤ 32 → text ≡ hexadecimal_text number 32
+    → take (32 - (32 - digits)) (drop (32 - digits) text) ≡ hexadecimal_text number digits
+last_digits number digits text within text_is =
+    let all : 32 ≡ digits + (32 - digits) = omega arith in
+    let dropped = ap (drop (32 - digits)) (text_is ∙ ap (hexadecimal_text number) all) ∙ text_drop number digits (32 - digits) in
+    let size = length-text number digits in
+    let whole : length (hexadecimal_text number digits) ≤ 32 - (32 - digits) = omega arith in
+    ap (take (32 - (32 - digits))) dropped ∙ take_all _ (hexadecimal_text number digits) whole

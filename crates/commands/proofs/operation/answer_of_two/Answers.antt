@@ -1,0 +1,21 @@
+use Rattle.std.proofs.Common.{rules}
+use Rattle.commands.proofs.operation.answer_of_two.Goals as goal
+
+pub returns-in-Sum : goal.returns-in-Sum
+returns-in-Sum g c = rw c.in-Sum.is c.add_r.ensures.sum
+
+pub returns-in-Difference : goal.returns-in-Difference
+returns-in-Difference g c = rw c.in-Difference.is c.sub_r.ensures.difference
+
+pub returns-in-Product : goal.returns-in-Product
+returns-in-Product g c = rw c.in-Product.is c.mul_r.ensures.product
+
+pub returns-in-Quotient : goal.returns-in-Quotient
+returns-in-Quotient g c = rw c.in-Quotient.is c.div_r.ensures
+
+pub returns-in-NearestRemainder : goal.returns-in-NearestRemainder
+returns-in-NearestRemainder g c = rw c.in-NearestRemainder.is c.ieee_rem.ensures
+
+-- it names no call: a body with another one is judged by what that one ensures
+pub returns-in-TruncatedRemainder : goal.returns-in-TruncatedRemainder
+returns-in-TruncatedRemainder g c = search rules

@@ -1,0 +1,147 @@
+-- What the program replies to a command, and how a reply is written.
+use Rattle.std.specs.Prelude.{◌≡◌, ℕ, zero, suc, ◌+◌, ◌/◌, ◌%◌, ◌^◌, Bool, not, ◌==◌, nat_lt, if◌then◌else◌, List, [], ◌∷◌, ◌++◌, filter, map, codes, Option, Result, Ok, Err}
+use Rattle.std.specs.List.{join_with_byte}
+use Rattle.std.specs.Int.RustNames.{bit_and}
+use Rattle.std.specs.Io.KnownBytes.{Appends}
+use Rattle.rustc_apfloat.specs.declared.Round.{Round}
+use Rattle.rustc_apfloat.specs.Flags.{bits_of}
+use Rattle.rustc_apfloat.specs.Format.{Format}
+use Rattle.rustc_apfloat.specs.Datum.{Datum}
+use Rattle.rustc_apfloat.specs.Sums.{IsSum, IsDifference}
+use Rattle.rustc_apfloat.specs.Products.{IsProduct}
+use Rattle.rustc_apfloat.specs.Quotients.{IsQuotient}
+use Rattle.rustc_apfloat.specs.FusedSums.{IsFusedSum}
+use Rattle.rustc_apfloat.specs.Remainders.{IsNearestRemainder, IsTruncatedRemainder}
+use Rattle.rustc_apfloat.specs.WholeNumbers.{IsFromUnsigned}
+use Rattle.rustc_apfloat.specs.Readings.{IsReading}
+use Rattle.rustc_apfloat.specs.Layout.{datum_of, IsEncodedBy}
+use Rattle.rustc_apfloat.specs.Lawful.{Constants, format_with, layout_with}
+use Rattle.commands.specs.declared.command.Reply as program
+use Rattle.commands.specs.declared.operation.Arithmetic.{Arithmetic}
+use Rattle.commands.specs.declared.operation.Arithmetic.TheVariants.{Sum, Difference, Product, Quotient, NearestRemainder, TruncatedRemainder}
+use Rattle.commands.specs.Commands.{Call, of_two, fused_sum, from_whole_number, from_text, Request, asked}
+
+-- bits with the number of their hexadecimal digits and the flags, or the word of a refusal
+pub data Reply : Type 0 where
+  line : ℕ → ℕ → ℕ → Reply
+  refused : List ℕ → Reply
+
+-- as the program's own type says it
+abbrev pub reply_of : program.Reply → Reply
+reply_of (program.TheVariants.Line bits digits status) = line bits digits (bits_of status)
+reply_of (program.TheVariants.Refused word) = refused word.now
+
+abbrev pub digit_count : Reply → ℕ
+digit_count (line bits digits status) = digits
+digit_count (refused word) = 0
+
+-- ---- the reply
+
+-- what an operation on two values answers
+abbrev pub IsOfTwo : Arithmetic → Format → Round → Datum → Datum → Datum → ℕ → Type 0
+IsOfTwo Sum f mode x y value status = IsSum f mode x y value status
+IsOfTwo Difference f mode x y value status = IsDifference f mode x y value status
+IsOfTwo Product f mode x y value status = IsProduct f mode x y value status
+IsOfTwo Quotient f mode x y value status = IsQuotient f mode x y value status
+IsOfTwo NearestRemainder f mode x y value status = IsNearestRemainder f x y value status
+IsOfTwo TruncatedRemainder f mode x y value status = IsTruncatedRemainder f x y value status
+
+-- the value that is written as bits
+abbrev pub value_of : Constants → ℕ → Datum
+value_of c bits = datum_of (format_with c) (layout_with c) bits
+
+-- what a call answers in a format
+abbrev pub IsAnswerOf : Call → Constants → Round → Datum → ℕ → Type 0
+IsAnswerOf (of_two arithmetic x y) c mode value status =
+    IsOfTwo arithmetic (format_with c) mode (value_of c x) (value_of c y) value status
+IsAnswerOf (fused_sum x y z) c mode value status =
+    IsFusedSum (format_with c) mode (value_of c x) (value_of c y) (value_of c z) value status
+IsAnswerOf (from_whole_number n) c mode value status = IsFromUnsigned (format_with c) mode n value status
+IsAnswerOf (from_text text) c mode value status = IsReading (format_with c) mode text value status
+
+-- the bits of a value of the format, and its status
+pub record IsLineOf (c : Constants) (value : Datum) (status : ℕ) (reply : Reply) : Type 0 where
+  pub bits : ℕ
+  pub is_encoded : IsEncodedBy (format_with c) (layout_with c) bits value
+  pub is : reply ≡ line bits (c.bits / 4) status
+
+-- the line of what is asked
+pub record IsAnswered (request : Request) (reply : Reply) : Type 0 where
+  pub value : Datum
+  pub status : ℕ
+  pub answers : IsAnswerOf request.call request.constants request.mode value status
+  pub is_line : IsLineOf request.constants value status reply
+
+abbrev pub IsReplyTo : Result Request (List ℕ) → Reply → Type 0
+IsReplyTo (Err word) reply = reply ≡ refused word
+IsReplyTo (Ok request) reply = IsAnswered request reply
+
+-- the reply to a command
+abbrev pub IsReply : List (List ℕ) → Reply → Type 0
+IsReply command reply = IsReplyTo (asked command) reply
+
+-- it holds of that reply and of no other one
+pub record IsOnly (Holds : Reply → Type 0) (reply : Reply) : Type 0 where
+  pub holds : Holds reply
+  pub only : (other : Reply) → Holds other → other ≡ reply
+
+-- ---- what is written
+
+-- 0 to 9, a to f
+abbrev pub hexadecimal_digit : ℕ → ℕ
+hexadecimal_digit d = if nat_lt d 10 then 48 + d else 87 + d
+
+-- so many last digits of a number
+unfoldable pub hexadecimal_text : ℕ → ℕ → List ℕ
+hexadecimal_text n zero = []
+hexadecimal_text n (suc place) = hexadecimal_digit (n / 16 ^ place % 16) ∷ hexadecimal_text n place
+
+-- the flags in the order of their bits (IEEE 754-2008 7.1)
+abbrev pub flags : List (List ℕ × ℕ)
+flags =
+    (codes "INVALID_OP", 1)
+    ∷ (codes "DIV_BY_ZERO", 2)
+    ∷ (codes "OVERFLOW", 4)
+    ∷ (codes "UNDERFLOW", 8)
+    ∷ (codes "INEXACT", 16)
+    ∷ []
+
+abbrev pub is_raised : ℕ → List ℕ × ℕ → Bool
+is_raised status flag = not (bit_and status flag.1 == 0)
+
+-- the names of the flags that a status has, of those in a table
+abbrev pub raised_names : ℕ → List (List ℕ × ℕ) → List (List ℕ)
+raised_names status table = map (λ (flag : List ℕ × ℕ). flag.0) (filter (is_raised status) table)
+
+abbrev pub bar : ℕ
+bar = 124
+
+abbrev pub status_text : ℕ → List ℕ
+status_text status = if status == 0 then codes "OK" else join_with_byte bar (raised_names status flags)
+
+abbrev pub line_text : ℕ → ℕ → ℕ → List ℕ
+line_text bits digits status = hexadecimal_text bits digits ++ codes " " ++ status_text status ++ codes "\n"
+
+abbrev pub refusal_text : List ℕ → List ℕ
+refusal_text word = codes "refused: " ++ word ++ codes "\n"
+
+-- to standard output, and to standard error
+abbrev pub written_out : Reply → List ℕ
+written_out (line bits digits status) = line_text bits digits status
+written_out (refused word) = []
+
+abbrev pub written_err : Reply → List ℕ
+written_err (line bits digits status) = []
+written_err (refused word) = refusal_text word
+
+abbrev pub exit_status : Reply → ℕ
+exit_status (line bits digits status) = 0
+exit_status (refused word) = 2
+
+-- what a run leaves where no write failed: the text of the only reply on its two writers, and the exit status
+pub record IsRun (command : List (List ℕ)) (out out' err err' : Option (List ℕ)) (status : ℕ) : Type 0 where
+  pub reply : Reply
+  pub is_reply : IsOnly (IsReply command) reply
+  pub wrote_out : Appends out out' (written_out reply)
+  pub wrote_err : Appends err err' (written_err reply)
+  pub status_is : status ≡ exit_status reply

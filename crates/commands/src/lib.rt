@@ -1,0 +1,21 @@
+//! Commands of one operation, `FORMAT OP MODE A [B [C]]`, and the replies to them: the bits and the flags of the
+//! answer, or the word of a refusal.
+//!
+//! - FORMAT: `half`, `single`, `double`, `quad`, `bfloat`, `e5m2`, `e4m3fn`, `e4m3fnuz` or `x87`.
+//! - OP: `add`, `sub`, `mul`, `div`, `rem` (by the nearest quotient), `mod` (by the quotient cut toward zero) of two
+//!   values; `fma` of three; `int`, a whole number in decimal digits; `parse`, the text of a value. A format of more than
+//!   64 digits has no `mul`, one of more than 63 no `fma`.
+//! - MODE: `even`, `up`, `down`, `zero` or `away`.
+//!
+//! A value is written by its bits: 1 to 32 hexadecimal digits, behind `0x` or without it.
+#![tactic(auto)]
+
+mod command;
+mod operation;
+mod output;
+#[cfg(test)]
+mod tests;
+mod words;
+
+pub use output::{refuse_memory, run, write_status};
+pub use words::{bits_of, mode_named, number_of};

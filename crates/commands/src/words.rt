@@ -1,0 +1,122 @@
+//! The words of a command: names, numbers, and bits.
+
+ghost use Rattle.std.specs.Prelude.{◌≡◌, Some, None, ◌+◌, ◌<◌, ◌*◌, ◌^◌, ◌&&◌, ◌≤◌, nat_lt, if◌then◌else◌, length};
+ghost use Rattle.std.specs.Option.{IfSome};
+ghost use Rattle.rustc_apfloat.specs.Digits.{digit_value, every, is_decimal, is_hexadecimal, number};
+ghost use Rattle.commands.specs.Commands.{bits_of_digits, bits_of_word, found, modes, operations, whole_number_of};
+
+use crate::operation::{Arithmetic, Operation};
+use rustc_apfloat::Round;
+
+/// The operation of this name.
+pub fn operation_named(word: &str) -> Option<Operation>
+    ensures { result ≡ found operations word.now }
+{
+    match word {
+        "add" => Some(Operation::OfTwo(Arithmetic::Sum)),
+        "sub" => Some(Operation::OfTwo(Arithmetic::Difference)),
+        "mul" => Some(Operation::OfTwo(Arithmetic::Product)),
+        "div" => Some(Operation::OfTwo(Arithmetic::Quotient)),
+        "rem" => Some(Operation::OfTwo(Arithmetic::NearestRemainder)),
+        "mod" => Some(Operation::OfTwo(Arithmetic::TruncatedRemainder)),
+        "fma" => Some(Operation::FusedSum),
+        "int" => Some(Operation::WholeNumber),
+        "parse" => Some(Operation::Text),
+        _ => None,
+    }
+}
+
+/// The rounding mode of this name.
+pub fn mode_named(word: &str) -> Option<Round>
+    ensures { result ≡ found modes word.now }
+{
+    match word {
+        "even" => Some(Round::NearestTiesToEven),
+        "up" => Some(Round::TowardPositive),
+        "down" => Some(Round::TowardNegative),
+        "zero" => Some(Round::TowardZero),
+        "away" => Some(Round::NearestTiesToAway),
+        _ => None,
+    }
+}
+
+/// The number that decimal digits stand for, if it is below 2^128.
+pub fn number_of(word: &str) -> Option<u128>
+    ensures { result ≡ whole_number_of word.now }
+{
+    if word.is_empty() {
+        return None;
+    }
+    let mut number = 0;
+    for byte in word.as_bytes() {
+        number = with_digit(number, *byte)?;
+    }
+    Some(number)
+}
+
+// A number with one more decimal digit behind it.
+fn with_digit(number: u128, byte: u8) -> Option<u128>
+    ensures { let longer = number * 10 + digit_value byte in
+        result ≡ (if is_decimal byte && nat_lt longer (2 ^ 128) then Some longer else None) }
+{
+    let digit = match byte {
+        b'0'..=b'9' => byte - b'0',
+        _ => return None,
+    };
+    number.checked_mul(10)?.checked_add(u128::from(digit))
+}
+
+/// The number that 1 to 32 hexadecimal digits stand for, behind `0x` or without it, if it is below `2^width`.
+pub fn bits_of(word: &str, width: usize) -> Option<u128>
+    ensures { result ≡ bits_of_word width word.now }
+{
+    let bytes = word.as_bytes();
+    bits_of_digits(bytes.strip_prefix(b"0x").unwrap_or(bytes), width)
+}
+
+// The number that hexadecimal digits stand for, if there are 1 to 32 of them and it is below `2^width`.
+fn bits_of_digits(digits: &[u8], width: usize) -> Option<u128>
+    ensures { result ≡ bits_of_digits width digits.now }
+{
+    if digits.is_empty() || digits.len() > 32 {
+        return None;
+    }
+    let bits = hexadecimal_number(digits)?;
+    if is_within(bits, width) {
+        Some(bits)
+    } else {
+        None
+    }
+}
+
+// The number that hexadecimal digits stand for.
+fn hexadecimal_number(digits: &[u8]) -> Option<u128>
+    requires { length digits.now ≤ 32 }
+    ensures { result ≡ (if every is_hexadecimal digits.now then Some (number 16 digits.now) else None) }
+{
+    let mut number = 0;
+    for byte in digits {
+        number = number * 16 + u128::from(hexadecimal_value(*byte)?);
+    }
+    Some(number)
+}
+
+// Whether a number is below `2^width`.
+fn is_within(number: u128, width: usize) -> bool
+    ensures { result ≡ nat_lt number (2 ^ width) }
+{
+    width >= 128 || number < 1 << width
+}
+
+// The value of a hexadecimal digit.
+fn hexadecimal_value(byte: u8) -> Option<u8>
+    ensures small { IfSome result (λ digit. digit < 16) }
+    ensures value { result ≡ (if is_hexadecimal byte then Some (digit_value byte) else None) }
+{
+    match byte {
+        b'0'..=b'9' => Some(byte - b'0'),
+        b'A'..=b'F' => Some(byte - b'A' + 10),
+        b'a'..=b'f' => Some(byte - b'a' + 10),
+        _ => None,
+    }
+}

@@ -1,8 +1,0 @@
-use Rattle.vectors.proofs.Once.{only_text, only_refusal}
-use Rattle.vectors.proofs.command.from_text.Goals as goal
-
-pub returns-in-Ok-clause-reply : goal.returns-in-Ok-clause-reply
-returns-in-Ok-clause-reply g c = only_text _ c.args.round c.args.text.now _ _ _ c.in-Ok.ensures c.line.ensures.line
-
-pub returns-in-Err-clause-reply : goal.returns-in-Err-clause-reply
-returns-in-Err-clause-reply g c = only_refusal _ c.args.round c.args.text.now _ c.in-Err.ensures

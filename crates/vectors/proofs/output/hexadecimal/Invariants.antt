@@ -1,5 +1,0 @@
-use Rattle.vectors.proofs.Hexadecimals.{IsWrittenTo}
-use Rattle.vectors.proofs.output.hexadecimal.Given as goal
-
-abbrev pub invariant-loop-place : goal.invariant-loop-place
-invariant-loop-place l = IsWrittenTo l.number l.rest l.place l.text

@@ -1,5 +1,0 @@
-use Rattle.vectors.proofs.HexadecimalNumbers.{IsReadTo}
-use Rattle.vectors.proofs.words.hexadecimal_number.Given as goal
-
-abbrev pub invariant-loop-byte : goal.invariant-loop-byte
-invariant-loop-byte l = IsReadTo l.digits l.number l.byte-index
