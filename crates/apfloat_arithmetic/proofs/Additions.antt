@@ -1,19 +1,19 @@
 -- The sum of two stored numbers, from the sum of their significands.
-use Rattle.std.proofs.Common.{◌≡◌, ℕ, zero, suc, ℤ, pos, negsuc, ◌+ℤ◌, ◌-ℤ◌, ◌≤ℤ◌, ◌+◌, ◌-◌, ◌*◌, ◌^◌, ◌<◌, ◌≤◌, ◌⊎◌, Bool, true, false, sym, refl, ap, ◌∙◌, subst, inl, inr, arith}
+use Rattle.std.proofs.Common.{◌≡◌, ℕ, zero, suc, ℤ, pos, negsuc, ◌+ℤ◌, ◌-ℤ◌, ◌≤ℤ◌, ◌+◌, ◌-◌, ◌*◌, ◌^◌, ◌<◌, ◌≤◌, ◌⊎◌, Bool, true, false, sym, refl, ap, ◌∙◌, subst, inl, inr, ⊎_elim, arith}
 use Rattle.std.specs.Prelude.{unsigned_abs}
 use Rattle.std.proofs.Math.Nat.{eq_of_mul-eq-mul_right, pow-le-pow_right}
 use Rattle.std.proofs.lemmas.Nat.{pow-add, pow_pos}
 use Rattle.std.proofs.lemmas.Int.{ints}
-use Rattle.std.proofs.lemmas.Bool.{false≢true}
 use Rattle.apfloat_base.specs.declared.sig.loss.Loss.{Loss}
-use Rattle.apfloat_base.specs.declared.sig.loss.Loss.TheVariants.{ExactlyZero, LessThanHalf, ExactlyHalf, MoreThanHalf}
+use Rattle.apfloat_base.specs.declared.sig.loss.Loss.TheVariants.{ExactlyZero}
 use Rattle.apfloat_base.specs.Exact.{up, down, signed, sign_of, magnitude}
 use Rattle.apfloat_base.specs.Standing.{StandsFor}
 use Rattle.apfloat_base.specs.Totals.{counted, StandsForSigned}
 use Rattle.apfloat_base.proofs.Existence.{two_pos}
 use Rattle.apfloat_base.proofs.Losses.{twice_half}
-use Rattle.apfloat_base.proofs.KeptDigits.{stands_cancel}
-use Rattle.apfloat_base.proofs.Totals.{stands_times, zero_stands, no_down}
+use Rattle.apfloat_base.proofs.Deliveries.{loss_cases}
+use Rattle.apfloat_base.proofs.KeptDigits.{stands_cancel, stands_times}
+use Rattle.apfloat_base.proofs.Totals.{zero_stands, no_down}
 use Rattle.apfloat_unpacked.specs.Stored.{IsQuantaAt}
 
 -- ---- a finer count of quanta
@@ -68,21 +68,6 @@ read_zero of_zero negative amount w (negsuc n) p q e = absurd (omega arith)
 
 -- ---- the sum of the significands, as a count of quanta
 
-abbrev loss_is_zero : Loss → Bool
-loss_is_zero ExactlyZero = true
-loss_is_zero LessThanHalf = false
-loss_is_zero ExactlyHalf = false
-loss_is_zero MoreThanHalf = false
-
-less_not_zero : LessThanHalf ≡ ExactlyZero → ⊥
-less_not_zero e = false≢true (ap loss_is_zero e)
-
-half_not_zero : ExactlyHalf ≡ ExactlyZero → ⊥
-half_not_zero e = false≢true (ap loss_is_zero e)
-
-more_not_zero : MoreThanHalf ≡ ExactlyZero → ⊥
-more_not_zero e = false≢true (ap loss_is_zero e)
-
 pub record IsRead (of_zero : Bool) (exact : ℤ) (negative : Bool) (unit : ℤ) (significand : ℕ) (loss : Loss) : Type 0 where
   pub stands : StandsFor significand loss (magnitude exact * 2 ^ down unit) (1 * 2 ^ up unit)
   pub zero_sign : significand ≡ 0 → loss ≡ ExactlyZero → of_zero ≡ sign_of of_zero exact
@@ -121,11 +106,12 @@ read_sum of_zero base e unit k m n s t negative q loss d h =
     }
 
 pub read_negative : (of_zero : Bool) (exact unit : ℤ) (negative answer : Bool) (significand : ℕ) (loss : Loss) → IsRead of_zero exact negative unit significand loss → (significand ≡ 0 → loss ≡ ExactlyZero → answer ≡ of_zero) → ((significand ≡ 0 → loss ≡ ExactlyZero → ⊥) → answer ≡ negative) → answer ≡ sign_of of_zero exact
-read_negative of_zero exact unit negative answer zero ExactlyZero r f g = f refl refl ∙ r.zero_sign refl refl
+read_negative of_zero exact unit negative answer zero loss r f g =
+    ⊎_elim
+    (λ (e : loss ≡ ExactlyZero). f refl e ∙ r.zero_sign refl e)
+    (λ (n : loss ≡ ExactlyZero → ⊥). let k : zero ≡ 0 → loss ≡ ExactlyZero → ⊥ = λ x y. n y in g k ∙ r.other_sign k)
+    (loss_cases loss)
 read_negative of_zero exact unit negative answer (suc n) loss r f g = let k = λ (x : suc n ≡ 0) (y : loss ≡ ExactlyZero). absurd (omega arith) in g k ∙ r.other_sign k
-read_negative of_zero exact unit negative answer zero LessThanHalf r f g = let k = λ (x : 0 ≡ 0) (y : LessThanHalf ≡ ExactlyZero). absurd (less_not_zero y) in g k ∙ r.other_sign k
-read_negative of_zero exact unit negative answer zero ExactlyHalf r f g = let k = λ (x : 0 ≡ 0) (y : ExactlyHalf ≡ ExactlyZero). absurd (half_not_zero y) in g k ∙ r.other_sign k
-read_negative of_zero exact unit negative answer zero MoreThanHalf r f g = let k = λ (x : 0 ≡ 0) (y : MoreThanHalf ≡ ExactlyZero). absurd (more_not_zero y) in g k ∙ r.other_sign k
 
 -- the two numbers and the sum of their terms
 pub sum_read : (of_zero : Bool) (precision scale : ℕ) (min xe ye tx ty e unit : ℤ) (s t negative : Bool) (mx my m n q : ℕ) (loss : Loss)

@@ -15,7 +15,7 @@ use Rattle.apfloat_base.proofs.Existence.{two_pos}
 use Rattle.apfloat_base.specs.declared.kinds.Category.{Category}
 use Rattle.apfloat_base.specs.declared.kinds.Category.TheVariants.{Infinity, NaN, Normal, Zero}
 use Rattle.apfloat_base.specs.Datum.{Datum, finite, infinite, nan}
-use Rattle.apfloat_base.specs.Exact.{same_sign}
+use Rattle.apfloat_base.specs.PredicatesAgree.{same_sign_is, same_sign_self}
 use Rattle.apfloat_base.specs.Classes.{is_nan, same_datum}
 use Rattle.apfloat_base.specs.Order.{number, compared}
 use Rattle.apfloat_unpacked.specs.declared.shape.Shape.{Shape}
@@ -185,16 +185,6 @@ by_sides (finite false (suc m)) (finite false (suc n)) r e f h = ap Some (h refl
 
 -- ---- sameness
 
-same_sign_is : (a b : Bool) → same_sign a b ≡ true → a ≡ b
-same_sign_is true true e = refl
-same_sign_is true false e = cc
-same_sign_is false true e = cc
-same_sign_is false false e = refl
-
-same_sign_of : (a : Bool) → same_sign a a ≡ true
-same_sign_of true = refl
-same_sign_of false = refl
-
 same_is : (x y : Datum) → same_datum x y ≡ true → x ≡ y
 same_is (finite a m) (finite b n) e =
     let p = and_parts _ _ e in
@@ -211,9 +201,9 @@ same_is (nan a s) (finite b n) e = cc
 same_is (nan a s) (infinite b) e = cc
 
 same_of : (x : Datum) → same_datum x x ≡ true
-same_of (finite a m) = rw (same_sign_of a, eq-eqb m m refl) refl
-same_of (infinite a) = same_sign_of a
-same_of (nan a s) = rw (same_sign_of a, eq-eqb s s refl) refl
+same_of (finite a m) = rw (same_sign_self a, eq-eqb m m refl) refl
+same_of (infinite a) = same_sign_self a
+same_of (nan a s) = rw (same_sign_self a, eq-eqb s s refl) refl
 
 off_by : (r : Bool) → (r ≡ true → ⊥) → false ≡ r
 off_by true h = absurd (h refl)

@@ -1,5 +1,5 @@
--- Zeros that are exact, and values by their categories.
-use Rattle.std.proofs.Common.{refl, sym, subst, ◌≡◌, ℕ, ◌*◌, ◌^◌, ◌<◌, Bool, arith}
+-- Products and quotients that are zero, and values by their categories.
+use Rattle.std.proofs.Common.{sym, subst, ◌≡◌, ℕ, ◌*◌, ◌^◌, ◌<◌, Bool, arith}
 use Rattle.std.proofs.lemmas.Nat.{pow_pos}
 use Rattle.std.proofs.lemmas.Bool.{ne_eqb}
 use Rattle.apfloat_base.specs.declared.kinds.Round.{Round}
@@ -9,18 +9,10 @@ use Rattle.apfloat_base.specs.Datum.{Datum, finite}
 use Rattle.apfloat_base.specs.Exact.{product_sign}
 use Rattle.apfloat_base.specs.Products.{IsProduct}
 use Rattle.apfloat_base.specs.Quotients.{IsQuotient}
-use Rattle.apfloat_base.specs.Grid.{IsOnGrid}
-use Rattle.apfloat_base.specs.Rounding.{ok_bits, signed_quanta, IsDelivered}
-use Rattle.apfloat_base.proofs.Laws.{exact_delivered}
+use Rattle.apfloat_base.specs.Rounding.{IsDelivered}
 use Rattle.apfloat_unpacked.specs.declared.shape.Shape.{Shape}
 use Rattle.apfloat_unpacked.specs.declared.unpacked.Unpacked.{Unpacked}
 use Rattle.apfloat_unpacked.specs.Stored.{datum_at, datum_by}
-
-pub zero_on_grid : (precision : ℕ) → IsOnGrid precision 0
-zero_on_grid precision = record { significand = 0; place = 0; fits = pow_pos precision; is = refl }
-
-pub zero_delivered : (f : Format) (mode : Round) (negative : Bool) (parts : ℕ) → 0 < parts → IsDelivered f mode negative 0 parts (signed_quanta f.nonfinite negative 0) ok_bits
-zero_delivered f mode negative parts p = exact_delivered f mode negative 0 0 parts p (zero_on_grid f.precision) (omega arith) (omega arith)
 
 -- what is said of two data is said of what two values stand for
 pub by_categories : (P : Datum → Datum → Type 0) (s : Shape) (x y : Unpacked) (k l : Category) → x.category ≡ k → y.category ≡ l → P (datum_by k s x) (datum_by l s y) → P (datum_at s x) (datum_at s y)

@@ -6,22 +6,21 @@ use Rattle.std.proofs.lemmas.Nat.{pow_pos, pow-add}
 use Rattle.std.proofs.lemmas.Bool.{cases_lt}
 use Rattle.std.proofs.lemmas.Int.{ints, by_lt_z, to_z-of_z}
 use borrow.Author.Differences.{fits_in}
-use Rattle.apfloat_base.specs.declared.kinds.NonfiniteBehavior.{NonfiniteBehavior}
-use Rattle.apfloat_base.specs.declared.kinds.NonfiniteBehavior.TheVariants.{IEEE754, NanOnly, NanNegativeZero}
 use Rattle.apfloat_base.specs.Exact.{up, down}
 use Rattle.apfloat_base.specs.Format.{largest, greatest_significand}
 use Rattle.apfloat_base.specs.Exponents.{AreInverse, IsExactInverse}
 use Rattle.apfloat_base.specs.Datum.{finite}
 use Rattle.apfloat_base.proofs.Existence.{two_pos}
-use Rattle.apfloat_base.proofs.Losses.{twice_half}
+use Rattle.apfloat_base.proofs.Greatest.{greatest_fits, greatest_full}
 use Rattle.apfloat_base.proofs.Powers.{pow3, pow22, twice_power}
 use Rattle.apfloat_unpacked.specs.declared.shape.Shape.{Shape}
 use Rattle.apfloat_unpacked.specs.declared.unpacked.Unpacked.{Unpacked}
 use Rattle.apfloat_unpacked.specs.Shapes.{IsShape, format_at}
 use Rattle.apfloat_unpacked.specs.Stored.{IsNormal, IsQuantaAt, quanta_at}
-use Rattle.apfloat_unpacked.proofs.StoredNumbers.{whole_is, quanta_is}
+use Rattle.apfloat_unpacked.proofs.ShapeExponents.{scale_is}
+use Rattle.apfloat_unpacked.proofs.StoredNumbers.{whole_is, quanta_is, above_zero}
 use Rattle.apfloat_arithmetic.specs.Inverses.{IsInvertible}
-use Rattle.apfloat_arithmetic.proofs.ProductExponents.{scale_is, normal_near}
+use Rattle.apfloat_arithmetic.proofs.ProductExponents.{normal_near}
 use Rattle.apfloat_arithmetic.proofs.PowerFactors.{factor_of_power, power_with_digits}
 use Rattle.apfloat_arithmetic.proofs.NumberClasses.{quanta_low_is}
 
@@ -29,30 +28,14 @@ use Rattle.apfloat_arithmetic.proofs.NumberClasses.{quanta_low_is}
 abbrev pub steps_of : Shape → ℤ → ℕ
 steps_of s e = unsigned_abs (e -ℤ s.min_exp)
 
-at_least_zero : (z : ℤ) (j : ℕ) → pos j ≡ z → (up z ≡ j) × (down z ≡ 0)
-at_least_zero z j e = rw (← e) (refl, refl)
-
 -- a significand at an exponent that is not below the least
 pub whole_from : (s : Shape) (m : ℕ) (e : ℤ) → s.min_exp ≤ℤ e → IsQuantaAt s.min_exp m e (m * 2 ^ steps_of s e)
 whole_from s m e l =
-    let a = at_least_zero (e -ℤ s.min_exp) (steps_of s e) (omega (arith, ints)) in
+    let a = above_zero (e -ℤ s.min_exp) (steps_of s e) (omega (arith, ints)) in
     rw (a.0, a.1) (omega arith)
 
 pub quanta_from : (s : Shape) (m : ℕ) (e : ℤ) → s.min_exp ≤ℤ e → quanta_at s.min_exp m e ≡ m * 2 ^ steps_of s e
 quanta_from s m e l = quanta_is s.min_exp m e (m * 2 ^ steps_of s e) (whole_from s m e l)
-
-greatest_by : (kind : NonfiniteBehavior) (precision : ℕ) → 2 * 2 ^ (precision - 1) ≡ 2 ^ precision → 2 ^ 2 ≤ 2 ^ (precision - 1) → 2 ^ (precision - 1) ≤ greatest_significand kind precision
-greatest_by IEEE754 precision t a = omega arith
-greatest_by NanOnly precision t a = omega arith
-greatest_by NanNegativeZero precision t a = omega arith
-
-greatest_full : (kind : NonfiniteBehavior) (precision : ℕ) → 3 ≤ precision → 2 ^ (precision - 1) ≤ greatest_significand kind precision
-greatest_full kind precision l =
-    let p : 0 < precision = omega arith in
-    let t : 2 * 2 ^ (precision - 1) ≡ 2 ^ precision = twice_half precision p in
-    let q : 2 ≤ precision - 1 = omega arith in
-    let a : 2 ^ 2 ≤ 2 ^ (precision - 1) = pow-le-pow_right two_pos q in
-    greatest_by kind precision t a
 
 pub power_within : (s : Shape) (e : ℤ) → IsShape s → s.min_exp ≤ℤ e → e ≤ℤ s.max_exp → 2 ^ (s.precision - 1) * 2 ^ steps_of s e ≤ largest (format_at s)
 power_within s e law l h =
@@ -151,11 +134,6 @@ long_inverse h j w i p span l e =
     let c : 2 ^ (w + w) ≡ 2 ^ w * 2 ^ w = pow-add 2 w w in
     let k : 2 ^ (w + w) < 2 ^ (h + j + (p + span)) = omega arith in
     least_power (w + w) (h + j + (p + span)) k
-
-greatest_fits : (kind : NonfiniteBehavior) (precision : ℕ) → greatest_significand kind precision < 2 ^ precision
-greatest_fits IEEE754 precision = let p : 0 < 2 ^ precision = pow_pos precision in omega arith
-greatest_fits NanOnly precision = let p : 0 < 2 ^ precision = pow_pos precision in omega arith
-greatest_fits NanNegativeZero precision = let p : 0 < 2 ^ precision = pow_pos precision in omega arith
 
 not_low : (s : Shape) (m i : ℕ) (e : ℤ) → IsShape s → IsNormal s m e → AreInverse (format_at s) (quanta_at s.min_exp m e) i → s.min_exp ≤ℤ e
 not_low s m i e law n h =

@@ -11,7 +11,9 @@ use Rattle.apfloat_base.specs.Rounding.{takes_above, signed_quanta}
 use Rattle.apfloat_base.specs.Remainders.{nearest_quotient, rest_of}
 use Rattle.apfloat_base.specs.Exact.{up, down}
 use Rattle.apfloat_base.proofs.Picks.{takes_less, takes_half, takes_more, cond_same}
-use Rattle.apfloat_arithmetic.proofs.WholeQuotients.{below_divisor, twice_power}
+use Rattle.apfloat_base.proofs.Powers.{twice_power}
+use Rattle.apfloat_base.proofs.Scaled.{less_scaled}
+use Rattle.apfloat_arithmetic.proofs.WholeQuotients.{below_divisor}
 
 -- whether the multiple above is the nearest
 abbrev pub upper : ℕ → ℕ → Bool → Bool
@@ -34,16 +36,10 @@ upper_scaled r s w odd p =
     (cases_lt s r))
     (cases_lt r s)
 
-pub difference_scaled : (d r w : ℕ) → r ≤ d → (d - r) * w ≡ d * w - r * w
-difference_scaled d r w l =
-    let e : (d - r) + r ≡ d = omega arith in
-    let f : ((d - r) + r) * w ≡ d * w = ap (λ (x : ℕ). x * w) e in
-    omega arith
-
-pub upper_level : (r d w s t : ℕ) (odd odd2 : Bool) → 0 < w → r ≤ d → r * w ≡ s → d * w ≡ t → odd ≡ odd2 → upper r (d - r) odd ≡ upper s (t - s) odd2
-upper_level r d w s t odd odd2 p l e f o =
+pub upper_level : (r d w s t : ℕ) (odd odd2 : Bool) → 0 < w → r * w ≡ s → d * w ≡ t → odd ≡ odd2 → upper r (d - r) odd ≡ upper s (t - s) odd2
+upper_level r d w s t odd odd2 p e f o =
     upper_scaled r (d - r) w odd p
-    ∙ ap (λ (x : ℕ). upper (r * w) x odd) (difference_scaled d r w l)
+    ∙ ap (λ (x : ℕ). upper (r * w) x odd) (less_scaled d r w)
     ∙ ap (λ (x : ℕ). upper x (d * w - x) odd) e
     ∙ ap (λ (x : ℕ). upper s (x - s) odd) f
     ∙ ap (λ (x : Bool). upper s (t - s) x) o
@@ -181,22 +177,18 @@ nearest_small false a b n p t e =
     omega arith
 
 -- the same choice and distance in other units
-pub past_in : (past : Bool) (x y a b w : ℕ) → 0 < w → 0 < b → x ≡ a * w → y ≡ b * w → past ≡ upper (x % y) (y - x % y) (eqb (x / y % 2) 1) → past ≡ upper (a % b) (b - a % b) (eqb (a / b % 2) 1)
-past_in past x y a b w p q e f h =
-    let l : a % b < b = mod-lt a q in
-    let m : a % b ≤ b = omega arith in
+pub past_in : (past : Bool) (x y a b w : ℕ) → 0 < w → x ≡ a * w → y ≡ b * w → past ≡ upper (x % y) (y - x % y) (eqb (x / y % 2) 1) → past ≡ upper (a % b) (b - a % b) (eqb (a / b % 2) 1)
+past_in past x y a b w p e f h =
     let r : a % b * w ≡ x % y = sym (rest_in x y a b w (x % y) p e f refl) in
     let o : eqb (a / b % 2) 1 ≡ eqb (x / y % 2) 1 = sym (ap (λ (z : ℕ). eqb (z % 2) 1) (quotient_in x y a b w p e f)) in
-    h ∙ sym (upper_level (a % b) b w (x % y) y (eqb (a / b % 2) 1) (eqb (x / y % 2) 1) p m r (sym f) o)
+    h ∙ sym (upper_level (a % b) b w (x % y) y (eqb (a / b % 2) 1) (eqb (x / y % 2) 1) p r (sym f) o)
 
-pub distance_in : (past : Bool) (x y a b w d : ℕ) → 0 < w → 0 < b → x ≡ a * w → y ≡ b * w → d ≡ cond past (y - x % y) (x % y) → d ≡ cond past (b - a % b) (a % b) * w
-distance_in true x y a b w d p q e f h =
-    let l : a % b < b = mod-lt a q in
-    let m : a % b ≤ b = omega arith in
+pub distance_in : (past : Bool) (x y a b w d : ℕ) → 0 < w → x ≡ a * w → y ≡ b * w → d ≡ cond past (y - x % y) (x % y) → d ≡ cond past (b - a % b) (a % b) * w
+distance_in true x y a b w d p e f h =
     let r : x % y ≡ a % b * w = rest_in x y a b w (x % y) p e f refl in
-    let k : (b - a % b) * w ≡ b * w - a % b * w = difference_scaled b (a % b) w m in
+    let k : (b - a % b) * w ≡ b * w - a % b * w = less_scaled b (a % b) w in
     omega arith
-distance_in false x y a b w d p q e f h = h ∙ rest_in x y a b w (x % y) p e f refl
+distance_in false x y a b w d p e f h = h ∙ rest_in x y a b w (x % y) p e f refl
 
 -- a point that is not above the divisor is at no higher place
 pub place_within : (precision s place b t high low : ℕ) → 0 < precision → (place ≡ 0) ⊎ (2 ^ (precision - 1) ≤ s) → s * 2 ^ place ≤ b → t < 2 ^ precision → b * 2 ^ low ≡ t * 2 ^ high → place ≤ high

@@ -1,10 +1,9 @@
 -- Products and quotients of stored numbers: their exponents, counted from the quantum's.
 use Rattle.std.proofs.Common.{◌≡◌, ℕ, ◌+◌, ◌-◌, ◌*◌, ◌^◌, ◌<◌, ◌≤◌, sym, ap, ◌∙◌, arith, ℤ, pos, ◌+ℤ◌, ◌-ℤ◌, ◌≤ℤ◌, to_z, of_z, w32}
 use Rattle.std.specs.Prelude.{neg_ℤ}
-use Rattle.std.proofs.lemmas.Int.{ints, to_z-of_z}
+use Rattle.std.proofs.lemmas.Int.{ints}
 use Rattle.std.proofs.Math.Nat.{pow-le-pow_right}
 use Rattle.std.proofs.lemmas.Nat.{pow_pos}
-use borrow.Author.Differences.{fits_in}
 use Rattle.apfloat_base.specs.declared.sig.loss.Loss.{Loss}
 use Rattle.apfloat_base.specs.Standing.{StandsFor, up, down}
 use Rattle.apfloat_base.proofs.Existence.{two_pos}
@@ -12,10 +11,7 @@ use Rattle.apfloat_base.proofs.Fractions.{product_stands, quotient_stands}
 use Rattle.apfloat_unpacked.specs.declared.shape.Shape.{Shape}
 use Rattle.apfloat_unpacked.specs.Shapes.{IsShape, format_at}
 use Rattle.apfloat_unpacked.specs.Stored.{IsNormal, quanta_at}
-
--- the quantum is 2 ^ -scale
-pub scale_is : (s : Shape) → IsShape s → pos (format_at s).scale ≡ pos (s.precision - 1) -ℤ s.min_exp
-scale_is s l = omega (arith, ints, l.precision_low, l.min_exp_high)
+use Rattle.apfloat_unpacked.proofs.ShapeExponents.{scale_is, exponent_word}
 
 -- the exponent of a number that is stored, with bounds
 pub record IsNear (e : ℤ) : Type 0 where
@@ -28,11 +24,7 @@ normal_near s m e l n =
     let o = n.operand in
     let near : e ≤ℤ pos 1048576 = omega (arith, ints, l.max_exp_high, o.greatest) in
     let far : neg_ℤ (pos 1048701) ≤ℤ e = omega (arith, ints, l.min_exp_low, l.precision_high, o.least) in
-    record {
-      near = near;
-      far = far;
-      word = to_z-of_z w32 e (fits_in w32 e (omega (arith, ints)));
-    }
+    record { near = near; far = far; word = exponent_word s m e l n }
 
 -- a significand of at most 64 digits
 pub short_fits : (precision m : ℕ) → precision ≤ 64 → m < 2 ^ precision → m < 2 ^ 64
@@ -67,9 +59,3 @@ quotient_is s x y r places q loss m n l hx hy e h =
 
 pub normal_some : (s : Shape) (m : ℕ) (e : ℤ) → IsNormal s m e → 0 < m
 normal_some s m e n = let p : 0 < 2 ^ (s.precision - 1) = pow_pos (s.precision - 1) in let f = n.operand.full in omega arith
-
-pub min_exp_word : (s : Shape) → IsShape s → to_z w32 (of_z w32 s.min_exp) ≡ s.min_exp
-min_exp_word s l = to_z-of_z w32 s.min_exp (fits_in w32 s.min_exp (omega (arith, ints, l.min_exp_low, l.min_exp_high)))
-
-pub max_exp_word : (s : Shape) → IsShape s → to_z w32 (of_z w32 s.max_exp) ≡ s.max_exp
-max_exp_word s l = to_z-of_z w32 s.max_exp (fits_in w32 s.max_exp (omega (arith, ints, l.max_exp_low, l.max_exp_high)))

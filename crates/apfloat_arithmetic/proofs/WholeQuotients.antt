@@ -4,9 +4,7 @@ use lib.Count.{ones, ones_in}
 use Rattle.std.proofs.Math.Nat.{mul-le-mul_right, mul-le-mul_left, mul-lt-mul_of_pos_right, pow-le-pow_right, div-lt_iff_lt-mul, mod-eq_of_lt, div-eq_of_lt, mul-pos, add-mul-div_right, add-mul-mod_self_right}
 use Rattle.std.proofs.lemmas.Nat.{pow-add, pow_pos, ones_cat, ones-le}
 use Rattle.apfloat_base.proofs.Existence.{two_pos}
-
-pub twice_power : (n : ℕ) → 2 ^ (n + 1) ≡ 2 * 2 ^ n
-twice_power n = let e : 2 ^ (n + 1) ≡ 2 ^ n * 2 = pow-add 2 n 1 in omega arith
+use Rattle.apfloat_base.proofs.Powers.{twice_power}
 
 -- r less 2 ^ k times the divisor d is s
 pub record IsTurn (d r s k : ℕ) : Type 0 where
@@ -98,10 +96,6 @@ one_lower r t p z l =
     let g : 2 * r - t + t ≡ 2 * r = omega arith in
     let h : (2 * r - t + t) * 2 ^ (p - 1) ≡ 2 * r * 2 ^ (p - 1) = ap (λ (x : ℕ). x * 2 ^ (p - 1)) g in
     omega arith
-
--- twice half of the powers
-pub whole_power : (precision : ℕ) → 0 < precision → 2 ^ precision ≡ 2 * 2 ^ (precision - 1)
-whole_power precision z = let w : precision ≡ (precision - 1) + 1 = omega arith in ap (λ (x : ℕ). 2 ^ x) w ∙ twice_power (precision - 1)
 
 pub turn_less : (d r s k : ℕ) → 0 < d → IsTurn d r s k → s < r
 turn_less d r s k p t =

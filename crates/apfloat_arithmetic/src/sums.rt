@@ -1,6 +1,6 @@
 //! Sums and differences, rounded once (IEEE 754-2008 5.4.1, 6.1, 6.3).
 
-ghost use Rattle.std.specs.Prelude.{◌≡◌, pos, ◌+ℤ◌, ◌-ℤ◌, ◌≤ℤ◌};
+ghost use Rattle.std.specs.Prelude.{◌≡◌, pos, ◌+ℤ◌};
 ghost use Rattle.apfloat_base.specs.Exact.{signed, IsRounded};
 ghost use Rattle.apfloat_base.specs.Flags.{bits_of};
 ghost use Rattle.apfloat_base.specs.Datum.{finite, infinite};
@@ -11,22 +11,11 @@ ghost use Rattle.apfloat_unpacked.specs.Stored.{IsNormal, IsStored, datum_at, qu
 
 use crate::signs::negated;
 use apfloat_base::sig::{Loss, Term, Total, add_terms, is_zero};
-use apfloat_base::{Category, ExpInt, Round, Status, StatusAnd};
+use apfloat_base::{Category, Round, Status, StatusAnd};
 use apfloat_unpacked::nans::{invalid, propagated, propagated_left};
 use apfloat_unpacked::normalize::deliver;
-use apfloat_unpacked::shape::Shape;
+use apfloat_unpacked::shape::{Shape, last_exponent};
 use apfloat_unpacked::unpacked::{Unpacked, zero_of};
-
-/// The exponent of a number's last digit.
-#[inline]
-fn last_exponent(shape: Shape, exponent: ExpInt) -> ExpInt
-    requires lawful { IsShape shape }
-    requires least { ((shape.min_exp +ℤ pos 1) -ℤ pos shape.precision) ≤ℤ exponent }
-    requires greatest { exponent ≤ℤ shape.max_exp }
-    ensures { (result +ℤ pos shape.precision) ≡ (exponent +ℤ pos 1) }
-{
-    exponent - (shape.precision as ExpInt - 1)
-}
 
 /// The number, by the exponent of its last digit.
 #[inline]

@@ -45,9 +45,6 @@ lawful_interchange c law wide =
 
 -- ---- fields of bits, and bits of fields
 
-bit_of : Bool → ℕ
-bit_of b = cond b 1 0
-
 one_bit : (b : Bool) → eqb (cond b 1 0 % 2) 1 ≡ b
 one_bit true = refl
 one_bit false = refl

@@ -1,5 +1,5 @@
 -- A finite datum whose number is one of the other format too comes through as it is.
-use Rattle.std.proofs.Common.{◌≡◌, ℕ, Bool, true, false, not, eqb, zero, suc, ◌*◌, ◌^◌, ◌<◌, refl, sym, ap, ◌∙◌, arith}
+use Rattle.std.proofs.Common.{◌≡◌, ℕ, Bool, false, not, eqb, zero, suc, ◌*◌, ◌^◌, ◌<◌, refl, sym, ap, ◌∙◌, arith}
 use Rattle.std.proofs.lemmas.Bool.{ne_eqb}
 use Rattle.std.proofs.lemmas.Nat.{pow_pos}
 use Rattle.std.proofs.Math.Nat.{mul-pos}
@@ -8,14 +8,10 @@ use Rattle.apfloat_base.specs.Format.{Format}
 use Rattle.apfloat_base.specs.Datum.{Datum, finite, infinite, nan}
 use Rattle.apfloat_base.specs.Rounding.{ok_bits, zero_sign, signed_quanta}
 use Rattle.apfloat_base.specs.Members.{IsFiniteOf}
-use Rattle.apfloat_base.specs.Exact.{same_sign}
 use Rattle.apfloat_base.specs.Conversions.{IsConversion, IsConverted, IsConvertedNumber, IsExactlyConverted, loses_zero_sign, IsKept}
+use Rattle.apfloat_base.specs.PredicatesAgree.{same_sign_self}
 use Rattle.apfloat_base.proofs.Deliveries.{signed_some}
 use Rattle.apfloat_base.proofs.Laws.{exact_delivered, delivered_once}
-
-same_itself : (b : Bool) → same_sign b b ≡ true
-same_itself true = refl
-same_itself false = refl
 
 -- neither number is zero where the other is not
 both_some : (m n p q : ℕ) → n * 2 ^ p ≡ m * 2 ^ q → 0 < m → 0 < n
@@ -39,7 +35,7 @@ number_exactly f g mode b m n value status loses_info l e t h =
 zero_exactly : (g : Format) (b : Bool) (value : Datum) (status : ℕ) (loses_info : Bool) → b ≡ zero_sign g.nonfinite b
     → IsKept (finite (zero_sign g.nonfinite b) 0) (loses_zero_sign g b) value status loses_info → IsConverted (finite b 0) ok_bits false value status loses_info
 zero_exactly g b value status loses_info z h =
-    let k : loses_zero_sign g b ≡ false = rw (← z) (ap not (same_itself b)) in
+    let k : loses_zero_sign g b ≡ false = rw (← z) (ap not (same_sign_self b)) in
     let r = rw k at h in
     record { value_is = r.value_is ∙ ap (λ (s : Bool). finite s 0) (sym z); status_is = r.status_is; loses_is = r.loses_is }
 

@@ -5,8 +5,6 @@ use Rattle.std.proofs.lemmas.Nat.{pow-add, pow_pos}
 use Rattle.std.proofs.lemmas.Bool.{lt-ltb, ne_eqb}
 use Rattle.apfloat_base.specs.declared.kinds.Round.{Round}
 use Rattle.apfloat_base.specs.declared.sig.loss.Loss.TheVariants.{LessThanHalf}
-use Rattle.apfloat_base.specs.declared.kinds.NonfiniteBehavior.{NonfiniteBehavior}
-use Rattle.apfloat_base.specs.declared.kinds.NonfiniteBehavior.TheVariants.{IEEE754, NanOnly, NanNegativeZero}
 use Rattle.apfloat_base.specs.Format.{Format, largest, greatest_significand, smallest_normalized}
 use Rattle.apfloat_base.specs.Datum.{Datum}
 use Rattle.apfloat_base.specs.Grid.{IsOnGrid}
@@ -14,6 +12,7 @@ use Rattle.apfloat_base.specs.Rounding.{IsPick, IsDelivered, delivered_value, de
 use Rattle.apfloat_base.specs.Enclosure.{IsEnclosed, rounds_up}
 use Rattle.apfloat_base.proofs.Losses.{twice_half}
 use Rattle.apfloat_base.proofs.Existence.{two_pos}
+use Rattle.apfloat_base.proofs.Greatest.{greatest_fits, greatest_half}
 use Rattle.apfloat_base.proofs.Picks.{kept, pick_is, pick_unique}
 use Rattle.apfloat_base.proofs.Laws.{pick_within, delivered_exists}
 
@@ -29,15 +28,10 @@ pub record IsFarBelow (amount parts : ℕ) : Type 0 where
 
 -- ---- above
 
-pub greatest_fits : (kind : NonfiniteBehavior) (precision : ℕ) → 0 < precision → greatest_significand kind precision < 2 ^ precision
-greatest_fits IEEE754 precision h = let p : 0 < 2 ^ precision = pow_pos precision in omega arith
-greatest_fits NanOnly precision h = let p : 0 < 2 ^ precision = pow_pos precision in omega arith
-greatest_fits NanNegativeZero precision h = let p : 0 < 2 ^ precision = pow_pos precision in omega arith
-
-pub largest_below : (f : Format) → 0 < f.precision → largest f < 2 ^ (f.precision + f.span)
-largest_below f h =
+pub largest_below : (f : Format) → largest f < 2 ^ (f.precision + f.span)
+largest_below f =
     let e : 2 ^ (f.precision + f.span) ≡ 2 ^ f.precision * 2 ^ f.span = pow-add 2 f.precision f.span in
-    let a : greatest_significand f.nonfinite f.precision * 2 ^ f.span < 2 ^ f.precision * 2 ^ f.span = mul-lt-mul_of_pos_right (greatest_fits f.nonfinite f.precision h) (pow_pos f.span) in
+    let a : greatest_significand f.nonfinite f.precision * 2 ^ f.span < 2 ^ f.precision * 2 ^ f.span = mul-lt-mul_of_pos_right (greatest_fits f.nonfinite f.precision) (pow_pos f.span) in
     subst (λ (x : ℕ). greatest_significand f.nonfinite f.precision * 2 ^ f.span < x) (sym e) a
 
 power_on_grid : (precision k : ℕ) → 0 < precision → IsOnGrid precision (2 ^ k)
@@ -49,7 +43,7 @@ power_on_grid precision k h =
 -- whatever is picked is past the largest value
 pub picks_past : (f : Format) (mode : Round) (negative : Bool) (amount parts p : ℕ) → 0 < f.precision → IsFarAbove f amount parts → IsPick f.precision mode negative amount parts p → ltb (largest f) p ≡ true
 picks_past f mode negative amount parts p h x i =
-    let a : largest f < 2 ^ (f.precision + f.span) = largest_below f h in
+    let a : largest f < 2 ^ (f.precision + f.span) = largest_below f in
     let b : 2 ^ (f.precision + f.span) ≤ i.below = i.is_below.greatest (2 ^ (f.precision + f.span)) (power_on_grid f.precision (f.precision + f.span) h) x.from in
     let c = pick_within f.precision mode negative amount parts p x.some i in
     let d : i.below ≤ p = c.1 in
@@ -143,11 +137,6 @@ far_below f mode negative amount parts amount' parts' v s h x y d =
     }
 
 -- ---- by the largest value, and by a quarter of a quantum
-
-greatest_half : (kind : NonfiniteBehavior) (precision : ℕ) → 3 ≤ precision → 2 ^ precision ≤ 2 * greatest_significand kind precision
-greatest_half IEEE754 precision h = let a : 2 ^ 3 ≤ 2 ^ precision = pow-le-pow_right two_pos h in omega arith
-greatest_half NanOnly precision h = let a : 2 ^ 3 ≤ 2 ^ precision = pow-le-pow_right two_pos h in omega arith
-greatest_half NanNegativeZero precision h = let a : 2 ^ 3 ≤ 2 ^ precision = pow-le-pow_right two_pos h in omega arith
 
 pub above_largest : (f : Format) (amount parts : ℕ) → 3 ≤ f.precision → 0 < parts → 4 * largest f * parts ≤ amount → IsFarAbove f amount parts
 above_largest f amount parts h p l = record {

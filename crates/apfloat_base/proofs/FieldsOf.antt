@@ -16,6 +16,8 @@ use Rattle.apfloat_base.specs.Lawful.{MayBeExplicit}
 use Rattle.apfloat_base.specs.Interchange.{IsInterchange, AreFieldsOf, bits_of_fields}
 use Rattle.apfloat_base.proofs.Existence.{two_pos}
 use Rattle.apfloat_base.proofs.Losses.{twice_half}
+use Rattle.apfloat_base.proofs.Choices.{eqb_self}
+use Rattle.apfloat_base.proofs.Greatest.{greatest_fits}
 use Rattle.apfloat_base.proofs.Encodings.{fields_back, bits_below}
 use Rattle.apfloat_base.proofs.EncodedOnce.{fields_with}
 
@@ -36,9 +38,6 @@ ones_some k h = let m : 2 ^ 1 ≤ 2 ^ k = pow-le-pow_right two_pos h in omega ar
 
 ones_fit : (k : ℕ) → all_ones k < 2 ^ k
 ones_fit k = let p : 0 < 2 ^ k = pow_pos k in omega arith
-
-same : (n : ℕ) → eqb n n ≡ true
-same n = eq-eqb n n refl
 
 width_low : (explicit : Bool) (p n : ℕ) → n < 2 ^ (p - 1) → n < 2 ^ cond explicit p (p - 1)
 width_low true p n h = let m : 2 ^ (p - 1) ≤ 2 ^ p = pow-le-pow_right two_pos (omega arith) in omega arith
@@ -123,7 +122,7 @@ module _ (f : Format) (layout : Layout) (law : IsInterchange f layout) where
   place_within : (j m : ℕ) → smallest_normalized f ≤ m → m * 2 ^ j ≤ largest f → j ≤ f.span
   place_within j m low top =
       let t : 2 * 2 ^ (f.precision - 1) ≡ 2 ^ f.precision = twice_half f.precision (omega (arith, law.precise)) in
-      let g = greatest_below f.nonfinite f.precision in
+      let g = greatest_fits f.nonfinite f.precision in
       ⊎_elim
       (λ (h : f.span < j).
       let a : 2 ^ (f.span + 1) ≤ 2 ^ j = pow-le-pow_right two_pos (omega arith) in
@@ -135,11 +134,6 @@ module _ (f : Format) (layout : Layout) (law : IsInterchange f layout) where
       absurd (omega arith))
       (λ (h : j ≤ f.span). h)
       (cases_lt f.span j)
-    where
-      greatest_below : (kind : NonfiniteBehavior) (precision : ℕ) → greatest_significand kind precision < 2 ^ precision
-      greatest_below IEEE754 precision = let p : 0 < 2 ^ precision = pow_pos precision in omega arith
-      greatest_below NanOnly precision = let p : 0 < 2 ^ precision = pow_pos precision in omega arith
-      greatest_below NanNegativeZero precision = let p : 0 < 2 ^ precision = pow_pos precision in omega arith
 
   exponent_fits : (kind : NonfiniteBehavior) (j : ℕ) → f.nonfinite ≡ kind → j ≤ f.span → j + 1 < 2 ^ layout.exponent_bits
   exponent_fits IEEE754 j k h = let s : f.span + 3 ≡ 2 ^ layout.exponent_bits + 0 = rw k at law.span in omega arith
@@ -179,15 +173,15 @@ module _ (f : Format) (layout : Layout) (law : IsInterchange f layout) where
 
 infinity_is : (explicit : Bool) (kind : NonfiniteBehavior) (f : Format) (layout : Layout) (b : Bool) → kind ≡ IEEE754
     → cond explicit (written_datum f layout (fields_with b (all_ones layout.exponent_bits) (cond explicit (smallest_normalized f) 0))) (implied_datum kind f layout (fields_with b (all_ones layout.exponent_bits) (cond explicit (smallest_normalized f) 0))) ≡ infinite b
-infinity_is true IEEE754 f layout b k = rw (same (all_ones layout.exponent_bits), same (smallest_normalized f)) refl
-infinity_is false IEEE754 f layout b k = rw (same (all_ones layout.exponent_bits)) refl
+infinity_is true IEEE754 f layout b k = rw (eqb_self (all_ones layout.exponent_bits), eqb_self (smallest_normalized f)) refl
+infinity_is false IEEE754 f layout b k = rw (eqb_self (all_ones layout.exponent_bits)) refl
 infinity_is true NanOnly f layout b k = cc
 infinity_is false NanOnly f layout b k = cc
 infinity_is true NanNegativeZero f layout b k = cc
 infinity_is false NanNegativeZero f layout b k = cc
 
 ones_canonical : (explicit : Bool) (f : Format) (layout : Layout) (b : Bool) (t : ℕ) → cond explicit (is_canonical_written f layout (fields_with b (all_ones layout.exponent_bits) t)) true ≡ true
-ones_canonical true f layout b t = rw (same (all_ones layout.exponent_bits)) refl
+ones_canonical true f layout b t = rw (eqb_self (all_ones layout.exponent_bits)) refl
 ones_canonical false f layout b t = refl
 
 width_of_infinity : (explicit : Bool) (p : ℕ) → 1 ≤ p → cond explicit (2 ^ (p - 1)) 0 < 2 ^ cond explicit p (p - 1)
@@ -204,10 +198,10 @@ infinity_fields_of f layout b law k = record {
 
 nan_is : (explicit : Bool) (kind : NonfiniteBehavior) (f : Format) (layout : Layout) (b : Bool) (s : ℕ) → f.nonfinite ≡ kind → (kind ≡ NanNegativeZero → ⊥) → MayBeExplicit kind explicit → IsNanSignificand kind explicit f.precision s
     → cond explicit (written_datum f layout (fields_with b (all_ones layout.exponent_bits) s)) (implied_datum kind f layout (fields_with b (all_ones layout.exponent_bits) s)) ≡ nan b s
-nan_is true IEEE754 f layout b s k n may h = rw (same (all_ones layout.exponent_bits), ne_eqb s (smallest_normalized f) h.1) refl
-nan_is false IEEE754 f layout b s k n may h = rw (same (all_ones layout.exponent_bits), ne_eqb s 0 (λ z. omega (arith, z, h.0))) refl
+nan_is true IEEE754 f layout b s k n may h = rw (eqb_self (all_ones layout.exponent_bits), ne_eqb s (smallest_normalized f) h.1) refl
+nan_is false IEEE754 f layout b s k n may h = rw (eqb_self (all_ones layout.exponent_bits), ne_eqb s 0 (λ z. omega (arith, z, h.0))) refl
 nan_is true NanOnly f layout b s k n may h = absurd (true≢false may)
-nan_is false NanOnly f layout b s k n may h = rw (same (all_ones layout.exponent_bits), eq-eqb s (all_ones (f.precision - 1)) h, k) (ap (nan b) (sym h))
+nan_is false NanOnly f layout b s k n may h = rw (eqb_self (all_ones layout.exponent_bits), eq-eqb s (all_ones (f.precision - 1)) h, k) (ap (nan b) (sym h))
 nan_is explicit NanNegativeZero f layout b s k n may h = absurd (n refl)
 
 width_of_nan : (explicit : Bool) (kind : NonfiniteBehavior) (p s : ℕ) → (kind ≡ NanNegativeZero → ⊥) → MayBeExplicit kind explicit → IsNanSignificand kind explicit p s → s < 2 ^ cond explicit p (p - 1)

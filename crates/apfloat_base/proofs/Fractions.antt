@@ -1,25 +1,12 @@
 -- The same fraction by other units; products and quotients of numbers of quanta, by their significands.
 use Rattle.std.proofs.Common.{◌≡◌, ℕ, ◌+◌, ◌-◌, ◌*◌, ◌/◌, ◌^◌, ◌<◌, ◌≤◌, sym, ap, ◌∙◌, subst, arith}
-use Rattle.std.proofs.Math.Nat.{mul-le-mul_left, mul-lt-mul_of_pos_right, pow-le-pow_right, eq_of_mul-eq-mul_right, mul-pos, le-div_iff_mul-le, mul-le-mul_right}
+use Rattle.std.proofs.Math.Nat.{mul-le-mul_left, pow-le-pow_right, eq_of_mul-eq-mul_right, mul-pos, le-div_iff_mul-le, mul-le-mul_right}
 use Rattle.std.proofs.lemmas.Nat.{pow_pos}
 use Rattle.apfloat_base.specs.declared.sig.loss.Loss.{Loss}
-use Rattle.apfloat_base.specs.declared.sig.loss.Loss.TheVariants.{ExactlyZero, LessThanHalf, ExactlyHalf, MoreThanHalf}
 use Rattle.apfloat_base.specs.Standing.{StandsFor}
 use Rattle.apfloat_base.proofs.Existence.{two_pos}
-use Rattle.apfloat_base.proofs.KeptDigits.{stands_cancel}
+use Rattle.apfloat_base.proofs.KeptDigits.{stands_cancel, stands_times}
 use Rattle.apfloat_base.proofs.Powers.{pow3, pow4, pow22}
-
-pub stands_scale : (s : ℕ) (loss : Loss) (amount unit w : ℕ) → 0 < w → StandsFor s loss amount unit → StandsFor s loss (amount * w) (unit * w)
-stands_scale s ExactlyZero amount unit w p h = ap (λ (x : ℕ). x * w) h ∙ omega arith
-stands_scale s LessThanHalf amount unit w p h =
-    let a : s * unit * w < amount * w = mul-lt-mul_of_pos_right h.0 p in
-    let b : 2 * amount * w < (2 * s + 1) * unit * w = mul-lt-mul_of_pos_right h.1 p in
-    (omega arith, omega arith)
-stands_scale s ExactlyHalf amount unit w p h = let e : 2 * amount * w ≡ (2 * s + 1) * unit * w = ap (λ (x : ℕ). x * w) h in omega arith
-stands_scale s MoreThanHalf amount unit w p h =
-    let a : (2 * s + 1) * unit * w < 2 * amount * w = mul-lt-mul_of_pos_right h.0 p in
-    let b : amount * w < (s + 1) * unit * w = mul-lt-mul_of_pos_right h.1 p in
-    (omega arith, omega arith)
 
 regroup_product : (sx sy pui puj pd : ℕ) → (sx * pui) * (sy * puj) * pd ≡ sx * sy * (pui * puj * pd)
 regroup_product sx sy pui puj pd = omega arith
@@ -40,7 +27,7 @@ pub quotient_stands : (q : ℕ) (loss : Loss) (sx sy a b places ui uj di dj scal
 quotient_stands q loss sx sy a b places ui uj di dj scale u d hx hy e h =
     let p : 2 ^ di * 2 ^ places * 2 ^ uj * 2 ^ u ≡ 2 ^ scale * 2 ^ d * (2 ^ dj * 2 ^ ui) = sym (pow4 di places uj u) ∙ ap (λ (x : ℕ). 2 ^ x) e ∙ pow22 scale d dj ui in
     let w : ℕ = 2 ^ ui * 2 ^ uj * 2 ^ u in
-    let s : StandsFor q loss (sx * 2 ^ places * (2 ^ ui * 2 ^ uj * 2 ^ u)) (sy * (2 ^ ui * 2 ^ uj * 2 ^ u)) = stands_scale q loss (sx * 2 ^ places) sy (2 ^ ui * 2 ^ uj * 2 ^ u) (mul-pos (mul-pos (pow_pos ui) (pow_pos uj)) (pow_pos u)) h in
+    let s : StandsFor q loss (sx * 2 ^ places * (2 ^ ui * 2 ^ uj * 2 ^ u)) (sy * (2 ^ ui * 2 ^ uj * 2 ^ u)) = stands_times q loss (sx * 2 ^ places) sy (2 ^ ui * 2 ^ uj * 2 ^ u) (mul-pos (mul-pos (pow_pos ui) (pow_pos uj)) (pow_pos u)) h in
     let l₁ : sx * 2 ^ places * (2 ^ ui * 2 ^ uj * 2 ^ u) ≡ sx * 2 ^ ui * (2 ^ places * 2 ^ uj * 2 ^ u) = omega arith in
     let l₂ : sx * 2 ^ ui * (2 ^ places * 2 ^ uj * 2 ^ u) ≡ a * 2 ^ di * (2 ^ places * 2 ^ uj * 2 ^ u) = ap (λ (x : ℕ). x * (2 ^ places * 2 ^ uj * 2 ^ u)) (sym hx) in
     let l₃ : a * 2 ^ di * (2 ^ places * 2 ^ uj * 2 ^ u) ≡ a * (2 ^ di * 2 ^ places * 2 ^ uj * 2 ^ u) = omega arith in

@@ -41,6 +41,18 @@ stands_cancel s MoreThanHalf amount unit w p h =
     let a = h.0 in let b = h.1 in
     (lt_of_mul-lt-mul_right w (omega (arith, a)), lt_of_mul-lt-mul_right w (omega (arith, b)))
 
+pub stands_times : (s : ℕ) (loss : Loss) (amount unit w : ℕ) → 0 < w → StandsFor s loss amount unit → StandsFor s loss (amount * w) (unit * w)
+stands_times s ExactlyZero amount unit w p h = let e : amount * w ≡ s * unit * w = ap (λ (x : ℕ). x * w) h in omega arith
+stands_times s LessThanHalf amount unit w p h =
+    let a : s * unit * w < amount * w = mul-lt-mul_of_pos_right h.0 p in
+    let b : 2 * amount * w < (2 * s + 1) * unit * w = mul-lt-mul_of_pos_right h.1 p in
+    (omega arith, omega arith)
+stands_times s ExactlyHalf amount unit w p h = let e : 2 * amount * w ≡ (2 * s + 1) * unit * w = ap (λ (x : ℕ). x * w) h in omega arith
+stands_times s MoreThanHalf amount unit w p h =
+    let a : (2 * s + 1) * unit * w < 2 * amount * w = mul-lt-mul_of_pos_right h.0 p in
+    let b : amount * w < (s + 1) * unit * w = mul-lt-mul_of_pos_right h.1 p in
+    (omega arith, omega arith)
+
 pub same_unit : (parts k up down place : ℕ) → k + up ≡ place + down → 2 ^ k * (parts * 2 ^ up) ≡ 2 ^ place * parts * 2 ^ down
 same_unit parts k up down place e =
     let a : 2 ^ (k + up) ≡ 2 ^ k * 2 ^ up = pow-add 2 k up in

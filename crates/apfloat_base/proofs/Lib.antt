@@ -5,6 +5,9 @@ pub mod KeptDigits
 pub mod Picks
 pub mod Points
 pub mod Deliveries
+pub mod Signs
+pub mod Greatest
+pub mod Choices
 pub mod Laws
 pub mod Logarithms
 pub mod Encodings

@@ -3,18 +3,13 @@ use Rattle.std.proofs.Common.{◌≡◌, ℕ, ◌+◌, ◌-◌, ◌*◌, ◌^◌
 use Rattle.std.proofs.lemmas.Nat.{pow-add, mul-le}
 use Rattle.std.proofs.lemmas.Bool.{cases_eq}
 use Rattle.std.proofs.Math.Nat.{pow-le-pow_right}
-use Rattle.apfloat_base.specs.declared.kinds.NonfiniteBehavior.{NonfiniteBehavior}
 use Rattle.apfloat_base.specs.declared.kinds.NonfiniteBehavior.TheVariants.{IEEE754, NanOnly, NanNegativeZero}
 use Rattle.apfloat_base.specs.Format.{Format, largest, greatest_significand}
 use Rattle.apfloat_base.specs.Layout.{Layout, all_ones}
 use Rattle.apfloat_base.specs.Interchange.{IsInterchange}
 use Rattle.apfloat_base.proofs.Existence.{two_pos}
 use Rattle.apfloat_base.proofs.Losses.{twice_half}
-
-greatest_low : (kind : NonfiniteBehavior) (precision : ℕ) → 2 ^ precision - 2 ≤ greatest_significand kind precision
-greatest_low IEEE754 precision = omega arith
-greatest_low NanOnly precision = omega arith
-greatest_low NanNegativeZero precision = omega arith
+use Rattle.apfloat_base.proofs.Greatest.{greatest_low}
 
 -- a significand that is not greater at a place that is not higher
 pub at_top : (f : Format) (m k : ℕ) → m ≤ greatest_significand f.nonfinite f.precision → k ≤ f.span → m * 2 ^ k ≤ largest f

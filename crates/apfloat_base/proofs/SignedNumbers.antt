@@ -1,18 +1,16 @@
 -- A signed whole number in a format, by its magnitude.
-use Rattle.std.proofs.Common.{◌≡◌, ℕ, zero, suc, pos, neg_ℤ, ◌*◌, ◌^◌, ◌<◌, ◌≤◌, true, false, refl, arith}
-use Rattle.std.proofs.Math.Nat.{mul-pos, pow-le-pow_right}
+use Rattle.std.proofs.Common.{◌≡◌, ℕ, zero, suc, pos, neg_ℤ, ◌*◌, ◌^◌, ◌<◌, ◌≤◌, true, false, refl}
+use Rattle.std.proofs.Math.Nat.{mul-pos}
 use Rattle.std.proofs.lemmas.Nat.{pow_pos}
-use Rattle.apfloat_base.specs.declared.kinds.NonfiniteBehavior.{NonfiniteBehavior}
-use Rattle.apfloat_base.specs.declared.kinds.NonfiniteBehavior.TheVariants.{IEEE754, NanOnly, NanNegativeZero}
 use Rattle.apfloat_base.specs.declared.kinds.Round.{Round}
 use Rattle.apfloat_base.specs.declared.kinds.Round.TheVariants.{NearestTiesToEven, TowardPositive, TowardNegative, TowardZero, NearestTiesToAway}
 use Rattle.apfloat_base.specs.Datum.{Datum}
-use Rattle.apfloat_base.specs.Format.{Format, largest, greatest_significand}
+use Rattle.apfloat_base.specs.Format.{Format, largest}
 use Rattle.apfloat_base.specs.Negation.{negated, swapped}
 use Rattle.apfloat_base.specs.WholeNumbers.{IsFromUnsigned, IsFromSigned}
-use Rattle.apfloat_base.proofs.Existence.{two_pos}
 use Rattle.apfloat_base.proofs.Laws.{delivered_swapped}
-use Rattle.apfloat_base.proofs.SumLaws.{sign_signed, magnitude_signed}
+use Rattle.apfloat_base.proofs.Greatest.{greatest_some}
+use Rattle.apfloat_base.proofs.Signs.{sign_signed, magnitude_signed}
 
 swapped_back : (mode : Round) → swapped (swapped mode) ≡ mode
 swapped_back NearestTiesToEven = refl
@@ -29,11 +27,6 @@ pub signed_below : (f : Format) (mode : Round) (n : ℕ) (v : Datum) (s : ℕ) �
 signed_below f mode n v s l p h =
     let d = delivered_swapped f (swapped mode) false (n * 2 ^ f.scale) 1 v s l h in
     rw (sign_signed false true n p, magnitude_signed true n) (rw (swapped_back mode) at d)
-
-greatest_some : (kind : NonfiniteBehavior) (precision : ℕ) → 3 ≤ precision → 0 < greatest_significand kind precision
-greatest_some IEEE754 precision l = let a : 2 ^ 3 ≤ 2 ^ precision = pow-le-pow_right two_pos l in omega arith
-greatest_some NanOnly precision l = let a : 2 ^ 3 ≤ 2 ^ precision = pow-le-pow_right two_pos l in omega arith
-greatest_some NanNegativeZero precision l = let a : 2 ^ 3 ≤ 2 ^ precision = pow-le-pow_right two_pos l in omega arith
 
 -- a format of three digits or more has a number that is not zero
 pub largest_some : (f : Format) → 3 ≤ f.precision → 0 < largest f

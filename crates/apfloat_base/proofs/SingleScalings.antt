@@ -9,10 +9,8 @@ use Rattle.apfloat_base.specs.Datum.{Datum}
 use Rattle.apfloat_base.specs.Standing.{up, down}
 use Rattle.apfloat_base.specs.Rounding.{IsDelivered}
 use Rattle.apfloat_base.proofs.Existence.{two_pos}
+use Rattle.apfloat_base.proofs.Powers.{pow3}
 use Rattle.apfloat_base.proofs.FarMagnitudes.{IsFarAbove, IsFarBelow, far_above, far_below}
-
-pow3 : (a b c : ℕ) → 2 ^ (a + b + c) ≡ 2 ^ a * 2 ^ b * 2 ^ c
-pow3 a b c = pow-add 2 (a + b) c ∙ ap (λ (x : ℕ). x * 2 ^ c) (pow-add 2 a b)
 
 pub scaled_stands : (s a di ui uj dj u d : ℕ) → a * 2 ^ di ≡ s * 2 ^ ui → ui + uj + d ≡ di + dj + u → a * 2 ^ uj * 2 ^ d ≡ s * (2 ^ dj * 2 ^ u)
 scaled_stands s a di ui uj dj u d h e =

@@ -18,49 +18,8 @@ use Rattle.apfloat_base.specs.Order.{number, AtMost}
 use Rattle.apfloat_base.specs.Sums.{IsSum, IsDifference, zero_sum_sign, IsExactly, IsNearby, IsMonotone}
 use Rattle.apfloat_base.specs.Rounding.{IsDelivered, delivered_value, leads_out, past_largest, zero_sign, signed_quanta, ok_bits}
 use Rattle.apfloat_base.proofs.Deliveries.{signed_some}
-use Rattle.apfloat_base.proofs.Laws.{delivered_once, exact_delivered, pick_grows}
-
--- ---- a sum with a zero, and of zeros
-
-pub sign_signed : (of_zero negative : Bool) (n : ℕ) → 0 < n → sign_of of_zero (signed negative n) ≡ negative
-sign_signed of_zero true zero p = absurd (omega arith)
-sign_signed of_zero false zero p = absurd (omega arith)
-sign_signed of_zero true (suc n) p = refl
-sign_signed of_zero false (suc n) p = refl
-
-pub magnitude_signed : (negative : Bool) (n : ℕ) → magnitude (signed negative n) ≡ n
-magnitude_signed true n = omega (arith, ints)
-magnitude_signed false n = omega (arith, ints)
-
-pub and_zero : (b c : Bool) (n : ℕ) → (signed b n +ℤ signed c 0) ≡ signed b n
-and_zero true true n = omega (arith, ints)
-and_zero true false n = omega (arith, ints)
-and_zero false true n = omega (arith, ints)
-and_zero false false n = omega (arith, ints)
-
-pub zero_and : (b c : Bool) (n : ℕ) → (signed b 0 +ℤ signed c n) ≡ signed c n
-zero_and true true n = omega (arith, ints)
-zero_and true false n = omega (arith, ints)
-zero_and false true n = omega (arith, ints)
-zero_and false false n = omega (arith, ints)
-
--- a number of the format that is not zero is delivered as it is
-pub number_rounded : (f : Format) (mode : Round) (of_zero b : Bool) (n : ℕ) (z : ℤ) → z ≡ signed b n → IsFiniteOf f b n → 0 < n → IsRounded f mode of_zero z 1 (finite b n) ok_bits
-number_rounded f mode of_zero b n z e h p =
-    let d : IsDelivered f mode b n 1 (signed_quanta f.nonfinite b n) ok_bits = exact_delivered f mode b n n 1 (omega arith) h.on_grid h.within (omega arith) in
-    let d' = rw (signed_some f.nonfinite b n p) at d in
-    rw (e, sign_signed of_zero b n p, magnitude_signed b n) d'
-
-no_sign : (b : Bool) → signed b 0 ≡ pos 0
-no_sign true = refl
-no_sign false = refl
-
--- an exact zero has the sign that is given for it
-pub zero_rounded : (f : Format) (mode : Round) (of_zero b c : Bool) → IsRounded f mode of_zero (signed b 0 +ℤ signed c 0) 1 (finite (zero_sign f.nonfinite of_zero) 0) ok_bits
-zero_rounded f mode of_zero b c =
-    let z : (signed b 0 +ℤ signed c 0) ≡ pos 0 = and_zero b c 0 ∙ no_sign b in
-    let g : IsOnGrid f.precision 0 = record { significand = 0; place = 0; fits = pow_pos f.precision; is = refl } in
-    rw z (exact_delivered f mode of_zero 0 0 1 (omega arith) g (omega arith) (omega arith))
+use Rattle.apfloat_base.proofs.Laws.{delivered_once, exact_delivered, zero_delivered, pick_grows}
+use Rattle.apfloat_base.proofs.Signs.{no_sign, magnitude_signed, one_side}
 
 -- ---- the difference of near numbers
 
@@ -110,10 +69,6 @@ close_on_grid precision m n d x y e a b =
     (λ (l : x.place < y.place). let l' : x.place ≤ y.place = omega arith in close_low precision x.significand x.place y.significand y.place d x.fits l' (swap_sides _ _ e') dx)
     (λ (l : y.place ≤ x.place). close_low precision y.significand y.place x.significand x.place d y.fits l e' dy)
     (cases_lt x.place y.place)
-
-one_side : (z : ℤ) → (up z ≡ 0) ⊎ (down z ≡ 0)
-one_side (pos n) = inr refl
-one_side (negsuc n) = inl refl
 
 far_apart : (m n : ℕ) → (m ≡ n + magnitude (pos m -ℤ pos n)) ⊎ (n ≡ m + magnitude (pos m -ℤ pos n))
 far_apart m n =
@@ -230,8 +185,7 @@ zeros_ordered false false = omega (arith, ints)
 
 zero_is : (f : Format) (mode : Round) (s : Bool) (v : Datum) (i : ℕ) → f.nonfinite ≡ IEEE754 → IsDelivered f mode s 0 1 v i → v ≡ finite s 0
 zero_is f mode s v i e d =
-    let g : IsOnGrid f.precision 0 = record { significand = 0; place = 0; fits = pow_pos f.precision; is = refl } in
-    let x = delivered_once f mode s 0 1 v (signed_quanta f.nonfinite s 0) i ok_bits d (exact_delivered f mode s 0 0 1 (omega arith) g (omega arith) (omega arith)) in
+    let x = delivered_once f mode s 0 1 v (signed_quanta f.nonfinite s 0) i ok_bits d (zero_delivered f mode s 1 0 (omega arith) refl) in
     x.0 ∙ ap (λ (k : NonfiniteBehavior). signed_quanta k s 0) e
 
 grows_at : (f : Format) (mode : Round) (s t : Bool) (x y : ℕ) (v w : Datum) (i j : ℕ) → f.nonfinite ≡ IEEE754 → Ordered s x t y → IsDelivered f mode s x 1 v i → IsDelivered f mode t y 1 w j → AtMost v w

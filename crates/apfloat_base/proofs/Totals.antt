@@ -1,6 +1,6 @@
 -- Sums and differences of magnitudes, and their signs.
 use Rattle.std.proofs.Common.{◌≡◌, ℕ, zero, suc, ℤ, pos, negsuc, ◌+ℤ◌, ◌-ℤ◌, ◌≤ℤ◌, ◌+◌, ◌-◌, ◌*◌, ◌^◌, ◌<◌, ◌≤◌, ◌⊎◌, Bool, true, false, cond, sym, refl, ap, ◌∙◌, subst, inl, inr, ⊎_elim, arith}
-use Rattle.std.proofs.Math.Nat.{mul-le-mul_right, mul-le-mul_left, mul-lt-mul_of_pos_right, pow-le-pow_right}
+use Rattle.std.proofs.Math.Nat.{mul-le-mul_right, mul-le-mul_left, pow-le-pow_right}
 use Rattle.std.proofs.lemmas.Bool.{cases_lt, false≢true}
 use mathlib.Core.Bool.{beq}
 use Rattle.std.proofs.lemmas.Nat.{pow-add, pow_pos}
@@ -12,20 +12,9 @@ use Rattle.apfloat_base.specs.Standing.{StandsFor}
 use Rattle.apfloat_base.specs.Totals.{counted, StandsForSigned, Balances, IsApart}
 use Rattle.apfloat_base.proofs.Existence.{two_pos}
 use Rattle.apfloat_base.proofs.Losses.{twice_half, stands_from, stands_to}
+use Rattle.apfloat_base.proofs.KeptDigits.{stands_times}
 
--- ---- a finer count
-
-pub stands_times : (s : ℕ) (loss : Loss) (amount unit w : ℕ) → 0 < w → StandsFor s loss amount unit → StandsFor s loss (amount * w) (unit * w)
-stands_times s ExactlyZero amount unit w p h = let e : amount * w ≡ s * unit * w = ap (λ (x : ℕ). x * w) h in omega arith
-stands_times s LessThanHalf amount unit w p h =
-    let a : s * unit * w < amount * w = mul-lt-mul_of_pos_right h.0 p in
-    let b : 2 * amount * w < (2 * s + 1) * unit * w = mul-lt-mul_of_pos_right h.1 p in
-    (omega arith, omega arith)
-stands_times s ExactlyHalf amount unit w p h = let e : 2 * amount * w ≡ (2 * s + 1) * unit * w = ap (λ (x : ℕ). x * w) h in omega arith
-stands_times s MoreThanHalf amount unit w p h =
-    let a : (2 * s + 1) * unit * w < 2 * amount * w = mul-lt-mul_of_pos_right h.0 p in
-    let b : amount * w < (s + 1) * unit * w = mul-lt-mul_of_pos_right h.1 p in
-    (omega arith, omega arith)
+-- ---- more units, and fewer
 
 pub stands_more : (q high : ℕ) (loss : Loss) (amount unit : ℕ) → StandsFor q loss amount unit → StandsFor (high + q) loss (high * unit + amount) unit
 stands_more q high ExactlyZero amount unit h = omega (arith, h)

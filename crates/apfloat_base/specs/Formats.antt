@@ -2,8 +2,8 @@
 use Rattle.std.specs.Prelude.{ℕ, ◌-◌, ◌^◌, ℤ, pos, neg_ℤ, Bool, true, false, ◌-ℤ◌}
 use Rattle.apfloat_base.specs.declared.kinds.NonfiniteBehavior.{NonfiniteBehavior}
 use Rattle.apfloat_base.specs.declared.kinds.NonfiniteBehavior.TheVariants.{IEEE754, NanOnly, NanNegativeZero}
-use Rattle.apfloat_base.specs.Format.{Format, nan_base_of, payload_mask_of, quiet_bits_of}
-use Rattle.apfloat_base.specs.Lawful.{Constants, format_with}
+use Rattle.apfloat_base.specs.Format.{nan_base_of, payload_mask_of, quiet_bits_of}
+use Rattle.apfloat_base.specs.Lawful.{Constants}
 
 -- the constants of an interchange format by its widths and exponents
 abbrev pub interchange : ℕ → ℕ → ℕ → NonfiniteBehavior → ℤ → ℤ → Bool → Constants
@@ -76,9 +76,3 @@ fallback_constants = computing 106 (pos 1023) (neg_ℤ (pos 969))
 
 abbrev pub fallback_extended_constants : Constants
 fallback_extended_constants = computing 106 (pos 1023) (neg_ℤ (pos 1022))
-
-abbrev pub double : Format
-double = format_with double_constants
-
-abbrev pub wide : Format
-wide = format_with fallback_constants

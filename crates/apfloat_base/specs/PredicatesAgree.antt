@@ -86,14 +86,14 @@ max_agrees x y = rw (nan_agrees x, nan_agrees y) refl
 
 -- zeros of one sign are one datum, so that it plays no part which of them is the answer
 
-one_sign : (a b : Bool) → same_sign a b ≡ true → a ≡ b
-one_sign true true e = refl
-one_sign true false e = cc
-one_sign false true e = cc
-one_sign false false e = refl
+pub same_sign_is : (a b : Bool) → same_sign a b ≡ true → a ≡ b
+same_sign_is true true e = refl
+same_sign_is true false e = cc
+same_sign_is false true e = cc
+same_sign_is false false e = refl
 
 one_zero : (x y : Datum) → is_zero x ≡ true → is_zero y ≡ true → same_sign (is_negative x) (is_negative y) ≡ true → x ≡ y
-one_zero (finite a m) (finite b n) e f s = rw (one_sign a b s, eqb-true m 0 e, eqb-true n 0 f) refl
+one_zero (finite a m) (finite b n) e f s = rw (same_sign_is a b s, eqb-true m 0 e, eqb-true n 0 f) refl
 one_zero (finite a m) (infinite b) e f s = cc
 one_zero (finite a m) (nan b t) e f s = cc
 one_zero (infinite a) y e f s = cc
@@ -136,7 +136,7 @@ maximum_agrees x y =
 
 -- a named magnitude that is not zero, with the sign of the value
 
-same_sign_self : (b : Bool) → same_sign b b ≡ true
+pub same_sign_self : (b : Bool) → same_sign b b ≡ true
 same_sign_self true = refl
 same_sign_self false = refl
 

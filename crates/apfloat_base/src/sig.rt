@@ -9,7 +9,7 @@ pub mod quotient;
 pub mod shift;
 pub mod sum;
 
-pub use loss::{Loss, loss_of_rest};
+pub use loss::{Loss, is_exact, loss_of_rest};
 pub use product::full_product;
 pub use quotient::{Quotient, divide};
 pub use shift::{Shifted, digits, low_digits, power_of_two, shift_right, steps_between};

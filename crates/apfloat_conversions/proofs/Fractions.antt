@@ -6,7 +6,8 @@ use Rattle.apfloat_base.specs.Standing.{up}
 use Rattle.apfloat_unpacked.specs.declared.shape.Shape.{Shape}
 use Rattle.apfloat_unpacked.specs.Shapes.{format_at, IsShape}
 use Rattle.apfloat_unpacked.specs.Stored.{IsNormal}
-use Rattle.apfloat_conversions.proofs.Operands.{scale_is, scale_in_span, half_within, number_of}
+use Rattle.apfloat_unpacked.proofs.ShapeExponents.{scale_is}
+use Rattle.apfloat_conversions.proofs.Operands.{scale_in_span, half_within, number_of}
 use Rattle.apfloat_conversions.proofs.Nexts.{logarithm_is, fraction_operand, fraction_quanta, fraction_low}
 
 -- its quanta

@@ -15,13 +15,9 @@ use Rattle.apfloat_base.proofs.Laws.{exact_below}
 use Rattle.apfloat_base.proofs.Losses.{twice_half}
 use Rattle.apfloat_base.proofs.Neighbours.{next_multiple, next_on_grid, none_between, below_is}
 use Rattle.apfloat_base.proofs.SingleScalings.{scaled_stands, up_far, down_far}
-use Rattle.apfloat_base.proofs.FarMagnitudes.{greatest_fits}
+use Rattle.apfloat_base.proofs.Greatest.{greatest_fits}
 use Rattle.apfloat_unpacked.specs.Stored.{IsOperandAt, IsQuantaAt}
 use Rattle.apfloat_conversions.proofs.Wholes.{up_of}
-
-pub one_side : (z : ℤ) → (down z ≡ 0) ⊎ (up z ≡ 0)
-one_side (pos k) = inl refl
-one_side (negsuc k) = inr refl
 
 -- ---- one step at the last place
 
@@ -42,9 +38,9 @@ power_split : (p d : ℕ) → d ≤ p → 2 ^ p ≡ 2 ^ (p - d) * 2 ^ d
 power_split p d l = let e : p ≡ (p - d) + d = omega arith in ap (λ (x : ℕ). 2 ^ x) e ∙ pow-add 2 (p - d) d
 
 -- a step keeps within a power of two
-pub step_within : (p s a u d : ℕ) → d ≤ p → (d ≡ 0) ⊎ (u ≡ 0) → s < 2 ^ p → a * 2 ^ d ≡ s * 2 ^ u → s + 2 ^ d ≤ 2 ^ p
-step_within p s a u d l (inl z) f h = let e : 2 ^ d ≡ 1 = ap (λ (x : ℕ). 2 ^ x) z in omega arith
-step_within p s a u d l (inr z) f h =
+pub step_within : (p s a u d : ℕ) → d ≤ p → (u ≡ 0) ⊎ (d ≡ 0) → s < 2 ^ p → a * 2 ^ d ≡ s * 2 ^ u → s + 2 ^ d ≤ 2 ^ p
+step_within p s a u d l (inr z) f h = let e : 2 ^ d ≡ 1 = ap (λ (x : ℕ). 2 ^ x) z in omega arith
+step_within p s a u d l (inl z) f h =
     let e : 2 ^ u ≡ 1 = ap (λ (x : ℕ). 2 ^ x) z in
     let h' : a * 2 ^ d ≡ s = h ∙ ap (λ (x : ℕ). s * x) e ∙ omega arith in
     let w = power_split p d l in
@@ -53,9 +49,9 @@ step_within p s a u d l (inr z) f h =
     omega (arith, h', w, k)
 
 -- and a step down from above one keeps above
-pub step_above : (p s a u d : ℕ) → d ≤ p → (d ≡ 0) ⊎ (u ≡ 0) → 2 ^ p < s → a * 2 ^ d ≡ s * 2 ^ u → 2 ^ p + 2 ^ d ≤ s
-step_above p s a u d l (inl z) f h = let e : 2 ^ d ≡ 1 = ap (λ (x : ℕ). 2 ^ x) z in omega arith
-step_above p s a u d l (inr z) f h =
+pub step_above : (p s a u d : ℕ) → d ≤ p → (u ≡ 0) ⊎ (d ≡ 0) → 2 ^ p < s → a * 2 ^ d ≡ s * 2 ^ u → 2 ^ p + 2 ^ d ≤ s
+step_above p s a u d l (inr z) f h = let e : 2 ^ d ≡ 1 = ap (λ (x : ℕ). 2 ^ x) z in omega arith
+step_above p s a u d l (inl z) f h =
     let e : 2 ^ u ≡ 1 = ap (λ (x : ℕ). 2 ^ x) z in
     let h' : a * 2 ^ d ≡ s = h ∙ ap (λ (x : ℕ). s * x) e ∙ omega arith in
     let w = power_split p d l in
@@ -78,12 +74,12 @@ above_at p half m c a e f g h =
           omega arith;
     }
 
-pub next_is : (p s a u d : ℕ) → 0 < p → (d ≡ 0) ⊎ (u ≡ 0) → s < 2 ^ p → 2 ^ (p - 1) ≤ s → a * 2 ^ d ≡ s * 2 ^ u → IsAbove p (a + 2 ^ u) (a + 1) 1
-next_is p s a u d q (inl z) f g h =
+pub next_is : (p s a u d : ℕ) → 0 < p → (u ≡ 0) ⊎ (d ≡ 0) → s < 2 ^ p → 2 ^ (p - 1) ≤ s → a * 2 ^ d ≡ s * 2 ^ u → IsAbove p (a + 2 ^ u) (a + 1) 1
+next_is p s a u d q (inr z) f g h =
     let e : 2 ^ d ≡ 1 = ap (λ (x : ℕ). 2 ^ x) z in
     let h' : a ≡ s * 2 ^ u = sym (ap (λ (x : ℕ). a * x) e ∙ omega arith) ∙ h in
     above_at p (2 ^ (p - 1)) s u a (sym (twice_half p q)) f (inr g) h'
-next_is p s a u d q (inr z) f g h =
+next_is p s a u d q (inl z) f g h =
     let e : 2 ^ u ≡ 1 = ap (λ (x : ℕ). 2 ^ x) z in
     let h' : a * 2 ^ d ≡ s = h ∙ ap (λ (x : ℕ). s * x) e ∙ omega arith in
     let w : 1 ≤ 2 ^ d = pow_pos d in
@@ -97,13 +93,13 @@ below_at p half m c a e f g h =
     let i : IsEnclosed p half m c (a - 1) 1 = record { double = e; fits = f; full = g; from = omega arith; to = omega arith } in
     subst (λ (x : ℕ). IsBelow p x (a - 1) 1) n (below_is p half m c (a - 1) 1 i)
 
-pub less_is : (p s a u d : ℕ) → 0 < p → (d ≡ 0) ⊎ (u ≡ 0) → s ≤ 2 ^ p → 2 ^ (p - 1) < s → a * 2 ^ d ≡ s * 2 ^ u → IsBelow p (a - 2 ^ u) (a - 1) 1
-less_is p s a u d q (inl z) f g h =
+pub less_is : (p s a u d : ℕ) → 0 < p → (u ≡ 0) ⊎ (d ≡ 0) → s ≤ 2 ^ p → 2 ^ (p - 1) < s → a * 2 ^ d ≡ s * 2 ^ u → IsBelow p (a - 2 ^ u) (a - 1) 1
+less_is p s a u d q (inr z) f g h =
     let e : 2 ^ d ≡ 1 = ap (λ (x : ℕ). 2 ^ x) z in
     let h' : a ≡ s * 2 ^ u = sym (ap (λ (x : ℕ). a * x) e ∙ omega arith) ∙ h in
     let t : s ≡ s - 1 + 1 = omega arith in
     below_at p (2 ^ (p - 1)) (s - 1) u a (sym (twice_half p q)) (omega arith) (inr (omega arith)) (h' ∙ ap (λ (x : ℕ). x * 2 ^ u) t)
-less_is p s a u d q (inr z) f g h =
+less_is p s a u d q (inl z) f g h =
     let e : 2 ^ u ≡ 1 = ap (λ (x : ℕ). 2 ^ x) z in
     let h' : a * 2 ^ d ≡ s = h ∙ ap (λ (x : ℕ). s * x) e ∙ omega arith in
     let w : 1 ≤ 2 ^ d = pow_pos d in
@@ -172,7 +168,7 @@ room_above f precision min_exp max_exp x s a e g o h b c =
 -- ---- within the largest value
 
 pub largest_on_grid : (f : Format) → 0 < f.precision → IsOnGrid f.precision (largest f)
-largest_on_grid f h = record { significand = greatest_significand f.nonfinite f.precision; place = f.span; fits = greatest_fits f.nonfinite f.precision h; is = refl }
+largest_on_grid f h = record { significand = greatest_significand f.nonfinite f.precision; place = f.span; fits = greatest_fits f.nonfinite f.precision; is = refl }
 
 pub next_within : (f : Format) (a next : ℕ) → 0 < f.precision → a < largest f → IsAbove f.precision next (a + 1) 1 → next ≤ largest f
 next_within f a next h b i = i.least (largest f) (largest_on_grid f h) (omega arith)

@@ -1,43 +1,25 @@
 -- A stored number and its exponent, in the format of its shape.
-use Rattle.std.proofs.Common.{◌≡◌, ℕ, ◌+◌, ◌-◌, ◌*◌, ◌^◌, ◌<◌, ◌≤◌, Bool, sym, refl, subst, arith, ℤ, pos, ◌+ℤ◌, ◌-ℤ◌, ◌≤ℤ◌, to_z, of_z, w32}
-use Rattle.std.proofs.lemmas.Int.{ints, to_z-of_z}
+use Rattle.std.proofs.Common.{◌≡◌, ℕ, ◌+◌, ◌-◌, ◌*◌, ◌^◌, ◌<◌, ◌≤◌, Bool, sym, subst, arith, ℤ, pos, ◌+ℤ◌, ◌-ℤ◌, ◌≤ℤ◌}
+use Rattle.std.proofs.lemmas.Int.{ints}
 use Rattle.std.proofs.lemmas.Nat.{pow_pos}
 use Rattle.std.proofs.Math.Nat.{mul-le-mul_right, mul-le-mul_left, pow-le-pow_right}
-use borrow.Author.Differences.{fits_in}
 use Rattle.apfloat_base.specs.declared.kinds.Round.{Round}
 use Rattle.apfloat_base.specs.declared.sig.loss.Loss.TheVariants.{ExactlyZero}
-use Rattle.apfloat_base.specs.declared.kinds.NonfiniteBehavior.{NonfiniteBehavior}
-use Rattle.apfloat_base.specs.declared.kinds.NonfiniteBehavior.TheVariants.{IEEE754, NanOnly, NanNegativeZero}
 use Rattle.apfloat_base.specs.Format.{Format, largest, greatest_significand}
 use Rattle.apfloat_base.specs.Datum.{Datum, finite}
 use Rattle.apfloat_base.specs.Rounding.{IsDelivered, zero_sign}
 use Rattle.apfloat_base.specs.Scaling.{IsScaling}
 use Rattle.apfloat_base.specs.Standing.{StandsFor, up, down}
 use Rattle.apfloat_base.proofs.Existence.{two_pos}
-use Rattle.apfloat_base.proofs.Losses.{twice_half}
-use Rattle.apfloat_base.proofs.Deliveries.{four}
-use Rattle.apfloat_base.proofs.Laws.{exact_delivered}
+use Rattle.apfloat_base.proofs.Greatest.{greatest_full}
+use Rattle.apfloat_base.proofs.Tables.{scaling_zero}
 use Rattle.apfloat_base.proofs.SingleScalings.{IsClamped, up_le, quanta_below, scaled_is, clamp_kept}
 use Rattle.apfloat_unpacked.specs.declared.shape.Shape.{Shape}
 use Rattle.apfloat_unpacked.specs.Shapes.{IsShape, format_at}
 use Rattle.apfloat_unpacked.specs.Stored.{IsOperandAt, IsQuantaAt, IsNormal, quanta_at}
 use Rattle.apfloat_unpacked.specs.StoredBack.{quanta_some}
+use Rattle.apfloat_unpacked.proofs.ShapeExponents.{scale_is, span_is}
 use Rattle.apfloat_unpacked.proofs.StoredNumbers.{quanta_is, whole_is}
-
-pub scale_is : (s : Shape) → IsShape s → pos (format_at s).scale ≡ pos (s.precision - 1) -ℤ s.min_exp
-scale_is s law = omega (arith, ints, law)
-
-pub span_is : (s : Shape) → IsShape s → pos (format_at s).span ≡ s.max_exp -ℤ s.min_exp
-span_is s law = omega (arith, ints, law)
-
--- an exponent within the word that holds it
-pub exponent_word : (s : Shape) (m : ℕ) (e : ℤ) → IsShape s → IsNormal s m e → to_z w32 (of_z w32 e) ≡ e
-exponent_word s m e law n =
-    let o = n.operand in
-    to_z-of_z w32 e (fits_in w32 e (omega (arith, ints, law, o)))
-
-pub greatest_word : (s : Shape) → IsShape s → to_z w32 (of_z w32 s.max_exp) ≡ s.max_exp
-greatest_word s law = to_z-of_z w32 s.max_exp (fits_in w32 s.max_exp (omega (arith, ints, law)))
 
 -- ---- times a power of two
 
@@ -60,20 +42,6 @@ scale_delivered s m e j near r mode negative v st law n c i d =
     (d (quanta_at s.min_exp m e * 2 ^ up near) (2 ^ down near) (pow_pos (down near)) (scaled_is (s.precision - 1) (format_at s).scale s.min_exp e near r m (quanta_at s.min_exp m e) k i n.whole))
 
 -- ---- sizes within the format
-
-greatest_full : (kind : NonfiniteBehavior) (p : ℕ) → 3 ≤ p → 2 ^ (p - 1) ≤ greatest_significand kind p
-greatest_full IEEE754 p h =
-    let t : 2 * 2 ^ (p - 1) ≡ 2 ^ p = twice_half p (omega (arith, h)) in
-    let q : 4 ≤ 2 ^ (p - 1) = four p h in
-    omega (arith, t, q)
-greatest_full NanOnly p h =
-    let t : 2 * 2 ^ (p - 1) ≡ 2 ^ p = twice_half p (omega (arith, h)) in
-    let q : 4 ≤ 2 ^ (p - 1) = four p h in
-    omega (arith, t, q)
-greatest_full NanNegativeZero p h =
-    let t : 2 * 2 ^ (p - 1) ≡ 2 ^ p = twice_half p (omega (arith, h)) in
-    let q : 4 ≤ 2 ^ (p - 1) = four p h in
-    omega (arith, t, q)
 
 -- half of 2 to the precision, at any place up to the span
 pub half_within : (s : Shape) (m k : ℕ) → IsShape s → m ≤ 2 ^ (s.precision - 1) → k ≤ (format_at s).span → m * 2 ^ k ≤ largest (format_at s)
@@ -103,7 +71,4 @@ number_of s m e n o q l = record { operand = o; whole = whole_is s.min_exp m e n
 -- ---- a zero times a power of two
 
 pub zero_scaled : (f : Format) (mode : Round) (negative : Bool) (j : ℤ) → negative ≡ zero_sign f.nonfinite negative → IsScaling f mode (finite negative 0) j (finite negative 0)
-zero_scaled f mode negative j z =
-    let d : IsDelivered f mode negative (0 * 2 ^ up j) (2 ^ down j) (finite (zero_sign f.nonfinite negative) 0) 0 =
-    exact_delivered f mode negative 0 (0 * 2 ^ up j) (2 ^ down j) (pow_pos (down j)) (record { significand = 0; place = 0; fits = pow_pos f.precision; is = refl }) (omega arith) (omega arith) in
-    (0, subst (λ (b : Bool). IsDelivered f mode negative (0 * 2 ^ up j) (2 ^ down j) (finite b 0) 0) (sym z) d)
+zero_scaled f mode negative j z = subst (λ (b : Bool). IsScaling f mode (finite negative 0) j (finite b 0)) (sym z) (scaling_zero f mode negative j)

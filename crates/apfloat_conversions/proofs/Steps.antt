@@ -11,6 +11,7 @@ use Rattle.apfloat_base.specs.Rounding.{zero_sign}
 use Rattle.apfloat_base.specs.NextUp.{IsNextGreater, IsNextLess}
 use Rattle.apfloat_base.specs.Standing.{up, down}
 use Rattle.apfloat_base.proofs.Deliveries.{signed_some}
+use Rattle.apfloat_base.proofs.Signs.{one_side}
 use Rattle.apfloat_base.proofs.Losses.{twice_half}
 use Rattle.apfloat_base.proofs.SingleScalings.{up_le, up_far, quanta_below}
 use Rattle.apfloat_unpacked.specs.declared.shape.Shape.{Shape}
@@ -18,8 +19,9 @@ use Rattle.apfloat_unpacked.specs.Shapes.{IsShape, format_at}
 use Rattle.apfloat_unpacked.specs.Stored.{IsOperandAt, IsQuantaAt, IsNormal, quanta_at}
 use Rattle.apfloat_unpacked.specs.StoredBack.{quanta_some}
 use Rattle.apfloat_unpacked.proofs.StoredNumbers.{quanta_is}
-use Rattle.apfloat_conversions.proofs.Operands.{span_is, half_within, number_of}
-use Rattle.apfloat_conversions.proofs.Nexts.{one_side, operand_down, step_room, step_small, step_within, step_above, next_is, next_within, less_is, least_less, stepped_by, stepped_down_by, stays_operand, carries_operand, carried_quanta, lowered_quanta, lowered_operand, room_above, room_cases}
+use Rattle.apfloat_unpacked.proofs.ShapeExponents.{span_is}
+use Rattle.apfloat_conversions.proofs.Operands.{half_within, number_of}
+use Rattle.apfloat_conversions.proofs.Nexts.{operand_down, step_room, step_small, step_within, step_above, next_is, next_within, less_is, least_less, stepped_by, stepped_down_by, stays_operand, carries_operand, carried_quanta, lowered_quanta, lowered_operand, room_above, room_cases}
 
 some : (s : Shape) → IsShape s → 0 < s.precision
 some s law = let t = law.precision_low in omega (arith, t)

@@ -10,7 +10,6 @@ use Rattle.apfloat_base.specs.declared.kinds.Round.{Round}
 use Rattle.apfloat_base.specs.declared.kinds.Round.TheVariants.{NearestTiesToEven, TowardPositive, TowardNegative, TowardZero, NearestTiesToAway}
 use Rattle.apfloat_base.specs.Format.{Format}
 use Rattle.apfloat_base.specs.Datum.{Datum, finite, infinite, nan}
-use Rattle.apfloat_base.specs.Exact.{signed}
 use Rattle.apfloat_base.specs.Classes.{is_negative, category_of}
 use Rattle.apfloat_base.specs.SignedWholes.{IsNegatedWhole}
 use Rattle.apfloat_base.specs.Predicates.{is_zero_category}
@@ -20,6 +19,7 @@ use Rattle.apfloat_base.specs.WholeNumbers.{whole_pick, whole_quanta, inexact_un
 use Rattle.apfloat_base.specs.WholeNumbersOut.{IsToUnsigned, IsToSigned, IsWhole, Whole, ranged, exact_or_not, invalid_whole}
 use Rattle.apfloat_base.proofs.Existence.{two_pos}
 use Rattle.apfloat_base.proofs.Losses.{twice_half}
+use Rattle.apfloat_base.proofs.Signs.{no_sign}
 use Rattle.apfloat_conversions.proofs.Limits.{less_so, less_not, ranged_in, ranged_out}
 use Rattle.apfloat_conversions.proofs.Wholes.{whole_exactly}
 
@@ -58,10 +58,6 @@ no_whole mode b scale = whole_exactly mode b 0 0 (2 ^ scale) (pow_pos scale) (om
 
 no_quanta : (scale : ℕ) → eqb (0 * 2 ^ scale) 0 ≡ true
 no_quanta scale = eq-eqb (0 * 2 ^ scale) 0 (omega arith)
-
-no_sign : (b : Bool) → signed b 0 ≡ pos 0
-no_sign true = refl
-no_sign false = refl
 
 zero_ranged : (low high : ℤ) (answer : Whole) → low ≤ℤ pos 0 → pos 0 ≤ℤ high → ranged low high (pos 0) answer ≡ answer
 zero_ranged low high answer l h = rw (less_not (pos 0) low l, less_not high (pos 0) h) refl

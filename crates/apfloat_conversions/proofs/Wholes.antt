@@ -3,7 +3,7 @@ use Rattle.std.proofs.Common.{◌≡◌, ℕ, ◌+◌, ◌-◌, ◌*◌, ◌/◌
 use Rattle.std.proofs.Math.Nat.{mul-mod_left, mul-div_cancel, div-eq_of_lt-le, div-one, mul-le-mul_right, mul-le-mul_left, pow-le-pow_right, mul-lt-mul_of_pos_right}
 use Rattle.std.proofs.lemmas.Nat.{div-add-mod', pow-add, pow_pos}
 use Rattle.std.proofs.lemmas.Int.{ints}
-use Rattle.std.proofs.lemmas.Bool.{cases_eq, eq-eqb, ne_eqb, false≢true}
+use Rattle.std.proofs.lemmas.Bool.{cases_eq, eq-eqb, ne_eqb}
 use Rattle.apfloat_base.specs.declared.kinds.Round.{Round}
 use Rattle.apfloat_base.specs.declared.kinds.Round.TheVariants.{TowardZero}
 use Rattle.apfloat_base.specs.declared.sig.loss.Loss.{Loss}
@@ -74,29 +74,11 @@ inexactly_so mode negative q amount parts loss p n h =
 
 -- ---- by cases of what was lost
 
-is_zero : Loss → Bool
-is_zero ExactlyZero = true
-is_zero LessThanHalf = false
-is_zero ExactlyHalf = false
-is_zero MoreThanHalf = false
-
-less_is : LessThanHalf ≡ ExactlyZero → ⊥
-unfolding is_zero
-less_is e = false≢true (ap is_zero e)
-
-half_is : ExactlyHalf ≡ ExactlyZero → ⊥
-unfolding is_zero
-half_is e = false≢true (ap is_zero e)
-
-more_is : MoreThanHalf ≡ ExactlyZero → ⊥
-unfolding is_zero
-more_is e = false≢true (ap is_zero e)
-
 pub whole_at : (mode : Round) (negative : Bool) (q amount parts : ℕ) (loss : Loss) → 0 < parts → StandsFor q loss amount parts → whole_pick mode negative amount parts ≡ kept mode negative loss q
 whole_at mode negative q amount parts ExactlyZero p h = whole_exactly mode negative q amount parts p h
-whole_at mode negative q amount parts LessThanHalf p h = whole_inexactly mode negative q amount parts LessThanHalf p less_is h
-whole_at mode negative q amount parts ExactlyHalf p h = whole_inexactly mode negative q amount parts ExactlyHalf p half_is h
-whole_at mode negative q amount parts MoreThanHalf p h = whole_inexactly mode negative q amount parts MoreThanHalf p more_is h
+whole_at mode negative q amount parts LessThanHalf p h = whole_inexactly mode negative q amount parts LessThanHalf p (λ e. cc) h
+whole_at mode negative q amount parts ExactlyHalf p h = whole_inexactly mode negative q amount parts ExactlyHalf p (λ e. cc) h
+whole_at mode negative q amount parts MoreThanHalf p h = whole_inexactly mode negative q amount parts MoreThanHalf p (λ e. cc) h
 
 pub exact_at : (mode : Round) (negative : Bool) (q amount parts : ℕ) (loss : Loss) (b : Bool) → 0 < parts → StandsFor q loss amount parts → (b ≡ true → loss ≡ ExactlyZero) → (b ≡ false → loss ≡ ExactlyZero → ⊥) → b ≡ eqb (whole_pick mode negative amount parts * parts) amount
 exact_at mode negative q amount parts loss true p h f g = exactly_so mode negative q amount parts p (subst (λ (x : Loss). StandsFor q x amount parts) (f refl) h)

@@ -1,6 +1,6 @@
 //! Values of one format in another.
 
-ghost use Rattle.std.specs.Prelude.{◌≡◌, ℕ, ◌-◌, ◌*◌, ◌/◌, ◌^◌, ◌<◌, ◌≤◌, Bool, cond, not, pos, neg_ℤ, ◌≤ℤ◌, ◌+ℤ◌, ◌-ℤ◌};
+ghost use Rattle.std.specs.Prelude.{◌≡◌, ℕ, ◌-◌, ◌*◌, ◌/◌, ◌^◌, ◌<◌, ◌≤◌, Bool, cond, not};
 ghost use Rattle.apfloat_base.specs.declared.kinds.NonfiniteBehavior.{NonfiniteBehavior};
 ghost use Rattle.apfloat_base.specs.Flags.{bits_of};
 ghost use Rattle.apfloat_base.specs.Datum.{finite};
@@ -10,15 +10,15 @@ ghost use Rattle.apfloat_base.specs.Conversions.{IsConversion, IsConverted, IsCo
 ghost use Rattle.apfloat_base.specs.Members.{IsNanSignificand};
 ghost use Rattle.apfloat_base.specs.Nan.{invalid_if, is_signaling};
 ghost use Rattle.apfloat_unpacked.specs.Shapes.{IsShape, format_at};
-ghost use Rattle.apfloat_unpacked.specs.Stored.{IsNan, IsNormal, IsOperandAt, IsStored, datum_at, quanta_at};
+ghost use Rattle.apfloat_unpacked.specs.Stored.{IsNan, IsNormal, IsStored, datum_at, quanta_at};
 
 use apfloat_base::sig::{Loss, low_digits};
-use apfloat_base::{Category, ExpInt, NonfiniteBehavior, Round, Status, StatusAnd};
+use apfloat_base::{Category, NonfiniteBehavior, Round, Status, StatusAnd};
 use apfloat_unpacked::nans::{
     payload_mask, quiet_significand, quieted_significand, signals, status_of,
 };
 use apfloat_unpacked::normalize::deliver;
-use apfloat_unpacked::shape::Shape;
+use apfloat_unpacked::shape::{Shape, last_exponent};
 use apfloat_unpacked::unpacked::{Unpacked, infinity_of, nan_of, zero_of};
 
 /// An answer in the other format, and whether information was lost.
@@ -26,18 +26,6 @@ use apfloat_unpacked::unpacked::{Unpacked, infinity_of, nan_of, zero_of};
 pub struct Converted {
     pub answer: StatusAnd<Unpacked>,
     pub loses_info: bool,
-}
-
-/// The exponent of the last digit of a number.
-#[inline]
-fn last_exponent(shape: Shape, x: Unpacked) -> ExpInt
-    requires lawful { IsShape shape }
-    requires operand { IsOperandAt shape.precision shape.min_exp shape.max_exp x.significand x.exponent }
-    ensures value { result ≡ x.exponent -ℤ pos (shape.precision - 1) }
-    ensures near { result ≤ℤ pos 8388608 }
-    ensures far { neg_ℤ (pos 8388608) ≤ℤ result }
-{
-    x.exponent - (shape.precision - 1) as ExpInt
 }
 
 /// A number, rounded once; inexact is what loses information.
@@ -52,7 +40,7 @@ fn converted_number(from: Shape, into: Shape, x: Unpacked, round: Round) -> Conv
     let answer = deliver(
         into,
         x.significand,
-        last_exponent(from, x),
+        last_exponent(from, x.exponent),
         Loss::ExactlyZero,
         round,
         x.negative,

@@ -8,13 +8,12 @@ ghost use Rattle.apfloat_base.specs.WholeNumbers.{IsRoundToIntegral};
 ghost use Rattle.apfloat_unpacked.specs.Shapes.{IsShape, format_at};
 ghost use Rattle.apfloat_unpacked.specs.Stored.{IsStored, IsNormal, quanta_at, datum_at};
 
-use crate::exponents::last_exponent;
 use crate::integers::status_of;
 use crate::whole::round_fraction;
 use apfloat_base::sig::steps_between;
 use apfloat_base::{Category, Round, Status, StatusAnd};
 use apfloat_unpacked::nans::propagated;
-use apfloat_unpacked::shape::Shape;
+use apfloat_unpacked::shape::{Shape, last_exponent};
 use apfloat_unpacked::unpacked::{Unpacked, quanta_of};
 
 /// A finite number that is not zero, rounded to a whole number.

@@ -9,12 +9,12 @@ ghost use Rattle.apfloat_base.specs.Scaling.{IsScaling};
 ghost use Rattle.apfloat_unpacked.specs.Shapes.{IsShape, format_at};
 ghost use Rattle.apfloat_unpacked.specs.Stored.{IsStored, IsNormal, quanta_at, datum_at};
 
-use crate::exponents::{last_exponent, raised};
+use crate::exponents::raised;
 use apfloat_base::sig::Loss;
 use apfloat_base::{Category, ExpInt, IEK_INF, IEK_NAN, IEK_ZERO, Round, StatusAnd};
 use apfloat_unpacked::nans::propagated;
 use apfloat_unpacked::normalize::deliver;
-use apfloat_unpacked::shape::Shape;
+use apfloat_unpacked::shape::{Shape, last_exponent};
 use apfloat_unpacked::unpacked::Unpacked;
 
 /// The amount, or the farthest one on its side that rounding has to see: past it no answer changes.

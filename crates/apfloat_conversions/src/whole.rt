@@ -1,16 +1,14 @@
 //! The whole number that a mode picks beside a number.
 
-ghost use Rattle.std.specs.Prelude.{◌≡◌, ℕ, ◌+◌, ◌*◌, ◌/◌, ◌^◌, ◌<◌, ◌≤◌, true, false};
-ghost use Rattle.apfloat_base.specs.declared.sig.loss.Loss.{Loss};
+ghost use Rattle.std.specs.Prelude.{◌≡◌, ℕ, ◌+◌, ◌*◌, ◌/◌, ◌^◌, ◌<◌, ◌≤◌};
 ghost use Rattle.apfloat_unpacked.specs.Shapes.{IsShape, format_at};
 ghost use Rattle.apfloat_unpacked.specs.Stored.{IsNormal, quanta_at};
 ghost use Rattle.apfloat_conversions.specs.Wholes.{IsPicked, IsPickedWithin};
 
-use crate::exponents::last_exponent;
 use apfloat_base::Round;
-use apfloat_base::sig::{Loss, power_of_two, shift_right, steps_between};
+use apfloat_base::sig::{Loss, is_exact, power_of_two, shift_right, steps_between};
 use apfloat_unpacked::normalize::moves_up;
-use apfloat_unpacked::shape::Shape;
+use apfloat_unpacked::shape::{Shape, last_exponent};
 use apfloat_unpacked::unpacked::Unpacked;
 
 /// The magnitude of a whole number, and whether it is the number that it stands for.
@@ -18,20 +16,6 @@ use apfloat_unpacked::unpacked::Unpacked;
 pub struct Whole {
     pub magnitude: u128,
     pub exact: bool,
-}
-
-/// Whether nothing was lost.
-#[inline]
-fn is_exact(loss: Loss) -> bool
-    ensures whole { result ≡ true → loss ≡ Loss.ExactlyZero }
-    ensures lost { result ≡ false → loss ≡ Loss.ExactlyZero → ⊥ }
-{
-    match loss {
-        Loss::ExactlyZero => true,
-        Loss::LessThanHalf => false,
-        Loss::ExactlyHalf => false,
-        Loss::MoreThanHalf => false,
-    }
 }
 
 /// The whole number beside `significand * 2^-places`.

@@ -44,7 +44,7 @@ pub(crate) fn difference<S: Semantics>(
 
 /// The value with the other sign.
 #[inline]
-pub(crate) fn negation<S: Semantics>(x: IeeeFloat<S>) -> IeeeFloat<S>
+fn negation<S: Semantics>(x: IeeeFloat<S>) -> IeeeFloat<S>
     ensures { result ≡ negated (format_of S.Semantics).nonfinite x }
 {
     IeeeFloat::packed(negated(shape_of::<S>(), x.unpacked()))

@@ -3,9 +3,7 @@ use Rattle.std.proofs.Common.{◌≡◌, ℕ, ◌-◌, ◌<◌, ◌≤◌, Bool,
 use Rattle.std.proofs.lemmas.Bool.{eq-eqb, ne_eqb}
 use Rattle.apfloat_base.specs.Digits.{same}
 use Rattle.apfloat_base.specs.Specials.{inside, in_parentheses, plain_payload, payload_of}
-
-eqb_self : (n : ℕ) → eqb n n ≡ true
-eqb_self n = eq-eqb n n refl
+use Rattle.apfloat_base.proofs.Choices.{eqb_self}
 
 -- with another last character it is the same only if it had that one
 last_same : (d : ℕ) (ys : List ℕ) → same (d ∷ ys) (take (length ys) (d ∷ ys) ++ (41 ∷ [])) ≡ eqb (get_or (d ∷ ys) (length ys) 0) 41

@@ -1,24 +1,12 @@
 -- The digits of a payload are read one by one.
-use Rattle.std.proofs.Common.{◌≡◌, ℕ, ◌^◌, ◌<◌, ◌≤◌, Bool, true, false, ◌&&◌, ltb, if◌then◌else◌, List, [], ◌∷◌, length, fold, Option, Some, None, refl, ap, ◌∙◌, arith, lit<}
+use Rattle.std.proofs.Common.{◌≡◌, ℕ, ◌^◌, ◌<◌, ◌≤◌, Bool, true, false, ◌&&◌, ltb, if◌then◌else◌, List, [], ◌∷◌, length, fold, Some, None, refl, ap, ◌∙◌, arith, lit<}
 use Rattle.std.proofs.lemmas.Bool.{le-ltb, lt-ltb, ltb-false, ltb-true}
 use Rattle.apfloat_base.specs.Digits.{every, is_empty}
 use Rattle.apfloat_base.specs.Specials.{Radix, sixteen, eight, ten, is_digit_of, payload_of_digits}
+use Rattle.apfloat_base.proofs.Choices.{first_holds, first_fails, last_fails}
 use Rattle.apfloat_texts.specs.Payloads.{longer, next, read_on, IsPayloadRead}
 
 -- ---- one digit
-
-accepted : (b e l : Bool) (x : Option ℕ) → b ≡ true → (if b && e && l then x else None) ≡ (if e && l then x else None)
-accepted true e l x h = refl
-accepted false e l x h = cc
-
-refused : (b e l : Bool) (x : Option ℕ) → b ≡ false → (if b && e && l then x else None) ≡ None
-refused true e l x h = cc
-refused false e l x h = refl
-
-too_large : (e l : Bool) (x : Option ℕ) → l ≡ false → (if e && l then x else None) ≡ None
-too_large true true x h = cc
-too_large true false x h = refl
-too_large false l x h = refl
 
 grown : (radix : Radix) (n c : ℕ) → n ≤ longer radix n c
 grown sixteen n c = omega arith
@@ -35,12 +23,12 @@ fold_grows radix n (c ∷ digits) =
 
 stops : (radix : Radix) (n c : ℕ) (digits : List ℕ) (b l : Bool) → is_digit_of radix c ≡ b → ltb (longer radix n c) (2 ^ 128) ≡ l
     → (if b && l then Some (longer radix n c) else None) ≡ None → read_on radix n (c ∷ digits) ≡ None
-stops radix n c digits false l p q e = refused (is_digit_of radix c) (every (is_digit_of radix) digits) _ _ p
+stops radix n c digits false l p q e = first_fails (is_digit_of radix c) (every (is_digit_of radix) digits) _ _ p
 stops radix n c digits true false p q e =
     let g = fold_grows radix (longer radix n c) digits in
     let f = ltb-false (longer radix n c) (2 ^ 128) q in
-    accepted (is_digit_of radix c) (every (is_digit_of radix) digits) _ _ p
-    ∙ too_large (every (is_digit_of radix) digits) _ _ (le-ltb _ _ (omega (arith, g, f)))
+    first_holds (is_digit_of radix c) (every (is_digit_of radix) digits) _ _ p
+    ∙ last_fails (every (is_digit_of radix) digits) _ _ (le-ltb _ _ (omega (arith, g, f)))
 stops radix n c digits true true p q e = cc
 
 goes : (radix : Radix) (n c m : ℕ) (digits : List ℕ) (b l : Bool) → is_digit_of radix c ≡ b → ltb (longer radix n c) (2 ^ 128) ≡ l
@@ -50,7 +38,7 @@ goes radix n c m digits true false p q e = cc
 goes radix n c m digits true true p q e =
     let same : longer radix n c ≡ m = cc in
     let small = ltb-true (longer radix n c) (2 ^ 128) q in
-    (omega (arith, same, small), accepted (is_digit_of radix c) (every (is_digit_of radix) digits) _ _ p ∙ ap (λ (k : ℕ). read_on radix k digits) same)
+    (omega (arith, same, small), first_holds (is_digit_of radix c) (every (is_digit_of radix) digits) _ _ p ∙ ap (λ (k : ℕ). read_on radix k digits) same)
 
 -- ---- all of them
 

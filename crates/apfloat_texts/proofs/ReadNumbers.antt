@@ -15,7 +15,7 @@ use Rattle.apfloat_base.specs.Rounding.{IsDelivered, zero_sign}
 use Rattle.apfloat_base.specs.Readings.{IsScaledDelivery}
 use Rattle.apfloat_base.proofs.Existence.{two_pos}
 use Rattle.apfloat_base.proofs.Losses.{stands_from, stands_to}
-use Rattle.apfloat_base.proofs.Fractions.{stands_scale}
+use Rattle.apfloat_base.proofs.KeptDigits.{stands_times}
 use Rattle.apfloat_base.proofs.FarMagnitudes.{IsFarAbove, IsFarBelow, far_above, far_below}
 use Rattle.apfloat_base.proofs.ZeroTexts.{zero_text}
 use Rattle.apfloat_unpacked.specs.declared.shape.Shape.{Shape}
@@ -100,7 +100,7 @@ stands_at number s k scale loss unit h =
     let p = power_at k scale unit in
     let u = unit +ℤ pos scale in
     let w : ℕ = 2 ^ (up p + down u) in
-    let a = stands_scale s loss number (2 ^ k) w (pow_pos (up p + down u)) h in
+    let a = stands_times s loss number (2 ^ k) w (pow_pos (up p + down u)) h in
     let b : number * w ≡ number * 2 ^ up p * 2 ^ down u = ap (λ (x : ℕ). number * x) (pow-add 2 (up p) (down u)) ∙ omega arith in
     let c : 2 ^ k * w ≡ 2 ^ down p * 2 ^ up u = sym (pow-add 2 k (up p + down u)) ∙ ap (λ (x : ℕ). 2 ^ x) (balanced k scale unit) ∙ pow-add 2 (down p) (up u) in
     rw (b, c) at a

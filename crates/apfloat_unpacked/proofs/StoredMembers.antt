@@ -1,14 +1,15 @@
 -- What is stored is a value of the format, of the category that it says.
-use Rattle.std.proofs.Common.{◌≡◌, ℕ, ◌*◌, ◌^◌, ◌<◌, ◌≤◌, ◌⊎◌, ℤ, pos, negsuc, ◌-ℤ◌, inl, inr, sym, refl, ap, ◌∙◌, arith}
+use Rattle.std.proofs.Common.{◌≡◌, ℕ, ◌*◌, ◌^◌, ◌<◌, ◌≤◌, ◌⊎◌, ◌-ℤ◌, inl, inr, sym, refl, ap, ◌∙◌, arith}
 use Rattle.std.proofs.lemmas.Nat.{pow_pos}
 use Rattle.std.proofs.lemmas.Bool.{ne_eqb}
 use Rattle.std.proofs.Math.Nat.{mul-le-mul_left}
 use Rattle.apfloat_base.specs.declared.kinds.Category.{Category}
 use Rattle.apfloat_base.specs.declared.kinds.Category.TheVariants.{Infinity, NaN, Normal, Zero}
-use Rattle.apfloat_base.specs.Exact.{up, down}
 use Rattle.apfloat_base.specs.Grid.{IsOnGrid}
 use Rattle.apfloat_base.specs.Classes.{category_of}
 use Rattle.apfloat_base.specs.Members.{IsMember}
+use Rattle.apfloat_base.proofs.Laws.{zero_on_grid}
+use Rattle.apfloat_base.proofs.Signs.{one_side}
 use Rattle.apfloat_unpacked.specs.declared.shape.Shape.{Shape}
 use Rattle.apfloat_unpacked.specs.declared.unpacked.Unpacked.{Unpacked}
 use Rattle.apfloat_unpacked.specs.Shapes.{format_at}
@@ -23,10 +24,6 @@ category_by NaN s x h = refl
 
 pub category_is : (s : Shape) (x : Unpacked) → IsStored s x → category_of (datum_at s x) ≡ x.category
 category_is s x h = category_by x.category s x h
-
-one_side : (z : ℤ) → (up z ≡ 0) ⊎ (down z ≡ 0)
-one_side (pos n) = inr refl
-one_side (negsuc n) = inl refl
 
 -- a number that is stored is a point of the grid
 on_grid_at : (precision m n u d : ℕ) → m < 2 ^ precision → n * 2 ^ d ≡ m * 2 ^ u → (u ≡ 0) ⊎ (d ≡ 0) → IsOnGrid precision n
@@ -48,7 +45,7 @@ member_by Normal s x h =
       zero_has = λ z. absurd (omega (arith, z, p));
     }
 member_by Zero s x h = record {
-  on_grid = record { significand = 0; place = 0; fits = pow_pos s.precision; is = refl };
+  on_grid = zero_on_grid s.precision;
   within = omega arith;
   zero_has = λ _. h.sign_is;
 }

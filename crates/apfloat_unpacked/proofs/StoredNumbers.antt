@@ -6,10 +6,9 @@ use Rattle.std.proofs.lemmas.Nat.{pow-add, pow_pos, shl-shr}
 use Rattle.std.proofs.lemmas.Int.{ints}
 use Rattle.std.proofs.lemmas.Bool.{cases_lt}
 use Rattle.apfloat_base.specs.Format.{greatest_significand}
-use Rattle.apfloat_base.specs.declared.kinds.NonfiniteBehavior.{NonfiniteBehavior}
-use Rattle.apfloat_base.specs.declared.kinds.NonfiniteBehavior.TheVariants.{IEEE754, NanOnly, NanNegativeZero}
 use Rattle.apfloat_base.specs.Exact.{up, down}
 use Rattle.apfloat_base.proofs.Existence.{two_pos}
+use Rattle.apfloat_base.proofs.Greatest.{greatest_fits}
 use Rattle.apfloat_base.proofs.Losses.{twice_half}
 use Rattle.apfloat_base.proofs.KeptDigits.{digits_le, some_digits, fits_shifted, full_shifted, same_quanta}
 use Rattle.apfloat_unpacked.specs.declared.shape.Shape.{Shape}
@@ -23,11 +22,6 @@ quanta_is min_exp s e n h = rw (← h) (shl-shr n (down (e -ℤ min_exp)))
 
 pub whole_is : (min_exp : ℤ) (s : ℕ) (e : ℤ) (n : ℕ) → IsQuantaAt min_exp s e n → IsQuantaAt min_exp s e (quanta_at min_exp s e)
 whole_is min_exp s e n h = rw (quanta_is min_exp s e n h) h
-
-greatest_below : (kind : NonfiniteBehavior) (precision : ℕ) → greatest_significand kind precision < 2 ^ precision
-greatest_below IEEE754 precision = let p : 0 < 2 ^ precision = pow_pos precision in omega arith
-greatest_below NanOnly precision = let p : 0 < 2 ^ precision = pow_pos precision in omega arith
-greatest_below NanNegativeZero precision = let p : 0 < 2 ^ precision = pow_pos precision in omega arith
 
 -- a number within the largest value has its integer bit no higher than that one
 top_place : (half m place shift top span : ℕ) → half ≤ m * 2 ^ shift → top < 2 * half → m * 2 ^ place ≤ top * 2 ^ span → place ≤ span + shift
@@ -53,7 +47,7 @@ pub normal_at : (s : Shape) (m place shift : ℕ) (e : ℤ) → IsShape s → m 
     → m * 2 ^ place ≤ greatest_significand s.nonfinite s.precision * 2 ^ (format_at s).span → IsNormal s (m * 2 ^ shift) e
 normal_at s m place shift e law fits full short is quanta within =
     let t : 2 * 2 ^ (s.precision - 1) ≡ 2 ^ s.precision = twice_half s.precision (omega (arith, law.precision_low)) in
-    let g = greatest_below s.nonfinite s.precision in
+    let g = greatest_fits s.nonfinite s.precision in
     let p : place ≤ (format_at s).span + shift =
     top_place (2 ^ (s.precision - 1)) m place shift (greatest_significand s.nonfinite s.precision) (format_at s).span full (omega (arith, g, t)) within in
     record {
@@ -94,7 +88,7 @@ below_zero : (z : ℤ) (d : ℕ) → neg_ℤ (pos d) ≡ z → (down z ≡ d) ×
 below_zero z zero e = rw (← e) (refl, refl)
 below_zero z (suc d) e = rw (← e) (refl, refl)
 
-above_zero : (z : ℤ) (j : ℕ) → pos j ≡ z → (up z ≡ j) × (down z ≡ 0)
+pub above_zero : (z : ℤ) (j : ℕ) → pos j ≡ z → (up z ≡ j) × (down z ≡ 0)
 above_zero z j e = rw (← e) (refl, refl)
 
 pub quanta_low : (s : Shape) (m : ℕ) (e : ℤ) (d : ℕ) → pos d ≡ s.min_exp -ℤ e → quanta_at s.min_exp m e ≡ m / 2 ^ d

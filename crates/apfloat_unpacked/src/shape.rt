@@ -1,7 +1,8 @@
 //! What rounding reads of a format.
 
-ghost use Rattle.std.specs.Prelude.{◌≡◌, ◌-◌, ◌^◌, ◌<◌, ◌≤◌};
+ghost use Rattle.std.specs.Prelude.{◌≡◌, ◌-◌, ◌^◌, ◌<◌, ◌≤◌, pos, neg_ℤ, ◌-ℤ◌, ◌≤ℤ◌};
 ghost use Rattle.apfloat_base.specs.Format.{greatest_significand};
+ghost use Rattle.apfloat_unpacked.specs.Shapes.{IsShape};
 
 use apfloat_base::sig::power_of_two;
 use apfloat_base::{ExpInt, NonfiniteBehavior};
@@ -71,4 +72,17 @@ impl Shape {
             NonfiniteBehavior::NanNegativeZero => power_of_two(self.precision) - 1,
         }
     }
+}
+
+/// The exponent of the last digit of a number.
+#[inline]
+pub fn last_exponent(shape: Shape, exponent: ExpInt) -> ExpInt
+    requires lawful { IsShape shape }
+    requires near { exponent ≤ℤ pos 7340032 }
+    requires far { neg_ℤ (pos 7340032) ≤ℤ exponent }
+    ensures value { result ≡ exponent -ℤ pos (shape.precision - 1) }
+    ensures near { result ≤ℤ pos 8388608 }
+    ensures far { neg_ℤ (pos 8388608) ≤ℤ result }
+{
+    exponent - (shape.precision - 1) as ExpInt
 }

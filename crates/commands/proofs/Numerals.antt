@@ -3,6 +3,7 @@ use Rattle.std.proofs.Common.{◌≡◌, ℕ, ◌+◌, ◌*◌, ◌^◌, ◌<◌
 use Rattle.std.proofs.lemmas.Bool.{le-ltb, ltb-false, ltb-true}
 use Rattle.std.proofs.lemmas.Bool.Decides.{nat_tests}
 use Rattle.std.proofs.lemmas.List.{at_drop_more, at_drop_all}
+use Rattle.apfloat_base.proofs.Choices.{first_holds, first_fails, last_fails}
 use Rattle.rustc_apfloat.specs.Digits.{every, is_decimal, digit_value}
 use Rattle.commands.specs.Commands.{whole_number_of}
 
@@ -19,19 +20,6 @@ read_on n digits = if every is_decimal digits && nat_lt (fold longer n digits) (
 
 -- ---- one digit
 
-accepted : (b e l : Bool) (x : Option ℕ) → b ≡ true → (if b && e && l then x else None) ≡ (if e && l then x else None)
-accepted true e l x h = refl
-accepted false e l x h = cc
-
-refused : (b e l : Bool) (x : Option ℕ) → b ≡ false → (if b && e && l then x else None) ≡ None
-refused true e l x h = cc
-refused false e l x h = refl
-
-too_large : (e l : Bool) (x : Option ℕ) → l ≡ false → (if e && l then x else None) ≡ None
-too_large true true x h = cc
-too_large true false x h = refl
-too_large false l x h = refl
-
 -- more digits make no smaller number
 fold_grows : (n : ℕ) (digits : List ℕ) → n ≤ fold longer n digits
 fold_grows n [] = omega arith
@@ -42,17 +30,17 @@ fold_grows n (c ∷ digits) =
 
 read_on-cons : (n c : ℕ) (digits : List ℕ) → is_decimal c ≡ true → read_on n (c ∷ digits) ≡ read_on (longer n c) digits
 unfolding read_on
-read_on-cons n c digits e = accepted (is_decimal c) (every is_decimal digits) _ _ e
+read_on-cons n c digits e = first_holds (is_decimal c) (every is_decimal digits) _ _ e
 
 read_on-no_digit : (n c : ℕ) (digits : List ℕ) → is_decimal c ≡ false → read_on n (c ∷ digits) ≡ None
 unfolding read_on
-read_on-no_digit n c digits e = refused (is_decimal c) (every is_decimal digits) _ _ e
+read_on-no_digit n c digits e = first_fails (is_decimal c) (every is_decimal digits) _ _ e
 
 read_on-too_large : (n : ℕ) (digits : List ℕ) → 2 ^ 128 ≤ n → read_on n digits ≡ None
 unfolding read_on
 read_on-too_large n digits h =
     let grown = fold_grows n digits in
-    too_large (every is_decimal digits) _ _ (le-ltb _ _ (omega arith))
+    last_fails (every is_decimal digits) _ _ (le-ltb _ _ (omega arith))
 
 read_on-nil : (n : ℕ) → n < 2 ^ 128 → read_on n [] ≡ Some n
 unfolding read_on

@@ -1,6 +1,6 @@
 //! What is lost where digits are cut off.
 
-ghost use Rattle.std.specs.Prelude.{ℕ, ◌+◌, ◌*◌, ◌<◌};
+ghost use Rattle.std.specs.Prelude.{◌≡◌, ℕ, ◌+◌, ◌*◌, ◌<◌, true, false};
 ghost use Rattle.apfloat_base.specs.Standing.{StandsFor};
 
 /// What part of the lowest kept bit was cut off.
@@ -14,6 +14,20 @@ pub enum Loss {
     ExactlyHalf,
     /// More than half of it, and less than the whole.
     MoreThanHalf,
+}
+
+/// Whether nothing was lost.
+#[inline]
+pub fn is_exact(loss: Loss) -> bool
+    ensures yes { result ≡ true → loss ≡ Loss.ExactlyZero }
+    ensures no { result ≡ false → loss ≡ Loss.ExactlyZero → ⊥ }
+{
+    match loss {
+        Loss::ExactlyZero => true,
+        Loss::LessThanHalf => false,
+        Loss::ExactlyHalf => false,
+        Loss::MoreThanHalf => false,
+    }
 }
 
 /// What is lost where `rest` is cut off, in units that are twice `half`, with `loss` below it.

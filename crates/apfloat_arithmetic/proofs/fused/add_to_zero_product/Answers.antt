@@ -4,10 +4,11 @@ use Rattle.apfloat_base.specs.Flags.{bits_of}
 use Rattle.apfloat_base.specs.Datum.{finite}
 use Rattle.apfloat_base.specs.Rounding.{ok_bits}
 use Rattle.apfloat_base.specs.Sums.{zero_sum_sign}
+use Rattle.apfloat_base.proofs.Tables.{fused_zero_finite}
 use Rattle.apfloat_unpacked.specs.Shapes.{format_at}
 use Rattle.apfloat_unpacked.specs.Stored.{datum_at, quanta_at}
 use Rattle.apfloat_arithmetic.proofs.SumCases.{number_stored, datum_is}
-use Rattle.apfloat_arithmetic.proofs.FusedCases.{addend_rounded, zeros_rounded, same_fused}
+use Rattle.apfloat_arithmetic.proofs.FusedCases.{zeros_rounded, same_fused}
 use Rattle.apfloat_arithmetic.proofs.fused.add_to_zero_product.Goals as goal
 
 pub returns-in-Normal-clause-delivered : goal.returns-in-Normal-clause-delivered
@@ -18,7 +19,7 @@ returns-in-Normal-clause-delivered c = λ b d l m e h.
     let t = number_stored s z c.in-Normal.is c.requires.addend in
     same_fused (format_at s) c.args.round (finite b l) (finite d m) (datum_at s z) (datum_at s c.and.result.value) (finite z.negative n) (finite z.negative n) (bits_of c.and.result.status) ok_bits
     (datum_is Normal s z c.in-Normal.is) (ap (datum_at s) c.and.ensures.value ∙ datum_is Normal s z c.in-Normal.is) (ap bits_of c.and.ensures.status)
-    (addend_rounded (format_at s) c.args.round b d z.negative l m n h t.0 t.1)
+    (fused_zero_finite (format_at s) c.args.round b d z.negative l m n h t.1 t.0)
 
 pub returns-in-Zero-clause-delivered : goal.returns-in-Zero-clause-delivered
 returns-in-Zero-clause-delivered c = λ b d l m e h.

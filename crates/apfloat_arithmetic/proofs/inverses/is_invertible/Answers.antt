@@ -1,6 +1,7 @@
 use Rattle.std.proofs.Common.{T, Bool, not, sym, subst, arith}
 use lib.Signed.{le_z_yes, lt_z_no}
-use Rattle.apfloat_arithmetic.proofs.ProductExponents.{normal_near, min_exp_word, max_exp_word}
+use Rattle.apfloat_unpacked.proofs.ShapeExponents.{min_exp_word, max_exp_word}
+use Rattle.apfloat_arithmetic.proofs.ProductExponents.{normal_near}
 use Rattle.apfloat_arithmetic.proofs.ExactInverses.{opposite_word}
 use Rattle.apfloat_arithmetic.proofs.inverses.is_invertible.Goals as goal
 

@@ -2,7 +2,8 @@ use Rattle.std.proofs.Common.{◌≡◌, ℕ, eqb, ◌-◌, ◌*◌, ◌/◌, �
 use Rattle.std.proofs.Math.Nat.{mod-lt, pow-le-pow_right}
 use Rattle.std.proofs.lemmas.Nat.{pow_pos}
 use Rattle.apfloat_base.proofs.Existence.{two_pos}
-use Rattle.apfloat_arithmetic.proofs.NearestMultiples.{upper, upper_level, lower_near, far_below, one_below, digits_less, difference_scaled}
+use Rattle.apfloat_base.proofs.Scaled.{less_scaled}
+use Rattle.apfloat_arithmetic.proofs.NearestMultiples.{upper, upper_level, lower_near, far_below, one_below, digits_less}
 use Rattle.apfloat_arithmetic.proofs.WholeQuotients.{divisor_pos}
 use Rattle.apfloat_arithmetic.proofs.remainders.nearest_by.Goals.{then-gap-eq1, else-gap-eq1}
 use Rattle.apfloat_arithmetic.proofs.remainders.nearest_by.Goals as goal
@@ -57,9 +58,7 @@ returns-then-is_upper_nearest-clause-past c =
       | then-gap-eq1 w ↦ ap (λ (z : ℕ). z * 2 ^ p) w.divisor-is ∙ one_below c.args.y.significand c.rest_by-rest.result.point.place c.args.y.place (omega arith)
       | else-gap-eq1 w ↦ ap (λ (z : ℕ). z * 2 ^ p) w.divisor-is ∙ level_places c.args.y.significand c.rest_by-rest.result.point.place c.args.y.place (omega arith)
     ] in
-    let l : x % y < y = mod-lt x (divisor_pos c.args.precision c.args.y.significand c.args.y.place c.requires.y_full) in
-    let k : s < d = digits_less s d (2 ^ p) (x % y) y e f l in
-    let u : upper s (d - s) c.rest_by-rest.result.odd ≡ upper (x % y) (y - x % y) (eqb (x / y % 2) 1) = upper_level s d (2 ^ p) (x % y) y c.rest_by-rest.result.odd (eqb (x / y % 2) 1) (pow_pos p) (omega arith) e f c.rest_by-rest.ensures.odd in
+    let u : upper s (d - s) c.rest_by-rest.result.odd ≡ upper (x % y) (y - x % y) (eqb (x / y % 2) 1) = upper_level s d (2 ^ p) (x % y) y c.rest_by-rest.result.odd (eqb (x / y % 2) 1) (pow_pos p) e f c.rest_by-rest.ensures.odd in
     sym c.if-is_upper_nearest.true ∙ c.is_upper_nearest.ensures ∙ u
 
 pub returns-then-is_upper_nearest-clause-distance : goal.returns-then-is_upper_nearest-clause-distance
@@ -75,10 +74,7 @@ returns-then-is_upper_nearest-clause-distance c =
       | then-gap-eq1 w ↦ ap (λ (z : ℕ). z * 2 ^ p) w.divisor-is ∙ one_below c.args.y.significand c.rest_by-rest.result.point.place c.args.y.place (omega arith)
       | else-gap-eq1 w ↦ ap (λ (z : ℕ). z * 2 ^ p) w.divisor-is ∙ level_places c.args.y.significand c.rest_by-rest.result.point.place c.args.y.place (omega arith)
     ] in
-    let l : x % y < y = mod-lt x (divisor_pos c.args.precision c.args.y.significand c.args.y.place c.requires.y_full) in
-    let k : s < d = digits_less s d (2 ^ p) (x % y) y e f l in
-    let h : s ≤ d = omega arith in
-    difference_scaled d s (2 ^ p) h ∙ ap (λ (z : ℕ). d * 2 ^ p - z) e ∙ ap (λ (z : ℕ). z - x % y) f
+    less_scaled d s (2 ^ p) ∙ ap (λ (z : ℕ). d * 2 ^ p - z) e ∙ ap (λ (z : ℕ). z - x % y) f
 
 pub returns-clause-past : goal.returns-clause-past
 returns-clause-past c =
@@ -93,7 +89,5 @@ returns-clause-past c =
       | then-gap-eq1 w ↦ ap (λ (z : ℕ). z * 2 ^ p) w.divisor-is ∙ one_below c.args.y.significand c.rest_by-rest.result.point.place c.args.y.place (omega arith)
       | else-gap-eq1 w ↦ ap (λ (z : ℕ). z * 2 ^ p) w.divisor-is ∙ level_places c.args.y.significand c.rest_by-rest.result.point.place c.args.y.place (omega arith)
     ] in
-    let l : x % y < y = mod-lt x (divisor_pos c.args.precision c.args.y.significand c.args.y.place c.requires.y_full) in
-    let k : s < d = digits_less s d (2 ^ p) (x % y) y e f l in
-    let u : upper s (d - s) c.rest_by-rest.result.odd ≡ upper (x % y) (y - x % y) (eqb (x / y % 2) 1) = upper_level s d (2 ^ p) (x % y) y c.rest_by-rest.result.odd (eqb (x / y % 2) 1) (pow_pos p) (omega arith) e f c.rest_by-rest.ensures.odd in
+    let u : upper s (d - s) c.rest_by-rest.result.odd ≡ upper (x % y) (y - x % y) (eqb (x / y % 2) 1) = upper_level s d (2 ^ p) (x % y) y c.rest_by-rest.result.odd (eqb (x / y % 2) 1) (pow_pos p) e f c.rest_by-rest.ensures.odd in
     sym c.if-is_upper_nearest.false ∙ c.is_upper_nearest.ensures ∙ u

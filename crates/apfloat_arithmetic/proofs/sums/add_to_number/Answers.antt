@@ -3,9 +3,10 @@ use Rattle.apfloat_base.specs.declared.kinds.Category.TheVariants.{Normal, Zero}
 use Rattle.apfloat_base.specs.Flags.{bits_of}
 use Rattle.apfloat_base.specs.Datum.{finite}
 use Rattle.apfloat_base.specs.Rounding.{ok_bits}
+use Rattle.apfloat_base.proofs.Tables.{sum_finite_zero}
 use Rattle.apfloat_unpacked.specs.Shapes.{format_at}
 use Rattle.apfloat_unpacked.specs.Stored.{datum_at, quanta_at}
-use Rattle.apfloat_arithmetic.proofs.SumCases.{number_stored, same_sum, datum_is, number_and_zero}
+use Rattle.apfloat_arithmetic.proofs.SumCases.{number_stored, same_sum, datum_is}
 use Rattle.apfloat_arithmetic.proofs.sums.add_to_number.Goals as goal
 
 pub returns-in-Zero-clause-delivered : goal.returns-in-Zero-clause-delivered
@@ -16,4 +17,4 @@ returns-in-Zero-clause-delivered c =
     let h = number_stored s x c.requires.normal c.requires.x_stored in
     same_sum (format_at s) c.args.round (finite x.negative n) (datum_at s c.args.y) (datum_at s c.and.result.value) (finite x.negative n) (finite c.args.y.negative 0) (finite x.negative n) (bits_of c.and.result.status) ok_bits
     refl (datum_is Zero s c.args.y c.in-Zero.is) (ap (datum_at s) c.and.ensures.value ∙ datum_is Normal s x c.requires.normal) (ap bits_of c.and.ensures.status)
-    (number_and_zero (format_at s) c.args.round x.negative c.args.y.negative n h.0 h.1)
+    (sum_finite_zero (format_at s) c.args.round x.negative c.args.y.negative n h.1 h.0)

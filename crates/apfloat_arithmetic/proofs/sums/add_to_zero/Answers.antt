@@ -4,10 +4,10 @@ use Rattle.apfloat_base.specs.Flags.{bits_of}
 use Rattle.apfloat_base.specs.Datum.{finite}
 use Rattle.apfloat_base.specs.Rounding.{ok_bits, zero_sign}
 use Rattle.apfloat_base.specs.Sums.{zero_sum_sign}
-use Rattle.apfloat_base.proofs.SumLaws.{zero_rounded}
+use Rattle.apfloat_base.proofs.Tables.{sum_zero_finite, sum_zeros}
 use Rattle.apfloat_unpacked.specs.Shapes.{format_at}
 use Rattle.apfloat_unpacked.specs.Stored.{datum_at, quanta_at}
-use Rattle.apfloat_arithmetic.proofs.SumCases.{number_stored, same_sum, datum_is, zero_and_number}
+use Rattle.apfloat_arithmetic.proofs.SumCases.{number_stored, same_sum, datum_is}
 use Rattle.apfloat_arithmetic.proofs.sums.add_to_zero.Goals as goal
 
 pub returns-in-Normal-clause-delivered : goal.returns-in-Normal-clause-delivered
@@ -19,7 +19,7 @@ returns-in-Normal-clause-delivered c =
     let h = number_stored s y c.in-Normal.is c.requires.y_stored in
     same_sum (format_at s) c.args.round (finite b 0) (datum_at s y) (datum_at s c.and-in-Normal.result.value) (finite b 0) (finite y.negative n) (finite y.negative n) (bits_of c.and-in-Normal.result.status) ok_bits
     refl (datum_is Normal s y c.in-Normal.is) (ap (datum_at s) c.and-in-Normal.ensures.value ∙ datum_is Normal s y c.in-Normal.is) (ap bits_of c.and-in-Normal.ensures.status)
-    (zero_and_number (format_at s) c.args.round b y.negative n h.0 h.1)
+    (sum_zero_finite (format_at s) c.args.round b y.negative n h.1 h.0)
 
 pub returns-in-Zero-clause-delivered : goal.returns-in-Zero-clause-delivered
 returns-in-Zero-clause-delivered c =
@@ -30,4 +30,4 @@ returns-in-Zero-clause-delivered c =
     let v = rw c.sign_of_zero-negative.ensures at c.zero_of.ensures.datum in
     same_sum (format_at s) c.args.round (finite b 0) (datum_at s y) (datum_at s c.and-in-Zero.result.value) (finite b 0) (finite y.negative 0) (finite (zero_sign s.nonfinite sign) 0) (bits_of c.and-in-Zero.result.status) ok_bits
     refl (datum_is Zero s y c.in-Zero.is) (ap (datum_at s) c.and-in-Zero.ensures.value ∙ v) (ap bits_of c.and-in-Zero.ensures.status)
-    (zero_rounded (format_at s) c.args.round sign b y.negative)
+    (sum_zeros (format_at s) c.args.round b y.negative)

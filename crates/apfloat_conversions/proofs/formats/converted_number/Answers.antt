@@ -1,22 +1,25 @@
-use Rattle.std.proofs.Common.{◌≡◌, ℕ, ◌-◌, ◌*◌, ◌^◌, arith, pos, ◌-ℤ◌, w32}
-use Rattle.std.proofs.lemmas.Int.{ints, to_z-of_z}
+use Rattle.std.proofs.Common.{ℕ, ◌-◌, ◌*◌, ◌^◌, w32}
+use Rattle.std.proofs.lemmas.Int.{to_z-of_z}
 use Rattle.std.proofs.lemmas.Nat.{pow_pos}
 use Rattle.apfloat_base.proofs.SingleScalings.{converted_is}
 use Rattle.apfloat_unpacked.specs.Shapes.{format_at}
 use Rattle.apfloat_unpacked.specs.Stored.{quanta_at}
+use Rattle.apfloat_unpacked.proofs.ShapeExponents.{exponent_word, scale_is}
 use Rattle.apfloat_conversions.proofs.formats.converted_number.Goals as goal
 
 pub returns-clause-converted : goal.returns-clause-converted
 returns-clause-converted c =
     let s = c.args.from in
     let t = c.args.into in
+    let ex = exponent_word s c.args.x.significand c.args.x.exponent c.requires.from c.requires.x in
+    let v = rw ex at c.last_exponent.ensures.value in
     let w = to_z-of_z w32 c.last_exponent.result (record { sfits = c.last_exponent.type_inv }) in
     let g = rw w at c.deliver-answer.ensures.delivered in
-    let k : pos (format_at s).scale ≡ pos (s.precision - 1) -ℤ s.min_exp = omega (arith, ints, c.requires.from) in
-    let k' : pos (format_at t).scale ≡ pos (t.precision - 1) -ℤ t.min_exp = omega (arith, ints, c.requires.into) in
+    let k = scale_is s c.requires.from in
+    let k' = scale_is t c.requires.into in
     let a : ℕ = quanta_at s.min_exp c.args.x.significand c.args.x.exponent in
     record {
       is_delivered = g (a * 2 ^ (format_at t).scale) (2 ^ (format_at s).scale) (pow_pos (format_at s).scale)
-          (converted_is (s.precision - 1) (format_at s).scale (t.precision - 1) (format_at t).scale s.min_exp t.min_exp c.args.x.exponent c.last_exponent.result c.args.x.significand a k k' c.last_exponent.ensures.value c.requires.x.whole);
+          (converted_is (s.precision - 1) (format_at s).scale (t.precision - 1) (format_at t).scale s.min_exp t.min_exp c.args.x.exponent c.last_exponent.result c.args.x.significand a k k' v c.requires.x.whole);
       loses_is = c.ne.ensures;
     }

@@ -4,7 +4,8 @@ use Rattle.std.proofs.lemmas.Nat.{pow_pos}
 use Rattle.apfloat_base.specs.Standing.{up}
 use Rattle.apfloat_unpacked.specs.Shapes.{format_at}
 use Rattle.apfloat_unpacked.specs.Stored.{quanta_at}
-use Rattle.apfloat_conversions.proofs.Operands.{exponent_word, scale_is, significand_small}
+use Rattle.apfloat_unpacked.proofs.ShapeExponents.{exponent_word, scale_is}
+use Rattle.apfloat_conversions.proofs.Operands.{significand_small}
 use Rattle.apfloat_conversions.proofs.Wholes.{places_up, places_down, up_of, whole_toward_zero, whole_multiple}
 use Rattle.apfloat_conversions.proofs.integral.is_whole_number.Goals as goal
 

@@ -2,7 +2,7 @@ use Rattle.std.proofs.Common.{◌≡◌, ℕ, ◌-◌, ◌^◌, ◌≤◌, ℤ, 
 use Rattle.std.proofs.lemmas.Int.{to_z-of_z}
 use Rattle.apfloat_base.proofs.Losses.{twice_half}
 use Rattle.apfloat_unpacked.specs.Stored.{quanta_at}
-use Rattle.apfloat_conversions.proofs.Operands.{exponent_word}
+use Rattle.apfloat_unpacked.proofs.ShapeExponents.{exponent_word}
 use Rattle.apfloat_conversions.proofs.Nexts.{room_below}
 use Rattle.apfloat_conversions.proofs.Steps.{IsBefore, step_below, before_stays, before_lowers, before_stored, before_is, before_least}
 use Rattle.apfloat_conversions.proofs.neighbours.next_less.Goals as goal

@@ -3,7 +3,7 @@ use Rattle.std.proofs.lemmas.Bool.{ne_eqb}
 use Rattle.apfloat_unpacked.specs.Shapes.{format_at}
 use Rattle.apfloat_unpacked.specs.Stored.{quanta_at}
 use Rattle.apfloat_unpacked.specs.StoredBack.{quanta_some}
-use Rattle.apfloat_conversions.proofs.Operands.{exponent_word, scale_is}
+use Rattle.apfloat_unpacked.proofs.ShapeExponents.{exponent_word, scale_is}
 use Rattle.apfloat_conversions.proofs.Nexts.{logarithm_is}
 use Rattle.apfloat_conversions.proofs.scaling.ilogb.Goals as goal
 

@@ -2,7 +2,8 @@ use Rattle.std.proofs.Common.{◌≡◌, ◌-◌, pos, ◌+ℤ◌, ◌-ℤ◌, t
 use Rattle.std.proofs.lemmas.Int.{to_z-of_z}
 use Rattle.apfloat_base.specs.Flags.{bits_of}
 use Rattle.apfloat_unpacked.specs.Stored.{datum_at}
-use Rattle.apfloat_conversions.proofs.Operands.{exponent_word, scale_delivered}
+use Rattle.apfloat_unpacked.proofs.ShapeExponents.{exponent_word}
+use Rattle.apfloat_conversions.proofs.Operands.{scale_delivered}
 use Rattle.apfloat_conversions.proofs.scaling.scale_number.Goals as goal
 
 pub returns-clause-delivered : goal.returns-clause-delivered

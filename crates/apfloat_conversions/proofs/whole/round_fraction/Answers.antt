@@ -13,7 +13,7 @@ returns-then-moves_up-clause-picked c = λ amount parts p e.
     let st = cut_whole_stands c.args.significand q c.args.places amount parts loss e (c.shift_right-kept.ensures.stands (c.args.significand * parts) parts p refl) in
     record {
       magnitude_is = kept_moved c.args.round c.args.negative loss q c.moves_up.result c.moves_up.ensures c.if-moves_up.true ∙ sym (whole_at c.args.round c.args.negative q amount parts loss p st);
-      exact_is = exact_at c.args.round c.args.negative q amount parts loss c.is_exact-exact.result p st c.is_exact-exact.ensures.whole c.is_exact-exact.ensures.lost;
+      exact_is = exact_at c.args.round c.args.negative q amount parts loss c.is_exact-exact.result p st c.is_exact-exact.ensures.yes c.is_exact-exact.ensures.no;
     }
 
 pub returns-else-moves_up-clause-picked : goal.returns-else-moves_up-clause-picked
@@ -23,5 +23,5 @@ returns-else-moves_up-clause-picked c = λ amount parts p e.
     let st = cut_whole_stands c.args.significand q c.args.places amount parts loss e (c.shift_right-kept.ensures.stands (c.args.significand * parts) parts p refl) in
     record {
       magnitude_is = kept_stayed c.args.round c.args.negative loss q c.moves_up.result c.moves_up.ensures c.if-moves_up.false ∙ sym (whole_at c.args.round c.args.negative q amount parts loss p st);
-      exact_is = exact_at c.args.round c.args.negative q amount parts loss c.is_exact-exact.result p st c.is_exact-exact.ensures.whole c.is_exact-exact.ensures.lost;
+      exact_is = exact_at c.args.round c.args.negative q amount parts loss c.is_exact-exact.result p st c.is_exact-exact.ensures.yes c.is_exact-exact.ensures.no;
     }

@@ -1,6 +1,7 @@
-use Rattle.std.proofs.Common.{◌≡◌, ◌∙◌, ℕ, ◌<◌, ◌^◌, arith, ap, w32}
+use Rattle.std.proofs.Common.{◌∙◌, ◌<◌, ◌^◌, arith, ap, w32}
 use Rattle.std.specs.Int.{w128}
 use Rattle.std.proofs.lemmas.Int.{to_z-of_z}
+use Rattle.std.proofs.Math.Nat.{pos_of_ne-zero}
 use Rattle.apfloat_base.specs.Flags.{bits_of}
 use Rattle.apfloat_unpacked.specs.Shapes.{format_at}
 use Rattle.apfloat_unpacked.specs.Stored.{datum_at}
@@ -17,16 +18,13 @@ pub deliver-requires-clause-fine : goal.deliver-requires-clause-fine
 deliver-requires-clause-fine c =
     fine_digits c.args.shape.precision c.requires.kept.0 c.args.digits.significand c.args.digits.cut c.args.digits.loss c.requires.lawful.precision_high c.requires.kept.1
 
-some_digit : (n : ℕ) → (n ≡ 0 → ⊥) → 0 < n
-some_digit n h = omega (arith, h)
-
 pub returns-clause-delivered : goal.returns-clause-delivered
 returns-clause-delivered c number exact k near =
     let u = to_z-of_z w32 c.unit_exponent-unit.result (record { sfits = c.unit_exponent-unit.type_inv }) in
     let e = to_z-of_z w128 c.args.exponent c.ranges.exponent in
     let n = (rw e at (c.unit_exponent-unit.ensures.near exact)) near in
     let d = rw u at c.deliver.ensures.delivered in
-    let some : 0 < c.args.digits.significand = some_digit c.args.digits.significand c.if-digits-eq0.false in
+    let some : 0 < c.args.digits.significand = pos_of_ne-zero c.if-digits-eq0.false in
     let small : c.args.digits.significand < 2 ^ 128 = omega arith in
     number_delivered (format_at c.args.shape) c.args.round c.args.negative number c.args.digits.significand c.args.digits.cut c.args.places c.args.digits.loss exact
     c.unit_exponent-unit.result _ _ (bounded c.args.shape c.requires.lawful) some small k n d

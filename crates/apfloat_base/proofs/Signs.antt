@@ -1,0 +1,51 @@
+-- Numbers by their signs and magnitudes.
+use Rattle.std.proofs.Common.{◌≡◌, ℕ, zero, suc, ℤ, pos, negsuc, ◌+ℤ◌, ◌<◌, ◌⊎◌, Bool, true, false, refl, inl, inr, arith}
+use Rattle.std.proofs.lemmas.Int.{ints}
+use Rattle.apfloat_base.specs.declared.kinds.Round.{Round}
+use Rattle.apfloat_base.specs.declared.kinds.NonfiniteBehavior.{NonfiniteBehavior}
+use Rattle.apfloat_base.specs.declared.kinds.NonfiniteBehavior.TheVariants.{IEEE754, NanOnly, NanNegativeZero}
+use Rattle.apfloat_base.specs.Exact.{up, down, signed, sign_of, magnitude, IsRounded}
+use Rattle.apfloat_base.specs.Format.{Format}
+use Rattle.apfloat_base.specs.Datum.{Datum}
+use Rattle.apfloat_base.specs.Rounding.{zero_sign, IsDelivered}
+
+pub no_sign : (b : Bool) → signed b 0 ≡ pos 0
+no_sign true = refl
+no_sign false = refl
+
+pub sign_signed : (of_zero negative : Bool) (n : ℕ) → 0 < n → sign_of of_zero (signed negative n) ≡ negative
+sign_signed of_zero true zero p = absurd (omega arith)
+sign_signed of_zero false zero p = absurd (omega arith)
+sign_signed of_zero true (suc n) p = refl
+sign_signed of_zero false (suc n) p = refl
+
+pub magnitude_signed : (negative : Bool) (n : ℕ) → magnitude (signed negative n) ≡ n
+magnitude_signed true n = omega (arith, ints)
+magnitude_signed false n = omega (arith, ints)
+
+-- a zero without a minus sign is of each kind
+pub plus_zero : (kind : NonfiniteBehavior) → zero_sign kind false ≡ false
+plus_zero IEEE754 = refl
+plus_zero NanOnly = refl
+plus_zero NanNegativeZero = refl
+
+-- ---- a sum with a zero
+
+pub and_zero : (z : ℤ) (c : Bool) → (z +ℤ signed c 0) ≡ z
+and_zero z true = omega (arith, ints)
+and_zero z false = omega (arith, ints)
+
+pub zero_and : (c : Bool) (z : ℤ) → (signed c 0 +ℤ z) ≡ z
+zero_and true z = omega (arith, ints)
+zero_and false z = omega (arith, ints)
+
+-- ---- at least one of the two parts of an integer is zero
+
+pub one_side : (z : ℤ) → (up z ≡ 0) ⊎ (down z ≡ 0)
+one_side (pos n) = inr refl
+one_side (negsuc n) = inl refl
+
+-- ---- a number that is not zero is delivered as its sign and magnitude
+
+pub rounded_signed : (f : Format) (mode : Round) (of_zero s : Bool) (m parts : ℕ) (z : ℤ) (value : Datum) (status : ℕ) → z ≡ signed s m → 0 < m → IsDelivered f mode s m parts value status → IsRounded f mode of_zero z parts value status
+rounded_signed f mode of_zero s m parts z value status e p h = rw (e, sign_signed of_zero s m p, magnitude_signed s m) h

@@ -1,0 +1,26 @@
+-- The exponents of a shape, and those within the word that holds them.
+use Rattle.std.proofs.Common.{◌≡◌, ℕ, ◌-◌, ℤ, pos, ◌-ℤ◌, to_z, of_z, w32, arith}
+use Rattle.std.proofs.lemmas.Int.{ints, to_z-of_z}
+use borrow.Author.Differences.{fits_in}
+use Rattle.apfloat_unpacked.specs.declared.shape.Shape.{Shape}
+use Rattle.apfloat_unpacked.specs.Shapes.{IsShape, format_at}
+use Rattle.apfloat_unpacked.specs.Stored.{IsNormal}
+
+-- the quantum is 2 ^ -scale
+pub scale_is : (s : Shape) → IsShape s → pos (format_at s).scale ≡ pos (s.precision - 1) -ℤ s.min_exp
+scale_is s law = omega (arith, ints, law.precision_low, law.min_exp_high)
+
+pub span_is : (s : Shape) → IsShape s → pos (format_at s).span ≡ s.max_exp -ℤ s.min_exp
+span_is s law = omega (arith, ints, law)
+
+pub min_exp_word : (s : Shape) → IsShape s → to_z w32 (of_z w32 s.min_exp) ≡ s.min_exp
+min_exp_word s law = to_z-of_z w32 s.min_exp (fits_in w32 s.min_exp (omega (arith, ints, law.min_exp_low, law.min_exp_high)))
+
+pub max_exp_word : (s : Shape) → IsShape s → to_z w32 (of_z w32 s.max_exp) ≡ s.max_exp
+max_exp_word s law = to_z-of_z w32 s.max_exp (fits_in w32 s.max_exp (omega (arith, ints, law.max_exp_low, law.max_exp_high)))
+
+-- the exponent of a number
+pub exponent_word : (s : Shape) (m : ℕ) (e : ℤ) → IsShape s → IsNormal s m e → to_z w32 (of_z w32 e) ≡ e
+exponent_word s m e law n =
+    let o = n.operand in
+    to_z-of_z w32 e (fits_in w32 e (omega (arith, ints, law, o)))
