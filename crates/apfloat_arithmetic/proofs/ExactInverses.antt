@@ -18,11 +18,11 @@ use Rattle.apfloat_unpacked.specs.declared.unpacked.Unpacked.{Unpacked}
 use Rattle.apfloat_unpacked.specs.Shapes.{IsShape, format_at}
 use Rattle.apfloat_unpacked.specs.Stored.{IsNormal, IsQuantaAt, quanta_at}
 use Rattle.apfloat_unpacked.proofs.ShapeExponents.{scale_is}
-use Rattle.apfloat_unpacked.proofs.StoredNumbers.{whole_is, quanta_is, above_zero}
+use Rattle.apfloat_unpacked.proofs.StoredNumbers.{whole_is, above_zero}
 use Rattle.apfloat_arithmetic.specs.Inverses.{IsInvertible}
 use Rattle.apfloat_arithmetic.proofs.ProductExponents.{normal_near}
 use Rattle.apfloat_arithmetic.proofs.PowerFactors.{factor_of_power, power_with_digits}
-use Rattle.apfloat_arithmetic.proofs.NumberClasses.{quanta_low_is}
+use Rattle.apfloat_arithmetic.proofs.NumberClasses.{quanta_low_is, quanta_high_is}
 
 -- the exponent counted from the least one
 abbrev pub steps_of : Shape → ℤ → ℕ
@@ -33,9 +33,6 @@ pub whole_from : (s : Shape) (m : ℕ) (e : ℤ) → s.min_exp ≤ℤ e → IsQu
 whole_from s m e l =
     let a = above_zero (e -ℤ s.min_exp) (steps_of s e) (omega (arith, ints)) in
     rw (a.0, a.1) (omega arith)
-
-pub quanta_from : (s : Shape) (m : ℕ) (e : ℤ) → s.min_exp ≤ℤ e → quanta_at s.min_exp m e ≡ m * 2 ^ steps_of s e
-quanta_from s m e l = quanta_is s.min_exp m e (m * 2 ^ steps_of s e) (whole_from s m e l)
 
 pub power_within : (s : Shape) (e : ℤ) → IsShape s → s.min_exp ≤ℤ e → e ≤ℤ s.max_exp → 2 ^ (s.precision - 1) * 2 ^ steps_of s e ≤ largest (format_at s)
 power_within s e law l h =
@@ -52,7 +49,7 @@ inverted_normal s m e law n i =
     record {
       operand = record { fits = n.operand.fits; full = n.operand.full; least = omega (arith, ints, i.inverse_normal, law.precision_low); greatest = i.inverse_within };
       whole = whole_is s.min_exp m (neg_ℤ e) (m * 2 ^ steps_of s (neg_ℤ e)) (whole_from s m (neg_ℤ e) i.inverse_normal);
-      within = rw (quanta_from s m (neg_ℤ e) i.inverse_normal) g;
+      within = rw (quanta_high_is s m (neg_ℤ e) i.inverse_normal) g;
     }
 
 power_full : (half j : ℕ) → half ≤ half * 2 ^ j
@@ -69,8 +66,8 @@ inverted_product s m e law n i =
     let half = 2 ^ (s.precision - 1) in
     let j = steps_of s e in
     let k = steps_of s (neg_ℤ e) in
-    let a : quanta_at s.min_exp m e ≡ half * 2 ^ j = quanta_from s m e i.normal ∙ ap (λ (x : ℕ). x * 2 ^ j) i.power in
-    let b : quanta_at s.min_exp m (neg_ℤ e) ≡ half * 2 ^ k = quanta_from s m (neg_ℤ e) i.inverse_normal ∙ ap (λ (x : ℕ). x * 2 ^ k) i.power in
+    let a : quanta_at s.min_exp m e ≡ half * 2 ^ j = quanta_high_is s m e i.normal ∙ ap (λ (x : ℕ). x * 2 ^ j) i.power in
+    let b : quanta_at s.min_exp m (neg_ℤ e) ≡ half * 2 ^ k = quanta_high_is s m (neg_ℤ e) i.inverse_normal ∙ ap (λ (x : ℕ). x * 2 ^ k) i.power in
     let c = scale_is s law in
     let d : ((s.precision - 1) + j) + ((s.precision - 1) + k) ≡ (format_at s).scale + (format_at s).scale = omega (arith, ints, i.normal, i.inverse_normal) in
     record {
@@ -148,7 +145,7 @@ invertible_from s m i e law n h =
     let l : s.min_exp ≤ℤ e = not_low s m i e law n h in
     let j : ℕ = steps_of s e in
     let w : ℕ = (format_at s).scale in
-    let q : quanta_at s.min_exp m e ≡ 2 ^ (s.precision - 1) * 2 ^ steps_of s e = quanta_from s m e l ∙ ap (λ (x : ℕ). x * 2 ^ steps_of s e) p in
+    let q : quanta_at s.min_exp m e ≡ 2 ^ (s.precision - 1) * 2 ^ steps_of s e = quanta_high_is s m e l ∙ ap (λ (x : ℕ). x * 2 ^ steps_of s e) p in
     let g : 2 ^ (s.precision - 1) * 2 ^ steps_of s e * i ≡ 2 ^ (format_at s).scale * 2 ^ (format_at s).scale = ap (λ (x : ℕ). x * i) (sym q) ∙ h.product in
     let c = scale_is s law in
     let short = short_inverse (s.precision - 1) (steps_of s e) (format_at s).scale i h.inverse_normal g in

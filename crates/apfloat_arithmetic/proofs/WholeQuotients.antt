@@ -4,6 +4,7 @@ use lib.Count.{ones, ones_in}
 use Rattle.std.proofs.Math.Nat.{mul-le-mul_right, mul-le-mul_left, mul-lt-mul_of_pos_right, pow-le-pow_right, div-lt_iff_lt-mul, mod-eq_of_lt, div-eq_of_lt, mul-pos, add-mul-div_right, add-mul-mod_self_right}
 use Rattle.std.proofs.lemmas.Nat.{pow-add, pow_pos, ones_cat, ones-le}
 use Rattle.apfloat_base.proofs.Existence.{two_pos}
+use Rattle.apfloat_base.proofs.Losses.{twice_half}
 use Rattle.apfloat_base.proofs.Powers.{twice_power}
 
 -- r less 2 ^ k times the divisor d is s
@@ -37,8 +38,7 @@ turn_odd d r s p t =
 pub turn_even : (d r s k : ℕ) → 0 < d → 0 < k → IsTurn d r s k → r / d % 2 ≡ s / d % 2
 turn_even d r s k p g t =
     let q = turn_quotient d r s k p t in
-    let j : k ≡ (k - 1) + 1 = omega arith in
-    let e : 2 ^ k ≡ 2 * 2 ^ (k - 1) = ap (λ (x : ℕ). 2 ^ x) j ∙ twice_power (k - 1) in
+    let e : 2 ^ k ≡ 2 * 2 ^ (k - 1) = sym (twice_half k g) in
     let f : r / d ≡ s / d + 2 ^ (k - 1) * 2 = omega arith in
     ap (λ (x : ℕ). x % 2) f ∙ add-mul-mod_self_right (s / d) (2 ^ (k - 1)) 2
 
@@ -56,8 +56,7 @@ pub below_divisor : (precision r p t q : ℕ) → 0 < precision → r < 2 ^ prec
 below_divisor precision r p t q z f l g =
     let h : p + 1 ≤ q = omega arith in
     let a : r * 2 ^ p < 2 ^ precision * 2 ^ p = mul-lt-mul_of_pos_right f (pow_pos p) in
-    let w : precision ≡ (precision - 1) + 1 = omega arith in
-    let b : 2 ^ precision ≡ 2 * 2 ^ (precision - 1) = ap (λ (x : ℕ). 2 ^ x) w ∙ twice_power (precision - 1) in
+    let b : 2 ^ precision ≡ 2 * 2 ^ (precision - 1) = sym (twice_half precision z) in
     let b' : 2 ^ precision * 2 ^ p ≡ 2 * 2 ^ (precision - 1) * 2 ^ p = ap (λ (x : ℕ). x * 2 ^ p) b in
     let c : 2 ^ (p + 1) ≡ 2 * 2 ^ p = twice_power p in
     let c' : 2 ^ (precision - 1) * 2 ^ (p + 1) ≡ 2 ^ (precision - 1) * (2 * 2 ^ p) = ap (λ (x : ℕ). 2 ^ (precision - 1) * x) c in
@@ -90,8 +89,7 @@ moved_up s j p l =
 -- one place lower
 pub one_lower : (r t p : ℕ) → 0 < p → t ≤ 2 * r → (2 * r - t + t) * 2 ^ (p - 1) ≡ r * 2 ^ p
 one_lower r t p z l =
-    let w : p ≡ (p - 1) + 1 = omega arith in
-    let e : 2 ^ p ≡ 2 * 2 ^ (p - 1) = ap (λ (x : ℕ). 2 ^ x) w ∙ twice_power (p - 1) in
+    let e : 2 ^ p ≡ 2 * 2 ^ (p - 1) = sym (twice_half p z) in
     let f : r * 2 ^ p ≡ r * (2 * 2 ^ (p - 1)) = ap (λ (x : ℕ). r * x) e in
     let g : 2 * r - t + t ≡ 2 * r = omega arith in
     let h : (2 * r - t + t) * 2 ^ (p - 1) ≡ 2 * r * 2 ^ (p - 1) = ap (λ (x : ℕ). x * 2 ^ (p - 1)) g in

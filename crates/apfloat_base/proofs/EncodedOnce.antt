@@ -3,7 +3,7 @@ use Rattle.std.proofs.Common.{◌≡◌, ℕ, ◌+◌, ◌-◌, ◌*◌, ◌/◌
 use Rattle.std.specs.Prelude.{IsTrue}
 use mathlib.Core.Bool.{true≢false}
 use Rattle.std.proofs.lemmas.Nat.{pow_pos, pow-add, shl-shr}
-use Rattle.std.proofs.lemmas.Bool.{cases_eq, eq-eqb, ne_eqb, le-leb, lt-leb, leb-true, ltb-true, and_left, and_right}
+use Rattle.std.proofs.lemmas.Bool.{cases_eq, eq-eqb, ne_eqb, le-leb, lt-leb, leb-true, ltb-true, and_left, and_right, cond-true, cond-false}
 use Rattle.std.proofs.Math.Nat.{mul-le-mul_right, mul-le-mul_left, mul-lt-mul_of_pos_right}
 use Rattle.apfloat_base.specs.declared.kinds.NonfiniteBehavior.{NonfiniteBehavior}
 use Rattle.apfloat_base.specs.declared.kinds.NonfiniteBehavior.TheVariants.{IEEE754, NanOnly, NanNegativeZero}
@@ -158,24 +158,16 @@ module _ (f : Format) (layout : Layout) (precise : 3 ≤ f.precision) where
 
 -- ---- any layout
 
-cond_true : (b : Bool) (x y : Datum) → b ≡ true → cond b x y ≡ x
-cond_true true x y e = refl
-cond_true false x y e = absurd (true≢false (sym e))
-
-cond_false : (b : Bool) (x y : Datum) → b ≡ false → cond b x y ≡ y
-cond_false true x y e = absurd (true≢false e)
-cond_false false x y e = refl
-
 by_layout : (explicit : Bool) (f : Format) (layout : Layout) (b : Bool) (e t : ℕ) → f.explicit_integer_bit ≡ explicit → IsInterchange f layout → AreWithin f layout (fields_with b e t) → IsTrue (is_canonical f layout (fields_with b e t))
     → fields_by f layout (datum_of_fields f layout (fields_with b e t)) ≡ fields_with b e t
 by_layout true f layout b e t x law within canonical =
     let k : f.nonfinite ≡ IEEE754 = explicit_kind f.nonfinite f.explicit_integer_bit law.explicit x in
     let w : t < 2 ^ f.precision = rw x at within.trailing in
     let c : IsTrue (is_canonical_written f layout (fields_with b e t)) = rw x at canonical in
-    ap (fields_by f layout) (cond_true f.explicit_integer_bit _ _ x) ∙ written_fields f layout law.precise x k b e t w c
+    ap (fields_by f layout) (cond-true f.explicit_integer_bit _ _ x) ∙ written_fields f layout law.precise x k b e t w c
 by_layout false f layout b e t x law within canonical =
     let w : t < 2 ^ (f.precision - 1) = rw x at within.trailing in
-    ap (fields_by f layout) (cond_false f.explicit_integer_bit _ _ x) ∙ implied_fields f layout law.precise x f.nonfinite b e t refl w
+    ap (fields_by f layout) (cond-false f.explicit_integer_bit _ _ x) ∙ implied_fields f layout law.precise x f.nonfinite b e t refl w
 
 -- the bits are determined by the datum
 pub encoded_once : (f : Format) (layout : Layout) (datum : Datum) (a b : ℕ) → IsInterchange f layout → IsEncodedBy f layout a datum → IsEncodedBy f layout b datum → a ≡ b

@@ -3,7 +3,7 @@ use Rattle.std.proofs.Common.{◌≡◌, ◌≢◌, ℕ, ◌+◌, ◌-◌, ◌*�
 use Rattle.std.specs.Prelude.{⊤, bit_and, bit_or}
 use Rattle.std.specs.Int.Bits.{or_zero_r, or_zero_l, and_zero_r, and_zero_l}
 use Rattle.std.proofs.lemmas.Nat.{pow_pos, or_lt, le_or_l, le_or_r, and_le_r, and_or_self, pow_apart, and_mask, pow-add}
-use Rattle.std.proofs.Math.Nat.{mod_self}
+use Rattle.std.proofs.Math.Nat.{mod_self, pos_of_ne-zero}
 use Rattle.apfloat_base.specs.declared.kinds.NonfiniteBehavior.{NonfiniteBehavior}
 use Rattle.apfloat_base.specs.declared.kinds.NonfiniteBehavior.TheVariants.{IEEE754, NanOnly, NanNegativeZero}
 use Rattle.apfloat_base.specs.Format.{Format, nan_base_of, payload_mask_of, quiet_bits_of}
@@ -77,9 +77,6 @@ quiet_kinds NanNegativeZero e p payload h = rw (and_zero_r payload) refl
 pub quiet_member : (f : Format) (payload : ℕ) → 3 ≤ f.precision → IsNanSignificand f.nonfinite f.explicit_integer_bit f.precision (quiet_significand f payload)
 quiet_member f payload h = quiet_kinds f.nonfinite f.explicit_integer_bit f.precision payload h
 
-ne_zero_pos : (n : ℕ) → n ≢ 0 → 0 < n
-ne_zero_pos n h = omega (arith, h)
-
 lit_apart : {A : Type 0} (n : ℕ) → n ≡ 0 → eqb n 0 ≡ false → A
 lit_apart n z e = absurd (true_false (ap (λ (x : ℕ). eqb x 0) (sym z) ∙ e))
 
@@ -100,7 +97,7 @@ signaling_kinds IEEE754 false p q h (some, below) =
     let g = le_or_r c (2 ^ (p - 2) / 2) in
     if_case (IsNanSignificand IEEE754 false p) (eqb (bit_and c (2 ^ (p - 1) - 1)) 0)
     (λ _. (omega (arith, t, half, g), or_lt (p - 1) c (2 ^ (p - 2) / 2) l m))
-    (λ n. (ne_zero_pos c (λ z. lit_apart (bit_and c (2 ^ (p - 1) - 1)) (ap (λ (x : ℕ). bit_and x (2 ^ (p - 1) - 1)) z ∙ and_zero_l (2 ^ (p - 1) - 1)) n), l))
+    (λ n. (pos_of_ne-zero {n = c} (λ z. lit_apart (bit_and c (2 ^ (p - 1) - 1)) (ap (λ (x : ℕ). bit_and x (2 ^ (p - 1) - 1)) z ∙ and_zero_l (2 ^ (p - 1) - 1)) n), l))
 signaling_kinds IEEE754 true p q h (below, other) =
     let t = twice p h in
     let c = q - bit_and q (2 ^ (p - 2)) in

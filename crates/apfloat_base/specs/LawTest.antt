@@ -1,7 +1,7 @@
 -- The law of a format as a test that computes: a format whose constants are written out proves its law by `refl`.
-use Rattle.std.specs.Prelude.{◌≡◌, ◌+◌, ◌-◌, ◌^◌, ℤ, pos, ◌+ℤ◌, ◌-ℤ◌, ◌≤ℤ◌, neg_ℤ, Bool, true, false, not, ◌&&◌, ◌||◌, if◌then◌else◌, leb, eqb}
-use Rattle.std.proofs.Common.{inl, inr, ⊎_elim, subst, sym, refl, T}
-use Rattle.std.proofs.lemmas.Bool.{and_parts, or_cases, leb-true, eqb-true}
+use Rattle.std.specs.Prelude.{◌≡◌, ◌+◌, ◌-◌, ◌^◌, ℤ, pos, ◌+ℤ◌, ◌-ℤ◌, ◌≤ℤ◌, neg_ℤ, Bool, true, not, ◌&&◌, ◌||◌, if◌then◌else◌, leb, eqb}
+use Rattle.std.proofs.Common.{inl, inr, ⊎_elim, subst, sym, T}
+use Rattle.std.proofs.lemmas.Bool.{and_parts, or_cases, leb-true, eqb-true, not-true}
 use Rattle.std.specs.Ordering.{int_eq}
 use Rattle.std.specs.Cmp.{signed_Decides}
 use lib.Signed.{le_z, le_z_yes}
@@ -49,10 +49,6 @@ lawful_test c =
 at_most : (a b : ℤ) → le_z a b ≡ true → a ≤ℤ b
 at_most a b e = le_z_yes (subst T (sym e) tt)
 
-is_off : (b : Bool) → not b ≡ true → b ≡ false
-is_off true e = sym e
-is_off false e = refl
-
 no_bits_from_test : (c : Constants) → no_bits_test c ≡ true → HasNoBits c
 no_bits_from_test c e =
     let a = and_parts _ _ e in
@@ -64,7 +60,7 @@ no_bits_from_test c e =
       exp_bits = eqb-true _ _ b.0;
       ieee_min_exp = (signed_Decides _ _).0 d.0;
       ieee_max_exp = (signed_Decides _ _).0 f.0;
-      implied = is_off _ f.1;
+      implied = not-true _ f.1;
     }
 
 bits_from_test : (c : Constants) → bits_test c ≡ true → HasBits c
@@ -85,8 +81,8 @@ bits_from_test c e =
 
 explicit_from_test : (kind : NonfiniteBehavior) (explicit : Bool) → may_be_explicit kind explicit ≡ true → MayBeExplicit kind explicit
 explicit_from_test IEEE754 explicit e = tt
-explicit_from_test NanOnly explicit e = is_off explicit e
-explicit_from_test NanNegativeZero explicit e = is_off explicit e
+explicit_from_test NanOnly explicit e = not-true explicit e
+explicit_from_test NanNegativeZero explicit e = not-true explicit e
 
 -- constants that pass the test are lawful
 pub lawful_from_test : (c : Constants) → lawful_test c ≡ true → IsLawful c

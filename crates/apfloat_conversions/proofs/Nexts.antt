@@ -11,7 +11,7 @@ use Rattle.apfloat_base.specs.Enclosure.{IsEnclosed}
 use Rattle.apfloat_base.specs.Exponents.{IsLogarithm}
 use Rattle.apfloat_base.specs.Standing.{up, down}
 use Rattle.apfloat_base.proofs.Existence.{two_pos}
-use Rattle.apfloat_base.proofs.Laws.{exact_below}
+use Rattle.apfloat_base.proofs.Laws.{exact_below, zero_on_grid}
 use Rattle.apfloat_base.proofs.Losses.{twice_half}
 use Rattle.apfloat_base.proofs.Neighbours.{next_multiple, next_on_grid, none_between, below_is}
 use Rattle.apfloat_base.proofs.SingleScalings.{scaled_stands, up_far, down_far}
@@ -214,7 +214,7 @@ lowered_quanta p min x y s t n q e i j h =
     subst (λ (z : ℤ). IsQuantaAt min t z n) (sym j) k
 
 zero_below : (p : ℕ) → IsBelow p 0 0 1
-zero_below p = exact_below p 0 0 1 (lit< tt) (record { significand = 0; place = 0; fits = pow_pos p; is = refl }) refl
+zero_below p = exact_below p 0 0 1 (lit< tt) (zero_on_grid p) refl
 
 -- below one quantum there is 0
 pub least_less : (p : ℕ) (min x : ℤ) (s a : ℕ) → 3 ≤ p → s ≡ 2 ^ (p - 1) → x ≡ ((min +ℤ pos 1) -ℤ pos p) → IsQuantaAt min s x a → IsBelow p 0 (a - 1) 1

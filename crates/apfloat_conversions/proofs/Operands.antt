@@ -1,5 +1,5 @@
 -- A stored number and its exponent, in the format of its shape.
-use Rattle.std.proofs.Common.{◌≡◌, ℕ, ◌+◌, ◌-◌, ◌*◌, ◌^◌, ◌<◌, ◌≤◌, Bool, sym, subst, arith, ℤ, pos, ◌+ℤ◌, ◌-ℤ◌, ◌≤ℤ◌}
+use Rattle.std.proofs.Common.{◌≡◌, ℕ, ◌+◌, ◌-◌, ◌*◌, ◌^◌, ◌<◌, ◌≤◌, Bool, sym, subst, arith, ℤ, pos, ◌+ℤ◌, ◌-ℤ◌, ◌≤ℤ◌, to_z, of_z, w32}
 use Rattle.std.proofs.lemmas.Int.{ints}
 use Rattle.std.proofs.lemmas.Nat.{pow_pos}
 use Rattle.std.proofs.Math.Nat.{mul-le-mul_right, mul-le-mul_left, pow-le-pow_right}
@@ -18,8 +18,22 @@ use Rattle.apfloat_unpacked.specs.declared.shape.Shape.{Shape}
 use Rattle.apfloat_unpacked.specs.Shapes.{IsShape, format_at}
 use Rattle.apfloat_unpacked.specs.Stored.{IsOperandAt, IsQuantaAt, IsNormal, quanta_at}
 use Rattle.apfloat_unpacked.specs.StoredBack.{quanta_some}
-use Rattle.apfloat_unpacked.proofs.ShapeExponents.{scale_is, span_is}
+use Rattle.apfloat_unpacked.proofs.ShapeExponents.{exponent_word, scale_is, span_is}
 use Rattle.apfloat_unpacked.proofs.StoredNumbers.{quanta_is, whole_is}
+use Rattle.apfloat_conversions.proofs.Wholes.{up_of, places_up, places_down}
+
+-- ---- the number as a fraction, by the exponent of its last digit
+
+pub whole_places : (s : Shape) (m : ℕ) (e r : ℤ) → IsShape s → IsNormal s m e → r ≡ (to_z w32 (of_z w32 e) -ℤ pos (s.precision - 1)) → pos 0 ≤ℤ r → quanta_at s.min_exp m e ≡ m * 2 ^ up r * 2 ^ (format_at s).scale
+whole_places s m e r law n v l =
+    let v' = rw (exponent_word s m e law n) at v in
+    let k : pos (up r) ≡ r = up_of r l in
+    places_up (s.precision - 1) (format_at s).scale s.min_exp e r m (quanta_at s.min_exp m e) (up r) (scale_is s law) v' (omega (arith, ints, k)) n.whole
+
+pub fraction_places : (s : Shape) (m k : ℕ) (e r : ℤ) → IsShape s → IsNormal s m e → r ≡ (to_z w32 (of_z w32 e) -ℤ pos (s.precision - 1)) → pos k ≡ (pos 0 -ℤ r) → quanta_at s.min_exp m e * 2 ^ k ≡ m * 2 ^ (format_at s).scale
+fraction_places s m k e r law n v h =
+    let v' = rw (exponent_word s m e law n) at v in
+    places_down (s.precision - 1) (format_at s).scale s.min_exp e r m (quanta_at s.min_exp m e) k (scale_is s law) v' h n.whole
 
 -- ---- times a power of two
 

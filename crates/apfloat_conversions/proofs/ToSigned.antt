@@ -1,5 +1,6 @@
 -- Signed whole numbers out, by the unsigned one of the magnitude.
 use Rattle.std.proofs.Common.{◌≡◌, ℕ, ◌+◌, ◌-◌, ◌*◌, ◌/◌, ◌%◌, ◌^◌, ◌<◌, ◌≤◌, Bool, true, false, cond, ◌&&◌, eqb, sym, refl, ap, ◌∙◌, subst, ⊎_elim, arith, ℤ, pos, neg_ℤ, ◌≤ℤ◌, int_lt}
+use Rattle.std.proofs.Math.Bool.{and-true, and-false}
 use Rattle.std.proofs.Math.Nat.{pow-le-pow_right}
 use Rattle.std.proofs.lemmas.Nat.{pow_pos}
 use Rattle.std.proofs.lemmas.Int.{ints}
@@ -73,14 +74,6 @@ zero_unsigned IEEE754 f mode width number st exact h = zero_unsigned_of f mode w
 zero_unsigned NanOnly f mode width number st exact h = zero_unsigned_of f mode width number st false exact h
 zero_unsigned NanNegativeZero f mode width number st exact h = zero_unsigned_of f mode width number st true exact h
 
-and_no : (b : Bool) → (b && false) ≡ false
-and_no true = refl
-and_no false = refl
-
-and_yes : (b : Bool) → (b && true) ≡ b
-and_yes true = refl
-and_yes false = refl
-
 minus_zero : (f : Format) (mode : Round) (width : ℕ) (value : ℤ) (status : ℕ) (is_exact : Bool) → value ≡ pos 0 → status ≡ 0 → is_exact ≡ false → IsToSigned f mode width (finite true 0) value status is_exact
 minus_zero f mode width value status is_exact v t e =
     rw (no_whole mode true f.scale, no_quanta f.scale, zero_ranged (neg_ℤ (pos (2 ^ (width - 1)))) (pos (2 ^ (width - 1) - 1)) (exact_or_not (pos 0) true true) (omega (arith, ints)) (omega (arith, ints)))
@@ -93,7 +86,7 @@ minus_within f mode width n value status is_exact z l v t e =
     let k : ℕ = whole_pick mode true n (2 ^ f.scale) in
     let a : int_lt (neg_ℤ (pos (whole_pick mode true n (2 ^ f.scale)))) (neg_ℤ (pos (2 ^ (width - 1)))) ≡ false = less_not (neg_ℤ (pos (whole_pick mode true n (2 ^ f.scale)))) (neg_ℤ (pos (2 ^ (width - 1)))) (omega (arith, ints, l)) in
     let b : int_lt (pos (2 ^ (width - 1) - 1)) (neg_ℤ (pos (whole_pick mode true n (2 ^ f.scale)))) ≡ false = less_not (pos (2 ^ (width - 1) - 1)) (neg_ℤ (pos (whole_pick mode true n (2 ^ f.scale)))) (omega (arith, ints)) in
-    rw (z, a, b) (record { number_is = v; status_is = t; is_exact_is = e ∙ sym (and_yes _) })
+    rw (z, a, b) (record { number_is = v; status_is = t; is_exact_is = e ∙ sym (and-true _) })
 
 minus_past : (f : Format) (mode : Round) (width n : ℕ) (value : ℤ) (status : ℕ) (is_exact : Bool) → 2 ^ (width - 1) < whole_pick mode true n (2 ^ f.scale) → value ≡ neg_ℤ (pos (2 ^ (width - 1))) → status ≡ 1 → is_exact ≡ false → IsToSigned f mode width (finite true n) value status is_exact
 minus_past f mode width n value status is_exact l v t e =
@@ -134,7 +127,7 @@ minus_number f mode width n number st exact value status is_exact z w h g =
     let q = i.number_is in
     let q' : number ≡ whole_pick mode true n (2 ^ f.scale) = omega (arith, ints, q) in
     let r = g.within (omega (arith, q', l)) in
-    minus_within f mode width n value status is_exact z l (r.1.0 ∙ ap (λ (j : ℕ). neg_ℤ (pos j)) q') (r.0 ∙ i.status_is) (r.1.1 ∙ and_yes exact ∙ i.is_exact_is))
+    minus_within f mode width n value status is_exact z l (r.1.0 ∙ ap (λ (j : ℕ). neg_ℤ (pos j)) q') (r.0 ∙ i.status_is) (r.1.1 ∙ and-true exact ∙ i.is_exact_is))
     (cases_lt (2 ^ (width - 1)) (whole_pick mode true n (2 ^ f.scale)))
 
 pub to_signed_below : (f : Format) (mode : Round) (width : ℕ) (x : Datum) (number st : ℕ) (exact : Bool) (value : ℤ) (status : ℕ) (is_exact : Bool) → is_negative x ≡ true → 2 ≤ width → IsToUnsigned f (swapped mode) width (negated f.nonfinite x) number st exact
@@ -145,7 +138,7 @@ to_signed_below f mode width (nan true s) number st exact value status is_exact 
     let q = i.number_is in
     let e : number ≡ 0 = omega (arith, ints, q) in
     let r = g.within (omega (arith, e)) in
-    record { number_is = r.1.0 ∙ ap (λ (j : ℕ). neg_ℤ (pos j)) e; status_is = r.0 ∙ i.status_is; is_exact_is = r.1.1 ∙ and_yes exact ∙ i.is_exact_is }
+    record { number_is = r.1.0 ∙ ap (λ (j : ℕ). neg_ℤ (pos j)) e; status_is = r.0 ∙ i.status_is; is_exact_is = r.1.1 ∙ and-true exact ∙ i.is_exact_is }
 to_signed_below f mode width (infinite false) number st exact value status is_exact y w h g = absurd (false≢true y)
 to_signed_below f mode width (infinite true) number st exact value status is_exact y w h g =
     let q = h.number_is in
@@ -163,7 +156,7 @@ to_signed_below f mode width (finite true n) number st exact value status is_exa
     let i₀ = i.0 in
     let r = g'.within (omega (arith, i₀)) in
     subst (λ (j : ℕ). IsToSigned f mode width (finite true j) value status is_exact) (sym e)
-    (minus_zero f mode width value status is_exact (r.1.0 ∙ ap (λ (j : ℕ). neg_ℤ (pos j)) i.0) (r.0 ∙ i.1) (r.1.1 ∙ and_no exact)))
+    (minus_zero f mode width value status is_exact (r.1.0 ∙ ap (λ (j : ℕ). neg_ℤ (pos j)) i.0) (r.0 ∙ i.1) (r.1.1 ∙ and-false exact)))
     (λ (e : n ≡ 0 → ⊥).
     let z : eqb n 0 ≡ false = ne_eqb n 0 e in
     minus_number f mode width n number st exact value status is_exact z w (rw z at h) (rw z at g))

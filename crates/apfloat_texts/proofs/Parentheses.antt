@@ -1,17 +1,14 @@
 -- What stands in one pair of parentheses.
-use Rattle.std.proofs.Common.{◌≡◌, ℕ, ◌-◌, ◌<◌, ◌≤◌, Bool, true, false, ◌&&◌, eqb, if◌then◌else◌, List, [], ◌∷◌, ◌++◌, length, take, drop, get_or, Option, refl, sym, ap, ◌∙◌, arith}
-use Rattle.std.proofs.lemmas.Bool.{eq-eqb, ne_eqb}
+use Rattle.std.proofs.Common.{◌≡◌, ℕ, ◌-◌, ◌<◌, ◌≤◌, Bool, false, ◌&&◌, eqb, List, [], ◌∷◌, ◌++◌, length, take, drop, get_or, refl, sym, ap, ◌∙◌, arith}
+use Rattle.std.proofs.Math.Bool.{and-true}
+use Rattle.std.proofs.lemmas.Bool.{eq-eqb, ne_eqb, and_right, cond-true, cond-false}
 use Rattle.apfloat_base.specs.Digits.{same}
 use Rattle.apfloat_base.specs.Specials.{inside, in_parentheses, plain_payload, payload_of}
 use Rattle.apfloat_base.proofs.Choices.{eqb_self}
 
 -- with another last character it is the same only if it had that one
 last_same : (d : ℕ) (ys : List ℕ) → same (d ∷ ys) (take (length ys) (d ∷ ys) ++ (41 ∷ [])) ≡ eqb (get_or (d ∷ ys) (length ys) 0) 41
-last_same d [] = go (eqb d 41)
-  where
-    go : (b : Bool) → (b && true) ≡ b
-    go true = refl
-    go false = refl
+last_same d [] = and-true (eqb d 41)
 last_same d (e ∷ ys) = rw (eqb_self d) (last_same e ys)
 
 -- a text of two characters or more is in parentheses if its ends are
@@ -19,14 +16,6 @@ by_ends : (c d : ℕ) (ys : List ℕ) → same (c ∷ d ∷ ys) (in_parentheses 
 by_ends c d ys =
     let e : length (c ∷ d ∷ ys) - 2 ≡ length ys = omega arith in
     rw e (ap (λ (b : Bool). eqb c 40 && b) (last_same d ys))
-
-by_case : (xs : List ℕ) (b : Bool) (x y : Option ℕ) → b ≡ true → (if b then x else y) ≡ x
-by_case xs true x y h = refl
-by_case xs false x y h = cc
-
-by_other : (xs : List ℕ) (b : Bool) (x y : Option ℕ) → b ≡ false → (if b then x else y) ≡ y
-by_other xs true x y h = cc
-by_other xs false x y h = refl
 
 last_of : (c d : ℕ) (ys : List ℕ) → get_or (c ∷ d ∷ ys) (length (c ∷ d ∷ ys) - 1) 0 ≡ get_or (d ∷ ys) (length ys) 0
 last_of c d ys =
@@ -38,26 +27,22 @@ within [] h p q = absurd (omega (arith, h))
 within (c ∷ []) h p q = absurd (omega (arith, h))
 within (c ∷ d ∷ ys) h p q =
     let l : get_or (d ∷ ys) (length ys) 0 ≡ 41 = sym (last_of c d ys) ∙ q in
-    by_case [] _ _ _ (by_ends c d ys ∙ rw (eq-eqb c 40 p, eq-eqb (get_or (d ∷ ys) (length ys) 0) 41 l) refl)
-
-and_not : (a b : Bool) → b ≡ false → (a && b) ≡ false
-and_not true b h = h
-and_not false b h = refl
+    cond-true _ _ _ (by_ends c d ys ∙ rw (eq-eqb c 40 p, eq-eqb (get_or (d ∷ ys) (length ys) 0) 41 l) refl)
 
 pub without_start : (xs : List ℕ) → 2 ≤ length xs → (get_or xs 0 0 ≡ 40 → ⊥) → payload_of xs ≡ plain_payload xs
 without_start [] h p = absurd (omega (arith, h))
 without_start (c ∷ []) h p = absurd (omega (arith, h))
-without_start (c ∷ d ∷ ys) h p = by_other [] _ _ _ (by_ends c d ys ∙ ap (λ (b : Bool). b && eqb (get_or (d ∷ ys) (length ys) 0) 41) (ne_eqb c 40 p))
+without_start (c ∷ d ∷ ys) h p = cond-false _ _ _ (by_ends c d ys ∙ ap (λ (b : Bool). b && eqb (get_or (d ∷ ys) (length ys) 0) 41) (ne_eqb c 40 p))
 
 pub without_end : (xs : List ℕ) → 2 ≤ length xs → (get_or xs (length xs - 1) 0 ≡ 41 → ⊥) → payload_of xs ≡ plain_payload xs
 without_end [] h p = absurd (omega (arith, h))
 without_end (c ∷ []) h p = absurd (omega (arith, h))
 without_end (c ∷ d ∷ ys) h p =
-    by_other [] _ _ _ (by_ends c d ys ∙ and_not (eqb c 40) _ (ne_eqb (get_or (d ∷ ys) (length ys) 0) 41 (λ e. p (last_of c d ys ∙ e))))
+    cond-false _ _ _ (by_ends c d ys ∙ and_right (eqb c 40) _ (ne_eqb (get_or (d ∷ ys) (length ys) 0) 41 (λ e. p (last_of c d ys ∙ e))))
 
 pub too_short : (xs : List ℕ) → 1 ≤ length xs → length xs < 2 → payload_of xs ≡ plain_payload xs
 too_short [] h l = absurd (omega (arith, h))
-too_short (c ∷ []) h l = by_other [] _ _ _ (and_not (eqb c 40) false refl)
+too_short (c ∷ []) h l = cond-false _ _ _ (and_right (eqb c 40) false refl)
 too_short (c ∷ d ∷ ys) h l = absurd (omega (arith, l))
 
 pub inside_is : (xs : List ℕ) → take (length xs - 1 - 1) (drop 1 xs) ≡ inside xs

@@ -1,12 +1,11 @@
-use Rattle.std.proofs.Common.{◌≡◌, ◌-◌, ◌*◌, ◌^◌, ◌∙◌, arith, pos, ◌≤ℤ◌, to_z, of_z, w32}
+use Rattle.std.proofs.Common.{◌≡◌, ◌*◌, ◌^◌, ◌∙◌, arith, to_z, of_z, w32}
 use Rattle.std.proofs.lemmas.Int.{ints, to_z-of_z}
 use Rattle.std.proofs.lemmas.Nat.{pow_pos}
 use Rattle.apfloat_base.specs.Standing.{up}
 use Rattle.apfloat_unpacked.specs.Shapes.{format_at}
 use Rattle.apfloat_unpacked.specs.Stored.{quanta_at}
-use Rattle.apfloat_unpacked.proofs.ShapeExponents.{exponent_word, scale_is}
-use Rattle.apfloat_conversions.proofs.Operands.{significand_small}
-use Rattle.apfloat_conversions.proofs.Wholes.{places_up, places_down, up_of, whole_toward_zero, whole_multiple}
+use Rattle.apfloat_conversions.proofs.Operands.{whole_places, fraction_places, significand_small}
+use Rattle.apfloat_conversions.proofs.Wholes.{whole_toward_zero, whole_multiple}
 use Rattle.apfloat_conversions.proofs.integral.is_whole_number.Goals as goal
 
 pub returns-then-exponent-ge0 : goal.returns-then-exponent-ge0
@@ -17,13 +16,9 @@ returns-then-exponent-ge0 c =
     let n = c.requires.normal in
     let a = quanta_at s.min_exp m x in
     let r = c.last_exponent-exponent.result in
-    let ex = exponent_word s m x c.requires.lawful n in
-    let v = rw ex at c.last_exponent-exponent.ensures.value in
     let w : to_z w32 (of_z w32 c.last_exponent-exponent.result) ≡ c.last_exponent-exponent.result = to_z-of_z w32 c.last_exponent-exponent.result (record { sfits = c.last_exponent-exponent.type_inv }) in
     let g = c.if-exponent-ge0.true in
-    let l : pos 0 ≤ℤ c.last_exponent-exponent.result = omega (arith, ints, g, w) in
-    let k : pos (up c.last_exponent-exponent.result) ≡ c.last_exponent-exponent.result = up_of c.last_exponent-exponent.result l in
-    let e = places_up (s.precision - 1) (format_at s).scale s.min_exp x r m a (up r) (scale_is s c.requires.lawful) v (omega (arith, ints, k)) n.whole in
+    let e = whole_places s m x r c.requires.lawful n c.last_exponent-exponent.ensures.value (omega (arith, ints, g, w)) in
     whole_multiple (m * 2 ^ up r) a (2 ^ (format_at s).scale) e
 
 pub round_fraction-requires : goal.round_fraction-requires
@@ -37,11 +32,9 @@ returns c =
     let n = c.requires.normal in
     let a = quanta_at s.min_exp m x in
     let r = c.last_exponent-exponent.result in
-    let ex = exponent_word s m x c.requires.lawful n in
-    let v = rw ex at c.last_exponent-exponent.ensures.value in
     let w : to_z w32 (of_z w32 c.last_exponent-exponent.result) ≡ c.last_exponent-exponent.result = to_z-of_z w32 c.last_exponent-exponent.result (record { sfits = c.last_exponent-exponent.type_inv }) in
     let k = rw w at c.steps_between-places.ensures in
     let p = pow_pos (format_at s).scale in
     let i = c.round_fraction.ensures.picked a (2 ^ (format_at s).scale) p
-    (places_down (s.precision - 1) (format_at s).scale s.min_exp x r m a c.steps_between-places.result (scale_is s c.requires.lawful) v k n.whole) in
+    (fraction_places s m c.steps_between-places.result x r c.requires.lawful n c.last_exponent-exponent.ensures.value k) in
     i.exact_is ∙ whole_toward_zero c.args.x.negative a (2 ^ (format_at s).scale) p

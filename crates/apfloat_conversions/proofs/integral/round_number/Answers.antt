@@ -1,4 +1,4 @@
-use Rattle.std.proofs.Common.{◌≡◌, ◌-◌, ◌*◌, ◌^◌, ◌<◌, ◌≤◌, sym, subst, arith, ℕ, pos, ◌≤ℤ◌, to_z, of_z, w32}
+use Rattle.std.proofs.Common.{◌≡◌, ◌-◌, ◌*◌, ◌^◌, ◌<◌, ◌≤◌, sym, subst, arith, ℕ, to_z, of_z, w32}
 use Rattle.std.proofs.lemmas.Int.{ints, to_z-of_z}
 use Rattle.std.proofs.lemmas.Nat.{pow_pos}
 use Rattle.apfloat_base.specs.Format.{largest}
@@ -7,9 +7,8 @@ use Rattle.apfloat_unpacked.specs.Shapes.{format_at}
 use Rattle.apfloat_unpacked.specs.Stored.{quanta_at, datum_at}
 use Rattle.apfloat_unpacked.specs.StoredBack.{quanta_some}
 use Rattle.apfloat_base.proofs.Losses.{twice_half}
-use Rattle.apfloat_unpacked.proofs.ShapeExponents.{exponent_word, scale_is}
-use Rattle.apfloat_conversions.proofs.Operands.{scale_in_span, half_within, significand_small}
-use Rattle.apfloat_conversions.proofs.Wholes.{places_up, places_down, up_of, whole_fits, integral_picked, integral_stays}
+use Rattle.apfloat_conversions.proofs.Operands.{whole_places, fraction_places, scale_in_span, half_within, significand_small}
+use Rattle.apfloat_conversions.proofs.Wholes.{whole_fits, integral_picked, integral_stays}
 use Rattle.apfloat_conversions.proofs.integral.round_number.Goals as goal
 
 pub returns-then-exponent-ge0-clause-delivered : goal.returns-then-exponent-ge0-clause-delivered
@@ -20,13 +19,9 @@ returns-then-exponent-ge0-clause-delivered c =
     let n = c.requires.normal in
     let a = quanta_at s.min_exp m x in
     let r = c.last_exponent-exponent.result in
-    let ex = exponent_word s m x c.requires.lawful n in
-    let v = rw ex at c.last_exponent-exponent.ensures.value in
     let w : to_z w32 (of_z w32 c.last_exponent-exponent.result) ≡ c.last_exponent-exponent.result = to_z-of_z w32 c.last_exponent-exponent.result (record { sfits = c.last_exponent-exponent.type_inv }) in
     let g = c.if-exponent-ge0.true in
-    let l : pos 0 ≤ℤ c.last_exponent-exponent.result = omega (arith, ints, g, w) in
-    let k : pos (up c.last_exponent-exponent.result) ≡ c.last_exponent-exponent.result = up_of c.last_exponent-exponent.result l in
-    let e = places_up (s.precision - 1) (format_at s).scale s.min_exp x r m a (up r) (scale_is s c.requires.lawful) v (omega (arith, ints, k)) n.whole in
+    let e = whole_places s m x r c.requires.lawful n c.last_exponent-exponent.ensures.value (omega (arith, ints, g, w)) in
     rw (c.and.ensures.value, c.and.ensures.status, c.requires.number) (integral_stays (format_at s) c.args.round c.args.x.negative a (m * 2 ^ up r) (quanta_some s m x n) e)
 
 pub round_fraction-whole-requires : goal.round_fraction-whole-requires
@@ -66,11 +61,9 @@ returns-clause-delivered c =
     let n = c.requires.normal in
     let a = quanta_at s.min_exp m x in
     let r = c.last_exponent-exponent.result in
-    let ex = exponent_word s m x c.requires.lawful n in
-    let v = rw ex at c.last_exponent-exponent.ensures.value in
     let w : to_z w32 (of_z w32 c.last_exponent-exponent.result) ≡ c.last_exponent-exponent.result = to_z-of_z w32 c.last_exponent-exponent.result (record { sfits = c.last_exponent-exponent.type_inv }) in
     let k = rw w at c.steps_between-places.ensures in
     let i = c.round_fraction-whole.ensures.picked a (2 ^ (format_at s).scale) (pow_pos (format_at s).scale)
-    (places_down (s.precision - 1) (format_at s).scale s.min_exp x r m a c.steps_between-places.result (scale_is s c.requires.lawful) v k n.whole) in
+    (fraction_places s m c.steps_between-places.result x r c.requires.lawful n c.last_exponent-exponent.ensures.value k) in
     let d = rw c.scale.ensures.value at c.quanta_of.ensures.datum in
     rw (c.and-2.ensures.value, c.and-2.ensures.status, c.requires.number) (integral_picked (format_at s) c.args.round c.args.x.negative a c.round_fraction-whole.result.magnitude c.round_fraction-whole.result.exact (datum_at s c.quanta_of.result) _ i.magnitude_is i.exact_is d c.status_of.ensures)

@@ -6,7 +6,8 @@ use Rattle.apfloat_base.proofs.Existence.{two_pos}
 use Rattle.apfloat_unpacked.specs.Shapes.{format_at}
 use Rattle.apfloat_unpacked.specs.Stored.{quanta_at}
 use Rattle.apfloat_unpacked.proofs.ShapeExponents.{exponent_word, scale_is}
-use Rattle.apfloat_conversions.proofs.Wholes.{too_large, places_up, places_down, whole_exactly, exactly_so}
+use Rattle.apfloat_conversions.proofs.Operands.{fraction_places}
+use Rattle.apfloat_conversions.proofs.Wholes.{too_large, places_up, whole_exactly, exactly_so}
 use Rattle.apfloat_conversions.proofs.whole.whole_of.Goals as goal
 
 pub returns-then-x-ge128 : goal.returns-then-x-ge128
@@ -44,9 +45,7 @@ pub returns : goal.returns
 returns c =
     let s = c.args.shape in
     let a = quanta_at s.min_exp c.args.x.significand c.args.x.exponent in
-    let ex = exponent_word s c.args.x.significand c.args.x.exponent c.requires.lawful c.requires.normal in
-    let v = rw ex at c.last_exponent-exponent.ensures.value in
     let w : to_z w32 (of_z w32 c.last_exponent-exponent.result) ≡ c.last_exponent-exponent.result = to_z-of_z w32 c.last_exponent-exponent.result (record { sfits = c.last_exponent-exponent.type_inv }) in
     let k = rw w at c.steps_between-2.ensures in
     c.round_fraction.ensures.picked a (2 ^ (format_at s).scale) (pow_pos (format_at s).scale)
-    (places_down (s.precision - 1) (format_at s).scale s.min_exp c.args.x.exponent c.last_exponent-exponent.result c.args.x.significand a c.steps_between-2.result (scale_is s c.requires.lawful) v k c.requires.normal.whole)
+    (fraction_places s c.args.x.significand c.steps_between-2.result c.args.x.exponent c.last_exponent-exponent.result c.requires.lawful c.requires.normal c.last_exponent-exponent.ensures.value k)
