@@ -1,0 +1,95 @@
+//! The formats of the rows by name, and the calls in them.
+
+use crate::conversions::converts;
+use crate::parts::is_fraction;
+use crate::row::Row;
+use crate::texts::{is_read, is_shown};
+use crate::whole_numbers::is_exponent;
+use crate::{arithmetic, order, parts, predicates, whole_numbers};
+use conformance::formats::{
+    BroadS, DeepS, HalfTinyBeforeS, LeastFiniteS, LeastS, PreciseS, SevenS, TenS, VastS,
+    WrittenBitS,
+};
+use rustc_apfloat::ieee::{
+    BFloatS, DoubleS, FallbackExtendedS, FallbackS, Float8E4M3FNS, Float8E4M3FNUZS, Float8E5M2S,
+    HalfS, QuadS, Semantics, SingleS, X87DoubleExtendedS,
+};
+
+// Calls a function with the format of a name as its last type argument; `None` for an unknown name.
+macro_rules! in_format {
+    ($name:expr, $function:ident, [$($source:ident)?], $($argument:expr),+) => {
+        match $name {
+            "half" => $function::<$($source,)? HalfS>($($argument),+),
+            "single" => $function::<$($source,)? SingleS>($($argument),+),
+            "double" => $function::<$($source,)? DoubleS>($($argument),+),
+            "quad" => $function::<$($source,)? QuadS>($($argument),+),
+            "bfloat" => $function::<$($source,)? BFloatS>($($argument),+),
+            "e5m2" => $function::<$($source,)? Float8E5M2S>($($argument),+),
+            "e4m3fn" => $function::<$($source,)? Float8E4M3FNS>($($argument),+),
+            "e4m3fnuz" => $function::<$($source,)? Float8E4M3FNUZS>($($argument),+),
+            "x87" => $function::<$($source,)? X87DoubleExtendedS>($($argument),+),
+            "fallback" => $function::<$($source,)? FallbackS>($($argument),+),
+            "fallbackext" => $function::<$($source,)? FallbackExtendedS>($($argument),+),
+            "lim3" => $function::<$($source,)? LeastS>($($argument),+),
+            "lim3nan" => $function::<$($source,)? LeastFiniteS>($($argument),+),
+            "lim3deep" => $function::<$($source,)? DeepS>($($argument),+),
+            "lim125" => $function::<$($source,)? PreciseS>($($argument),+),
+            "lim125deep" => $function::<$($source,)? VastS>($($argument),+),
+            "seven" => $function::<$($source,)? SevenS>($($argument),+),
+            "wide128" => $function::<$($source,)? BroadS>($($argument),+),
+            "expl14" => $function::<$($source,)? WrittenBitS>($($argument),+),
+            "nan10" => $function::<$($source,)? TenS>($($argument),+),
+            "halftbr" => $function::<$($source,)? HalfTinyBeforeS>($($argument),+),
+            _ => None,
+        }
+    };
+}
+
+const MODES: [&str; 5] = ["even", "up", "down", "zero", "away"];
+
+/// Whether a row agrees, in each mode that it names, if it is understood.
+pub fn agrees_in_each_mode(row: Row<'_>) -> Option<bool> {
+    if row.mode != "any" {
+        return agrees(row);
+    }
+    let mut all_agree = true;
+    for mode in MODES {
+        all_agree &= agrees(Row { mode, ..row })?;
+    }
+    Some(all_agree)
+}
+
+fn agrees(row: Row<'_>) -> Option<bool> {
+    match row.format.split_once('>') {
+        Some((source, target)) => in_format!(source, converts_from, [], row, target),
+        None => in_format!(row.format, agrees_in, [], row),
+    }
+}
+
+fn converts_from<S: Semantics>(row: Row<'_>, target: &str) -> Option<bool> {
+    in_format!(target, converts, [S], row)
+}
+
+fn agrees_in<S: Semantics>(row: Row<'_>) -> Option<bool> {
+    if row.status != "-" {
+        with_status::<S>(row)
+    } else if row.extra != "-" {
+        is_fraction::<S>(row)
+    } else {
+        without_status::<S>(row)
+    }
+}
+
+fn with_status<S: Semantics>(row: Row<'_>) -> Option<bool> {
+    arithmetic::agrees::<S>(row)
+        .or_else(|| whole_numbers::agrees::<S>(row))
+        .or_else(|| is_read::<S>(row))
+}
+
+fn without_status<S: Semantics>(row: Row<'_>) -> Option<bool> {
+    parts::agrees::<S>(row)
+        .or_else(|| predicates::agrees::<S>(row))
+        .or_else(|| order::agrees::<S>(row))
+        .or_else(|| is_exponent::<S>(row))
+        .or_else(|| is_shown::<S>(row))
+}

@@ -1,0 +1,99 @@
+//! Calls whose answer is a value without a status.
+
+use crate::row::{Operands, Row};
+use crate::values::{is_value, value_of};
+use commands::{bits_of, mode_named};
+use rustc_apfloat::ieee::{IeeeFloat, Semantics};
+use rustc_apfloat::{ExpInt, Float};
+
+/// Whether the answer of a row's call is the one that the row has, if it is a call of this module.
+pub fn agrees<S: Semantics>(row: Row<'_>) -> Option<bool> {
+    match row.call {
+        "get_exact_inverse" => is_inverse::<S>(row),
+        "to_bits" => has_bits::<S>(row),
+        _ => is_value(answer_of::<S>(row)?, row.value),
+    }
+}
+
+/// Whether the fraction and the exponent of a value are those that a row has.
+pub fn is_fraction<S: Semantics>(row: Row<'_>) -> Option<bool> {
+    let x = value_of::<S>(row.operands)?;
+    let mut exponent = 0;
+    let fraction = match (row.call, row.mode) {
+        ("frexp_r", mode) => x.frexp_r(&mut exponent, mode_named(mode)?),
+        ("frexp", "-") => x.frexp(&mut exponent),
+        _ => return None,
+    };
+    let wanted = row.extra.strip_prefix("exponent=")?.parse::<ExpInt>().ok()?;
+    Some(is_value(fraction, row.value)? && exponent == wanted)
+}
+
+// Whether a value has the exact inverse of a row, or none.
+fn is_inverse<S: Semantics>(row: Row<'_>) -> Option<bool> {
+    match (value_of::<S>(row.operands)?.get_exact_inverse(), row.value) {
+        (None, wanted) => Some(wanted == "None"),
+        (Some(_), "None") => Some(false),
+        (Some(inverse), wanted) => is_value(inverse, wanted),
+    }
+}
+
+// Whether the value of bits has the bits of a row, the canonical ones.
+fn has_bits<S: Semantics>(row: Row<'_>) -> Option<bool> {
+    if S::PRECISION < S::BITS {
+        let x = S::from_bits(bits_of(row.operands, S::BITS)?);
+        Some(x.to_bits() == bits_of(row.value, S::BITS)?)
+    } else {
+        None
+    }
+}
+
+fn answer_of<S: Semantics>(row: Row<'_>) -> Option<IeeeFloat<S>> {
+    match row.parted_operands()? {
+        Operands::One(operand) => match row.call {
+            "qnan" => Some(IeeeFloat::<S>::qnan(payload_of(operand)?)),
+            "snan" => Some(IeeeFloat::<S>::snan(payload_of(operand)?)),
+            "largest" => Some(IeeeFloat::<S>::largest()),
+            call => of_one(call, value_of::<S>(operand)?),
+        },
+        Operands::Two(first, second) => {
+            let x = value_of::<S>(first)?;
+            match row.call {
+                "scalbn_r" => Some(x.scalbn_r(
+                    second.parse::<ExpInt>().ok()?,
+                    mode_named(row.mode)?,
+                )),
+                "scalbn" => Some(x.scalbn(second.parse::<ExpInt>().ok()?)),
+                call => of_two(call, x, value_of::<S>(second)?),
+            }
+        }
+        Operands::Three(_, _, _) => None,
+    }
+}
+
+// The payload of a word, which may be none.
+fn payload_of(word: &str) -> Option<Option<u128>> {
+    if word == "None" {
+        return Some(None);
+    }
+    Some(Some(bits_of(word, 128)?))
+}
+
+fn of_one<S: Semantics>(call: &str, x: IeeeFloat<S>) -> Option<IeeeFloat<S>> {
+    match call {
+        "neg" => Some(-x),
+        "abs" => Some(x.abs()),
+        "through_i128" => Some(IeeeFloat::<S>::from_i128(x.to_i128(128).value).value),
+        _ => None,
+    }
+}
+
+fn of_two<S: Semantics>(call: &str, x: IeeeFloat<S>, y: IeeeFloat<S>) -> Option<IeeeFloat<S>> {
+    match call {
+        "copy_sign" => Some(x.copy_sign(y)),
+        "min" => Some(x.min(y)),
+        "max" => Some(x.max(y)),
+        "minimum" => Some(x.minimum(y)),
+        "maximum" => Some(x.maximum(y)),
+        _ => None,
+    }
+}
