@@ -7,8 +7,7 @@ use crate::texts::{is_read, is_shown};
 use crate::whole_numbers::is_exponent;
 use crate::{arithmetic, order, parts, predicates, whole_numbers};
 use conformance::formats::{
-    BroadS, DeepS, HalfTinyBeforeS, LeastFiniteS, LeastS, PreciseS, SevenS, TenS, VastS,
-    WrittenBitS,
+    HalfTinyBeforeS, LeastFiniteS, LeastS, SevenS, TenS, VastS, WrittenBitS,
 };
 use rustc_apfloat::ieee::{
     BFloatS, DoubleS, FallbackExtendedS, FallbackS, Float8E4M3FNS, Float8E4M3FNUZS, Float8E5M2S,
@@ -32,11 +31,8 @@ macro_rules! in_format {
             "fallbackext" => $function::<$($source,)? FallbackExtendedS>($($argument),+),
             "lim3" => $function::<$($source,)? LeastS>($($argument),+),
             "lim3nan" => $function::<$($source,)? LeastFiniteS>($($argument),+),
-            "lim3deep" => $function::<$($source,)? DeepS>($($argument),+),
-            "lim125" => $function::<$($source,)? PreciseS>($($argument),+),
             "lim125deep" => $function::<$($source,)? VastS>($($argument),+),
             "seven" => $function::<$($source,)? SevenS>($($argument),+),
-            "wide128" => $function::<$($source,)? BroadS>($($argument),+),
             "expl14" => $function::<$($source,)? WrittenBitS>($($argument),+),
             "nan10" => $function::<$($source,)? TenS>($($argument),+),
             "halftbr" => $function::<$($source,)? HalfTinyBeforeS>($($argument),+),
