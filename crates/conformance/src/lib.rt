@@ -1,16 +1,29 @@
 //! What tests across crates need: formats of a user's own, and a plain slow program of one rounding, with which the
 //! kernel is compared.
 //!
-//! Outside values stand as tables in the crates `conformance_arithmetic` and `conformance_conversions`.
+//! The programs `command_rows` and `call_rows` check files of outside values.
 #![tactic(auto)]
 
 #[cfg(test)]
+mod bits;
+#[cfg(test)]
 mod comparison;
+#[cfg(test)]
+mod constants;
 #[cfg(test)]
 mod example;
 pub mod formats;
 #[cfg(test)]
 mod limits;
+#[cfg(test)]
+mod long_texts;
+#[cfg(test)]
+mod operators;
+#[cfg(test)]
+mod patterns;
 pub mod plain;
-pub mod tables;
+#[cfg(test)]
+mod tables;
+#[cfg(test)]
+mod wider;
 mod widest;

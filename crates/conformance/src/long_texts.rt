@@ -2,7 +2,7 @@
 
 ghost use Rattle.std.specs.Prelude.{◌<◌};
 
-use conformance::tables::{
+use crate::tables::{
     AWAY, DOWN, EVEN, INEXACT, OK, OVERFLOW_INEXACT, UNDERFLOW_INEXACT, UP, ZERO,
 };
 use rustc_apfloat::ieee::{Half, HalfS, Semantics};

@@ -2,7 +2,7 @@
 
 ghost use Rattle.std.specs.Prelude.{◌<◌, ◌≤◌};
 
-use conformance::tables::{
+use crate::tables::{
     DIV_BY_ZERO, INEXACT, INVALID_OP, OK, OVERFLOW_INEXACT, UNDERFLOW_INEXACT,
 };
 use rustc_apfloat::ieee::{

@@ -2,7 +2,7 @@
 
 ghost use Rattle.std.specs.Prelude.{◌<◌};
 
-use conformance::tables::{EVEN, INVALID_OP, OK};
+use crate::tables::{EVEN, INVALID_OP, OK};
 use rustc_apfloat::ieee::{BFloatS, DoubleS, Float8E5M2S, HalfS, IeeeFloat, Semantics, SingleS};
 use rustc_apfloat::{Flags, Float, FloatConvert, StatusAnd};
 use std::process::Abort;

@@ -2,7 +2,7 @@
 
 ghost use Rattle.std.specs.Prelude.{◌<◌};
 
-use conformance::formats::{Least, Seven};
+use crate::formats::{Least, Seven};
 use rustc_apfloat::ieee::{Double, Float8E4M3FN, Float8E4M3FNUZ, Half, Single};
 use rustc_apfloat::{Category, ExpInt, Float};
 use std::process::Abort;
