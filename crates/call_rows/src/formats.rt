@@ -1,7 +1,7 @@
 //! The formats of the rows by name, and the calls in them.
 
 use crate::conversions::converts;
-use crate::parts::is_fraction;
+use crate::parts::{is_fraction, is_scaled};
 use crate::row::Row;
 use crate::texts::{is_read, is_shown};
 use crate::whole_numbers::is_exponent;
@@ -71,6 +71,8 @@ fn agrees_in<S: Semantics>(row: Row<'_>) -> Option<bool> {
         with_status::<S>(row)
     } else if row.extra != "-" {
         is_fraction::<S>(row)
+    } else if row.mode != "-" || row.call == "scalbn" {
+        is_scaled::<S>(row)
     } else {
         without_status::<S>(row)
     }

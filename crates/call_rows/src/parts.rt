@@ -28,6 +28,20 @@ pub fn is_fraction<S: Semantics>(row: Row<'_>) -> Option<bool> {
     Some(is_value(fraction, row.value)? && exponent == wanted)
 }
 
+/// Whether a value times a power of two is the value that a row has.
+pub fn is_scaled<S: Semantics>(row: Row<'_>) -> Option<bool> {
+    let Operands::Two(value, power) = row.parted_operands()? else {
+        return None;
+    };
+    let x = value_of::<S>(value)?;
+    let power = power.parse::<ExpInt>().ok()?;
+    match (row.call, row.mode) {
+        ("scalbn_r", mode) => is_value(x.scalbn_r(power, mode_named(mode)?), row.value),
+        ("scalbn", "-") => is_value(x.scalbn(power), row.value),
+        _ => None,
+    }
+}
+
 // Whether a value has the exact inverse of a row, or none.
 fn is_inverse<S: Semantics>(row: Row<'_>) -> Option<bool> {
     match (value_of::<S>(row.operands)?.get_exact_inverse(), row.value) {
@@ -56,15 +70,7 @@ fn answer_of<S: Semantics>(row: Row<'_>) -> Option<IeeeFloat<S>> {
             call => of_one(call, value_of::<S>(operand)?),
         },
         Operands::Two(first, second) => {
-            let x = value_of::<S>(first)?;
-            match row.call {
-                "scalbn_r" => Some(x.scalbn_r(
-                    second.parse::<ExpInt>().ok()?,
-                    mode_named(row.mode)?,
-                )),
-                "scalbn" => Some(x.scalbn(second.parse::<ExpInt>().ok()?)),
-                call => of_two(call, x, value_of::<S>(second)?),
-            }
+            of_two(row.call, value_of::<S>(first)?, value_of::<S>(second)?)
         }
         Operands::Three(_, _, _) => None,
     }

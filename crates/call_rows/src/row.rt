@@ -1,5 +1,8 @@
 //! The columns of a row, and the words in them.
 
+ghost use Rattle.std.specs.Prelude.{◌≡◌, ◌++◌, ◌∷◌};
+ghost use Rattle.std.specs.Option.{IfSome};
+
 use rustc_apfloat::{Flags, Status};
 
 /// The columns of a row.
@@ -15,21 +18,35 @@ pub struct Row<'a> {
 }
 
 /// The row of a line, if it has seven columns.
-pub fn row_of(line: &str) -> Option<Row<'_>> {
-    let mut columns = line.split('\t');
-    let row = Row {
-        call: columns.next()?,
-        format: columns.next()?,
-        mode: columns.next()?,
-        operands: columns.next()?,
-        value: columns.next()?,
-        status: columns.next()?,
-        extra: columns.next()?,
-    };
-    match columns.next() {
-        Some(_) => None,
-        None => Some(row),
+pub fn row_of(line: &str) -> Option<Row<'_>>
+    ensures { IfSome result (λ row. line.now ≡ row.call.now ++ 9 ∷ row.format.now ++ 9 ∷ row.mode.now ++ 9
+        ∷ row.operands.now ++ 9 ∷ row.value.now ++ 9 ∷ row.status.now ++ 9 ∷ row.extra.now) }
+{
+    let (call, others) = cut_column(line)?;
+    let (format, others) = cut_column(others)?;
+    let (mode, others) = cut_column(others)?;
+    let (operands, others) = cut_column(others)?;
+    let (value, others) = cut_column(others)?;
+    let (status, extra) = cut_column(others)?;
+    if extra.contains('\t') {
+        return None;
     }
+    Some(Row {
+        call,
+        format,
+        mode,
+        operands,
+        value,
+        status,
+        extra,
+    })
+}
+
+// The first column, and the text behind its tab.
+fn cut_column(text: &str) -> Option<(&str, &str)>
+    ensures { IfSome result (λ parts. text.now ≡ parts.0.now ++ 9 ∷ parts.1.now) }
+{
+    text.split_once('\t')
 }
 
 /// The operands of a call.

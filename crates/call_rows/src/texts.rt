@@ -17,7 +17,9 @@ pub fn is_read<S: Semantics>(row: Row<'_>) -> Option<bool> {
     match IeeeFloat::<S>::from_str_r(row.operands, mode_named(row.mode)?) {
         Ok(_) if row.status == "ParseError" => Some(false),
         Ok(answer) => is_answer(row, answer),
-        Err(error) => Some(row.status == "ParseError" && row.value == error.0),
+        Err(error) => {
+            Some(row.value == error.0 && row.status == "ParseError" && row.extra == "-")
+        }
     }
 }
 
