@@ -5,7 +5,7 @@ pub mod computing;
 pub mod extended;
 pub mod short;
 
-use crate::float::IeeeFloat;
+use apfloat_generic::IeeeFloat;
 pub use basic::{DoubleS, HalfS, QuadS, SingleS};
 pub use computing::{FallbackExtendedS, FallbackS};
 pub use extended::X87DoubleExtendedS;

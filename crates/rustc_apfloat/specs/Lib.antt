@@ -42,4 +42,4 @@ pub use Rattle.apfloat_base.specs.Parsing
 pub use Rattle.apfloat_base.specs.Log
 pub use Rattle.apfloat_base.specs.Standing
 pub use Rattle.apfloat_base.specs.Enclosure
-pub use Rattle.apfloat_ieee.specs.Types
+pub use Rattle.apfloat_generic.specs.Types

@@ -4,8 +4,8 @@ ghost use Rattle.std.specs.Prelude.{◌-◌, ◌*◌, ◌^◌, pos, negsuc, true
 ghost use Rattle.apfloat_base.specs.declared.kinds.NonfiniteBehavior.TheVariants.{IEEE754};
 ghost use Rattle.apfloat_base.specs.LawTest.{lawful_from_test};
 
-use crate::semantics::Semantics;
 use apfloat_base::{ExpInt, NonfiniteBehavior};
+use apfloat_generic::Semantics;
 
 /// Binary16 (IEEE 754-2008 3.6).
 #[derive(Clone, Copy)]

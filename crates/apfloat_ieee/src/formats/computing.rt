@@ -4,8 +4,8 @@ ghost use Rattle.std.specs.Prelude.{◌-◌, ◌*◌, ◌^◌, pos, negsuc, true
 ghost use Rattle.apfloat_base.specs.declared.kinds.NonfiniteBehavior.TheVariants.{IEEE754};
 ghost use Rattle.apfloat_base.specs.LawTest.{lawful_from_test};
 
-use crate::semantics::Semantics;
 use apfloat_base::{ExpInt, NonfiniteBehavior};
+use apfloat_generic::Semantics;
 
 /// 106 digits with the exponents of a pair: its least normalized value has a low part of all digits.
 #[derive(Clone, Copy)]

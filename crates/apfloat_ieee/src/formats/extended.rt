@@ -4,8 +4,8 @@ ghost use Rattle.std.specs.Prelude.{◌-◌, ◌*◌, ◌^◌, pos, negsuc, true
 ghost use Rattle.apfloat_base.specs.declared.kinds.NonfiniteBehavior.TheVariants.{IEEE754};
 ghost use Rattle.apfloat_base.specs.LawTest.{lawful_from_test};
 
-use crate::semantics::Semantics;
 use apfloat_base::{ExpInt, NonfiniteBehavior};
+use apfloat_generic::Semantics;
 
 /// The 80 bits of the x87, with the integer bit written.
 ///

@@ -4,8 +4,8 @@ ghost use Rattle.std.specs.Prelude.{◌-◌, ◌*◌, ◌^◌, pos, negsuc, true
 ghost use Rattle.apfloat_base.specs.declared.kinds.NonfiniteBehavior.TheVariants.{IEEE754, NanOnly, NanNegativeZero};
 ghost use Rattle.apfloat_base.specs.LawTest.{lawful_from_test};
 
-use crate::semantics::Semantics;
 use apfloat_base::{ExpInt, NonfiniteBehavior};
+use apfloat_generic::Semantics;
 
 /// The upper 16 bits of a binary32, whose exponents it has.
 #[derive(Clone, Copy)]

@@ -1,0 +1,7 @@
+use Rattle.apfloat_generic.proofs.semantics.Semantics.from_bits.Goals as goal
+
+pub returns-clause-read : goal.returns-clause-read
+returns-clause-read g c = c.read.ensures.read
+
+pub returns-clause-back : goal.returns-clause-back
+returns-clause-back g c = c.read.ensures.back

@@ -1,0 +1,22 @@
+//! Arithmetic on the values of one binary floating-point format, generic in the format.
+//!
+//! A format is a type that implements `Semantics`; `IeeeFloat<S>` is a value of the format `S`. The work is done by the
+//! functions of `apfloat_unpacked`, `apfloat_arithmetic`, `apfloat_conversions` and `apfloat_texts` over a `Shape`, the
+//! constants of a format that rounding reads; the generic calls only bring a type's constants to them.
+#![tactic(auto)]
+
+mod convert;
+mod debug;
+pub mod float;
+pub mod fused;
+pub mod impls;
+pub mod order;
+pub mod products;
+pub mod remainder;
+pub mod semantics;
+pub mod sums;
+pub mod text;
+
+pub use apfloat_base::NonfiniteBehavior;
+pub use float::IeeeFloat;
+pub use semantics::Semantics;

@@ -1,7 +1,0 @@
-use Rattle.apfloat_ieee.proofs.semantics.Semantics.from_bits.Goals as goal
-
-pub returns-clause-read : goal.returns-clause-read
-returns-clause-read g c = c.read.ensures.read
-
-pub returns-clause-back : goal.returns-clause-back
-returns-clause-back g c = c.read.ensures.back
