@@ -2,9 +2,7 @@
 
 ghost use Rattle.std.specs.Prelude.{◌<◌};
 
-use crate::tables::{
-    AWAY, DOWN, EVEN, INEXACT, OK, OVERFLOW_INEXACT, UNDERFLOW_INEXACT, UP, ZERO,
-};
+use crate::tables::{AWAY, DOWN, EVEN, INEXACT, OK, OVERFLOW_INEXACT, UNDERFLOW_INEXACT, UP, ZERO};
 use rustc_apfloat::ieee::{Half, HalfS, Semantics};
 use rustc_apfloat::{Flags, Float, Round};
 use std::process::Abort;

@@ -2,9 +2,7 @@
 
 ghost use Rattle.std.specs.Prelude.{◌<◌, ◌≤◌};
 
-use crate::tables::{
-    DIV_BY_ZERO, INEXACT, INVALID_OP, OK, OVERFLOW_INEXACT, UNDERFLOW_INEXACT,
-};
+use crate::tables::{DIV_BY_ZERO, INEXACT, INVALID_OP, OK, OVERFLOW_INEXACT, UNDERFLOW_INEXACT};
 use rustc_apfloat::ieee::{
     DoubleS, Float8E4M3FN, Float8E4M3FNS, Float8E4M3FNUZ, Half, HalfS, IeeeFloat, Semantics,
     Single, SingleS, X87DoubleExtended, X87DoubleExtendedS,
