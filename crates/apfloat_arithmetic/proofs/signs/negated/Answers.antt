@@ -1,4 +1,4 @@
-use Rattle.std.proofs.Common.{not, sym, ap, ◌∙◌}
+use Rattle.std.proofs.Common.{rules, not, sym, ap, ◌∙◌}
 use Rattle.apfloat_base.specs.declared.kinds.Category.TheVariants.{Normal}
 use Rattle.apfloat_base.specs.Negation.{negated}
 use Rattle.apfloat_base.proofs.Laws.{number_swapped}
@@ -13,3 +13,6 @@ returns-in-Normal-clause-datum c =
     let h = number_stored s x c.in-Normal.is c.requires in
     ap (datum_at s) c.turned-in-Normal.ensures ∙ datum_is Normal s (record x { negative = not x.negative }) c.in-Normal.is
     ∙ number_swapped s.nonfinite x.negative (quanta_at s.min_exp x.significand x.exponent) h.1 ∙ ap (negated s.nonfinite) (sym (datum_is Normal s x c.in-Normal.is))
+
+pub returns-in-NaN-clause-datum : goal.returns-in-NaN-clause-datum
+returns-in-NaN-clause-datum c = search rules steps 500000

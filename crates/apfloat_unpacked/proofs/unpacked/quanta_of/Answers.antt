@@ -1,4 +1,4 @@
-use Rattle.std.proofs.Common.{◌-◌, ◌*◌, ◌%◌, ◌^◌, ◌<◌, sym, arith, to_z, of_z, w32}
+use Rattle.std.proofs.Common.{rules, ◌-◌, ◌*◌, ◌%◌, ◌^◌, ◌<◌, sym, arith, to_z, of_z, w32}
 use Rattle.std.proofs.lemmas.Int.{ints, to_z-of_z}
 use Rattle.std.proofs.Math.Nat.{mul-pos}
 use Rattle.std.proofs.lemmas.Nat.{pow_pos}
@@ -33,3 +33,6 @@ pub returns-clause-datum : goal.returns-clause-datum
 returns-clause-datum c =
     let p : 0 < c.args.significand * 2 ^ c.args.place = mul-pos (omega arith) (pow_pos c.args.place) in
     rw (moved_up_quanta c.args.shape c.args.significand c.digits.result c.args.place _ _ (moved_up c)) (sym (signed_some c.args.shape.nonfinite c.args.negative (c.args.significand * 2 ^ c.args.place) p))
+
+pub returns-then-significand-eq0-clause-datum : goal.returns-then-significand-eq0-clause-datum
+returns-then-significand-eq0-clause-datum c = search rules steps 500000

@@ -1,4 +1,4 @@
-use Rattle.std.proofs.Common.{◌<◌, arith}
+use Rattle.std.proofs.Common.{rules, ◌<◌, arith}
 use Rattle.apfloat_base.proofs.Deliveries.{four}
 use Rattle.apfloat_base.proofs.Losses.{twice_half}
 use Rattle.apfloat_unpacked.proofs.shape.Shape.greatest_significand.Goals as goal
@@ -16,3 +16,6 @@ returns-in-NanOnly-clause-full c =
     let k = four c.args.self.precision c.requires.precision_low in
     let t = twice_half c.args.self.precision p in
     omega (arith, k, t)
+
+pub returns-in-NanOnly-clause-value : goal.returns-in-NanOnly-clause-value
+returns-in-NanOnly-clause-value c = search rules steps 500000
