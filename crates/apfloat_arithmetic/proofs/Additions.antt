@@ -68,7 +68,7 @@ read_zero of_zero negative amount w (negsuc n) p q e = absurd (omega arith)
 
 -- ---- the sum of the significands, as a count of quanta
 
-pub record IsRead (of_zero : Bool) (exact : ℤ) (negative : Bool) (unit : ℤ) (significand : ℕ) (loss : Loss) : Type 0 where
+pub record IsRepresented (of_zero : Bool) (exact : ℤ) (negative : Bool) (unit : ℤ) (significand : ℕ) (loss : Loss) : Type 0 where
   pub stands : StandsFor significand loss (magnitude exact * 2 ^ down unit) (1 * 2 ^ up unit)
   pub zero_sign : significand ≡ 0 → loss ≡ ExactlyZero → of_zero ≡ sign_of of_zero exact
   pub other_sign : (significand ≡ 0 → loss ≡ ExactlyZero → ⊥) → negative ≡ sign_of of_zero exact
@@ -93,7 +93,7 @@ zero_amount q loss amount unit a b h =
     omega (arith, s)
 
 pub read_sum : (of_zero : Bool) (base e unit : ℤ) (k m n : ℕ) (s t negative : Bool) (q : ℕ) (loss : Loss) → e ≡ ((unit +ℤ base) +ℤ pos k)
-    → StandsForSigned base (signed s (m * 2 ^ k) +ℤ signed t (n * 2 ^ k)) negative e q loss → IsRead of_zero (signed s m +ℤ signed t n) negative unit q loss
+    → StandsForSigned base (signed s (m * 2 ^ k) +ℤ signed t (n * 2 ^ k)) negative e q loss → IsRepresented of_zero (signed s m +ℤ signed t n) negative unit q loss
 read_sum of_zero base e unit k m n s t negative q loss d h =
     let w : 0 < 2 ^ k = pow_pos k in
     let u : 0 < 2 ^ up (e -ℤ base) = pow_pos (up (e -ℤ base)) in
@@ -105,7 +105,7 @@ read_sum of_zero base e unit k m n s t negative q loss d h =
       other_sign = λ x. read_sign of_zero negative h.amount (2 ^ k) (signed s m +ℤ signed t n) w (not_zero_amount q loss h.amount (2 ^ up (e -ℤ base)) u x h.stands) b;
     }
 
-pub read_negative : (of_zero : Bool) (exact unit : ℤ) (negative answer : Bool) (significand : ℕ) (loss : Loss) → IsRead of_zero exact negative unit significand loss → (significand ≡ 0 → loss ≡ ExactlyZero → answer ≡ of_zero) → ((significand ≡ 0 → loss ≡ ExactlyZero → ⊥) → answer ≡ negative) → answer ≡ sign_of of_zero exact
+pub read_negative : (of_zero : Bool) (exact unit : ℤ) (negative answer : Bool) (significand : ℕ) (loss : Loss) → IsRepresented of_zero exact negative unit significand loss → (significand ≡ 0 → loss ≡ ExactlyZero → answer ≡ of_zero) → ((significand ≡ 0 → loss ≡ ExactlyZero → ⊥) → answer ≡ negative) → answer ≡ sign_of of_zero exact
 read_negative of_zero exact unit negative answer zero loss r f g =
     ⊎_elim
     (λ (e : loss ≡ ExactlyZero). f refl e ∙ r.zero_sign refl e)
@@ -118,7 +118,7 @@ pub sum_read : (of_zero : Bool) (precision scale : ℕ) (min xe ye tx ty e unit 
     → ((min +ℤ pos 1) -ℤ pos precision) ≤ℤ xe → ((min +ℤ pos 1) -ℤ pos precision) ≤ℤ ye → (tx +ℤ pos precision) ≡ (xe +ℤ pos 1) → (ty +ℤ pos precision) ≡ (ye +ℤ pos 1)
     → (pos scale +ℤ min) +ℤ pos 1 ≡ pos precision → unit ≡ (e +ℤ pos scale) → IsQuantaAt min mx xe m → IsQuantaAt min my ye n
     → ((base : ℤ) → base ≤ℤ tx → base ≤ℤ ty → StandsForSigned base (counted base s tx mx +ℤ counted base t ty my) negative e q loss)
-    → IsRead of_zero (signed s m +ℤ signed t n) negative unit q loss
+    → IsRepresented of_zero (signed s m +ℤ signed t n) negative unit q loss
 sum_read of_zero precision scale min xe ye tx ty e unit s t negative mx my m n q loss lx ly ax ay w u ix iy f =
     let base = (min -ℤ pos precision) -ℤ pos precision in
     let k = precision + 1 in

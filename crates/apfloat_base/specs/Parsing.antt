@@ -9,9 +9,9 @@ use Rattle.apfloat_base.specs.Datum.{Datum}
 use Rattle.apfloat_base.specs.Readings.{IsReading, IsRefusal}
 
 -- the value and the status of the text's meaning, or a refusal with the words of its first fault
-abbrev pub IsParsed : Format → Round → List ℕ → Result (StatusAnd Datum) ParseError → Type 0
-IsParsed f mode text (Ok answer) = Gives (IsReading f mode text) answer
-IsParsed f mode text (Err error) = IsRefusal text error.0.now
+abbrev pub IsRead : Format → Round → List ℕ → Result (StatusAnd Datum) ParseError → Type 0
+IsRead f mode text (Ok answer) = Gives (IsReading f mode text) answer
+IsRead f mode text (Err error) = IsRefusal text error.0.now
 
 -- an answer without its status
 abbrev pub without_status : {A E : Type 0} → Result (StatusAnd A) E → Result A E

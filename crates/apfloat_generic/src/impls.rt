@@ -23,7 +23,7 @@ ghost use Rattle.apfloat_base.specs.Scaling.{IsScaling};
 ghost use Rattle.apfloat_base.specs.WholeNumbers.{IsFromUnsigned, IsFromSigned, IsRoundToIntegral};
 ghost use Rattle.apfloat_base.specs.WholeNumbersOut.{IsToUnsigned, IsToSigned};
 ghost use Rattle.apfloat_conversions.proofs.ToSigned.{to_signed_above, to_signed_below};
-ghost use Rattle.apfloat_base.specs.Parsing.{IsParsed};
+ghost use Rattle.apfloat_base.specs.Parsing.{IsRead};
 ghost use Rattle.apfloat_generic.specs.Types.{format_of, layout_of};
 
 use crate::float::{IeeeFloat, read, shape_of, write};
@@ -143,7 +143,7 @@ impl<S: Semantics> Float for IeeeFloat<S> {
 
     ghost has_fraction = { λ x mode value exponent. IsFrexp (format_of S.Semantics) x value exponent };
 
-    ghost reads = { λ text mode answer. IsParsed (format_of S.Semantics) mode text answer };
+    ghost reads = { λ text mode answer. IsRead (format_of S.Semantics) mode text answer };
 
     #[inline]
     fn zero() -> Self {

@@ -5,7 +5,7 @@ ghost use Rattle.apfloat_base.specs.declared.kinds.Round.TheVariants.{NearestTie
 ghost use Rattle.apfloat_base.specs.declared.parse_error.ParseError.{ParseError};
 ghost use Rattle.apfloat_base.specs.declared.status.StatusAnd.{StatusAnd};
 ghost use Rattle.apfloat_base.specs.Datum.{Datum};
-ghost use Rattle.apfloat_base.specs.Parsing.{IsParsed, without_status};
+ghost use Rattle.apfloat_base.specs.Parsing.{IsRead, without_status};
 ghost use Rattle.apfloat_generic.specs.Types.{format_of};
 
 use crate::float::{IeeeFloat, shape_of};
@@ -20,7 +20,7 @@ pub(crate) fn read_text<S: Semantics>(
     text: &str,
     round: Round,
 ) -> Result<StatusAnd<IeeeFloat<S>>, ParseError>
-    ensures { IsParsed (format_of S.Semantics) round text.now result }
+    ensures { IsRead (format_of S.Semantics) round text.now result }
 {
     match read(shape_of::<S>(), text, round) {
         Ok(answer) => Ok(IeeeFloat::answered(answer)),
@@ -31,7 +31,7 @@ pub(crate) fn read_text<S: Semantics>(
 impl<S: Semantics> FromStr for IeeeFloat<S> {
     type Err = ParseError;
 
-    ghost from_str_gives = { λ text r. (answer : Result (StatusAnd Datum) ParseError) × IsParsed (format_of S.Semantics) NearestTiesToEven text answer × (r ≡ without_status answer) };
+    ghost from_str_gives = { λ text r. (answer : Result (StatusAnd Datum) ParseError) × IsRead (format_of S.Semantics) NearestTiesToEven text answer × (r ≡ without_status answer) };
 
     /// Reads a text as `from_str_r` does, to the nearest value, a tie to the even one, and drops the status.
     fn from_str(s: &str) -> Result<Self, ParseError> {

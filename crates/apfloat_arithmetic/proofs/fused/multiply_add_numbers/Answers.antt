@@ -7,7 +7,7 @@ use Rattle.apfloat_base.specs.Rounding.{IsDelivered}
 use Rattle.apfloat_base.specs.Sums.{zero_sum_sign}
 use Rattle.apfloat_unpacked.specs.Shapes.{format_at}
 use Rattle.apfloat_unpacked.specs.Stored.{quanta_at, datum_at}
-use Rattle.apfloat_arithmetic.proofs.Additions.{IsRead, read_negative, fine_if}
+use Rattle.apfloat_arithmetic.proofs.Additions.{IsRepresented, read_negative, fine_if}
 use Rattle.apfloat_arithmetic.proofs.WideTerms.{wide_room, wide_sum_full, fused_read, in_quanta}
 use Rattle.apfloat_arithmetic.proofs.fused.multiply_add_numbers.Goals as goal
 
@@ -48,7 +48,7 @@ returns-clause-delivered c =
     let w : to_z w32 (of_z w32 t.exponent) ≡ t.exponent = omega (arith, ints, c.add_terms-total.ensures.near, c.add_terms-total.ensures.far, c.product_term-product.ensures.near, c.product_term-product.ensures.far, c.addend_term.ensures.near, c.addend_term.ensures.far) in
     let d = rw w at c.deliver.ensures.delivered in
     let g = rw (c.product_term-product.ensures.negative, c.addend_term.ensures.negative) at c.add_terms-total.ensures.stands in
-    let r : IsRead of_zero exact t.negative fine t.significand t.loss =
+    let r : IsRepresented of_zero exact t.negative fine t.significand t.loss =
     fused_read of_zero (format_at s).scale 2097780 c.product_term-product.result.exponent c.addend_term.result.exponent t.exponent fine sign z.negative t.negative
     c.product_term-product.result.significand c.addend_term.result.significand m n t.significand t.loss
     c.product_term-product.ensures.far c.addend_term.ensures.far refl c.product_term-product.ensures.counted c.addend_term.ensures.counted g in

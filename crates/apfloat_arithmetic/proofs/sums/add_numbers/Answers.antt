@@ -6,7 +6,7 @@ use Rattle.apfloat_base.specs.Rounding.{IsDelivered}
 use Rattle.apfloat_base.specs.Sums.{zero_sum_sign}
 use Rattle.apfloat_unpacked.specs.Shapes.{format_at}
 use Rattle.apfloat_unpacked.specs.Stored.{quanta_at, datum_at}
-use Rattle.apfloat_arithmetic.proofs.Additions.{IsRead, read_negative, sum_read, scale_is, roomy, sum_full, fine_if}
+use Rattle.apfloat_arithmetic.proofs.Additions.{IsRepresented, read_negative, sum_read, scale_is, roomy, sum_full, fine_if}
 use Rattle.apfloat_arithmetic.proofs.sums.add_numbers.Goals as goal
 
 pub add_terms-total-requires-clause-x_room : goal.add_terms-total-requires-clause-x_room
@@ -41,7 +41,7 @@ returns-clause-delivered c =
     let w : to_z w32 (of_z w32 c.add_terms-total.result.exponent) ≡ c.add_terms-total.result.exponent = omega (arith, ints, c.requires.lawful, c.add_terms-total.ensures.near, c.add_terms-total.ensures.far, c.term_of.ensures.exponent, c.term_of-2.ensures.exponent, c.requires.x_normal.operand.least, c.requires.y_normal.operand.least, c.requires.x_normal.operand.greatest, c.requires.y_normal.operand.greatest) in
     let d = rw w at c.deliver.ensures.delivered in
     let g = rw (c.term_of.ensures.negative, c.term_of.ensures.significand, c.term_of-2.ensures.negative, c.term_of-2.ensures.significand) at c.add_terms-total.ensures.stands in
-    let r : IsRead of_zero exact c.add_terms-total.result.negative unit c.add_terms-total.result.significand c.add_terms-total.result.loss =
+    let r : IsRepresented of_zero exact c.add_terms-total.result.negative unit c.add_terms-total.result.significand c.add_terms-total.result.loss =
     sum_read of_zero c.args.shape.precision (format_at c.args.shape).scale c.args.shape.min_exp c.args.x.exponent c.args.y.exponent c.term_of.result.exponent c.term_of-2.result.exponent c.add_terms-total.result.exponent unit
     c.args.x.negative c.args.y.negative c.add_terms-total.result.negative c.args.x.significand c.args.y.significand m n c.add_terms-total.result.significand c.add_terms-total.result.loss
     c.requires.x_normal.operand.least c.requires.y_normal.operand.least c.term_of.ensures.exponent c.term_of-2.ensures.exponent (scale_is c.args.shape.precision c.args.shape.min_exp c.requires.lawful.precision_low c.requires.lawful.min_exp_high) refl c.requires.x_normal.whole c.requires.y_normal.whole g in
