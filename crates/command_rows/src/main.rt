@@ -6,9 +6,7 @@
 //! The exit status is 0 where all rows agree, and 1 otherwise.
 #![tactic(auto)]
 
-mod row;
-
-use row::agrees;
+use commands::agrees;
 use std::alloc::{AllocError, Global};
 use std::io;
 use std::io::{BufRead, BufReader};

@@ -145,3 +145,9 @@ pub record IsRun (command : List (List ℕ)) (out out' err err' : Option (List �
   pub wrote_out : Appends out out' (written_out reply)
   pub wrote_err : Appends err err' (written_err reply)
   pub status_is : status ≡ exit_status reply
+
+-- the only reply to a command is written as this line
+pub record IsReplied (command : List (List ℕ)) (text : List ℕ) : Type 0 where
+  pub reply : Reply
+  pub is_reply : IsOnly (IsReply command) reply
+  pub is_line : written_out reply ++ written_err reply ≡ text ++ codes "\n"

@@ -13,9 +13,11 @@
 mod command;
 mod operation;
 mod output;
+mod row;
 #[cfg(test)]
 mod tests;
 mod words;
 
 pub use output::{refuse_memory, run, write_status};
+pub use row::agrees;
 pub use words::{bits_of, mode_named, number_of};

@@ -1,7 +1,7 @@
-use Rattle.std.proofs.Common.{rules, ◌≡◌, ◌++◌, ℕ, List, [], ◌∷◌, true, refl, Some}
+use Rattle.std.proofs.Common.{◌≡◌, ◌++◌, [], ◌∷◌, refl, Some}
 use Rattle.std.proofs.lemmas.Bool.Decides.{Decides-eqb}
 use Rattle.std.proofs.lemmas.Slice.Eq.{slice_eq-Decides, strip_suffix_is}
-use Rattle.command_rows.proofs.row.is_line.Goals as goal
+use Rattle.commands.proofs.row.is_line.Goals as goal
 
 pub returns-in-Some : goal.returns-in-Some
 returns-in-Some c said =

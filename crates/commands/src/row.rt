@@ -1,9 +1,9 @@
-//! A row of the table.
+//! Checks a command with the reply that it must have, a row of a table.
 
 ghost use Rattle.std.specs.Prelude.{◌≡◌, ◌++◌, codes, map, string_bytes, true};
-ghost use Rattle.command_rows.specs.Rows.{IsReplied};
+ghost use Rattle.commands.specs.Replies.{IsReplied};
 
-use commands::run;
+use crate::output::run;
 use std::alloc::Global;
 
 /// Whether a command is seen to be replied to so: a line on the first writer alone, with status 0, or a refusal on the
