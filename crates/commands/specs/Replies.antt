@@ -3,6 +3,8 @@ use Rattle.std.specs.Prelude.{◌≡◌, ℕ, zero, suc, ◌+◌, ◌/◌, ◌%�
 use Rattle.std.specs.List.{join_with_byte}
 use Rattle.std.specs.Int.RustNames.{bit_and}
 use Rattle.std.specs.Io.KnownBytes.{Appends}
+use Rattle.std.specs.declared.io.ErrorKind.{ErrorKind}
+use Rattle.std.specs.declared.io.ErrorKind.TheVariants.{OutOfMemory}
 use Rattle.rustc_apfloat.specs.declared.Round.{Round}
 use Rattle.rustc_apfloat.specs.Flags.{bits_of}
 use Rattle.rustc_apfloat.specs.Format.{Format}
@@ -145,6 +147,12 @@ pub record IsRun (command : List (List ℕ)) (out out' err err' : Option (List �
   pub wrote_out : Appends out out' (written_out reply)
   pub wrote_err : Appends err err' (written_err reply)
   pub status_is : status ≡ exit_status reply
+
+-- what a run leaves where there was no memory for its words and no write failed
+pub record IsMemoryRefused (kind : ErrorKind) (err err' : Option (List ℕ)) (status : ℕ) : Type 0 where
+  pub kind_is : kind ≡ OutOfMemory
+  pub wrote_err : Appends err err' (refusal_text (codes "memory"))
+  pub status_is : status ≡ 3
 
 -- the only reply to a command is written as this line
 pub record IsReplied (command : List (List ℕ)) (text : List ℕ) : Type 0 where

@@ -18,6 +18,6 @@ mod row;
 mod tests;
 mod words;
 
-pub use output::{refuse_memory, run, write_status};
+pub use output::{run, run_given, write_status};
 pub use row::agrees;
 pub use words::{bits_of, mode_named, number_of};

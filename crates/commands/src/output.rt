@@ -1,14 +1,15 @@
 //! Writes what the program replies.
 
-ghost use Rattle.std.specs.Prelude.{◌≡◌, ◌≢◌, ◌<◌, ◌≤◌, ◌++◌, codes, if◌then◌else◌, is_ok, map, OnOk, string_bytes};
+ghost use Rattle.std.specs.Prelude.{◌≡◌, ◌≢◌, ◌<◌, ◌≤◌, ◌++◌, codes, if◌then◌else◌, is_ok, map, MatchResult, OnErr, OnOk, string_bytes};
+ghost use Rattle.std.specs.IoError.{error_kind};
 ghost use Rattle.std.specs.Io.KnownBytes.{Appends};
 ghost use Rattle.rustc_apfloat.specs.Flags.{bits_of};
-ghost use Rattle.commands.specs.Replies.{IsRun, hexadecimal_digit, hexadecimal_text, line_text, refusal_text, status_text};
+ghost use Rattle.commands.specs.Replies.{IsMemoryRefused, IsRun, hexadecimal_digit, hexadecimal_text, line_text, refusal_text, status_text};
 
 use crate::command::{Reply, command};
 use rustc_apfloat::{Flags, Status};
 use std::io;
-use std::io::Write;
+use std::io::{ErrorKind, Write};
 
 /// Runs a command, the words without the program's own name: writes a line to `out` or a refusal to `err`.
 ///
@@ -23,8 +24,29 @@ pub fn run<W: Write, V: Write>(words: &[String], out: &mut W, err: &mut V) -> u8
     }
 }
 
-/// Says that there is no memory for the words. Answers the exit status: 3, or 1 where a write failed.
-pub fn refuse_memory<V: Write>(err: &mut V) -> u8
+/// Runs the words that the system gave a program, or says what it gave in their place.
+///
+/// Answers the exit status: for words that of `run`; 3 where there was no memory for them, which is said on `err`; and 1
+/// for any other error, as of words that are no texts, where nothing is written, or where a write failed.
+pub fn run_given<W: Write, V: Write>(given: io::Result<Vec<String>>, out: &mut W, err: &mut V) -> u8
+    ensures known { result ≢ 1 → MatchResult given
+        (λ words. IsRun (map string_bytes words.items)
+        (W.contents out.old) (W.contents out.new) (V.contents err.old) (V.contents err.new) result)
+        (λ error. IsMemoryRefused (error_kind error)
+        (V.contents err.old) (V.contents err.new) result) }
+    ensures silent { OnErr given (W.contents out.new ≡ W.contents out.old) }
+{
+    match given {
+        Ok(words) => run(words.as_slice(), out, err),
+        Err(error) => match error.kind() {
+            ErrorKind::OutOfMemory => refuse_memory(err),
+            _ => 1,
+        },
+    }
+}
+
+// Says that there is no memory for the words. Answers the exit status: 3, or 1 where a write failed.
+fn refuse_memory<V: Write>(err: &mut V) -> u8
     ensures status { result ≢ 1 → result ≡ 3 }
     ensures text { result ≢ 1
         → Appends (V.contents err.old) (V.contents err.new) (refusal_text (codes "memory")) }

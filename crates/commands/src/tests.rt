@@ -1,6 +1,6 @@
 //! Runs of the program on writers that a test reads, or that fail.
 
-use crate::output::{refuse_memory, run};
+use crate::output::{run, run_given};
 use std::alloc::{AllocError, Global};
 use std::io;
 use std::io::{ErrorKind, Write};
@@ -109,9 +109,25 @@ fn answers_1_exactly_where_a_write_fails(rt: HostRuntime) -> Result<(), Fail> {
 }
 
 #[test]
-fn refuses_for_memory(rt: HostRuntime) {
-    let mut err = Vec::new(rt.alloc());
-    assert_eq!(rt; refuse_memory(&mut err), 3);
-    assert_eq!(rt; err.as_slice(), b"refused: memory\n".as_slice());
-    assert_eq!(rt; refuse_memory(&mut Failing { writes_left: 5 }), 1);
+fn answers_what_the_system_gives(rt: HostRuntime) -> Result<(), Fail> {
+    for (kind, status, on_err) in [
+        (ErrorKind::OutOfMemory, 3, "refused: memory\n"),
+        (ErrorKind::InvalidData, 1, ""),
+    ] {
+        let mut out = Vec::new(rt.alloc());
+        let mut err = Vec::new(rt.alloc());
+        let answered = run_given(Err(io::Error::from(kind)), &mut out, &mut err);
+        assert_eq!(rt; answered, status);
+        assert!(rt; out.is_empty());
+        assert_eq!(rt; err.as_slice(), on_err.as_bytes());
+    }
+    let mut out = Vec::new(rt.alloc());
+    let words = words_of(rt.alloc(), "half int even 464")?;
+    let answered = run_given(Ok(words), &mut out, &mut Failing { writes_left: 0 });
+    assert_eq!(rt; answered, 0);
+    assert_eq!(rt; out.as_slice(), b"5f40 OK\n".as_slice());
+    let no_memory = Err(io::Error::from(ErrorKind::OutOfMemory));
+    let answered = run_given(no_memory, &mut out, &mut Failing { writes_left: 5 });
+    assert_eq!(rt; answered, 1);
+    Ok(())
 }

@@ -6,19 +6,13 @@
 //! fails or the words are no texts.
 #![tactic(auto)]
 
-use commands::{refuse_memory, run};
+use commands::run_given;
 use std::env::Env;
-use std::io::ErrorKind;
 use std::process::ExitCode;
 use std::{env, io};
 
 fn main(rt: HostRuntime) -> ExitCode {
-    let status = match words_of_system(&rt) {
-        Ok(words) => run(words.as_slice(), &mut rt.stdout(), &mut rt.stderr()),
-        Err(error) if error.kind() == ErrorKind::OutOfMemory => refuse_memory(&mut rt.stderr()),
-        Err(_) => 1,
-    };
-    ExitCode::from(status)
+    ExitCode::from(run_given(words_of_system(&rt), &mut rt.stdout(), &mut rt.stderr()))
 }
 
 // The words without the program's own name.
