@@ -18,7 +18,7 @@ use Rattle.rustc_apfloat.specs.WholeNumbers.{IsFromUnsigned}
 use Rattle.rustc_apfloat.specs.Readings.{IsReading}
 use Rattle.rustc_apfloat.specs.Layout.{datum_of, IsEncodedBy}
 use Rattle.rustc_apfloat.specs.Lawful.{Constants, format_with, layout_with}
-use Rattle.commands.specs.declared.command.Reply as program
+use Rattle.commands.specs.declared.reply.Reply as program
 use Rattle.commands.specs.declared.operation.Arithmetic.{Arithmetic}
 use Rattle.commands.specs.declared.operation.Arithmetic.TheVariants.{Sum, Difference, Product, Quotient, NearestRemainder, TruncatedRemainder}
 use Rattle.commands.specs.Commands.{Call, of_two, fused_sum, from_whole_number, from_text, Request, asked}

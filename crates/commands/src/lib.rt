@@ -10,14 +10,15 @@
 //! A value is written by its bits: 1 to 32 hexadecimal digits, behind `0x` or without it.
 #![tactic(auto)]
 
-mod command;
 mod operation;
 mod output;
+mod reply;
 mod row;
 #[cfg(test)]
 mod tests;
 mod words;
 
 pub use output::{run, run_given, write_status};
+pub use reply::{Reply, command};
 pub use row::agrees;
 pub use words::{bits_of, mode_named, number_of};

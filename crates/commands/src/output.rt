@@ -1,12 +1,12 @@
 //! Writes what the program replies.
 
-ghost use Rattle.std.specs.Prelude.{◌≡◌, ◌≢◌, ◌<◌, ◌≤◌, ◌++◌, codes, if◌then◌else◌, is_ok, map, MatchResult, OnErr, OnOk, string_bytes};
+ghost use Rattle.std.specs.Prelude.{◌≡◌, ◌≢◌, ◌<◌, ◌≤◌, ◌++◌, codes, if◌then◌else◌, IfErr, is_ok, map, MatchResult, OnErr, OnOk, string_bytes};
 ghost use Rattle.std.specs.IoError.{error_kind};
 ghost use Rattle.std.specs.Io.KnownBytes.{Appends};
 ghost use Rattle.rustc_apfloat.specs.Flags.{bits_of};
 ghost use Rattle.commands.specs.Replies.{IsMemoryRefused, IsRun, hexadecimal_digit, hexadecimal_text, line_text, refusal_text, status_text};
 
-use crate::command::{Reply, command};
+use crate::reply::{Reply, command};
 use rustc_apfloat::{Flags, Status};
 use std::io;
 use std::io::{ErrorKind, Write};
@@ -35,6 +35,8 @@ pub fn run_given<W: Write, V: Write>(given: io::Result<Vec<String>>, out: &mut W
         (λ error. IsMemoryRefused (error_kind error)
         (V.contents err.old) (V.contents err.new) result) }
     ensures silent { OnErr given (W.contents out.new ≡ W.contents out.old) }
+    ensures other { IfErr given (λ error. error_kind error ≢ ErrorKind.OutOfMemory
+        → (V.contents err.new ≡ V.contents err.old) × (result ≡ 1)) }
 {
     match given {
         Ok(words) => run(words.as_slice(), out, err),

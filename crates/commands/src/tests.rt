@@ -1,6 +1,8 @@
 //! Runs of the program on writers that a test reads, or that fail.
 
 use crate::output::{run, run_given};
+use crate::reply::{Reply, command};
+use rustc_apfloat::Flags;
 use std::alloc::{AllocError, Global};
 use std::io;
 use std::io::{ErrorKind, Write};
@@ -46,6 +48,21 @@ fn expect_reply<R: Abort + AllocGlobal>(rt: &R, command: &str, reply: &str) -> R
         line_of(rt.alloc(), on_err)?.as_bytes(),
         "{command}"
     );
+    Ok(())
+}
+
+#[test]
+fn replies_with_bits_digits_and_flags(rt: HostRuntime) -> Result<(), Fail> {
+    let words = words_of(rt.alloc(), "half int even 65520")?;
+    match command(words.as_slice()) {
+        Reply::Line(bits, digits, status) => {
+            assert_eq!(rt; (bits, digits), (0x7c00, 4));
+            assert_eq!(rt; status.bits(), 0b10100);
+        }
+        Reply::Refused(word) => assert_eq!(rt; word, ""),
+    }
+    let words = words_of(rt.alloc(), "half int odd 1")?;
+    assert!(rt; matches!(command(words.as_slice()), Reply::Refused("odd")));
     Ok(())
 }
 

@@ -3,7 +3,7 @@ use Rattle.rustc_apfloat.specs.Datum.{Datum}
 use Rattle.rustc_apfloat.specs.Layout.{IsEncodedBy}
 use Rattle.rustc_apfloat.specs.Lawful.{Constants, format_with, layout_with}
 use Rattle.commands.specs.Replies.{IsLineOf, IsOnly, line}
-use Rattle.commands.proofs.command.line.Goals as goal
+use Rattle.commands.proofs.reply.line.Goals as goal
 
 only_line : (c : Constants) (value : Datum) (status bits width : ℕ) → IsEncodedBy (format_with c) (layout_with c) bits value
     → ((other : ℕ) → IsEncodedBy (format_with c) (layout_with c) other value → other ≡ bits) → width ≡ c.bits

@@ -1,4 +1,4 @@
-use Rattle.commands.proofs.command.answer.Goals as goal
+use Rattle.commands.proofs.reply.answer.Goals as goal
 
 pub returns-in-half-clause-reply : goal.returns-in-half-clause-reply
 returns-in-half-clause-reply c = rw c.in-half.is c.answer_in.ensures.reply

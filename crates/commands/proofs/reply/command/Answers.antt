@@ -3,7 +3,7 @@ use Rattle.std.proofs.lemmas.Bool.{lt-leb, le-leb}
 use Rattle.std.proofs.lemmas.List.{length-map}
 use Rattle.commands.specs.Commands.{Request, arguments, provided, with_format, word_at}
 use Rattle.commands.specs.Replies.{IsOnly, IsReply, IsReplyTo, refused}
-use Rattle.commands.proofs.command.command.Goals as goal
+use Rattle.commands.proofs.reply.command.Goals as goal
 
 only_fault : (holds : Bool) (word : List ℕ) (request : Result Request (List ℕ)) → holds ≡ false → IsOnly (IsReplyTo (provided holds word request)) (refused word)
 only_fault true word request e = cc

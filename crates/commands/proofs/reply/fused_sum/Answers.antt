@@ -2,7 +2,7 @@ use Rattle.std.proofs.Common.{◌≡◌, Some, subst, sym}
 use Rattle.rustc_apfloat.specs.Types.{constants_of}
 use Rattle.commands.specs.Commands.{bits_of_word}
 use Rattle.commands.proofs.Once.{only_fused_sum}
-use Rattle.commands.proofs.command.fused_sum.Goals as goal
+use Rattle.commands.proofs.reply.fused_sum.Goals as goal
 
 pub returns-clause-reply : goal.returns-clause-reply
 returns-clause-reply g c =

@@ -1,5 +1,5 @@
 use Rattle.commands.proofs.Once.{only_text, only_refusal}
-use Rattle.commands.proofs.command.from_text.Goals as goal
+use Rattle.commands.proofs.reply.from_text.Goals as goal
 
 pub returns-in-Ok-clause-reply : goal.returns-in-Ok-clause-reply
 returns-in-Ok-clause-reply g c = only_text _ c.args.round c.args.text.now _ _ _ c.in-Ok.ensures c.line.ensures.line

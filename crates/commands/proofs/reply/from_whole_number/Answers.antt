@@ -1,6 +1,6 @@
 use Rattle.std.proofs.Common.{sym}
 use Rattle.commands.proofs.Once.{only_whole_number}
-use Rattle.commands.proofs.command.from_whole_number.Goals as goal
+use Rattle.commands.proofs.reply.from_whole_number.Goals as goal
 
 pub returns-clause-reply : goal.returns-clause-reply
 returns-clause-reply g c =
