@@ -269,7 +269,9 @@ fn nearest_rest(shape: Shape, x: Unpacked, y: Unpacked) -> Nearest
 /// An answer, and after how many subtractions.
 #[derive(Clone, Copy, Debug)]
 pub struct Remainder {
+    /// The remainder, with its status.
     pub answer: StatusAnd<Unpacked>,
+    /// How many multiples of the divisor by a power of two were subtracted.
     pub steps: u32,
 }
 

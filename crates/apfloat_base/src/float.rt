@@ -190,16 +190,24 @@ pub trait Float: Copy
     fn smallest_normalized() -> Self
         ensures { result ≡ the_smallest_normalized };
 
-    /// `self + rhs`, rounded once (IEEE 754-2008 5.4.1). Infinities of unlike signs raise INVALID_OP and answer a NaN; an
-    /// exact zero of unlike operands is +0, and toward negative -0 (6.3).
+    /// `self + rhs`, rounded once (IEEE 754-2008 5.4.1, addition).
+    ///
+    /// A NaN operand is answered, the left one of two, made quiet; `INVALID_OP` is raised where any operand signals
+    /// (6.2.3). Infinities of unlike signs are invalid (7.2): the quiet NaN without a payload, with `INVALID_OP`. An
+    /// exact zero has the sign of operands of like signs; of operands of unlike signs it is +0, and toward negative -0
+    /// where the format has such a zero (6.3).
     fn add_r(self, rhs: Self, round: Round) -> StatusAnd<Self>
         ensures { adds self rhs round result };
 
-    /// `self - rhs`, rounded once (IEEE 754-2008 5.4.1), as the sum of `self` and `-rhs`; but a NaN is not negated.
+    /// `self - rhs`, rounded once (IEEE 754-2008 5.4.1, subtraction), as the sum of `self` and `-rhs`: so infinities of
+    /// like signs are invalid.
+    ///
+    /// A NaN operand is answered as by `add_r`; one on the right is not negated.
     fn sub_r(self, rhs: Self, round: Round) -> StatusAnd<Self>
         ensures { subtracts self rhs round result };
 
-    /// The product, rounded once (IEEE 754-2008 5.4.1, multiplication).
+    /// The product, rounded once (IEEE 754-2008 5.4.1, multiplication), of a type whose `MULTIPLIES` holds: for
+    /// `IeeeFloat` the precision is at most 64.
     ///
     /// An infinity times a zero is invalid (7.2): the quiet NaN without a payload, with `INVALID_OP`. A NaN operand is
     /// answered, made quiet (6.2.3).
@@ -268,7 +276,8 @@ pub trait Float: Copy
         }
     }
 
-    /// The value that is written as `bits`; bits at and above `BITS` are not looked at.
+    /// The value that is written as `bits` (IEEE 754-2008 3.4), of a type with bits, `PRECISION` below `BITS`. Bits at
+    /// and above `BITS` are not looked at.
     fn from_bits(bits: u128) -> Self
         requires { PRECISION < BITS }
         ensures { result ≡ value_of_bits bits };
@@ -311,15 +320,16 @@ pub trait Float: Copy
     fn from_str_r(s: &str, round: Round) -> Result<StatusAnd<Self>, ParseError>
         ensures { reads s.now round result };
 
-    /// The bits of the value.
+    /// The bits of the one canonical encoding of the value (IEEE 754-2008 3.4), of a type with bits, `PRECISION` below
+    /// `BITS`; read again they are the value.
     fn to_bits(self) -> u128
         requires { PRECISION < BITS }
         ensures written { writes_bits self result }
         ensures below { result < 2 ^ BITS }
         ensures back { value_of_bits result ≡ self };
 
-    /// The value as a whole number of `width` binary digits in two's complement, rounded by the mode (IEEE 754-2008 5.4.1,
-    /// convertToInteger).
+    /// The value as a whole number of `width` binary digits, 2 to 128, in two's complement, rounded by the mode
+    /// (IEEE 754-2008 5.4.1, convertToInteger).
     ///
     /// A number out of range gives the end of the range, and a NaN gives 0; both are invalid. INEXACT says that the number
     /// was no whole one. `is_exact` tells whether the whole number is the value; for -0 it is false.
@@ -338,7 +348,7 @@ pub trait Float: Copy
         }
     }
 
-    /// The value as a whole number of `width` binary digits in two's complement, cut toward zero.
+    /// The value as a whole number of `width` binary digits, 2 to 128, in two's complement, cut toward zero.
     fn to_i128(self, width: usize) -> StatusAnd<i128>
         requires low { 2 ≤ width }
         requires high { width ≤ 128 }
@@ -348,8 +358,8 @@ pub trait Float: Copy
         self.to_i128_r(width, Round::TowardZero, &mut is_exact)
     }
 
-    /// The value as a whole number of `width` binary digits without a sign, rounded by the mode (IEEE 754-2008 5.4.1,
-    /// convertToInteger).
+    /// The value as a whole number of `width` binary digits, 1 to 128, without a sign, rounded by the mode
+    /// (IEEE 754-2008 5.4.1, convertToInteger).
     ///
     /// A number out of range gives the end of the range, and a NaN gives 0; both are invalid. INEXACT says that the number
     /// was no whole one. `is_exact` tells whether the whole number is the value; for -0 it is false.
@@ -359,7 +369,7 @@ pub trait Float: Copy
         ensures answer { converts_to_unsigned self width round result is_exact.new }
         ensures fits { result.value < 2 ^ width };
 
-    /// The value as a whole number of `width` binary digits without a sign, cut toward zero.
+    /// The value as a whole number of `width` binary digits, 1 to 128, without a sign, cut toward zero.
     fn to_u128(self, width: usize) -> StatusAnd<u128>
         requires low { 1 ≤ width }
         requires high { width ≤ 128 }

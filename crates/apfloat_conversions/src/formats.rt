@@ -24,7 +24,9 @@ use apfloat_unpacked::unpacked::{Unpacked, infinity_of, nan_of, zero_of};
 /// An answer in the other format, and whether information was lost.
 #[derive(Clone, Copy, Debug)]
 pub struct Converted {
+    /// The value in the other format, with its status.
     pub answer: StatusAnd<Unpacked>,
+    /// Whether information was lost.
     pub loses_info: bool,
 }
 

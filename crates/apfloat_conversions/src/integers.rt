@@ -28,7 +28,9 @@ pub fn from_unsigned(shape: Shape, number: u128, round: Round) -> StatusAnd<Unpa
 /// A whole number that a value became, and whether it is the value.
 #[derive(Clone, Copy, Debug)]
 pub struct Unsigned {
+    /// The whole number, with its status.
     pub answer: StatusAnd<u128>,
+    /// Whether the whole number is the value; for -0 it is false.
     pub is_exact: bool,
 }
 

@@ -100,7 +100,9 @@ pub fn ilogb(shape: Shape, x: Unpacked) -> ExpInt
 /// A value of magnitude from 0.5 to below 1, and an exponent.
 #[derive(Clone, Copy, Debug)]
 pub struct Fraction {
+    /// The fraction, with the sign of the value; a zero or an infinity itself, and a NaN made quiet.
     pub value: Unpacked,
+    /// The exponent; of a zero 0, of an infinity `IEK_INF`, and of a NaN `IEK_NAN`.
     pub exponent: ExpInt,
 }
 

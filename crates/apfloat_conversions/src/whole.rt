@@ -14,7 +14,9 @@ use apfloat_unpacked::unpacked::Unpacked;
 /// The magnitude of a whole number, and whether it is the number that it stands for.
 #[derive(Clone, Copy, Debug)]
 pub struct Whole {
+    /// The whole number without its sign.
     pub magnitude: u128,
+    /// Whether nothing was rounded: the number was whole.
     pub exact: bool,
 }
 

@@ -9,15 +9,25 @@ use apfloat_base::ParseError;
 /// What is wrong with a text first, from the left.
 #[derive(Clone, Copy, Debug)]
 pub enum Fault {
+    /// The text is empty.
     EmptyText,
+    /// Nothing stands behind the mark.
     LoneMark,
+    /// It is no infinity and no NaN, and does not begin with `0x` or `0X`.
     NoLiteral,
+    /// Nothing stands behind the prefix.
     LonePrefix,
+    /// The significand has more than one dot.
     SecondDot,
+    /// What follows the digits and dots of the significand is no `p` or `P`.
     WrongInSignificand,
+    /// The significand has no digit.
     NoDigits,
+    /// The exponent has a character that is no decimal digit.
     WrongInExponent,
+    /// The exponent has no digit.
     NoExponentDigits,
+    /// The text ends behind the significand.
     NoExponent,
 }
 

@@ -9,8 +9,11 @@ use crate::characters::{digit_value, is_decimal, is_hexadecimal, is_octal};
 /// The base that a payload is written in.
 #[derive(Clone, Copy, Debug)]
 pub enum Radix {
+    /// Hexadecimal digits, behind `0x` or `0X`.
     Sixteen,
+    /// Octal digits, behind a `0`.
     Eight,
+    /// Decimal digits, without a prefix.
     Ten,
 }
 

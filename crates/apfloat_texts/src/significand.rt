@@ -15,8 +15,11 @@ use apfloat_base::sig::{Loss, loss_of_rest};
 /// The leading bits of a number, and what is lost of it where its `cut` last hexadecimal digits are cut off.
 #[derive(Clone, Copy, Debug)]
 pub struct Digits {
+    /// The leading bits as a whole number: all of them where none are cut off, else at least 125.
     pub significand: u128,
+    /// What the digits that are cut off are of the last bit that is kept.
     pub loss: Loss,
+    /// How many hexadecimal digits are cut off.
     pub cut: usize,
 }
 
@@ -93,6 +96,7 @@ impl Digits {
 /// A significand as far as it was read.
 #[derive(Clone, Copy, Debug)]
 pub struct Scan {
+    /// The digits that were read, as one number without the dot.
     pub digits: Digits,
     /// How many of the digits stand behind the dot.
     pub places: usize,

@@ -12,8 +12,11 @@ use crate::payload::payload;
 /// An infinity or a NaN with its payload.
 #[derive(Clone, Copy, Debug)]
 pub enum Special {
+    /// An infinity.
     Infinity,
+    /// A quiet NaN with that payload.
     Quiet(u128),
+    /// A signaling NaN with that payload.
     Signaling(u128),
 }
 

@@ -8,12 +8,19 @@ use rustc_apfloat::{Flags, Status};
 /// The columns of a row.
 #[derive(Clone, Copy)]
 pub struct Row<'a> {
+    /// The name of the call.
     pub call: &'a str,
+    /// The format, or `SOURCE>TARGET` of a conversion.
     pub format: &'a str,
+    /// The rounding mode, `any` for each mode, or `-` for a call without one.
     pub mode: &'a str,
+    /// The operands, with single spaces between them, or a text as it stands.
     pub operands: &'a str,
+    /// The value, or the words of a refusal.
     pub value: &'a str,
+    /// The names of the flags, `OK` for none, `-` for a call without a status, or `ParseError` for a refusal.
     pub status: &'a str,
+    /// What else is answered, as `exponent=-3`, or `-`.
     pub extra: &'a str,
 }
 

@@ -13,11 +13,17 @@ use rustc_apfloat::{Float, Round, StatusAnd};
 /// An operation on two values.
 #[derive(Clone, Copy, Debug)]
 pub enum Arithmetic {
+    /// The first plus the second.
     Sum,
+    /// The first minus the second.
     Difference,
+    /// The first times the second.
     Product,
+    /// The first divided by the second.
     Quotient,
+    /// The remainder by the whole number nearest to the quotient, a tie to the even one.
     NearestRemainder,
+    /// The remainder by the quotient cut toward zero.
     TruncatedRemainder,
 }
 

@@ -1,4 +1,4 @@
-//! Every pattern of the small formats: read and written, with its sign turned, and in a wider format.
+//! Every pattern of the small formats: read and written, and with its sign turned.
 
 ghost use Rattle.std.specs.Prelude.{◌<◌};
 

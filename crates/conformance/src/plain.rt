@@ -80,16 +80,22 @@ pub fn pick(precision: u32, mode: Round, negative: bool, amount: u128, parts: u1
 /// The bounds of a format that has infinities; magnitudes are counted in quanta.
 #[derive(Clone, Copy, Debug)]
 pub struct Bounds {
+    /// How many binary digits a significand has.
     pub precision: u32,
+    /// The greatest finite magnitude.
     pub largest: u128,
+    /// The least magnitude that is not denormal.
     pub smallest_normalized: u128,
+    /// Whether a result is tiny by the exact magnitude, in place of the rounded one.
     pub tiny_before_rounding: bool,
 }
 
 /// The value that a rounding answers.
 #[derive(Clone, Copy, Debug)]
 pub enum Answer {
+    /// So many quanta with that sign.
     Finite { negative: bool, quanta: u128 },
+    /// The infinity of that sign.
     Infinite { negative: bool },
 }
 

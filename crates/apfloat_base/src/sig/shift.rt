@@ -48,7 +48,9 @@ pub fn low_digits(number: u128, places: u32) -> u128
 /// A significand that was shifted right, and what was lost below its new unit.
 #[derive(Clone, Copy, Debug)]
 pub struct Shifted {
+    /// The digits that are left.
     pub significand: u128,
+    /// What the digits that were cut off are of the lowest place that is left.
     pub loss: Loss,
 }
 

@@ -67,4 +67,5 @@ impl Semantics for BroadS {
     ghost lawful = { lawful_from_test _ refl };
 }
 
+/// A value in 128 bits, 21 of them the exponent.
 pub type Broad = IeeeFloat<BroadS>;

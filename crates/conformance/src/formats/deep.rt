@@ -67,4 +67,5 @@ impl Semantics for DeepS {
     ghost lawful = { lawful_from_test _ refl };
 }
 
+/// A value of three digits, with exponents from -2^20.
 pub type Deep = IeeeFloat<DeepS>;

@@ -67,4 +67,5 @@ impl Semantics for LeastFiniteS {
     ghost lawful = { lawful_from_test _ refl };
 }
 
+/// A value of three digits, without infinities.
 pub type LeastFinite = IeeeFloat<LeastFiniteS>;

@@ -67,4 +67,5 @@ impl Semantics for PreciseS {
     ghost lawful = { lawful_from_test _ refl };
 }
 
+/// A value of 125 digits.
 pub type Precise = IeeeFloat<PreciseS>;

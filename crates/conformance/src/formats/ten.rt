@@ -67,4 +67,5 @@ impl Semantics for TenS {
     ghost lawful = { lawful_from_test _ refl };
 }
 
+/// A value in ten bits, without infinities.
 pub type Ten = IeeeFloat<TenS>;

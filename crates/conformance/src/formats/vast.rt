@@ -67,4 +67,5 @@ impl Semantics for VastS {
     ghost lawful = { lawful_from_test _ refl };
 }
 
+/// A value of 125 digits, with exponents from -2^20 to 2^20.
 pub type Vast = IeeeFloat<VastS>;

@@ -67,4 +67,5 @@ impl Semantics for WrittenBitS {
     ghost lawful = { lawful_from_test _ refl };
 }
 
+/// A value in 14 bits, the integer bit among them.
 pub type WrittenBit = IeeeFloat<WrittenBitS>;
