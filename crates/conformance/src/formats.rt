@@ -205,8 +205,5 @@ impl Semantics for LeastS {
 /// A value in seven bits.
 pub type Seven = IeeeFloat<SevenS>;
 
-/// A value of binary16, with tininess decided before rounding.
-pub type HalfTinyBefore = IeeeFloat<HalfTinyBeforeS>;
-
 /// A value of three digits.
 pub type Least = IeeeFloat<LeastS>;

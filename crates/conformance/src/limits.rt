@@ -3,19 +3,10 @@
 ghost use Rattle.std.specs.Prelude.{◌<◌};
 
 use crate::formats::{Broad, Deep, Least, LeastFinite, Precise, Ten, Vast, WrittenBit};
+use crate::tables::{EVEN, INEXACT, OK, OVERFLOW_INEXACT, ZERO};
 use rustc_apfloat::{Category, Flags, Float, Round};
 use std::cmp::Ordering;
 use std::process::Abort;
-
-const EVEN: Round = Round::NearestTiesToEven;
-
-const ZERO: Round = Round::TowardZero;
-
-const OK: u8 = 0x00;
-
-const INEXACT: u8 = 0x10;
-
-const OVERFLOW_INEXACT: u8 = 0x14;
 
 /// What a whole number becomes: another whole number, or what stands past the largest value.
 #[derive(Clone, Copy)]
