@@ -1,8 +1,8 @@
 //! The examples of the README and of the page for callers.
 
 ghost use Rattle.std.specs.Prelude.{◌-◌, ◌^◌, pos, negsuc, true, false, refl};
-ghost use Rattle.apfloat_base.specs.declared.kinds.NonfiniteBehavior.TheVariants.{IEEE754};
-ghost use Rattle.apfloat_base.specs.declared.kinds.Round.TheVariants.{NearestTiesToEven};
+ghost use Rattle.rustc_apfloat.specs.declared.ieee.NonfiniteBehavior.TheVariants.{IEEE754};
+ghost use Rattle.rustc_apfloat.specs.declared.Round.TheVariants.{NearestTiesToEven};
 ghost use Rattle.rustc_apfloat.specs.Flags.{Gives};
 ghost use Rattle.rustc_apfloat.specs.Types.{format_of};
 ghost use Rattle.rustc_apfloat.specs.WholeNumbers.{IsFromUnsigned};
