@@ -1,7 +1,7 @@
 -- The nearest multiple of a divisor, and remainders in other units.
-use Rattle.std.proofs.Common.{◌≡◌, ◌⊎◌, inl, inr, ℕ, Bool, true, false, not, cond, eqb, ◌+◌, ◌-◌, ◌*◌, ◌/◌, ◌%◌, ◌^◌, ◌<◌, ◌≤◌, sym, refl, ap, ◌∙◌, subst, ⊎_elim, arith, ℤ, pos, ◌+ℤ◌}
+use Rattle.std.proofs.Common.{◌≡◌, ℕ, Bool, true, false, not, cond, eqb, ◌+◌, ◌-◌, ◌*◌, ◌/◌, ◌%◌, ◌^◌, ◌<◌, ◌≤◌, sym, refl, ap, ◌∙◌, subst, ⊎_elim, arith, ℤ, pos, ◌+ℤ◌}
 use Rattle.std.proofs.Math.Bool.{beq}
-use Rattle.std.proofs.Math.Nat.{mul-le-mul_left, mul-lt-mul_of_pos_right, lt_of_mul-lt-mul_right, eq_of_mul-eq-mul_right, mod-lt, mod-add-div', mul-div-mul_right, div-one}
+use Rattle.std.proofs.Math.Nat.{mul-lt-mul_of_pos_right, lt_of_mul-lt-mul_right, eq_of_mul-eq-mul_right, mod-lt, mod-add-div', mul-div-mul_right, div-one}
 use Rattle.std.proofs.lemmas.Bool.{cases_lt, le-ltb, lt-ltb, ne_eqb, false≢true}
 use Rattle.std.proofs.lemmas.Nat.{pow-add, pow_pos}
 use Rattle.std.proofs.lemmas.Int.{ints}
@@ -94,11 +94,6 @@ rest_in x y a b w r p e f h = h ∙ ap (λ (z : ℕ). z % y) e ∙ ap (λ (z : �
 pub quotient_in : (x y a b w : ℕ) → 0 < w → x ≡ a * w → y ≡ b * w → x / y ≡ a / b
 quotient_in x y a b w p e f = ap (λ (z : ℕ). z / y) e ∙ ap (λ (z : ℕ). a * w / z) f ∙ quotient_scaled a b w p
 
-pub divisor_some : (y b w : ℕ) → y ≡ b * w → 0 < y → 0 < b
-divisor_some y b w e l =
-    let m : 0 * w < b * w = omega arith in
-    lt_of_mul-lt-mul_right w m
-
 -- ---- what is left, with its sign
 
 pub rest_within : (kind : NonfiniteBehavior) (negative : Bool) (a taken n : ℕ) → taken ≤ a → a - taken ≡ n → signed_quanta kind negative n ≡ rest_of kind negative a taken
@@ -136,13 +131,6 @@ upper_far r d odd e =
     (λ (l : d - r ≤ r). l)
     (cases_lt r (d - r))
 
-pub lower_far : (r d : ℕ) (odd : Bool) → false ≡ upper r (d - r) odd → r ≤ d - r
-lower_far r d odd e =
-    ⊎_elim
-    (λ (l : d - r < r). absurd (false≢true (e ∙ takes_more NearestTiesToEven false odd r (d - r) l)))
-    (λ (l : r ≤ d - r). l)
-    (cases_lt (d - r) r)
-
 nearest_past : (kind : NonfiniteBehavior) (negative : Bool) (a b n : ℕ) → 0 < b → true ≡ upper (a % b) (b - a % b) (eqb (a / b % 2) 1) → n ≡ b - a % b → signed_quanta kind (not negative) n ≡ rest_of kind negative a (b * nearest_quotient a b)
 nearest_past kind negative a b n p t e =
     let m = mod-add-div' a b in
@@ -166,16 +154,6 @@ nearest_value kind false true a b n p t e = nearest_past kind false a b n p t e
 nearest_value kind true false a b n p t e = nearest_within kind true a b n t e
 nearest_value kind false false a b n p t e = nearest_within kind false a b n t e
 
-pub nearest_small : (past : Bool) (a b n : ℕ) → 0 < b → past ≡ upper (a % b) (b - a % b) (eqb (a / b % 2) 1) → n ≡ cond past (b - a % b) (a % b) → 2 * n ≤ b
-nearest_small true a b n p t e =
-    let l : a % b < b = mod-lt a p in
-    let f : b - a % b ≤ a % b = upper_far (a % b) b (eqb (a / b % 2) 1) t in
-    omega arith
-nearest_small false a b n p t e =
-    let l : a % b < b = mod-lt a p in
-    let f : a % b ≤ b - a % b = lower_far (a % b) b (eqb (a / b % 2) 1) t in
-    omega arith
-
 -- the same choice and distance in other units
 pub past_in : (past : Bool) (x y a b w : ℕ) → 0 < w → x ≡ a * w → y ≡ b * w → past ≡ upper (x % y) (y - x % y) (eqb (x / y % 2) 1) → past ≡ upper (a % b) (b - a % b) (eqb (a / b % 2) 1)
 past_in past x y a b w p e f h =
@@ -189,16 +167,3 @@ distance_in true x y a b w d p e f h =
     let k : (b - a % b) * w ≡ b * w - a % b * w = less_scaled b (a % b) w in
     omega arith
 distance_in false x y a b w d p e f h = h ∙ rest_in x y a b w (x % y) p e f refl
-
--- a point that is not above the divisor is at no higher place
-pub place_within : (precision s place b t high low : ℕ) → 0 < precision → (place ≡ 0) ⊎ (2 ^ (precision - 1) ≤ s) → s * 2 ^ place ≤ b → t < 2 ^ precision → b * 2 ^ low ≡ t * 2 ^ high → place ≤ high
-place_within precision s place b t high low z (inl e) l f h = omega arith
-place_within precision s place b t high low z (inr e) l f h =
-    ⊎_elim
-    (λ (g : high < place).
-    let m : t * 2 ^ high < s * 2 ^ place = below_divisor precision t high s place z f e g in
-    let o : 1 ≤ 2 ^ low = pow_pos low in
-    let k : b * 1 ≤ b * 2 ^ low = mul-le-mul_left b o in
-    absurd (omega arith))
-    (λ (g : place ≤ high). g)
-    (cases_lt high place)

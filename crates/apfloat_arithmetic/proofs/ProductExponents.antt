@@ -2,11 +2,9 @@
 use Rattle.std.proofs.Common.{◌≡◌, ℕ, ◌+◌, ◌-◌, ◌*◌, ◌^◌, ◌<◌, ◌≤◌, sym, ap, ◌∙◌, arith, ℤ, pos, ◌+ℤ◌, ◌-ℤ◌, ◌≤ℤ◌, to_z, of_z, w32}
 use Rattle.std.specs.Prelude.{neg_ℤ}
 use Rattle.std.proofs.lemmas.Int.{ints}
-use Rattle.std.proofs.Math.Nat.{pow-le-pow_right}
 use Rattle.std.proofs.lemmas.Nat.{pow_pos}
 use Rattle.apfloat_base.specs.declared.sig.loss.Loss.{Loss}
 use Rattle.apfloat_base.specs.Standing.{StandsFor, up, down}
-use Rattle.apfloat_base.proofs.Existence.{two_pos}
 use Rattle.apfloat_base.proofs.Fractions.{product_stands, quotient_stands}
 use Rattle.apfloat_unpacked.specs.declared.shape.Shape.{Shape}
 use Rattle.apfloat_unpacked.specs.Shapes.{IsShape, format_at}
@@ -25,12 +23,6 @@ normal_near s m e l n =
     let near : e ≤ℤ pos 1048576 = omega (arith, ints, l.max_exp_high, o.greatest) in
     let far : neg_ℤ (pos 1048701) ≤ℤ e = omega (arith, ints, l.min_exp_low, l.precision_high, o.least) in
     record { near = near; far = far; word = exponent_word s m e l n }
-
--- a significand of at most 64 digits
-pub short_fits : (precision m : ℕ) → precision ≤ 64 → m < 2 ^ precision → m < 2 ^ 64
-short_fits precision m l h =
-    let k : 2 ^ precision ≤ 2 ^ 64 = pow-le-pow_right two_pos l in
-    omega arith
 
 balanced_product : (precision scale : ℕ) (min_exp x y r : ℤ) → 3 ≤ precision → pos scale ≡ pos (precision - 1) -ℤ min_exp → r ≡ ((x +ℤ y) -ℤ pos (2 * (precision - 1)))
     → up (x -ℤ min_exp) + up (y -ℤ min_exp) + down (r +ℤ pos scale) ≡ down (x -ℤ min_exp) + down (y -ℤ min_exp) + (scale + up (r +ℤ pos scale))

@@ -1,14 +1,13 @@
 -- Remainders of operands that are not both numbers other than zero, by their categories.
-use Rattle.std.proofs.Common.{◌≡◌, ◌⊎◌, inl, inr, ℕ, Bool, count_ones, ◌*◌, ◌/◌, ◌%◌, ◌<◌, refl, sym, ap, subst, arith}
+use Rattle.std.proofs.Common.{◌≡◌, ◌⊎◌, inl, inr, ℕ, Bool, count_ones, ◌*◌, ◌/◌, ◌<◌, refl, sym, ap, subst, arith}
 use Rattle.std.proofs.lemmas.Bool.{ne_eqb}
-use Rattle.std.proofs.Math.Nat.{div-eq_of_lt, mod-eq_of_lt}
 use Rattle.apfloat_base.specs.declared.kinds.Category.{Category}
 use Rattle.apfloat_base.specs.declared.kinds.Category.TheVariants.{Normal, Zero}
 use Rattle.apfloat_base.specs.declared.kinds.NonfiniteBehavior.{NonfiniteBehavior}
 use Rattle.apfloat_base.specs.Datum.{Datum, finite}
 use Rattle.apfloat_base.specs.Answer.{IsAnswer}
 use Rattle.apfloat_base.specs.Rounding.{ok_bits, zero_sign}
-use Rattle.apfloat_base.specs.Remainders.{IsRemainder, ones_of_quotient, rest_of, truncated_quotient, nearest_quotient}
+use Rattle.apfloat_base.specs.Remainders.{IsRemainder, ones_of_quotient, rest_of}
 use Rattle.apfloat_unpacked.specs.declared.shape.Shape.{Shape}
 use Rattle.apfloat_unpacked.specs.declared.unpacked.Unpacked.{Unpacked}
 use Rattle.apfloat_unpacked.specs.Shapes.{format_at}
@@ -65,11 +64,3 @@ ones_of_numbers s k l x y e f u =
     subst (λ (o : Category). count_ones (quanta_at s.min_exp x.significand x.exponent / quanta_at s.min_exp y.significand y.exponent) ≡ ones_of_quotient (datum_by o s x) (datum_by l s y)) (sym e)
     (subst (λ (o : Category). IsStoredBy o s y → count_ones (quanta_at s.min_exp x.significand x.exponent / quanta_at s.min_exp y.significand y.exponent) ≡ ones_of_quotient (datum_by Normal s x) (datum_by o s y)) (sym f)
     (λ u. number_ones s x y (quanta_at s.min_exp x.significand x.exponent) u) u)
-
--- ---- the quotients of zero
-
-pub truncated_zero : (n : ℕ) → 0 < n → truncated_quotient 0 n ≡ 0
-truncated_zero n p = div-eq_of_lt p
-
-pub nearest_zero : (n : ℕ) → 0 < n → nearest_quotient 0 n ≡ 0
-nearest_zero n p = let e : 0 % n ≡ 0 = mod-eq_of_lt p in rw e (div-eq_of_lt p)

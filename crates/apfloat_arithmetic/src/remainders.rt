@@ -4,7 +4,7 @@
 //! a power of two that is not above what is left, so there is a turn for each digit that is one. A significand stands at
 //! a place, which is counted from that of the last digit of the least number whose significand has all its digits.
 
-ghost use Rattle.std.specs.Prelude.{◌≡◌, ℕ, ◌+◌, ◌-◌, ◌*◌, ◌/◌, ◌%◌, ◌^◌, ◌<◌, ◌≤◌, ◌⊎◌, Bool, false, true, eqb, ltb, count_ones, cond, ℤ, pos, neg_ℤ, ◌≤ℤ◌, ◌+ℤ◌, ◌-ℤ◌};
+ghost use Rattle.std.specs.Prelude.{◌≡◌, ℕ, ◌+◌, ◌-◌, ◌*◌, ◌/◌, ◌%◌, ◌^◌, ◌<◌, ◌≤◌, ◌⊎◌, false, true, eqb, count_ones, cond, ℤ, pos, ◌≤ℤ◌, ◌+ℤ◌, ◌-ℤ◌};
 ghost use Rattle.apfloat_base.specs.declared.kinds.Category.{Category};
 ghost use Rattle.apfloat_base.specs.declared.kinds.Round.{Round};
 ghost use Rattle.apfloat_base.specs.Flags.{bits_of};

@@ -2,7 +2,6 @@
 
 ghost use Rattle.std.specs.Prelude.{◌≡◌, not};
 ghost use Rattle.apfloat_base.specs.Negation.{negated};
-ghost use Rattle.apfloat_unpacked.specs.Shapes.{IsShape};
 ghost use Rattle.apfloat_unpacked.specs.Stored.{IsStored, datum_at};
 
 use apfloat_base::Category;

@@ -12,7 +12,7 @@ use Rattle.apfloat_base.specs.Rounding.{IsPick, IsDelivered, delivered_value, de
 use Rattle.apfloat_base.specs.Enclosure.{IsEnclosed, rounds_up}
 use Rattle.apfloat_base.proofs.Losses.{twice_half}
 use Rattle.apfloat_base.proofs.Existence.{two_pos}
-use Rattle.apfloat_base.proofs.Greatest.{greatest_fits, greatest_half}
+use Rattle.apfloat_base.proofs.Greatest.{greatest_fits}
 use Rattle.apfloat_base.proofs.Picks.{kept, pick_is, pick_unique}
 use Rattle.apfloat_base.proofs.Laws.{pick_within, delivered_exists}
 
@@ -135,19 +135,3 @@ far_below f mode negative amount parts amount' parts' v s h x y d =
           d.status_is ∙ ap (λ (z : ℕ). delivered_status f mode negative amount parts z) e
           ∙ status_little f mode negative amount parts amount' parts' (little_pick mode negative) (little_within mode negative) x y;
     }
-
--- ---- by the largest value, and by a quarter of a quantum
-
-pub above_largest : (f : Format) (amount parts : ℕ) → 3 ≤ f.precision → 0 < parts → 4 * largest f * parts ≤ amount → IsFarAbove f amount parts
-above_largest f amount parts h p l = record {
-  some = p;
-  from =
-      let e : 2 ^ (f.precision + f.span) ≡ 2 ^ f.precision * 2 ^ f.span = pow-add 2 f.precision f.span in
-      let a : 2 ^ f.precision * 2 ^ f.span ≤ 2 * greatest_significand f.nonfinite f.precision * 2 ^ f.span = mul-le-mul_right (2 ^ f.span) (greatest_half f.nonfinite f.precision h) in
-      let b : 2 ^ (f.precision + f.span) ≤ 4 * largest f = omega (arith, e, a) in
-      let c : 2 ^ (f.precision + f.span) * parts ≤ 4 * largest f * parts = mul-le-mul_right parts b in
-      omega (arith, c, l);
-}
-
-pub below_quarter : (amount parts : ℕ) → 0 < amount → 4 * amount < parts → IsFarBelow amount parts
-below_quarter amount parts h l = record { some = h; to = omega arith }

@@ -25,12 +25,6 @@ stands_past s LessThanHalf amount unit u n h = h.0
 stands_past s ExactlyHalf amount unit u n h = omega (arith, h)
 stands_past s MoreThanHalf amount unit u n h = let a = h.0 in omega (arith, a)
 
-pub cut_zero : (q half amount unit : ℕ) → StandsFor (q * (2 * half) + 0) ExactlyZero amount unit → StandsFor q ExactlyZero amount (2 * half * unit)
-cut_zero q half amount unit h = omega (arith, h)
-
-pub cut_half : (q half amount unit : ℕ) → StandsFor (q * (2 * half) + half) ExactlyZero amount unit → StandsFor q ExactlyHalf amount (2 * half * unit)
-cut_half q half amount unit h = omega (arith, h)
-
 less_start : (q half rest : ℕ) (loss : Loss) (amount unit : ℕ) → 0 < unit → (0 < rest) ⊎ (loss ≡ ExactlyZero → ⊥) → StandsFor (q * (2 * half) + rest) loss amount unit → q * (2 * half) * unit < amount
 less_start q half rest loss amount unit u (inl r) h =
     let a : (q * (2 * half) + rest) * unit ≤ amount = stands_from _ loss amount unit h in

@@ -8,7 +8,7 @@ use Rattle.apfloat_base.specs.declared.kinds.NonfiniteBehavior.{NonfiniteBehavio
 use Rattle.apfloat_base.specs.declared.kinds.NonfiniteBehavior.TheVariants.{IEEE754, NanOnly, NanNegativeZero}
 use Rattle.apfloat_base.specs.Format.{Format, nan_base_of, payload_mask_of, quiet_bits_of}
 use Rattle.apfloat_base.specs.Members.{IsNanSignificand}
-use Rattle.apfloat_base.specs.Nan.{quiet_bit_of, quieted, quiet_significand, signaling_significand, is_signaling}
+use Rattle.apfloat_base.specs.Nan.{quiet_bit_of, quiet_significand, signaling_significand}
 
 truth : Bool → Type 0
 truth true = ⊤
@@ -47,11 +47,6 @@ or_member IEEE754 true p s h (below, other) =
     (or_lt p s (2 ^ (p - 2)) below l, or_no_power s (p - 1) (p - 2) (λ e. omega arith))
 or_member NanOnly e p s h m = rw (or_zero_r s) m
 or_member NanNegativeZero e p s h m = rw (or_zero_r s) m
-
-pub quieted_member : (f : Format) (s : ℕ) → 3 ≤ f.precision → IsNanSignificand f.nonfinite f.explicit_integer_bit f.precision s → IsNanSignificand f.nonfinite f.explicit_integer_bit f.precision (quieted f s)
-quieted_member f s h m =
-    if_case (IsNanSignificand f.nonfinite f.explicit_integer_bit f.precision) (is_signaling f s)
-    (λ _. or_member f.nonfinite f.explicit_integer_bit f.precision s h m) (λ _. m)
 
 quiet_kinds : (k : NonfiniteBehavior) (e : Bool) (p payload : ℕ) → 3 ≤ p → IsNanSignificand k e p (bit_or (bit_or (nan_base_of k p) (quiet_bits_of k e p)) (bit_and payload (payload_mask_of k p)))
 quiet_kinds IEEE754 false p payload h =

@@ -24,25 +24,6 @@ interchange bits exp_bits precision kind max_exp min_exp explicit =
       tiny_before_rounding = false;
     }
 
--- a format for computing only, with infinities
-abbrev pub computing : ℕ → ℤ → ℤ → Constants
-computing precision max_exp min_exp =
-    record {
-      bits = 0;
-      exp_bits = 0;
-      precision = precision;
-      nonfinite = IEEE754;
-      max_exp = max_exp;
-      ieee_max_exp = pos 0;
-      min_exp = min_exp;
-      ieee_min_exp = pos 0;
-      nan_significand_base = nan_base_of IEEE754 precision;
-      nan_payload_mask = payload_mask_of IEEE754 precision;
-      qnan_significand = quiet_bits_of IEEE754 false precision;
-      explicit_integer_bit = false;
-      tiny_before_rounding = false;
-    }
-
 abbrev pub half_constants : Constants
 half_constants = interchange 16 5 11 IEEE754 (pos 15) (neg_ℤ (pos 14)) false
 
@@ -69,10 +50,3 @@ e4m3fnuz_constants = interchange 8 4 4 NanNegativeZero (pos 7) (neg_ℤ (pos 7))
 
 abbrev pub x87_constants : Constants
 x87_constants = interchange 80 15 64 IEEE754 (pos 16383) (neg_ℤ (pos 16382)) true
-
--- the sum of a pair of doubles is computed in the first one
-abbrev pub fallback_constants : Constants
-fallback_constants = computing 106 (pos 1023) (neg_ℤ (pos 969))
-
-abbrev pub fallback_extended_constants : Constants
-fallback_extended_constants = computing 106 (pos 1023) (neg_ℤ (pos 1022))

@@ -1,6 +1,6 @@
 -- Whole numbers of so many binary digits, and the ends of their range.
 use Rattle.std.proofs.Common.{◌≡◌, ℕ, ◌+◌, ◌-◌, ◌*◌, ◌/◌, ◌^◌, ◌<◌, ◌≤◌, Bool, true, false, cond, not, ◌&&◌, eqb, sym, refl, ap, ◌∙◌, arith, ℤ, pos, neg_ℤ, ◌≤ℤ◌, ◌<ℤ◌, int_lt}
-use Rattle.std.proofs.Math.Nat.{div-eq_of_lt-le, pow-le-pow_right}
+use Rattle.std.proofs.Math.Nat.{div-eq_of_lt-le}
 use Rattle.std.proofs.lemmas.Nat.{pow-add, pow_pos}
 use Rattle.std.proofs.lemmas.Int.{ints}
 use Rattle.std.proofs.lemmas.Bool.{ne_eqb}
@@ -10,7 +10,6 @@ use Rattle.apfloat_base.specs.Datum.{finite}
 use Rattle.apfloat_base.specs.Exact.{signed}
 use Rattle.apfloat_base.specs.WholeNumbers.{whole_pick, whole_quanta, inexact_unless}
 use Rattle.apfloat_base.specs.WholeNumbersOut.{IsToUnsigned, ranged, exact_or_not}
-use Rattle.apfloat_base.proofs.Existence.{two_pos}
 
 pub greatest_is : (width : ℕ) → width ≤ 128 → (2 ^ 128 - 1) / 2 ^ (128 - width) ≡ 2 ^ width - 1
 greatest_is width h =
@@ -75,17 +74,3 @@ ranged_out width false mag exact h =
     let low : int_lt (pos mag) (pos 0) ≡ false = less_not (pos mag) (pos 0) (omega (arith, ints)) in
     let high : int_lt (pos (2 ^ width - 1)) (pos mag) ≡ true = less_so (pos (2 ^ width - 1)) (pos mag) (omega (arith, ints, h)) in
     rw (low, high) refl
-
-pub outside : (f : Format) (mode : Round) (width : ℕ) (b : Bool) (n number st : ℕ) (exact : Bool) → 0 < n → limit width b < whole_pick mode b n (2 ^ f.scale) → number ≡ limit width b → st ≡ 1 → exact ≡ false
-    → IsToUnsigned f mode width (finite b n) number st exact
-outside f mode width b n number st exact p h e t x =
-    let z : eqb n 0 ≡ false = ne_eqb n 0 (λ q. omega (arith, q, p)) in
-    let r = ranged_out width b (whole_pick mode b n (2 ^ f.scale)) (eqb (whole_quanta f mode b n) n) h in
-    rw (z, r) (record { number_is = ap (λ (k : ℕ). pos k) e; status_is = t; is_exact_is = x })
-
-pub limit_small : (width : ℕ) (b : Bool) (pick : ℕ) → width ≤ 128 → 2 ^ 128 ≤ pick → limit width b < pick
-limit_small width true pick h l = omega arith
-limit_small width false pick h l =
-    let a : 2 ^ width ≤ 2 ^ 128 = pow-le-pow_right two_pos h in
-    let p : 0 < 2 ^ width = pow_pos width in
-    omega (arith, a, p, l)

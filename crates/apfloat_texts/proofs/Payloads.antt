@@ -1,7 +1,7 @@
 -- The digits of a payload are read one by one.
-use Rattle.std.proofs.Common.{◌≡◌, ℕ, ◌^◌, ◌<◌, ◌≤◌, Bool, true, false, ◌&&◌, ltb, if◌then◌else◌, List, [], ◌∷◌, length, fold, Some, None, refl, ap, ◌∙◌, arith, lit<}
-use Rattle.std.proofs.lemmas.Bool.{le-ltb, lt-ltb, ltb-false, ltb-true}
-use Rattle.apfloat_base.specs.Digits.{every, is_empty}
+use Rattle.std.proofs.Common.{◌≡◌, ℕ, ◌^◌, ◌<◌, ◌≤◌, Bool, true, false, ◌&&◌, ltb, if◌then◌else◌, List, [], ◌∷◌, fold, Some, None, refl, ap, ◌∙◌, arith}
+use Rattle.std.proofs.lemmas.Bool.{le-ltb, ltb-false, ltb-true}
+use Rattle.apfloat_base.specs.Digits.{every}
 use Rattle.apfloat_base.specs.Specials.{Radix, sixteen, eight, ten, is_digit_of, payload_of_digits}
 use Rattle.apfloat_base.proofs.Choices.{first_holds, first_fails, last_fails}
 use Rattle.apfloat_texts.specs.Payloads.{longer, next, read_on, IsPayloadRead}
@@ -42,13 +42,6 @@ goes radix n c m digits true true p q e =
 
 -- ---- all of them
 
-from_first : (radix : Radix) (digits : List ℕ) → is_empty digits ≡ false → payload_of_digits radix digits ≡ read_on radix 0 digits
-from_first radix [] h = cc
-from_first radix (c ∷ digits) h = refl
-
-pub payload_starts : (radix : Radix) (digits : List ℕ) → is_empty digits ≡ false → IsPayloadRead radix digits digits 0
-payload_starts radix digits h = record { small = lit< tt; read = from_first radix digits h }
-
 pub payload_stops : (radix : Radix) (digits left : List ℕ) (n c : ℕ) → IsPayloadRead radix digits (c ∷ left) n → next radix n c ≡ None → payload_of_digits radix digits ≡ None
 payload_stops radix digits left n c i e = i.read ∙ stops radix n c left _ _ refl refl e
 
@@ -56,7 +49,3 @@ pub payload_goes : (radix : Radix) (digits left : List ℕ) (n c m : ℕ) → Is
 payload_goes radix digits left n c m i e =
     let g = goes radix n c m left _ _ refl refl e in
     record { small = g.0; read = i.read ∙ g.1 }
-
-pub payload_ends : (radix : Radix) (digits left : List ℕ) (n : ℕ) → length left < 1 → IsPayloadRead radix digits left n → payload_of_digits radix digits ≡ Some n
-payload_ends radix digits [] n h i = i.read ∙ ap (λ (b : Bool). if true && b then Some n else None) (lt-ltb n (2 ^ 128) i.small)
-payload_ends radix digits (c ∷ left) n h i = absurd (omega (arith, h))

@@ -1,9 +1,9 @@
 //! Values as bits, both ways: from the top the sign, the biased exponent and the trailing significand.
 
-ghost use Rattle.std.specs.Prelude.{◌≡◌, ℕ, ◌+◌, ◌-◌, ◌*◌, ◌^◌, ◌<◌, ◌≤◌, Bool, true, false, eqb, if◌then◌else◌, IsTrue};
+ghost use Rattle.std.specs.Prelude.{◌≡◌, ℕ, ◌+◌, ◌-◌, ◌*◌, ◌^◌, ◌<◌, ◌≤◌, true, false, if◌then◌else◌};
 ghost use Rattle.apfloat_base.specs.Format.{largest, smallest_normalized};
 ghost use Rattle.apfloat_base.specs.Rounding.{zero_sign};
-ghost use Rattle.apfloat_base.specs.Layout.{all_ones, trailing_bits, fields_of, implied_number, implied_datum, written_number, written_datum, datum_of_fields, datum_of, is_canonical, IsEncodedBy};
+ghost use Rattle.apfloat_base.specs.Layout.{all_ones, trailing_bits, fields_of, implied_number, implied_datum, written_number, written_datum, datum_of, IsEncodedBy};
 ghost use Rattle.apfloat_base.specs.Datum.{finite, nan};
 ghost use Rattle.apfloat_base.specs.Interchange.{IsInterchange, AreWithin, AreFieldsOf, bits_of_fields};
 ghost use Rattle.apfloat_unpacked.specs.Shapes.{IsShape, format_at};
