@@ -7,7 +7,7 @@ use crate::output::run;
 use std::alloc::Global;
 
 /// Whether a command is seen to be replied to so: a line on the first writer alone, with status 0, or a refusal on the
-/// second alone, with status 2.
+/// second alone, with status 2. Where there is no memory for what is written the answer is no.
 pub fn agrees(alloc: Global, words: &[String], reply: &str) -> bool
     ensures { result ≡ true → IsReplied (map string_bytes words.now) reply.now }
 {
