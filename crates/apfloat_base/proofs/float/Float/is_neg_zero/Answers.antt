@@ -1,7 +1,7 @@
 use Rattle.apfloat_base.proofs.float.Float.is_neg_zero.Goals as goal
 
 pub returns-then-is_zero : goal.returns-then-is_zero
-returns-then-is_zero g c = rw (← c.is_zero.ensures, c.if-is_zero.true) (search steps 100000)
+returns-then-is_zero g c = rw (← c.is_zero.ensures, c.if-is_zero.true) assumption
 
 pub returns-else-is_zero : goal.returns-else-is_zero
 returns-else-is_zero g c = rw (← c.is_zero.ensures, c.if-is_zero.false)
