@@ -2,8 +2,10 @@
 
 ghost use Rattle.std.specs.Prelude.{◌<◌};
 
-use crate::formats::{Least, Seven};
-use rustc_apfloat::ieee::{Double, Float8E4M3FN, Float8E4M3FNUZ, Half, Single};
+use crate::formats::{Least, LeastS, SevenS};
+use rustc_apfloat::ieee::{
+    DoubleS, Float8E4M3FNS, Float8E4M3FNUZS, HalfS, IeeeFloat, Semantics, SingleS,
+};
 use rustc_apfloat::{Category, ExpInt, Float};
 use std::process::Abort;
 
@@ -16,18 +18,18 @@ struct Named {
     infinity: u128,
 }
 
-fn check<F: Float>(rt: &impl Abort, named: Named)
-    requires { F.PRECISION < F.BITS }
+fn check<S: Semantics>(rt: &impl Abort, named: Named)
+    requires { S.PRECISION < S.BITS }
 {
-    assert_eq!(rt; F::zero().to_bits(), 0);
-    assert_eq!(rt; F::default().to_bits(), 0);
-    assert_eq!(rt; F::smallest().to_bits(), named.smallest);
+    assert_eq!(rt; IeeeFloat::<S>::zero().to_bits(), 0);
+    assert_eq!(rt; IeeeFloat::<S>::default().to_bits(), 0);
+    assert_eq!(rt; IeeeFloat::<S>::smallest().to_bits(), named.smallest);
     assert_eq!(rt;
-        F::smallest_normalized().to_bits(),
+        IeeeFloat::<S>::smallest_normalized().to_bits(),
         named.smallest_normalized
     );
-    assert_eq!(rt; F::largest().to_bits(), named.largest);
-    assert_eq!(rt; F::infinity().to_bits(), named.infinity);
+    assert_eq!(rt; IeeeFloat::<S>::largest().to_bits(), named.largest);
+    assert_eq!(rt; IeeeFloat::<S>::infinity().to_bits(), named.infinity);
 }
 
 #[test]
@@ -38,42 +40,42 @@ fn named_values(rt: HostRuntime) {
         largest: 0x7bff,
         infinity: 0x7c00,
     };
-    check::<Half>(&rt, half);
+    check::<HalfS>(&rt, half);
     let single = Named {
         smallest: 0x00000001,
         smallest_normalized: 0x00800000,
         largest: 0x7f7fffff,
         infinity: 0x7f800000,
     };
-    check::<Single>(&rt, single);
+    check::<SingleS>(&rt, single);
     let double = Named {
         smallest: 0x0000000000000001,
         smallest_normalized: 0x0010000000000000,
         largest: 0x7fefffffffffffff,
         infinity: 0x7ff0000000000000,
     };
-    check::<Double>(&rt, double);
+    check::<DoubleS>(&rt, double);
     let seven = Named {
         smallest: 0x01,
         smallest_normalized: 0x08,
         largest: 0x37,
         infinity: 0x38,
     };
-    check::<Seven>(&rt, seven);
+    check::<SevenS>(&rt, seven);
     let e4m3fn = Named {
         smallest: 0x01,
         smallest_normalized: 0x08,
         largest: 0x7e,
         infinity: 0x7f,
     };
-    check::<Float8E4M3FN>(&rt, e4m3fn);
+    check::<Float8E4M3FNS>(&rt, e4m3fn);
     let e4m3fnuz = Named {
         smallest: 0x01,
         smallest_normalized: 0x08,
         largest: 0x7f,
         infinity: 0x80,
     };
-    check::<Float8E4M3FNUZ>(&rt, e4m3fnuz);
+    check::<Float8E4M3FNUZS>(&rt, e4m3fnuz);
 }
 
 /// Of a type without bits only the categories can be told here.
@@ -88,15 +90,20 @@ fn named_values_without_bits(rt: HostRuntime) {
     assert!(rt; !Least::default().is_negative());
 }
 
-fn constants<F: Float>() -> (usize, usize, ExpInt, ExpInt) {
-    (F::BITS, F::PRECISION, F::MIN_EXP, F::MAX_EXP)
+fn constants<S: Semantics>() -> (usize, usize, ExpInt, ExpInt) {
+    (
+        IeeeFloat::<S>::BITS,
+        IeeeFloat::<S>::PRECISION,
+        IeeeFloat::<S>::MIN_EXP,
+        IeeeFloat::<S>::MAX_EXP,
+    )
 }
 
 #[test]
 fn constants_of_types(rt: HostRuntime) {
-    assert_eq!(rt; constants::<Half>(), (16, 11, -14, 15));
-    assert_eq!(rt; constants::<Single>(), (32, 24, -126, 127));
-    assert_eq!(rt; constants::<Double>(), (64, 53, -1022, 1023));
-    assert_eq!(rt; constants::<Seven>(), (7, 4, -1, 4));
-    assert_eq!(rt; constants::<Least>(), (0, 3, -1, 3));
+    assert_eq!(rt; constants::<HalfS>(), (16, 11, -14, 15));
+    assert_eq!(rt; constants::<SingleS>(), (32, 24, -126, 127));
+    assert_eq!(rt; constants::<DoubleS>(), (64, 53, -1022, 1023));
+    assert_eq!(rt; constants::<SevenS>(), (7, 4, -1, 4));
+    assert_eq!(rt; constants::<LeastS>(), (0, 3, -1, 3));
 }

@@ -2,8 +2,11 @@
 
 ghost use Rattle.std.specs.Prelude.{◌<◌};
 
-use crate::formats::{Broad, Deep, Least, LeastFinite, Precise, Ten, Vast, WrittenBit};
+use crate::formats::{
+    BroadS, DeepS, LeastFinite, LeastFiniteS, LeastS, PreciseS, Ten, TenS, VastS, WrittenBitS,
+};
 use crate::tables::{EVEN, INEXACT, OK, OVERFLOW_INEXACT, ZERO};
+use rustc_apfloat::ieee::{IeeeFloat, Semantics};
 use rustc_apfloat::{Category, Flags, Float, Round};
 use std::cmp::Ordering;
 use std::process::Abort;
@@ -72,12 +75,12 @@ static TEN: [Row; 4] = [
     (126976, ZERO, Answer::Number(122880), INEXACT),
 ];
 
-fn check_rows<F: Float>(rt: &impl Abort, rows: &[Row]) {
+fn check_rows<S: Semantics>(rt: &impl Abort, rows: &[Row]) {
     for (number, mode, answer, status) in rows {
-        let got = F::from_u128_r(*number, *mode);
+        let got = IeeeFloat::<S>::from_u128_r(*number, *mode);
         let value = match *answer {
-            Answer::Number(value) => F::from_u128(value).value,
-            Answer::Past => F::infinity(),
+            Answer::Number(value) => IeeeFloat::<S>::from_u128(value).value,
+            Answer::Past => IeeeFloat::<S>::infinity(),
         };
         assert!(rt; got.value.bitwise_eq(value), "{number} {mode:?}");
         assert_eq!(rt; got.status.bits(), *status, "{number} {mode:?}");
@@ -85,52 +88,60 @@ fn check_rows<F: Float>(rt: &impl Abort, rows: &[Row]) {
 }
 
 /// The order of the ends of a format, and what its minima and maxima are.
-fn check_ends<F: Float>(rt: &impl Abort) {
-    assert!(rt; F::zero() < F::smallest());
-    assert!(rt; F::smallest() < F::smallest_normalized());
-    assert!(rt; F::smallest_normalized() < F::largest());
-    assert!(rt; F::smallest().min(F::largest()).bitwise_eq(F::smallest()));
-    assert!(rt; F::smallest().maximum(F::largest()).bitwise_eq(F::largest()));
-    assert!(rt; F::smallest().is_denormal());
-    assert!(rt; F::smallest_normalized().is_normal());
+fn check_ends<S: Semantics>(rt: &impl Abort) {
+    assert!(rt; IeeeFloat::<S>::zero() < IeeeFloat::<S>::smallest());
+    assert!(rt; IeeeFloat::<S>::smallest() < IeeeFloat::<S>::smallest_normalized());
+    assert!(rt; IeeeFloat::<S>::smallest_normalized() < IeeeFloat::<S>::largest());
+    assert!(rt;
+        IeeeFloat::<S>::smallest()
+            .min(IeeeFloat::<S>::largest())
+            .bitwise_eq(IeeeFloat::<S>::smallest())
+    );
+    assert!(rt;
+        IeeeFloat::<S>::smallest()
+            .maximum(IeeeFloat::<S>::largest())
+            .bitwise_eq(IeeeFloat::<S>::largest())
+    );
+    assert!(rt; IeeeFloat::<S>::smallest().is_denormal());
+    assert!(rt; IeeeFloat::<S>::smallest_normalized().is_normal());
 }
 
 /// The bits of 1, of the largest value and of what stands past it.
-fn check_bits<F: Float>(rt: &impl Abort, one: u128, largest: u128, past: u128)
-    requires { F.PRECISION < F.BITS }
+fn check_bits<S: Semantics>(rt: &impl Abort, one: u128, largest: u128, past: u128)
+    requires { S.PRECISION < S.BITS }
 {
-    assert_eq!(rt; F::from_u128(1).value.to_bits(), one);
-    assert_eq!(rt; F::largest().to_bits(), largest);
-    assert_eq!(rt; F::infinity().to_bits(), past);
-    assert!(rt; F::from_bits(largest).bitwise_eq(F::largest()));
+    assert_eq!(rt; IeeeFloat::<S>::from_u128(1).value.to_bits(), one);
+    assert_eq!(rt; IeeeFloat::<S>::largest().to_bits(), largest);
+    assert_eq!(rt; IeeeFloat::<S>::infinity().to_bits(), past);
+    assert!(rt; IeeeFloat::<S>::from_bits(largest).bitwise_eq(IeeeFloat::<S>::largest()));
 }
 
 #[test]
 fn limits_without_bits(rt: HostRuntime) {
-    check_rows::<Least>(&rt, &FEW_DIGITS);
-    check_rows::<Deep>(&rt, &FEW_DIGITS);
-    check_rows::<LeastFinite>(&rt, &LEAST_FINITE);
-    check_rows::<Precise>(&rt, &PRECISE);
-    check_rows::<Vast>(&rt, &VAST);
-    check_ends::<Deep>(&rt);
-    check_ends::<Precise>(&rt);
-    check_ends::<Vast>(&rt);
+    check_rows::<LeastS>(&rt, &FEW_DIGITS);
+    check_rows::<DeepS>(&rt, &FEW_DIGITS);
+    check_rows::<LeastFiniteS>(&rt, &LEAST_FINITE);
+    check_rows::<PreciseS>(&rt, &PRECISE);
+    check_rows::<VastS>(&rt, &VAST);
+    check_ends::<DeepS>(&rt);
+    check_ends::<PreciseS>(&rt);
+    check_ends::<VastS>(&rt);
     assert_eq!(rt; LeastFinite::infinity().category(), Category::NaN);
 }
 
 #[test]
 fn limits_with_bits(rt: HostRuntime) {
-    check_rows::<Broad>(&rt, &BROAD);
-    check_rows::<WrittenBit>(&rt, &WRITTEN_BIT);
-    check_rows::<Ten>(&rt, &TEN);
-    check_ends::<Broad>(&rt);
-    check_ends::<WrittenBit>(&rt);
-    check_ends::<Ten>(&rt);
+    check_rows::<BroadS>(&rt, &BROAD);
+    check_rows::<WrittenBitS>(&rt, &WRITTEN_BIT);
+    check_rows::<TenS>(&rt, &TEN);
+    check_ends::<BroadS>(&rt);
+    check_ends::<WrittenBitS>(&rt);
+    check_ends::<TenS>(&rt);
     assert_eq!(rt;
         Ten::smallest().cmp_abs_normal(Ten::smallest_normalized()),
         Ordering::Less
     );
-    check_bits::<Broad>(&rt, 0xfffff << 106, (0x1fffff << 106) - 1, 0x1fffff << 106);
-    check_bits::<WrittenBit>(&rt, 0x0f80, 0x1eff, 0x1f80);
-    check_bits::<Ten>(&rt, 0x0f0, 0x1fe, 0x1ff);
+    check_bits::<BroadS>(&rt, 0xfffff << 106, (0x1fffff << 106) - 1, 0x1fffff << 106);
+    check_bits::<WrittenBitS>(&rt, 0x0f80, 0x1eff, 0x1f80);
+    check_bits::<TenS>(&rt, 0x0f0, 0x1fe, 0x1ff);
 }
