@@ -1,18 +1,22 @@
 -- Sums and differences of stored values, by the kinds of their operands.
-use Rattle.std.proofs.Common.{◌≡◌, ℕ, ◌<◌, ap, subst}
+use Rattle.std.proofs.Common.{◌≡◌, ℕ, ◌<◌, Bool, false, ap, subst, rules}
 use Rattle.apfloat_base.specs.declared.kinds.Category.{Category}
 use Rattle.apfloat_base.specs.declared.kinds.Category.TheVariants.{Normal}
 use Rattle.apfloat_base.specs.declared.kinds.Round.{Round}
-use Rattle.apfloat_base.specs.Datum.{Datum}
+use Rattle.apfloat_base.specs.declared.kinds.NonfiniteBehavior.{NonfiniteBehavior}
+use Rattle.apfloat_base.specs.Datum.{Datum, finite, infinite, nan}
 use Rattle.apfloat_base.specs.Format.{Format}
 use Rattle.apfloat_base.specs.Members.{IsFiniteOf, IsMember}
-use Rattle.apfloat_base.specs.Sums.{IsSum}
+use Rattle.apfloat_base.specs.Nan.{is_signaling_nan}
+use Rattle.apfloat_base.specs.Negation.{negated}
+use Rattle.apfloat_base.specs.Sums.{IsSum, IsDifference}
 use Rattle.apfloat_unpacked.specs.declared.shape.Shape.{Shape}
 use Rattle.apfloat_unpacked.specs.declared.unpacked.Unpacked.{Unpacked}
 use Rattle.apfloat_unpacked.specs.Shapes.{format_at}
 use Rattle.apfloat_unpacked.specs.Stored.{IsNormal, IsStored, IsStoredBy, datum_at, datum_by, quanta_at}
 use Rattle.apfloat_unpacked.specs.StoredBack.{quanta_some}
 use Rattle.apfloat_unpacked.proofs.StoredMembers.{member_is}
+use Rattle.apfloat_arithmetic.specs.Subtrahends.{added}
 
 pub number_stored : (s : Shape) (x : Unpacked) → x.category ≡ Normal → IsStored s x → IsFiniteOf (format_at s) x.negative (quanta_at s.min_exp x.significand x.exponent) × (0 < quanta_at s.min_exp x.significand x.exponent)
 number_stored s x e h =
@@ -24,3 +28,17 @@ same_sum f mode x y v a b d i j p q r e h = rw (p, q, r, e) h
 
 pub datum_is : (k : Category) (s : Shape) (x : Unpacked) → x.category ≡ k → datum_at s x ≡ datum_by k s x
 datum_is k s x e = ap (λ (l : Category). datum_by l s x) e
+
+not_signaling : (f : Format) (kind : NonfiniteBehavior) (b : Bool) (n : ℕ) → is_signaling_nan f (negated kind (finite b n)) ≡ false
+not_signaling f kind b n = search rules
+
+pub difference_is : (f : Format) (mode : Round) (x y v : Datum) (i : ℕ) → IsSum f mode x (added f.nonfinite y) v i → IsDifference f mode x y v i
+difference_is f mode (nan b s) (nan c t) v i h = h
+difference_is f mode (nan b s) (infinite c) v i h = h
+difference_is f mode (nan b s) (finite c n) v i h = rw (not_signaling f f.nonfinite c n) at h
+difference_is f mode (finite b m) (nan c t) v i h = h
+difference_is f mode (finite b m) (infinite c) v i h = h
+difference_is f mode (finite b m) (finite c n) v i h = h
+difference_is f mode (infinite b) (nan c t) v i h = h
+difference_is f mode (infinite b) (infinite c) v i h = h
+difference_is f mode (infinite b) (finite c n) v i h = h

@@ -9,11 +9,38 @@ use Rattle.apfloat_unpacked.specs.Stored.{quanta_at, datum_at}
 use Rattle.apfloat_arithmetic.proofs.Additions.{IsRepresented, read_negative, sum_read, scale_is, roomy, sum_full, fine_if}
 use Rattle.apfloat_arithmetic.proofs.sums.add_numbers.Goals as goal
 
+pub term_of-requires-clause-lawful : goal.term_of-requires-clause-lawful
+term_of-requires-clause-lawful c = c.requires.lawful
+
+pub term_of-requires-clause-normal : goal.term_of-requires-clause-normal
+term_of-requires-clause-normal c = c.requires.x_normal
+
+pub term_of-requires-2-clause-lawful : goal.term_of-requires-2-clause-lawful
+term_of-requires-2-clause-lawful c = c.requires.lawful
+
+pub term_of-requires-2-clause-normal : goal.term_of-requires-2-clause-normal
+term_of-requires-2-clause-normal c = c.requires.y_normal
+
+pub add_terms-total-requires-clause-x_near : goal.add_terms-total-requires-clause-x_near
+add_terms-total-requires-clause-x_near c = omega (arith, ints, c.requires.lawful, c.term_of.ensures.exponent, c.requires.x_normal.operand.greatest)
+
+pub add_terms-total-requires-clause-x_far : goal.add_terms-total-requires-clause-x_far
+add_terms-total-requires-clause-x_far c = omega (arith, ints, c.requires.lawful, c.term_of.ensures.exponent, c.requires.x_normal.operand.least)
+
+pub add_terms-total-requires-clause-y_near : goal.add_terms-total-requires-clause-y_near
+add_terms-total-requires-clause-y_near c = omega (arith, ints, c.requires.lawful, c.term_of-2.ensures.exponent, c.requires.y_normal.operand.greatest)
+
+pub add_terms-total-requires-clause-y_far : goal.add_terms-total-requires-clause-y_far
+add_terms-total-requires-clause-y_far c = omega (arith, ints, c.requires.lawful, c.term_of-2.ensures.exponent, c.requires.y_normal.operand.least)
+
 pub add_terms-total-requires-clause-x_room : goal.add_terms-total-requires-clause-x_room
 add_terms-total-requires-clause-x_room c = roomy c.args.shape.precision c.args.x.significand c.term_of.result.significand c.requires.lawful.precision_high c.term_of.ensures.significand c.requires.x_normal.operand.fits
 
 pub add_terms-total-requires-clause-y_room : goal.add_terms-total-requires-clause-y_room
 add_terms-total-requires-clause-y_room c = roomy c.args.shape.precision c.args.y.significand c.term_of-2.result.significand c.requires.lawful.precision_high c.term_of-2.ensures.significand c.requires.y_normal.operand.fits
+
+pub deliver-requires-clause-lawful : goal.deliver-requires-clause-lawful
+deliver-requires-clause-lawful c = c.requires.lawful
 
 pub deliver-requires-clause-near : goal.deliver-requires-clause-near
 deliver-requires-clause-near c =
@@ -30,6 +57,9 @@ deliver-requires-clause-fine c =
     fine_if c.add_terms-total.result.loss _ (2 ^ (c.args.shape.precision - 1) ≤ c.add_terms-total.result.significand)
     (sum_full c.args.shape.precision c.args.x.significand c.args.y.significand c.term_of.result.significand c.term_of-2.result.significand c.add_terms-total.result.significand c.add_terms-total.result.loss
     c.requires.lawful.precision_low c.term_of.ensures.significand c.term_of-2.ensures.significand c.requires.x_normal.operand.full c.requires.x_normal.operand.fits c.requires.y_normal.operand.full c.requires.y_normal.operand.fits c.add_terms-total.ensures.full)
+
+pub returns-clause-stored : goal.returns-clause-stored
+returns-clause-stored c = c.deliver.ensures.stored
 
 pub returns-clause-delivered : goal.returns-clause-delivered
 returns-clause-delivered c =
