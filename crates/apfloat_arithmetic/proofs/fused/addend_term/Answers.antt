@@ -1,8 +1,50 @@
-use Rattle.std.proofs.Common.{◌≡◌, w32, to_z, of_z}
-use Rattle.std.proofs.lemmas.Int.{to_z-of_z}
+use Rattle.std.proofs.Common.{◌≡◌, w32, to_z, of_z, arith, refl}
+use Rattle.std.proofs.lemmas.Int.{to_z-of_z, ints}
 use Rattle.apfloat_arithmetic.proofs.ProductExponents.{normal_near}
 use Rattle.apfloat_arithmetic.proofs.WideTerms.{addend_counted}
 use Rattle.apfloat_arithmetic.proofs.fused.addend_term.Goals as goal
+
+pub overflow_mul-shape : goal.overflow_mul-shape
+overflow_mul-shape c = omega (arith, c.requires.lawful.precision_high)
+
+pub overflow_sub-shape : goal.overflow_sub-shape
+overflow_sub-shape c = omega (arith, c.requires.lawful.precision_low)
+
+pub lowered-requires-clause-near : goal.lowered-requires-clause-near
+lowered-requires-clause-near c = omega (arith, ints, c.requires.lawful, c.requires.normal.operand.greatest)
+
+pub lowered-requires-clause-far : goal.lowered-requires-clause-far
+lowered-requires-clause-far c = omega (arith, ints, c.requires.lawful, c.requires.normal.operand.least)
+
+pub lowered-requires-clause-short : goal.lowered-requires-clause-short
+lowered-requires-clause-short c = omega (arith, c.requires.short)
+
+pub wide_addend-requires-clause-some : goal.wide_addend-requires-clause-some
+wide_addend-requires-clause-some c = omega (arith, c.requires.lawful.precision_low)
+
+pub wide_addend-requires-clause-short : goal.wide_addend-requires-clause-short
+wide_addend-requires-clause-short c = c.requires.short
+
+pub wide_addend-requires-clause-fits : goal.wide_addend-requires-clause-fits
+wide_addend-requires-clause-fits c = c.requires.normal.operand.fits
+
+pub wide_addend-requires-clause-full : goal.wide_addend-requires-clause-full
+wide_addend-requires-clause-full c = c.requires.normal.operand.full
+
+pub returns-clause-negative : goal.returns-clause-negative
+returns-clause-negative c = refl
+
+pub returns-clause-near : goal.returns-clause-near
+returns-clause-near c = omega (arith, ints, c.lowered.ensures.near)
+
+pub returns-clause-far : goal.returns-clause-far
+returns-clause-far c = omega (arith, ints, c.lowered.ensures.far)
+
+pub returns-clause-fits : goal.returns-clause-fits
+returns-clause-fits c = c.wide_addend.ensures.fits
+
+pub returns-clause-full : goal.returns-clause-full
+returns-clause-full c = c.wide_addend.ensures.full
 
 pub returns-clause-counted : goal.returns-clause-counted
 returns-clause-counted c = λ base k b h.

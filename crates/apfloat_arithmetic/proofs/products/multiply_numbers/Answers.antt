@@ -1,12 +1,54 @@
-use Rattle.std.proofs.Common.{◌≡◌, ◌*◌, ◌^◌, Bool, w32, to_z, of_z, subst}
-use Rattle.std.proofs.lemmas.Int.{to_z-of_z}
+use Rattle.std.proofs.Common.{◌≡◌, ◌*◌, ◌^◌, Bool, w32, to_z, of_z, subst, ◌≤◌, arith, refl, inl}
+use Rattle.std.proofs.Math.Nat.{pow-le-pow_right}
+use Rattle.std.proofs.lemmas.Int.{to_z-of_z, ints}
 use Rattle.std.proofs.lemmas.Nat.{pow_pos}
 use Rattle.apfloat_base.specs.Flags.{bits_of}
 use Rattle.apfloat_base.specs.Rounding.{IsDelivered}
+use Rattle.apfloat_base.proofs.Existence.{two_pos}
 use Rattle.apfloat_unpacked.specs.Shapes.{format_at}
 use Rattle.apfloat_unpacked.specs.Stored.{quanta_at, datum_at}
 use Rattle.apfloat_arithmetic.proofs.ProductExponents.{normal_near, product_is}
 use Rattle.apfloat_arithmetic.proofs.products.multiply_numbers.Goals as goal
+
+pub full_product-requires-clause-left_short : goal.full_product-requires-clause-left_short
+full_product-requires-clause-left_short c =
+    let l : 2 ^ c.args.shape.precision ≤ 2 ^ 64 = pow-le-pow_right two_pos c.requires.short in
+    omega (arith, l, c.requires.left.operand.fits)
+
+pub full_product-requires-clause-right_short : goal.full_product-requires-clause-right_short
+full_product-requires-clause-right_short c =
+    let l : 2 ^ c.args.shape.precision ≤ 2 ^ 64 = pow-le-pow_right two_pos c.requires.short in
+    omega (arith, l, c.requires.right.operand.fits)
+
+pub product_exponent-requires-clause-lawful : goal.product_exponent-requires-clause-lawful
+product_exponent-requires-clause-lawful c = c.requires.lawful
+
+pub product_exponent-requires-clause-left_near : goal.product_exponent-requires-clause-left_near
+product_exponent-requires-clause-left_near c = omega (arith, ints, c.requires.lawful, c.requires.left.operand.greatest)
+
+pub product_exponent-requires-clause-left_far : goal.product_exponent-requires-clause-left_far
+product_exponent-requires-clause-left_far c = omega (arith, ints, c.requires.lawful, c.requires.left.operand.least)
+
+pub product_exponent-requires-clause-right_near : goal.product_exponent-requires-clause-right_near
+product_exponent-requires-clause-right_near c = omega (arith, ints, c.requires.lawful, c.requires.right.operand.greatest)
+
+pub product_exponent-requires-clause-right_far : goal.product_exponent-requires-clause-right_far
+product_exponent-requires-clause-right_far c = omega (arith, ints, c.requires.lawful, c.requires.right.operand.least)
+
+pub deliver-requires-clause-lawful : goal.deliver-requires-clause-lawful
+deliver-requires-clause-lawful c = c.requires.lawful
+
+pub deliver-requires-clause-near : goal.deliver-requires-clause-near
+deliver-requires-clause-near c = omega (arith, ints, c.product_exponent.ensures.near)
+
+pub deliver-requires-clause-far : goal.deliver-requires-clause-far
+deliver-requires-clause-far c = omega (arith, ints, c.product_exponent.ensures.far)
+
+pub deliver-requires-clause-fine : goal.deliver-requires-clause-fine
+deliver-requires-clause-fine c = inl refl
+
+pub returns-clause-stored : goal.returns-clause-stored
+returns-clause-stored c = c.deliver.ensures.stored
 
 pub returns-clause-delivered : goal.returns-clause-delivered
 returns-clause-delivered c =

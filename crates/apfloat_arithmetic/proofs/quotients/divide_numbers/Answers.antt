@@ -1,6 +1,6 @@
 use Rattle.std.proofs.Common.{◌≡◌, ◌+◌, ◌*◌, ◌^◌, ◌≤◌, ◌-◌, Bool, w32, to_z, of_z, subst, arith, inr}
 use Rattle.std.proofs.Math.Nat.{pow-le-pow_right}
-use Rattle.std.proofs.lemmas.Int.{to_z-of_z}
+use Rattle.std.proofs.lemmas.Int.{to_z-of_z, ints}
 use Rattle.apfloat_base.specs.Flags.{bits_of}
 use Rattle.apfloat_base.specs.Rounding.{IsDelivered}
 use Rattle.apfloat_base.proofs.Existence.{two_pos}
@@ -11,6 +11,9 @@ use Rattle.apfloat_unpacked.specs.Stored.{quanta_at, datum_at}
 use Rattle.apfloat_unpacked.specs.StoredBack.{quanta_some}
 use Rattle.apfloat_arithmetic.proofs.ProductExponents.{normal_near, normal_some, quotient_is}
 use Rattle.apfloat_arithmetic.proofs.quotients.divide_numbers.Goals as goal
+
+pub overflow_add-places : goal.overflow_add-places
+overflow_add-places c = omega (arith, c.requires.lawful.precision_high)
 
 pub divide-quotient-requires-clause-some : goal.divide-quotient-requires-clause-some
 divide-quotient-requires-clause-some c = normal_some c.args.shape c.args.y.significand c.args.y.exponent c.requires.right
@@ -30,12 +33,42 @@ divide-quotient-requires-clause-close c =
     let g = c.requires.right.operand.full in
     omega arith
 
+pub divide-quotient-requires-clause-short : goal.divide-quotient-requires-clause-short
+divide-quotient-requires-clause-short c = omega (arith, c.requires.lawful.precision_high)
+
+pub quotient_exponent-requires-clause-left_near : goal.quotient_exponent-requires-clause-left_near
+quotient_exponent-requires-clause-left_near c = omega (arith, ints, c.requires.lawful, c.requires.left.operand.greatest)
+
+pub quotient_exponent-requires-clause-left_far : goal.quotient_exponent-requires-clause-left_far
+quotient_exponent-requires-clause-left_far c = omega (arith, ints, c.requires.lawful, c.requires.left.operand.least)
+
+pub quotient_exponent-requires-clause-right_near : goal.quotient_exponent-requires-clause-right_near
+quotient_exponent-requires-clause-right_near c = omega (arith, ints, c.requires.lawful, c.requires.right.operand.greatest)
+
+pub quotient_exponent-requires-clause-right_far : goal.quotient_exponent-requires-clause-right_far
+quotient_exponent-requires-clause-right_far c = omega (arith, ints, c.requires.lawful, c.requires.right.operand.least)
+
+pub quotient_exponent-requires-clause-short : goal.quotient_exponent-requires-clause-short
+quotient_exponent-requires-clause-short c = omega (arith, c.requires.lawful.precision_high)
+
+pub deliver-requires-clause-lawful : goal.deliver-requires-clause-lawful
+deliver-requires-clause-lawful c = c.requires.lawful
+
+pub deliver-requires-clause-near : goal.deliver-requires-clause-near
+deliver-requires-clause-near c = omega (arith, ints, c.quotient_exponent.ensures.near)
+
+pub deliver-requires-clause-far : goal.deliver-requires-clause-far
+deliver-requires-clause-far c = omega (arith, ints, c.quotient_exponent.ensures.far)
+
 pub deliver-requires-clause-fine : goal.deliver-requires-clause-fine
 deliver-requires-clause-fine c =
     let s = c.args.shape in
     let t = c.requires.lawful.precision_low in
     inr (inr (quotient_full c.divide-quotient.result.whole c.args.x.significand c.args.y.significand s.precision (s.precision + 1)
     (normal_some s c.args.y.significand c.args.y.exponent c.requires.right) c.requires.left.operand.full c.requires.right.operand.fits (omega arith) (omega arith) c.divide-quotient.ensures.quotient))
+
+pub returns-clause-stored : goal.returns-clause-stored
+returns-clause-stored c = c.deliver.ensures.stored
 
 pub returns-clause-delivered : goal.returns-clause-delivered
 returns-clause-delivered c =
