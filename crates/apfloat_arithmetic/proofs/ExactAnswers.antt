@@ -5,11 +5,12 @@ use Rattle.std.proofs.lemmas.Bool.{ne_eqb}
 use Rattle.apfloat_base.specs.declared.kinds.Round.{Round}
 use Rattle.apfloat_base.specs.declared.kinds.Category.{Category}
 use Rattle.apfloat_base.specs.Format.{Format}
-use Rattle.apfloat_base.specs.Datum.{Datum, finite}
+use Rattle.apfloat_base.specs.Datum.{Datum, finite, infinite}
+use Rattle.apfloat_base.specs.Answer.{IsAnswer}
 use Rattle.apfloat_base.specs.Exact.{product_sign}
 use Rattle.apfloat_base.specs.Products.{IsProduct}
 use Rattle.apfloat_base.specs.Quotients.{IsQuotient}
-use Rattle.apfloat_base.specs.Rounding.{IsDelivered}
+use Rattle.apfloat_base.specs.Rounding.{IsDelivered, ok_bits}
 use Rattle.apfloat_unpacked.specs.declared.shape.Shape.{Shape}
 use Rattle.apfloat_unpacked.specs.declared.unpacked.Unpacked.{Unpacked}
 use Rattle.apfloat_unpacked.specs.Stored.{datum_at, datum_by}
@@ -23,6 +24,16 @@ pub zero_product : (f : Format) (mode : Round) (b c sign : Bool) (m n : ℕ) (va
 zero_product f mode b c sign m n value status e z h =
     let d : IsDelivered f mode sign (m * n) (2 ^ f.scale) value status = subst (λ (x : ℕ). IsDelivered f mode sign x (2 ^ f.scale) value status) (sym z) (h (2 ^ f.scale) (pow_pos f.scale)) in
     subst (λ (x : Bool). IsDelivered f mode x (m * n) (2 ^ f.scale) value status) e d
+
+pub number_by_infinity : (f : Format) (mode : Round) (b c sign : Bool) (m : ℕ) (value : Datum) (status : ℕ) → 0 < m → sign ≡ product_sign b c
+    → IsAnswer (infinite sign) ok_bits value status → IsProduct f mode (finite b m) (infinite c) value status
+number_by_infinity f mode b c sign m value status p e h =
+    rw (ne_eqb m 0 (λ z. omega (arith, z, p))) (subst (λ (x : Bool). IsAnswer (infinite x) ok_bits value status) e h)
+
+pub infinity_by_number : (f : Format) (mode : Round) (b c sign : Bool) (n : ℕ) (value : Datum) (status : ℕ) → 0 < n → sign ≡ product_sign b c
+    → IsAnswer (infinite sign) ok_bits value status → IsProduct f mode (infinite b) (finite c n) value status
+infinity_by_number f mode b c sign n value status p e h =
+    rw (ne_eqb n 0 (λ z. omega (arith, z, p))) (subst (λ (x : Bool). IsAnswer (infinite x) ok_bits value status) e h)
 
 pub some_quotient : (f : Format) (mode : Round) (b c : Bool) (m n : ℕ) (value : Datum) (status : ℕ) → 0 < n
     → IsDelivered f mode (product_sign b c) (m * 2 ^ f.scale) n value status → IsQuotient f mode (finite b m) (finite c n) value status
