@@ -4,21 +4,6 @@ use Rattle.apfloat_unpacked.specs.Stored.{datum_at}
 use Rattle.apfloat_arithmetic.proofs.SumCases.{difference_is}
 use Rattle.apfloat_arithmetic.proofs.sums.subtract.Goals as goal
 
-pub added-requires : goal.added-requires
-added-requires c = c.requires.y_stored
-
-pub add-requires-clause-lawful : goal.add-requires-clause-lawful
-add-requires-clause-lawful c = c.requires.lawful
-
-pub add-requires-clause-x_stored : goal.add-requires-clause-x_stored
-add-requires-clause-x_stored c = c.requires.x_stored
-
-pub add-requires-clause-y_stored : goal.add-requires-clause-y_stored
-add-requires-clause-y_stored c = c.added.ensures.stored
-
-pub returns-clause-stored : goal.returns-clause-stored
-returns-clause-stored c = c.add.ensures.stored
-
 pub returns-clause-delivered : goal.returns-clause-delivered
 returns-clause-delivered c =
     let s = c.args.shape in
