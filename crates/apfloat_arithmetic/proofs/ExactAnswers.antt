@@ -7,9 +7,10 @@ use Rattle.apfloat_base.specs.declared.kinds.Category.{Category}
 use Rattle.apfloat_base.specs.Format.{Format}
 use Rattle.apfloat_base.specs.Datum.{Datum, finite, infinite}
 use Rattle.apfloat_base.specs.Answer.{IsAnswer}
+use Rattle.apfloat_base.specs.Constants.{infinity_of}
 use Rattle.apfloat_base.specs.Exact.{product_sign}
 use Rattle.apfloat_base.specs.Products.{IsProduct}
-use Rattle.apfloat_base.specs.Quotients.{IsQuotient}
+use Rattle.apfloat_base.specs.Quotients.{IsQuotient, div_by_zero_bit}
 use Rattle.apfloat_base.specs.Rounding.{IsDelivered, ok_bits}
 use Rattle.apfloat_unpacked.specs.declared.shape.Shape.{Shape}
 use Rattle.apfloat_unpacked.specs.declared.unpacked.Unpacked.{Unpacked}
@@ -34,6 +35,11 @@ pub infinity_by_number : (f : Format) (mode : Round) (b c sign : Bool) (n : ℕ)
     → IsAnswer (infinite sign) ok_bits value status → IsProduct f mode (infinite b) (finite c n) value status
 infinity_by_number f mode b c sign n value status p e h =
     rw (ne_eqb n 0 (λ z. omega (arith, z, p))) (subst (λ (x : Bool). IsAnswer (infinite x) ok_bits value status) e h)
+
+pub number_by_zero : (f : Format) (mode : Round) (b c sign : Bool) (m : ℕ) (value : Datum) (status : ℕ) → 0 < m → sign ≡ product_sign b c
+    → IsAnswer (infinity_of f sign) div_by_zero_bit value status → IsQuotient f mode (finite b m) (finite c 0) value status
+number_by_zero f mode b c sign m value status p e h =
+    rw (ne_eqb m 0 (λ z. omega (arith, z, p))) (subst (λ (x : Bool). IsAnswer (infinity_of f x) div_by_zero_bit value status) e h)
 
 pub some_quotient : (f : Format) (mode : Round) (b c : Bool) (m n : ℕ) (value : Datum) (status : ℕ) → 0 < n
     → IsDelivered f mode (product_sign b c) (m * 2 ^ f.scale) n value status → IsQuotient f mode (finite b m) (finite c n) value status

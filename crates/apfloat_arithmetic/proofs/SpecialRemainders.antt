@@ -1,8 +1,9 @@
 -- Remainders of operands that are not both numbers other than zero, by their categories.
-use Rattle.std.proofs.Common.{◌≡◌, ◌⊎◌, inl, inr, ℕ, Bool, count_ones, ◌*◌, ◌/◌, ◌<◌, refl, sym, ap, subst, arith}
+use Rattle.std.proofs.Common.{◌≡◌, ◌⊎◌, inl, inr, ℕ, Bool, true, false, eqb, if◌then◌else◌, count_ones, ◌*◌, ◌/◌, ◌<◌, refl, sym, ap, subst, arith}
+use Rattle.std.proofs.Math.Nat.{zero-div}
 use Rattle.std.proofs.lemmas.Bool.{ne_eqb}
 use Rattle.apfloat_base.specs.declared.kinds.Category.{Category}
-use Rattle.apfloat_base.specs.declared.kinds.Category.TheVariants.{Normal, Zero}
+use Rattle.apfloat_base.specs.declared.kinds.Category.TheVariants.{Infinity, NaN, Normal, Zero}
 use Rattle.apfloat_base.specs.declared.kinds.NonfiniteBehavior.{NonfiniteBehavior}
 use Rattle.apfloat_base.specs.Datum.{Datum, finite}
 use Rattle.apfloat_base.specs.Answer.{IsAnswer}
@@ -64,3 +65,25 @@ ones_of_numbers s k l x y e f u =
     subst (λ (o : Category). count_ones (quanta_at s.min_exp x.significand x.exponent / quanta_at s.min_exp y.significand y.exponent) ≡ ones_of_quotient (datum_by o s x) (datum_by l s y)) (sym e)
     (subst (λ (o : Category). IsStoredBy o s y → count_ones (quanta_at s.min_exp x.significand x.exponent / quanta_at s.min_exp y.significand y.exponent) ≡ ones_of_quotient (datum_by Normal s x) (datum_by o s y)) (sym f)
     (λ u. number_ones s x y (quanta_at s.min_exp x.significand x.exponent) u) u)
+
+-- ---- not both numbers other than zero
+
+zero_if : (b : Bool) (m : ℕ) → m ≡ 0 → 0 ≡ (if b then 0 else m)
+zero_if true m e = refl
+zero_if false m e = sym e
+
+zero_ones : (n : ℕ) → 0 ≡ (if eqb n 0 then 0 else count_ones (0 / n))
+unfolding lib.Count.ones
+zero_ones n = zero_if (eqb n 0) (count_ones (0 / n)) (ap count_ones (zero-div n))
+
+pub no_ones : (s : Shape) (k l : Category) (x y : Unpacked) → (k ≡ Normal → l ≡ Normal → ⊥) → 0 ≡ ones_of_quotient (datum_by k s x) (datum_by l s y)
+no_ones s Normal Normal x y h = absurd (h refl refl)
+no_ones s Normal Zero x y h = refl
+no_ones s Normal Infinity x y h = refl
+no_ones s Normal NaN x y h = refl
+no_ones s Zero Normal x y h = zero_ones (quanta_at s.min_exp y.significand y.exponent)
+no_ones s Zero Zero x y h = refl
+no_ones s Zero Infinity x y h = refl
+no_ones s Zero NaN x y h = refl
+no_ones s Infinity l x y h = refl
+no_ones s NaN l x y h = refl

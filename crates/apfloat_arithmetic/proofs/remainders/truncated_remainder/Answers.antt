@@ -1,11 +1,11 @@
-use Rattle.std.proofs.Common.{◌∙◌, subst}
+use Rattle.std.proofs.Common.{◌∙◌, subst, arith}
 use Rattle.std.proofs.Math.Nat.{zero-div}
 use Rattle.apfloat_base.specs.declared.kinds.Category.{Category}
 use Rattle.apfloat_base.specs.Remainders.{truncated_quotient}
 use Rattle.apfloat_unpacked.specs.Shapes.{format_at}
 use Rattle.apfloat_unpacked.specs.Stored.{datum_at, IsStoredBy}
 use Rattle.apfloat_arithmetic.proofs.StepBounds.{few_steps}
-use Rattle.apfloat_arithmetic.proofs.SpecialRemainders.{of_numbers, ones_of_numbers}
+use Rattle.apfloat_arithmetic.proofs.SpecialRemainders.{of_numbers, ones_of_numbers, no_ones}
 use Rattle.apfloat_arithmetic.proofs.remainders.truncated_remainder.Goals as goal
 
 pub truncated_number-requires-clause-lawful : goal.truncated_number-requires-clause-lawful
@@ -16,18 +16,6 @@ truncated_number-requires-clause-x c = subst (λ (k : Category). IsStoredBy k c.
 
 pub truncated_number-requires-clause-y : goal.truncated_number-requires-clause-y
 truncated_number-requires-clause-y c = subst (λ (k : Category). IsStoredBy k c.args.shape c.args.y) (c.are_normal.ensures.yes c.if-are_normal.true).1 c.requires.y
-
-pub special_remainder-requires-clause-lawful : goal.special_remainder-requires-clause-lawful
-special_remainder-requires-clause-lawful c = c.requires.lawful
-
-pub special_remainder-requires-clause-x_stored : goal.special_remainder-requires-clause-x_stored
-special_remainder-requires-clause-x_stored c = c.requires.x
-
-pub special_remainder-requires-clause-y_stored : goal.special_remainder-requires-clause-y_stored
-special_remainder-requires-clause-y_stored c = c.requires.y
-
-pub special_remainder-requires-clause-special : goal.special_remainder-requires-clause-special
-special_remainder-requires-clause-special c = c.are_normal.ensures.no c.if-are_normal.false
 
 pub returns-then-are_normal-clause-stored : goal.returns-then-are_normal-clause-stored
 returns-then-are_normal-clause-stored c = c.truncated_number.ensures.stored
@@ -53,3 +41,9 @@ returns-else-are_normal-clause-stored c = c.special_remainder.ensures.stored
 
 pub returns-else-are_normal-clause-delivered : goal.returns-else-are_normal-clause-delivered
 returns-else-are_normal-clause-delivered c = c.special_remainder.ensures.delivered truncated_quotient (λ n p. zero-div n)
+
+pub returns-else-are_normal-clause-steps : goal.returns-else-are_normal-clause-steps
+returns-else-are_normal-clause-steps c = no_ones c.args.shape c.args.x.category c.args.y.category c.args.x c.args.y (c.are_normal.ensures.no c.if-are_normal.false)
+
+pub returns-else-are_normal-clause-few : goal.returns-else-are_normal-clause-few
+returns-else-are_normal-clause-few c = λ a b h k p. absurd (omega (arith, p))
