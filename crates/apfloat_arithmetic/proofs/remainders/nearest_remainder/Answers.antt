@@ -1,18 +1,6 @@
-use Rattle.std.proofs.Common.{subst}
-use Rattle.apfloat_base.specs.declared.kinds.Category.{Category}
 use Rattle.apfloat_base.specs.Remainders.{nearest_quotient}
-use Rattle.apfloat_unpacked.specs.Stored.{IsStoredBy}
 use Rattle.apfloat_arithmetic.proofs.SpecialRemainders.{of_numbers}
 use Rattle.apfloat_arithmetic.proofs.remainders.nearest_remainder.Goals as goal
-
-pub nearest_number-requires-clause-lawful : goal.nearest_number-requires-clause-lawful
-nearest_number-requires-clause-lawful c = c.requires.lawful
-
-pub nearest_number-requires-clause-x : goal.nearest_number-requires-clause-x
-nearest_number-requires-clause-x c = subst (λ (k : Category). IsStoredBy k c.args.shape c.args.x) (c.are_normal.ensures.yes c.if-are_normal.true).0 c.requires.x
-
-pub nearest_number-requires-clause-y : goal.nearest_number-requires-clause-y
-nearest_number-requires-clause-y c = subst (λ (k : Category). IsStoredBy k c.args.shape c.args.y) (c.are_normal.ensures.yes c.if-are_normal.true).1 c.requires.y
 
 pub returns-then-are_normal-clause-stored : goal.returns-then-are_normal-clause-stored
 returns-then-are_normal-clause-stored c = c.nearest_number.ensures.stored
