@@ -14,6 +14,21 @@ use Rattle.apfloat_unpacked.specs.Encoded.{layout_at}
 use Rattle.apfloat_unpacked.proofs.StoredNumbers.{quanta_low, quanta_low_below, quanta_high}
 use Rattle.apfloat_unpacked.proofs.bits.fields_of_number.Goals as goal
 
+pub steps_between-requires-clause-above : goal.steps_between-requires-clause-above
+steps_between-requires-clause-above c = omega (arith, ints)
+
+pub steps_between-requires-clause-near : goal.steps_between-requires-clause-near
+steps_between-requires-clause-near c = omega (arith, ints, c.requires.lawful.min_exp_high)
+
+pub steps_between-requires-clause-far : goal.steps_between-requires-clause-far
+steps_between-requires-clause-far c = omega (arith, ints, c.requires.lawful.min_exp_low, c.requires.lawful.precision_high, c.requires.normal.operand.least)
+
+pub overflow_cast-result : goal.overflow_cast-result
+overflow_cast-result c = omega (arith, ints, c.requires.lawful.precision_high, c.requires.normal.operand.least)
+
+pub overflow_shr-result : goal.overflow_shr-result
+overflow_shr-result c = omega (arith, ints, c.requires.lawful.precision_high, c.requires.normal.operand.least)
+
 pub returns-then-x-shape : goal.returns-then-x-shape
 returns-then-x-shape c =
     let s = c.args.shape in
@@ -25,6 +40,24 @@ returns-then-x-shape c =
     let k = quanta_some s m e c.requires.normal in
     rw (← quanta_low s m e c.steps_between.result d)
     (low_fields_of (format_at s) (layout_at c.args.widths) c.args.x.negative (quanta_at s.min_exp m e) c.requires.interchange (quanta_low_below s m e c.steps_between.result c.requires.normal c.requires.lawful.precision_low d l) (λ z. absurd (omega (arith, z, k))))
+
+pub steps_between-requires-2-clause-above : goal.steps_between-requires-2-clause-above
+steps_between-requires-2-clause-above c = omega (arith, ints)
+
+pub steps_between-requires-2-clause-near : goal.steps_between-requires-2-clause-near
+steps_between-requires-2-clause-near c = omega (arith, ints, c.requires.lawful.max_exp_high, c.requires.normal.operand.greatest)
+
+pub steps_between-requires-2-clause-far : goal.steps_between-requires-2-clause-far
+steps_between-requires-2-clause-far c = omega (arith, ints, c.requires.lawful.min_exp_low)
+
+pub overflow_add-result : goal.overflow_add-result
+overflow_add-result c = omega arith
+
+pub integer_bit-requires : goal.integer_bit-requires
+integer_bit-requires c = c.requires.lawful
+
+pub overflow_sub-result : goal.overflow_sub-result
+overflow_sub-result c = omega (arith, c.requires.normal.operand.full)
 
 -- the fields of a number with its integer bit, by what is written of its significand
 high : (s : Shape) (widths : Widths) (b : Bool) (m j t : ℕ) (e : ℤ) → IsShape s → IsInterchange (format_at s) (layout_at widths) → IsNormal s m e → pos j ≡ e -ℤ s.min_exp → m - cond s.explicit_integer_bit 0 (smallest_normalized (format_at s)) ≡ t
