@@ -74,3 +74,10 @@ ranged_out width false mag exact h =
     let low : int_lt (pos mag) (pos 0) ≡ false = less_not (pos mag) (pos 0) (omega (arith, ints)) in
     let high : int_lt (pos (2 ^ width - 1)) (pos mag) ≡ true = less_so (pos (2 ^ width - 1)) (pos mag) (omega (arith, ints, h)) in
     rw (low, high) refl
+
+pub out_of_range : (f : Format) (mode : Round) (width : ℕ) (b : Bool) (n number st : ℕ) (exact : Bool) → 0 < n → limit width b < whole_pick mode b n (2 ^ f.scale) → number ≡ limit width b → st ≡ 1 → exact ≡ false
+    → IsToUnsigned f mode width (finite b n) number st exact
+out_of_range f mode width b n number st exact p h m t x =
+    let z : eqb n 0 ≡ false = ne_eqb n 0 (λ e. omega (arith, e, p)) in
+    let r = ranged_out width b (whole_pick mode b n (2 ^ f.scale)) (eqb (whole_quanta f mode b n) n) h in
+    rw (z, r) (record { number_is = ap pos m; status_is = t; is_exact_is = x })

@@ -1,11 +1,35 @@
-use Rattle.std.proofs.Common.{ℕ, ◌-◌, ◌*◌, ◌^◌, w32}
-use Rattle.std.proofs.lemmas.Int.{to_z-of_z}
+use Rattle.std.proofs.Common.{ℕ, ◌-◌, ◌*◌, ◌^◌, w32, inl, refl, arith}
+use Rattle.std.proofs.lemmas.Int.{to_z-of_z, ints}
 use Rattle.std.proofs.lemmas.Nat.{pow_pos}
 use Rattle.apfloat_base.proofs.SingleScalings.{converted_is}
 use Rattle.apfloat_unpacked.specs.Shapes.{format_at}
 use Rattle.apfloat_unpacked.specs.Stored.{quanta_at}
 use Rattle.apfloat_unpacked.proofs.ShapeExponents.{exponent_word, scale_is}
 use Rattle.apfloat_conversions.proofs.formats.converted_number.Goals as goal
+
+pub last_exponent-requires-clause-lawful : goal.last_exponent-requires-clause-lawful
+last_exponent-requires-clause-lawful c = c.requires.from
+
+pub last_exponent-requires-clause-near : goal.last_exponent-requires-clause-near
+last_exponent-requires-clause-near c = omega (arith, ints, c.requires.from.max_exp_high, c.requires.x.operand.greatest)
+
+pub last_exponent-requires-clause-far : goal.last_exponent-requires-clause-far
+last_exponent-requires-clause-far c = omega (arith, ints, c.requires.from.min_exp_low, c.requires.from.precision_high, c.requires.x.operand.least)
+
+pub deliver-answer-requires-clause-lawful : goal.deliver-answer-requires-clause-lawful
+deliver-answer-requires-clause-lawful c = c.requires.into
+
+pub deliver-answer-requires-clause-near : goal.deliver-answer-requires-clause-near
+deliver-answer-requires-clause-near c = omega (arith, ints, c.last_exponent.ensures.near)
+
+pub deliver-answer-requires-clause-far : goal.deliver-answer-requires-clause-far
+deliver-answer-requires-clause-far c = omega (arith, ints, c.last_exponent.ensures.far)
+
+pub deliver-answer-requires-clause-fine : goal.deliver-answer-requires-clause-fine
+deliver-answer-requires-clause-fine c = inl refl
+
+pub returns-clause-stored : goal.returns-clause-stored
+returns-clause-stored c = c.deliver-answer.ensures.stored
 
 pub returns-clause-converted : goal.returns-clause-converted
 returns-clause-converted c =

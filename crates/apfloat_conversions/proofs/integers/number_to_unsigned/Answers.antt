@@ -1,9 +1,51 @@
-use Rattle.std.proofs.Common.{◌≤◌, subst, ℕ, arith}
+use Rattle.std.proofs.Common.{◌≤◌, subst, ℕ, arith, ◌^◌, ◌<◌, ◌∙◌}
 use Rattle.apfloat_unpacked.specs.Shapes.{format_at}
 use Rattle.apfloat_unpacked.specs.Stored.{quanta_at}
 use Rattle.apfloat_unpacked.specs.StoredBack.{quanta_some}
-use Rattle.apfloat_conversions.proofs.Limits.{limit, in_range}
+use Rattle.apfloat_conversions.proofs.Limits.{limit, in_range, out_of_range}
+use Rattle.std.proofs.Math.Nat.{pow-le-pow_right}
+use Rattle.apfloat_base.proofs.Existence.{two_pos}
+use Rattle.apfloat_base.specs.WholeNumbers.{whole_pick}
 use Rattle.apfloat_conversions.proofs.integers.number_to_unsigned.Goals as goal
+
+pub limit_of-limit-requires-clause-low : goal.limit_of-limit-requires-clause-low
+limit_of-limit-requires-clause-low c = c.requires.low
+
+pub limit_of-limit-requires-clause-high : goal.limit_of-limit-requires-clause-high
+limit_of-limit-requires-clause-high c = c.requires.high
+
+pub whole_of-requires-clause-lawful : goal.whole_of-requires-clause-lawful
+whole_of-requires-clause-lawful c = c.requires.lawful
+
+pub whole_of-requires-clause-normal : goal.whole_of-requires-clause-normal
+whole_of-requires-clause-normal c = c.requires.normal
+
+pub returns-in-None-clause-whole : goal.returns-in-None-clause-whole
+returns-in-None-clause-whole c =
+    let s = c.args.shape in
+    let n = quanta_at s.min_exp c.args.x.significand c.args.x.exponent in
+    let i = rw c.in-None.is at c.whole_of.ensures in
+    let e = c.limit_of-limit.ensures.value in
+    let w : 2 ^ c.args.width ≤ 2 ^ 128 = pow-le-pow_right two_pos c.requires.high in
+    let l : limit c.args.width c.args.x.negative < whole_pick c.args.round c.args.x.negative n (2 ^ (format_at s).scale) = subst (λ (k : ℕ). k < whole_pick c.args.round c.args.x.negative n (2 ^ (format_at s).scale)) e (omega (arith, i, w, c.limit_of-limit.ensures.fits)) in
+    out_of_range (format_at s) c.args.round c.args.width c.args.x.negative n c.out_of_range.result.answer.value _ c.out_of_range.result.is_exact (quanta_some s c.args.x.significand c.args.x.exponent c.requires.normal) l (c.out_of_range.ensures.number ∙ e) c.out_of_range.ensures.status c.out_of_range.ensures.inexact
+
+pub returns-in-None-clause-fits : goal.returns-in-None-clause-fits
+returns-in-None-clause-fits c = rw c.out_of_range.ensures.number c.limit_of-limit.ensures.fits
+
+pub returns-then-whole-limit-clause-whole : goal.returns-then-whole-limit-clause-whole
+returns-then-whole-limit-clause-whole c =
+    let s = c.args.shape in
+    let n = quanta_at s.min_exp c.args.x.significand c.args.x.exponent in
+    let i = rw c.in-Some.is at c.whole_of.ensures in
+    let e = c.limit_of-limit.ensures.value in
+    let t = c.if-whole-limit.true in
+    let m = i.magnitude_is in
+    let l : limit c.args.width c.args.x.negative < whole_pick c.args.round c.args.x.negative n (2 ^ (format_at s).scale) = subst (λ (k : ℕ). k < whole_pick c.args.round c.args.x.negative n (2 ^ (format_at s).scale)) e (omega (arith, t, m)) in
+    out_of_range (format_at s) c.args.round c.args.width c.args.x.negative n c.out_of_range-then-whole-limit.result.answer.value _ c.out_of_range-then-whole-limit.result.is_exact (quanta_some s c.args.x.significand c.args.x.exponent c.requires.normal) l (c.out_of_range-then-whole-limit.ensures.number ∙ e) c.out_of_range-then-whole-limit.ensures.status c.out_of_range-then-whole-limit.ensures.inexact
+
+pub returns-then-whole-limit-clause-fits : goal.returns-then-whole-limit-clause-fits
+returns-then-whole-limit-clause-fits c = rw c.out_of_range-then-whole-limit.ensures.number c.limit_of-limit.ensures.fits
 
 pub returns-else-whole-limit-clause-whole : goal.returns-else-whole-limit-clause-whole
 returns-else-whole-limit-clause-whole c =
@@ -14,3 +56,8 @@ returns-else-whole-limit-clause-whole c =
     let e = c.limit_of-limit.ensures.value in
     let l : c.in-Some.whole.magnitude ≤ limit c.args.width c.args.x.negative = subst (λ (k : ℕ). c.in-Some.whole.magnitude ≤ k) e (omega (arith, f)) in
     rw (c.and.ensures.value) (in_range (format_at s) c.args.round c.args.width c.args.x.negative n c.in-Some.whole.magnitude _ c.in-Some.whole.exact (quanta_some s c.args.x.significand c.args.x.exponent c.requires.normal) i.magnitude_is i.exact_is l (rw c.and.ensures.status c.status_of.ensures))
+
+pub returns-else-whole-limit-clause-fits : goal.returns-else-whole-limit-clause-fits
+returns-else-whole-limit-clause-fits c =
+    let f = c.if-whole-limit.false in
+    rw c.and.ensures.value (omega (arith, f, c.limit_of-limit.ensures.fits))

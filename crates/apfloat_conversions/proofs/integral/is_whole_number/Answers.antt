@@ -8,6 +8,24 @@ use Rattle.apfloat_conversions.proofs.Operands.{whole_places, fraction_places, s
 use Rattle.apfloat_conversions.proofs.Wholes.{whole_toward_zero, whole_multiple}
 use Rattle.apfloat_conversions.proofs.integral.is_whole_number.Goals as goal
 
+pub last_exponent-exponent-requires-clause-lawful : goal.last_exponent-exponent-requires-clause-lawful
+last_exponent-exponent-requires-clause-lawful c = c.requires.lawful
+
+pub last_exponent-exponent-requires-clause-near : goal.last_exponent-exponent-requires-clause-near
+last_exponent-exponent-requires-clause-near c = omega (arith, ints, c.requires.lawful.max_exp_high, c.requires.normal.operand.greatest)
+
+pub last_exponent-exponent-requires-clause-far : goal.last_exponent-exponent-requires-clause-far
+last_exponent-exponent-requires-clause-far c = omega (arith, ints, c.requires.lawful.min_exp_low, c.requires.lawful.precision_high, c.requires.normal.operand.least)
+
+pub steps_between-places-requires-clause-above : goal.steps_between-places-requires-clause-above
+steps_between-places-requires-clause-above c = omega (arith, ints)
+
+pub steps_between-places-requires-clause-near : goal.steps_between-places-requires-clause-near
+steps_between-places-requires-clause-near c = omega (arith, ints)
+
+pub steps_between-places-requires-clause-far : goal.steps_between-places-requires-clause-far
+steps_between-places-requires-clause-far c = omega (arith, ints, c.last_exponent-exponent.ensures.far)
+
 pub returns-then-exponent-ge0 : goal.returns-then-exponent-ge0
 returns-then-exponent-ge0 c =
     let s = c.args.shape in

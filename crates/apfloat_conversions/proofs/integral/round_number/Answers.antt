@@ -11,6 +11,39 @@ use Rattle.apfloat_conversions.proofs.Operands.{whole_places, fraction_places, s
 use Rattle.apfloat_conversions.proofs.Wholes.{whole_fits, integral_picked, integral_stays}
 use Rattle.apfloat_conversions.proofs.integral.round_number.Goals as goal
 
+pub last_exponent-exponent-requires-clause-lawful : goal.last_exponent-exponent-requires-clause-lawful
+last_exponent-exponent-requires-clause-lawful c = c.requires.lawful
+
+pub last_exponent-exponent-requires-clause-near : goal.last_exponent-exponent-requires-clause-near
+last_exponent-exponent-requires-clause-near c = omega (arith, ints, c.requires.lawful.max_exp_high, c.requires.normal.operand.greatest)
+
+pub last_exponent-exponent-requires-clause-far : goal.last_exponent-exponent-requires-clause-far
+last_exponent-exponent-requires-clause-far c = omega (arith, ints, c.requires.lawful.min_exp_low, c.requires.lawful.precision_high, c.requires.normal.operand.least)
+
+pub steps_between-places-requires-clause-above : goal.steps_between-places-requires-clause-above
+steps_between-places-requires-clause-above c = omega (arith, ints)
+
+pub steps_between-places-requires-clause-near : goal.steps_between-places-requires-clause-near
+steps_between-places-requires-clause-near c = omega (arith, ints)
+
+pub steps_between-places-requires-clause-far : goal.steps_between-places-requires-clause-far
+steps_between-places-requires-clause-far c = omega (arith, ints, c.last_exponent-exponent.ensures.far)
+
+pub returns-then-exponent-ge0-clause-stored : goal.returns-then-exponent-ge0-clause-stored
+returns-then-exponent-ge0-clause-stored c = rw (c.and.ensures.value, c.requires.number) c.requires.normal
+
+pub scale-requires : goal.scale-requires
+scale-requires c = c.requires.lawful
+
+pub quanta_of-requires-clause-lawful : goal.quanta_of-requires-clause-lawful
+quanta_of-requires-clause-lawful c = c.requires.lawful
+
+pub quanta_of-requires-clause-near : goal.quanta_of-requires-clause-near
+quanta_of-requires-clause-near c = omega (arith, ints, c.scale.ensures.value, c.requires.lawful)
+
+pub returns-clause-stored : goal.returns-clause-stored
+returns-clause-stored c = rw c.and-2.ensures.value c.quanta_of.ensures.stored
+
 pub returns-then-exponent-ge0-clause-delivered : goal.returns-then-exponent-ge0-clause-delivered
 returns-then-exponent-ge0-clause-delivered c =
     let s = c.args.shape in

@@ -1,11 +1,41 @@
 use Rattle.std.proofs.Common.{◌≡◌, ℕ, ◌-◌, ◌^◌, ◌≤◌, ℤ, pos, ◌+ℤ◌, ◌-ℤ◌, ◌≤ℤ◌, to_z, of_z, w32, arith, ap, subst, ◌∙◌, sym}
-use Rattle.std.proofs.lemmas.Int.{to_z-of_z}
+use Rattle.std.proofs.lemmas.Int.{to_z-of_z, ints}
 use Rattle.apfloat_base.proofs.Losses.{twice_half}
 use Rattle.apfloat_unpacked.specs.Stored.{quanta_at}
 use Rattle.apfloat_unpacked.proofs.ShapeExponents.{exponent_word}
 use Rattle.apfloat_conversions.proofs.Nexts.{room_below}
 use Rattle.apfloat_conversions.proofs.Steps.{IsBefore, step_below, before_stays, before_lowers, before_stored, before_is, before_least}
 use Rattle.apfloat_conversions.proofs.neighbours.next_less.Goals as goal
+
+pub integer_bit-requires : goal.integer_bit-requires
+integer_bit-requires c = c.requires.lawful
+
+pub step-requires-clause-lawful : goal.step-requires-clause-lawful
+step-requires-clause-lawful c = c.requires.lawful
+
+pub step-requires-clause-least : goal.step-requires-clause-least
+step-requires-clause-least c = omega (arith, ints, c.requires.normal.operand.least)
+
+pub step-requires-clause-greatest : goal.step-requires-clause-greatest
+step-requires-clause-greatest c = omega (arith, ints, c.requires.normal.operand.greatest)
+
+pub least_exponent-requires : goal.least_exponent-requires
+least_exponent-requires c = c.requires.lawful
+
+pub returns-then-x-least_exponent-clause-stored : goal.returns-then-x-least_exponent-clause-stored
+returns-then-x-least_exponent-clause-stored c = c.zero_of.ensures.stored
+
+pub lowered-exponent-requires : goal.lowered-exponent-requires
+lowered-exponent-requires c = omega (arith, ints, c.requires.lawful.min_exp_low, c.requires.lawful.precision_high, c.requires.normal.operand.least)
+
+pub power_of_two-requires : goal.power_of_two-requires
+power_of_two-requires c = omega (arith, c.requires.lawful.precision_high)
+
+pub step-requires-2-clause-lawful : goal.step-requires-2-clause-lawful
+step-requires-2-clause-lawful c = c.requires.lawful
+
+pub step-requires-2-clause-greatest : goal.step-requires-2-clause-greatest
+step-requires-2-clause-greatest c = omega (arith, ints, c.requires.normal.operand.greatest, c.lowered-exponent.ensures)
 
 pub overflow_sub-result : goal.overflow_sub-result
 overflow_sub-result c =

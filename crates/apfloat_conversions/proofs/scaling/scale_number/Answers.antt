@@ -1,10 +1,46 @@
-use Rattle.std.proofs.Common.{◌≡◌, ◌-◌, pos, ◌+ℤ◌, ◌-ℤ◌, to_z, of_z, w32}
-use Rattle.std.proofs.lemmas.Int.{to_z-of_z}
+use Rattle.std.proofs.Common.{◌≡◌, ◌-◌, pos, ◌+ℤ◌, ◌-ℤ◌, to_z, of_z, w32, inl, refl, arith}
+use Rattle.std.proofs.lemmas.Int.{to_z-of_z, ints}
 use Rattle.apfloat_base.specs.Flags.{bits_of}
 use Rattle.apfloat_unpacked.specs.Stored.{datum_at}
 use Rattle.apfloat_unpacked.proofs.ShapeExponents.{exponent_word}
 use Rattle.apfloat_conversions.proofs.Operands.{scale_delivered}
 use Rattle.apfloat_conversions.proofs.scaling.scale_number.Goals as goal
+
+pub moved-requires-clause-near : goal.moved-requires-clause-near
+moved-requires-clause-near c = omega (arith, ints, c.requires.lawful.max_exp_high, c.requires.normal.operand.greatest)
+
+pub moved-requires-clause-far : goal.moved-requires-clause-far
+moved-requires-clause-far c = omega (arith, ints, c.requires.lawful.min_exp_low, c.requires.lawful.precision_high, c.requires.normal.operand.least)
+
+pub moved-requires-clause-low : goal.moved-requires-clause-low
+moved-requires-clause-low c = omega (arith, ints, c.clamped-near.ensures.low)
+
+pub moved-requires-clause-high : goal.moved-requires-clause-high
+moved-requires-clause-high c = omega (arith, ints, c.clamped-near.ensures.high)
+
+pub last_exponent-exponent-requires-clause-lawful : goal.last_exponent-exponent-requires-clause-lawful
+last_exponent-exponent-requires-clause-lawful c = c.requires.lawful
+
+pub last_exponent-exponent-requires-clause-near : goal.last_exponent-exponent-requires-clause-near
+last_exponent-exponent-requires-clause-near c = omega (arith, ints, c.moved.ensures.near)
+
+pub last_exponent-exponent-requires-clause-far : goal.last_exponent-exponent-requires-clause-far
+last_exponent-exponent-requires-clause-far c = omega (arith, ints, c.moved.ensures.far)
+
+pub deliver-requires-clause-lawful : goal.deliver-requires-clause-lawful
+deliver-requires-clause-lawful c = c.requires.lawful
+
+pub deliver-requires-clause-near : goal.deliver-requires-clause-near
+deliver-requires-clause-near c = omega (arith, ints, c.last_exponent-exponent.ensures.near)
+
+pub deliver-requires-clause-far : goal.deliver-requires-clause-far
+deliver-requires-clause-far c = omega (arith, ints, c.last_exponent-exponent.ensures.far)
+
+pub deliver-requires-clause-fine : goal.deliver-requires-clause-fine
+deliver-requires-clause-fine c = inl refl
+
+pub returns-clause-stored : goal.returns-clause-stored
+returns-clause-stored c = c.deliver.ensures.stored
 
 pub returns-clause-delivered : goal.returns-clause-delivered
 returns-clause-delivered c =

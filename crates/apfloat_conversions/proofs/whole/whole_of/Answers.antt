@@ -10,6 +10,42 @@ use Rattle.apfloat_conversions.proofs.Operands.{fraction_places}
 use Rattle.apfloat_conversions.proofs.Wholes.{too_large, places_up, whole_exactly, exactly_so}
 use Rattle.apfloat_conversions.proofs.whole.whole_of.Goals as goal
 
+pub last_exponent-exponent-requires-clause-lawful : goal.last_exponent-exponent-requires-clause-lawful
+last_exponent-exponent-requires-clause-lawful c = c.requires.lawful
+
+pub last_exponent-exponent-requires-clause-near : goal.last_exponent-exponent-requires-clause-near
+last_exponent-exponent-requires-clause-near c = omega (arith, ints, c.requires.lawful.max_exp_high, c.requires.normal.operand.greatest)
+
+pub last_exponent-exponent-requires-clause-far : goal.last_exponent-exponent-requires-clause-far
+last_exponent-exponent-requires-clause-far c = omega (arith, ints, c.requires.lawful.min_exp_low, c.requires.lawful.precision_high, c.requires.normal.operand.least)
+
+pub steps_between-requires-clause-above : goal.steps_between-requires-clause-above
+steps_between-requires-clause-above c = omega (arith, ints)
+
+pub steps_between-requires-clause-near : goal.steps_between-requires-clause-near
+steps_between-requires-clause-near c = omega (arith, ints, c.last_exponent-exponent.ensures.near)
+
+pub steps_between-requires-clause-far : goal.steps_between-requires-clause-far
+steps_between-requires-clause-far c = omega (arith, ints)
+
+pub raised-requires-clause-some : goal.raised-requires-clause-some
+raised-requires-clause-some c = omega (arith, c.requires.lawful.precision_low)
+
+pub raised-requires-clause-fits : goal.raised-requires-clause-fits
+raised-requires-clause-fits c = c.requires.normal.operand.fits
+
+pub raised-requires-clause-near : goal.raised-requires-clause-near
+raised-requires-clause-near c = omega (arith, ints, c.requires.lawful.precision_low, c.last_exponent-exponent.ensures.value, c.steps_between.ensures)
+
+pub steps_between-requires-2-clause-above : goal.steps_between-requires-2-clause-above
+steps_between-requires-2-clause-above c = omega (arith, ints)
+
+pub steps_between-requires-2-clause-near : goal.steps_between-requires-2-clause-near
+steps_between-requires-2-clause-near c = omega (arith, ints)
+
+pub steps_between-requires-2-clause-far : goal.steps_between-requires-2-clause-far
+steps_between-requires-2-clause-far c = omega (arith, ints, c.last_exponent-exponent.ensures.far)
+
 pub returns-then-x-ge128 : goal.returns-then-x-ge128
 returns-then-x-ge128 c =
     let s = c.args.shape in
