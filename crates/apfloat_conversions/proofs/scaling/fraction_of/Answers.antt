@@ -1,4 +1,4 @@
-use Rattle.std.proofs.Common.{false, ◌≡◌, eqb, arith}
+use Rattle.std.proofs.Common.{false, ◌≡◌, eqb, arith, refl}
 use Rattle.std.proofs.lemmas.Bool.{ne_eqb}
 use Rattle.apfloat_unpacked.specs.Stored.{quanta_at}
 use Rattle.apfloat_unpacked.specs.StoredBack.{quanta_some}
@@ -11,3 +11,6 @@ returns-in-Normal-clause-fraction c =
     let p = quanta_some s c.args.x.significand c.args.x.exponent n in
     let z : eqb (quanta_at s.min_exp c.args.x.significand c.args.x.exponent) 0 ≡ false = ne_eqb _ 0 (λ q. omega (arith, p, q)) in
     rw (c.in-Normal.is, z) c.number_fraction.ensures.fraction
+
+pub returns-in-Infinity-clause-fraction : goal.returns-in-Infinity-clause-fraction
+returns-in-Infinity-clause-fraction c = rw c.in-Infinity.is (refl, refl)

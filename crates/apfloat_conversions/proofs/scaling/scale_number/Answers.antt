@@ -13,28 +13,28 @@ pub moved-requires-clause-far : goal.moved-requires-clause-far
 moved-requires-clause-far c = omega (arith, ints, c.requires.lawful.min_exp_low, c.requires.lawful.precision_high, c.requires.normal.operand.least)
 
 pub moved-requires-clause-low : goal.moved-requires-clause-low
-moved-requires-clause-low c = omega (arith, ints, c.clamped-near.ensures.low)
+moved-requires-clause-low c = rw (to_z-of_z w32 c.clamped-near.result (record { sfits = c.clamped-near.type_inv })) c.clamped-near.ensures.low
 
 pub moved-requires-clause-high : goal.moved-requires-clause-high
-moved-requires-clause-high c = omega (arith, ints, c.clamped-near.ensures.high)
+moved-requires-clause-high c = rw (to_z-of_z w32 c.clamped-near.result (record { sfits = c.clamped-near.type_inv })) c.clamped-near.ensures.high
 
 pub last_exponent-exponent-requires-clause-lawful : goal.last_exponent-exponent-requires-clause-lawful
 last_exponent-exponent-requires-clause-lawful c = c.requires.lawful
 
 pub last_exponent-exponent-requires-clause-near : goal.last_exponent-exponent-requires-clause-near
-last_exponent-exponent-requires-clause-near c = omega (arith, ints, c.moved.ensures.near)
+last_exponent-exponent-requires-clause-near c = rw (to_z-of_z w32 c.moved.result (record { sfits = c.moved.type_inv })) c.moved.ensures.near
 
 pub last_exponent-exponent-requires-clause-far : goal.last_exponent-exponent-requires-clause-far
-last_exponent-exponent-requires-clause-far c = omega (arith, ints, c.moved.ensures.far)
+last_exponent-exponent-requires-clause-far c = rw (to_z-of_z w32 c.moved.result (record { sfits = c.moved.type_inv })) c.moved.ensures.far
 
 pub deliver-requires-clause-lawful : goal.deliver-requires-clause-lawful
 deliver-requires-clause-lawful c = c.requires.lawful
 
 pub deliver-requires-clause-near : goal.deliver-requires-clause-near
-deliver-requires-clause-near c = omega (arith, ints, c.last_exponent-exponent.ensures.near)
+deliver-requires-clause-near c = rw (to_z-of_z w32 c.last_exponent-exponent.result (record { sfits = c.last_exponent-exponent.type_inv })) c.last_exponent-exponent.ensures.near
 
 pub deliver-requires-clause-far : goal.deliver-requires-clause-far
-deliver-requires-clause-far c = omega (arith, ints, c.last_exponent-exponent.ensures.far)
+deliver-requires-clause-far c = rw (to_z-of_z w32 c.last_exponent-exponent.result (record { sfits = c.last_exponent-exponent.type_inv })) c.last_exponent-exponent.ensures.far
 
 pub deliver-requires-clause-fine : goal.deliver-requires-clause-fine
 deliver-requires-clause-fine c = inl refl

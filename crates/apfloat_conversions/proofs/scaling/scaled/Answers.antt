@@ -1,6 +1,41 @@
+use Rattle.std.proofs.Common.{w32}
+use Rattle.std.proofs.lemmas.Int.{to_z-of_z}
 use Rattle.apfloat_unpacked.specs.Shapes.{format_at}
 use Rattle.apfloat_conversions.proofs.Operands.{zero_scaled}
+use Rattle.apfloat_base.specs.Flags.{bits_of}
 use Rattle.apfloat_conversions.proofs.scaling.scaled.Goals as goal
+
+pub scale_number-requires-clause-lawful : goal.scale_number-requires-clause-lawful
+scale_number-requires-clause-lawful c = c.requires.lawful
+
+pub scale_number-requires-clause-normal : goal.scale_number-requires-clause-normal
+scale_number-requires-clause-normal c = rw c.in-Normal.is at c.requires.stored
+
+pub propagated-requires-clause-lawful : goal.propagated-requires-clause-lawful
+propagated-requires-clause-lawful c = c.requires.lawful
+
+pub propagated-requires-clause-stored : goal.propagated-requires-clause-stored
+propagated-requires-clause-stored c = c.requires.stored
+
+pub propagated-requires-clause-nan : goal.propagated-requires-clause-nan
+propagated-requires-clause-nan c = c.in-NaN.is
+
+pub returns-in-Normal-clause-stored : goal.returns-in-Normal-clause-stored
+returns-in-Normal-clause-stored c = c.scale_number.ensures.stored
+
+pub returns-in-Normal-clause-scaled : goal.returns-in-Normal-clause-scaled
+returns-in-Normal-clause-scaled c =
+    let d = rw (to_z-of_z w32 c.args.places c.ranges.places) at c.scale_number.ensures.delivered in
+    rw c.in-Normal.is (bits_of c.scale_number.result.status, d)
+
+pub returns-in-NaN-clause-stored : goal.returns-in-NaN-clause-stored
+returns-in-NaN-clause-stored c = c.propagated.ensures.stored
+
+pub returns-in-Zero-clause-stored : goal.returns-in-Zero-clause-stored
+returns-in-Zero-clause-stored c = c.requires.stored
+
+pub returns-in-Infinity-clause-stored : goal.returns-in-Infinity-clause-stored
+returns-in-Infinity-clause-stored c = c.requires.stored
 
 pub returns-in-Zero-clause-scaled : goal.returns-in-Zero-clause-scaled
 returns-in-Zero-clause-scaled c =
