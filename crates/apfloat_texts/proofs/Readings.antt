@@ -1,5 +1,6 @@
 -- What was read of a text is what the model says of it.
-use Rattle.std.proofs.Common.{◌≡◌, ℕ, ◌*◌, Bool, false, refl, sym, List, [], ◌∷◌, length, drop, ◌==◌, None, ℤ, pos, negsuc, neg_ℤ, ◌+ℤ◌, ◌-ℤ◌, ◌≤ℤ◌, ◌^◌, ◌<◌, ◌≤◌, arith, FitsSigned}
+use Rattle.std.proofs.Common.{◌≡◌, ℕ, ◌*◌, Bool, true, false, refl, sym, List, [], ◌∷◌, length, drop, ◌==◌, None, ℤ, pos, negsuc, neg_ℤ, ◌+ℤ◌, ◌-ℤ◌, ◌≤ℤ◌, ◌^◌, ◌<◌, ◌≤◌, arith, FitsSigned}
+use Rattle.std.proofs.lemmas.Bool.{eqb-true}
 use Rattle.std.proofs.lemmas.Int.{ints}
 use Rattle.std.specs.Int.{w128}
 use Rattle.apfloat_base.specs.declared.kinds.Round.{Round}
@@ -34,6 +35,12 @@ literal_read shape mode negative rest tail significand loss cut places some answ
       stored = stored;
       delivered = rw (s.tail_is, s.places_are) d;
     }
+
+pub empty_text : (rest : List ℕ) → true ≡ (length rest == 0) → is_empty rest ≡ true
+empty_text [] h = refl
+empty_text (c ∷ rest) h =
+    let e = eqb-true (length (c ∷ rest)) 0 (sym h) in
+    absurd (omega (arith, e))
 
 pub some_text : (rest : List ℕ) → false ≡ (length rest == 0) → is_empty rest ≡ false
 some_text [] h = sym h

@@ -1,7 +1,29 @@
+use Rattle.std.proofs.Common.{refl}
 use Rattle.std.specs.Int.{w128}
 use Rattle.std.proofs.lemmas.Int.{to_z-of_z}
-use Rattle.apfloat_texts.proofs.Readings.{literal_read, some_text, exponent_fits}
+use Rattle.apfloat_texts.proofs.Readings.{literal_read, empty_text, some_text, exponent_fits}
 use Rattle.apfloat_texts.proofs.literal.read_literal.Goals as goal
+
+pub returns-then-is_empty : goal.returns-then-is_empty
+returns-then-is_empty c = rw (empty_text c.args.rest.now c.if-is_empty.ensures) refl
+
+pub delivered-requires-clause-lawful : goal.delivered-requires-clause-lawful
+delivered-requires-clause-lawful c = c.requires
+
+pub delivered-requires-clause-kept : goal.delivered-requires-clause-kept
+delivered-requires-clause-kept c =
+    let s = c.in_ok-scan.ensures in
+    (_, s.kept)
+
+pub delivered-requires-clause-high : goal.delivered-requires-clause-high
+delivered-requires-clause-high c =
+    let e = c.in_ok-exponent.ensures in
+    rw (to_z-of_z w128 c.in_ok-exponent.exponent (exponent_fits c.in_ok-exponent.exponent e.1 e.2)) e.1
+
+pub delivered-requires-clause-low : goal.delivered-requires-clause-low
+delivered-requires-clause-low c =
+    let e = c.in_ok-exponent.ensures in
+    rw (to_z-of_z w128 c.in_ok-exponent.exponent (exponent_fits c.in_ok-exponent.exponent e.1 e.2)) e.2
 
 pub returns : goal.returns
 returns c =
