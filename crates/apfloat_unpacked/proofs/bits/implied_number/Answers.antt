@@ -7,7 +7,36 @@ use Rattle.apfloat_base.proofs.Existence.{two_pos}
 use Rattle.apfloat_base.proofs.Ranges.{low_within}
 use Rattle.apfloat_base.proofs.Deliveries.{signed_some}
 use Rattle.apfloat_unpacked.specs.Shapes.{format_at}
+use Rattle.apfloat_base.proofs.Losses.{twice_half}
 use Rattle.apfloat_unpacked.proofs.bits.implied_number.Goals as goal
+
+pub quanta_of-requires-clause-lawful : goal.quanta_of-requires-clause-lawful
+quanta_of-requires-clause-lawful c = c.requires.lawful
+
+pub quanta_of-requires-clause-fits : goal.quanta_of-requires-clause-fits
+quanta_of-requires-clause-fits c =
+    let t = twice_half c.args.shape.precision (omega (arith, c.requires.lawful.precision_low)) in
+    omega (arith, t, c.requires.trailing)
+
+pub quanta_of-requires-clause-near : goal.quanta_of-requires-clause-near
+quanta_of-requires-clause-near c = omega arith
+
+pub integer_bit-requires : goal.integer_bit-requires
+integer_bit-requires c = c.requires.lawful
+
+pub quanta_of-requires-else-fields-eq0-clause-lawful : goal.quanta_of-requires-else-fields-eq0-clause-lawful
+quanta_of-requires-else-fields-eq0-clause-lawful c = c.requires.lawful
+
+pub quanta_of-requires-else-fields-eq0-clause-fits : goal.quanta_of-requires-else-fields-eq0-clause-fits
+quanta_of-requires-else-fields-eq0-clause-fits c =
+    let t = twice_half c.args.shape.precision (omega (arith, c.requires.lawful.precision_low)) in
+    omega (arith, t, c.requires.trailing, c.integer_bit.ensures)
+
+pub returns-then-fields-eq0-clause-stored : goal.returns-then-fields-eq0-clause-stored
+returns-then-fields-eq0-clause-stored c = c.quanta_of.ensures.stored
+
+pub returns-else-fields-eq0-clause-stored : goal.returns-else-fields-eq0-clause-stored
+returns-else-fields-eq0-clause-stored c = c.quanta_of-else-fields-eq0.ensures.stored
 
 pub quanta_of-requires-clause-within : goal.quanta_of-requires-clause-within
 quanta_of-requires-clause-within c = low_within (format_at c.args.shape) c.args.fields.trailing c.requires.lawful.precision_low c.requires.trailing

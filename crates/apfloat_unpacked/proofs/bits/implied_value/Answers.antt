@@ -7,6 +7,54 @@ use Rattle.apfloat_unpacked.specs.Encoded.{layout_at}
 use Rattle.apfloat_unpacked.proofs.bits.implied_value.Goals as goal
 use Rattle.apfloat_unpacked.proofs.bits.implied_value.Goals.{else-is_greatest-via-then-is_greatest+else-fields-ones, else-is_greatest-via-else-is_greatest}
 
+pub implied_number-requires-clause-lawful : goal.implied_number-requires-clause-lawful
+implied_number-requires-clause-lawful c = c.requires.lawful
+
+pub implied_number-requires-clause-interchange : goal.implied_number-requires-clause-interchange
+implied_number-requires-clause-interchange c = c.requires.interchange
+
+pub implied_number-requires-clause-biased : goal.implied_number-requires-clause-biased
+implied_number-requires-clause-biased c = c.requires.within.biased_exponent
+
+pub implied_number-requires-clause-trailing : goal.implied_number-requires-clause-trailing
+implied_number-requires-clause-trailing c = rw c.requires.implied at c.requires.within.trailing
+
+pub implied_number-requires-else-is_greatest-clause-lawful : goal.implied_number-requires-else-is_greatest-clause-lawful
+implied_number-requires-else-is_greatest-clause-lawful c = c.requires.lawful
+
+pub implied_number-requires-else-is_greatest-clause-interchange : goal.implied_number-requires-else-is_greatest-clause-interchange
+implied_number-requires-else-is_greatest-clause-interchange c = c.requires.interchange
+
+pub implied_number-requires-else-is_greatest-clause-biased : goal.implied_number-requires-else-is_greatest-clause-biased
+implied_number-requires-else-is_greatest-clause-biased c = c.requires.within.biased_exponent
+
+pub implied_number-requires-else-is_greatest-clause-trailing : goal.implied_number-requires-else-is_greatest-clause-trailing
+implied_number-requires-else-is_greatest-clause-trailing c = rw c.requires.implied at c.requires.within.trailing
+
+pub implied_number-requires-else-fields-clause-lawful : goal.implied_number-requires-else-fields-clause-lawful
+implied_number-requires-else-fields-clause-lawful c = c.requires.lawful
+
+pub implied_number-requires-else-fields-clause-interchange : goal.implied_number-requires-else-fields-clause-interchange
+implied_number-requires-else-fields-clause-interchange c = c.requires.interchange
+
+pub implied_number-requires-else-fields-clause-biased : goal.implied_number-requires-else-fields-clause-biased
+implied_number-requires-else-fields-clause-biased c = c.requires.within.biased_exponent
+
+pub implied_number-requires-else-fields-clause-trailing : goal.implied_number-requires-else-fields-clause-trailing
+implied_number-requires-else-fields-clause-trailing c = rw c.requires.implied at c.requires.within.trailing
+
+pub infinity_of-requires : goal.infinity_of-requires
+infinity_of-requires c = c.requires.lawful
+
+pub returns-then-not-is_greatest-clause-stored : goal.returns-then-not-is_greatest-clause-stored
+returns-then-not-is_greatest-clause-stored c = c.implied_number.ensures.stored
+
+pub returns-else-is_greatest-clause-stored : goal.returns-else-is_greatest-clause-stored
+returns-else-is_greatest-clause-stored c = c.implied_number-else-is_greatest.ensures.stored
+
+pub returns-else-fields-clause-stored : goal.returns-else-fields-clause-stored
+returns-else-fields-clause-stored c = c.implied_number-else-fields.ensures.stored
+
 pub implied_number-requires-clause-within : goal.implied_number-requires-clause-within
 implied_number-requires-clause-within c p =
     let f = format_at c.args.shape in

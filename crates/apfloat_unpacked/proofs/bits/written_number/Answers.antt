@@ -1,9 +1,36 @@
-use Rattle.std.proofs.Common.{◌^◌, ◌<◌}
+use Rattle.std.proofs.Common.{◌^◌, ◌<◌, arith}
 use Rattle.apfloat_base.proofs.EncodedOnce.{explicit_kind}
 use Rattle.apfloat_base.proofs.Ranges.{ieee_within}
 use Rattle.apfloat_unpacked.specs.Shapes.{format_at}
 use Rattle.apfloat_unpacked.specs.Encoded.{layout_at}
 use Rattle.apfloat_unpacked.proofs.bits.written_number.Goals as goal
+
+pub quanta_of-requires-clause-lawful : goal.quanta_of-requires-clause-lawful
+quanta_of-requires-clause-lawful c = c.requires.lawful
+
+pub quanta_of-requires-clause-near : goal.quanta_of-requires-clause-near
+quanta_of-requires-clause-near c = omega arith
+
+pub integer_bit-requires : goal.integer_bit-requires
+integer_bit-requires c = c.requires.lawful
+
+pub quanta_of-requires-then-integer_bit-fields-clause-lawful : goal.quanta_of-requires-then-integer_bit-fields-clause-lawful
+quanta_of-requires-then-integer_bit-fields-clause-lawful c = c.requires.lawful
+
+pub quanta_of-requires-clause-fits : goal.quanta_of-requires-clause-fits
+quanta_of-requires-clause-fits c = rw c.requires.explicit at c.requires.within.trailing
+
+pub quanta_of-requires-then-integer_bit-fields-clause-fits : goal.quanta_of-requires-then-integer_bit-fields-clause-fits
+quanta_of-requires-then-integer_bit-fields-clause-fits c = rw c.requires.explicit at c.requires.within.trailing
+
+pub returns-then-fields-eq0-clause-stored : goal.returns-then-fields-eq0-clause-stored
+returns-then-fields-eq0-clause-stored c = c.quanta_of.ensures.stored
+
+pub returns-then-integer_bit-fields-clause-stored : goal.returns-then-integer_bit-fields-clause-stored
+returns-then-integer_bit-fields-clause-stored c = c.quanta_of-then-integer_bit-fields.ensures.stored
+
+pub returns-else-integer_bit-fields-clause-stored : goal.returns-else-integer_bit-fields-clause-stored
+returns-else-integer_bit-fields-clause-stored c = c.nan_of.ensures.stored
 
 pub quanta_of-requires-then-integer_bit-fields-clause-within : goal.quanta_of-requires-then-integer_bit-fields-clause-within
 quanta_of-requires-then-integer_bit-fields-clause-within c =
