@@ -4,6 +4,9 @@ use Rattle.apfloat_texts.proofs.Parentheses.{inside_is, within, without_start, w
 use Rattle.apfloat_texts.proofs.payload.payload.Goals as goal
 use Rattle.apfloat_texts.proofs.payload.payload.Goals.{in_default-via-then-text-lt2, in_default-via-else-text-lt2+in-40+in_default-1, in_default-via-else-text-lt2+in_default-1}
 
+pub returns-in-empty : goal.returns-in-empty
+returns-in-empty c = search rules
+
 pub returns-in-40 : goal.returns-in-40
 returns-in-40 c =
     c.plain.ensures ∙ ap plain_payload (inside_is c.args.text.now) ∙ sym (within c.args.text.now (search rules) (search rules) (search rules))
