@@ -1,9 +1,27 @@
 use Rattle.std.proofs.Common.{◌≡◌, ◌+◌, to_z, of_z, w32, arith}
-use Rattle.std.proofs.lemmas.Int.{to_z-of_z}
+use Rattle.std.proofs.lemmas.Int.{to_z-of_z, ints}
 use Rattle.apfloat_unpacked.specs.Stored.{quanta_at}
 use Rattle.apfloat_unpacked.proofs.ShapeExponents.{exponent_word}
 use Rattle.apfloat_conversions.proofs.Steps.{IsAfter, step_fits, after_stays, after_carries, after_stored, after_is}
 use Rattle.apfloat_conversions.proofs.neighbours.next_greater.Goals as goal
+
+pub step-requires-clause-lawful : goal.step-requires-clause-lawful
+step-requires-clause-lawful c = c.requires.lawful
+
+pub step-requires-clause-least : goal.step-requires-clause-least
+step-requires-clause-least c = omega (arith, ints, c.requires.normal.operand.least)
+
+pub step-requires-clause-greatest : goal.step-requires-clause-greatest
+step-requires-clause-greatest c = omega (arith, ints, c.requires.normal.operand.greatest)
+
+pub power_of_two-requires : goal.power_of_two-requires
+power_of_two-requires c = omega (arith, c.requires.lawful.precision_high)
+
+pub integer_bit-requires : goal.integer_bit-requires
+integer_bit-requires c = c.requires.lawful
+
+pub raised-requires : goal.raised-requires
+raised-requires c = omega (arith, ints, c.requires.lawful.max_exp_high, c.requires.normal.operand.greatest)
 
 pub overflow_add-significand : goal.overflow_add-significand
 overflow_add-significand c =
