@@ -11,7 +11,7 @@ use apfloat_unpacked::shape::Shape;
 use apfloat_unpacked::unpacked::Unpacked;
 
 /// Whether a number is below the smallest one whose significand has all digits.
-#[inline]
+#[inline(always)]
 fn is_below_normal(shape: Shape, x: Unpacked) -> bool
     requires lawful { IsShape shape }
     requires normal { IsNormal shape x.significand x.exponent }
@@ -21,7 +21,7 @@ fn is_below_normal(shape: Shape, x: Unpacked) -> bool
 }
 
 /// Whether the value is a number, not zero, and of less magnitude than the smallest normalized one.
-#[inline]
+#[inline(always)]
 pub fn is_denormal(shape: Shape, x: Unpacked) -> bool
     requires lawful { IsShape shape }
     requires stored { IsStored shape x }

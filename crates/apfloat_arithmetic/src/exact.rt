@@ -15,7 +15,7 @@ use apfloat_unpacked::shape::Shape;
 use apfloat_unpacked::unpacked::{Unpacked, infinity_of, zero_of};
 
 /// A zero that is exact, with that sign where the format has one for it.
-#[inline]
+#[inline(always)]
 pub fn exact_zero(shape: Shape, negative: bool) -> StatusAnd<Unpacked>
     requires { IsShape shape }
     ensures stored { IsStored shape result.value }
@@ -26,7 +26,7 @@ pub fn exact_zero(shape: Shape, negative: bool) -> StatusAnd<Unpacked>
 }
 
 /// The infinity of that sign, exact, of a format that has it.
-#[inline]
+#[inline(always)]
 pub fn exact_infinity(shape: Shape, negative: bool) -> StatusAnd<Unpacked>
     requires lawful { IsShape shape }
     requires infinities { shape.nonfinite ≡ IEEE754 }

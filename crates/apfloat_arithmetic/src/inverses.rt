@@ -12,7 +12,7 @@ use apfloat_unpacked::shape::Shape;
 use apfloat_unpacked::unpacked::Unpacked;
 
 /// Whether a number is a power of two, and neither it nor its inverse is denormal or too large for the format.
-#[inline]
+#[inline(always)]
 fn is_invertible(shape: Shape, x: Unpacked) -> bool
     requires lawful { IsShape shape }
     requires normal { IsNormal shape x.significand x.exponent }
@@ -26,7 +26,7 @@ fn is_invertible(shape: Shape, x: Unpacked) -> bool
 }
 
 /// The inverse of a power of two, where both of them are numbers of the format and not denormal.
-#[inline]
+#[inline(always)]
 pub fn exact_inverse(shape: Shape, x: Unpacked) -> Option<Unpacked>
     requires lawful { IsShape shape }
     requires stored { IsStored shape x }

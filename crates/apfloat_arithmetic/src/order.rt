@@ -16,7 +16,7 @@ use std::cmp::Ordering;
 
 /// The order of two numbers by what is stored of them: their significands have all digits, so that the exponents come
 /// first.
-#[inline]
+#[inline(always)]
 fn compare_significands(x: Unpacked, y: Unpacked) -> Ordering
     ensures { (shape : Shape) → IsNormal shape x.significand x.exponent → IsNormal shape y.significand y.exponent → result ≡ nat_cmp (quanta_at shape.min_exp x.significand x.exponent) (quanta_at shape.min_exp y.significand y.exponent) }
 {
@@ -26,7 +26,7 @@ fn compare_significands(x: Unpacked, y: Unpacked) -> Ordering
 }
 
 /// The order of the magnitudes of two finite values that are not zero.
-#[inline]
+#[inline(always)]
 pub fn compare_magnitudes(x: Unpacked, y: Unpacked) -> Ordering
     requires left { x.category ≡ Normal }
     requires right { y.category ≡ Normal }
@@ -35,7 +35,7 @@ pub fn compare_magnitudes(x: Unpacked, y: Unpacked) -> Ordering
     compare_significands(x, y)
 }
 
-#[inline]
+#[inline(always)]
 fn is_nan(x: Unpacked) -> bool
     ensures { (shape : Shape) → result ≡ is_nan (datum_at shape x) }
 {
@@ -48,7 +48,7 @@ fn is_nan(x: Unpacked) -> bool
 }
 
 /// Where a value stands: below the numbers, among the negative ones, at zero, among the positive ones, above them.
-#[inline]
+#[inline(always)]
 fn side(x: Unpacked) -> u8
     ensures { (shape : Shape) → IsStored shape x → result ≡ side (datum_at shape x) }
 {
@@ -61,7 +61,7 @@ fn side(x: Unpacked) -> u8
 }
 
 /// The order of two values that stand on one side.
-#[inline]
+#[inline(always)]
 fn compare_beside(x: Unpacked, y: Unpacked) -> Ordering
     ensures { (shape : Shape) → IsStored shape x → IsStored shape y → side (datum_at shape x) ≡ side (datum_at shape y) → result ≡ int_cmp (number (datum_at shape x)) (number (datum_at shape y)) }
 {
@@ -81,7 +81,7 @@ fn compare_beside(x: Unpacked, y: Unpacked) -> Ordering
 
 /// The order of two values as numbers: both zeros are equal, the infinities stand at the ends, and a NaN beside none
 /// (IEEE 754-2008 5.11).
-#[inline]
+#[inline(always)]
 pub fn compare(x: Unpacked, y: Unpacked) -> Option<Ordering>
     ensures { (shape : Shape) → IsStored shape x → IsStored shape y → result ≡ compared (datum_at shape x) (datum_at shape y) }
 {
@@ -91,7 +91,7 @@ pub fn compare(x: Unpacked, y: Unpacked) -> Option<Ordering>
     Some(side(x).cmp(&side(y)).then(compare_beside(x, y)))
 }
 
-#[inline]
+#[inline(always)]
 fn same_category(x: Category, y: Category) -> bool
     ensures { Decides result (x ≡ y) }
 {
@@ -99,7 +99,7 @@ fn same_category(x: Category, y: Category) -> bool
 }
 
 /// Whether two values have one class and one sign.
-#[inline]
+#[inline(always)]
 fn same_class(x: Unpacked, y: Unpacked) -> bool
     ensures { Decides result ((x.category ≡ y.category) × (x.negative ≡ y.negative)) }
 {
@@ -107,7 +107,7 @@ fn same_class(x: Unpacked, y: Unpacked) -> bool
 }
 
 /// Whether two values have one significand and one exponent.
-#[inline]
+#[inline(always)]
 fn same_number(x: Unpacked, y: Unpacked) -> bool
     ensures { Decides result ((x.significand ≡ y.significand) × (x.exponent ≡ y.exponent)) }
 {
@@ -115,7 +115,7 @@ fn same_number(x: Unpacked, y: Unpacked) -> bool
 }
 
 /// Whether two values are one: of one class and sign, and with the same number or the same significand of a NaN.
-#[inline]
+#[inline(always)]
 pub fn is_same(x: Unpacked, y: Unpacked) -> bool
     ensures { (shape : Shape) → IsStored shape x → IsStored shape y → result ≡ same_datum (datum_at shape x) (datum_at shape y) }
 {

@@ -19,7 +19,7 @@ use apfloat_unpacked::shape::Shape;
 use apfloat_unpacked::unpacked::{Unpacked, infinity_of};
 
 /// The exponent of the last digit of a quotient with so many places below the exponents' difference.
-#[inline]
+#[inline(always)]
 fn quotient_exponent(left: ExpInt, right: ExpInt, places: u32) -> ExpInt
     requires left_near { left ≤ℤ pos 1048576 }
     requires left_far { neg_ℤ (pos 1048701) ≤ℤ left }
@@ -36,7 +36,7 @@ fn quotient_exponent(left: ExpInt, right: ExpInt, places: u32) -> ExpInt
 /// The quotient of two finite numbers that are not zero, rounded once.
 ///
 /// One place more than the precision is enough for all the digits of the format, whatever the significands are.
-#[inline]
+#[inline(always)]
 fn divide_numbers(shape: Shape, x: Unpacked, y: Unpacked, round: Round) -> StatusAnd<Unpacked>
     requires lawful { IsShape shape }
     requires left { IsNormal shape x.significand x.exponent }
@@ -57,7 +57,7 @@ fn divide_numbers(shape: Shape, x: Unpacked, y: Unpacked, round: Round) -> Statu
 }
 
 /// A finite number that is not zero, divided by a zero (7.3).
-#[inline]
+#[inline(always)]
 fn divided_by_zero(shape: Shape, negative: bool) -> StatusAnd<Unpacked>
     requires { IsShape shape }
     ensures stored { IsStored shape result.value }
@@ -67,7 +67,7 @@ fn divided_by_zero(shape: Shape, negative: bool) -> StatusAnd<Unpacked>
 }
 
 /// The quotient of two values, rounded once (IEEE 754-2008 5.4.1, division).
-#[inline]
+#[inline(always)]
 pub fn divide(shape: Shape, x: Unpacked, y: Unpacked, round: Round) -> StatusAnd<Unpacked>
     requires lawful { IsShape shape }
     requires left { IsStored shape x }

@@ -28,7 +28,7 @@ struct Point {
 }
 
 /// The same number with its digits moved up, to the precision or to the least place.
-#[inline]
+#[inline(always)]
 fn raised(precision: u32, point: Point, least: u32) -> Point
     requires precise { precision ≤ 125 }
     requires fits { point.significand < 2 ^ precision }
@@ -55,7 +55,7 @@ fn raised(precision: u32, point: Point, least: u32) -> Point
 }
 
 /// What is left after the greatest multiple of the divisor by a power of two that is not above the rest.
-#[inline]
+#[inline(always)]
 fn less_multiple(rest: Point, divisor: Point) -> Point
     requires narrow { rest.significand < 2 ^ 126 }
     requires close { rest.significand < 2 * divisor.significand }
@@ -129,7 +129,7 @@ fn rest_by(precision: u32, x: Point, y: Point) -> Rest
 }
 
 /// Whether the upper neighbour is the nearest, a tie to the even one.
-#[inline]
+#[inline(always)]
 fn is_upper_nearest(below_by: u128, above_by: u128, odd: bool) -> bool
     ensures { result ≡ takes_above Round.NearestTiesToEven false below_by above_by odd }
 {
@@ -188,7 +188,7 @@ fn nearest_by(precision: u32, x: Point, y: Point) -> Nearest
 }
 
 /// An operand at its place.
-#[inline]
+#[inline(always)]
 fn point_of(shape: Shape, x: Unpacked) -> Point
     requires lawful { IsShape shape }
     requires operand { IsOperandAt shape.precision shape.min_exp shape.max_exp x.significand x.exponent }
@@ -203,7 +203,7 @@ fn point_of(shape: Shape, x: Unpacked) -> Point
 }
 
 /// The same number in quanta, where it is a whole number of them.
-#[inline]
+#[inline(always)]
 fn in_quanta(precision: u32, point: Point) -> Point
     requires some { 0 < precision }
     requires precise { precision ≤ 125 }
@@ -317,7 +317,7 @@ fn nearest_number(shape: Shape, x: Unpacked, y: Unpacked) -> StatusAnd<Unpacked>
 }
 
 /// Whether both operands are finite and not zero.
-#[inline]
+#[inline(always)]
 fn are_normal(x: Unpacked, y: Unpacked) -> bool
     ensures yes { result ≡ true → (x.category ≡ Category.Normal) × (y.category ≡ Category.Normal) }
     ensures no { result ≡ false → x.category ≡ Category.Normal → y.category ≡ Category.Normal → ⊥ }

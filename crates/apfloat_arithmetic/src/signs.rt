@@ -9,7 +9,7 @@ use apfloat_unpacked::shape::Shape;
 use apfloat_unpacked::unpacked::{Unpacked, nan_of, zero_of};
 
 /// The value with the other sign; the one zero and the one NaN of a format that has no signs for them stay as they are.
-#[inline]
+#[inline(always)]
 pub fn negated(shape: Shape, x: Unpacked) -> Unpacked
     requires { IsStored shape x }
     ensures stored { IsStored shape result }
@@ -24,7 +24,7 @@ pub fn negated(shape: Shape, x: Unpacked) -> Unpacked
 }
 
 /// What is stored of the value, with the other sign.
-#[inline]
+#[inline(always)]
 fn turned(x: Unpacked) -> Unpacked
     ensures { result ≡ record x { negative = not x.negative } }
 {

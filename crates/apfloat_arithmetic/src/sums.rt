@@ -18,7 +18,7 @@ use apfloat_unpacked::shape::{Shape, last_exponent};
 use apfloat_unpacked::unpacked::{Unpacked, zero_of};
 
 /// The number, by the exponent of its last digit.
-#[inline]
+#[inline(always)]
 fn term_of(shape: Shape, x: Unpacked) -> Term
     requires lawful { IsShape shape }
     requires normal { IsNormal shape x.significand x.exponent }
@@ -34,7 +34,7 @@ fn term_of(shape: Shape, x: Unpacked) -> Term
 }
 
 /// The sign of an exact zero that is a sum of numbers with these signs (IEEE 754-2008 6.3).
-#[inline]
+#[inline(always)]
 pub(crate) fn sign_of_zero(round: Round, left: bool, right: bool) -> bool
     ensures { result ≡ zero_sum_sign round left right }
 {
@@ -51,7 +51,7 @@ pub(crate) fn sign_of_zero(round: Round, left: bool, right: bool) -> bool
 }
 
 /// The sign of a total; `of_zero` where it is exactly zero.
-#[inline]
+#[inline(always)]
 pub(crate) fn sign_of_total(total: Total, of_zero: bool) -> bool
     ensures zero { total.significand ≡ 0 → total.loss ≡ Loss.ExactlyZero → result ≡ of_zero }
     ensures other { (total.significand ≡ 0 → total.loss ≡ Loss.ExactlyZero → ⊥) → result ≡ total.negative }
@@ -64,7 +64,7 @@ pub(crate) fn sign_of_total(total: Total, of_zero: bool) -> bool
 }
 
 /// The sum of two finite numbers that are not zero.
-#[inline]
+#[inline(always)]
 fn add_numbers(shape: Shape, x: Unpacked, y: Unpacked, round: Round) -> StatusAnd<Unpacked>
     requires lawful { IsShape shape }
     requires x_normal { IsNormal shape x.significand x.exponent }
@@ -86,7 +86,7 @@ fn add_numbers(shape: Shape, x: Unpacked, y: Unpacked, round: Round) -> StatusAn
 }
 
 /// The sum of an infinity and any value.
-#[inline]
+#[inline(always)]
 fn add_to_infinity(shape: Shape, x: Unpacked, y: Unpacked) -> StatusAnd<Unpacked>
     requires lawful { IsShape shape }
     requires infinite { x.category ≡ Category.Infinity }
@@ -110,7 +110,7 @@ fn add_to_infinity(shape: Shape, x: Unpacked, y: Unpacked) -> StatusAnd<Unpacked
 }
 
 /// The sum of a zero and any value.
-#[inline]
+#[inline(always)]
 fn add_to_zero(shape: Shape, x: Unpacked, y: Unpacked, round: Round) -> StatusAnd<Unpacked>
     requires lawful { IsShape shape }
     requires y_stored { IsStored shape y }
@@ -129,7 +129,7 @@ fn add_to_zero(shape: Shape, x: Unpacked, y: Unpacked, round: Round) -> StatusAn
 }
 
 /// The sum of a finite number that is not zero and any value.
-#[inline]
+#[inline(always)]
 fn add_to_number(shape: Shape, x: Unpacked, y: Unpacked, round: Round) -> StatusAnd<Unpacked>
     requires lawful { IsShape shape }
     requires normal { x.category ≡ Category.Normal }
@@ -147,7 +147,7 @@ fn add_to_number(shape: Shape, x: Unpacked, y: Unpacked, round: Round) -> Status
 }
 
 /// `x + y`, rounded once (IEEE 754-2008 5.4.1).
-#[inline]
+#[inline(always)]
 pub fn add(shape: Shape, x: Unpacked, y: Unpacked, round: Round) -> StatusAnd<Unpacked>
     requires lawful { IsShape shape }
     requires x_stored { IsStored shape x }
@@ -164,7 +164,7 @@ pub fn add(shape: Shape, x: Unpacked, y: Unpacked, round: Round) -> StatusAnd<Un
 }
 
 /// What is added where a value is subtracted: a NaN is not negated.
-#[inline]
+#[inline(always)]
 fn added(shape: Shape, y: Unpacked) -> Unpacked
     requires { IsStored shape y }
     ensures stored { IsStored shape result }
@@ -179,7 +179,7 @@ fn added(shape: Shape, y: Unpacked) -> Unpacked
 }
 
 /// `x - y`, rounded once (IEEE 754-2008 5.4.1).
-#[inline]
+#[inline(always)]
 pub fn subtract(shape: Shape, x: Unpacked, y: Unpacked, round: Round) -> StatusAnd<Unpacked>
     requires lawful { IsShape shape }
     requires x_stored { IsStored shape x }

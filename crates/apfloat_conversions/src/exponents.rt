@@ -5,7 +5,7 @@ ghost use Rattle.std.specs.Prelude.{◌≡◌, pos, neg_ℤ, ◌+ℤ◌, ◌-ℤ
 use apfloat_base::ExpInt;
 
 /// The exponent one place higher.
-#[inline]
+#[inline(always)]
 pub fn raised(exponent: ExpInt) -> ExpInt
     requires { exponent ≤ℤ pos 8388608 }
     ensures { result ≡ exponent +ℤ pos 1 }
@@ -14,7 +14,7 @@ pub fn raised(exponent: ExpInt) -> ExpInt
 }
 
 /// The exponent one place lower.
-#[inline]
+#[inline(always)]
 pub fn lowered(exponent: ExpInt) -> ExpInt
     requires { neg_ℤ (pos 8388608) ≤ℤ exponent }
     ensures { result ≡ exponent -ℤ pos 1 }

@@ -31,7 +31,7 @@ pub struct Converted {
 }
 
 /// A number, rounded once; inexact is what loses information.
-#[inline]
+#[inline(always)]
 fn converted_number(from: Shape, into: Shape, x: Unpacked, round: Round) -> Converted
     requires from { IsShape from }
     requires into { IsShape into }
@@ -54,7 +54,7 @@ fn converted_number(from: Shape, into: Shape, x: Unpacked, round: Round) -> Conv
 }
 
 /// An answer that is inexact where it loses information.
-#[inline]
+#[inline(always)]
 fn kept(value: Unpacked, loses_info: bool) -> Converted
     ensures value { result.answer.value ≡ value }
     ensures status { bits_of result.answer.status ≡ cond loses_info inexact_bit ok_bits }
@@ -72,7 +72,7 @@ fn kept(value: Unpacked, loses_info: bool) -> Converted
 }
 
 /// The infinity of that sign, or what the other format has in its place.
-#[inline]
+#[inline(always)]
 fn converted_infinity(into: Shape, negative: bool) -> Converted
     requires { IsShape into }
     ensures stored { IsStored into result.answer.value }
@@ -87,7 +87,7 @@ fn converted_infinity(into: Shape, negative: bool) -> Converted
 }
 
 /// The zero of that sign, or the one zero of the other format.
-#[inline]
+#[inline(always)]
 fn converted_zero(into: Shape, negative: bool) -> Converted
     ensures stored { IsStored into result.answer.value }
     ensures converted { IsKept (finite (zero_sign into.nonfinite negative) 0) (loses_zero_sign (format_at into) negative) (datum_at into result.answer.value) (bits_of result.answer.status) result.loses_info }
@@ -97,7 +97,7 @@ fn converted_zero(into: Shape, negative: bool) -> Converted
 }
 
 /// How many last bits a NaN's significand loses: where there is a payload, its first bit stays the first.
-#[inline]
+#[inline(always)]
 fn places_out(from: Shape, into: Shape) -> u32
     requires { IsShape from }
     ensures value { result ≡ places_out (format_at from) (format_at into) }
@@ -111,7 +111,7 @@ fn places_out(from: Shape, into: Shape) -> u32
 }
 
 /// The payload for the other format of a NaN with that significand.
-#[inline]
+#[inline(always)]
 fn carried_payload(from: Shape, into: Shape, significand: u128) -> u128
     requires from { IsShape from }
     requires into { IsShape into }
@@ -123,7 +123,7 @@ fn carried_payload(from: Shape, into: Shape, significand: u128) -> u128
 }
 
 /// Whether a NaN loses information: a bit that was set, or the integer bit of a signaling NaN, or the whole payload.
-#[inline]
+#[inline(always)]
 fn nan_loses(from: Shape, into: Shape, significand: u128) -> bool
     requires from { IsShape from }
     requires into { IsShape into }
@@ -140,7 +140,7 @@ fn nan_loses(from: Shape, into: Shape, significand: u128) -> bool
 }
 
 /// A NaN, made quiet, with as much of its payload as the other format has (IEEE 754-2008 6.2.3).
-#[inline]
+#[inline(always)]
 fn converted_nan(from: Shape, into: Shape, x: Unpacked) -> Converted
     requires from { IsShape from }
     requires into { IsShape into }
@@ -158,7 +158,7 @@ fn converted_nan(from: Shape, into: Shape, x: Unpacked) -> Converted
 }
 
 /// A value of one format in another, rounded once, and whether that lost information (IEEE 754-2008 5.4.2, convertFormat).
-#[inline]
+#[inline(always)]
 pub fn convert(from: Shape, into: Shape, x: Unpacked, round: Round) -> Converted
     requires from { IsShape from }
     requires into { IsShape into }

@@ -16,7 +16,7 @@ use apfloat_unpacked::shape::Shape;
 use apfloat_unpacked::unpacked::Unpacked;
 
 /// A whole number, rounded once.
-#[inline]
+#[inline(always)]
 pub fn from_unsigned(shape: Shape, number: u128, round: Round) -> StatusAnd<Unpacked>
     requires { IsShape shape }
     ensures stored { IsStored shape result.value }
@@ -35,7 +35,7 @@ pub struct Unsigned {
 }
 
 /// The status of a whole number in range.
-#[inline]
+#[inline(always)]
 pub fn status_of(exact: bool) -> Status
     ensures { bits_of result ≡ inexact_unless exact }
 {
@@ -43,7 +43,7 @@ pub fn status_of(exact: bool) -> Status
 }
 
 /// The greatest whole number of so many binary digits.
-#[inline]
+#[inline(always)]
 fn greatest(width: u32) -> u128
     requires low { 1 ≤ width }
     requires high { width ≤ 128 }
@@ -53,7 +53,7 @@ fn greatest(width: u32) -> u128
 }
 
 /// The answer for a value out of range: the end of the range.
-#[inline]
+#[inline(always)]
 fn out_of_range(number: u128) -> Unsigned
     ensures number { result.answer.value ≡ number }
     ensures status { bits_of result.answer.status ≡ 1 }
@@ -66,7 +66,7 @@ fn out_of_range(number: u128) -> Unsigned
 }
 
 /// The end of the range on the side of a sign.
-#[inline]
+#[inline(always)]
 fn limit_of(width: u32, negative: bool) -> u128
     requires low { 1 ≤ width }
     requires high { width ≤ 128 }
@@ -77,7 +77,7 @@ fn limit_of(width: u32, negative: bool) -> u128
 }
 
 /// A finite number that is not zero as a whole number of so many binary digits.
-#[inline]
+#[inline(always)]
 fn number_to_unsigned(shape: Shape, x: Unpacked, width: u32, round: Round) -> Unsigned
     requires lawful { IsShape shape }
     requires normal { IsNormal shape x.significand x.exponent }
@@ -103,6 +103,7 @@ fn number_to_unsigned(shape: Shape, x: Unpacked, width: u32, round: Round) -> Un
 }
 
 /// A value as a whole number of so many binary digits.
+#[inline(always)]
 pub fn to_unsigned(shape: Shape, x: Unpacked, width: u32, round: Round) -> Unsigned
     requires lawful { IsShape shape }
     requires stored { IsStored shape x }

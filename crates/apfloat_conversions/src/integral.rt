@@ -17,7 +17,7 @@ use apfloat_unpacked::shape::{Shape, last_exponent};
 use apfloat_unpacked::unpacked::{Unpacked, quanta_of};
 
 /// A finite number that is not zero, rounded to a whole number.
-#[inline]
+#[inline(always)]
 fn round_number(shape: Shape, x: Unpacked, round: Round) -> StatusAnd<Unpacked>
     requires lawful { IsShape shape }
     requires number { x.category ≡ Normal }
@@ -35,6 +35,7 @@ fn round_number(shape: Shape, x: Unpacked, round: Round) -> StatusAnd<Unpacked>
 }
 
 /// A value rounded to a whole number of its format (IEEE 754-2008 5.9, roundToIntegralExact).
+#[inline(always)]
 pub fn round_to_integral(shape: Shape, x: Unpacked, round: Round) -> StatusAnd<Unpacked>
     requires lawful { IsShape shape }
     requires stored { IsStored shape x }
@@ -50,7 +51,7 @@ pub fn round_to_integral(shape: Shape, x: Unpacked, round: Round) -> StatusAnd<U
 }
 
 /// Whether a finite number that is not zero is a whole number.
-#[inline]
+#[inline(always)]
 fn is_whole_number(shape: Shape, x: Unpacked) -> bool
     requires lawful { IsShape shape }
     requires normal { IsNormal shape x.significand x.exponent }
@@ -65,7 +66,7 @@ fn is_whole_number(shape: Shape, x: Unpacked) -> bool
 }
 
 /// Whether a value is finite and a whole number, zeros too.
-#[inline]
+#[inline(always)]
 pub fn is_integer(shape: Shape, x: Unpacked) -> bool
     requires lawful { IsShape shape }
     requires stored { IsStored shape x }

@@ -17,7 +17,7 @@ use apfloat_unpacked::shape::Shape;
 use apfloat_unpacked::unpacked::{Unpacked, infinity_of, largest_of, nan_of, smallest_of, zero_of};
 
 /// How far apart neighbours are at an exponent, in units of a significand's last digit: one, or a quantum.
-#[inline]
+#[inline(always)]
 fn step(shape: Shape, exponent: ExpInt) -> u128
     requires lawful { IsShape shape }
     requires least { ((shape.min_exp +ℤ pos 1) -ℤ pos shape.precision) ≤ℤ exponent }
@@ -32,7 +32,7 @@ fn step(shape: Shape, exponent: ExpInt) -> u128
 }
 
 /// The exponent of one quantum.
-#[inline]
+#[inline(always)]
 fn least_exponent(shape: Shape) -> ExpInt
     requires { IsShape shape }
     ensures { result ≡ (shape.min_exp +ℤ pos 1) -ℤ pos shape.precision }
@@ -41,7 +41,7 @@ fn least_exponent(shape: Shape) -> ExpInt
 }
 
 /// Whether the magnitude is the largest.
-#[inline]
+#[inline(always)]
 fn is_largest(shape: Shape, x: Unpacked) -> bool
     requires lawful { IsShape shape }
     requires normal { IsNormal shape x.significand x.exponent }
@@ -55,7 +55,7 @@ fn is_largest(shape: Shape, x: Unpacked) -> bool
 }
 
 /// The least number that is greater than a positive one below the largest.
-#[inline]
+#[inline(always)]
 fn next_greater(shape: Shape, x: Unpacked) -> Unpacked
     requires lawful { IsShape shape }
     requires normal { IsNormal shape x.significand x.exponent }
@@ -82,7 +82,7 @@ fn next_greater(shape: Shape, x: Unpacked) -> Unpacked
 }
 
 /// The greatest magnitude that is less than that of a negative number, with its sign.
-#[inline]
+#[inline(always)]
 fn next_less(shape: Shape, x: Unpacked) -> Unpacked
     requires lawful { IsShape shape }
     requires normal { IsNormal shape x.significand x.exponent }
@@ -110,7 +110,7 @@ fn next_less(shape: Shape, x: Unpacked) -> Unpacked
 }
 
 /// The next value up from a finite number that is not zero.
-#[inline]
+#[inline(always)]
 fn next_of_number(shape: Shape, x: Unpacked) -> Unpacked
     requires lawful { IsShape shape }
     requires normal { IsNormal shape x.significand x.exponent }
@@ -127,7 +127,7 @@ fn next_of_number(shape: Shape, x: Unpacked) -> Unpacked
 }
 
 /// What the next value up from a NaN is: it, or where it signals the quiet one without a payload.
-#[inline]
+#[inline(always)]
 fn next_of_nan(shape: Shape, x: Unpacked) -> StatusAnd<Unpacked>
     requires lawful { IsShape shape }
     requires stored { IsStored shape x }
@@ -143,6 +143,7 @@ fn next_of_nan(shape: Shape, x: Unpacked) -> StatusAnd<Unpacked>
 }
 
 /// The least value that compares greater (IEEE 754-2008 5.3.1, nextUp).
+#[inline(always)]
 pub fn next_up(shape: Shape, x: Unpacked) -> StatusAnd<Unpacked>
     requires lawful { IsShape shape }
     requires stored { IsStored shape x }

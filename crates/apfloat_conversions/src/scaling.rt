@@ -18,7 +18,7 @@ use apfloat_unpacked::shape::{Shape, last_exponent};
 use apfloat_unpacked::unpacked::Unpacked;
 
 /// The amount, or the farthest one on its side that rounding has to see: past it no answer changes.
-#[inline]
+#[inline(always)]
 pub fn clamped(places: ExpInt) -> ExpInt
     ensures low { neg_ℤ (pos 6000000) ≤ℤ result }
     ensures high { result ≤ℤ pos 6000000 }
@@ -34,7 +34,7 @@ pub fn clamped(places: ExpInt) -> ExpInt
 }
 
 /// The exponent that is so many places higher.
-#[inline]
+#[inline(always)]
 fn moved(exponent: ExpInt, places: ExpInt) -> ExpInt
     requires near { exponent ≤ℤ pos 1048576 }
     requires far { neg_ℤ (pos 1048704) ≤ℤ exponent }
@@ -48,7 +48,7 @@ fn moved(exponent: ExpInt, places: ExpInt) -> ExpInt
 }
 
 /// A finite number that is not zero, times 2 to the power of `places`, rounded once.
-#[inline]
+#[inline(always)]
 fn scale_number(shape: Shape, x: Unpacked, places: ExpInt, round: Round) -> StatusAnd<Unpacked>
     requires lawful { IsShape shape }
     requires normal { IsNormal shape x.significand x.exponent }
@@ -68,6 +68,7 @@ fn scale_number(shape: Shape, x: Unpacked, places: ExpInt, round: Round) -> Stat
 }
 
 /// A value times 2 to the power of `places`, rounded once (IEEE 754-2008 5.3.3, scaleB).
+#[inline(always)]
 pub fn scaled(shape: Shape, x: Unpacked, places: ExpInt, round: Round) -> Unpacked
     requires lawful { IsShape shape }
     requires stored { IsStored shape x }
@@ -83,7 +84,7 @@ pub fn scaled(shape: Shape, x: Unpacked, places: ExpInt, round: Round) -> Unpack
 }
 
 /// The exponent of the highest digit of a value, or what stands for it (IEEE 754-2008 5.3.3, logB).
-#[inline]
+#[inline(always)]
 pub fn ilogb(shape: Shape, x: Unpacked) -> ExpInt
     requires lawful { IsShape shape }
     requires stored { IsStored shape x }
@@ -107,7 +108,7 @@ pub struct Fraction {
 }
 
 /// The fraction of a finite number that is not zero, and its exponent.
-#[inline]
+#[inline(always)]
 fn number_fraction(shape: Shape, x: Unpacked) -> Fraction
     requires lawful { IsShape shape }
     requires normal { IsNormal shape x.significand x.exponent }
@@ -127,6 +128,7 @@ fn number_fraction(shape: Shape, x: Unpacked) -> Fraction
 
 /// The fraction of a value and its exponent, whose product is the value; of a value that is no number or zero, itself
 /// and what stands for its exponent.
+#[inline(always)]
 pub fn fraction_of(shape: Shape, x: Unpacked) -> Fraction
     requires lawful { IsShape shape }
     requires stored { IsStored shape x }

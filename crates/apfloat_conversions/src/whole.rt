@@ -21,7 +21,7 @@ pub struct Whole {
 }
 
 /// The whole number beside `significand * 2^-places`.
-#[inline]
+#[inline(always)]
 pub fn round_fraction(significand: u128, places: u32, round: Round, negative: bool) -> Whole
     requires { significand < 2 ^ 125 }
     ensures bound { result.magnitude ≤ significand / 2 ^ places + 1 }
@@ -43,7 +43,7 @@ pub fn round_fraction(significand: u128, places: u32, round: Round, negative: bo
 }
 
 /// The whole number `significand * 2^places`.
-#[inline]
+#[inline(always)]
 fn raised(precision: u32, significand: u128, places: u32) -> u128
     requires some { 0 < precision }
     requires fits { significand < 2 ^ precision }
@@ -54,7 +54,7 @@ fn raised(precision: u32, significand: u128, places: u32) -> u128
 }
 
 /// The whole number beside a finite number that is not zero, if it is below `2^128`.
-#[inline]
+#[inline(always)]
 pub fn whole_of(shape: Shape, x: Unpacked, round: Round) -> Option<Whole>
     requires lawful { IsShape shape }
     requires normal { IsNormal shape x.significand x.exponent }

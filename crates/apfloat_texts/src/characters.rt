@@ -5,7 +5,7 @@ ghost use Rattle.apfloat_base.specs.Digits.{is_decimal, is_octal, is_hexadecimal
 ghost use Rattle.apfloat_base.specs.Texts.{is_digit_or_dot};
 
 /// 0 to 9.
-#[inline]
+#[inline(always)]
 pub fn is_decimal(byte: u8) -> bool
     ensures { result ≡ is_decimal byte }
 {
@@ -13,7 +13,7 @@ pub fn is_decimal(byte: u8) -> bool
 }
 
 /// 0 to 7.
-#[inline]
+#[inline(always)]
 pub fn is_octal(byte: u8) -> bool
     ensures { result ≡ is_octal byte }
 {
@@ -21,7 +21,7 @@ pub fn is_octal(byte: u8) -> bool
 }
 
 /// 0 to 9, and a to f of either case.
-#[inline]
+#[inline(always)]
 pub fn is_hexadecimal(byte: u8) -> bool
     ensures { result ≡ is_hexadecimal byte }
 {
@@ -29,7 +29,7 @@ pub fn is_hexadecimal(byte: u8) -> bool
 }
 
 /// A hexadecimal digit or a dot.
-#[inline]
+#[inline(always)]
 pub fn is_digit_or_dot(byte: u8) -> bool
     ensures { result ≡ is_digit_or_dot byte }
 {
@@ -37,7 +37,7 @@ pub fn is_digit_or_dot(byte: u8) -> bool
 }
 
 /// What a digit stands for.
-#[inline]
+#[inline(always)]
 pub fn digit_value(byte: u8) -> u8
     requires { IsTrue (is_hexadecimal byte) }
     ensures value { result ≡ digit_value byte }

@@ -17,7 +17,7 @@ use apfloat_base::ExpInt;
 const FAR: u128 = 1 << 96;
 
 /// The number with one more decimal digit behind it, or some number from `FAR` up in place of another one.
-#[inline]
+#[inline(always)]
 fn with_digit(number: u128, digit: u8) -> u128
     requires small { digit < 16 }
     requires fits { number < 2 ^ 100 }
@@ -77,7 +77,7 @@ pub fn exponent_in(tail: &[u8], some: bool) -> Result<i128, Fault>
 }
 
 /// The exponent of the last digit that is kept, of a number with `cut` digits less and with `places` digits behind its dot.
-#[inline]
+#[inline(always)]
 fn unit_of(exponent: i128, cut: usize, places: usize) -> i128
     requires high { exponent ≤ℤ pos (2 ^ 100) }
     requires low { neg_ℤ (pos (2 ^ 100)) ≤ℤ exponent }
@@ -87,7 +87,7 @@ fn unit_of(exponent: i128, cut: usize, places: usize) -> i128
 }
 
 /// The exponent, or the farthest one on its side.
-#[inline]
+#[inline(always)]
 fn clamped(exponent: i128) -> ExpInt
     ensures near { IsNear 4194304 exponent result }
     ensures high { result ≤ℤ pos 4194304 }
@@ -103,7 +103,7 @@ fn clamped(exponent: i128) -> ExpInt
 }
 
 /// The exponent of the last digit that is kept, or one that is past every value on its side.
-#[inline]
+#[inline(always)]
 pub fn unit_exponent(exponent: i128, cut: usize, places: usize) -> ExpInt
     requires high { exponent ≤ℤ pos (2 ^ 100) }
     requires low { neg_ℤ (pos (2 ^ 100)) ≤ℤ exponent }

@@ -23,7 +23,7 @@ impl Radix {
     ghost use Rattle.apfloat_texts.specs.Payloads.{radix_at};
 
     /// The base as a number.
-    #[inline]
+    #[inline(always)]
     fn base(self) -> u128
         ensures { result ≡ base_of (radix_at self) }
     {
@@ -35,7 +35,7 @@ impl Radix {
     }
 
     /// Whether the character is a digit of that base.
-    #[inline]
+    #[inline(always)]
     fn has_digit(self, byte: u8) -> bool
         ensures { result ≡ is_digit_of (radix_at self) byte }
     {
@@ -70,7 +70,7 @@ fn skip_plus(text: &[u8]) -> &[u8]
 }
 
 /// The number with one more digit behind it, if it is below 2^128.
-#[inline]
+#[inline(always)]
 fn with_digit(radix: Radix, number: u128, byte: u8) -> Option<u128>
     ensures { result ≡ next (radix_at radix) number byte }
 {

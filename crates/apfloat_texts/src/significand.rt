@@ -24,7 +24,7 @@ pub struct Digits {
 }
 
 /// What is lost with one more digit cut off, where digits were cut off before.
-#[inline]
+#[inline(always)]
 fn loss_behind(loss: Loss, digit: u8) -> Loss
     requires { digit < 16 }
     ensures { (number significand half : ℕ) → 0 < half → StandsFor significand loss number (2 * half) → StandsFor significand result (number * 16 + digit) (16 * (2 * half)) }
@@ -66,7 +66,7 @@ impl Digits {
     }
 
     /// The digits with one more behind them.
-    #[inline]
+    #[inline(always)]
     fn followed_by(self, digit: u8) -> Digits
         requires small { digit < 16 }
         requires room { self.cut < usize.MAX }
@@ -127,7 +127,7 @@ impl Scan {
     }
 
     /// With one more digit.
-    #[inline]
+    #[inline(always)]
     fn with_digit(self, byte: u8) -> Scan
         requires digit { IsTrue (is_hexadecimal byte) }
         requires cut { self.digits.cut < usize.MAX }
@@ -147,7 +147,7 @@ impl Scan {
     }
 
     /// With the dot.
-    #[inline]
+    #[inline(always)]
     fn with_dot(self) -> Result<Scan, Fault>
         ensures { (rest left : List ℕ) → IsScan rest (46 ∷ left) self.digits.significand self.digits.loss self.digits.cut self.places self.pointed self.some → MatchResult result (λ scan. IsScan rest left scan.digits.significand scan.digits.loss scan.digits.cut scan.places scan.pointed scan.some) (λ fault. (fault ≡ SecondDot) × (ltb 1 (length (filter is_dot (significand_of rest))) ≡ true)) }
     {
@@ -163,7 +163,7 @@ impl Scan {
     }
 
     /// With one more character.
-    #[inline]
+    #[inline(always)]
     fn with(self, byte: u8) -> Result<Scan, Fault>
         requires passes { IsTrue (is_digit_or_dot byte) }
         requires cut { self.digits.cut < usize.MAX }

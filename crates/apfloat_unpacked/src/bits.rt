@@ -36,7 +36,7 @@ pub struct Fields {
 }
 
 /// How many bits the trailing significand has.
-#[inline]
+#[inline(always)]
 fn trailing_width(shape: Shape) -> u32
     requires { IsShape shape }
     ensures value { result ≡ trailing_bits (format_at shape) }
@@ -50,7 +50,7 @@ fn trailing_width(shape: Shape) -> u32
 }
 
 /// So many ones.
-#[inline]
+#[inline(always)]
 fn ones(width: u32) -> u128
     requires { width < 128 }
     ensures { result ≡ all_ones width }
@@ -59,7 +59,7 @@ fn ones(width: u32) -> u128
 }
 
 /// The fields of bits; bits above the sign are not looked at.
-#[inline]
+#[inline(always)]
 fn split(shape: Shape, widths: Widths, bits: u128) -> Fields
     requires lawful { IsShape shape }
     requires interchange { IsInterchange (format_at shape) (layout_at widths) }
@@ -74,7 +74,7 @@ fn split(shape: Shape, widths: Widths, bits: u128) -> Fields
 }
 
 /// The bit of a sign.
-#[inline]
+#[inline(always)]
 fn sign_bit(negative: bool) -> u128
     ensures { result ≡ (if negative then 1 else 0) }
 {
@@ -82,7 +82,7 @@ fn sign_bit(negative: bool) -> u128
 }
 
 /// The bits of fields.
-#[inline]
+#[inline(always)]
 fn join(shape: Shape, widths: Widths, fields: Fields) -> u128
     requires lawful { IsShape shape }
     requires interchange { IsInterchange (format_at shape) (layout_at widths) }
@@ -94,7 +94,7 @@ fn join(shape: Shape, widths: Widths, fields: Fields) -> u128
 }
 
 /// A number whose integer bit is implied by its biased exponent.
-#[inline]
+#[inline(always)]
 fn implied_number(shape: Shape, widths: Widths, fields: Fields) -> Unpacked
     requires lawful { IsShape shape }
     requires interchange { IsInterchange (format_at shape) (layout_at widths) }
@@ -118,7 +118,7 @@ fn implied_number(shape: Shape, widths: Widths, fields: Fields) -> Unpacked
 }
 
 /// A value whose integer bit is not written.
-#[inline]
+#[inline(always)]
 fn implied_value(shape: Shape, widths: Widths, fields: Fields) -> Unpacked
     requires lawful { IsShape shape }
     requires interchange { IsInterchange (format_at shape) (layout_at widths) }
@@ -156,7 +156,7 @@ fn implied_value(shape: Shape, widths: Widths, fields: Fields) -> Unpacked
 }
 
 /// A number whose integer bit is written. Where that bit is 0 above the least exponent, it is no number.
-#[inline]
+#[inline(always)]
 fn written_number(shape: Shape, widths: Widths, fields: Fields) -> Unpacked
     requires lawful { IsShape shape }
     requires interchange { IsInterchange (format_at shape) (layout_at widths) }
@@ -181,7 +181,7 @@ fn written_number(shape: Shape, widths: Widths, fields: Fields) -> Unpacked
 }
 
 /// A value whose integer bit is written.
-#[inline]
+#[inline(always)]
 fn written_value(shape: Shape, widths: Widths, fields: Fields) -> Unpacked
     requires lawful { IsShape shape }
     requires interchange { IsInterchange (format_at shape) (layout_at widths) }
@@ -200,7 +200,7 @@ fn written_value(shape: Shape, widths: Widths, fields: Fields) -> Unpacked
 }
 
 /// The value of bits; bits above the sign are not looked at.
-#[inline]
+#[inline(always)]
 pub fn decode(shape: Shape, widths: Widths, bits: u128) -> Unpacked
     requires lawful { IsShape shape }
     requires interchange { IsInterchange (format_at shape) (layout_at widths) }
@@ -216,7 +216,7 @@ pub fn decode(shape: Shape, widths: Widths, bits: u128) -> Unpacked
 }
 
 /// The fields of a number.
-#[inline]
+#[inline(always)]
 fn fields_of_number(shape: Shape, widths: Widths, x: Unpacked) -> Fields
     requires lawful { IsShape shape }
     requires interchange { IsInterchange (format_at shape) (layout_at widths) }
@@ -242,7 +242,7 @@ fn fields_of_number(shape: Shape, widths: Widths, x: Unpacked) -> Fields
 }
 
 /// The fields of a NaN.
-#[inline]
+#[inline(always)]
 fn fields_of_nan(shape: Shape, widths: Widths, x: Unpacked) -> Fields
     requires lawful { IsShape shape }
     requires interchange { IsInterchange (format_at shape) (layout_at widths) }
@@ -264,7 +264,7 @@ fn fields_of_nan(shape: Shape, widths: Widths, x: Unpacked) -> Fields
 }
 
 /// The fields of the canonical encoding of a value.
-#[inline]
+#[inline(always)]
 fn fields_of_value(shape: Shape, widths: Widths, x: Unpacked) -> Fields
     requires lawful { IsShape shape }
     requires interchange { IsInterchange (format_at shape) (layout_at widths) }
@@ -292,7 +292,7 @@ fn fields_of_value(shape: Shape, widths: Widths, x: Unpacked) -> Fields
 }
 
 /// The bits of the canonical encoding of a value.
-#[inline]
+#[inline(always)]
 pub fn encode(shape: Shape, widths: Widths, x: Unpacked) -> u128
     requires lawful { IsShape shape }
     requires interchange { IsInterchange (format_at shape) (layout_at widths) }

@@ -16,7 +16,7 @@ use apfloat_base::sig::power_of_two;
 use apfloat_base::{Category, NonfiniteBehavior, Status, StatusAnd};
 
 /// The bits that every NaN's significand has.
-#[inline]
+#[inline(always)]
 fn nan_base(shape: Shape) -> u128
     requires { IsShape shape }
     ensures { result ≡ nan_base (format_at shape) }
@@ -29,7 +29,7 @@ fn nan_base(shape: Shape) -> u128
 }
 
 /// The bits that a payload may set.
-#[inline]
+#[inline(always)]
 pub fn payload_mask(shape: Shape) -> u128
     requires { IsShape shape }
     ensures { result ≡ payload_mask (format_at shape) }
@@ -42,7 +42,7 @@ pub fn payload_mask(shape: Shape) -> u128
 }
 
 /// Of the bits that make a NaN quiet, the one that an operation sets.
-#[inline]
+#[inline(always)]
 fn quiet_bit(shape: Shape) -> u128
     requires { IsShape shape }
     ensures { result ≡ quiet_bit (format_at shape) }
@@ -55,7 +55,7 @@ fn quiet_bit(shape: Shape) -> u128
 }
 
 /// The bits that make a NaN quiet: where the integer bit is written, that bit is one of them.
-#[inline]
+#[inline(always)]
 fn quiet_bits(shape: Shape) -> u128
     requires { IsShape shape }
     ensures { result ≡ quiet_bits (format_at shape) }
@@ -74,7 +74,7 @@ fn quiet_bits(shape: Shape) -> u128
 }
 
 /// Whether a NaN with that significand signals.
-#[inline]
+#[inline(always)]
 pub fn signals(shape: Shape, significand: u128) -> bool
     requires { IsShape shape }
     ensures { result ≡ is_signaling (format_at shape) significand }
@@ -84,7 +84,7 @@ pub fn signals(shape: Shape, significand: u128) -> bool
 }
 
 /// Whether a value is a NaN that signals.
-#[inline]
+#[inline(always)]
 pub fn is_signaling(shape: Shape, x: Unpacked) -> bool
     requires lawful { IsShape shape }
     requires stored { IsStored shape x }
@@ -99,7 +99,7 @@ pub fn is_signaling(shape: Shape, x: Unpacked) -> bool
 }
 
 /// The significand of a NaN made quiet, with its payload.
-#[inline]
+#[inline(always)]
 pub fn quieted_significand(shape: Shape, significand: u128) -> u128
     requires lawful { IsShape shape }
     requires nan { IsNanSignificand shape.nonfinite shape.explicit_integer_bit shape.precision significand }
@@ -114,7 +114,7 @@ pub fn quieted_significand(shape: Shape, significand: u128) -> u128
 }
 
 /// The significand of the quiet NaN with that payload.
-#[inline]
+#[inline(always)]
 pub fn quiet_significand(shape: Shape, payload: u128) -> u128
     requires { IsShape shape }
     ensures value { result ≡ quiet_significand (format_at shape) payload }
@@ -124,7 +124,7 @@ pub fn quiet_significand(shape: Shape, payload: u128) -> u128
 }
 
 /// The significand, with a payload where it has none: an infinity would be written with that.
-#[inline]
+#[inline(always)]
 fn with_payload(shape: Shape, significand: u128) -> u128
     requires { IsShape shape }
     ensures { result ≡ with_payload (format_at shape) significand }
@@ -137,7 +137,7 @@ fn with_payload(shape: Shape, significand: u128) -> u128
 }
 
 /// The significand of the signaling NaN with that payload.
-#[inline]
+#[inline(always)]
 pub fn signaling_significand(shape: Shape, payload: u128) -> u128
     requires { IsShape shape }
     ensures value { result ≡ signaling_significand (format_at shape) payload }
@@ -148,7 +148,7 @@ pub fn signaling_significand(shape: Shape, payload: u128) -> u128
 }
 
 /// The positive quiet NaN with those bits of a payload that the format has (6.2.1).
-#[inline]
+#[inline(always)]
 pub fn quiet_nan(shape: Shape, payload: u128) -> Unpacked
     requires { IsShape shape }
     ensures stored { IsStored shape result }
@@ -159,7 +159,7 @@ pub fn quiet_nan(shape: Shape, payload: u128) -> Unpacked
 
 /// The positive signaling NaN with those bits of a payload that the format has, and with some payload (6.2.1). Where a
 /// format has only one NaN, it is that one.
-#[inline]
+#[inline(always)]
 pub fn signaling_nan(shape: Shape, payload: u128) -> Unpacked
     requires { IsShape shape }
     ensures stored { IsStored shape result }
@@ -169,7 +169,7 @@ pub fn signaling_nan(shape: Shape, payload: u128) -> Unpacked
 }
 
 /// The NaN, made quiet.
-#[inline]
+#[inline(always)]
 fn quieted(shape: Shape, x: Unpacked) -> Unpacked
     requires lawful { IsShape shape }
     requires stored { IsStored shape x }
@@ -181,7 +181,7 @@ fn quieted(shape: Shape, x: Unpacked) -> Unpacked
 }
 
 /// The status of an operation on NaNs, of which one may signal (7.2).
-#[inline]
+#[inline(always)]
 pub fn status_of(signaling: bool) -> Status
     ensures { bits_of result ≡ invalid_if signaling }
 {
@@ -193,7 +193,7 @@ pub fn status_of(signaling: bool) -> Status
 }
 
 /// What an operation answers whose one NaN among its operands is `x` (6.2.3).
-#[inline]
+#[inline(always)]
 pub fn propagated(shape: Shape, x: Unpacked) -> StatusAnd<Unpacked>
     requires lawful { IsShape shape }
     requires stored { IsStored shape x }
@@ -205,7 +205,7 @@ pub fn propagated(shape: Shape, x: Unpacked) -> StatusAnd<Unpacked>
 }
 
 /// What an operation answers whose left operand `x` is a NaN: that one, and the flag of whichever signals (6.2.3).
-#[inline]
+#[inline(always)]
 pub fn propagated_left(shape: Shape, x: Unpacked, y: Unpacked) -> StatusAnd<Unpacked>
     requires lawful { IsShape shape }
     requires x_stored { IsStored shape x }
@@ -219,7 +219,7 @@ pub fn propagated_left(shape: Shape, x: Unpacked, y: Unpacked) -> StatusAnd<Unpa
 }
 
 /// What an invalid operation answers (7.2): the quiet NaN without a payload.
-#[inline]
+#[inline(always)]
 pub fn invalid(shape: Shape) -> StatusAnd<Unpacked>
     requires { IsShape shape }
     ensures stored { IsStored shape result.value }

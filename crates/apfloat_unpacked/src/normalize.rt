@@ -28,7 +28,7 @@ struct Kept {
 
 /// The place of the lowest digit that is kept, of a significand with so many digits at that unit; places and units are
 /// counted from the quantum.
-#[inline]
+#[inline(always)]
 fn kept_place(precision: u32, digits: u32, unit: ExpInt) -> u32
     requires precise { precision ≤ 128 }
     requires short { digits ≤ 128 }
@@ -47,7 +47,7 @@ fn kept_place(precision: u32, digits: u32, unit: ExpInt) -> u32
 }
 
 /// How far the place lies above the unit.
-#[inline]
+#[inline(always)]
 fn steps_up(unit: ExpInt, place: u32) -> u32
     requires above { unit ≤ℤ pos place }
     requires near { place ≤ 33554432 }
@@ -58,7 +58,7 @@ fn steps_up(unit: ExpInt, place: u32) -> u32
 }
 
 /// How far the unit lies above the place.
-#[inline]
+#[inline(always)]
 fn steps_down(unit: ExpInt, place: u32) -> u32
     requires { pos place ≤ℤ unit }
     ensures { place + down unit + result ≡ up unit }
@@ -67,7 +67,7 @@ fn steps_down(unit: ExpInt, place: u32) -> u32
 }
 
 /// Cuts a significand once, to the digits that a format keeps.
-#[inline]
+#[inline(always)]
 fn keep(precision: u32, significand: u128, unit: ExpInt, loss: Loss) -> Kept
     requires some { 0 < precision }
     requires precise { precision ≤ 125 }
@@ -105,7 +105,7 @@ fn keep(precision: u32, significand: u128, unit: ExpInt, loss: Loss) -> Kept
 }
 
 /// Whether the mode moves a significand up for what was lost.
-#[inline]
+#[inline(always)]
 pub fn moves_up(mode: Round, negative: bool, loss: Loss, odd: bool) -> bool
     ensures { result ≡ rounds_up mode negative loss odd }
 {
@@ -140,7 +140,7 @@ struct Point {
 }
 
 /// The point that the mode picks.
-#[inline]
+#[inline(always)]
 fn pick(precision: u32, kept: Kept, mode: Round, negative: bool) -> Point
     requires some { 0 < precision }
     requires precise { precision ≤ 125 }
@@ -172,7 +172,7 @@ fn pick(precision: u32, kept: Kept, mode: Round, negative: bool) -> Point
 }
 
 /// Whether the point is past the greatest significand at the greatest place.
-#[inline]
+#[inline(always)]
 fn is_past(precision: u32, point: Point, greatest: u128, span: u32) -> bool
     requires some { 0 < precision }
     requires fits { point.significand < 2 ^ precision }
@@ -189,7 +189,7 @@ fn is_past(precision: u32, point: Point, greatest: u128, span: u32) -> bool
 }
 
 /// Whether the mode leads out of the format past its largest value.
-#[inline]
+#[inline(always)]
 fn leads_past(mode: Round, negative: bool) -> bool
     ensures { result ≡ leads_out mode negative }
 {
@@ -203,7 +203,7 @@ fn leads_past(mode: Round, negative: bool) -> bool
 }
 
 /// Whether an inexact result counts as tiny, by its significand before or after rounding.
-#[inline]
+#[inline(always)]
 fn is_tiny(shape: Shape, before: u128, after: u128) -> bool
     requires { IsShape shape }
     ensures { result ≡ (if shape.tiny_before_rounding then ltb before (2 ^ (shape.precision - 1)) else ltb after (2 ^ (shape.precision - 1))) }
@@ -216,7 +216,7 @@ fn is_tiny(shape: Shape, before: u128, after: u128) -> bool
 }
 
 /// What a rounding answers past the largest value.
-#[inline]
+#[inline(always)]
 fn overflowed(shape: Shape, mode: Round, negative: bool) -> StatusAnd<Unpacked>
     requires { IsShape shape }
     ensures stored { IsStored shape result.value }
@@ -233,7 +233,7 @@ fn overflowed(shape: Shape, mode: Round, negative: bool) -> StatusAnd<Unpacked>
 }
 
 /// The status of a rounding that stays within the format.
-#[inline]
+#[inline(always)]
 fn status_within(loss: Loss, tiny: bool) -> Status
     ensures exact { loss ≡ Loss.ExactlyZero → bits_of result ≡ ok_bits }
     ensures inexact { (loss ≡ Loss.ExactlyZero → ⊥) → bits_of result ≡ (if tiny then underflow_bit + inexact_bit else inexact_bit) }
@@ -251,7 +251,7 @@ fn status_within(loss: Loss, tiny: bool) -> Status
 }
 
 /// Rounds kept digits to a value of the format.
-#[inline]
+#[inline(always)]
 fn finish(shape: Shape, kept: Kept, mode: Round, negative: bool) -> StatusAnd<Unpacked>
     requires lawful { IsShape shape }
     requires fits { kept.significand < 2 ^ shape.precision }
@@ -271,7 +271,7 @@ fn finish(shape: Shape, kept: Kept, mode: Round, negative: bool) -> StatusAnd<Un
 }
 
 /// The exponent of a unit, counted from the quantum's.
-#[inline]
+#[inline(always)]
 fn unit_place(shape: Shape, exponent: ExpInt) -> ExpInt
     requires lawful { IsShape shape }
     requires near { exponent ≤ℤ pos 8388608 }
@@ -287,6 +287,7 @@ fn unit_place(shape: Shape, exponent: ExpInt) -> ExpInt
 ///
 /// Where something was lost below, the unit has to be so fine that it divides the spacing of the format there: it is at
 /// most the quantum, or the significand has all digits of the format.
+#[inline(always)]
 pub fn deliver(
     shape: Shape,
     significand: u128,

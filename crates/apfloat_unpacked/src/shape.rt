@@ -30,7 +30,7 @@ impl Shape {
     ghost use Rattle.apfloat_unpacked.specs.Shapes.{IsShape, format_at};
 
     /// The quantum is 2 to the power of minus this.
-    #[inline]
+    #[inline(always)]
     pub fn scale(self) -> u32
         requires { IsShape self }
         ensures value { result ≡ (format_at self).scale }
@@ -40,7 +40,7 @@ impl Shape {
     }
 
     /// The greatest exponent less the least one.
-    #[inline]
+    #[inline(always)]
     pub fn span(self) -> u32
         requires { IsShape self }
         ensures value { result ≡ (format_at self).span }
@@ -50,7 +50,7 @@ impl Shape {
     }
 
     /// The integer bit of a significand, which is also the smallest normalized value in quanta.
-    #[inline]
+    #[inline(always)]
     pub fn integer_bit(self) -> u128
         requires { IsShape self }
         ensures { result ≡ smallest_normalized (format_at self) }
@@ -59,7 +59,7 @@ impl Shape {
     }
 
     /// The significand of the largest value.
-    #[inline]
+    #[inline(always)]
     pub fn greatest_significand(self) -> u128
         requires { IsShape self }
         ensures value { result ≡ greatest_significand self.nonfinite self.precision }
@@ -75,7 +75,7 @@ impl Shape {
 }
 
 /// The exponent of the last digit of a number.
-#[inline]
+#[inline(always)]
 pub fn last_exponent(shape: Shape, exponent: ExpInt) -> ExpInt
     requires lawful { IsShape shape }
     requires near { exponent ≤ℤ pos 7340032 }

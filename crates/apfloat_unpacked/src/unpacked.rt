@@ -29,7 +29,7 @@ pub struct Unpacked {
 }
 
 /// The zero of that sign, or the one zero of the format.
-#[inline]
+#[inline(always)]
 pub fn zero_of(shape: Shape, negative: bool) -> Unpacked
     ensures stored { IsStored shape result }
     ensures datum { datum_at shape result ≡ finite (zero_sign shape.nonfinite negative) 0 }
@@ -47,7 +47,7 @@ pub fn zero_of(shape: Shape, negative: bool) -> Unpacked
 }
 
 /// The NaN with that significand, and with that sign where NaNs have one.
-#[inline]
+#[inline(always)]
 pub fn nan_of(shape: Shape, negative: bool, significand: u128) -> Unpacked
     requires { IsNanSignificand shape.nonfinite shape.explicit_integer_bit shape.precision significand }
     ensures stored { IsStored shape result }
@@ -66,7 +66,7 @@ pub fn nan_of(shape: Shape, negative: bool, significand: u128) -> Unpacked
 }
 
 /// The infinity of that sign; in a format without infinities the NaN that stands in its place.
-#[inline]
+#[inline(always)]
 pub fn infinity_of(shape: Shape, negative: bool) -> Unpacked
     requires { IsShape shape }
     ensures stored { IsStored shape result }
@@ -86,7 +86,7 @@ pub fn infinity_of(shape: Shape, negative: bool) -> Unpacked
 
 /// The exponent of a number whose integer bit was moved up by `place` and down by `shift` from that of the smallest
 /// normalized value.
-#[inline]
+#[inline(always)]
 fn exponent_at(min_exp: ExpInt, place: u32, shift: u32) -> ExpInt
     requires least { neg_ℤ (pos (2 ^ 20)) ≤ℤ min_exp }
     requires below_one { min_exp ≤ℤ pos 0 }
@@ -99,7 +99,7 @@ fn exponent_at(min_exp: ExpInt, place: u32, shift: u32) -> ExpInt
 }
 
 /// `significand * 2^place` quanta with that sign.
-#[inline]
+#[inline(always)]
 pub fn quanta_of(shape: Shape, negative: bool, significand: u128, place: u32) -> Unpacked
     requires lawful { IsShape shape }
     requires fits { significand < 2 ^ shape.precision }
@@ -121,7 +121,7 @@ pub fn quanta_of(shape: Shape, negative: bool, significand: u128, place: u32) ->
 }
 
 /// The greatest finite value, with that sign.
-#[inline]
+#[inline(always)]
 pub fn largest_of(shape: Shape, negative: bool) -> Unpacked
     requires { IsShape shape }
     ensures stored { IsStored shape result }
@@ -131,7 +131,7 @@ pub fn largest_of(shape: Shape, negative: bool) -> Unpacked
 }
 
 /// One quantum.
-#[inline]
+#[inline(always)]
 pub fn smallest_of(shape: Shape) -> Unpacked
     requires { IsShape shape }
     ensures stored { IsStored shape result }
@@ -141,7 +141,7 @@ pub fn smallest_of(shape: Shape) -> Unpacked
 }
 
 /// The smallest positive value that is not denormal.
-#[inline]
+#[inline(always)]
 pub fn smallest_normalized_of(shape: Shape) -> Unpacked
     requires { IsShape shape }
     ensures stored { IsStored shape result }

@@ -17,7 +17,7 @@ pub enum Loss {
 }
 
 /// Whether nothing was lost.
-#[inline]
+#[inline(always)]
 pub fn is_exact(loss: Loss) -> bool
     ensures yes { result ≡ true → loss ≡ Loss.ExactlyZero }
     ensures no { result ≡ false → loss ≡ Loss.ExactlyZero → ⊥ }
@@ -31,7 +31,7 @@ pub fn is_exact(loss: Loss) -> bool
 }
 
 /// What is lost where `rest` is cut off, in units that are twice `half`, with `loss` below it.
-#[inline]
+#[inline(always)]
 pub fn loss_of_rest(rest: u128, half: u128, loss: Loss) -> Loss
     requires { rest < 2 * half }
     ensures { (quotient amount unit : ℕ) → 0 < unit → StandsFor (quotient * (2 * half) + rest) loss amount unit → StandsFor quotient result amount (2 * half * unit) }

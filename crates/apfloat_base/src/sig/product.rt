@@ -3,7 +3,7 @@
 ghost use Rattle.std.specs.Prelude.{◌≡◌, ◌*◌, ◌^◌, ◌<◌};
 
 /// The product of two significands of at most 64 digits, with all its digits.
-#[inline]
+#[inline(always)]
 pub fn full_product(left: u128, right: u128) -> u128
     requires left_short { left < 2 ^ 64 }
     requires right_short { right < 2 ^ 64 }

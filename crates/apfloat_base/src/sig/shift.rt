@@ -7,7 +7,7 @@ use crate::kinds::ExpInt;
 use crate::sig::loss::{Loss, loss_of_rest};
 
 /// 2 to the power of `exponent`.
-#[inline]
+#[inline(always)]
 pub fn power_of_two(exponent: u32) -> u128
     requires { exponent < 128 }
     ensures { result ≡ 2 ^ exponent }
@@ -16,7 +16,7 @@ pub fn power_of_two(exponent: u32) -> u128
 }
 
 /// How far one exponent is above another.
-#[inline]
+#[inline(always)]
 pub fn steps_between(high: ExpInt, low: ExpInt) -> u32
     requires above { low ≤ℤ high }
     requires near { high ≤ℤ pos 8388608 }
@@ -27,7 +27,7 @@ pub fn steps_between(high: ExpInt, low: ExpInt) -> u32
 }
 
 /// How many binary digits a number has; 0 has none.
-#[inline]
+#[inline(always)]
 pub fn digits(number: u128) -> u32
     ensures bound { result ≤ 128 }
     ensures below { number < 2 ^ result }
@@ -37,7 +37,7 @@ pub fn digits(number: u128) -> u32
 }
 
 /// The lowest `places` binary digits of a number.
-#[inline]
+#[inline(always)]
 pub fn low_digits(number: u128, places: u32) -> u128
     requires { places < 128 }
     ensures { result ≡ number % 2 ^ places }
@@ -55,7 +55,7 @@ pub struct Shifted {
 }
 
 /// The significand without its `places` lowest digits, and what they with `loss` are of the lowest place that is left.
-#[inline]
+#[inline(always)]
 pub fn shift_right(significand: u128, places: u32, loss: Loss) -> Shifted
     ensures quotient { result.significand ≡ significand / 2 ^ places }
     ensures stands { (amount unit : ℕ) → 0 < unit → StandsFor significand loss amount unit → StandsFor result.significand result.loss amount (2 ^ places * unit) }
@@ -83,7 +83,7 @@ pub fn shift_right(significand: u128, places: u32, loss: Loss) -> Shifted
 }
 
 /// What is lost where more than the whole length of a significand is cut off.
-#[inline]
+#[inline(always)]
 fn loss_of_all(significand: u128, loss: Loss) -> Loss
     ensures { (places amount unit : ℕ) → 128 < places → 0 < unit → StandsFor significand loss amount unit → StandsFor 0 result amount (2 ^ places * unit) }
 {
