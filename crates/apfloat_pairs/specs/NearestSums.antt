@@ -1,0 +1,16 @@
+-- The double that is the sum of two data, rounded to nearest, ties to even, as a function: it is the answer that is proved to
+-- exist, and `nearest_sum_is` says that it is one. That it is the only one stands in proofs/DenormalPairs.antt.
+use Rattle.std.specs.Prelude.{ℕ}
+use Rattle.std.proofs.Common.{lit<}
+use Rattle.apfloat_base.specs.declared.kinds.Round.TheVariants.{NearestTiesToEven}
+use Rattle.apfloat_base.specs.Datum.{Datum}
+use Rattle.apfloat_base.specs.Sums.{IsSum}
+use Rattle.apfloat_base.proofs.Exists.{sum_exists}
+use Rattle.apfloat_pairs.specs.PairFormats.{double}
+
+pub nearest_sum : Datum → Datum → Datum
+nearest_sum x y = (sum_exists double (lit< tt) NearestTiesToEven x y).0
+
+pub nearest_sum_is : (x y : Datum) → (status : ℕ) × IsSum double NearestTiesToEven x y (nearest_sum x y) status
+unfolding nearest_sum
+nearest_sum_is x y = (sum_exists double (lit< tt) NearestTiesToEven x y).1
