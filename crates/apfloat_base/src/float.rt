@@ -6,7 +6,6 @@ ghost use Rattle.std.specs.Option.{unwrap_or};
 ghost use Rattle.apfloat_base.specs.Exact.{same_sign};
 ghost use Rattle.apfloat_base.specs.Negation.{swapped};
 ghost use Rattle.apfloat_base.specs.declared.kinds.Category.{Category};
-ghost use Rattle.apfloat_base.specs.declared.kinds.Category.TheVariants.{Normal};
 ghost use Rattle.apfloat_base.specs.declared.kinds.Round.{Round};
 ghost use Rattle.apfloat_base.specs.declared.kinds.Round.TheVariants.{NearestTiesToEven, TowardZero};
 ghost use Rattle.apfloat_base.specs.Classes.{is_nan_category, is_number_category};
@@ -115,8 +114,10 @@ pub trait Float: Copy
 
     ghost leaves_nearest: { Self → Self → StatusAnd Self → Type 0 };
 
-    // Whether two values are one, and the order of the magnitudes of two numbers that are not zero.
+    // Whether two values are one, and the order of magnitudes where they can be compared.
     ghost same: { Self → Self → Bool };
+
+    ghost can_compare_magnitudes: { Self → Self → Type 0 };
 
     ghost magnitude_order: { Self → Self → Ordering };
 
@@ -380,10 +381,10 @@ pub trait Float: Copy
         self.to_u128_r(width, Round::TowardZero, &mut is_exact)
     }
 
-    /// The order of the magnitudes of two finite values that are not zero.
+    /// The order of the magnitudes of two values for which `can_compare_magnitudes` holds. Of `IeeeFloat` these are the
+    /// finite ones that are not zero.
     fn cmp_abs_normal(self, rhs: Self) -> Ordering
-        requires left { category_of self ≡ Normal }
-        requires right { category_of rhs ≡ Normal }
+        requires { can_compare_magnitudes self rhs }
         ensures { result ≡ magnitude_order self rhs };
 
     /// Whether both are one value: of one category and sign, and with the same number, or the same significand of a NaN.

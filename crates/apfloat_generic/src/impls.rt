@@ -11,7 +11,7 @@ ghost use Rattle.apfloat_base.specs.Exponents.{IsExactInverse, IsIlogb, IsFrexp}
 ghost use Rattle.apfloat_base.specs.Members.{IsMember};
 ghost use Rattle.apfloat_base.specs.declared.kinds.NonfiniteBehavior.TheVariants.{IEEE754};
 ghost use Rattle.apfloat_base.specs.Classes.{category_of, is_negative, is_denormal, is_finite_non_zero, is_integer, same_datum};
-ghost use Rattle.apfloat_base.specs.Order.{compared_magnitudes};
+ghost use Rattle.apfloat_base.specs.Order.{AreNumbers, compared_magnitudes};
 ghost use Rattle.apfloat_base.specs.Products.{IsProduct, IsOpposite};
 ghost use Rattle.apfloat_base.specs.Quotients.{IsQuotient};
 ghost use Rattle.std.proofs.lemmas.Bool.{leb-true};
@@ -114,6 +114,8 @@ impl<S: Semantics> Float for IeeeFloat<S> {
     ghost leaves_nearest = { λ x y answer. Gives (IsNearestRemainder (format_of S.Semantics) x y) answer };
 
     ghost same = { same_datum };
+
+    ghost can_compare_magnitudes = { AreNumbers };
 
     ghost magnitude_order = { compared_magnitudes };
 
