@@ -11,6 +11,7 @@ use Rattle.apfloat_base.specs.declared.status.StatusAnd.{StatusAnd}
 use Rattle.apfloat_base.specs.Flags.{Gives, bits_of}
 use Rattle.apfloat_base.specs.Format.{Format}
 use Rattle.apfloat_base.specs.Datum.{Datum, finite, infinite, nan}
+use Rattle.apfloat_base.specs.Lawful.{Constants, IsLawful, format_with}
 use Rattle.apfloat_base.specs.Layout.{Layout, IsEncodedBy}
 use Rattle.apfloat_base.specs.Interchange.{IsInterchange}
 use Rattle.apfloat_base.specs.Sums.{IsSum, IsDifference}
@@ -130,10 +131,19 @@ read_once f mode text (Ok r) (Err e) h k = reading_or_refusal f mode text e.0.no
 read_once f mode text (Err e) (Ok r) h k = reading_or_refusal f mode text e.0.now r.value (bits_of r.status) k h
 read_once f mode text (Err e) (Err d) h k = refusal_once text e.0.now d.0.now h k
 
--- ---- all relations of a format of positive scale, with its bits if it has any
+-- ---- all relations
 
-pub determined : (f : Format) (layout : Layout) (precision bits : ℕ) → 0 < f.scale → (precision < bits → IsInterchange f layout)
-    → IsDetermined precision bits
+-- the quantum of a lawful format is below 1
+pub scale_some : (c : Constants) → IsLawful c → 0 < (format_with c).scale
+scale_some c law =
+    let e : pos (c.precision - 1) -ℤ c.min_exp ≡ pos (unsigned_abs (pos (c.precision - 1) -ℤ c.min_exp)) =
+    omega (arith, ints, law.precision_low, law.min_exp_high) in
+    omega (arith, ints, law.precision_low, law.min_exp_high, e)
+
+-- of a format of positive scale, with its bits if it has any
+
+pub determined : (f : Format) (layout : Layout) (precision bits : ℕ) (mode : Round) → 0 < f.scale → (precision < bits → IsInterchange f layout)
+    → IsDetermined mode precision bits
       (λ (x y : Datum) (mode : Round) (answer : StatusAnd Datum). Gives (IsSum f mode x y) answer)
       (λ (x y : Datum) (mode : Round) (answer : StatusAnd Datum). Gives (IsDifference f mode x y) answer)
       (λ (x y : Datum) (mode : Round) (answer : StatusAnd Datum). Gives (IsProduct f mode x y) answer)
@@ -153,25 +163,25 @@ pub determined : (f : Format) (layout : Layout) (precision bits : ℕ) → 0 < f
       (λ (x : Datum) (exponent : ℤ). IsIlogb f x exponent)
       (λ (x : Datum) (mode : Round) (value : Datum) (exponent : ℤ). IsFrexp f x value exponent)
       (λ (text : List ℕ) (mode : Round) (answer : Result (StatusAnd Datum) ParseError). IsRead f mode text answer)
-determined f layout precision bits positive interchange =
+determined f layout precision bits mode positive interchange =
     record {
-      sum = λ x y mode. gives_once (IsSum f mode x y) (sum_once f mode x y);
-      difference = λ x y mode. gives_once (IsDifference f mode x y) (difference_once f mode x y);
-      product = λ x y mode. gives_once (IsProduct f mode x y) (product_once f mode x y);
-      quotient = λ x y mode. gives_once (IsQuotient f mode x y) (quotient_once f mode x y);
+      sum = λ x y. gives_once (IsSum f mode x y) (sum_once f mode x y);
+      difference = λ x y. gives_once (IsDifference f mode x y) (difference_once f mode x y);
+      product = λ x y. gives_once (IsProduct f mode x y) (product_once f mode x y);
+      quotient = λ x y. gives_once (IsQuotient f mode x y) (quotient_once f mode x y);
       inverse = λ x. exact_inverse_once f x;
       remainder = λ x y. gives_once (IsTruncatedRemainder f x y) (remainder_once f truncated_quotient x y);
       nearest_remainder = λ x y. gives_once (IsNearestRemainder f x y) (remainder_once f nearest_quotient x y);
       bits = λ p x a b. encoded_once f layout x a b (interchange p);
-      of_unsigned = λ number mode. gives_once (IsFromUnsigned f mode number) (from_unsigned_once f mode number);
-      of_signed = λ number mode. gives_once (IsFromSigned f mode number) (from_signed_once f mode number);
-      integral = λ x mode. gives_once (IsRoundToIntegral f mode x) (round_to_integral_once f mode x);
-      to_unsigned = λ x width mode. to_unsigned_once f mode width x;
-      to_signed = λ x width mode. to_signed_once f mode width x;
+      of_unsigned = λ number. gives_once (IsFromUnsigned f mode number) (from_unsigned_once f mode number);
+      of_signed = λ number. gives_once (IsFromSigned f mode number) (from_signed_once f mode number);
+      integral = λ x. gives_once (IsRoundToIntegral f mode x) (round_to_integral_once f mode x);
+      to_unsigned = λ x width. to_unsigned_once f mode width x;
+      to_signed = λ x width. to_signed_once f mode width x;
       above = λ x. gives_once (IsNextUp f x) (next_up_once f x);
       below = λ x. gives_once (IsNextDown f x) (next_down_once f x);
-      scaled = λ x places mode. scaling_once f mode x places;
+      scaled = λ x places. scaling_once f mode x places;
       exponent = λ x. exponent_once f x;
-      fraction = λ x mode. frexp_once f x positive;
-      reading = λ text mode. read_once f mode text;
+      fraction = λ x. frexp_once f x positive;
+      reading = λ text. read_once f mode text;
     }

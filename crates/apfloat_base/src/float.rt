@@ -15,6 +15,7 @@ ghost use Rattle.apfloat_base.specs.declared.status.StatusAnd.{StatusAnd};
 ghost use Rattle.apfloat_base.specs.Parsing.{without_status};
 ghost use Rattle.apfloat_base.specs.Flags.{bits_of};
 ghost use Rattle.apfloat_base.specs.SignedWholes.{IsNegatedWhole};
+ghost use Rattle.apfloat_base.specs.Determined.{IsDetermined};
 
 use crate::kinds::{Category, ExpInt, Round};
 use crate::parse_error::ParseError;
@@ -671,6 +672,10 @@ pub trait Float: Copy
     ghost signed_above_law: { (n : ℕ) (mode : Round) (r : StatusAnd Self) → converts_unsigned n mode r → converts_signed (pos n) mode r };
 
     ghost signed_below_law: { (n : ℕ) (mode : Round) (r : StatusAnd Self) → 0 < n → converts_unsigned n (swapped mode) r → converts_signed (neg_ℤ (pos n)) mode (record { status = r.status; value = negated r.value }) };
+
+    // Each relation determines its answer.
+
+    ghost determined: { (mode : Round) → IsDetermined mode PRECISION BITS adds subtracts multiplies divides inverts leaves leaves_nearest writes_bits converts_unsigned converts_signed rounds_to_integral converts_to_unsigned converts_to_signed steps_up steps_down scales has_exponent has_fraction reads };
 }
 
 /// A whole number of so many binary digits as a signed one.
