@@ -102,8 +102,9 @@ pub(super) fn fraction(x: DoubleFloat, exp: &mut ExpInt, round: Round) -> Double
     ensures { IsPairFraction round x result exp.new }
 {
     let high = x.0.frexp_r(exp, round);
+    let exponent = *exp;
     let low = if x.0.is_finite_non_zero() {
-        x.1.scalbn_r(-*exp, round)
+        x.1.scalbn_r(-exponent, round)
     } else {
         x.1
     };
