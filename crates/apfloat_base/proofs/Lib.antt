@@ -39,3 +39,4 @@ pub mod RowsIn
 pub mod Rows
 pub mod RowsExact
 pub mod RowsTexts
+pub mod Determined

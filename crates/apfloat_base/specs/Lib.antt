@@ -42,3 +42,4 @@ pub mod Standing
 pub mod Enclosure
 pub mod Totals
 pub mod SignedWholes
+pub mod Determined

@@ -6,7 +6,6 @@ ghost use Rattle.std.specs.Option.{unwrap_or};
 ghost use Rattle.apfloat_base.specs.Exact.{same_sign};
 ghost use Rattle.apfloat_base.specs.Negation.{swapped};
 ghost use Rattle.apfloat_base.specs.declared.kinds.Category.{Category};
-ghost use Rattle.apfloat_base.specs.declared.kinds.Category.TheVariants.{Normal};
 ghost use Rattle.apfloat_base.specs.declared.kinds.Round.{Round};
 ghost use Rattle.apfloat_base.specs.declared.kinds.Round.TheVariants.{NearestTiesToEven, TowardZero};
 ghost use Rattle.apfloat_base.specs.Classes.{is_nan_category, is_number_category};
@@ -16,6 +15,7 @@ ghost use Rattle.apfloat_base.specs.declared.status.StatusAnd.{StatusAnd};
 ghost use Rattle.apfloat_base.specs.Parsing.{without_status};
 ghost use Rattle.apfloat_base.specs.Flags.{bits_of};
 ghost use Rattle.apfloat_base.specs.SignedWholes.{IsNegatedWhole};
+ghost use Rattle.apfloat_base.specs.Determined.{IsDetermined};
 
 use crate::kinds::{Category, ExpInt, Round};
 use crate::parse_error::ParseError;
@@ -115,8 +115,10 @@ pub trait Float: Copy
 
     ghost leaves_nearest: { Self → Self → StatusAnd Self → Type 0 };
 
-    // Whether two values are one, and the order of the magnitudes of two numbers that are not zero.
+    // Whether two values are one, and the order of magnitudes where they can be compared.
     ghost same: { Self → Self → Bool };
+
+    ghost can_compare_magnitudes: { Self → Self → Type 0 };
 
     ghost magnitude_order: { Self → Self → Ordering };
 
@@ -380,10 +382,10 @@ pub trait Float: Copy
         self.to_u128_r(width, Round::TowardZero, &mut is_exact)
     }
 
-    /// The order of the magnitudes of two finite values that are not zero.
+    /// The order of the magnitudes of two values for which `can_compare_magnitudes` holds. Of `IeeeFloat` these are the
+    /// finite ones that are not zero.
     fn cmp_abs_normal(self, rhs: Self) -> Ordering
-        requires left { category_of self ≡ Normal }
-        requires right { category_of rhs ≡ Normal }
+        requires { can_compare_magnitudes self rhs }
         ensures { result ≡ magnitude_order self rhs };
 
     /// Whether both are one value: of one category and sign, and with the same number, or the same significand of a NaN.
@@ -670,6 +672,10 @@ pub trait Float: Copy
     ghost signed_above_law: { (n : ℕ) (mode : Round) (r : StatusAnd Self) → converts_unsigned n mode r → converts_signed (pos n) mode r };
 
     ghost signed_below_law: { (n : ℕ) (mode : Round) (r : StatusAnd Self) → 0 < n → converts_unsigned n (swapped mode) r → converts_signed (neg_ℤ (pos n)) mode (record { status = r.status; value = negated r.value }) };
+
+    // Each relation determines its answer.
+
+    ghost determined: { (mode : Round) → IsDetermined mode PRECISION BITS adds subtracts multiplies divides inverts leaves leaves_nearest writes_bits converts_unsigned converts_signed rounds_to_integral converts_to_unsigned converts_to_signed steps_up steps_down scales has_exponent has_fraction reads };
 }
 
 /// A whole number of so many binary digits as a signed one.

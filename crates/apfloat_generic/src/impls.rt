@@ -11,7 +11,7 @@ ghost use Rattle.apfloat_base.specs.Exponents.{IsExactInverse, IsIlogb, IsFrexp}
 ghost use Rattle.apfloat_base.specs.Members.{IsMember};
 ghost use Rattle.apfloat_base.specs.declared.kinds.NonfiniteBehavior.TheVariants.{IEEE754};
 ghost use Rattle.apfloat_base.specs.Classes.{category_of, is_negative, is_denormal, is_finite_non_zero, is_integer, same_datum};
-ghost use Rattle.apfloat_base.specs.Order.{compared_magnitudes};
+ghost use Rattle.apfloat_base.specs.Order.{AreNumbers, compared_magnitudes};
 ghost use Rattle.apfloat_base.specs.Products.{IsProduct, IsOpposite};
 ghost use Rattle.apfloat_base.specs.Quotients.{IsQuotient};
 ghost use Rattle.std.proofs.lemmas.Bool.{leb-true};
@@ -24,7 +24,9 @@ ghost use Rattle.apfloat_base.specs.WholeNumbers.{IsFromUnsigned, IsFromSigned, 
 ghost use Rattle.apfloat_base.specs.WholeNumbersOut.{IsToUnsigned, IsToSigned};
 ghost use Rattle.apfloat_conversions.proofs.ToSigned.{to_signed_above, to_signed_below};
 ghost use Rattle.apfloat_base.specs.Parsing.{IsRead};
-ghost use Rattle.apfloat_generic.specs.Types.{format_of, layout_of};
+ghost use Rattle.apfloat_base.proofs.Determined.{determined, scale_some};
+ghost use Rattle.apfloat_base.proofs.Encodings.{lawful_interchange};
+ghost use Rattle.apfloat_generic.specs.Types.{constants_of, format_of, layout_of};
 
 use crate::float::{IeeeFloat, read, shape_of, write};
 use crate::order::{is_same, magnitude_order};
@@ -114,6 +116,8 @@ impl<S: Semantics> Float for IeeeFloat<S> {
     ghost leaves_nearest = { λ x y answer. Gives (IsNearestRemainder (format_of S.Semantics) x y) answer };
 
     ghost same = { same_datum };
+
+    ghost can_compare_magnitudes = { AreNumbers };
 
     ghost magnitude_order = { compared_magnitudes };
 
@@ -387,4 +391,6 @@ impl<S: Semantics> Float for IeeeFloat<S> {
     ghost signed_above_law = { λ n mode r h. signed_above (format_of S.Semantics) mode n r.value (bits_of r.status) h };
 
     ghost signed_below_law = { λ n mode r p h. signed_below (format_of S.Semantics) mode n r.value (bits_of r.status) (largest_some (format_of S.Semantics) S.lawful.precision_low) p h };
+
+    ghost determined = { λ mode. determined (format_of S.Semantics) (layout_of S.Semantics) S.PRECISION S.BITS mode (scale_some (constants_of S.Semantics) S.lawful) (lawful_interchange (constants_of S.Semantics) S.lawful) };
 }

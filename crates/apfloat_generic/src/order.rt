@@ -1,9 +1,8 @@
 //! The order of the values of one format, `==` and `<`, and their sameness.
 
 ghost use Rattle.std.specs.Prelude.{◌≡◌};
-ghost use Rattle.apfloat_base.specs.declared.kinds.Category.TheVariants.{Normal};
-ghost use Rattle.apfloat_base.specs.Classes.{category_of, same_datum};
-ghost use Rattle.apfloat_base.specs.Order.{compared, compared_magnitudes};
+ghost use Rattle.apfloat_base.specs.Classes.{same_datum};
+ghost use Rattle.apfloat_base.specs.Order.{AreNumbers, compared, compared_magnitudes};
 
 use crate::float::IeeeFloat;
 use crate::semantics::Semantics;
@@ -21,8 +20,7 @@ pub(crate) fn comparison<S: Semantics>(x: IeeeFloat<S>, y: IeeeFloat<S>) -> Opti
 /// The order of the magnitudes of two finite values that are not zero.
 #[inline]
 pub(crate) fn magnitude_order<S: Semantics>(x: IeeeFloat<S>, y: IeeeFloat<S>) -> Ordering
-    requires left { category_of x ≡ Normal }
-    requires right { category_of y ≡ Normal }
+    requires { AreNumbers x y }
     ensures { result ≡ compared_magnitudes x y }
 {
     order::compare_magnitudes(x.unpacked(), y.unpacked())

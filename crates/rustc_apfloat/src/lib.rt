@@ -1,8 +1,11 @@
 //! Correctly rounded software floating point on whole numbers: a port of the Rust crate `rustc_apfloat` (LLVM's
 //! APFloat) whose every operation is proved against a mathematical model.
 //!
-//! The root has statuses, rounding modes and the traits `Float` and `FloatConvert`; `ieee` has the formats and `IeeeFloat`.
+//! The root has statuses, rounding modes and the traits `Float` and `FloatConvert`; `ieee` has the formats and `IeeeFloat`, `ppc`
+//! has pairs of doubles.
 #![tactic(auto)]
+
+pub mod ppc;
 
 pub use apfloat_base::{
     Category, ExpInt, Flags, Float, FloatConvert, IEK_INF, IEK_NAN, IEK_ZERO, ParseError, Round,

@@ -1,0 +1,12 @@
+use Rattle.std.proofs.Common.{◌≡◌, true, refl, sym, ◌∙◌}
+use Rattle.std.specs.Bool.{MatchBool}
+use Rattle.apfloat_base.specs.Flags.{bits_of}
+use Rattle.apfloat_base.specs.PredicatesAgree.{number_agrees}
+use Rattle.apfloat_pairs.specs.PairProducts.{IsProductOfNumbers}
+use Rattle.rustc_apfloat.proofs.PairSteps.{product_by_steps}
+use Rattle.rustc_apfloat.proofs.ppc.products.product_of_numbers.Goals as goal
+
+pub returns : goal.returns
+returns c =
+    product_by_steps c.args.round c.args.x c.args.y _ _ _ _ _ _ _ _ c.mul_r-answer.ensures.product
+    c.is_finite_non_zero.ensures c.if-not-is_finite_non_zero.false c.lost-answer.ensures (c.union-status.ensures tt) c.closed.ensures

@@ -1,0 +1,68 @@
+//! Pairs of doubles: a number as the exact sum of two doubles, `high + low`.
+//!
+//! This is the format that IBM calls extended double. Sums and products are chains of steps of doubles; quotients,
+//! remainders, texts and whole numbers go by the wide format `FallbackS`, of 106 binary digits, which has the exact sum of
+//! the parts where it can; other calls go by the parts.
+
+ghost use Rattle.std.specs.Prelude.{◌≡◌};
+ghost use Rattle.apfloat_pairs.specs.PairFormats.{double};
+ghost use Rattle.apfloat_pairs.specs.Pairs.{Pair, alone, pair_category};
+ghost use Rattle.apfloat_base.specs.Members.{IsMember};
+
+//mod impls;
+mod join;
+//mod operators;
+//mod order;
+mod parts;
+mod products;
+mod sums;
+//mod wide;
+
+use apfloat_base::{Category, Float};
+use apfloat_ieee::{Double, IeeeFloat};
+pub use apfloat_ieee::{FallbackExtendedS, FallbackS};
+use std::marker::Model;
+
+/// A number as the exact sum of two doubles: the high part, and the low part, which is what the high one leaves.
+///
+/// Any two doubles are a pair. Of a normalised one the parts are finite and the high part is the double nearest to their
+/// sum. A high part that is zero, infinite or a NaN tells what the pair is, whatever the low part.
+#[derive(Clone, Copy, Debug)]
+pub struct DoubleFloat(Double, Double);
+
+/// The pair of two binary64 values.
+pub type DoubleDouble = DoubleFloat;
+
+/// A value of the wide format, in which calls on pairs are computed.
+type Fallback = IeeeFloat<FallbackS>;
+
+impl Model for DoubleFloat {
+    ghost use Rattle.apfloat_pairs.specs.Pairs.{Pair};
+
+    ghost Value = { Pair };
+
+    ghost view = { λ x. record { high = x.0; low = x.1 } };
+
+    ghost inverse = { λ x. record { 0 = x.high; 1 = x.low } };
+}
+
+impl DoubleFloat {
+    /// A pair with low part +0.
+    #[inline]
+    fn alone(high: Double) -> DoubleFloat
+        ensures { result ≡ alone high }
+    {
+        DoubleFloat(high, Double::zero())
+    }
+
+    /// What the high part is, and with it the pair.
+    #[inline]
+    fn category(self) -> Category
+        ensures category { result ≡ pair_category self }
+        ensures high { IsMember double self.high }
+        ensures low { IsMember double self.low }
+    {
+        let _ = self.1.category();
+        self.0.category()
+    }
+}

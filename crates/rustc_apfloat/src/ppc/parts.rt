@@ -1,0 +1,93 @@
+//! Calls on pairs that go by the parts.
+
+ghost use Rattle.std.specs.Prelude.{◌≡◌, ◌<◌, ◌^◌};
+ghost use Rattle.std.specs.Option.{unwrap_or};
+ghost use Rattle.apfloat_pairs.specs.Pairs.{negated_pair, pair_of, IsPairEncodedBy};
+ghost use Rattle.apfloat_pairs.specs.PairParts.{is_integer_pair, pair_infinity, pair_largest, pair_qnan, pair_smallest, pair_smallest_normalized, pair_snan, pair_zero, same_pair, IsPairFraction, IsPairScaling};
+
+use super::DoubleFloat;
+use apfloat_base::{ExpInt, Float, Round};
+use apfloat_ieee::Double;
+
+/// The negation. A low part that is zero, infinite or a NaN stays as it is.
+#[inline]
+pub(super) fn negation(x: DoubleFloat) -> DoubleFloat
+    ensures { result ≡ negated_pair x }
+{
+    let low = if x.1.is_finite_non_zero() { -x.1 } else { x.1 };
+    DoubleFloat(-x.0, low)
+}
+
+/// The pair that is written as `bits`.
+#[inline]
+pub(super) fn of_bits(bits: u128) -> DoubleFloat
+    ensures { result ≡ pair_of bits }
+{
+    DoubleFloat(
+        Double::from_bits(bits % (1 << 64)),
+        Double::from_bits(bits >> 64),
+    )
+}
+
+/// The bits of a pair, the high part in the lower half.
+#[inline]
+pub(super) fn bits_of(x: DoubleFloat) -> u128
+    ensures written { IsPairEncodedBy result x }
+    ensures back { pair_of result ≡ x }
+{
+    x.0.to_bits() + (x.1.to_bits() << 64)
+}
+
+/// The largest pair: the largest double, and just below half a unit in its last place.
+#[inline]
+pub(super) fn largest() -> DoubleFloat
+    ensures { result ≡ pair_largest }
+{
+    of_bits(0x7c8f_ffff_ffff_fffe_7fef_ffff_ffff_ffff)
+}
+
+/// 2 to the power of `MIN_EXP`, the least from which on a low part has all its digits.
+#[inline]
+pub(super) fn smallest_normalized() -> DoubleFloat
+    ensures { result ≡ pair_smallest_normalized }
+{
+    of_bits(0x0360_0000_0000_0000)
+}
+
+/// Whether both pairs have the same parts.
+#[inline]
+pub(super) fn is_same(x: DoubleFloat, y: DoubleFloat) -> bool
+    ensures { result ≡ same_pair x y }
+{
+    x.0.bitwise_eq(y.0) && x.1.bitwise_eq(y.1)
+}
+
+/// Whether both parts are whole numbers.
+#[inline]
+pub(super) fn is_integer(x: DoubleFloat) -> bool
+    ensures { result ≡ is_integer_pair x }
+{
+    x.0.is_integer() && x.1.is_integer()
+}
+
+/// The pair times 2 to the power of `exp`, each part rounded once.
+#[inline]
+pub(super) fn scaled(x: DoubleFloat, exp: ExpInt, round: Round) -> DoubleFloat
+    ensures { IsPairScaling round x exp result }
+{
+    DoubleFloat(x.0.scalbn_r(exp, round), x.1.scalbn_r(exp, round))
+}
+
+/// The fraction of the high part and its exponent, with the low part scaled as the high one is.
+#[inline]
+pub(super) fn fraction(x: DoubleFloat, exp: &mut ExpInt, round: Round) -> DoubleFloat
+    ensures { IsPairFraction round x result exp.new }
+{
+    let high = x.0.frexp_r(exp, round);
+    let low = if x.0.is_finite_non_zero() {
+        x.1.scalbn_r(-*exp, round)
+    } else {
+        x.1
+    };
+    DoubleFloat(high, low)
+}
