@@ -61,8 +61,8 @@ widened_same b n value m w =
       within = le_trans m.within (lit≤ tt);
       zero_has = λ z. refl;
     } in
-    (exactly_converted double wide NearestTiesToEven (finite b n) value w.status w.loses_info w.is_conversion n refl
-    t).value_is
+    let c = exactly_converted double wide NearestTiesToEven (finite b n) value w.status w.loses_info w.is_conversion in
+    (c n refl t).value_is
 
 -- ---- the difference
 
@@ -126,11 +126,10 @@ rest_exactly : (b : Bool) (m n : ℕ) (rest low : Datum) (rest_status low_status
     → low ≡ left_over (finite b m) (finite b n)
 rest_exactly b m n rest low rest_status low_status loses_info s d c =
     let e = difference_exactly b m n rest rest_status (more_digits _ s.on_grid) (le_trans s.within (lit≤ tt)) d in
-    let c' : IsConversion wide double NearestTiesToEven (left_over (finite b m) (finite b n)) low low_status
-    loses_info =
-    subst (λ (i : Datum). IsConversion wide double NearestTiesToEven i low low_status loses_info) e c in
-    (exactly_converted wide double NearestTiesToEven (left_over (finite b m) (finite b n)) low low_status loses_info c'
-    (magnitude (signed b m -ℤ signed b n)) refl
+    let c' = subst (λ (i : Datum). IsConversion wide double NearestTiesToEven i low low_status loses_info) e c in
+    let x = exactly_converted wide double NearestTiesToEven (left_over (finite b m) (finite b n)) low low_status
+    loses_info c' in
+    (x (magnitude (signed b m -ℤ signed b n)) refl
     (record { on_grid = s.on_grid; within = s.within; zero_has = λ z. refl })).value_is
 
 -- ---- the high part is finite, and so is the wide number
