@@ -5,20 +5,18 @@
 //! the parts where it can; other calls go by the parts.
 
 ghost use Rattle.std.specs.Prelude.{◌≡◌};
-ghost use Rattle.apfloat_pairs.specs.PairFormats.{double};
-ghost use Rattle.apfloat_pairs.specs.Pairs.{Pair, alone, pair_category};
-ghost use Rattle.apfloat_base.specs.Members.{IsMember};
+ghost use Rattle.apfloat_pairs.specs.Pairs.{alone};
 
-//mod impls;
+mod impls;
 mod join;
-//mod operators;
-//mod order;
+mod operators;
+mod order;
 mod parts;
 mod products;
 mod sums;
-//mod wide;
+mod wide;
 
-use apfloat_base::{Category, Float};
+use apfloat_base::Float;
 use apfloat_ieee::{Double, IeeeFloat};
 pub use apfloat_ieee::{FallbackExtendedS, FallbackS};
 use std::marker::Model;
@@ -53,16 +51,5 @@ impl DoubleFloat {
         ensures { result ≡ alone high }
     {
         DoubleFloat(high, Double::zero())
-    }
-
-    /// What the high part is, and with it the pair.
-    #[inline]
-    fn category(self) -> Category
-        ensures category { result ≡ pair_category self }
-        ensures high { IsMember double self.high }
-        ensures low { IsMember double self.low }
-    {
-        let _ = self.1.category();
-        self.0.category()
     }
 }

@@ -2,12 +2,25 @@
 
 ghost use Rattle.std.specs.Prelude.{◌≡◌, ◌<◌, ◌^◌};
 ghost use Rattle.std.specs.Option.{unwrap_or};
-ghost use Rattle.apfloat_pairs.specs.Pairs.{negated_pair, pair_of, IsPairEncodedBy};
-ghost use Rattle.apfloat_pairs.specs.PairParts.{is_integer_pair, pair_infinity, pair_largest, pair_qnan, pair_smallest, pair_smallest_normalized, pair_snan, pair_zero, same_pair, IsPairFraction, IsPairScaling};
+ghost use Rattle.apfloat_base.specs.Members.{IsMember};
+ghost use Rattle.apfloat_pairs.specs.PairFormats.{double};
+ghost use Rattle.apfloat_pairs.specs.Pairs.{negated_pair, pair_category, pair_of, IsPairEncodedBy};
+ghost use Rattle.apfloat_pairs.specs.PairParts.{is_denormal_pair, is_integer_pair, pair_infinity, pair_largest, pair_qnan, pair_smallest, pair_smallest_normalized, pair_snan, pair_zero, same_pair, IsPairFraction, IsPairScaling};
 
 use super::DoubleFloat;
-use apfloat_base::{ExpInt, Float, Round};
+use apfloat_base::{Category, ExpInt, Float, Round};
 use apfloat_ieee::Double;
+
+/// What the high part is, and with it the pair.
+#[inline]
+pub(super) fn category(x: DoubleFloat) -> Category
+    ensures category { result ≡ pair_category x }
+    ensures high { IsMember double x.high }
+    ensures low { IsMember double x.low }
+{
+    let _ = x.1.category();
+    x.0.category()
+}
 
 /// The negation. A low part that is zero, infinite or a NaN stays as it is.
 #[inline]
@@ -23,10 +36,7 @@ pub(super) fn negation(x: DoubleFloat) -> DoubleFloat
 pub(super) fn of_bits(bits: u128) -> DoubleFloat
     ensures { result ≡ pair_of bits }
 {
-    DoubleFloat(
-        Double::from_bits(bits % (1 << 64)),
-        Double::from_bits(bits >> 64),
-    )
+    DoubleFloat(Double::from_bits(bits), Double::from_bits(bits >> 64))
 }
 
 /// The bits of a pair, the high part in the lower half.
@@ -35,7 +45,7 @@ pub(super) fn bits_of(x: DoubleFloat) -> u128
     ensures written { IsPairEncodedBy result x }
     ensures back { pair_of result ≡ x }
 {
-    x.0.to_bits() + (x.1.to_bits() << 64)
+    x.0.to_bits() | (x.1.to_bits() << 64)
 }
 
 /// The largest pair: the largest double, and just below half a unit in its last place.
@@ -68,6 +78,14 @@ pub(super) fn is_integer(x: DoubleFloat) -> bool
     ensures { result ≡ is_integer_pair x }
 {
     x.0.is_integer() && x.1.is_integer()
+}
+
+/// Whether the high part is a number and denormal, or another one than the double nearest to the sum of the parts.
+#[inline]
+pub(super) fn is_denormal(x: DoubleFloat) -> bool
+    ensures { result ≡ is_denormal_pair x }
+{
+    x.0.is_finite_non_zero() && (x.0.is_denormal() || x.0 != (x.0 + x.1).value)
 }
 
 /// The pair times 2 to the power of `exp`, each part rounded once.

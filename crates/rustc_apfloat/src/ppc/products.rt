@@ -5,6 +5,7 @@ ghost use Rattle.apfloat_base.specs.Flags.{Gives, bits_of};
 ghost use Rattle.apfloat_pairs.specs.PairProducts.{IsLostOfProduct, IsPairProduct, IsProductOfNumbers};
 
 use super::DoubleFloat;
+use super::parts::category;
 use super::sums::closed;
 use crate::unpack;
 use apfloat_base::{Category, Float, Round, Status, StatusAnd};
@@ -45,7 +46,7 @@ fn product_of_numbers(x: DoubleFloat, y: DoubleFloat, round: Round) -> StatusAnd
 pub(super) fn product(x: DoubleFloat, y: DoubleFloat, round: Round) -> StatusAnd<DoubleFloat>
     ensures product { Gives (IsPairProduct round x y) result }
 {
-    match (x.category(), y.category()) {
+    match (category(x), category(y)) {
         (Category::NaN, _) => Status::OK.and(x),
         (_, Category::NaN) => Status::OK.and(y),
         (Category::Zero, Category::Infinity) | (Category::Infinity, Category::Zero) => {

@@ -8,7 +8,7 @@ ghost use Rattle.apfloat_pairs.specs.Pairs.{pair_category};
 ghost use Rattle.apfloat_pairs.specs.PairSums.{greater, lesser, IsClosed, IsFiniteSum, IsLost, IsPairSum, IsPairDifference, IsSumAnew, IsSumOfInfinities, IsSumOfNumbers};
 
 use super::DoubleFloat;
-use super::parts::negation;
+use super::parts::{category, negation};
 use crate::unpack;
 use apfloat_base::{Category, Float, Round, Status, StatusAnd};
 use apfloat_ieee::Double;
@@ -135,7 +135,7 @@ fn sum_of_infinities(x: DoubleFloat, y: DoubleFloat) -> StatusAnd<DoubleFloat>
 pub(super) fn sum(x: DoubleFloat, y: DoubleFloat, round: Round) -> StatusAnd<DoubleFloat>
     ensures sum { Gives (IsPairSum round x y) result }
 {
-    match (x.category(), y.category()) {
+    match (category(x), category(y)) {
         (Category::Infinity, Category::Infinity) => sum_of_infinities(x, y),
         (_, Category::Zero) | (Category::NaN, _) | (Category::Infinity, Category::Normal) => {
             Status::OK.and(x)

@@ -1,0 +1,69 @@
+-- Signed whole numbers and pairs, by the unsigned ones of magnitudes.
+use Rattle.std.proofs.Common.{◌≡◌, ℕ, zero, suc, ◌-◌, ◌<◌, ◌≤◌, Bool, true, false, refl, ap, subst, arith}
+use Rattle.std.specs.Prelude.{ℤ, pos, neg_ℤ, int_lt}
+use Rattle.std.specs.Bool.{MatchBool}
+use Rattle.std.proofs.lemmas.Int.{ints}
+use Rattle.apfloat_base.specs.declared.kinds.Round.{Round}
+use Rattle.apfloat_base.specs.Negation.{swapped}
+use Rattle.apfloat_base.specs.Classes.{category_of, is_negative, is_zero}
+use Rattle.apfloat_base.specs.Predicates.{is_zero_category}
+use Rattle.apfloat_base.specs.PredicatesAgree.{zero_agrees}
+use Rattle.apfloat_base.specs.SignedWholes.{IsNegatedWhole}
+use Rattle.apfloat_pairs.specs.Pairs.{Pair, negated_pair}
+use Rattle.apfloat_pairs.specs.PairCalls.{IsPairFromUnsigned, IsPairFromNegative, IsPairFromSigned, IsPairToUnsigned, IsPairToNegative, IsPairToNatural, IsPairToSigned}
+
+at_true : (b : Bool) (P Q : Type 0) → b ≡ true → P → MatchBool b P Q
+at_true true P Q e p = p
+at_true false P Q e p = cc
+
+at_false : (b : Bool) (P Q : Type 0) → b ≡ false → Q → MatchBool b P Q
+at_false true P Q e q = cc
+at_false false P Q e q = q
+
+not_below : (n : ℕ) → int_lt (pos n) (pos 0) ≡ false
+not_below n = by (int_lt (pos n) (pos 0)) refl
+  where
+    by : (t : Bool) → int_lt (pos n) (pos 0) ≡ t → t ≡ false
+    by false e = refl
+    by true e = absurd (omega (arith, ints))
+
+-- ---- in
+
+pub pair_signed_above : (mode : Round) (n : ℕ) (answer : Pair) (status : ℕ) → IsPairFromUnsigned mode n answer status
+    → IsPairFromSigned mode (pos n) answer status
+pair_signed_above mode n answer status h =
+    let e = not_below n in
+    at_false (int_lt (pos n) (pos 0)) (IsPairFromNegative mode n answer status) (IsPairFromUnsigned mode n answer status) e h
+
+pub pair_signed_below : (mode : Round) (n : ℕ) (answer : Pair) (status : ℕ) → 0 < n
+    → IsPairFromUnsigned (swapped mode) n answer status → IsPairFromSigned mode (neg_ℤ (pos n)) (negated_pair answer) status
+pair_signed_below mode zero answer status p h = absurd (omega (arith, p))
+pair_signed_below mode (suc n) answer status p h =
+    record { positive = answer; is_positive = h; is = refl }
+
+-- ---- out
+
+pub pair_to_signed_above : (mode : Round) (width : ℕ) (x : Pair) (number status : ℕ) (is_exact : Bool)
+    → is_negative x.high ≡ false → IsPairToUnsigned mode (width - 1) x number status is_exact
+    → IsPairToSigned mode width x (pos number) status is_exact
+pair_to_signed_above mode width x number status is_exact e h =
+    at_false (is_negative x.high) (IsPairToNegative mode width x (pos number) status is_exact)
+    (IsPairToNatural mode (width - 1) x (pos number) status is_exact) e
+    (record { magnitude = number; is_magnitude = h; is = refl })
+
+pub pair_to_signed_below : (mode : Round) (width : ℕ) (x : Pair) (number flags : ℕ) (exact : Bool) (answer : ℤ)
+    (status : ℕ) (is_exact : Bool) → is_negative x.high ≡ true
+    → IsPairToUnsigned (swapped mode) width (negated_pair x) number flags exact
+    → IsNegatedWhole (is_zero_category (category_of x.high)) width number flags exact answer status is_exact
+    → IsPairToSigned mode width x answer status is_exact
+pair_to_signed_below mode width x number flags exact answer status is_exact e h w =
+    at_true (is_negative x.high) (IsPairToNegative mode width x answer status is_exact)
+    (IsPairToNatural mode (width - 1) x answer status is_exact) e
+    (record {
+      magnitude = number;
+      flags = flags;
+      exact = exact;
+      is_magnitude = h;
+      is =
+          subst (λ (b : Bool). IsNegatedWhole b width number flags exact answer status is_exact) (zero_agrees x.high) w;
+    })
