@@ -14,7 +14,8 @@ use Rattle.apfloat_pairs.specs.PairParts.{is_denormal_pair, IsDenormalByParts, I
 use Rattle.apfloat_pairs.proofs.CallsOnce.{pair_denormal_once}
 
 -- there is no other sum
-pub nearest_sum_at : (x y sum : Datum) (status : ℕ) → IsSum double NearestTiesToEven x y sum status → nearest_sum x y ≡ sum
+pub nearest_sum_at : (x y sum : Datum) (status : ℕ) → IsSum double NearestTiesToEven x y sum status
+    → nearest_sum x y ≡ sum
 nearest_sum_at x y sum status s =
     let n = nearest_sum_is x y in
     (sum_once double NearestTiesToEven x y (nearest_sum x y) sum n.0 status n.1 s).0
@@ -34,7 +35,8 @@ by_category false t x f = refl
 pub is_denormal_is : (x : Pair) → IsDenormalPair x (is_denormal_pair x)
 is_denormal_is x =
     let n = nearest_sum_is x.high x.low in
-    by_category (is_finite_non_zero x.high) (is_denormal double x.high || not (is_equal x.high (nearest_sum x.high x.low))) x
+    by_category (is_finite_non_zero x.high)
+    (is_denormal double x.high || not (is_equal x.high (nearest_sum x.high x.low))) x
     (λ a e. record { sum = nearest_sum x.high x.low; status = n.0; is_sum = n.1; is = e })
 
 pub is_denormal_at : (x : Pair) (answer : Bool) → IsDenormalPair x answer → is_denormal_pair x ≡ answer

@@ -32,17 +32,20 @@ double_of bits = datum_of double (layout_with double_constants) bits
 -- the lower bits of a number are those of its lower half
 mod-mod : (n j k : ℕ) → n % 2 ^ (j + k) % 2 ^ k ≡ n % 2 ^ k
 mod-mod n j k =
-    ap (λ (i : ℕ). i % 2 ^ k) (mod-pow-add n j k) ∙ mod_low (n / 2 ^ k % 2 ^ j) k (n % 2 ^ k) (mod_below n (2 ^ k) (pow_pos k))
+    ap (λ (i : ℕ). i % 2 ^ k) (mod-pow-add n j k) ∙
+    mod_low (n / 2 ^ k % 2 ^ j) k (n % 2 ^ k) (mod_below n (2 ^ k) (pow_pos k))
 
 -- and so are a few bits within it
 field-mod : (n i j k : ℕ) → n % 2 ^ (i + j + k) / 2 ^ k % 2 ^ j ≡ n / 2 ^ k % 2 ^ j
 field-mod n i j k = ap (λ (m : ℕ). m % 2 ^ j) (field_of n (i + j) k) ∙ mod-mod (n / 2 ^ k) i j
 
 lower_half : (k h l : ℕ) → h < 2 ^ k → (h + 2 ^ k * l) % 2 ^ k ≡ h
-lower_half k h l b = let e : h + 2 ^ k * l ≡ l * 2 ^ k + h = omega arith in ap (λ (i : ℕ). i % 2 ^ k) e ∙ mod_low l k h b
+lower_half k h l b =
+    let e : h + 2 ^ k * l ≡ l * 2 ^ k + h = omega arith in ap (λ (i : ℕ). i % 2 ^ k) e ∙ mod_low l k h b
 
 upper_half : (k h l : ℕ) → h < 2 ^ k → (h + 2 ^ k * l) / 2 ^ k ≡ l
-upper_half k h l b = let e : h + 2 ^ k * l ≡ l * 2 ^ k + h = omega arith in ap (λ (i : ℕ). i / 2 ^ k) e ∙ shr_high l k h b
+upper_half k h l b =
+    let e : h + 2 ^ k * l ≡ l * 2 ^ k + h = omega arith in ap (λ (i : ℕ). i / 2 ^ k) e ∙ shr_high l k h b
 
 both_below : (k h l : ℕ) → h < 2 ^ k → l < 2 ^ k → h + 2 ^ k * l < 2 ^ (k + k)
 both_below k h l a b =
@@ -56,7 +59,8 @@ halves_joined k n = let e : n / 2 ^ k * 2 ^ k + n % 2 ^ k ≡ n = shr_split n k 
 
 or_halves : (k h l : ℕ) → h < 2 ^ k → l < 2 ^ k → bit_or h (l * 2 ^ k % 2 ^ (k + k)) ≡ h + 2 ^ k * l
 or_halves k h l a b =
-    ap (λ (i : ℕ). bit_or h i) (shl_whole l k k (k + k) b (omega arith)) ∙ or_comm h (l * 2 ^ k) ∙ or_shifted l k h a ∙ omega arith
+    ap (λ (i : ℕ). bit_or h i) (shl_whole l k k (k + k) b (omega arith)) ∙ or_comm h (l * 2 ^ k) ∙ or_shifted l k h a ∙
+    omega arith
 
 -- the bits as the code joins them
 pub joined_bits : (h l : ℕ) → h < 2 ^ 64 → l < 2 ^ 64 → bit_or h (l * 2 ^ 64 % 2 ^ 128) ≡ h + 2 ^ 64 * l
@@ -69,16 +73,19 @@ same_fields b c e g t u p q r =
     ap (λ (i : Bool). fields_with i e t) p ∙ ap (λ (i : ℕ). fields_with c i t) q ∙ ap (λ (i : ℕ). fields_with c g i) r
 
 lower_fields : (bits : ℕ)
-    → fields_of double (layout_with double_constants) (bits % 2 ^ 64) ≡ fields_of double (layout_with double_constants) bits
+    → fields_of double (layout_with double_constants) (bits % 2 ^ 64)
+    ≡ fields_of double (layout_with double_constants) bits
 lower_fields bits =
-    same_fields _ _ _ _ _ _ (ap (λ (i : ℕ). eqb i 1) (field-mod bits 0 1 63)) (field-mod bits 1 11 52) (mod-mod bits 12 52)
+    same_fields _ _ _ _ _ _ (ap (λ (i : ℕ). eqb i 1) (field-mod bits 0 1 63)) (field-mod bits 1 11 52)
+    (mod-mod bits 12 52)
 
 pub lower_bits : (bits : ℕ) → double_of (bits % 2 ^ 64) ≡ double_of bits
 lower_bits bits =
     ap (λ (x : Fields). datum_of_fields double (layout_with double_constants) x) (lower_fields bits)
 
 -- so a pair is read by its halves, whatever stands above them
-pub pair_of_halves : (bits : ℕ) (x : Pair) → x.high ≡ double_of bits → x.low ≡ double_of (bits / 2 ^ 64) → x ≡ pair_of bits
+pub pair_of_halves : (bits : ℕ) (x : Pair) → x.high ≡ double_of bits → x.low ≡ double_of (bits / 2 ^ 64)
+    → x ≡ pair_of bits
 pair_of_halves bits x h l =
     parts_same x (pair_of bits) (h ∙ sym (lower_bits bits)) (l ∙ sym (lower_bits (bits / 2 ^ 64)))
 
@@ -115,7 +122,9 @@ pair_written_back bits b =
 -- there is one encoding
 pub pair_encoded_once : (x : Pair) (a b : ℕ) → IsPairEncodedBy a x → IsPairEncodedBy b x → a ≡ b
 pair_encoded_once x a b p q =
-    let h = encoded_once double (layout_with double_constants) x.high (a % 2 ^ 64) (b % 2 ^ 64) double_interchange p.high q.high in
-    let l = encoded_once double (layout_with double_constants) x.low (a / 2 ^ 64) (b / 2 ^ 64) double_interchange p.low q.low in
+    let h = encoded_once double (layout_with double_constants) x.high (a % 2 ^ 64)
+    (b % 2 ^ 64) double_interchange p.high q.high in
+    let l = encoded_once double (layout_with double_constants) x.low (a / 2 ^ 64)
+    (b / 2 ^ 64) double_interchange p.low q.low in
     halves_joined 64 a ∙ ap (λ (i : ℕ). i + 2 ^ 64 * (a / 2 ^ 64)) h ∙
     ap (λ (i : ℕ). b % 2 ^ 64 + 2 ^ 64 * i) l ∙ sym (halves_joined 64 b)

@@ -1,11 +1,9 @@
 -- The calls on pairs determine their answers.
-use Rattle.std.proofs.Common.{◌≡◌, ℕ, Bool, List, Result, Ok, Err}
-use Rattle.std.specs.Prelude.{ℤ}
+use Rattle.std.proofs.Common.{ℕ, Bool, List, Result, Ok, Err}
 use Rattle.apfloat_base.specs.declared.kinds.Round.{Round}
 use Rattle.apfloat_base.specs.declared.parse_error.ParseError.{ParseError}
 use Rattle.apfloat_base.specs.declared.status.StatusAnd.{StatusAnd}
 use Rattle.apfloat_base.specs.Flags.{Gives, bits_of}
-use Rattle.apfloat_base.specs.Readings.{IsRefusal}
 use Rattle.apfloat_base.specs.Determined.{Determines, DeterminesBoth, AreOneReading, IsDetermined}
 use Rattle.apfloat_base.proofs.Determined.{same_answer, refusal_once, reading_or_refusal}
 use Rattle.apfloat_pairs.specs.PairFormats.{wide}
@@ -19,7 +17,8 @@ use Rattle.apfloat_pairs.proofs.PairsOnce.{pair_sum_once, pair_difference_once, 
 use Rattle.apfloat_pairs.proofs.PairBits.{pair_encoded_once}
 use Rattle.apfloat_pairs.proofs.CallsOnce.{OnceWhole, pair_quotient_once, pair_truncated_remainder_once, pair_nearest_remainder_once, pair_round_to_integral_once, pair_next_up_once, pair_next_down_once, pair_reading_once, pair_exact_inverse_once, pair_from_unsigned_once, pair_from_signed_once, pair_to_unsigned_once, pair_to_signed_once, pair_ilogb_once, pair_scaling_once, pair_fraction_once}
 
-pair_gives_once : (Says : Pair → ℕ → Type 0) → OncePair Says → Determines (λ (answer : StatusAnd Pair). Gives Says answer)
+pair_gives_once : (Says : Pair → ℕ → Type 0) → OncePair Says
+    → Determines (λ (answer : StatusAnd Pair). Gives Says answer)
 pair_gives_once Says once r s h k =
     let e = once r.value s.value (bits_of r.status) (bits_of s.status) h k in
     same_answer r s e.0 e.1
@@ -32,7 +31,8 @@ whole_gives_once Says once r s a b h k =
 
 pair_read_once : (mode : Round) (text : List ℕ) (answer other : Result (StatusAnd Pair) ParseError)
     → IsPairRead mode text answer → IsPairRead mode text other → AreOneReading answer other
-pair_read_once mode text (Ok r) (Ok s) h k = pair_gives_once (IsPairReading mode text) (pair_reading_once mode text) r s h k
+pair_read_once mode text (Ok r) (Ok s) h k =
+    pair_gives_once (IsPairReading mode text) (pair_reading_once mode text) r s h k
 pair_read_once mode text (Ok r) (Err e) h k =
     reading_or_refusal wide mode text e.0.now h.value (bits_of r.status) h.is_value k
 pair_read_once mode text (Err e) (Ok r) h k =
@@ -41,10 +41,13 @@ pair_read_once mode text (Err e) (Err d) h k = refusal_once text e.0.now d.0.now
 
 pub pairs_determined : (mode : Round)
     → IsDetermined mode 106 128
-    (λ x y round answer. Gives (IsPairSum round x y) answer) (λ x y round answer. Gives (IsPairDifference round x y) answer)
-    (λ x y round answer. Gives (IsPairProduct round x y) answer) (λ x y round answer. Gives (IsPairQuotient round x y) answer)
+    (λ x y round answer. Gives (IsPairSum round x y) answer)
+    (λ x y round answer. Gives (IsPairDifference round x y) answer)
+    (λ x y round answer. Gives (IsPairProduct round x y) answer)
+    (λ x y round answer. Gives (IsPairQuotient round x y) answer)
     IsPairExactInverse
-    (λ x y answer. Gives (IsPairTruncatedRemainder x y) answer) (λ x y answer. Gives (IsPairNearestRemainder x y) answer)
+    (λ x y answer. Gives (IsPairTruncatedRemainder x y) answer)
+    (λ x y answer. Gives (IsPairNearestRemainder x y) answer)
     (λ x bits. IsPairEncodedBy bits x)
     (λ number round answer. Gives (IsPairFromUnsigned round number) answer)
     (λ number round answer. Gives (IsPairFromSigned round number) answer)

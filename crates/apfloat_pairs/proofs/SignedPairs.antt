@@ -1,11 +1,11 @@
 -- Signed whole numbers and pairs, by the unsigned ones of magnitudes.
-use Rattle.std.proofs.Common.{◌≡◌, ℕ, zero, suc, ◌-◌, ◌<◌, ◌≤◌, Bool, true, false, refl, ap, subst, arith}
+use Rattle.std.proofs.Common.{◌≡◌, ℕ, zero, suc, ◌-◌, ◌<◌, Bool, true, false, refl, subst, arith}
 use Rattle.std.specs.Prelude.{ℤ, pos, neg_ℤ, int_lt}
 use Rattle.std.specs.Bool.{MatchBool}
 use Rattle.std.proofs.lemmas.Int.{ints}
 use Rattle.apfloat_base.specs.declared.kinds.Round.{Round}
 use Rattle.apfloat_base.specs.Negation.{swapped}
-use Rattle.apfloat_base.specs.Classes.{category_of, is_negative, is_zero}
+use Rattle.apfloat_base.specs.Classes.{category_of, is_negative}
 use Rattle.apfloat_base.specs.Predicates.{is_zero_category}
 use Rattle.apfloat_base.specs.PredicatesAgree.{zero_agrees}
 use Rattle.apfloat_base.specs.SignedWholes.{IsNegatedWhole}
@@ -33,10 +33,12 @@ pub pair_signed_above : (mode : Round) (n : ℕ) (answer : Pair) (status : ℕ) 
     → IsPairFromSigned mode (pos n) answer status
 pair_signed_above mode n answer status h =
     let e = not_below n in
-    at_false (int_lt (pos n) (pos 0)) (IsPairFromNegative mode n answer status) (IsPairFromUnsigned mode n answer status) e h
+    at_false (int_lt (pos n) (pos 0)) (IsPairFromNegative mode n answer status)
+    (IsPairFromUnsigned mode n answer status) e h
 
 pub pair_signed_below : (mode : Round) (n : ℕ) (answer : Pair) (status : ℕ) → 0 < n
-    → IsPairFromUnsigned (swapped mode) n answer status → IsPairFromSigned mode (neg_ℤ (pos n)) (negated_pair answer) status
+    → IsPairFromUnsigned (swapped mode) n answer status
+    → IsPairFromSigned mode (neg_ℤ (pos n)) (negated_pair answer) status
 pair_signed_below mode zero answer status p h = absurd (omega (arith, p))
 pair_signed_below mode (suc n) answer status p h =
     record { positive = answer; is_positive = h; is = refl }

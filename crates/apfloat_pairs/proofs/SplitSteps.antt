@@ -1,5 +1,5 @@
--- What is left over of a wide number, by steps: the high part widened again, the difference from it in the wide format, and that
--- difference as a double. Each of the three steps is exact.
+-- What is left over of a wide number, by steps: the high part widened again, the difference from it in the wide format,
+-- and that difference as a double. Each of the three steps is exact.
 use Rattle.std.proofs.Common.{◌≡◌, ℕ, zero, suc, ◌*◌, ◌^◌, ◌<◌, ◌≤◌, Bool, true, false, not, ◌&&◌, eqb, refl, sym, ap, ◌∙◌, subst, le_trans, arith, lit≤}
 use Rattle.std.specs.Prelude.{ℤ, pos, ◌+ℤ◌, ◌-ℤ◌}
 use Rattle.std.proofs.lemmas.Nat.{pow_pos}
@@ -53,14 +53,16 @@ more_digits n g = let powers : 2 ^ double.precision ≤ 2 ^ wide.precision = lit
   is = g.is;
 }
 
-widened_same : (b : Bool) (n : ℕ) (value : Datum) → IsFiniteOf double b n → IsWidened (finite b n) value → value ≡ finite b n
+widened_same : (b : Bool) (n : ℕ) (value : Datum) → IsFiniteOf double b n → IsWidened (finite b n) value
+    → value ≡ finite b n
 widened_same b n value m w =
     let t : IsFiniteOf wide b n = record {
       on_grid = more_digits n m.on_grid;
       within = le_trans m.within (lit≤ tt);
       zero_has = λ z. refl;
     } in
-    (exactly_converted double wide NearestTiesToEven (finite b n) value w.status w.loses_info w.is_conversion n refl t).value_is
+    let c = exactly_converted double wide NearestTiesToEven (finite b n) value w.status w.loses_info w.is_conversion in
+    (c n refl t).value_is
 
 -- ---- the difference
 
@@ -82,13 +84,14 @@ difference_rounded b m n value status d =
     (subst (λ (e : ℤ). IsRounded wide NearestTiesToEven (zero_sum_sign NearestTiesToEven b (not b)) e 1 value status)
     (plus_negated b m n) s)
 
-difference_exactly : (b : Bool) (m n : ℕ) (value : Datum) (status : ℕ) → IsGridNumber wide.precision (signed b m -ℤ signed b n)
-    → magnitude (signed b m -ℤ signed b n) ≤ largest wide
+difference_exactly : (b : Bool) (m n : ℕ) (value : Datum) (status : ℕ)
+    → IsGridNumber wide.precision (signed b m -ℤ signed b n) → magnitude (signed b m -ℤ signed b n) ≤ largest wide
     → IsDifference wide NearestTiesToEven (finite b m) (finite b n) value status
     → value ≡ left_over (finite b m) (finite b n)
 difference_exactly b m n value status g l d =
     let e = signed b m -ℤ signed b n in
-    (delivered_once wide NearestTiesToEven (sign_of false (signed b m -ℤ signed b n)) (magnitude (signed b m -ℤ signed b n)) 1 value
+    (delivered_once wide NearestTiesToEven (sign_of false (signed b m -ℤ signed b n))
+    (magnitude (signed b m -ℤ signed b n)) 1 value
     (left_over (finite b m) (finite b n)) status ok_bits (difference_rounded b m n value status d)
     (rounded_exactly wide false (signed b m -ℤ signed b n) refl g l)).0
 
@@ -102,7 +105,8 @@ record IsSmallRest (b : Bool) (m n : ℕ) : Type 0 where
 eighth_within : (e m l w : ℕ) → 8 * e ≤ m → m ≤ w → w ≤ 8 * l → e ≤ l
 eighth_within e m l w h k i = omega arith
 
-small_rest : (b : Bool) (m n : ℕ) → IsFiniteOf wide b m → IsRoundedTo double.precision (signed b m) (finite b n) → IsSmallRest b m n
+small_rest : (b : Bool) (m n : ℕ) → IsFiniteOf wide b m → IsRoundedTo double.precision (signed b m) (finite b n)
+    → IsSmallRest b m n
 small_rest b m n t r =
     let v = magnitude-sub (signed b n) (signed b m) in
     let o = product_error_on_grid double.precision wide_enough 0 (signed b m) (pos 1) (signed b m) (signed b n)
@@ -118,13 +122,14 @@ small_rest b m n t r =
 rest_exactly : (b : Bool) (m n : ℕ) (rest low : Datum) (rest_status low_status : ℕ) (loses_info : Bool)
     → IsSmallRest b m n
     → IsDifference wide NearestTiesToEven (finite b m) (finite b n) rest rest_status
-    → IsConversion wide double NearestTiesToEven rest low low_status loses_info → low ≡ left_over (finite b m) (finite b n)
+    → IsConversion wide double NearestTiesToEven rest low low_status loses_info
+    → low ≡ left_over (finite b m) (finite b n)
 rest_exactly b m n rest low rest_status low_status loses_info s d c =
     let e = difference_exactly b m n rest rest_status (more_digits _ s.on_grid) (le_trans s.within (lit≤ tt)) d in
-    let c' : IsConversion wide double NearestTiesToEven (left_over (finite b m) (finite b n)) low low_status loses_info =
-    subst (λ (i : Datum). IsConversion wide double NearestTiesToEven i low low_status loses_info) e c in
-    (exactly_converted wide double NearestTiesToEven (left_over (finite b m) (finite b n)) low low_status loses_info c'
-    (magnitude (signed b m -ℤ signed b n)) refl
+    let c' = subst (λ (i : Datum). IsConversion wide double NearestTiesToEven i low low_status loses_info) e c in
+    let x = exactly_converted wide double NearestTiesToEven (left_over (finite b m) (finite b n)) low low_status
+    loses_info c' in
+    (x (magnitude (signed b m -ℤ signed b n)) refl
     (record { on_grid = s.on_grid; within = s.within; zero_has = λ z. refl })).value_is
 
 -- ---- the high part is finite, and so is the wide number
@@ -141,12 +146,15 @@ some_rest b m high low status p f s =
     let w = delivered_whole double b m (2 ^ double.scale) high status (pow_pos double.scale) k.is_delivered in
     let n = k.is_delivered.pick in
     let e : high ≡ finite b n = finite_is double b n high refl f k.is_delivered.value_is in
-    let r = subst (λ (d : Datum). IsRoundedTo double.precision (signed b m) d) e (high_rounded_to b m high w.0 p f w.1) in
+    let r = subst (λ (d : Datum). IsRoundedTo double.precision (signed b m) d) e
+    (high_rounded_to b m high w.0 p f w.1) in
     let t : IsFiniteOf double b n = subst (λ (d : Datum). IsMember double d) e s.is_double in
     let u : s.widened ≡ finite b n =
     widened_same b n s.widened t (subst (λ (d : Datum). IsWidened d s.widened) e s.widened_is) in
-    let d = subst (λ (i : Datum). IsDifference wide NearestTiesToEven (finite b m) i s.rest s.rest_status) u s.rest_is in
-    let z = rest_exactly b m n s.rest low s.rest_status s.low_status s.low_loses_info (small_rest b m n s.is_wide r) d s.low_is in
+    let d = subst (λ (i : Datum). IsDifference wide NearestTiesToEven (finite b m) i s.rest s.rest_status) u
+    s.rest_is in
+    let z = rest_exactly b m n s.rest low s.rest_status s.low_status s.low_loses_info
+    (small_rest b m n s.is_wide r) d s.low_is in
     subst (λ (i : Datum). low ≡ left_over (finite b m) i) (sym e) z
 
 pub rest_by_steps : (x high low : Datum) (status : ℕ) → is_finite_non_zero high ≡ true
