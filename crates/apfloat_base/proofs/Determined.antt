@@ -1,6 +1,6 @@
 -- The relations of a format to its answers determine them.
-use Rattle.std.proofs.Common.{◌≡◌, ℕ, ◌+◌, ◌-◌, ◌*◌, ◌^◌, ◌<◌, ◌≤◌, Bool, true, false, eqb, List, Option, Some, None, Result, Ok, Err, sym, refl, ap, ◌∙◌, subst, arith}
-use Rattle.std.specs.Prelude.{ℤ, pos, neg_ℤ, ◌-ℤ◌, ◌≤ℤ◌, unsigned_abs}
+use Rattle.std.proofs.Common.{◌≡◌, ℕ, ◌-◌, ◌^◌, ◌<◌, ◌≤◌, Bool, true, false, eqb, List, Option, Some, None, Result, Ok, Err, sym, refl, ap, ◌∙◌, subst, arith}
+use Rattle.std.specs.Prelude.{ℤ, pos, ◌-ℤ◌, unsigned_abs}
 use Rattle.std.specs.Bool.{MatchBool}
 use Rattle.std.specs.Option.{unwrap_or}
 use Rattle.std.proofs.lemmas.Nat.{pow_pos}
@@ -20,11 +20,11 @@ use Rattle.apfloat_base.specs.Quotients.{IsQuotient}
 use Rattle.apfloat_base.specs.Remainders.{IsTruncatedRemainder, IsNearestRemainder, truncated_quotient, nearest_quotient}
 use Rattle.apfloat_base.specs.Scaling.{IsScaling}
 use Rattle.apfloat_base.specs.WholeNumbers.{IsFromUnsigned, IsFromSigned, IsRoundToIntegral}
-use Rattle.apfloat_base.specs.WholeNumbersOut.{Whole, IsWhole, IsToUnsigned, IsToSigned, to_unsigned, to_signed}
+use Rattle.apfloat_base.specs.WholeNumbersOut.{IsToUnsigned, IsToSigned, to_unsigned, to_signed}
 use Rattle.apfloat_base.specs.NextUp.{IsNextUp, IsNextDown}
 use Rattle.apfloat_base.specs.Exponents.{IsIlogb, IsLogarithm, IsFraction, IsFrexp, AreInverse, IsExactInverse}
 use Rattle.apfloat_base.specs.Specials.{Meaning, infinity, not_a_number, hexadecimal}
-use Rattle.apfloat_base.specs.Texts.{Fault, words, fault_of}
+use Rattle.apfloat_base.specs.Texts.{Fault, words}
 use Rattle.apfloat_base.specs.Readings.{IsMeant, IsReading, IsRefusal}
 use Rattle.apfloat_base.specs.Parsing.{IsRead}
 use Rattle.apfloat_base.specs.Determined.{Determines, DeterminesBoth, AreOneReading, IsDetermined}
@@ -36,19 +36,21 @@ use Rattle.apfloat_base.proofs.OneMeaning.{one_meaning, meaning_no_fault, none_i
 -- an answer is its value and the bits of its status
 pub same_answer : {A : Type 0} (r s : StatusAnd A) → r.value ≡ s.value → bits_of r.status ≡ bits_of s.status → r ≡ s
 same_answer {A} r s e d =
-    ap (λ (v : A). record { status = r.status; value = v }) e ∙ ap (λ (b : ℕ). record { status = record { 0 = b }; value = s.value }) d
+    ap (λ (v : A). record { status = r.status; value = v }) e
+    ∙ ap (λ (b : ℕ). record { status = record { 0 = b }; value = s.value }) d
 
-pub gives_once : (Says : Datum → ℕ → Type 0) → Once Says → Determines (λ (answer : StatusAnd Datum). Gives Says answer)
-gives_once Says once r s h k =
+pub gives_once : {A : Type 0} (Says : A → ℕ → Type 0) → Once Says → Determines (λ (answer : StatusAnd A). Gives Says answer)
+gives_once {A} Says once r s h k =
     let e = once r.value s.value (bits_of r.status) (bits_of s.status) h k in
     same_answer r s e.0 e.1
 
-match_determines : {A : Type 0} (b : Bool) (P Q : A → Type 0) → Determines P → Determines Q → Determines (λ a. MatchBool b (P a) (Q a))
+match_determines : {A : Type 0} (b : Bool) (P Q : A → Type 0) → Determines P → Determines Q
+    → Determines (λ a. MatchBool b (P a) (Q a))
 match_determines true P Q p q = p
 match_determines false P Q p q = q
 
-match_determines_both : {A B : Type 0} (b : Bool) (P Q : A → B → Type 0) → DeterminesBoth P → DeterminesBoth Q
-    → DeterminesBoth (λ a c. MatchBool b (P a c) (Q a c))
+match_determines_both : {A B : Type 0} (b : Bool) (P Q : A → B → Type 0) → DeterminesBoth P
+    → DeterminesBoth Q → DeterminesBoth (λ a c. MatchBool b (P a c) (Q a c))
 match_determines_both true P Q p q = p
 match_determines_both false P Q p q = q
 
@@ -91,13 +93,16 @@ exact_inverse_once f (nan b s) None None h k = refl
 -- ---- whole numbers out
 
 pub to_unsigned_once : (f : Format) (mode : Round) (width : ℕ) (x : Datum)
-    → DeterminesBoth (λ (answer : StatusAnd ℕ) (exact : Bool). IsToUnsigned f mode width x answer.value (bits_of answer.status) exact)
+    → DeterminesBoth (λ (answer : StatusAnd ℕ) (exact : Bool).
+    IsToUnsigned f mode width x answer.value (bits_of answer.status) exact)
 to_unsigned_once f mode width x r s a b h k =
-    let e = whole_once (to_unsigned f mode width x) (pos r.value) (pos s.value) (bits_of r.status) (bits_of s.status) a b h k in
+    let whole = to_unsigned f mode width x in
+    let e = whole_once whole (pos r.value) (pos s.value) (bits_of r.status) (bits_of s.status) a b h k in
     (same_answer r s (ap unsigned_abs e.0) e.1, e.2)
 
 pub to_signed_once : (f : Format) (mode : Round) (width : ℕ) (x : Datum)
-    → DeterminesBoth (λ (answer : StatusAnd ℤ) (exact : Bool). IsToSigned f mode width x answer.value (bits_of answer.status) exact)
+    → DeterminesBoth (λ (answer : StatusAnd ℤ) (exact : Bool).
+    IsToSigned f mode width x answer.value (bits_of answer.status) exact)
 to_signed_once f mode width x r s a b h k =
     let e = whole_once (to_signed f mode width x) r.value s.value (bits_of r.status) (bits_of s.status) a b h k in
     (same_answer r s e.0 e.1, e.2)
@@ -142,27 +147,30 @@ scale_some c law =
 
 -- of a format of positive scale, with its bits if it has any
 
-pub determined : (f : Format) (layout : Layout) (precision bits : ℕ) (mode : Round) → 0 < f.scale → (precision < bits → IsInterchange f layout)
+pub determined : (f : Format) (layout : Layout) (precision bits : ℕ) (mode : Round) → 0 < f.scale
+    → (precision < bits → IsInterchange f layout)
     → IsDetermined mode precision bits
-      (λ (x y : Datum) (mode : Round) (answer : StatusAnd Datum). Gives (IsSum f mode x y) answer)
-      (λ (x y : Datum) (mode : Round) (answer : StatusAnd Datum). Gives (IsDifference f mode x y) answer)
-      (λ (x y : Datum) (mode : Round) (answer : StatusAnd Datum). Gives (IsProduct f mode x y) answer)
-      (λ (x y : Datum) (mode : Round) (answer : StatusAnd Datum). Gives (IsQuotient f mode x y) answer)
-      (IsExactInverse f)
-      (λ (x y : Datum) (answer : StatusAnd Datum). Gives (IsTruncatedRemainder f x y) answer)
-      (λ (x y : Datum) (answer : StatusAnd Datum). Gives (IsNearestRemainder f x y) answer)
-      (λ (x : Datum) (written : ℕ). IsEncodedBy f layout written x)
-      (λ (number : ℕ) (mode : Round) (answer : StatusAnd Datum). Gives (IsFromUnsigned f mode number) answer)
-      (λ (number : ℤ) (mode : Round) (answer : StatusAnd Datum). Gives (IsFromSigned f mode number) answer)
-      (λ (x : Datum) (mode : Round) (answer : StatusAnd Datum). Gives (IsRoundToIntegral f mode x) answer)
-      (λ (x : Datum) (width : ℕ) (mode : Round) (answer : StatusAnd ℕ) (exact : Bool). IsToUnsigned f mode width x answer.value (bits_of answer.status) exact)
-      (λ (x : Datum) (width : ℕ) (mode : Round) (answer : StatusAnd ℤ) (exact : Bool). IsToSigned f mode width x answer.value (bits_of answer.status) exact)
-      (λ (x : Datum) (answer : StatusAnd Datum). Gives (IsNextUp f x) answer)
-      (λ (x : Datum) (answer : StatusAnd Datum). Gives (IsNextDown f x) answer)
-      (λ (x : Datum) (places : ℤ) (mode : Round) (value : Datum). IsScaling f mode x places value)
-      (λ (x : Datum) (exponent : ℤ). IsIlogb f x exponent)
-      (λ (x : Datum) (mode : Round) (value : Datum) (exponent : ℤ). IsFrexp f x value exponent)
-      (λ (text : List ℕ) (mode : Round) (answer : Result (StatusAnd Datum) ParseError). IsRead f mode text answer)
+    (λ (x y : Datum) (mode : Round) (answer : StatusAnd Datum). Gives (IsSum f mode x y) answer)
+    (λ (x y : Datum) (mode : Round) (answer : StatusAnd Datum). Gives (IsDifference f mode x y) answer)
+    (λ (x y : Datum) (mode : Round) (answer : StatusAnd Datum). Gives (IsProduct f mode x y) answer)
+    (λ (x y : Datum) (mode : Round) (answer : StatusAnd Datum). Gives (IsQuotient f mode x y) answer)
+    (IsExactInverse f)
+    (λ (x y : Datum) (answer : StatusAnd Datum). Gives (IsTruncatedRemainder f x y) answer)
+    (λ (x y : Datum) (answer : StatusAnd Datum). Gives (IsNearestRemainder f x y) answer)
+    (λ (x : Datum) (written : ℕ). IsEncodedBy f layout written x)
+    (λ (number : ℕ) (mode : Round) (answer : StatusAnd Datum). Gives (IsFromUnsigned f mode number) answer)
+    (λ (number : ℤ) (mode : Round) (answer : StatusAnd Datum). Gives (IsFromSigned f mode number) answer)
+    (λ (x : Datum) (mode : Round) (answer : StatusAnd Datum). Gives (IsRoundToIntegral f mode x) answer)
+    (λ (x : Datum) (width : ℕ) (mode : Round) (answer : StatusAnd ℕ) (exact : Bool).
+    IsToUnsigned f mode width x answer.value (bits_of answer.status) exact)
+    (λ (x : Datum) (width : ℕ) (mode : Round) (answer : StatusAnd ℤ) (exact : Bool).
+    IsToSigned f mode width x answer.value (bits_of answer.status) exact)
+    (λ (x : Datum) (answer : StatusAnd Datum). Gives (IsNextUp f x) answer)
+    (λ (x : Datum) (answer : StatusAnd Datum). Gives (IsNextDown f x) answer)
+    (λ (x : Datum) (places : ℤ) (mode : Round) (value : Datum). IsScaling f mode x places value)
+    (λ (x : Datum) (exponent : ℤ). IsIlogb f x exponent)
+    (λ (x : Datum) (mode : Round) (value : Datum) (exponent : ℤ). IsFrexp f x value exponent)
+    (λ (text : List ℕ) (mode : Round) (answer : Result (StatusAnd Datum) ParseError). IsRead f mode text answer)
 determined f layout precision bits mode positive interchange =
     record {
       sum = λ x y. gives_once (IsSum f mode x y) (sum_once f mode x y);

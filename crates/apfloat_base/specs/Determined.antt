@@ -11,7 +11,8 @@ Determines {A} Says = (answer other : A) → Says answer → Says other → answ
 -- one pair of answers at most
 abbrev pub DeterminesBoth : {A B : Type 0} → (A → B → Type 0) → Type 0
 DeterminesBoth {A} {B} Say =
-    (first other_first : A) (second other_second : B) → Say first second → Say other_first other_second
+    (first other_first : A) (second other_second : B)
+    → Say first second → Say other_first other_second
     → (first ≡ other_first) × (second ≡ other_second)
 
 -- one value and one status, or refusals with the same words
@@ -22,14 +23,18 @@ AreOneReading (Err error) (Ok answer) = ⊥
 AreOneReading (Err error) (Err other) = error.0.now ≡ other.0.now
 
 -- each relation determines its answer, those that round under the mode
-pub record IsDetermined {A : Type 0} (mode : Round) (PRECISION BITS : ℕ) (adds subtracts multiplies divides : A → A → Round → StatusAnd A → Type 0)
-  (inverts : A → Option A → Type 0) (leaves leaves_nearest : A → A → StatusAnd A → Type 0) (writes_bits : A → ℕ → Type 0)
-  (converts_unsigned : ℕ → Round → StatusAnd A → Type 0) (converts_signed : ℤ → Round → StatusAnd A → Type 0)
-  (rounds_to_integral : A → Round → StatusAnd A → Type 0)
-  (converts_to_unsigned : A → ℕ → Round → StatusAnd ℕ → Bool → Type 0)
-  (converts_to_signed : A → ℕ → Round → StatusAnd ℤ → Bool → Type 0) (steps_up steps_down : A → StatusAnd A → Type 0)
-  (scales : A → ℤ → Round → A → Type 0) (has_exponent : A → ℤ → Type 0) (has_fraction : A → Round → A → ℤ → Type 0)
-  (reads : List ℕ → Round → Result (StatusAnd A) ParseError → Type 0) : Type 0 where
+pub record IsDetermined {A : Type 0} (mode : Round) (PRECISION BITS : ℕ)
+    (adds subtracts multiplies divides : A → A → Round → StatusAnd A → Type 0)
+    (inverts : A → Option A → Type 0) (leaves leaves_nearest : A → A → StatusAnd A → Type 0)
+    (writes_bits : A → ℕ → Type 0)
+    (converts_unsigned : ℕ → Round → StatusAnd A → Type 0) (converts_signed : ℤ → Round → StatusAnd A → Type 0)
+    (rounds_to_integral : A → Round → StatusAnd A → Type 0)
+    (converts_to_unsigned : A → ℕ → Round → StatusAnd ℕ → Bool → Type 0)
+    (converts_to_signed : A → ℕ → Round → StatusAnd ℤ → Bool → Type 0)
+    (steps_up steps_down : A → StatusAnd A → Type 0)
+    (scales : A → ℤ → Round → A → Type 0) (has_exponent : A → ℤ → Type 0)
+    (has_fraction : A → Round → A → ℤ → Type 0)
+    (reads : List ℕ → Round → Result (StatusAnd A) ParseError → Type 0) : Type 0 where
   pub sum : (x y : A) → Determines (adds x y mode)
   pub difference : (x y : A) → Determines (subtracts x y mode)
   pub product : (x y : A) → Determines (multiplies x y mode)
@@ -49,4 +54,4 @@ pub record IsDetermined {A : Type 0} (mode : Round) (PRECISION BITS : ℕ) (adds
   pub exponent : (x : A) → Determines (has_exponent x)
   pub fraction : (x : A) → DeterminesBoth (has_fraction x mode)
   pub reading : (text : List ℕ) (answer other : Result (StatusAnd A) ParseError)
-    → reads text mode answer → reads text mode other → AreOneReading answer other
+      → reads text mode answer → reads text mode other → AreOneReading answer other

@@ -673,9 +673,14 @@ pub trait Float: Copy
 
     ghost signed_below_law: { (n : ℕ) (mode : Round) (r : StatusAnd Self) → 0 < n → converts_unsigned n (swapped mode) r → converts_signed (neg_ℤ (pos n)) mode (record { status = r.status; value = negated r.value }) };
 
-    // Each relation determines its answer.
+    // Each relation determines its answer, so that an operator and its call have one answer. The facts are given for a
+    // mode: proofs that do not cite them are then not searched with all of them.
 
-    ghost determined: { (mode : Round) → IsDetermined mode PRECISION BITS adds subtracts multiplies divides inverts leaves leaves_nearest writes_bits converts_unsigned converts_signed rounds_to_integral converts_to_unsigned converts_to_signed steps_up steps_down scales has_exponent has_fraction reads };
+    ghost determined: { (mode : Round) →
+        IsDetermined mode PRECISION BITS adds subtracts multiplies divides inverts leaves
+        leaves_nearest writes_bits converts_unsigned converts_signed rounds_to_integral
+        converts_to_unsigned converts_to_signed steps_up steps_down scales has_exponent
+        has_fraction reads };
 }
 
 /// A whole number of so many binary digits as a signed one.

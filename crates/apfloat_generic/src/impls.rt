@@ -392,5 +392,8 @@ impl<S: Semantics> Float for IeeeFloat<S> {
 
     ghost signed_below_law = { λ n mode r p h. signed_below (format_of S.Semantics) mode n r.value (bits_of r.status) (largest_some (format_of S.Semantics) S.lawful.precision_low) p h };
 
-    ghost determined = { λ mode. determined (format_of S.Semantics) (layout_of S.Semantics) S.PRECISION S.BITS mode (scale_some (constants_of S.Semantics) S.lawful) (lawful_interchange (constants_of S.Semantics) S.lawful) };
+    ghost determined = { λ mode.
+        determined (format_of S.Semantics) (layout_of S.Semantics) S.PRECISION S.BITS mode
+        (scale_some (constants_of S.Semantics) S.lawful)
+        (lawful_interchange (constants_of S.Semantics) S.lawful) };
 }

@@ -4,6 +4,7 @@
 //! The programs `command_rows` and `call_rows` check files of outside values.
 #![tactic(auto)]
 
+pub mod agreements;
 #[cfg(test)]
 mod bits;
 #[cfg(test)]

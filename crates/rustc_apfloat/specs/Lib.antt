@@ -39,6 +39,7 @@ pub use Rattle.apfloat_base.specs.Texts
 pub use Rattle.apfloat_base.specs.Readings
 pub use Rattle.apfloat_base.specs.Literals
 pub use Rattle.apfloat_base.specs.Parsing
+pub use Rattle.apfloat_base.specs.Determined
 pub use Rattle.apfloat_base.specs.Log
 pub use Rattle.apfloat_base.specs.Standing
 pub use Rattle.apfloat_base.specs.Enclosure
