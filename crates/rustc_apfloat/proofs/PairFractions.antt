@@ -1,16 +1,28 @@
--- The exponent by which the low part of a fraction is scaled.
-use Rattle.std.proofs.Common.{◌≡◌, ℕ, ◌*◌, ◌^◌, ◌<◌, ◌≤◌, Bool, true, ap, ⊎_elim, arith}
-use Rattle.std.specs.Prelude.{ℤ, pos, neg_ℤ, ◌≤ℤ◌}
+-- The fraction of a pair: its exponent is a machine number, and so is its negation, by which the low part is scaled.
+use Rattle.std.proofs.Common.{◌≡◌, ℕ, zero, suc, ◌*◌, ◌-◌, ◌^◌, ◌<◌, ◌≤◌, Bool, true, false, eqb, w32, to_z, of_z, sym, ap, ◌∙◌, subst, ⊎_elim, lit<, arith, FitsSigned}
+use Rattle.std.specs.Prelude.{ℤ, pos, neg_ℤ, ◌-ℤ◌, ◌≤ℤ◌}
+use Rattle.std.specs.Bool.{MatchBool}
 use Rattle.std.proofs.Math.Nat.{mul-le-mul_right, pow-le-pow_right}
-use Rattle.std.proofs.lemmas.Bool.{MatchBool-at_false, cases_lt, false≢true, ltb-true, ne_eqb}
-use Rattle.std.proofs.lemmas.Int.{ints}
-use Rattle.apfloat_base.specs.Format.{Format}
+use Rattle.std.proofs.lemmas.Nat.{pow_pos}
+use Rattle.std.proofs.lemmas.Bool.{MatchBool-at_false, cases_lt, ne_eqb}
+use Rattle.std.proofs.lemmas.Int.{to_z-of_z, ints}
+use Rattle.apfloat_base.specs.declared.kinds.Category.{Category}
+use Rattle.apfloat_base.specs.declared.kinds.Category.TheVariants.{Normal, Zero}
+use Rattle.apfloat_base.specs.declared.kinds.Round.{Round}
+use Rattle.apfloat_base.specs.Format.{Format, largest}
 use Rattle.apfloat_base.specs.Datum.{Datum, finite, infinite, nan}
-use Rattle.apfloat_base.specs.Classes.{is_finite_non_zero}
+use Rattle.apfloat_base.specs.Classes.{category_of, is_finite_non_zero, is_number_category}
+use Rattle.apfloat_base.specs.PredicatesAgree.{number_agrees}
 use Rattle.apfloat_base.specs.Exact.{up, down}
 use Rattle.apfloat_base.specs.Exponents.{IsFraction, IsFrexp}
+use Rattle.apfloat_base.specs.Members.{IsMember}
+use Rattle.apfloat_base.specs.Scaling.{IsScaling}
 use Rattle.apfloat_base.proofs.Existence.{two_pos}
 use Rattle.apfloat_base.proofs.Signs.{one_side}
+use Rattle.apfloat_pairs.specs.PairFormats.{double}
+use Rattle.apfloat_pairs.specs.Pairs.{Pair}
+use Rattle.apfloat_pairs.specs.PairParts.{IsPairFraction}
+use Rattle.rustc_apfloat.proofs.PairSteps.{match_true}
 
 -- ---- the exponent of a fraction
 
@@ -28,22 +40,80 @@ few_places n fraction scale d u p h z e =
     let k : fraction * 2 ^ u ≡ fraction * 2 ^ 0 = ap (λ (i : ℕ). fraction * 2 ^ i) z in
     power_below d fraction scale (omega arith) h
 
-not_far_below : (f : Format) (negative : Bool) (n : ℕ) (value : Datum) (exponent : ℤ) → 0 < n
-    → IsFraction f negative n value exponent → neg_ℤ (pos f.scale) ≤ℤ exponent
-not_far_below f negative n value exponent p x =
+-- a number of at least 2 ^ scale / 2 is n * 2 ^ d / 2 ^ u
+few_steps : (n fraction scale top d u : ℕ) → n < 2 ^ top → 2 ^ (scale - 1) ≤ fraction → d ≡ 0
+    → n * 2 ^ d ≡ fraction * 2 ^ u → u ≤ top
+few_steps n fraction scale top d u h l z e =
+    let p : 0 < 2 ^ (scale - 1) = pow_pos (scale - 1) in
+    let m : 1 * 2 ^ u ≤ fraction * 2 ^ u = mul-le-mul_right (2 ^ u) (omega (arith, p, l)) in
+    let k : n * 2 ^ d ≡ n * 2 ^ 0 = ap (λ (i : ℕ). n * 2 ^ i) z in
+    power_below u n top (omega arith) h
+
+-- the exponent of a number's fraction, of so many quanta
+record IsNear (scale top : ℕ) (exponent : ℤ) : Type 0 where
+  low : neg_ℤ (pos scale) ≤ℤ exponent
+  high : exponent ≤ℤ pos top
+
+near : (f : Format) (negative : Bool) (n top : ℕ) (value : Datum) (exponent : ℤ) → 0 < n → n < 2 ^ top
+    → IsFraction f negative n value exponent → IsNear f.scale top exponent
+near f negative n top value exponent p h x =
     ⊎_elim
     (λ (z : up exponent ≡ 0).
     let l : down exponent ≤ f.scale = few_places n x.fraction f.scale (down exponent) (up exponent) p x.high z x.same in
-    omega (arith, ints))
-    (λ (z : down exponent ≡ 0). omega (arith, ints))
+    record { low = omega (arith, ints, l, z); high = omega (arith, ints, l, z) })
+    (λ (z : down exponent ≡ 0).
+    let l : up exponent ≤ top = few_steps n x.fraction f.scale top (down exponent) (up exponent) h x.low z x.same in
+    record { low = omega (arith, ints, l, z); high = omega (arith, ints, l, z) })
     (one_side exponent)
 
--- the exponent of a number's fraction is not far below that of the quantum
-pub frexp_not_far_below : (f : Format) (x value : Datum) (exponent : ℤ) → is_finite_non_zero x ≡ true
-    → IsFrexp f x value exponent → neg_ℤ (pos f.scale) ≤ℤ exponent
-frexp_not_far_below f (finite b n) value exponent some h =
-    let p : 0 < n = ltb-true 0 n some in
-    not_far_below f b n value exponent p
-    (MatchBool-at_false _ (IsFraction f b n value exponent) (ne_eqb n 0 (λ z. omega (arith, p, z))) h)
-frexp_not_far_below f (infinite b) value exponent some h = absurd (false≢true some)
-frexp_not_far_below f (nan b s) value exponent some h = absurd (false≢true some)
+some_quanta : (b : Bool) (n : ℕ) → category_of (finite b n) ≡ Normal → 0 < n
+some_quanta b zero e = cc
+some_quanta b (suc n) e = omega arith
+
+double_near : (x value : Datum) (exponent : ℤ) → category_of x ≡ Normal → IsMember double x
+    → IsFrexp double x value exponent → IsNear 1074 2098 exponent
+double_near (finite b n) value exponent normal member h =
+    let p : 0 < n = some_quanta b n normal in
+    let w : n ≤ largest double = member.within in
+    let t : largest double < 2 ^ 2098 = lit< tt in
+    near double b n 2098 value exponent p (omega arith)
+    (MatchBool-at_false _ (IsFraction double b n value exponent) (ne_eqb n 0 (λ z. omega (arith, p, z))) h)
+double_near (infinite b) value exponent normal member h = cc
+double_near (nan b s) value exponent normal member h = cc
+
+near_fits : (exponent : ℤ) → IsNear 1074 2098 exponent → FitsSigned w32 exponent
+near_fits exponent n = omega (arith, ints, n.low, n.high)
+
+negated_fits : (exponent : ℤ) → IsNear 1074 2098 exponent → FitsSigned w32 (pos 0 -ℤ exponent)
+negated_fits exponent n = omega (arith, ints, n.low, n.high)
+
+-- so its negation is a machine number
+pub fraction_turns : (x value : Datum) (exponent : ℤ) → category_of x ≡ Normal → IsMember double x
+    → IsFrexp double x value exponent → FitsSigned w32 (pos 0 -ℤ to_z w32 (of_z w32 exponent))
+fraction_turns x value exponent normal member h =
+    let n = double_near x value exponent normal member h in
+    rw (to_z-of_z w32 exponent (near_fits exponent n)) (negated_fits exponent n)
+
+-- and that machine number is the negation
+pub fraction_turned : (x value : Datum) (exponent : ℤ) → category_of x ≡ Normal → IsMember double x
+    → IsFrexp double x value exponent
+    → to_z w32 (of_z w32 (pos 0 -ℤ to_z w32 (of_z w32 exponent))) ≡ neg_ℤ exponent
+fraction_turned x value exponent normal member h =
+    let n = double_near x value exponent normal member h in
+    let e : (pos 0 -ℤ exponent) ≡ neg_ℤ exponent = omega (arith, ints) in
+    rw (to_z-of_z w32 exponent (near_fits exponent n))
+    (to_z-of_z w32 (pos 0 -ℤ exponent) (negated_fits exponent n) ∙ e)
+
+-- ---- the pair
+
+pub fraction_by_parts : (mode : Round) (x : Pair) (high low : Datum) (exponent turned : ℤ) → category_of x.high ≡ Normal
+    → IsFrexp double x.high high exponent → turned ≡ neg_ℤ exponent → IsScaling double mode x.low turned low
+    → IsPairFraction mode x (record { high = high; low = low }) exponent
+fraction_by_parts mode x high low exponent turned normal h e s =
+    record {
+      high_is = h;
+      low_is =
+          match_true (is_finite_non_zero x.high) (IsScaling double mode x.low (neg_ℤ exponent) low) (low ≡ x.low)
+          (sym (number_agrees x.high) ∙ ap is_number_category normal)
+          (subst (λ (i : ℤ). IsScaling double mode x.low i low) e s);
+    }

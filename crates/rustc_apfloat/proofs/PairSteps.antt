@@ -20,7 +20,7 @@ use Rattle.apfloat_pairs.specs.PairParts.{is_denormal_pair}
 use Rattle.apfloat_pairs.proofs.DenormalPairs.{denormal_by_sum}
 use Rattle.apfloat_pairs.specs.PairProducts.{IsLostOfProduct, IsNumberProduct, IsProductOfNumbers}
 
-match_true : (b : Bool) (P Q : Type 0) → b ≡ true → P → MatchBool b P Q
+pub match_true : (b : Bool) (P Q : Type 0) → b ≡ true → P → MatchBool b P Q
 match_true true P Q e p = p
 match_true false P Q e p = cc
 

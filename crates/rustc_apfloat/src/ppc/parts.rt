@@ -103,10 +103,8 @@ pub(super) fn fraction(x: DoubleFloat, exp: &mut ExpInt, round: Round) -> Double
 {
     let high = x.0.frexp_r(exp, round);
     let exponent = *exp;
-    let low = if x.0.is_finite_non_zero() {
-        x.1.scalbn_r(-exponent, round)
-    } else {
-        x.1
-    };
-    DoubleFloat(high, low)
+    match category(x) {
+        Category::Normal => DoubleFloat(high, x.1.scalbn_r(-exponent, round)),
+        Category::Zero | Category::Infinity | Category::NaN => DoubleFloat(high, x.1),
+    }
 }

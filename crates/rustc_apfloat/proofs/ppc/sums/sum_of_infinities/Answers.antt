@@ -1,10 +1,13 @@
-use Rattle.std.proofs.Common.{sym, ap, ◌∙◌}
+use Rattle.std.proofs.Common.{ap, ◌∙◌}
+use Rattle.apfloat_base.specs.Classes.{is_negative}
 use Rattle.apfloat_base.specs.Flags.{bits_of}
+use Rattle.apfloat_pairs.specs.Pairs.{Pair}
 use Rattle.rustc_apfloat.proofs.PairSteps.{infinities_of_one_sign}
 use Rattle.rustc_apfloat.proofs.ppc.sums.sum_of_infinities.Goals as goal
 
 pub returns-then-is_negative : goal.returns-then-is_negative
 returns-then-is_negative c =
-    rw (← c.x.view_is, ← c.y.view_is)
-    (infinities_of_one_sign _ _ _ _ _ _ c.is_negative.ensures c.is_negative-2.ensures c.if-is_negative.true
-    (c.and.ensures.value ∙ sym c.x.view_is) (ap bits_of c.and.ensures.status))
+    infinities_of_one_sign c.args.x c.args.y _ _ _ _
+    (c.is_negative.ensures ∙ ap (λ (p : Pair). is_negative p.high) c.x.view_is)
+    (c.is_negative-2.ensures ∙ ap (λ (p : Pair). is_negative p.high) c.y.view_is) c.if-is_negative.true
+    c.and.ensures.value (ap bits_of c.and.ensures.status)
