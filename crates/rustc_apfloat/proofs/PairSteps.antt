@@ -2,6 +2,7 @@
 use Rattle.std.proofs.Common.{◌≡◌, ℕ, Bool, true, false, not, ◌&&◌, ◌||◌, refl, sym, ap, ◌∙◌, subst}
 use mathlib.Core.Bool.{beq}
 use Rattle.std.specs.Bool.{MatchBool}
+use Rattle.apfloat_base.specs.declared.kinds.Category.{Category}
 use Rattle.apfloat_base.specs.declared.kinds.Round.{Round}
 use Rattle.apfloat_base.specs.Datum.{Datum}
 use Rattle.apfloat_base.specs.Classes.{category_of, is_finite_non_zero, is_negative, is_number_category, is_denormal}
@@ -11,26 +12,27 @@ use Rattle.apfloat_base.specs.Rounding.{ok_bits}
 use Rattle.apfloat_base.specs.PredicatesAgree.{number_agrees}
 use Rattle.apfloat_base.specs.declared.kinds.Round.TheVariants.{NearestTiesToEven}
 use Rattle.apfloat_base.specs.Order.{is_equal}
+use Rattle.apfloat_base.specs.Members.{IsMember}
 use Rattle.apfloat_base.specs.Sums.{IsSum}
 use Rattle.apfloat_base.specs.Products.{IsProduct}
 use Rattle.apfloat_pairs.specs.PairFormats.{double}
-use Rattle.apfloat_pairs.specs.Pairs.{Pair, IsPairAnswer, alone, pair_nan_signed_as}
-use Rattle.apfloat_pairs.specs.PairSums.{◌∪◌, IsClosed, IsSumOfInfinities}
+use Rattle.apfloat_pairs.specs.Pairs.{Pair, IsPairAnswer, IsJoined, IsSplit, IsWideAnswerOfTwo, alone, negated_pair, pair_category, pair_nan_signed_as}
+use Rattle.apfloat_pairs.specs.PairSums.{◌∪◌, IsClosed, IsSumOfInfinities, IsSumOfCategories, IsPairSum, IsPairDifference}
 use Rattle.apfloat_pairs.specs.PairParts.{is_denormal_pair}
 use Rattle.apfloat_pairs.proofs.DenormalPairs.{denormal_by_sum}
-use Rattle.apfloat_pairs.specs.PairProducts.{IsLostOfProduct, IsNumberProduct, IsProductOfNumbers}
+use Rattle.apfloat_pairs.specs.PairProducts.{IsLostOfProduct, IsNumberProduct, IsProductOfNumbers, IsProductOfCategories, IsPairProduct}
+use Rattle.apfloat_pairs.specs.PairAccuracy.{IsErrorFreeSum, IsAccurateSum, IsErrorFreeDifference, IsAccurateDifference, IsErrorFreeProduct, IsAccurateProduct, HasPlainStatus}
+use Rattle.apfloat_pairs.proofs.SumLaws.{error_free_sum, accurate_sum, plain_sum}
+use Rattle.apfloat_pairs.proofs.DifferenceLaws.{error_free_difference, accurate_difference, plain_difference}
+use Rattle.apfloat_pairs.proofs.ProductLaws.{error_free_product, accurate_product}
 
 pub match_true : (b : Bool) (P Q : Type 0) → b ≡ true → P → MatchBool b P Q
 match_true true P Q e p = p
 match_true false P Q e p = cc
 
-not_false : (b : Bool) → not b ≡ false → b ≡ true
-not_false true e = refl
-not_false false e = cc
-
 pub product_by_steps : (mode : Round) (x y : Pair) (a c t tau : Datum) (t_flags tau_flags flags : ℕ) (is_number : Bool)
     (answer : Pair) (status : ℕ) → a ≡ x.high → c ≡ y.high → IsProduct double mode a c t t_flags
-    → is_number ≡ is_number_category (category_of t) → not is_number ≡ false
+    → is_number ≡ is_number_category (category_of t) → is_number ≡ true
     → IsLostOfProduct mode x.high x.low y.high y.low t tau tau_flags → flags ≡ t_flags ∪ tau_flags
     → IsClosed mode t tau flags answer status → IsProductOfNumbers mode x y answer status
 product_by_steps mode x y a c t tau t_flags tau_flags flags is_number answer status i j product e some lost joined closed =
@@ -43,7 +45,7 @@ product_by_steps mode x y a c t tau t_flags tau_flags flags is_number answer sta
       is_answer =
           match_true (is_finite_non_zero t) (IsNumberProduct mode x y t t_flags answer status)
           (IsPairAnswer (alone t) t_flags answer status)
-          (sym (number_agrees t) ∙ sym e ∙ not_false is_number some)
+          (sym (number_agrees t) ∙ sym e ∙ some)
           (record {
             tau = tau;
             tau_flags = tau_flags;
@@ -79,3 +81,96 @@ infinities_of_one_sign x y answer status first second a b e v s =
     (ap (λ (i : Bool). same_sign i (is_negative y.high)) (sym a) ∙ ap (λ (i : Bool). same_sign first i) (sym b) ∙
     sym (same_beq first second) ∙ e)
     (record { answer_is = v; status_is = s })
+
+-- ---- calls in the wide format
+
+pub wide_of_two : (call : Datum → Datum → Datum → ℕ → Type 0) (x y : Pair) (left right value : Datum) (flags : ℕ)
+    (answer : Pair) (status : ℕ) → IsJoined x left → IsJoined y right → call left right value flags → status ≡ flags
+    → IsSplit value answer → IsWideAnswerOfTwo call x y answer status
+wide_of_two call x y left right value flags answer status i j h e s =
+    record {
+      left = left;
+      right = right;
+      left_is = i;
+      right_is = j;
+      is_answer = record {
+        value = value;
+        is_value = subst (λ (t : ℕ). call left right value t) (sym e) h;
+        is_split = s;
+      };
+    }
+
+-- ---- by categories, and by the negation
+
+pub sum_by_categories : (mode : Round) (x y : Pair) (first second : Category) (answer : Pair) (status : ℕ)
+    → first ≡ pair_category x → second ≡ pair_category y
+    → IsSumOfCategories first second mode x y answer status → IsPairSum mode x y answer status
+sum_by_categories mode x y first second answer status i j s =
+    subst (λ (k : Category). IsSumOfCategories k (pair_category y) mode x y answer status) i
+    (subst (λ (k : Category). IsSumOfCategories first k mode x y answer status) j s)
+
+pub product_by_categories : (mode : Round) (x y : Pair) (first second : Category) (answer : Pair) (status : ℕ)
+    → first ≡ pair_category x → second ≡ pair_category y
+    → IsProductOfCategories first second mode x y answer status → IsPairProduct mode x y answer status
+product_by_categories mode x y first second answer status i j s =
+    subst (λ (k : Category). IsProductOfCategories k (pair_category y) mode x y answer status) i
+    (subst (λ (k : Category). IsProductOfCategories first k mode x y answer status) j s)
+
+pub difference_by_negation : (mode : Round) (x y z answer : Pair) (status : ℕ) → z ≡ negated_pair y
+    → IsPairSum mode x z answer status → IsPairDifference mode x y answer status
+difference_by_negation mode x y z answer status e s = subst (λ (p : Pair). IsPairSum mode x p answer status) e s
+
+-- ---- the laws of sums and products, in a mode that is to the nearest
+
+-- in any mode, where that mode is to the nearest
+at_nearest : (P : Round → Type 0) (Q : Type 0) → (P NearestTiesToEven → Q) → (mode : Round) → P mode
+    → mode ≡ NearestTiesToEven → Q
+at_nearest P Q law mode p e = law (subst P e p)
+
+pub sum_error_free : (mode : Round) (x y answer : Pair) (status : ℕ) → IsMember double x.high → IsMember double y.high
+    → IsPairSum mode x y answer status → mode ≡ NearestTiesToEven → IsErrorFreeSum x y answer
+sum_error_free mode x y answer status m n =
+    at_nearest (λ (i : Round). IsPairSum i x y answer status) (IsErrorFreeSum x y answer)
+    (error_free_sum x y answer status m n) mode
+
+pub sum_accurate : (mode : Round) (x y answer : Pair) (status : ℕ) → IsPairSum mode x y answer status
+    → mode ≡ NearestTiesToEven → IsAccurateSum x y answer
+sum_accurate mode x y answer status =
+    at_nearest (λ (i : Round). IsPairSum i x y answer status) (IsAccurateSum x y answer) (accurate_sum x y answer status) mode
+
+pub sum_plain : (mode : Round) (x y answer : Pair) (status : ℕ) → IsPairSum mode x y answer status
+    → mode ≡ NearestTiesToEven → HasPlainStatus x y status
+sum_plain mode x y answer status =
+    at_nearest (λ (i : Round). IsPairSum i x y answer status) (HasPlainStatus x y status) (plain_sum x y answer status) mode
+
+pub difference_error_free : (mode : Round) (x y answer : Pair) (status : ℕ) → IsMember double x.high
+    → IsMember double y.high → IsPairDifference mode x y answer status → mode ≡ NearestTiesToEven
+    → IsErrorFreeDifference x y answer
+difference_error_free mode x y answer status m n =
+    at_nearest (λ (i : Round). IsPairDifference i x y answer status) (IsErrorFreeDifference x y answer)
+    (error_free_difference x y answer status m n) mode
+
+pub difference_accurate : (mode : Round) (x y answer : Pair) (status : ℕ) → IsPairDifference mode x y answer status
+    → mode ≡ NearestTiesToEven → IsAccurateDifference x y answer
+difference_accurate mode x y answer status =
+    at_nearest (λ (i : Round). IsPairDifference i x y answer status) (IsAccurateDifference x y answer)
+    (accurate_difference x y answer status) mode
+
+pub difference_plain : (mode : Round) (x y answer : Pair) (status : ℕ) → IsPairDifference mode x y answer status
+    → mode ≡ NearestTiesToEven → HasPlainStatus x y status
+difference_plain mode x y answer status =
+    at_nearest (λ (i : Round). IsPairDifference i x y answer status) (HasPlainStatus x y status)
+    (plain_difference x y answer status) mode
+
+pub product_error_free : (mode : Round) (x y answer : Pair) (status : ℕ) → IsMember double x.high
+    → IsMember double y.high → IsPairProduct mode x y answer status → mode ≡ NearestTiesToEven
+    → IsErrorFreeProduct x y answer
+product_error_free mode x y answer status m n =
+    at_nearest (λ (i : Round). IsPairProduct i x y answer status) (IsErrorFreeProduct x y answer)
+    (error_free_product x y answer status m n) mode
+
+pub product_accurate : (mode : Round) (x y answer : Pair) (status : ℕ) → IsPairProduct mode x y answer status
+    → mode ≡ NearestTiesToEven → IsAccurateProduct x y answer
+product_accurate mode x y answer status =
+    at_nearest (λ (i : Round). IsPairProduct i x y answer status) (IsAccurateProduct x y answer)
+    (accurate_product x y answer status) mode

@@ -12,16 +12,15 @@ ghost use Rattle.apfloat_pairs.specs.Pairs.{Pair, negated_pair, pair_category, p
 ghost use Rattle.apfloat_pairs.specs.PairSums.{IsPairSum, IsPairDifference};
 ghost use Rattle.apfloat_pairs.specs.PairProducts.{IsPairProduct};
 ghost use Rattle.apfloat_pairs.specs.PairParts.{compared_pair_magnitudes, is_denormal_pair, is_integer_pair, is_negative_pair, is_signaling_pair, pair_infinity, pair_largest, pair_qnan, pair_smallest, pair_smallest_normalized, pair_snan, pair_zero, same_pair, CanComparePairMagnitudes, IsPairFraction, IsPairIlogb, IsPairScaling};
+ghost use Rattle.apfloat_pairs.specs.PairAccuracy.{HasPlainStatus, IsAccurateDifference, IsAccurateProduct, IsAccurateSum, IsErrorFreeDifference, IsErrorFreeProduct, IsErrorFreeSum, IsExactNearestRemainder, IsExactQuotient, IsExactTruncatedRemainder};
 ghost use Rattle.apfloat_pairs.specs.PairCalls.{IsPairExactInverse, IsPairFromSigned, IsPairFromUnsigned, IsPairNearestRemainder, IsPairNextDown, IsPairNextUp, IsPairQuotient, IsPairRead, IsPairRoundToIntegral, IsPairToSigned, IsPairToUnsigned, IsPairTruncatedRemainder};
 ghost use Rattle.apfloat_pairs.proofs.PairsDetermined.{pairs_determined};
 ghost use Rattle.apfloat_pairs.proofs.SignedPairs.{pair_signed_above, pair_signed_below, pair_to_signed_above, pair_to_signed_below};
 
 use super::order::magnitude_order;
-use super::parts;
 use super::products::product;
 use super::sums::{difference, sum};
-use super::wide;
-use super::DoubleFloat;
+use super::{DoubleFloat, parts, wide};
 use apfloat_base::{Category, ExpInt, Float, ParseError, Round, StatusAnd};
 use apfloat_ieee::Double;
 use std::cmp::Ordering;
@@ -178,33 +177,78 @@ impl Float for DoubleFloat {
         parts::smallest_normalized()
     }
 
+    /// Steps of sums of doubles in the mode, whose flags are joined: so INEXACT may stand beside an exact answer, and OK beside
+    /// one that is not.
+    ///
+    /// To the nearest value, and with high parts of at most 2^1022, the sum of two doubles is exact, and that of normalised
+    /// pairs is normalised and off by at most 2^-103 of both magnitudes together.
+    ///
+    /// An infinity and a NaN are answered as they are, a NaN signaling too; infinities of unlike signs are invalid.
     #[inline]
-    fn add_r(self, rhs: Self, round: Round) -> StatusAnd<Self> {
+    fn add_r(self, rhs: Self, round: Round) -> StatusAnd<Self>
+        ensures sum { Gives (IsPairSum round self rhs) result }
+        ensures error_free { round ≡ NearestTiesToEven → IsErrorFreeSum self rhs result.value }
+        ensures accurate { round ≡ NearestTiesToEven → IsAccurateSum self rhs result.value }
+        ensures plain { round ≡ NearestTiesToEven
+            → HasPlainStatus self rhs (bits_of result.status) }
+    {
         sum(self, rhs, round)
     }
 
+    /// The sum with the negation of `rhs`, also where that is a NaN; exact and accurate as the sum is.
     #[inline]
-    fn sub_r(self, rhs: Self, round: Round) -> StatusAnd<Self> {
+    fn sub_r(self, rhs: Self, round: Round) -> StatusAnd<Self>
+        ensures difference { Gives (IsPairDifference round self rhs) result }
+        ensures error_free { round ≡ NearestTiesToEven
+            → IsErrorFreeDifference self rhs result.value }
+        ensures accurate { round ≡ NearestTiesToEven
+            → IsAccurateDifference self rhs result.value }
+        ensures plain { round ≡ NearestTiesToEven
+            → HasPlainStatus self rhs (bits_of result.status) }
+    {
         difference(self, rhs, round)
     }
 
+    /// Steps of doubles in the mode, whose flags are joined. The product of the low parts is left out.
+    ///
+    /// To the nearest value, the product of two doubles is exact where their exponents add up to -970 to 1021; that of
+    /// normalised pairs, where those of the high parts add up to -900 to 1021, is normalised and off by at most 2^-102 of the
+    /// exact product.
+    ///
+    /// A zero times an infinity is the NaN without a payload, with no flag; a NaN is answered as it is.
     #[inline]
-    fn mul_r(self, rhs: Self, round: Round) -> StatusAnd<Self> {
+    fn mul_r(self, rhs: Self, round: Round) -> StatusAnd<Self>
+        ensures product { Gives (IsPairProduct round self rhs) result }
+        ensures error_free { round ≡ NearestTiesToEven → IsErrorFreeProduct self rhs result.value }
+        ensures accurate { round ≡ NearestTiesToEven → IsAccurateProduct self rhs result.value }
+    {
         product(self, rhs, round)
     }
 
+    /// The quotient of the wide format, split: where its high part is finite both parts add up to that quotient exactly.
     #[inline]
-    fn div_r(self, rhs: Self, round: Round) -> StatusAnd<Self> {
+    fn div_r(self, rhs: Self, round: Round) -> StatusAnd<Self>
+        ensures quotient { Gives (IsPairQuotient round self rhs) result }
+        ensures exact { Gives (IsExactQuotient round self rhs) result }
+    {
         wide::quotient(self, rhs, round)
     }
 
+    /// The remainder of the wide format, split.
     #[inline]
-    fn ieee_rem(self, rhs: Self) -> StatusAnd<Self> {
+    fn ieee_rem(self, rhs: Self) -> StatusAnd<Self>
+        ensures remainder { Gives (IsPairNearestRemainder self rhs) result }
+        ensures exact { Gives (IsExactNearestRemainder self rhs) result }
+    {
         wide::nearest(self, rhs)
     }
 
+    /// The remainder of the wide format, split.
     #[inline]
-    fn c_fmod(self, rhs: Self) -> StatusAnd<Self> {
+    fn c_fmod(self, rhs: Self) -> StatusAnd<Self>
+        ensures remainder { Gives (IsPairTruncatedRemainder self rhs) result }
+        ensures exact { Gives (IsExactTruncatedRemainder self rhs) result }
+    {
         wide::truncated(self, rhs)
     }
 

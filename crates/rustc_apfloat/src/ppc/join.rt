@@ -5,6 +5,7 @@ ghost use Rattle.std.specs.Prelude.{◌≡◌, ◌≢◌, true};
 ghost use Rattle.apfloat_base.specs.Classes.{is_finite_non_zero};
 ghost use Rattle.apfloat_base.specs.Flags.{bits_of};
 ghost use Rattle.apfloat_base.specs.Rounding.{ok_bits};
+ghost use Rattle.apfloat_pairs.specs.PairAccuracy.{IsExactSplit};
 ghost use Rattle.apfloat_pairs.specs.Pairs.{IsJoined, IsNearestDouble, IsSplit, IsWidened, left_over};
 
 use super::{DoubleFloat, Fallback};
@@ -69,7 +70,10 @@ impl From<Fallback> for DoubleFloat {
     /// The double nearest to a wide value, with what that leaves as the low part: where the high part is finite both add up
     /// to the value. Past the largest double stands the infinity, and a signaling NaN is made quiet.
     #[inline]
-    fn from(x: Fallback) -> DoubleFloat {
+    fn from(x: Fallback) -> DoubleFloat
+        ensures split { IsSplit x result }
+        ensures exact { IsExactSplit x result }
+    {
         split(x)
     }
 }

@@ -4,10 +4,11 @@
 ghost use Rattle.std.specs.Prelude.{◌≡◌};
 ghost use Rattle.apfloat_base.specs.declared.kinds.Round.TheVariants.{NearestTiesToEven};
 ghost use Rattle.apfloat_base.specs.declared.status.StatusAnd.{StatusAnd};
-ghost use Rattle.apfloat_base.specs.Flags.{Gives};
+ghost use Rattle.apfloat_base.specs.Flags.{Gives, bits_of};
 ghost use Rattle.apfloat_pairs.specs.Pairs.{negated_pair};
 ghost use Rattle.apfloat_pairs.specs.PairSums.{IsPairSum, IsPairDifference};
 ghost use Rattle.apfloat_pairs.specs.PairProducts.{IsPairProduct};
+ghost use Rattle.apfloat_pairs.specs.PairAccuracy.{HasPlainStatus, IsAccurateDifference, IsAccurateProduct, IsAccurateSum, IsErrorFreeDifference, IsErrorFreeProduct, IsErrorFreeSum, IsExactQuotient, IsExactTruncatedRemainder};
 ghost use Rattle.apfloat_pairs.specs.PairCalls.{IsPairQuotient, IsPairTruncatedRemainder};
 
 use super::DoubleFloat;
@@ -39,7 +40,12 @@ impl Add for DoubleFloat {
 
     /// The sum, each step rounded to the nearest value, a tie to the even one.
     #[inline]
-    fn add(self, rhs: DoubleFloat) -> StatusAnd<DoubleFloat> {
+    fn add(self, rhs: DoubleFloat) -> StatusAnd<DoubleFloat>
+        ensures sum { Gives (IsPairSum NearestTiesToEven self rhs) result }
+        ensures error_free { IsErrorFreeSum self rhs result.value }
+        ensures accurate { IsAccurateSum self rhs result.value }
+        ensures plain { HasPlainStatus self rhs (bits_of result.status) }
+    {
         sum(self, rhs, Round::NearestTiesToEven)
     }
 }
@@ -51,7 +57,12 @@ impl Sub for DoubleFloat {
 
     /// The difference, each step rounded to the nearest value, a tie to the even one.
     #[inline]
-    fn sub(self, rhs: DoubleFloat) -> StatusAnd<DoubleFloat> {
+    fn sub(self, rhs: DoubleFloat) -> StatusAnd<DoubleFloat>
+        ensures difference { Gives (IsPairDifference NearestTiesToEven self rhs) result }
+        ensures error_free { IsErrorFreeDifference self rhs result.value }
+        ensures accurate { IsAccurateDifference self rhs result.value }
+        ensures plain { HasPlainStatus self rhs (bits_of result.status) }
+    {
         difference(self, rhs, Round::NearestTiesToEven)
     }
 }
@@ -63,7 +74,11 @@ impl Mul for DoubleFloat {
 
     /// The product, each step rounded to the nearest value, a tie to the even one.
     #[inline]
-    fn mul(self, rhs: DoubleFloat) -> StatusAnd<DoubleFloat> {
+    fn mul(self, rhs: DoubleFloat) -> StatusAnd<DoubleFloat>
+        ensures product { Gives (IsPairProduct NearestTiesToEven self rhs) result }
+        ensures error_free { IsErrorFreeProduct self rhs result.value }
+        ensures accurate { IsAccurateProduct self rhs result.value }
+    {
         product(self, rhs, Round::NearestTiesToEven)
     }
 }
@@ -75,7 +90,10 @@ impl Div for DoubleFloat {
 
     /// The quotient of the sums of parts, rounded once to 106 digits, to the nearest value, a tie to the even one.
     #[inline]
-    fn div(self, rhs: DoubleFloat) -> StatusAnd<DoubleFloat> {
+    fn div(self, rhs: DoubleFloat) -> StatusAnd<DoubleFloat>
+        ensures quotient { Gives (IsPairQuotient NearestTiesToEven self rhs) result }
+        ensures exact { Gives (IsExactQuotient NearestTiesToEven self rhs) result }
+    {
         quotient(self, rhs, Round::NearestTiesToEven)
     }
 }
@@ -87,7 +105,10 @@ impl Rem for DoubleFloat {
 
     /// The remainder by the quotient cut toward zero, which is exact for the sums of parts in 106 digits.
     #[inline]
-    fn rem(self, rhs: DoubleFloat) -> StatusAnd<DoubleFloat> {
+    fn rem(self, rhs: DoubleFloat) -> StatusAnd<DoubleFloat>
+        ensures remainder { Gives (IsPairTruncatedRemainder self rhs) result }
+        ensures exact { Gives (IsExactTruncatedRemainder self rhs) result }
+    {
         truncated(self, rhs)
     }
 }

@@ -1,8 +1,10 @@
 //! Products of pairs: each step is a call of doubles in the mode, and the flags of the steps are joined.
 
 ghost use Rattle.std.specs.Prelude.{◌≡◌};
+ghost use Rattle.apfloat_base.specs.declared.kinds.Round.TheVariants.{NearestTiesToEven};
 ghost use Rattle.apfloat_base.specs.Flags.{Gives, bits_of};
-ghost use Rattle.apfloat_pairs.specs.PairProducts.{IsLostOfProduct, IsPairProduct, IsProductOfNumbers};
+ghost use Rattle.apfloat_pairs.specs.PairProducts.{IsLostOfProduct, IsPairProduct, IsProductOfCategories, IsProductOfNumbers};
+ghost use Rattle.apfloat_pairs.specs.PairAccuracy.{IsAccurateProduct, IsErrorFreeProduct};
 
 use super::DoubleFloat;
 use super::parts::category;
@@ -41,12 +43,18 @@ fn product_of_numbers(x: DoubleFloat, y: DoubleFloat, round: Round) -> StatusAnd
     closed(t, tau, status, round)
 }
 
-/// The product of two pairs.
+/// The product of two pairs of these categories.
 #[inline]
-pub(super) fn product(x: DoubleFloat, y: DoubleFloat, round: Round) -> StatusAnd<DoubleFloat>
-    ensures product { Gives (IsPairProduct round x y) result }
+fn product_of_categories(
+    first: Category,
+    second: Category,
+    x: DoubleFloat,
+    y: DoubleFloat,
+    round: Round,
+) -> StatusAnd<DoubleFloat>
+    ensures { Gives (IsProductOfCategories first second round x y) result }
 {
-    match (category(x), category(y)) {
+    match (first, second) {
         (Category::NaN, _) => Status::OK.and(x),
         (_, Category::NaN) => Status::OK.and(y),
         (Category::Zero, Category::Infinity) | (Category::Infinity, Category::Zero) => {
@@ -56,4 +64,14 @@ pub(super) fn product(x: DoubleFloat, y: DoubleFloat, round: Round) -> StatusAnd
         (_, Category::Zero) | (_, Category::Infinity) => Status::OK.and(y),
         (Category::Normal, Category::Normal) => product_of_numbers(x, y, round),
     }
+}
+
+/// The product of two pairs. To the nearest value it is exact for doubles, and accurate for normalised pairs.
+#[inline]
+pub(super) fn product(x: DoubleFloat, y: DoubleFloat, round: Round) -> StatusAnd<DoubleFloat>
+    ensures product { Gives (IsPairProduct round x y) result }
+    ensures error_free { round ≡ NearestTiesToEven → IsErrorFreeProduct x y result.value }
+    ensures accurate { round ≡ NearestTiesToEven → IsAccurateProduct x y result.value }
+{
+    product_of_categories(category(x), category(y), x, y, round)
 }

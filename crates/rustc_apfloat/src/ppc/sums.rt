@@ -2,10 +2,12 @@
 
 ghost use Rattle.std.specs.Prelude.{◌≡◌, ℕ};
 ghost use Rattle.apfloat_base.specs.declared.kinds.Category.TheVariants.{Infinity, Normal};
+ghost use Rattle.apfloat_base.specs.declared.kinds.Round.TheVariants.{NearestTiesToEven};
 ghost use Rattle.apfloat_base.specs.Classes.{category_of};
 ghost use Rattle.apfloat_base.specs.Flags.{Gives, bits_of};
 ghost use Rattle.apfloat_pairs.specs.Pairs.{pair_category};
-ghost use Rattle.apfloat_pairs.specs.PairSums.{greater, lesser, IsClosed, IsFiniteSum, IsLost, IsPairSum, IsPairDifference, IsSumAnew, IsSumOfInfinities, IsSumOfNumbers};
+ghost use Rattle.apfloat_pairs.specs.PairSums.{greater, lesser, IsClosed, IsFiniteSum, IsLost, IsPairSum, IsPairDifference, IsSumAnew, IsSumOfCategories, IsSumOfInfinities, IsSumOfNumbers};
+ghost use Rattle.apfloat_pairs.specs.PairAccuracy.{HasPlainStatus, IsAccurateDifference, IsAccurateSum, IsErrorFreeDifference, IsErrorFreeSum};
 
 use super::DoubleFloat;
 use super::parts::{category, negation};
@@ -130,12 +132,20 @@ fn sum_of_infinities(x: DoubleFloat, y: DoubleFloat) -> StatusAnd<DoubleFloat>
     }
 }
 
-/// The sum of two pairs.
+/// The sum of two pairs of these categories.
 #[inline]
-pub(super) fn sum(x: DoubleFloat, y: DoubleFloat, round: Round) -> StatusAnd<DoubleFloat>
-    ensures sum { Gives (IsPairSum round x y) result }
+fn sum_of_categories(
+    first: Category,
+    second: Category,
+    x: DoubleFloat,
+    y: DoubleFloat,
+    round: Round,
+) -> StatusAnd<DoubleFloat>
+    requires first { first ≡ pair_category x }
+    requires second { second ≡ pair_category y }
+    ensures { Gives (IsSumOfCategories first second round x y) result }
 {
-    match (category(x), category(y)) {
+    match (first, second) {
         (Category::Infinity, Category::Infinity) => sum_of_infinities(x, y),
         (_, Category::Zero) | (Category::NaN, _) | (Category::Infinity, Category::Normal) => {
             Status::OK.and(x)
@@ -145,10 +155,26 @@ pub(super) fn sum(x: DoubleFloat, y: DoubleFloat, round: Round) -> StatusAnd<Dou
     }
 }
 
-/// The difference of two pairs, the sum with the negated one.
+/// The sum of two pairs. To the nearest value it is exact for doubles, and accurate for normalised pairs.
+#[inline]
+pub(super) fn sum(x: DoubleFloat, y: DoubleFloat, round: Round) -> StatusAnd<DoubleFloat>
+    ensures sum { Gives (IsPairSum round x y) result }
+    ensures error_free { round ≡ NearestTiesToEven → IsErrorFreeSum x y result.value }
+    ensures accurate { round ≡ NearestTiesToEven → IsAccurateSum x y result.value }
+    ensures plain { round ≡ NearestTiesToEven → HasPlainStatus x y (bits_of result.status) }
+{
+    sum_of_categories(category(x), category(y), x, y, round)
+}
+
+/// The difference of two pairs, the sum with the negated one, exact and accurate as that is.
 #[inline]
 pub(super) fn difference(x: DoubleFloat, y: DoubleFloat, round: Round) -> StatusAnd<DoubleFloat>
     ensures difference { Gives (IsPairDifference round x y) result }
+    ensures error_free { round ≡ NearestTiesToEven → IsErrorFreeDifference x y result.value }
+    ensures accurate { round ≡ NearestTiesToEven → IsAccurateDifference x y result.value }
+    ensures plain { round ≡ NearestTiesToEven → HasPlainStatus x y (bits_of result.status) }
 {
+    // That the parts are doubles, which `category` ensures, makes the difference exact.
+    let _ = (category(x), category(y));
     sum(x, negation(y), round)
 }

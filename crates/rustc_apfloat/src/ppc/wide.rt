@@ -4,6 +4,7 @@
 ghost use Rattle.std.specs.Prelude.{◌≡◌, ◌≤◌, ◌<◌, ◌^◌, Result};
 ghost use Rattle.apfloat_base.specs.Flags.{Gives, bits_of};
 ghost use Rattle.apfloat_pairs.specs.Pairs.{IsSplit};
+ghost use Rattle.apfloat_pairs.specs.PairAccuracy.{IsExactNearestRemainder, IsExactQuotient, IsExactTruncatedRemainder};
 ghost use Rattle.apfloat_pairs.specs.PairCalls.{IsPairQuotient, IsPairTruncatedRemainder, IsPairNearestRemainder, IsPairRoundToIntegral, IsPairNextUp, IsPairExactInverse, IsPairFromUnsigned, IsPairToUnsigned, IsPairRead};
 
 use super::join::{joined, split};
@@ -19,9 +20,11 @@ fn split_answer(answer: StatusAnd<Fallback>) -> StatusAnd<DoubleFloat>
     answer.status.and(split(answer.value))
 }
 
+/// The quotient of two pairs.
 #[inline]
 pub(super) fn quotient(x: DoubleFloat, y: DoubleFloat, round: Round) -> StatusAnd<DoubleFloat>
-    ensures { Gives (IsPairQuotient round x y) result }
+    ensures quotient { Gives (IsPairQuotient round x y) result }
+    ensures exact { Gives (IsExactQuotient round x y) result }
 {
     split_answer(joined(x).div_r(joined(y), round))
 }
@@ -29,7 +32,8 @@ pub(super) fn quotient(x: DoubleFloat, y: DoubleFloat, round: Round) -> StatusAn
 /// The remainder by the quotient cut toward zero.
 #[inline]
 pub(super) fn truncated(x: DoubleFloat, y: DoubleFloat) -> StatusAnd<DoubleFloat>
-    ensures { Gives (IsPairTruncatedRemainder x y) result }
+    ensures remainder { Gives (IsPairTruncatedRemainder x y) result }
+    ensures exact { Gives (IsExactTruncatedRemainder x y) result }
 {
     split_answer(joined(x).c_fmod(joined(y)))
 }
@@ -37,11 +41,13 @@ pub(super) fn truncated(x: DoubleFloat, y: DoubleFloat) -> StatusAnd<DoubleFloat
 /// The remainder by the whole number nearest to the quotient.
 #[inline]
 pub(super) fn nearest(x: DoubleFloat, y: DoubleFloat) -> StatusAnd<DoubleFloat>
-    ensures { Gives (IsPairNearestRemainder x y) result }
+    ensures remainder { Gives (IsPairNearestRemainder x y) result }
+    ensures exact { Gives (IsExactNearestRemainder x y) result }
 {
     split_answer(joined(x).ieee_rem(joined(y)))
 }
 
+/// The whole number beside a pair.
 #[inline]
 pub(super) fn round_to_integral(x: DoubleFloat, round: Round) -> StatusAnd<DoubleFloat>
     ensures { Gives (IsPairRoundToIntegral round x) result }
@@ -49,6 +55,7 @@ pub(super) fn round_to_integral(x: DoubleFloat, round: Round) -> StatusAnd<Doubl
     split_answer(joined(x).round_to_integral(round))
 }
 
+/// The next value above in the wide format.
 #[inline]
 pub(super) fn next_up(x: DoubleFloat) -> StatusAnd<DoubleFloat>
     ensures { Gives (IsPairNextUp x) result }
@@ -85,7 +92,9 @@ pub(super) fn to_unsigned(
 ) -> StatusAnd<u128>
     requires low { 1 ≤ width }
     requires high { width ≤ 128 }
-    ensures answer { Gives (λ number status. IsPairToUnsigned round width x number status is_exact.new) result }
+    ensures answer { Gives
+        (λ number status. IsPairToUnsigned round width x number status is_exact.new)
+        result }
     ensures fits { result.value < 2 ^ width }
 {
     joined(x).to_u128_r(width, round, is_exact)

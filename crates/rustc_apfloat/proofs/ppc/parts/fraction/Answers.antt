@@ -1,6 +1,5 @@
 use Rattle.std.proofs.Common.{w32, to_z, of_z, sym, subst}
 use Rattle.std.specs.Prelude.{pos, ◌-ℤ◌}
-use Rattle.apfloat_base.specs.Datum.{Datum}
 use Rattle.apfloat_base.specs.Exponents.{IsFrexp}
 use Rattle.apfloat_base.specs.Scaling.{IsScaling}
 use Rattle.apfloat_pairs.specs.PairFormats.{double}

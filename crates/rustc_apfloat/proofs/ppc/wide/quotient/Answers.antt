@@ -1,0 +1,17 @@
+use Rattle.std.proofs.Common.{ap}
+use Rattle.apfloat_base.specs.Flags.{bits_of}
+use Rattle.apfloat_base.specs.Quotients.{IsQuotient}
+use Rattle.apfloat_pairs.specs.PairFormats.{wide}
+use Rattle.apfloat_pairs.proofs.ExactAnswers.{exact_quotient}
+use Rattle.rustc_apfloat.proofs.PairSteps.{wide_of_two}
+use Rattle.rustc_apfloat.proofs.ppc.wide.quotient.Goals as goal
+
+pub returns-clause-quotient : goal.returns-clause-quotient
+returns-clause-quotient c =
+    wide_of_two (IsQuotient wide c.args.round) c.args.x c.args.y c.joined.result c.joined-2.result c.div_r.result.value
+    (bits_of c.div_r.result.status) c.split_answer.result.value _ c.joined.ensures c.joined-2.ensures c.div_r.ensures
+    (ap bits_of c.split_answer.ensures.status) c.split_answer.ensures.value
+
+pub returns-clause-exact : goal.returns-clause-exact
+returns-clause-exact c =
+    exact_quotient c.args.round c.args.x c.args.y c.split_answer.result.value (bits_of c.split_answer.result.status) (returns-clause-quotient c)
