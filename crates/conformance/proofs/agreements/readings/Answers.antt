@@ -1,4 +1,4 @@
-use Rattle.std.proofs.Common.{◌≡◌, Result, Ok, Err, ap, sym, subst}
+use Rattle.std.proofs.Common.{Result, Ok, Err, ap, sym, subst}
 use Rattle.apfloat_base.specs.declared.parse_error.ParseError.{ParseError}
 use Rattle.apfloat_base.specs.declared.status.StatusAnd.{StatusAnd}
 use Rattle.rustc_apfloat.specs.declared.Round.TheVariants.{NearestTiesToEven}
@@ -19,5 +19,5 @@ returns g c =
     let t = g.met.F.Float in
     let parsed = t.read_law c.args.text.now c.parse.result c.parse.ensures.value in
     let one =
-        (t.determined NearestTiesToEven).reading c.args.text.now parsed.0 c.from_str_r.result parsed.1 c.from_str_r.ensures in
+    (t.determined NearestTiesToEven).reading c.args.text.now parsed.0 c.from_str_r.result parsed.1 c.from_str_r.ensures in
     subst (λ r. AreOneValue r c.from_str_r.result) (sym parsed.2) (value_of_reading parsed.0 c.from_str_r.result one)
