@@ -13,7 +13,7 @@ ghost use Rattle.apfloat_unpacked.specs.Stored.{IsStored, datum_at};
 
 use crate::shape::Shape;
 use apfloat_base::sig::digits;
-use apfloat_base::{Category, ExpInt, NonfiniteBehavior};
+use apfloat_base::{Category, ExpInt, NonfiniteBehavior, StatusAnd};
 
 /// A value taken apart.
 ///
@@ -26,6 +26,24 @@ pub struct Unpacked {
     pub exponent: ExpInt,
     pub category: Category,
     pub negative: bool,
+}
+
+/// The answer, made anew of its parts: a struct that another function has written is copied whole, with its padding, but
+/// parts are copied in registers.
+#[inline(always)]
+pub fn remade(answer: StatusAnd<Unpacked>) -> StatusAnd<Unpacked>
+    ensures { result ≡ answer }
+{
+    let value = answer.value;
+    StatusAnd {
+        status: answer.status,
+        value: Unpacked {
+            significand: value.significand,
+            exponent: value.exponent,
+            category: value.category,
+            negative: value.negative,
+        },
+    }
 }
 
 /// The zero of that sign, or the one zero of the format.
