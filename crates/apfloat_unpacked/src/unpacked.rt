@@ -126,6 +126,15 @@ pub fn quanta_of(shape: Shape, negative: bool, significand: u128, place: u32) ->
     ensures stored { IsStored shape result }
     ensures datum { datum_at shape result ≡ signed_quanta shape.nonfinite negative (significand * 2 ^ place) }
 {
+    if significand >= shape.integer_bit() {
+        let exponent = exponent_at(shape.min_exp, place, 0);
+        return Unpacked {
+            significand,
+            exponent,
+            category: Category::Normal,
+            negative,
+        };
+    }
     if significand == 0 {
         return zero_of(shape, negative);
     }
