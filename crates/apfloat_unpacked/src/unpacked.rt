@@ -126,15 +126,6 @@ pub fn quanta_of(shape: Shape, negative: bool, significand: u128, place: u32) ->
     ensures stored { IsStored shape result }
     ensures datum { datum_at shape result ≡ signed_quanta shape.nonfinite negative (significand * 2 ^ place) }
 {
-    if significand >= shape.integer_bit() {
-        let exponent = exponent_at(shape.min_exp, place, 0);
-        return Unpacked {
-            significand,
-            exponent,
-            category: Category::Normal,
-            negative,
-        };
-    }
     if significand == 0 {
         return zero_of(shape, negative);
     }
@@ -144,6 +135,29 @@ pub fn quanta_of(shape: Shape, negative: bool, significand: u128, place: u32) ->
         exponent: exponent_at(shape.min_exp, place, shift),
         category: Category::Normal,
         negative,
+    }
+}
+
+/// `significand * 2^place` quanta with that sign, after a rounding: most of these significands have all their digits, and
+/// need not be normalized again.
+#[inline(always)]
+pub fn rounded_quanta_of(shape: Shape, negative: bool, significand: u128, place: u32) -> Unpacked
+    requires lawful { IsShape shape }
+    requires fits { significand < 2 ^ shape.precision }
+    requires near { place ≤ 33554432 }
+    requires within { significand * 2 ^ place ≤ largest (format_at shape) }
+    ensures stored { IsStored shape result }
+    ensures datum { datum_at shape result ≡ signed_quanta shape.nonfinite negative (significand * 2 ^ place) }
+{
+    if significand >= shape.integer_bit() {
+        Unpacked {
+            significand,
+            exponent: exponent_at(shape.min_exp, place, 0),
+            category: Category::Normal,
+            negative,
+        }
+    } else {
+        quanta_of(shape, negative, significand, place)
     }
 }
 
