@@ -1,18 +1,20 @@
 //! Quotients.
 
-ghost use Rattle.std.specs.Prelude.{◌≡◌, ◌-◌, ◌*◌, ◌^◌, ◌≤◌, pos, neg_ℤ, ◌≤ℤ◌, ◌-ℤ◌};
+ghost use Rattle.std.specs.Prelude.{◌≡◌, ◌+◌, ◌-◌, ◌*◌, ◌/◌, ◌^◌, ◌<◌, ◌≤◌, pos, neg_ℤ, ◌≤ℤ◌, ◌-ℤ◌};
 ghost use Rattle.apfloat_base.specs.Flags.{bits_of};
 ghost use Rattle.apfloat_base.specs.Answer.{IsAnswer};
 ghost use Rattle.apfloat_base.specs.Constants.{infinity_of};
 ghost use Rattle.apfloat_base.specs.Exact.{product_sign};
 ghost use Rattle.apfloat_base.specs.Rounding.{IsDelivered};
+ghost use Rattle.apfloat_base.specs.Standing.{StandsFor};
 ghost use Rattle.apfloat_base.specs.Quotients.{IsQuotient, div_by_zero_bit};
 ghost use Rattle.apfloat_unpacked.specs.Shapes.{IsShape, format_at};
 ghost use Rattle.apfloat_unpacked.specs.Stored.{IsStored, IsNormal, quanta_at, datum_at};
 
 use crate::exact::{exact_infinity, exact_zero};
 use crate::products::product_sign;
-use apfloat_base::{Category, ExpInt, Round, Status, StatusAnd, sig};
+use apfloat_base::sig::{self, Quotient, divide_short};
+use apfloat_base::{Category, ExpInt, Round, Status, StatusAnd};
 use apfloat_unpacked::nans::{invalid, propagated, propagated_left};
 use apfloat_unpacked::normalize::deliver;
 use apfloat_unpacked::shape::Shape;
@@ -33,6 +35,25 @@ fn quotient_exponent(left: ExpInt, right: ExpInt, places: u32) -> ExpInt
     left - right - places as ExpInt
 }
 
+/// The quotient of two significands of so many digits with one place more, in one machine word where it fits one.
+#[inline(always)]
+fn quotient_of(precision: u32, dividend: u128, divisor: u128) -> Quotient
+    requires some { 0 < precision }
+    requires precise { precision ≤ 125 }
+    requires dividend_fits { dividend < 2 ^ precision }
+    requires divisor_fits { divisor < 2 ^ precision }
+    requires divisor_full { 2 ^ (precision - 1) ≤ divisor }
+    ensures quotient { result.whole ≡ dividend * 2 ^ (precision + 1) / divisor }
+    ensures stands { StandsFor result.whole result.loss (dividend * 2 ^ (precision + 1)) divisor }
+{
+    let places = precision + 1;
+    if places <= 62 {
+        divide_short(dividend as u64, divisor as u64, places)
+    } else {
+        sig::divide(dividend, divisor, places)
+    }
+}
+
 /// The quotient of two finite numbers that are not zero, rounded once.
 ///
 /// One place more than the precision is enough for all the digits of the format, whatever the significands are.
@@ -45,7 +66,7 @@ fn divide_numbers(shape: Shape, x: Unpacked, y: Unpacked, round: Round) -> Statu
     ensures delivered { IsDelivered (format_at shape) round (product_sign x.negative y.negative) (quanta_at shape.min_exp x.significand x.exponent * 2 ^ (format_at shape).scale) (quanta_at shape.min_exp y.significand y.exponent) (datum_at shape result.value) (bits_of result.status) }
 {
     let places = shape.precision + 1;
-    let quotient = sig::divide(x.significand, y.significand, places);
+    let quotient = quotient_of(shape.precision, x.significand, y.significand);
     deliver(
         shape,
         quotient.whole,

@@ -340,14 +340,16 @@ pub trait Float: Copy
         requires high { width ≤ 128 }
         ensures { converts_to_signed self width round result is_exact.new }
     {
-        if self.is_negative() {
+        let answer = if self.is_negative() {
             let is_zero = self.is_zero();
             let magnitude = (-self).to_u128_r(width, -round, is_exact);
             negated_whole(width, magnitude, is_zero, is_exact)
         } else {
             let magnitude = self.to_u128_r(width - 1, round, is_exact);
             magnitude.status.and(signed(width - 1, magnitude.value))
-        }
+        };
+        // Made anew of its parts, since the padding of a struct that leaves a branch is copied with it.
+        answer.status.and(answer.value)
     }
 
     /// The value as a whole number of `width` binary digits, 2 to 128, in two's complement, cut toward zero.

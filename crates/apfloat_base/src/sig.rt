@@ -7,10 +7,12 @@ pub mod loss;
 pub mod product;
 pub mod quotient;
 pub mod shift;
+pub mod short_quotient;
 pub mod sum;
 
 pub use loss::{Loss, is_exact, loss_of_rest};
 pub use product::full_product;
 pub use quotient::{Quotient, divide};
 pub use shift::{Shifted, digits, low_digits, power_of_two, shift_right, steps_between};
+pub use short_quotient::divide_short;
 pub use sum::{Term, Total, add_terms, is_zero};

@@ -4,5 +4,6 @@ mod Limits
 mod Nexts
 mod Fractions
 mod ConvertedValues
+mod HeldNumbers
 mod Steps
 pub mod ToSigned

@@ -6,6 +6,7 @@
 
 pub mod exponents;
 pub mod formats;
+mod held;
 pub mod integers;
 pub mod integral;
 pub mod neighbours;

@@ -104,7 +104,12 @@ impl<S: Semantics> IeeeFloat<S> {
         ensures { result ≡ datum_at (shape_of S.Semantics) unpacked }
     {
         IeeeFloat {
-            unpacked,
+            unpacked: Unpacked {
+                significand: unpacked.significand,
+                exponent: unpacked.exponent,
+                category: unpacked.category,
+                negative: unpacked.negative,
+            },
             marker: PhantomData,
         }
     }

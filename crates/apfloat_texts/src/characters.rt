@@ -20,12 +20,18 @@ pub fn is_octal(byte: u8) -> bool
     matches!(byte, b'0'..=b'7')
 }
 
+/// The hexadecimal digits: a bit for each character from 0 on.
+const HEXADECIMAL: u64 = 0x007E_0000_007E_03FF;
+
 /// 0 to 9, and a to f of either case.
+///
+/// One look into the digits decides, since no processor foretells which of the three ranges a digit is in.
 #[inline(always)]
 pub fn is_hexadecimal(byte: u8) -> bool
     ensures { result ≡ is_hexadecimal byte }
 {
-    matches!(byte, b'0'..=b'9' | b'A'..=b'F' | b'a'..=b'f')
+    let place = byte.wrapping_sub(b'0');
+    place < 64 && (HEXADECIMAL >> place) % 2 == 1
 }
 
 /// A hexadecimal digit or a dot.
@@ -37,15 +43,14 @@ pub fn is_digit_or_dot(byte: u8) -> bool
 }
 
 /// What a digit stands for.
+///
+/// The last four bits of a letter, of either case, are 1 to 6, and only a letter is 64 or more: so nothing has to branch on
+/// the kind of digit, which no processor foretells.
 #[inline(always)]
 pub fn digit_value(byte: u8) -> u8
     requires { IsTrue (is_hexadecimal byte) }
     ensures value { result ≡ digit_value byte }
     ensures small { result < 16 }
 {
-    match byte {
-        b'0'..=b'9' => byte - b'0',
-        b'A'..=b'F' => byte - b'A' + 10,
-        _ => byte - b'a' + 10,
-    }
+    byte % 16 + 9 * (byte / 64)
 }

@@ -187,7 +187,17 @@ pub fn scanned(rest: &[u8]) -> Result<(Scan, &[u8]), Fault>
     while let [byte, behind @ ..] = left
         && is_digit_or_dot(*byte)
     {
-        scan = scan.with(*byte)?;
+        let next = scan.with(*byte)?;
+        scan = Scan {
+            digits: Digits {
+                significand: next.digits.significand,
+                loss: next.digits.loss,
+                cut: next.digits.cut,
+            },
+            places: next.places,
+            pointed: next.pointed,
+            some: next.some,
+        };
         left = behind;
     }
     Ok((scan, left))

@@ -14,7 +14,7 @@ ghost use Rattle.apfloat_unpacked.specs.Shapes.{IsShape, format_at};
 ghost use Rattle.apfloat_unpacked.specs.Stored.{IsStored, datum_at};
 
 use crate::shape::Shape;
-use crate::unpacked::{Unpacked, infinity_of, largest_of, quanta_of};
+use crate::unpacked::{Unpacked, infinity_of, largest_of, rounded_quanta_of};
 use apfloat_base::sig::{Loss, digits, power_of_two, shift_right};
 use apfloat_base::{ExpInt, Flags, Round, Status, StatusAnd};
 
@@ -267,7 +267,7 @@ fn finish(shape: Shape, kept: Kept, mode: Round, negative: bool) -> StatusAnd<Un
     }
     let tiny = is_tiny(shape, kept.significand, point.significand);
     let status = status_within(kept.loss, tiny);
-    status.and(quanta_of(shape, negative, point.significand, point.place))
+    status.and(rounded_quanta_of(shape, negative, point.significand, point.place))
 }
 
 /// The exponent of a unit, counted from the quantum's.

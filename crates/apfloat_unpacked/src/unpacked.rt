@@ -13,7 +13,7 @@ ghost use Rattle.apfloat_unpacked.specs.Stored.{IsStored, datum_at};
 
 use crate::shape::Shape;
 use apfloat_base::sig::digits;
-use apfloat_base::{Category, ExpInt, NonfiniteBehavior};
+use apfloat_base::{Category, ExpInt, NonfiniteBehavior, StatusAnd};
 
 /// A value taken apart.
 ///
@@ -26,6 +26,24 @@ pub struct Unpacked {
     pub exponent: ExpInt,
     pub category: Category,
     pub negative: bool,
+}
+
+/// The answer, made anew of its parts: a struct that another function has written is copied whole, with its padding, but
+/// parts are copied in registers.
+#[inline(always)]
+pub fn remade(answer: StatusAnd<Unpacked>) -> StatusAnd<Unpacked>
+    ensures { result ≡ answer }
+{
+    let value = answer.value;
+    StatusAnd {
+        status: answer.status,
+        value: Unpacked {
+            significand: value.significand,
+            exponent: value.exponent,
+            category: value.category,
+            negative: value.negative,
+        },
+    }
 }
 
 /// The zero of that sign, or the one zero of the format.
@@ -117,6 +135,29 @@ pub fn quanta_of(shape: Shape, negative: bool, significand: u128, place: u32) ->
         exponent: exponent_at(shape.min_exp, place, shift),
         category: Category::Normal,
         negative,
+    }
+}
+
+/// `significand * 2^place` quanta with that sign, after a rounding: most of these significands have all their digits, and
+/// need not be normalized again.
+#[inline(always)]
+pub fn rounded_quanta_of(shape: Shape, negative: bool, significand: u128, place: u32) -> Unpacked
+    requires lawful { IsShape shape }
+    requires fits { significand < 2 ^ shape.precision }
+    requires near { place ≤ 33554432 }
+    requires within { significand * 2 ^ place ≤ largest (format_at shape) }
+    ensures stored { IsStored shape result }
+    ensures datum { datum_at shape result ≡ signed_quanta shape.nonfinite negative (significand * 2 ^ place) }
+{
+    if significand >= shape.integer_bit() {
+        Unpacked {
+            significand,
+            exponent: exponent_at(shape.min_exp, place, 0),
+            category: Category::Normal,
+            negative,
+        }
+    } else {
+        quanta_of(shape, negative, significand, place)
     }
 }
 

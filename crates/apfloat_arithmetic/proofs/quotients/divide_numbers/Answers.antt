@@ -1,11 +1,8 @@
-use Rattle.std.proofs.Common.{◌≡◌, ◌+◌, ◌*◌, ◌^◌, ◌≤◌, ◌-◌, Bool, w32, to_z, of_z, subst, arith, inr}
-use Rattle.std.proofs.Math.Nat.{pow-le-pow_right}
+use Rattle.std.proofs.Common.{◌≡◌, ◌+◌, ◌*◌, ◌^◌, Bool, w32, to_z, of_z, subst, arith, inr}
 use Rattle.std.proofs.lemmas.Int.{to_z-of_z, ints}
 use Rattle.apfloat_base.specs.Flags.{bits_of}
 use Rattle.apfloat_base.specs.Rounding.{IsDelivered}
-use Rattle.apfloat_base.proofs.Existence.{two_pos}
 use Rattle.apfloat_base.proofs.Fractions.{quotient_full}
-use Rattle.apfloat_base.proofs.Losses.{twice_half}
 use Rattle.apfloat_unpacked.specs.Shapes.{format_at}
 use Rattle.apfloat_unpacked.specs.Stored.{quanta_at, datum_at}
 use Rattle.apfloat_unpacked.specs.StoredBack.{quanta_some}
@@ -15,26 +12,8 @@ use Rattle.apfloat_arithmetic.proofs.quotients.divide_numbers.Goals as goal
 pub overflow_add-places : goal.overflow_add-places
 overflow_add-places c = omega (arith, c.requires.lawful.precision_high)
 
-pub divide-quotient-requires-clause-some : goal.divide-quotient-requires-clause-some
-divide-quotient-requires-clause-some c = normal_some c.args.shape c.args.y.significand c.args.y.exponent c.requires.right
-
-pub divide-quotient-requires-clause-narrow : goal.divide-quotient-requires-clause-narrow
-divide-quotient-requires-clause-narrow c =
-    let l = c.requires.lawful.precision_high in
-    let a : 2 ^ c.args.shape.precision ≤ 2 ^ 125 = pow-le-pow_right two_pos l in
-    let f = c.requires.right.operand.fits in
-    omega arith
-
-pub divide-quotient-requires-clause-close : goal.divide-quotient-requires-clause-close
-divide-quotient-requires-clause-close c =
-    let p = c.requires.lawful.precision_low in
-    let t : 2 * 2 ^ (c.args.shape.precision - 1) ≡ 2 ^ c.args.shape.precision = twice_half c.args.shape.precision (omega arith) in
-    let f = c.requires.left.operand.fits in
-    let g = c.requires.right.operand.full in
-    omega arith
-
-pub divide-quotient-requires-clause-short : goal.divide-quotient-requires-clause-short
-divide-quotient-requires-clause-short c = omega (arith, c.requires.lawful.precision_high)
+pub quotient_of-quotient-requires-clause-some : goal.quotient_of-quotient-requires-clause-some
+quotient_of-quotient-requires-clause-some c = let l = c.requires.lawful.precision_low in omega arith
 
 pub quotient_exponent-requires-clause-left_near : goal.quotient_exponent-requires-clause-left_near
 quotient_exponent-requires-clause-left_near c = omega (arith, ints, c.requires.lawful, c.requires.left.operand.greatest)
@@ -64,8 +43,8 @@ pub deliver-requires-clause-fine : goal.deliver-requires-clause-fine
 deliver-requires-clause-fine c =
     let s = c.args.shape in
     let t = c.requires.lawful.precision_low in
-    inr (inr (quotient_full c.divide-quotient.result.whole c.args.x.significand c.args.y.significand s.precision (s.precision + 1)
-    (normal_some s c.args.y.significand c.args.y.exponent c.requires.right) c.requires.left.operand.full c.requires.right.operand.fits (omega arith) (omega arith) c.divide-quotient.ensures.quotient))
+    inr (inr (quotient_full c.quotient_of-quotient.result.whole c.args.x.significand c.args.y.significand s.precision (s.precision + 1)
+    (normal_some s c.args.y.significand c.args.y.exponent c.requires.right) c.requires.left.operand.full c.requires.right.operand.fits (omega arith) (omega arith) c.quotient_of-quotient.ensures.quotient))
 
 pub returns-clause-stored : goal.returns-clause-stored
 returns-clause-stored c = c.deliver.ensures.stored
@@ -79,5 +58,5 @@ returns-clause-delivered c =
     let w : to_z w32 (of_z w32 c.quotient_exponent.result) ≡ c.quotient_exponent.result = to_z-of_z w32 c.quotient_exponent.result (record { sfits = c.quotient_exponent.type_inv }) in
     let g = rw w at c.deliver.ensures.delivered in
     let d = g (quanta_at s.min_exp c.args.x.significand c.args.x.exponent * 2 ^ (format_at s).scale) (quanta_at s.min_exp c.args.y.significand c.args.y.exponent) (quanta_some s c.args.y.significand c.args.y.exponent c.requires.right)
-    (quotient_is s c.args.x.exponent c.args.y.exponent c.quotient_exponent.result (s.precision + 1) c.divide-quotient.result.whole c.divide-quotient.result.loss c.args.x.significand c.args.y.significand c.requires.lawful c.requires.left c.requires.right v c.divide-quotient.ensures.stands) in
+    (quotient_is s c.args.x.exponent c.args.y.exponent c.quotient_exponent.result (s.precision + 1) c.quotient_of-quotient.result.whole c.quotient_of-quotient.result.loss c.args.x.significand c.args.y.significand c.requires.lawful c.requires.left c.requires.right v c.quotient_of-quotient.ensures.stands) in
     subst (λ (b : Bool). IsDelivered (format_at s) c.args.round b (quanta_at s.min_exp c.args.x.significand c.args.x.exponent * 2 ^ (format_at s).scale) (quanta_at s.min_exp c.args.y.significand c.args.y.exponent) (datum_at s c.deliver.result.value) (bits_of c.deliver.result.status)) c.product_sign.ensures d

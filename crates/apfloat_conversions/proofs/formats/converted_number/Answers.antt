@@ -1,10 +1,16 @@
-use Rattle.std.proofs.Common.{ℕ, ◌-◌, ◌*◌, ◌^◌, w32, inl, refl, arith}
+use Rattle.std.proofs.Common.{ℕ, ◌-◌, ◌*◌, ◌^◌, w32, inl, refl, subst, ap, ◌∙◌, arith}
 use Rattle.std.proofs.lemmas.Int.{to_z-of_z, ints}
 use Rattle.std.proofs.lemmas.Nat.{pow_pos}
+use Rattle.apfloat_base.specs.Datum.{Datum}
+use Rattle.apfloat_base.specs.Flags.{bits_of}
+use Rattle.apfloat_base.specs.Members.{IsMember}
 use Rattle.apfloat_base.proofs.SingleScalings.{converted_is}
 use Rattle.apfloat_unpacked.specs.Shapes.{format_at}
-use Rattle.apfloat_unpacked.specs.Stored.{quanta_at}
+use Rattle.apfloat_unpacked.specs.Stored.{quanta_at, datum_at}
+use Rattle.apfloat_unpacked.specs.StoredBack.{quanta_some}
 use Rattle.apfloat_unpacked.proofs.ShapeExponents.{exponent_word, scale_is}
+use Rattle.apfloat_unpacked.proofs.StoredMembers.{member_is}
+use Rattle.apfloat_conversions.proofs.HeldNumbers.{held_converted}
 use Rattle.apfloat_conversions.proofs.formats.converted_number.Goals as goal
 
 pub last_exponent-requires-clause-lawful : goal.last_exponent-requires-clause-lawful
@@ -47,3 +53,13 @@ returns-clause-converted c =
           (converted_is (s.precision - 1) (format_at s).scale (t.precision - 1) (format_at t).scale s.min_exp t.min_exp c.args.x.exponent c.last_exponent.result c.args.x.significand a k k' v c.requires.x.whole);
       loses_is = c.ne.ensures;
     }
+
+pub returns-then-holds-clause-converted : goal.returns-then-holds-clause-converted
+returns-then-holds-clause-converted c =
+    let s = c.args.from in
+    let t = c.args.into in
+    let h = c.holds.ensures c.if-holds.true in
+    let v = ap (datum_at t) c.and.ensures.value ∙ c.widened.ensures.datum in
+    let m = subst (λ (d : Datum). IsMember (format_at t) d) c.widened.ensures.datum (member_is t c.widened.result c.widened.ensures.stored) in
+    held_converted (format_at s) (format_at t) c.args.round c.args.x.negative (quanta_at s.min_exp c.args.x.significand c.args.x.exponent) _ _ h.fine
+    (quanta_some s c.args.x.significand c.args.x.exponent c.requires.x) v m (ap bits_of c.and.ensures.status)

@@ -5,15 +5,15 @@ use Rattle.apfloat_texts.proofs.Scanning.{parted, begins_empty, begins_first, re
 use Rattle.apfloat_texts.proofs.significand.scanned.Goals as goal
 use Rattle.apfloat_texts.proofs.significand.scanned.Goals.{then-left-lt1, in-len1-up+else-is_digit_or_dot}
 
-pub returns-in_err-scan : goal.returns-in_err-scan
-returns-in_err-scan c =
+pub returns-in_err-next : goal.returns-in_err-next
+returns-in_err-next c =
     let i = parted (λ (l : List ℕ). IsScan c.args.rest.now l c.loop-left.scan.digits.significand c.loop-left.scan.digits.loss c.loop-left.scan.digits.cut c.loop-left.scan.places c.loop-left.scan.pointed c.loop-left.scan.some) c.loop-left.left.now c.in-len1-up.len_at_least c.loop-left.invariant in
-    refused_by c.from_residual.result c.in_err-scan.field-0.0 _ _ c.from_residual.ensures.1 (c.in_err-scan.ensures c.args.rest.now _ i)
+    refused_by c.from_residual.result c.in_err-next.field-0.0 _ _ c.from_residual.ensures.1 (c.in_err-next.ensures c.args.rest.now _ i)
 
 pub loop-left-preserved : goal.loop-left-preserved
 loop-left-preserved c =
     let i = parted (λ (l : List ℕ). IsScan c.args.rest.now l c.loop-left.scan.digits.significand c.loop-left.scan.digits.loss c.loop-left.scan.digits.cut c.loop-left.scan.places c.loop-left.scan.pointed c.loop-left.scan.some) c.loop-left.left.now c.in-len1-up.len_at_least c.loop-left.invariant in
-    c.in_ok-scan.ensures c.args.rest.now _ i
+    c.in_ok-next.ensures c.args.rest.now _ i
 
 pub returns : goal.returns
 returns c =

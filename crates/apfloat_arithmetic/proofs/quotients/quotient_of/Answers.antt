@@ -1,0 +1,10 @@
+use Rattle.std.proofs.Common.{◌^◌, ◌≤◌, arith}
+use Rattle.std.proofs.Math.Nat.{pow-le-pow_right}
+use Rattle.apfloat_base.proofs.Existence.{two_pos}
+use Rattle.apfloat_arithmetic.proofs.quotients.quotient_of.Goals as goal
+
+pub divide-requires-clause-narrow : goal.divide-requires-clause-narrow
+divide-requires-clause-narrow c =
+    let a : 2 ^ c.args.precision ≤ 2 ^ 125 = pow-le-pow_right two_pos c.requires.precise in
+    let f = c.requires.divisor_fits in
+    omega arith

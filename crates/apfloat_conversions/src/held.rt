@@ -1,0 +1,58 @@
+//! Formats whose numbers are all numbers of another format, and these numbers there.
+
+ghost use Rattle.std.specs.Prelude.{◌≡◌, ◌-◌, ◌*◌, ◌^◌, ◌≤◌, true};
+ghost use Rattle.apfloat_base.specs.Datum.{finite};
+ghost use Rattle.apfloat_unpacked.specs.Shapes.{IsShape, format_at};
+ghost use Rattle.apfloat_unpacked.specs.Stored.{IsNormal, IsStored, datum_at, quanta_at};
+ghost use Rattle.apfloat_conversions.specs.Held.{IsHeld, IsReached};
+
+use apfloat_base::Category;
+use apfloat_unpacked::shape::Shape;
+use apfloat_unpacked::unpacked::Unpacked;
+
+/// Whether the largest value of a format is no larger than that of another, whose precision is no lower.
+#[inline(always)]
+fn reaches(from: Shape, into: Shape) -> bool
+    requires from { IsShape from }
+    requires into { IsShape into }
+    requires precise { from.precision ≤ into.precision }
+    ensures { result ≡ true → IsReached from into }
+{
+    if from.max_exp == into.max_exp {
+        let places = into.precision - from.precision;
+        from.greatest_significand() << places <= into.greatest_significand()
+    } else {
+        from.max_exp < into.max_exp
+    }
+}
+
+/// Whether each number of the one format is a number of the other too.
+#[inline(always)]
+pub fn holds(from: Shape, into: Shape) -> bool
+    requires from { IsShape from }
+    requires into { IsShape into }
+    ensures { result ≡ true → IsHeld from into }
+{
+    if from.precision > into.precision || from.scale() > into.scale() {
+        return false;
+    }
+    reaches(from, into)
+}
+
+/// A number in a format that has all numbers of its own: its significand gets as many digits more as that one has.
+#[inline(always)]
+pub fn widened(from: Shape, into: Shape, x: Unpacked) -> Unpacked
+    requires from { IsShape from }
+    requires into { IsShape into }
+    requires held { IsHeld from into }
+    requires x { IsNormal from x.significand x.exponent }
+    ensures stored { IsStored into result }
+    ensures datum { datum_at into result ≡ finite x.negative (quanta_at from.min_exp x.significand x.exponent * 2 ^ ((format_at into).scale - (format_at from).scale)) }
+{
+    Unpacked {
+        significand: x.significand << (into.precision - from.precision),
+        exponent: x.exponent,
+        category: Category::Normal,
+        negative: x.negative,
+    }
+}
