@@ -8,3 +8,10 @@ divide-requires-clause-narrow c =
     let a : 2 ^ c.args.precision ≤ 2 ^ 125 = pow-le-pow_right two_pos c.requires.precise in
     let f = c.requires.divisor_fits in
     omega arith
+
+pub divide_short-requires-clause-narrow : goal.divide_short-requires-clause-narrow
+divide_short-requires-clause-narrow c =
+    let l : c.args.precision ≤ 61 = omega arith in
+    let a : 2 ^ c.args.precision ≤ 2 ^ 61 = pow-le-pow_right two_pos l in
+    let f = c.requires.divisor_fits in
+    omega arith
