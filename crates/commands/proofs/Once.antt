@@ -7,13 +7,14 @@ use Rattle.rustc_apfloat.specs.WholeNumbers.{IsFromUnsigned}
 use Rattle.rustc_apfloat.specs.FusedSums.{IsFusedSum}
 use Rattle.rustc_apfloat.specs.Lawful.{Constants, format_with}
 use Rattle.rustc_apfloat.specs.Specials.{Meaning, infinity, not_a_number, hexadecimal}
+use Rattle.rustc_apfloat.specs.Texts.{Means}
 use Rattle.rustc_apfloat.specs.Readings.{IsMeant, IsReading, IsRefusal}
 use Rattle.apfloat_base.proofs.Once.{Once, answer_once, rounded_once, sum_once, difference_once, product_once, quotient_once, fused_sum_once, remainder_once, from_unsigned_once}
 use Rattle.apfloat_base.proofs.OneMeaning.{meaning_no_fault, one_meaning}
 use Rattle.commands.specs.declared.operation.Arithmetic.{Arithmetic}
 use Rattle.commands.specs.declared.operation.Arithmetic.TheVariants.{Sum, Difference, Product, Quotient, NearestRemainder, TruncatedRemainder}
-use Rattle.commands.specs.Commands.{Call, of_two, fused_sum, from_whole_number, from_text, bits_of_word, requested, whole_number_of, with_text, with_three, with_two, with_whole_number}
-use Rattle.commands.specs.Replies.{Reply, refused, IsAnswerOf, IsLineOf, IsOfTwo, IsOnly, IsReplyTo, value_of}
+use Rattle.commands.specs.Commands.{Kind, of_format, bits_in, Call, of_two, fused_sum, from_whole_number, from_text, bits_of_word, requested, whole_number_of, with_text, with_three, with_two, with_whole_number}
+use Rattle.commands.specs.Replies.{Reply, refused, IsAnswered, IsAnsweredIn, IsAnswerOf, IsLineOf, IsOfTwo, IsOnly, IsReplyTo, value_of}
 
 -- ---- one answer
 
@@ -43,14 +44,15 @@ call_once (from_text text) c mode = reading_once (format_with c) mode text
 
 -- ---- one reply
 
-line_of : (c : Constants) (v w : Datum) (s t : ℕ) (reply : Reply) → v ≡ w → s ≡ t → IsLineOf c v s reply → IsLineOf c w t reply
+line_of : (c : Constants) (v w : Datum) (s t : ℕ) (reply : Reply) → v ≡ w → s ≡ t → IsLineOf c v s reply
+    → IsLineOf c w t reply
 line_of c v w s t reply value_is status_is line =
     subst (λ x. IsLineOf c w x reply) status_is (subst (λ x. IsLineOf c x s reply) value_is line)
 
 -- the only line of an answer is the only reply
 only_answer : (c : Constants) (mode : Round) (call : Call) (value : Datum) (status : ℕ) (reply : Reply)
     → IsAnswerOf call c mode value status → IsOnly (IsLineOf c value status) reply
-    → IsOnly (IsReplyTo (requested c mode (Ok call))) reply
+    → IsOnly (IsAnswered c mode call) reply
 only_answer c mode call value status reply answers line = record {
   holds = record { value = value; status = status; answers = answers; is_line = line.holds };
   only = λ other h.
@@ -58,39 +60,66 @@ only_answer c mode call value status reply answers line = record {
       line.only other (line_of c h.value value h.status status other same.0 same.1 h.is_line);
 }
 
--- ---- the reply to operands
+-- ---- the reply to operands, of any kind of values
 
-pub only_of_two : (c : Constants) (arithmetic : Arithmetic) (mode : Round) (left right : List ℕ) (x y : ℕ) (a b value : Datum) (status : ℕ) (reply : Reply)
+pub only_with_two : (kind : Kind) (arithmetic : Arithmetic) (mode : Round) (left right : List ℕ) (x y : ℕ)
+    (reply : Reply) → bits_of_word (bits_in kind) left ≡ Some x → bits_of_word (bits_in kind) right ≡ Some y
+    → IsOnly (IsAnsweredIn kind mode (of_two arithmetic x y)) reply
+    → IsOnly (IsReplyTo (requested kind mode (with_two (bits_in kind) arithmetic left right))) reply
+only_with_two kind arithmetic mode left right x y reply first second only = rw (first, second) only
+
+pub only_with_whole_number : (kind : Kind) (mode : Round) (word : List ℕ) (number : ℕ) (reply : Reply)
+    → whole_number_of word ≡ Some number → IsOnly (IsAnsweredIn kind mode (from_whole_number number)) reply
+    → IsOnly (IsReplyTo (requested kind mode (with_whole_number word))) reply
+only_with_whole_number kind mode word number reply read only = rw (read) only
+
+pub only_with_text : (kind : Kind) (mode : Round) (text : List ℕ) (meaning : Meaning) (reply : Reply)
+    → Means text meaning → IsOnly (IsAnsweredIn kind mode (from_text text)) reply
+    → IsOnly (IsReplyTo (requested kind mode (with_text text))) reply
+only_with_text kind mode text meaning reply means only = rw (meaning_no_fault text meaning means) only
+
+pub only_refusal : (kind : Kind) (mode : Round) (text word : List ℕ) → IsRefusal text word
+    → IsOnly (IsReplyTo (requested kind mode (with_text text))) (refused word)
+only_refusal kind mode text word refusal =
+    rw (refusal.is_first, refusal.says) (record { holds = refl; only = λ other h. h })
+
+-- ---- the reply to operands, of a format
+
+pub only_of_two : (c : Constants) (arithmetic : Arithmetic) (mode : Round) (left right : List ℕ) (x y : ℕ)
+    (a b value : Datum) (status : ℕ) (reply : Reply)
     → bits_of_word c.bits left ≡ Some x → bits_of_word c.bits right ≡ Some y → a ≡ value_of c x → b ≡ value_of c y
-    → IsOfTwo arithmetic (format_with c) mode a b value status
-    → IsOnly (IsLineOf c value status) reply → IsOnly (IsReplyTo (requested c mode (with_two c arithmetic left right))) reply
+    → IsOfTwo arithmetic (format_with c) mode a b value status → IsOnly (IsLineOf c value status) reply
+    → IsOnly (IsReplyTo (requested (of_format c) mode (with_two c.bits arithmetic left right))) reply
 only_of_two c arithmetic mode left right x y a b value status reply first second a_is b_is answers line =
     let of_first = subst (λ d. IsOfTwo arithmetic (format_with c) mode d b value status) a_is answers in
     let of_both = subst (λ d. IsOfTwo arithmetic (format_with c) mode (value_of c x) d value status) b_is of_first in
-    rw (first, second) (only_answer c mode (of_two arithmetic x y) value status reply of_both line)
+    only_with_two (of_format c) arithmetic mode left right x y reply first second
+    (only_answer c mode (of_two arithmetic x y) value status reply of_both line)
 
-pub only_fused_sum : (c : Constants) (mode : Round) (left right addend : List ℕ) (x y z : ℕ) (a b d value : Datum) (status : ℕ) (reply : Reply)
+pub only_fused_sum : (c : Constants) (mode : Round) (left right addend : List ℕ) (x y z : ℕ) (a b d value : Datum)
+    (status : ℕ) (reply : Reply)
     → bits_of_word c.bits left ≡ Some x → bits_of_word c.bits right ≡ Some y → bits_of_word c.bits addend ≡ Some z
     → a ≡ value_of c x → b ≡ value_of c y → d ≡ value_of c z
-    → IsFusedSum (format_with c) mode a b d value status
-    → IsOnly (IsLineOf c value status) reply → IsOnly (IsReplyTo (requested c mode (with_three c left right addend))) reply
+    → IsFusedSum (format_with c) mode a b d value status → IsOnly (IsLineOf c value status) reply
+    → IsOnly (IsReplyTo (requested (of_format c) mode (with_three c.bits left right addend))) reply
 only_fused_sum c mode left right addend x y z a b d value status reply first second third a_is b_is d_is answers line =
     let of_first = subst (λ e. IsFusedSum (format_with c) mode e b d value status) a_is answers in
     let of_second = subst (λ e. IsFusedSum (format_with c) mode (value_of c x) e d value status) b_is of_first in
-    let of_all = subst (λ e. IsFusedSum (format_with c) mode (value_of c x) (value_of c y) e value status) d_is of_second in
+    let of_all = subst (λ e. IsFusedSum (format_with c) mode (value_of c x) (value_of c y) e value status) d_is
+    of_second in
     rw (first, second, third) (only_answer c mode (fused_sum x y z) value status reply of_all line)
 
-pub only_whole_number : (c : Constants) (mode : Round) (word : List ℕ) (number : ℕ) (value : Datum) (status : ℕ) (reply : Reply)
-    → whole_number_of word ≡ Some number → IsFromUnsigned (format_with c) mode number value status
-    → IsOnly (IsLineOf c value status) reply → IsOnly (IsReplyTo (requested c mode (with_whole_number word))) reply
+pub only_whole_number : (c : Constants) (mode : Round) (word : List ℕ) (number : ℕ) (value : Datum) (status : ℕ)
+    (reply : Reply) → whole_number_of word ≡ Some number → IsFromUnsigned (format_with c) mode number value status
+    → IsOnly (IsLineOf c value status) reply
+    → IsOnly (IsReplyTo (requested (of_format c) mode (with_whole_number word))) reply
 only_whole_number c mode word number value status reply read answers line =
-    rw (read) (only_answer c mode (from_whole_number number) value status reply answers line)
+    only_with_whole_number (of_format c) mode word number reply read
+    (only_answer c mode (from_whole_number number) value status reply answers line)
 
-pub only_text : (c : Constants) (mode : Round) (text : List ℕ) (value : Datum) (status : ℕ) (reply : Reply) → IsReading (format_with c) mode text value status
-    → IsOnly (IsLineOf c value status) reply → IsOnly (IsReplyTo (requested c mode (with_text text))) reply
+pub only_text : (c : Constants) (mode : Round) (text : List ℕ) (value : Datum) (status : ℕ) (reply : Reply)
+    → IsReading (format_with c) mode text value status → IsOnly (IsLineOf c value status) reply
+    → IsOnly (IsReplyTo (requested (of_format c) mode (with_text text))) reply
 only_text c mode text value status reply answers line =
-    rw (meaning_no_fault text answers.meaning answers.means) (only_answer c mode (from_text text) value status reply answers line)
-
-pub only_refusal : (c : Constants) (mode : Round) (text word : List ℕ) → IsRefusal text word → IsOnly (IsReplyTo (requested c mode (with_text text))) (refused word)
-only_refusal c mode text word refusal =
-    rw (refusal.is_first, refusal.says) (record { holds = refl; only = λ other h. h })
+    only_with_text (of_format c) mode text answers.meaning reply answers.means
+    (only_answer c mode (from_text text) value status reply answers line)

@@ -1,5 +1,5 @@
 -- What the words of a command ask for, or the word of its refusal.
-use Rattle.std.specs.Prelude.{ℕ, ◌^◌, Bool, true, not, ◌&&◌, ◌==◌, nat_lt, nat_le, if◌then◌else◌, List, [], ◌∷◌, length, take, drop, slice_index_or, codes, Option, Some, None, ok_or, Result, Ok, Err}
+use Rattle.std.specs.Prelude.{ℕ, ◌^◌, Bool, false, true, not, ◌&&◌, ◌==◌, nat_lt, nat_le, if◌then◌else◌, List, [], ◌∷◌, length, take, drop, slice_index_or, codes, Option, Some, None, ok_or, Result, Ok, Err}
 use Rattle.rustc_apfloat.specs.declared.Round.{Round}
 use Rattle.rustc_apfloat.specs.declared.Round.TheVariants.{NearestTiesToEven, TowardPositive, TowardNegative, TowardZero, NearestTiesToAway}
 use Rattle.rustc_apfloat.specs.Digits.{same, every, is_empty, is_decimal, is_hexadecimal, number}
@@ -13,17 +13,23 @@ use Rattle.commands.specs.declared.operation.Arithmetic.TheVariants.{Sum, Differ
 
 -- ---- the words that are known
 
-abbrev pub formats : List (List ℕ × Constants)
+-- a kind of values: those of a format with such constants, or pairs of doubles
+pub data Kind : Type 0 where
+  of_format : Constants → Kind
+  of_pairs : Kind
+
+abbrev pub formats : List (List ℕ × Kind)
 formats =
-    (codes "half", half_constants)
-    ∷ (codes "single", single_constants)
-    ∷ (codes "double", double_constants)
-    ∷ (codes "quad", quad_constants)
-    ∷ (codes "bfloat", bfloat_constants)
-    ∷ (codes "e5m2", e5m2_constants)
-    ∷ (codes "e4m3fn", e4m3fn_constants)
-    ∷ (codes "e4m3fnuz", e4m3fnuz_constants)
-    ∷ (codes "x87", x87_constants)
+    (codes "half", of_format half_constants)
+    ∷ (codes "single", of_format single_constants)
+    ∷ (codes "double", of_format double_constants)
+    ∷ (codes "quad", of_format quad_constants)
+    ∷ (codes "bfloat", of_format bfloat_constants)
+    ∷ (codes "e5m2", of_format e5m2_constants)
+    ∷ (codes "e4m3fn", of_format e4m3fn_constants)
+    ∷ (codes "e4m3fnuz", of_format e4m3fnuz_constants)
+    ∷ (codes "x87", of_format x87_constants)
+    ∷ (codes "dd", of_pairs)
     ∷ []
 
 abbrev pub operations : List (List ℕ × Operation)
@@ -77,7 +83,23 @@ is_supported precision FusedSum = nat_le precision 63
 is_supported precision WholeNumber = true
 is_supported precision Text = true
 
+-- pairs of doubles have all but the fused sum
+abbrev pub pairs_have : Operation → Bool
+pairs_have (OfTwo arithmetic) = true
+pairs_have FusedSum = false
+pairs_have WholeNumber = true
+pairs_have Text = true
+
+abbrev pub has : Kind → Operation → Bool
+has (of_format c) known = is_supported c.precision known
+has of_pairs known = pairs_have known
+
 -- ---- operands
+
+-- how many bits a value has
+abbrev pub bits_in : Kind → ℕ
+bits_in (of_format c) = c.bits
+bits_in of_pairs = 128
 
 -- 1 to 32 hexadecimal digits, behind 0x or without it, of a number below 2 ^ width
 abbrev pub behind_0x : List ℕ → List ℕ
@@ -114,7 +136,7 @@ pub data Call : Type 0 where
   from_text : List ℕ → Call
 
 pub record Request : Type 0 where
-  pub constants : Constants
+  pub kind : Kind
   pub mode : Round
   pub call : Call
 
@@ -132,16 +154,17 @@ provided holds word request = if holds then request else Err word
 abbrev pub arguments : List ℕ
 arguments = codes "arguments"
 
-abbrev pub with_bits : Constants → List ℕ → Result ℕ (List ℕ)
-with_bits c word = ok_or (bits_of_word c.bits word) word
+abbrev pub with_bits : ℕ → List ℕ → Result ℕ (List ℕ)
+with_bits width word = ok_or (bits_of_word width word) word
 
-abbrev pub with_two : Constants → Arithmetic → List ℕ → List ℕ → Result Call (List ℕ)
-with_two c arithmetic left right =
-    with_bits c left >>= λ x. with_bits c right >>= λ y. Ok (of_two arithmetic x y)
+abbrev pub with_two : ℕ → Arithmetic → List ℕ → List ℕ → Result Call (List ℕ)
+with_two width arithmetic left right =
+    with_bits width left >>= λ x. with_bits width right >>= λ y. Ok (of_two arithmetic x y)
 
-abbrev pub with_three : Constants → List ℕ → List ℕ → List ℕ → Result Call (List ℕ)
-with_three c left right addend =
-    with_bits c left >>= λ x. with_bits c right >>= λ y. with_bits c addend >>= λ z. Ok (fused_sum x y z)
+abbrev pub with_three : ℕ → List ℕ → List ℕ → List ℕ → Result Call (List ℕ)
+with_three width left right addend =
+    with_bits width left >>= λ x. with_bits width right >>= λ y. with_bits width addend >>= λ z.
+    Ok (fused_sum x y z)
 
 abbrev pub with_whole_number : List ℕ → Result Call (List ℕ)
 with_whole_number word = ok_or (whole_number_of word) word >>= λ n. Ok (from_whole_number n)
@@ -154,30 +177,35 @@ without_fault (Some fault) text = Err (words fault)
 abbrev pub with_text : List ℕ → Result Call (List ℕ)
 with_text text = without_fault (fault_of text) text
 
-abbrev pub with_operands : Constants → Operation → List (List ℕ) → Result Call (List ℕ)
-with_operands c (OfTwo arithmetic) operands = with_two c arithmetic (word_at operands 0) (word_at operands 1)
-with_operands c FusedSum operands = with_three c (word_at operands 0) (word_at operands 1) (word_at operands 2)
-with_operands c WholeNumber operands = with_whole_number (word_at operands 0)
-with_operands c Text operands = with_text (word_at operands 0)
+-- values have so many bits
+abbrev pub with_operands : ℕ → Operation → List (List ℕ) → Result Call (List ℕ)
+with_operands width (OfTwo arithmetic) operands =
+    with_two width arithmetic (word_at operands 0) (word_at operands 1)
+with_operands width FusedSum operands =
+    with_three width (word_at operands 0) (word_at operands 1) (word_at operands 2)
+with_operands width WholeNumber operands = with_whole_number (word_at operands 0)
+with_operands width Text operands = with_text (word_at operands 0)
 
-abbrev pub requested : Constants → Round → Result Call (List ℕ) → Result Request (List ℕ)
-requested c mode asked = asked >>= λ call. Ok (record { constants = c; mode = mode; call = call })
+abbrev pub requested : Kind → Round → Result Call (List ℕ) → Result Request (List ℕ)
+requested kind mode asked = asked >>= λ call. Ok (record { kind = kind; mode = mode; call = call })
 
--- the operation stands beside its word
-abbrev pub with_mode : Constants → Operation → List ℕ → List ℕ → List (List ℕ) → Result Request (List ℕ)
-with_mode c known operation mode operands =
+-- the operation and the mode of their words, for so many operands
+abbrev pub named : List ℕ → List ℕ → ℕ → Result (Operation × Round) (List ℕ)
+named operation mode count =
+    ok_or (found operations operation) operation >>= λ known.
     ok_or (found modes mode) mode >>= λ rounding.
-    provided (length operands == operand_count known) arguments
-    (provided (is_supported c.precision known) operation
-    (requested c rounding (with_operands c known operands)))
+    provided (count == operand_count known) arguments (Ok (known, rounding))
 
-abbrev pub with_operation : Constants → List ℕ → List ℕ → List (List ℕ) → Result Request (List ℕ)
-with_operation c operation mode operands =
-    ok_or (found operations operation) operation >>= λ known. with_mode c known operation mode operands
+-- what a kind of values is asked for
+abbrev pub with_operation : Kind → List ℕ → List ℕ → List (List ℕ) → Result Request (List ℕ)
+with_operation kind operation mode operands =
+    named operation mode (length operands) >>= λ both.
+    provided (has kind both.0) operation
+    (requested kind both.1 (with_operands (bits_in kind) both.0 operands))
 
 abbrev pub with_format : List ℕ → List ℕ → List ℕ → List (List ℕ) → Result Request (List ℕ)
 with_format format operation mode operands =
-    ok_or (found formats format) format >>= λ c. with_operation c operation mode operands
+    ok_or (found formats format) format >>= λ kind. with_operation kind operation mode operands
 
 -- what is asked by a command, which is the words without the program's own name
 abbrev pub asked : List (List ℕ) → Result Request (List ℕ)

@@ -18,10 +18,14 @@ use Rattle.rustc_apfloat.specs.WholeNumbers.{IsFromUnsigned}
 use Rattle.rustc_apfloat.specs.Readings.{IsReading}
 use Rattle.rustc_apfloat.specs.Layout.{datum_of, IsEncodedBy}
 use Rattle.rustc_apfloat.specs.Lawful.{Constants, format_with, layout_with}
+use Rattle.rustc_apfloat.specs.Pairs.{Pair, pair_of, IsPairEncodedBy}
+use Rattle.rustc_apfloat.specs.PairSums.{IsPairSum, IsPairDifference}
+use Rattle.rustc_apfloat.specs.PairProducts.{IsPairProduct}
+use Rattle.rustc_apfloat.specs.PairCalls.{IsPairQuotient, IsPairNearestRemainder, IsPairTruncatedRemainder, IsPairFromUnsigned, IsPairReading}
 use Rattle.commands.specs.declared.reply.Reply as program
 use Rattle.commands.specs.declared.operation.Arithmetic.{Arithmetic}
 use Rattle.commands.specs.declared.operation.Arithmetic.TheVariants.{Sum, Difference, Product, Quotient, NearestRemainder, TruncatedRemainder}
-use Rattle.commands.specs.Commands.{Call, of_two, fused_sum, from_whole_number, from_text, Request, asked}
+use Rattle.commands.specs.Commands.{Kind, of_format, of_pairs, bits_in, Call, of_two, fused_sum, from_whole_number, from_text, Request, asked}
 
 -- bits with the number of their hexadecimal digits and the flags, or the word of a refusal
 pub data Reply : Type 0 where
@@ -39,7 +43,7 @@ digit_count (refused word) = 0
 
 -- ---- the reply
 
--- what an operation on two values answers
+-- what an operation on two values of a format answers
 abbrev pub IsOfTwo : Arithmetic → Format → Round → Datum → Datum → Datum → ℕ → Type 0
 IsOfTwo Sum f mode x y value status = IsSum f mode x y value status
 IsOfTwo Difference f mode x y value status = IsDifference f mode x y value status
@@ -67,16 +71,50 @@ pub record IsLineOf (c : Constants) (value : Datum) (status : ℕ) (reply : Repl
   pub is_encoded : IsEncodedBy (format_with c) (layout_with c) bits value
   pub is : reply ≡ line bits (c.bits / 4) status
 
--- the line of what is asked
-pub record IsAnswered (request : Request) (reply : Reply) : Type 0 where
+-- the line of what is asked of a format
+pub record IsAnswered (c : Constants) (mode : Round) (call : Call) (reply : Reply) : Type 0 where
   pub value : Datum
   pub status : ℕ
-  pub answers : IsAnswerOf request.call request.constants request.mode value status
-  pub is_line : IsLineOf request.constants value status reply
+  pub answers : IsAnswerOf call c mode value status
+  pub is_line : IsLineOf c value status reply
+
+-- what an operation on two pairs of doubles answers
+abbrev pub IsPairOfTwo : Arithmetic → Round → Pair → Pair → Pair → ℕ → Type 0
+IsPairOfTwo Sum mode x y value status = IsPairSum mode x y value status
+IsPairOfTwo Difference mode x y value status = IsPairDifference mode x y value status
+IsPairOfTwo Product mode x y value status = IsPairProduct mode x y value status
+IsPairOfTwo Quotient mode x y value status = IsPairQuotient mode x y value status
+IsPairOfTwo NearestRemainder mode x y value status = IsPairNearestRemainder x y value status
+IsPairOfTwo TruncatedRemainder mode x y value status = IsPairTruncatedRemainder x y value status
+
+-- what a call answers as a pair of doubles; a fused sum, which pairs do not have, nothing
+abbrev pub IsPairAnswerOf : Call → Round → Pair → ℕ → Type 0
+IsPairAnswerOf (of_two arithmetic x y) mode value status =
+    IsPairOfTwo arithmetic mode (pair_of x) (pair_of y) value status
+IsPairAnswerOf (fused_sum x y z) mode value status = ⊥
+IsPairAnswerOf (from_whole_number n) mode value status = IsPairFromUnsigned mode n value status
+IsPairAnswerOf (from_text text) mode value status = IsPairReading mode text value status
+
+-- the bits of a pair, and its status
+pub record IsPairLineOf (value : Pair) (status : ℕ) (reply : Reply) : Type 0 where
+  pub bits : ℕ
+  pub is_encoded : IsPairEncodedBy bits value
+  pub is : reply ≡ line bits (bits_in of_pairs / 4) status
+
+-- the line of what is asked of pairs of doubles
+pub record IsAnsweredInPairs (mode : Round) (call : Call) (reply : Reply) : Type 0 where
+  pub value : Pair
+  pub status : ℕ
+  pub answers : IsPairAnswerOf call mode value status
+  pub is_line : IsPairLineOf value status reply
+
+abbrev pub IsAnsweredIn : Kind → Round → Call → Reply → Type 0
+IsAnsweredIn (of_format c) mode call reply = IsAnswered c mode call reply
+IsAnsweredIn of_pairs mode call reply = IsAnsweredInPairs mode call reply
 
 abbrev pub IsReplyTo : Result Request (List ℕ) → Reply → Type 0
 IsReplyTo (Err word) reply = reply ≡ refused word
-IsReplyTo (Ok request) reply = IsAnswered request reply
+IsReplyTo (Ok request) reply = IsAnsweredIn request.kind request.mode request.call reply
 
 -- the reply to a command
 abbrev pub IsReply : List (List ℕ) → Reply → Type 0

@@ -4,11 +4,12 @@ ghost use Rattle.std.specs.Prelude.{◌≡◌, ◌≤◌, ◌<◌, length, map, 
 ghost use Rattle.rustc_apfloat.specs.Flags.{bits_of};
 ghost use Rattle.rustc_apfloat.specs.Types.{constants_of};
 ghost use Rattle.commands.specs.declared.operation.Operation.TheVariants.{OfTwo, FusedSum};
-ghost use Rattle.commands.specs.Commands.{bits_of_word, is_supported, operand_count, requested, with_format, with_operands, with_operation, with_three, with_two, with_text, with_whole_number};
+ghost use Rattle.commands.specs.Commands.{bits_of_word, is_supported, of_format, operand_count, requested, with_format, with_operands, with_operation, with_three, with_two, with_text, with_whole_number};
 ghost use Rattle.commands.specs.Replies.{IsLineOf, IsOnly, IsReply, IsReplyTo, digit_count, reply_of};
 
 use crate::operation::{Arithmetic, Operation, answer_of_two};
-use crate::words::{bits_of, mode_named, number_of, operation_named};
+use crate::pairs::answer_in_pairs;
+use crate::words::{ARGUMENTS, bits_of, named, number_of};
 use rustc_apfloat::ieee::{
     BFloatS, DoubleS, Float8E4M3FNS, Float8E4M3FNUZS, Float8E5M2S, HalfS, IeeeFloat, QuadS,
     Semantics, SingleS, X87DoubleExtendedS,
@@ -23,9 +24,6 @@ pub enum Reply<'a> {
     /// The word of a refusal: one of the command's own, or a fixed one.
     Refused(&'a str),
 }
-
-// The word of a refusal for the number of words or operands.
-const ARGUMENTS: &str = "arguments";
 
 /// The reply to a command, which is the words without the program's own name. Of several faults the first is named.
 pub fn command(words: &[String]) -> Reply<'_>
@@ -65,6 +63,7 @@ fn answer<'a>(
         "e4m3fn" => answer_in::<Float8E4M3FNS>(operation, mode, operands),
         "e4m3fnuz" => answer_in::<Float8E4M3FNUZS>(operation, mode, operands),
         "x87" => answer_in::<X87DoubleExtendedS>(operation, mode, operands),
+        "dd" => answer_in_pairs(operation, mode, operands),
         unknown => Reply::Refused(unknown),
     }
 }
@@ -77,19 +76,14 @@ fn answer_in<'a, S: Semantics>(
 ) -> Reply<'a>
     requires { S.PRECISION < S.BITS }
     ensures reply { let words = map string_bytes operands.now in IsOnly
-        (IsReplyTo (with_operation (constants_of S.Semantics) operation.now mode.now words))
+        (IsReplyTo (with_operation (of_format (constants_of S.Semantics)) operation.now mode.now words))
         (reply_of result) }
     ensures short { digit_count (reply_of result) ≤ 32 }
 {
-    let Some(known) = operation_named(operation) else {
-        return Reply::Refused(operation);
+    let (known, round) = match named(operation, mode, operands.len()) {
+        Ok(known_and_round) => known_and_round,
+        Err(word) => return Reply::Refused(word),
     };
-    let Some(round) = mode_named(mode) else {
-        return Reply::Refused(mode);
-    };
-    if operands.len() != known.operand_count() {
-        return Reply::Refused(ARGUMENTS);
-    }
     if !known.is_supported(S::PRECISION) {
         return Reply::Refused(operation);
     }
@@ -107,7 +101,7 @@ fn answer_to<'a, S: Semantics>(
     requires supported { is_supported S.PRECISION operation ≡ true }
     ensures reply { let words = map string_bytes operands.now in
         let c = constants_of S.Semantics in IsOnly
-        (IsReplyTo (requested c round (with_operands c operation words)))
+        (IsReplyTo (requested (of_format c) round (with_operands c.bits operation words)))
         (reply_of result) }
     ensures short { digit_count (reply_of result) ≤ 32 }
 {
@@ -134,7 +128,7 @@ fn of_two<'a, S: Semantics>(
     requires written { S.PRECISION < S.BITS }
     requires supported { is_supported S.PRECISION (OfTwo operation) ≡ true }
     ensures reply { let c = constants_of S.Semantics in IsOnly
-        (IsReplyTo (requested c round (with_two c operation left.now right.now)))
+        (IsReplyTo (requested (of_format c) round (with_two c.bits operation left.now right.now)))
         (reply_of result) }
     ensures short { digit_count (reply_of result) ≤ 32 }
 {
@@ -157,7 +151,7 @@ fn fused_sum<'a, S: Semantics>(
     requires written { S.PRECISION < S.BITS }
     requires supported { is_supported S.PRECISION FusedSum ≡ true }
     ensures reply { let c = constants_of S.Semantics in IsOnly
-        (IsReplyTo (requested c round (with_three c left.now right.now addend.now)))
+        (IsReplyTo (requested (of_format c) round (with_three c.bits left.now right.now addend.now)))
         (reply_of result) }
     ensures short { digit_count (reply_of result) ≤ 32 }
 {
@@ -176,8 +170,8 @@ fn fused_sum<'a, S: Semantics>(
 // A whole number, rounded to a format.
 fn from_whole_number<'a, S: Semantics>(round: Round, word: &'a str) -> Reply<'a>
     requires { S.PRECISION < S.BITS }
-    ensures reply { IsOnly
-        (IsReplyTo (requested (constants_of S.Semantics) round (with_whole_number word.now)))
+    ensures reply { let c = constants_of S.Semantics in IsOnly
+        (IsReplyTo (requested (of_format c) round (with_whole_number word.now)))
         (reply_of result) }
     ensures short { digit_count (reply_of result) ≤ 32 }
 {
@@ -190,8 +184,8 @@ fn from_whole_number<'a, S: Semantics>(round: Round, word: &'a str) -> Reply<'a>
 // The value that a text means.
 fn from_text<'a, S: Semantics>(round: Round, text: &'a str) -> Reply<'a>
     requires { S.PRECISION < S.BITS }
-    ensures reply { IsOnly
-        (IsReplyTo (requested (constants_of S.Semantics) round (with_text text.now)))
+    ensures reply { let c = constants_of S.Semantics in IsOnly
+        (IsReplyTo (requested (of_format c) round (with_text text.now)))
         (reply_of result) }
     ensures short { digit_count (reply_of result) ≤ 32 }
 {

@@ -66,6 +66,33 @@ fn replies_with_bits_digits_and_flags(rt: HostRuntime) -> Result<(), Fail> {
     Ok(())
 }
 
+// A low part is the upper half of the digits.
+#[test]
+fn replies_with_pairs_of_doubles(rt: HostRuntime) -> Result<(), Fail> {
+    for (command, reply) in [
+        (
+            "dd add even 3ff0000000000000 3c90000000000000",
+            "3c900000000000003ff0000000000000 INEXACT",
+        ),
+        (
+            "dd add even 3ca00000000000003ff0000000000000 3c80000000000000bfefffffffffffff",
+            "00000000000000003cb2000000000000 OK",
+        ),
+        (
+            "dd mul even 3ff0000000000001 3ff0000000000001",
+            "39700000000000003ff0000000000002 INEXACT",
+        ),
+        (
+            "dd div even 3ff0000000000000 4008000000000000",
+            "3c755555555555563fd5555555555555 INEXACT",
+        ),
+        ("dd fma even 0 0 0", "refused: fma"),
+    ] {
+        expect_reply(&rt, command, reply)?;
+    }
+    Ok(())
+}
+
 // Leading zeros are read, however many.
 #[test]
 fn reads_long_operands(rt: HostRuntime) -> Result<(), Fail> {

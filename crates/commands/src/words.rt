@@ -1,15 +1,16 @@
 //! The words of a command: names, numbers, and bits.
 
-ghost use Rattle.std.specs.Prelude.{◌≡◌, Some, None, ◌+◌, ◌<◌, ◌*◌, ◌^◌, ◌&&◌, ◌≤◌, nat_lt, if◌then◌else◌, length};
+ghost use Rattle.std.specs.Prelude.{◌≡◌, Some, None, Ok, Err, ◌+◌, ◌<◌, ◌*◌, ◌^◌, ◌&&◌, ◌≤◌, nat_lt, if◌then◌else◌, length};
 ghost use Rattle.std.specs.Option.{IfSome};
+ghost use Rattle.std.specs.Result.{MatchResult};
 ghost use Rattle.rustc_apfloat.specs.Digits.{digit_value, every, is_decimal, is_hexadecimal, number};
-ghost use Rattle.commands.specs.Commands.{bits_of_digits, bits_of_word, found, modes, operations, whole_number_of};
+ghost use Rattle.commands.specs.Commands.{bits_of_digits, bits_of_word, found, modes, named, operations, whole_number_of};
 
 use crate::operation::{Arithmetic, Operation};
 use rustc_apfloat::Round;
 
-/// The operation of this name.
-pub fn operation_named(word: &str) -> Option<Operation>
+// The operation of this name.
+fn operation_named(word: &str) -> Option<Operation>
     ensures { result ≡ found operations word.now }
 {
     match word {
@@ -37,6 +38,31 @@ pub fn mode_named(word: &str) -> Option<Round>
         "zero" => Some(Round::TowardZero),
         "away" => Some(Round::NearestTiesToAway),
         _ => None,
+    }
+}
+
+/// The word of a refusal for the number of words or operands.
+pub const ARGUMENTS: &str = "arguments";
+
+/// The operation and the mode of these names, where the operation has so many operands, or the word of the first fault.
+pub fn named<'a>(
+    operation: &'a str,
+    mode: &'a str,
+    operands: usize,
+) -> Result<(Operation, Round), &'a str>
+    ensures { let asked = named operation.now mode.now operands in
+        MatchResult result (λ both. asked ≡ Ok (both.0, both.1)) (λ word. asked ≡ Err word.now) }
+{
+    let Some(known) = operation_named(operation) else {
+        return Err(operation);
+    };
+    let Some(round) = mode_named(mode) else {
+        return Err(mode);
+    };
+    if operands == known.operand_count() {
+        Ok((known, round))
+    } else {
+        Err(ARGUMENTS)
     }
 }
 

@@ -44,3 +44,13 @@ pub use Rattle.apfloat_base.specs.Log
 pub use Rattle.apfloat_base.specs.Standing
 pub use Rattle.apfloat_base.specs.Enclosure
 pub use Rattle.apfloat_generic.specs.Types
+pub use Rattle.apfloat_pairs.specs.PairFormats
+pub use Rattle.apfloat_pairs.specs.Pairs
+pub use Rattle.apfloat_pairs.specs.PairSums
+pub use Rattle.apfloat_pairs.specs.PairProducts
+pub use Rattle.apfloat_pairs.specs.PairParts
+pub use Rattle.apfloat_pairs.specs.PairOrderLaws
+pub use Rattle.apfloat_pairs.specs.PairCalls
+pub use Rattle.apfloat_pairs.specs.PairAnswers
+pub use Rattle.apfloat_pairs.specs.PairAccuracy
+pub use Rattle.apfloat_pairs.specs.NearestSums

@@ -53,3 +53,9 @@ returns-in-x87-clause-reply c = rw c.in-x87.is c.answer_in-in-x87.ensures.reply
 
 pub returns-in-x87-clause-short : goal.returns-in-x87-clause-short
 returns-in-x87-clause-short c = c.answer_in-in-x87.ensures.short
+
+pub returns-in-dd-clause-reply : goal.returns-in-dd-clause-reply
+returns-in-dd-clause-reply c = rw c.in-dd.is c.answer_in_pairs.ensures.reply
+
+pub returns-in-dd-clause-short : goal.returns-in-dd-clause-short
+returns-in-dd-clause-short c = c.answer_in_pairs.ensures.short

@@ -1,3 +1,5 @@
+use Rattle.rustc_apfloat.specs.Types.{constants_of}
+use Rattle.commands.specs.Commands.{of_format}
 use Rattle.commands.proofs.Once.{only_text, only_refusal}
 use Rattle.commands.proofs.reply.from_text.Goals as goal
 
@@ -5,4 +7,4 @@ pub returns-in-Ok-clause-reply : goal.returns-in-Ok-clause-reply
 returns-in-Ok-clause-reply g c = only_text _ c.args.round c.args.text.now _ _ _ c.in-Ok.ensures c.line.ensures.line
 
 pub returns-in-Err-clause-reply : goal.returns-in-Err-clause-reply
-returns-in-Err-clause-reply g c = only_refusal _ c.args.round c.args.text.now _ c.in-Err.ensures
+returns-in-Err-clause-reply g c = only_refusal (of_format (constants_of g.S.Semantics)) c.args.round c.args.text.now _ c.in-Err.ensures

@@ -1,0 +1,32 @@
+-- What the names of an operation and a mode say.
+use Rattle.std.proofs.Common.{◌≡◌, ℕ, ◌==◌, Bool, true, false, List, Option, Some, None, Result, Ok, Err, refl, ap, ◌∙◌}
+use Rattle.std.specs.Option.{ok_or}
+use Rattle.std.proofs.lemmas.Bool.{eqb-true}
+use Rattle.rustc_apfloat.specs.declared.Round.{Round}
+use Rattle.commands.specs.declared.operation.Operation.{Operation}
+use Rattle.commands.specs.Commands.{◌>>=◌, arguments, found, modes, named, operand_count, operations, provided}
+
+provided_passed : {A : Type 0} (holds : Bool) (word : List ℕ) (x y : A) → provided holds word (Ok x) ≡ Ok y
+    → (holds ≡ true) × (x ≡ y)
+provided_passed true word x y e = (refl, cc)
+provided_passed false word x y e = cc
+
+-- `named`, of what the tables have for the names
+abbrev names : Option Operation → Option Round → List ℕ → List ℕ → ℕ → Result (Operation × Round) (List ℕ)
+names operation mode first second count =
+    ok_or operation first >>= λ k. ok_or mode second >>= λ r.
+    provided (count == operand_count k) arguments (Ok (k, r))
+
+count_of : (operation : Option Operation) (mode : Option Round) (first second : List ℕ) (count : ℕ)
+    (known : Operation) (round : Round)
+    → names operation mode first second count ≡ Ok (known, round) → count ≡ operand_count known
+count_of None mode first second count known round e = cc
+count_of (Some k) None first second count known round e = cc
+count_of (Some k) (Some r) first second count known round e =
+    let passed = provided_passed (count == operand_count k) arguments (k, r) (known, round) e in
+    eqb-true _ _ passed.0 ∙ ap (λ (p : Operation × Round). operand_count p.0) passed.1
+
+pub named_count : (operation mode : List ℕ) (count : ℕ) (known : Operation) (round : Round)
+    → named operation mode count ≡ Ok (known, round) → count ≡ operand_count known
+named_count operation mode count known round e =
+    count_of (found operations operation) (found modes mode) operation mode count known round e
