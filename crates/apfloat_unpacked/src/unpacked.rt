@@ -150,15 +150,14 @@ pub fn rounded_quanta_of(shape: Shape, negative: bool, significand: u128, place:
     ensures datum { datum_at shape result ≡ signed_quanta shape.nonfinite negative (significand * 2 ^ place) }
 {
     if significand >= shape.integer_bit() {
-        Unpacked {
+        return Unpacked {
             significand,
             exponent: exponent_at(shape.min_exp, place, 0),
             category: Category::Normal,
             negative,
-        }
-    } else {
-        quanta_of(shape, negative, significand, place)
+        };
     }
+    quanta_of(shape, negative, significand, place)
 }
 
 /// The greatest finite value, with that sign.
