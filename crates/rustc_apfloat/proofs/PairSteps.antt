@@ -5,19 +5,20 @@ use Rattle.std.specs.Bool.{MatchBool}
 use Rattle.apfloat_base.specs.declared.kinds.Category.{Category}
 use Rattle.apfloat_base.specs.declared.kinds.Round.{Round}
 use Rattle.apfloat_base.specs.Datum.{Datum}
-use Rattle.apfloat_base.specs.Classes.{category_of, is_finite_non_zero, is_negative, is_number_category, is_denormal}
+use Rattle.apfloat_base.specs.Classes.{category_of, is_finite, is_finite_non_zero, is_negative, is_number_category, is_denormal}
 use Rattle.apfloat_base.specs.Exact.{same_sign}
 use Rattle.apfloat_base.specs.Nan.{invalid_bit}
 use Rattle.apfloat_base.specs.Rounding.{ok_bits}
-use Rattle.apfloat_base.specs.PredicatesAgree.{number_agrees}
+use Rattle.apfloat_base.specs.Predicates.{is_finite_category}
+use Rattle.apfloat_base.specs.PredicatesAgree.{finite_agrees, number_agrees}
 use Rattle.apfloat_base.specs.declared.kinds.Round.TheVariants.{NearestTiesToEven}
 use Rattle.apfloat_base.specs.Order.{is_equal}
 use Rattle.apfloat_base.specs.Members.{IsMember}
-use Rattle.apfloat_base.specs.Sums.{IsSum}
+use Rattle.apfloat_base.specs.Sums.{IsSum, IsDifference}
 use Rattle.apfloat_base.specs.Products.{IsProduct}
 use Rattle.apfloat_pairs.specs.PairFormats.{double}
 use Rattle.apfloat_pairs.specs.Pairs.{Pair, IsPairAnswer, IsJoined, IsSplit, IsWideAnswerOfTwo, alone, negated_pair, pair_category, pair_nan_signed_as}
-use Rattle.apfloat_pairs.specs.PairSums.{◌∪◌, IsClosed, IsSumOfInfinities, IsSumOfCategories, IsPairSum, IsPairDifference}
+use Rattle.apfloat_pairs.specs.PairSums.{◌∪◌, greater, lesser, IsClosed, IsSumAnew, IsSumAnewLow, IsSumOfInfinities, IsSumOfCategories, IsPairSum, IsPairDifference}
 use Rattle.apfloat_pairs.specs.PairParts.{is_denormal_pair}
 use Rattle.apfloat_pairs.proofs.DenormalPairs.{denormal_by_sum}
 use Rattle.apfloat_pairs.specs.PairProducts.{IsLostOfProduct, IsNumberProduct, IsProductOfNumbers, IsProductOfCategories, IsPairProduct}
@@ -81,6 +82,123 @@ infinities_of_one_sign x y answer status first second a b e v s =
     (ap (λ (i : Bool). same_sign i (is_negative y.high)) (sym a) ∙ ap (λ (i : Bool). same_sign first i) (sym b) ∙
     sym (same_beq first second) ∙ e)
     (record { answer_is = v; status_is = s })
+
+match_false : (b : Bool) (P Q : Type 0) → b ≡ false → Q → MatchBool b P Q
+match_false true P Q e q = cc
+match_false false P Q e q = q
+
+-- ---- the sum taken anew: the greater high part and the lesser, and the sum from the low parts on, with the flags so far
+
+pub record IsOpenedAnew (mode : Round) (x y : Pair) (big small z : Datum) (flags : ℕ) : Type 0 where
+  pub lows : Datum
+  pub with_lesser : Datum
+  pub lows_flags : ℕ
+  pub with_lesser_flags : ℕ
+  pub z_flags : ℕ
+  pub flags_with_lesser : ℕ
+  pub big_is : big ≡ greater x.high y.high
+  pub small_is : small ≡ lesser x.high y.high
+  pub is_lows : IsSum double mode y.low x.low lows lows_flags
+  pub is_with_lesser : IsSum double mode lows small with_lesser with_lesser_flags
+  pub is_z : IsSum double mode with_lesser big z z_flags
+  pub joined : flags_with_lesser ≡ lows_flags ∪ with_lesser_flags
+  pub flags_are : flags ≡ flags_with_lesser ∪ z_flags
+
+-- and what the sum leaves
+pub record IsClosedAnew (mode : Round) (x y : Pair) (big small z : Datum) (flags : ℕ) (low : Datum) (all_flags : ℕ) : Type 0 where
+  pub zz : Datum
+  pub left : Datum
+  pub with_lesser : Datum
+  pub zz_flags : ℕ
+  pub left_flags : ℕ
+  pub with_lesser_flags : ℕ
+  pub low_flags : ℕ
+  pub flags_with_zz : ℕ
+  pub flags_with_left : ℕ
+  pub flags_with_lesser : ℕ
+  pub is_zz : IsSum double mode x.low y.low zz zz_flags
+  pub is_left : IsDifference double mode big z left left_flags
+  pub is_with_lesser : IsSum double mode left small with_lesser with_lesser_flags
+  pub is_low : IsSum double mode with_lesser zz low low_flags
+  pub zz_joined : flags_with_zz ≡ flags ∪ zz_flags
+  pub left_joined : flags_with_left ≡ flags_with_zz ∪ left_flags
+  pub lesser_joined : flags_with_lesser ≡ flags_with_left ∪ with_lesser_flags
+  pub flags_are : all_flags ≡ flags_with_lesser ∪ low_flags
+
+two_joined : (a b c ab abc : ℕ) → ab ≡ a ∪ b → abc ≡ ab ∪ c → abc ≡ a ∪ b ∪ c
+two_joined a b c ab abc e f = f ∙ ap (λ (i : ℕ). i ∪ c) e
+
+pub anew_beyond : (mode : Round) (x y : Pair) (big small z : Datum) (flags : ℕ) (is_within : Bool) (answer : Pair)
+    (status : ℕ) → IsOpenedAnew mode x y big small z flags → is_within ≡ is_finite_category (category_of z)
+    → is_within ≡ false → answer ≡ alone z → status ≡ flags → IsSumAnew mode x y answer status
+anew_beyond mode x y big small z flags is_within answer status o w e v s =
+    let all = o.lows_flags ∪ o.with_lesser_flags ∪ o.z_flags in
+    record {
+      lows = o.lows;
+      with_lesser = o.with_lesser;
+      z = z;
+      lows_flags = o.lows_flags;
+      with_lesser_flags = o.with_lesser_flags;
+      z_flags = o.z_flags;
+      is_lows = o.is_lows;
+      is_with_lesser =
+          subst (λ (d : Datum). IsSum double mode o.lows d o.with_lesser o.with_lesser_flags) o.small_is o.is_with_lesser;
+      is_z = subst (λ (d : Datum). IsSum double mode o.with_lesser d z o.z_flags) o.big_is o.is_z;
+      is_answer =
+          match_false (is_finite z) (IsSumAnewLow mode x y z all answer status) (IsPairAnswer (alone z) all answer status)
+          (sym (finite_agrees z) ∙ sym w ∙ e)
+          (record {
+            answer_is = v;
+            status_is = s ∙ two_joined o.lows_flags o.with_lesser_flags o.z_flags o.flags_with_lesser flags o.joined o.flags_are;
+          });
+    }
+
+pub anew_within : (mode : Round) (x y : Pair) (big small z low : Datum) (flags all_flags : ℕ) (is_within : Bool)
+    (answer : Pair) (status : ℕ) → IsOpenedAnew mode x y big small z flags
+    → is_within ≡ is_finite_category (category_of z) → is_within ≡ true
+    → IsClosedAnew mode x y big small z flags low all_flags → answer ≡ (record { high = z; low = low })
+    → status ≡ all_flags → IsSumAnew mode x y answer status
+anew_within mode x y big small z low flags all_flags is_within answer status o w e k v s =
+    let all = o.lows_flags ∪ o.with_lesser_flags ∪ o.z_flags in
+    let opened = two_joined o.lows_flags o.with_lesser_flags o.z_flags o.flags_with_lesser flags o.joined o.flags_are in
+    record {
+      lows = o.lows;
+      with_lesser = o.with_lesser;
+      z = z;
+      lows_flags = o.lows_flags;
+      with_lesser_flags = o.with_lesser_flags;
+      z_flags = o.z_flags;
+      is_lows = o.is_lows;
+      is_with_lesser =
+          subst (λ (d : Datum). IsSum double mode o.lows d o.with_lesser o.with_lesser_flags) o.small_is o.is_with_lesser;
+      is_z = subst (λ (d : Datum). IsSum double mode o.with_lesser d z o.z_flags) o.big_is o.is_z;
+      is_answer =
+          match_true (is_finite z) (IsSumAnewLow mode x y z all answer status) (IsPairAnswer (alone z) all answer status)
+          (sym (finite_agrees z) ∙ sym w ∙ e)
+          (record {
+            zz = k.zz;
+            left = k.left;
+            with_lesser = k.with_lesser;
+            low = low;
+            zz_flags = k.zz_flags;
+            left_flags = k.left_flags;
+            with_lesser_flags = k.with_lesser_flags;
+            low_flags = k.low_flags;
+            is_zz = k.is_zz;
+            is_left = subst (λ (d : Datum). IsDifference double mode d z k.left k.left_flags) o.big_is k.is_left;
+            is_with_lesser =
+                subst (λ (d : Datum). IsSum double mode k.left d k.with_lesser k.with_lesser_flags) o.small_is k.is_with_lesser;
+            is_low = k.is_low;
+            is_answer = record {
+              answer_is = v;
+              status_is =
+                  s ∙ k.flags_are ∙ ap (λ (i : ℕ). i ∪ k.low_flags)
+                  (k.lesser_joined ∙ ap (λ (i : ℕ). i ∪ k.with_lesser_flags)
+                  (k.left_joined ∙ ap (λ (i : ℕ). i ∪ k.left_flags)
+                  (k.zz_joined ∙ ap (λ (i : ℕ). i ∪ k.zz_flags) opened)));
+            };
+          });
+    }
 
 -- ---- calls in the wide format
 
