@@ -1,5 +1,5 @@
 -- A command has one reply.
-use Rattle.std.proofs.Common.{◌≡◌, ℕ, List, Some, Ok, subst, refl}
+use Rattle.std.proofs.Common.{◌≡◌, ℕ, List, Some, subst, refl}
 use Rattle.rustc_apfloat.specs.declared.Round.{Round}
 use Rattle.rustc_apfloat.specs.Format.{Format}
 use Rattle.rustc_apfloat.specs.Datum.{Datum}

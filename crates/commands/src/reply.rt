@@ -75,8 +75,9 @@ fn answer_in<'a, S: Semantics>(
     operands: &'a [String],
 ) -> Reply<'a>
     requires { S.PRECISION < S.BITS }
-    ensures reply { let words = map string_bytes operands.now in IsOnly
-        (IsReplyTo (with_operation (of_format (constants_of S.Semantics)) operation.now mode.now words))
+    ensures reply { let words = map string_bytes operands.now in
+        let kind = of_format (constants_of S.Semantics) in IsOnly
+        (IsReplyTo (with_operation kind operation.now mode.now words))
         (reply_of result) }
     ensures short { digit_count (reply_of result) ≤ 32 }
 {
@@ -150,8 +151,9 @@ fn fused_sum<'a, S: Semantics>(
 ) -> Reply<'a>
     requires written { S.PRECISION < S.BITS }
     requires supported { is_supported S.PRECISION FusedSum ≡ true }
-    ensures reply { let c = constants_of S.Semantics in IsOnly
-        (IsReplyTo (requested (of_format c) round (with_three c.bits left.now right.now addend.now)))
+    ensures reply { let c = constants_of S.Semantics in
+        let call = with_three c.bits left.now right.now addend.now in IsOnly
+        (IsReplyTo (requested (of_format c) round call))
         (reply_of result) }
     ensures short { digit_count (reply_of result) ≤ 32 }
 {

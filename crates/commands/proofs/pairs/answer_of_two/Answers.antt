@@ -1,4 +1,3 @@
-use Rattle.std.proofs.Common.{rules}
 use Rattle.commands.proofs.pairs.answer_of_two.Goals as goal
 
 pub returns-in-Sum : goal.returns-in-Sum
