@@ -1,14 +1,14 @@
 -- Sums of doubles as pairs, by the laws of sums of pairs.
-use Rattle.std.proofs.Common.{◌≡◌, ℕ, ◌+◌, ◌*◌, ◌^◌, ◌≤◌, true, refl, sym, ap, ◌∙◌, subst, arith}
-use Rattle.std.specs.Prelude.{ℤ, pos, ◌+ℤ◌, ◌*ℤ◌}
+use Rattle.std.proofs.Common.{◌≡◌, ℕ, ◌+◌, ◌*◌, ◌≤◌, refl, sym, ◌∙◌, subst, arith}
+use Rattle.std.specs.Prelude.{ℤ, pos, ◌+ℤ◌}
 use Rattle.std.proofs.lemmas.Int.{ints}
 use Rattle.rustc_apfloat.specs.Datum.{Datum}
-use Rattle.rustc_apfloat.specs.Classes.{is_finite, quanta_of}
+use Rattle.rustc_apfloat.specs.Classes.{quanta_of}
 use Rattle.rustc_apfloat.specs.Exact.{magnitude}
 use Rattle.rustc_apfloat.specs.Members.{IsMember}
 use Rattle.rustc_apfloat.specs.Order.{number}
 use Rattle.rustc_apfloat.specs.PairFormats.{double}
-use Rattle.rustc_apfloat.specs.Pairs.{Pair, alone, pair_number, IsNormalised}
+use Rattle.rustc_apfloat.specs.Pairs.{Pair, alone, pair_number}
 use Rattle.rustc_apfloat.specs.PairAccuracy.{sum_reach, IsSingle, AreWithinReach, IsExactPair, IsClosePair, IsErrorFreeSum, IsAccurateSum}
 use Rattle.apfloat_pairs.proofs.Signed.{magnitude_le, first_most}
 use Rattle.apfloat_pairs.proofs.SignedProducts.{times_one}

@@ -75,11 +75,20 @@ mod tests {
             DoubleDouble::from_bits(0x3cb8_0000_0000_0000_4008_0000_0000_0000),
             DoubleDouble::from_bits(0x3cac_0000_0000_0000_3ffc_0000_0000_0000),
         );
-        assert_eq!(rt; sum.value.to_bits(), 0xbcba_0000_0000_0000_4013_0000_0000_0001);
+        assert_eq!(rt;
+            sum.value.to_bits(),
+            0xbcba_0000_0000_0000_4013_0000_0000_0001
+        );
         assert_eq!(rt; sum.status, Status::INEXACT);
-        assert_eq!(rt; by_call.value.to_bits(), 0xbcba_0000_0000_0000_4013_0000_0000_0001);
+        assert_eq!(rt;
+            by_call.value.to_bits(),
+            0xbcba_0000_0000_0000_4013_0000_0000_0001
+        );
         assert_eq!(rt; by_call.status, Status::INEXACT);
-        assert_eq!(rt; assigned.to_bits(), 0xbcba_0000_0000_0000_4013_0000_0000_0001);
+        assert_eq!(rt;
+            assigned.to_bits(),
+            0xbcba_0000_0000_0000_4013_0000_0000_0001
+        );
     }
 
     #[test]
@@ -88,8 +97,14 @@ mod tests {
             DoubleDouble::from_bits(0x3cb8_0000_0000_0000_4008_0000_0000_0000),
             DoubleDouble::from_bits(0x3cac_0000_0000_0000_3ffc_0000_0000_0000),
         );
-        assert_eq!(rt; remainder.value.to_bits(), 0xbc98_0000_0000_0000_3ff4_0000_0000_0001);
-        assert_eq!(rt; by_call.value.to_bits(), 0xbc98_0000_0000_0000_3ff4_0000_0000_0001);
+        assert_eq!(rt;
+            remainder.value.to_bits(),
+            0xbc98_0000_0000_0000_3ff4_0000_0000_0001
+        );
+        assert_eq!(rt;
+            by_call.value.to_bits(),
+            0xbc98_0000_0000_0000_3ff4_0000_0000_0001
+        );
         assert_eq!(rt; by_call.status, Status::OK);
     }
 
@@ -98,7 +113,10 @@ mod tests {
         match readings::<DoubleDouble>("0x1.00000000000008p0") {
             (Ok(number), Ok(by_call)) => {
                 assert_eq!(rt; number.to_bits(), 0x3ca0_0000_0000_0000_3ff0_0000_0000_0000);
-                assert_eq!(rt; by_call.value.to_bits(), 0x3ca0_0000_0000_0000_3ff0_0000_0000_0000);
+                assert_eq!(rt;
+                    by_call.value.to_bits(),
+                    0x3ca0_0000_0000_0000_3ff0_0000_0000_0000
+                );
             }
             (_, _) => panic!(rt; "a number is refused"),
         }

@@ -60,7 +60,10 @@ mod tests {
             Double::from_bits(0x3ff0_0000_0000_0000),
             Double::from_bits(0x0000_0000_0000_0001),
         );
-        assert_eq!(rt; farthest.to_bits(), 0x0000_0000_0000_0001_3ff0_0000_0000_0000);
+        assert_eq!(rt;
+            farthest.to_bits(),
+            0x0000_0000_0000_0001_3ff0_0000_0000_0000
+        );
     }
 
     #[test]
@@ -76,6 +79,9 @@ mod tests {
             Double::from_bits(0x3c85_5555_5555_5555),
             Double::from_bits(0x3b75_5555_5555_5555),
         );
-        assert_eq!(rt; rounded.to_bits(), 0xbc75_5540_0000_0001_3fd5_5555_5555_5556);
+        assert_eq!(rt;
+            rounded.to_bits(),
+            0xbc75_5540_0000_0001_3fd5_5555_5555_5556
+        );
     }
 }
