@@ -8,7 +8,7 @@ use rustc_apfloat::{FloatConvert, StatusAnd};
 
 /// Whether the answer of a conversion, and whether it loses information, are as the row has them.
 pub fn converts<S: Semantics, T: Semantics>(row: Row<'_>) -> Option<bool> {
-    let x = value_of::<S>(row.operands)?;
+    let x = value_of::<IeeeFloat<S>>(row.operands)?;
     let mut loses_info = false;
     let answer: StatusAnd<IeeeFloat<T>> = match (row.call, row.mode) {
         ("convert_r", mode) => x.convert_r(mode_named(mode)?, &mut loses_info),

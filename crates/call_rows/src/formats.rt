@@ -3,16 +3,21 @@
 use crate::conversions::converts;
 use crate::parts::{is_fraction, is_scaled};
 use crate::row::Row;
-use crate::texts::{is_read, is_shown};
+use crate::texts::{is_parsed, is_read, is_shown};
 use crate::whole_numbers::is_exponent;
-use crate::{arithmetic, order, parts, predicates, whole_numbers};
+use crate::{
+    arithmetic, constants, ieee, operators, order, pairs, parts, predicates, whole_numbers,
+};
 use conformance::formats::{
     HalfTinyBeforeS, LeastFiniteS, LeastS, SevenS, TenS, VastS, WrittenBitS,
 };
+use rustc_apfloat::Float;
 use rustc_apfloat::ieee::{
     BFloatS, DoubleS, FallbackExtendedS, FallbackS, Float8E4M3FNS, Float8E4M3FNUZS, Float8E5M2S,
-    HalfS, QuadS, Semantics, SingleS, X87DoubleExtendedS,
+    HalfS, IeeeFloat, QuadS, Semantics, SingleS, X87DoubleExtendedS,
 };
+use rustc_apfloat::ppc::DoubleDouble;
+use std::fmt::Debug;
 
 // Calls a function with the format of a name as its last type argument; `None` for an unknown name.
 macro_rules! in_format {
@@ -57,8 +62,13 @@ pub fn agrees_in_each_mode(row: Row<'_>) -> Option<bool> {
 
 fn agrees(row: Row<'_>) -> Option<bool> {
     match row.format.split_once('>') {
+        Some(("dd", "fallback")) => pairs::is_joined(row),
+        Some(("fallback", "dd")) => pairs::is_split(row),
         Some((source, target)) => in_format!(source, converts_from, [], row, target),
-        None => in_format!(row.format, agrees_in, [], row),
+        None if row.format == "dd" => {
+            pairs::agrees(row).or_else(|| agrees_in::<DoubleDouble>(row))
+        }
+        None => in_format!(row.format, agrees_in_ieee, [], row),
     }
 }
 
@@ -66,28 +76,36 @@ fn converts_from<S: Semantics>(row: Row<'_>, target: &str) -> Option<bool> {
     in_format!(target, converts, [S], row)
 }
 
-fn agrees_in<S: Semantics>(row: Row<'_>) -> Option<bool> {
-    if row.status != "-" {
-        with_status::<S>(row)
+fn agrees_in_ieee<S: Semantics>(row: Row<'_>) -> Option<bool> {
+    ieee::agrees::<S>(row).or_else(|| agrees_in::<IeeeFloat<S>>(row))
+}
+
+fn agrees_in<F: Float + Debug>(row: Row<'_>) -> Option<bool> {
+    if row.call == "from_str" {
+        is_parsed::<F>(row)
+    } else if row.status != "-" {
+        with_status::<F>(row)
     } else if row.extra != "-" {
-        is_fraction::<S>(row)
+        is_fraction::<F>(row)
     } else if row.mode != "-" || row.call == "scalbn" {
-        is_scaled::<S>(row)
+        is_scaled::<F>(row)
     } else {
-        without_status::<S>(row)
+        without_status::<F>(row)
     }
 }
 
-fn with_status<S: Semantics>(row: Row<'_>) -> Option<bool> {
-    arithmetic::agrees::<S>(row)
-        .or_else(|| whole_numbers::agrees::<S>(row))
-        .or_else(|| is_read::<S>(row))
+fn with_status<F: Float>(row: Row<'_>) -> Option<bool> {
+    arithmetic::agrees::<F>(row)
+        .or_else(|| whole_numbers::agrees::<F>(row))
+        .or_else(|| is_read::<F>(row))
 }
 
-fn without_status<S: Semantics>(row: Row<'_>) -> Option<bool> {
-    parts::agrees::<S>(row)
-        .or_else(|| predicates::agrees::<S>(row))
-        .or_else(|| order::agrees::<S>(row))
-        .or_else(|| is_exponent::<S>(row))
-        .or_else(|| is_shown::<S>(row))
+fn without_status<F: Float + Debug>(row: Row<'_>) -> Option<bool> {
+    constants::agrees::<F>(row)
+        .or_else(|| parts::agrees::<F>(row))
+        .or_else(|| predicates::agrees::<F>(row))
+        .or_else(|| order::agrees::<F>(row))
+        .or_else(|| operators::agrees::<F>(row))
+        .or_else(|| is_exponent::<F>(row))
+        .or_else(|| is_shown::<F>(row))
 }

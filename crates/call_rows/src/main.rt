@@ -18,9 +18,13 @@
 #![tactic(auto)]
 
 mod arithmetic;
+mod constants;
 mod conversions;
 mod formats;
+mod ieee;
+mod operators;
 mod order;
+mod pairs;
 mod parts;
 mod predicates;
 mod row;

@@ -2,32 +2,27 @@
 
 use crate::row::{Operands, Row, truth_of};
 use crate::values::value_of;
-use rustc_apfloat::ieee::{IeeeFloat, Semantics};
-use rustc_apfloat::{Category, Float};
+use rustc_apfloat::Float;
 use std::cmp::Ordering;
 
 /// Whether the answer of a row's call is the one that the row has, if it is a call of this module.
-pub fn agrees<S: Semantics>(row: Row<'_>) -> Option<bool> {
+pub fn agrees<F: Float>(row: Row<'_>) -> Option<bool> {
     let Operands::Two(first, second) = row.parted_operands()? else {
         return None;
     };
-    let x = value_of::<S>(first)?;
-    let y = value_of::<S>(second)?;
+    let x = value_of::<F>(first)?;
+    let y = value_of::<F>(second)?;
     match row.call {
         "eq" => Some((x == y) == truth_of(row.value)?),
         "bitwise_eq" => Some(x.bitwise_eq(y) == truth_of(row.value)?),
-        "partial_cmp" => Some(x.partial_cmp(&y) == order_named(row.value)?),
-        "cmp_abs_normal" => Some(Some(order_of_magnitudes(x, y)?) == order_named(row.value)?),
+        "partial_cmp" => is_order(row, x.partial_cmp(&y)),
         _ => None,
     }
 }
 
-// The order of the magnitudes of two numbers that are not zero.
-fn order_of_magnitudes<S: Semantics>(x: IeeeFloat<S>, y: IeeeFloat<S>) -> Option<Ordering> {
-    match (x.category(), y.category()) {
-        (Category::Normal, Category::Normal) => Some(x.cmp_abs_normal(y)),
-        _ => None,
-    }
+/// Whether an order, which may be none, is the one that a row has.
+pub fn is_order(row: Row<'_>, order: Option<Ordering>) -> Option<bool> {
+    Some(order == order_named(row.value)?)
 }
 
 // The order of this name, which may be none.

@@ -3,21 +3,20 @@
 use crate::row::{Operands, Row};
 use crate::values::{is_value, value_of};
 use commands::{bits_of, mode_named};
-use rustc_apfloat::ieee::{IeeeFloat, Semantics};
 use rustc_apfloat::{ExpInt, Float};
 
 /// Whether the answer of a row's call is the one that the row has, if it is a call of this module.
-pub fn agrees<S: Semantics>(row: Row<'_>) -> Option<bool> {
+pub fn agrees<F: Float>(row: Row<'_>) -> Option<bool> {
     match row.call {
-        "get_exact_inverse" => is_inverse::<S>(row),
-        "to_bits" => has_bits::<S>(row),
-        _ => is_value(answer_of::<S>(row)?, row.value),
+        "get_exact_inverse" => is_inverse::<F>(row),
+        "to_bits" => has_bits::<F>(row),
+        _ => is_value(answer_of::<F>(row)?, row.value),
     }
 }
 
 /// Whether the fraction and the exponent of a value are those that a row has.
-pub fn is_fraction<S: Semantics>(row: Row<'_>) -> Option<bool> {
-    let x = value_of::<S>(row.operands)?;
+pub fn is_fraction<F: Float>(row: Row<'_>) -> Option<bool> {
+    let x = value_of::<F>(row.operands)?;
     let mut exponent = 0;
     let fraction = match (row.call, row.mode) {
         ("frexp_r", mode) => x.frexp_r(&mut exponent, mode_named(mode)?),
@@ -29,11 +28,11 @@ pub fn is_fraction<S: Semantics>(row: Row<'_>) -> Option<bool> {
 }
 
 /// Whether a value times a power of two is the value that a row has.
-pub fn is_scaled<S: Semantics>(row: Row<'_>) -> Option<bool> {
+pub fn is_scaled<F: Float>(row: Row<'_>) -> Option<bool> {
     let Operands::Two(value, power) = row.parted_operands()? else {
         return None;
     };
-    let x = value_of::<S>(value)?;
+    let x = value_of::<F>(value)?;
     let power = power.parse::<ExpInt>().ok()?;
     match (row.call, row.mode) {
         ("scalbn_r", mode) => is_value(x.scalbn_r(power, mode_named(mode)?), row.value),
@@ -43,8 +42,8 @@ pub fn is_scaled<S: Semantics>(row: Row<'_>) -> Option<bool> {
 }
 
 // Whether a value has the exact inverse of a row, or none.
-fn is_inverse<S: Semantics>(row: Row<'_>) -> Option<bool> {
-    match (value_of::<S>(row.operands)?.get_exact_inverse(), row.value) {
+fn is_inverse<F: Float>(row: Row<'_>) -> Option<bool> {
+    match (value_of::<F>(row.operands)?.get_exact_inverse(), row.value) {
         (None, wanted) => Some(wanted == "None"),
         (Some(_), "None") => Some(false),
         (Some(inverse), wanted) => is_value(inverse, wanted),
@@ -52,25 +51,24 @@ fn is_inverse<S: Semantics>(row: Row<'_>) -> Option<bool> {
 }
 
 // Whether the value of bits has the bits of a row, the canonical ones.
-fn has_bits<S: Semantics>(row: Row<'_>) -> Option<bool> {
-    if S::PRECISION < S::BITS {
-        let x = S::from_bits(bits_of(row.operands, S::BITS)?);
-        Some(x.to_bits() == bits_of(row.value, S::BITS)?)
+fn has_bits<F: Float>(row: Row<'_>) -> Option<bool> {
+    if F::PRECISION < F::BITS {
+        let x = F::from_bits(bits_of(row.operands, F::BITS)?);
+        Some(x.to_bits() == bits_of(row.value, F::BITS)?)
     } else {
         None
     }
 }
 
-fn answer_of<S: Semantics>(row: Row<'_>) -> Option<IeeeFloat<S>> {
+fn answer_of<F: Float>(row: Row<'_>) -> Option<F> {
     match row.parted_operands()? {
         Operands::One(operand) => match row.call {
-            "qnan" => Some(IeeeFloat::<S>::qnan(payload_of(operand)?)),
-            "snan" => Some(IeeeFloat::<S>::snan(payload_of(operand)?)),
-            "largest" => Some(IeeeFloat::<S>::largest()),
-            call => of_one(call, value_of::<S>(operand)?),
+            "qnan" => Some(F::qnan(payload_of(operand)?)),
+            "snan" => Some(F::snan(payload_of(operand)?)),
+            call => of_one(call, value_of::<F>(operand)?),
         },
         Operands::Two(first, second) => {
-            of_two(row.call, value_of::<S>(first)?, value_of::<S>(second)?)
+            of_two(row.call, value_of::<F>(first)?, value_of::<F>(second)?)
         }
         Operands::Three(_, _, _) => None,
     }
@@ -84,16 +82,16 @@ fn payload_of(word: &str) -> Option<Option<u128>> {
     Some(Some(bits_of(word, 128)?))
 }
 
-fn of_one<S: Semantics>(call: &str, x: IeeeFloat<S>) -> Option<IeeeFloat<S>> {
+fn of_one<F: Float>(call: &str, x: F) -> Option<F> {
     match call {
         "neg" => Some(-x),
         "abs" => Some(x.abs()),
-        "through_i128" => Some(IeeeFloat::<S>::from_i128(x.to_i128(128).value).value),
+        "through_i128" => Some(F::from_i128(x.to_i128(128).value).value),
         _ => None,
     }
 }
 
-fn of_two<S: Semantics>(call: &str, x: IeeeFloat<S>, y: IeeeFloat<S>) -> Option<IeeeFloat<S>> {
+fn of_two<F: Float>(call: &str, x: F, y: F) -> Option<F> {
     match call {
         "copy_sign" => Some(x.copy_sign(y)),
         "min" => Some(x.min(y)),

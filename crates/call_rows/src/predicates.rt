@@ -3,15 +3,14 @@
 use crate::row::{Row, truth_of};
 use crate::values::value_of;
 use rustc_apfloat::Float;
-use rustc_apfloat::ieee::{IeeeFloat, Semantics};
 
 /// Whether the answer of a row's call is the one that the row has, if it is a call of this module.
-pub fn agrees<S: Semantics>(row: Row<'_>) -> Option<bool> {
-    let x = value_of::<S>(row.operands)?;
+pub fn agrees<F: Float>(row: Row<'_>) -> Option<bool> {
+    let x = value_of::<F>(row.operands)?;
     Some(holds(row.call, x)? == truth_of(row.value)?)
 }
 
-fn holds<S: Semantics>(call: &str, x: IeeeFloat<S>) -> Option<bool> {
+fn holds<F: Float>(call: &str, x: F) -> Option<bool> {
     match call {
         "is_normal" => Some(x.is_normal()),
         "is_finite" => Some(x.is_finite()),

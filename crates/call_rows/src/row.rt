@@ -90,15 +90,30 @@ impl<'a> Row<'a> {
     }
 }
 
-/// The status of this name.
+// The status of the names of flags, which bars join in the order of their bits, or of `OK`.
 fn status_named(word: &str) -> Option<Status> {
-    match word {
-        "OK" => Some(Status::OK),
+    let mut status = Status::OK;
+    if word == "OK" {
+        return Some(status);
+    }
+    for name in word.split('|') {
+        let flag = flag_named(name)?;
+        if flag.bits() <= status.bits() {
+            return None;
+        }
+        status = status.union(flag);
+    }
+    Some(status)
+}
+
+// The flag of this name.
+fn flag_named(name: &str) -> Option<Status> {
+    match name {
         "INVALID_OP" => Some(Status::INVALID_OP),
         "DIV_BY_ZERO" => Some(Status::DIV_BY_ZERO),
+        "OVERFLOW" => Some(Status::OVERFLOW),
+        "UNDERFLOW" => Some(Status::UNDERFLOW),
         "INEXACT" => Some(Status::INEXACT),
-        "OVERFLOW|INEXACT" => Some(Status::OVERFLOW.union(Status::INEXACT)),
-        "UNDERFLOW|INEXACT" => Some(Status::UNDERFLOW.union(Status::INEXACT)),
         _ => None,
     }
 }

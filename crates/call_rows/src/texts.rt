@@ -2,36 +2,49 @@
 
 use crate::arithmetic::is_answer;
 use crate::row::Row;
-use crate::values::value_of;
+use crate::values::{is_value, value_of};
 use commands::mode_named;
-use rustc_apfloat::ieee::{IeeeFloat, Semantics};
-use rustc_apfloat::{Category, Float};
+use rustc_apfloat::{Category, Float, ParseError};
 use std::fmt;
 use std::fmt::Write;
 
 /// Whether reading a text answers what the row has.
-pub fn is_read<S: Semantics>(row: Row<'_>) -> Option<bool> {
+pub fn is_read<F: Float>(row: Row<'_>) -> Option<bool> {
     if row.call != "from_str_r" {
         return None;
     }
-    match IeeeFloat::<S>::from_str_r(row.operands, mode_named(row.mode)?) {
+    match F::from_str_r(row.operands, mode_named(row.mode)?) {
         Ok(_) if row.status == "ParseError" => Some(false),
         Ok(answer) => is_answer(row, answer),
-        Err(error) => {
-            Some(row.value == error.0 && row.status == "ParseError" && row.extra == "-")
-        }
+        Err(error) => Some(is_refusal(row, error)),
     }
 }
 
+/// Whether parsing a text, which tells no status, answers what the row has.
+pub fn is_parsed<F: Float>(row: Row<'_>) -> Option<bool> {
+    if row.call != "from_str" || row.mode != "-" {
+        return None;
+    }
+    match row.operands.parse::<F>() {
+        Ok(_) if row.status == "ParseError" => Some(false),
+        Ok(value) => is_value(value, row.value),
+        Err(error) => Some(is_refusal(row, error)),
+    }
+}
+
+fn is_refusal(row: Row<'_>, error: ParseError) -> bool {
+    row.value == error.0 && row.status == "ParseError" && row.extra == "-"
+}
+
 /// Whether what is shown of a value is what the row has.
-pub fn is_shown<S: Semantics>(row: Row<'_>) -> Option<bool> {
+pub fn is_shown<F: Float + fmt::Debug>(row: Row<'_>) -> Option<bool> {
     match row.call {
         "debug" => {
-            let x = value_of::<S>(row.operands)?;
+            let x = value_of::<F>(row.operands)?;
             let mut expected = Expected { rest: row.value };
             Some(write!(expected, "{x:?}").is_ok() && expected.rest.is_empty())
         }
-        "category" => Some(category_name(value_of::<S>(row.operands)?.category()) == row.value),
+        "category" => Some(category_name(value_of::<F>(row.operands)?.category()) == row.value),
         _ => None,
     }
 }

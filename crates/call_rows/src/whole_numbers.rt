@@ -6,43 +6,41 @@ use crate::arithmetic::is_answer;
 use crate::row::{Operands, Row};
 use crate::values::value_of;
 use commands::{mode_named, number_of};
-use rustc_apfloat::ieee::{IeeeFloat, Semantics};
 use rustc_apfloat::{ExpInt, Float, StatusAnd};
 
 /// Whether the answer of a row's call is the one that the row has, if it is a call of this module.
-pub fn agrees<S: Semantics>(row: Row<'_>) -> Option<bool> {
+pub fn agrees<F: Float>(row: Row<'_>) -> Option<bool> {
     match row.parted_operands()? {
-        Operands::One(word) => is_answer(row, from_whole_number::<S>(row, word)?),
+        Operands::One(word) => is_answer(row, from_whole_number::<F>(row, word)?),
         Operands::Two(word, width) => {
-            is_whole_number::<S>(row, value_of(word)?, width.parse::<usize>().ok()?)
+            is_whole_number::<F>(row, value_of(word)?, width.parse::<usize>().ok()?)
         }
         Operands::Three(_, _, _) => None,
     }
 }
 
 /// Whether the exponent of a value is the one that a row has.
-pub fn is_exponent<S: Semantics>(row: Row<'_>) -> Option<bool> {
+pub fn is_exponent<F: Float>(row: Row<'_>) -> Option<bool> {
     if row.call != "ilogb" {
         return None;
     }
-    Some(value_of::<S>(row.operands)?.ilogb() == row.value.parse::<ExpInt>().ok()?)
+    Some(value_of::<F>(row.operands)?.ilogb() == row.value.parse::<ExpInt>().ok()?)
 }
 
-fn from_whole_number<S: Semantics>(row: Row<'_>, word: &str) -> Option<StatusAnd<IeeeFloat<S>>> {
+fn from_whole_number<F: Float>(row: Row<'_>, word: &str) -> Option<StatusAnd<F>> {
     match (row.call, row.mode) {
-        ("from_u128_r", mode) => {
-            Some(IeeeFloat::<S>::from_u128_r(number_of(word)?, mode_named(mode)?))
-        }
-        ("from_i128_r", mode) => Some(IeeeFloat::<S>::from_i128_r(
+        ("from_u128_r", mode) => { Some(F::from_u128_r(number_of(word)?, mode_named(mode)?)) }
+        ("from_i128_r", mode) => Some(F::from_i128_r(
             word.parse::<i128>().ok()?,
             mode_named(mode)?,
         )),
-        ("from_i128", "-") => Some(IeeeFloat::<S>::from_i128(word.parse::<i128>().ok()?)),
+        ("from_u128", "-") => Some(F::from_u128(number_of(word)?)),
+        ("from_i128", "-") => Some(F::from_i128(word.parse::<i128>().ok()?)),
         _ => None,
     }
 }
 
-fn is_whole_number<S: Semantics>(row: Row<'_>, x: IeeeFloat<S>, width: usize) -> Option<bool> {
+fn is_whole_number<F: Float>(row: Row<'_>, x: F, width: usize) -> Option<bool> {
     if width > 128 {
         None
     } else if row.call.starts_with("to_u128") && width >= 1 {
@@ -54,7 +52,7 @@ fn is_whole_number<S: Semantics>(row: Row<'_>, x: IeeeFloat<S>, width: usize) ->
     }
 }
 
-fn is_unsigned<S: Semantics>(row: Row<'_>, x: IeeeFloat<S>, width: usize) -> Option<bool>
+fn is_unsigned<F: Float>(row: Row<'_>, x: F, width: usize) -> Option<bool>
     requires low { 1 ≤ width }
     requires high { width ≤ 128 }
 {
@@ -71,7 +69,7 @@ fn is_unsigned<S: Semantics>(row: Row<'_>, x: IeeeFloat<S>, width: usize) -> Opt
     )
 }
 
-fn is_signed<S: Semantics>(row: Row<'_>, x: IeeeFloat<S>, width: usize) -> Option<bool>
+fn is_signed<F: Float>(row: Row<'_>, x: F, width: usize) -> Option<bool>
     requires low { 2 ≤ width }
     requires high { width ≤ 128 }
 {

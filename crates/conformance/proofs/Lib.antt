@@ -1,3 +1,4 @@
 pub mod Spacings
 pub mod Multiples
 pub mod PlainAnswers
+pub mod Summands

@@ -1,2 +1,3 @@
 pub mod Agreements
 pub mod Plain
+pub mod Summands

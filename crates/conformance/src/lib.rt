@@ -20,6 +20,7 @@ mod limits;
 mod long_texts;
 #[cfg(test)]
 mod operators;
+pub mod pairs;
 #[cfg(test)]
 mod patterns;
 pub mod plain;

@@ -1,0 +1,99 @@
+-- Sums of doubles as pairs, by the laws of sums of pairs.
+use Rattle.std.proofs.Common.{◌≡◌, ℕ, ◌+◌, ◌*◌, ◌≤◌, refl, sym, ◌∙◌, subst, arith}
+use Rattle.std.specs.Prelude.{ℤ, pos, ◌+ℤ◌}
+use Rattle.std.proofs.lemmas.Int.{ints}
+use Rattle.rustc_apfloat.specs.Datum.{Datum}
+use Rattle.rustc_apfloat.specs.Classes.{quanta_of}
+use Rattle.rustc_apfloat.specs.Exact.{magnitude}
+use Rattle.rustc_apfloat.specs.Members.{IsMember}
+use Rattle.rustc_apfloat.specs.Order.{number}
+use Rattle.rustc_apfloat.specs.PairFormats.{double}
+use Rattle.rustc_apfloat.specs.Pairs.{Pair, alone, pair_number}
+use Rattle.rustc_apfloat.specs.PairAccuracy.{sum_reach, IsSingle, AreWithinReach, IsExactPair, IsClosePair, IsErrorFreeSum, IsAccurateSum}
+use Rattle.apfloat_pairs.proofs.Signed.{magnitude_le, first_most}
+use Rattle.apfloat_pairs.proofs.SignedProducts.{times_one}
+use Rattle.apfloat_pairs.proofs.Operands.{magnitude_quanta, normalised_low, double_alone}
+use Rattle.apfloat_pairs.proofs.SumLaws.{single_normalised}
+use Rattle.conformance.specs.Summands.{reach_of_three, IsSummand}
+
+beside_zero : (z : ℤ) → (z +ℤ pos 0) ≡ z
+beside_zero z = omega (arith, ints)
+
+-- the number of a double alone
+alone_number : (x : Datum) → pair_number (alone x) ≡ number x
+alone_number x = beside_zero (number x)
+
+single : (reach : ℕ) (x : Datum) → IsSummand reach x → IsSingle (alone x)
+single reach x s = record { is_finite = s.is_finite; low_is = refl }
+
+-- ---- two doubles
+
+pub two_exactly : (x y : Datum) (p q answer : Pair) → p ≡ alone x → q ≡ alone y → IsSummand sum_reach x
+    → IsSummand sum_reach y → IsErrorFreeSum p q answer → IsExactPair (number x +ℤ number y) 1 answer
+two_exactly x y p q answer e f s t law =
+    let at_first = subst (λ (i : Pair). IsErrorFreeSum i q answer) e law in
+    let at_both = subst (λ (i : Pair). IsErrorFreeSum (alone x) i answer) f at_first in
+    let exact =
+    at_both (single sum_reach x s) (single sum_reach y t) (record { first = s.within; second = t.within }) in
+    let first = subst (λ (i : ℤ). IsExactPair (i +ℤ pair_number (alone y)) 1 answer) (alone_number x) exact in
+    subst (λ (i : ℤ). IsExactPair (number x +ℤ i) 1 answer) (alone_number y) first
+
+-- ---- three doubles
+
+-- what the high part is at most: seven sixths of the number
+high_most : (t h l n a b : ℕ) → 7 * l ≤ h → h ≤ n + l → n ≤ a + b → a ≤ t → b ≤ t → h ≤ 4 * t
+high_most t h l n a b low high sum first second = omega arith
+
+four_times : 4 * reach_of_three ≡ sum_reach
+four_times = refl
+
+summand_size : (reach : ℕ) (x : Datum) → IsSummand reach x → magnitude (number x) ≤ reach
+summand_size reach x s = subst (λ (i : ℕ). i ≤ reach) (sym (magnitude_quanta x s.is_finite)) s.within
+
+exact_number : (x y : Datum) (s : Pair) → IsExactPair (number x +ℤ number y) 1 s
+    → pair_number s ≡ (number x +ℤ number y)
+exact_number x y s e = sym (times_one (pair_number s)) ∙ e.number_is
+
+-- the exact sum of two of three doubles is within reach
+first_reach : (x y : Datum) (s : Pair) → IsSummand reach_of_three x → IsSummand reach_of_three y
+    → IsExactPair (number x +ℤ number y) 1 s → quanta_of s.high ≤ sum_reach
+first_reach x y s k m e =
+    let n = exact_number x y s e in
+    let sum : magnitude (pair_number s) ≤ magnitude (number x) + magnitude (number y) =
+    subst (λ (i : ℤ). magnitude i ≤ magnitude (number x) + magnitude (number y)) (sym n)
+    (magnitude_le (number x) (number y)) in
+    let most =
+    high_most reach_of_three (magnitude (number s.high)) (magnitude (number s.low)) (magnitude (pair_number s))
+    (magnitude (number x)) (magnitude (number y))
+    (normalised_low s e.normalised) (first_most (number s.high) (number s.low)) sum
+    (summand_size reach_of_three x k) (summand_size reach_of_three y m) in
+    let quanta = subst (λ (i : ℕ). i ≤ 4 * reach_of_three) (magnitude_quanta s.high e.normalised.finite_high) most in
+    subst (λ (i : ℕ). quanta_of s.high ≤ i) four_times quanta
+
+widened_reach : (t n : ℕ) → n ≤ t → n ≤ 4 * t
+widened_reach t n h = omega arith
+
+third_reach : (z : Datum) → IsSummand reach_of_three z → quanta_of z ≤ sum_reach
+third_reach z s = subst (λ (i : ℕ). quanta_of z ≤ i) four_times (widened_reach reach_of_three (quanta_of z) s.within)
+
+close_by : (m n p q : ℤ) (answer : Pair) → m ≡ n → p ≡ q
+    → IsClosePair (m +ℤ p) 1 103 (magnitude m + magnitude p) answer
+    → IsClosePair (n +ℤ q) 1 103 (magnitude n + magnitude q) answer
+close_by m n p q answer e f close =
+    subst (λ (i : ℤ). IsClosePair (n +ℤ i) 1 103 (magnitude n + magnitude i) answer) f
+    (subst (λ (i : ℤ). IsClosePair (i +ℤ p) 1 103 (magnitude i + magnitude p) answer) e close)
+
+pub three_closely : (x y z : Datum) (s t answer : Pair) → t ≡ alone z → IsMember double z
+    → IsSummand reach_of_three x → IsSummand reach_of_three y → IsSummand reach_of_three z
+    → IsExactPair (number x +ℤ number y) 1 s → IsAccurateSum s t answer
+    → IsClosePair ((number x +ℤ number y) +ℤ number z) 1 103
+    (magnitude (number x +ℤ number y) + magnitude (number z)) answer
+three_closely x y z s t answer f member a b c exact law =
+    let at_third = subst (λ (i : Pair). IsAccurateSum s i answer) f law in
+    let reach = third_reach z c in
+    let normalised =
+    single_normalised (alone z) (double_alone (alone z) member (single reach_of_three z c)) reach in
+    let close =
+    at_third exact.normalised normalised (record { first = first_reach x y s a b exact; second = reach }) in
+    close_by (pair_number s) (number x +ℤ number y) (pair_number (alone z)) (number z) answer
+    (exact_number x y s exact) (alone_number z) close
