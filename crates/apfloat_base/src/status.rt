@@ -119,6 +119,7 @@ macro_rules! unpack {
 mod tests {
     use super::*;
     use crate::unpack;
+    use std::cmp::Ordering;
 
     fn overflowed() -> Status {
         Status::OVERFLOW.union(Status::INEXACT)
@@ -169,6 +170,50 @@ mod tests {
         assert_eq!(rt; status.bits(), 0x19);
         status.set(Status::UNDERFLOW, false);
         assert_eq!(rt; status.bits(), 0x11);
+    }
+
+    #[test]
+    fn combines_by_operators(rt: HostRuntime) {
+        let underflowed = Status::UNDERFLOW | Status::INEXACT;
+        assert_eq!(rt; underflowed.bits(), 0x18);
+        assert_eq!(rt; (overflowed() | underflowed).bits(), 0x1c);
+        assert_eq!(rt; (overflowed() & underflowed).bits(), 0x10);
+        assert_eq!(rt; (overflowed() ^ underflowed).bits(), 0x0c);
+        assert_eq!(rt; (overflowed() - underflowed).bits(), 0x04);
+        assert_eq!(rt; (!overflowed()).bits(), 0x0b);
+    }
+
+    #[test]
+    fn changes_by_operators(rt: HostRuntime) {
+        let mut status = overflowed();
+        status |= Status::UNDERFLOW;
+        assert_eq!(rt; status.bits(), 0x1c);
+        status &= Status::UNDERFLOW | Status::INEXACT | Status::INVALID_OP;
+        assert_eq!(rt; status.bits(), 0x18);
+        status ^= Status::INEXACT | Status::INVALID_OP;
+        assert_eq!(rt; status.bits(), 0x09);
+        status -= Status::UNDERFLOW | Status::DIV_BY_ZERO;
+        assert_eq!(rt; status.bits(), 0x01);
+    }
+
+    /// A larger value does not outweigh a smaller status.
+    #[test]
+    fn orders_by_status_first(rt: HostRuntime) {
+        let exact = Status::OK.and(7u8);
+        let inexact = Status::INEXACT.and(3u8);
+        assert_eq!(rt; exact.cmp(&inexact), Ordering::Less);
+        assert_eq!(rt; inexact.cmp(&exact), Ordering::Greater);
+        assert_eq!(rt; exact.partial_cmp(&inexact), Some(Ordering::Less));
+        assert_eq!(rt; exact.cmp(&Status::OK.and(8)), Ordering::Less);
+        assert_eq!(rt; exact.cmp(&Status::OK.and(7)), Ordering::Equal);
+        assert!(rt; exact < inexact);
+        assert!(rt; inexact > exact);
+    }
+
+    #[test]
+    fn orders_statuses_by_bits(rt: HostRuntime) {
+        assert_eq!(rt; Status::INEXACT.cmp(&overflowed()), Ordering::Less);
+        assert_eq!(rt; Status::INEXACT.cmp(&Status::UNDERFLOW), Ordering::Greater);
     }
 
     #[test]
