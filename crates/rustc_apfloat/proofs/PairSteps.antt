@@ -16,8 +16,8 @@ use Rattle.apfloat_base.specs.Order.{is_equal}
 use Rattle.apfloat_base.specs.Members.{IsMember}
 use Rattle.apfloat_base.specs.Sums.{IsSum, IsDifference}
 use Rattle.apfloat_base.specs.Products.{IsProduct}
-use Rattle.apfloat_pairs.specs.PairFormats.{double}
-use Rattle.apfloat_pairs.specs.Pairs.{Pair, IsPairAnswer, IsJoined, IsSplit, IsWideAnswerOfTwo, alone, negated_pair, pair_category, pair_nan_signed_as}
+use Rattle.apfloat_pairs.specs.PairFormats.{double, wide}
+use Rattle.apfloat_pairs.specs.Pairs.{Pair, IsPairAnswer, IsJoined, IsSplit, IsSplitAnswer, IsSumOfParts, IsWidened, IsWideAnswer, IsWideAnswerOfTwo, alone, negated_pair, pair_category, pair_nan_signed_as}
 use Rattle.apfloat_pairs.specs.PairSums.{◌∪◌, greater, lesser, IsClosed, IsSumAnew, IsSumAnewLow, IsSumOfInfinities, IsSumOfCategories, IsPairSum, IsPairDifference}
 use Rattle.apfloat_pairs.specs.PairParts.{is_denormal_pair}
 use Rattle.apfloat_pairs.proofs.DenormalPairs.{denormal_by_sum}
@@ -200,7 +200,34 @@ anew_within mode x y big small z low flags all_flags is_within answer status o w
           });
     }
 
+-- an answer and its status, of which each is what was found
+pub answered : (P : Datum → ℕ → Type 0) (value answer : Datum) (flags status : ℕ) → answer ≡ value → status ≡ flags
+    → P value flags → P answer status
+answered P value answer flags status e s p =
+    subst (λ (d : Datum). P d status) (sym e) (subst (λ (i : ℕ). P value i) (sym s) p)
+
+-- ---- pairs in the wide format
+
+pub joined_by_sum : (x : Pair) (high low answer : Datum) (status : ℕ) (is_number : Bool)
+    → is_number ≡ is_number_category (category_of x.high) → is_number ≡ true → IsWidened x.high high
+    → IsWidened x.low low → IsSum wide NearestTiesToEven high low answer status → IsJoined x answer
+joined_by_sum x high low answer status is_number n e h l s =
+    match_true (is_finite_non_zero x.high) (IsSumOfParts x answer) (IsWidened x.high answer)
+    (sym (number_agrees x.high) ∙ sym n ∙ e)
+    (record { high = high; low = low; status = status; high_is = h; low_is = l; is_sum = s })
+
+pub joined_alone : (x : Pair) (high : Datum) (is_number : Bool) → is_number ≡ is_number_category (category_of x.high)
+    → is_number ≡ false → IsWidened x.high high → IsJoined x high
+joined_alone x high is_number n e h =
+    match_false (is_finite_non_zero x.high) (IsSumOfParts x high) (IsWidened x.high high)
+    (sym (number_agrees x.high) ∙ sym n ∙ e) h
+
 -- ---- calls in the wide format
+
+pub wide_of_none : (call : Datum → ℕ → Type 0) (value : Datum) (flags : ℕ) (answer : Pair) (status : ℕ)
+    → call value flags → status ≡ flags → IsSplit value answer → IsSplitAnswer call answer status
+wide_of_none call value flags answer status h e s =
+    record { value = value; is_value = subst (λ (t : ℕ). call value t) (sym e) h; is_split = s }
 
 pub wide_of_two : (call : Datum → Datum → Datum → ℕ → Type 0) (x y : Pair) (left right value : Datum) (flags : ℕ)
     (answer : Pair) (status : ℕ) → IsJoined x left → IsJoined y right → call left right value flags → status ≡ flags
@@ -211,11 +238,17 @@ wide_of_two call x y left right value flags answer status i j h e s =
       right = right;
       left_is = i;
       right_is = j;
-      is_answer = record {
-        value = value;
-        is_value = subst (λ (t : ℕ). call left right value t) (sym e) h;
-        is_split = s;
-      };
+      is_answer = wide_of_none (call left right) value flags answer status h e s;
+    }
+
+pub wide_of_one : (call : Datum → Datum → ℕ → Type 0) (x : Pair) (joined value : Datum) (flags : ℕ) (answer : Pair)
+    (status : ℕ) → IsJoined x joined → call joined value flags → status ≡ flags → IsSplit value answer
+    → IsWideAnswer call x answer status
+wide_of_one call x joined value flags answer status j h e s =
+    record {
+      joined = joined;
+      is_joined = j;
+      is_answer = wide_of_none (call joined) value flags answer status h e s;
     }
 
 -- ---- by categories, and by the negation

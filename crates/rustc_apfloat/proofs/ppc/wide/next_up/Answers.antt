@@ -1,0 +1,12 @@
+use Rattle.std.proofs.Common.{ap}
+use Rattle.apfloat_base.specs.Flags.{bits_of}
+use Rattle.apfloat_base.specs.NextUp.{IsNextUp}
+use Rattle.apfloat_pairs.specs.PairFormats.{wide}
+use Rattle.rustc_apfloat.proofs.PairSteps.{wide_of_one}
+use Rattle.rustc_apfloat.proofs.ppc.wide.next_up.Goals as goal
+
+pub returns : goal.returns
+returns c =
+    wide_of_one (IsNextUp wide) c.args.x c.joined.result c.next_up.result.value
+    (bits_of c.next_up.result.status) c.split_answer.result.value _ c.joined.ensures c.next_up.ensures.next
+    (ap bits_of c.split_answer.ensures.status) c.split_answer.ensures.value
