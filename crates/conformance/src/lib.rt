@@ -24,6 +24,8 @@ mod operators;
 mod patterns;
 pub mod plain;
 #[cfg(test)]
+mod sweeps;
+#[cfg(test)]
 mod tables;
 #[cfg(test)]
 mod wider;
