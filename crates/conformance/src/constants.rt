@@ -4,8 +4,10 @@ ghost use Rattle.std.specs.Prelude.{◌<◌};
 
 use crate::formats::{Least, LeastS, SevenS};
 use rustc_apfloat::ieee::{
-    DoubleS, Float8E4M3FNS, Float8E4M3FNUZS, HalfS, IeeeFloat, Semantics, SingleS,
+    BFloat, Double, DoubleS, Float8E4M3FNS, Float8E4M3FNUZS, Float8E5M2, HalfS, IeeeFloat,
+    NonfiniteBehavior, Quad, Semantics, SingleS,
 };
+use rustc_apfloat::ppc::{FallbackExtendedS, FallbackS};
 use rustc_apfloat::{Category, ExpInt, Float};
 use std::process::Abort;
 
@@ -106,4 +108,72 @@ fn constants_of_types(rt: HostRuntime) {
     assert_eq!(rt; constants::<DoubleS>(), (64, 53, -1022, 1023));
     assert_eq!(rt; constants::<SevenS>(), (7, 4, -1, 4));
     assert_eq!(rt; constants::<LeastS>(), (0, 3, -1, 3));
+}
+
+/// What a format for computing only says of its digits, its non-finite values and its rule of tininess.
+#[derive(Clone, Copy, PartialEq, Eq, Debug)]
+struct Rules {
+    exp_bits: usize,
+    ieee_max_exp: ExpInt,
+    ieee_min_exp: ExpInt,
+    nonfinite: NonfiniteBehavior,
+    nan_base: u128,
+    nan_payloads: u128,
+    quiet_nan: u128,
+    explicit_integer_bit: bool,
+    tiny_before_rounding: bool,
+}
+
+fn rules_of<S: Semantics>() -> Rules {
+    Rules {
+        exp_bits: S::EXP_BITS,
+        ieee_max_exp: S::IEEE_MAX_EXP,
+        ieee_min_exp: S::IEEE_MIN_EXP,
+        nonfinite: S::NONFINITE_BEHAVIOR,
+        nan_base: S::NAN_SIGNIFICAND_BASE,
+        nan_payloads: S::NAN_PAYLOAD_MASK,
+        quiet_nan: S::QNAN_SIGNIFICAND,
+        explicit_integer_bit: S::EXPLICIT_INTEGER_BIT,
+        tiny_before_rounding: S::TINY_BEFORE_ROUNDING,
+    }
+}
+
+/// The wide formats of pairs differ in the least exponent alone.
+#[test]
+fn constants_of_wide_formats(rt: HostRuntime) {
+    assert_eq!(rt; constants::<FallbackS>(), (0, 106, -969, 1023));
+    assert_eq!(rt; constants::<FallbackExtendedS>(), (0, 106, -1022, 1023));
+    let wide = Rules {
+        exp_bits: 0,
+        ieee_max_exp: 0,
+        ieee_min_exp: 0,
+        nonfinite: NonfiniteBehavior::IEEE754,
+        nan_base: 0,
+        nan_payloads: 0x1ffffffffffffffffffffffffff,
+        quiet_nan: 0x100000000000000000000000000,
+        explicit_integer_bit: false,
+        tiny_before_rounding: false,
+    };
+    assert_eq!(rt; rules_of::<FallbackS>(), wide);
+    assert_eq!(rt; rules_of::<FallbackExtendedS>(), wide);
+}
+
+#[test]
+fn constants_of_aliases(rt: HostRuntime) {
+    assert_eq!(rt; (Double::BITS, Double::PRECISION), (64, 53));
+    assert_eq!(rt; (Quad::BITS, Quad::PRECISION), (128, 113));
+    assert_eq!(rt; (BFloat::BITS, BFloat::PRECISION), (16, 8));
+    assert_eq!(rt; (Float8E5M2::BITS, Float8E5M2::PRECISION), (8, 3));
+}
+
+/// The largest value of each.
+#[test]
+fn largest_of_aliases(rt: HostRuntime) {
+    assert_eq!(rt; Double::largest().to_bits(), 0x7fefffffffffffff);
+    assert_eq!(rt;
+        Quad::largest().to_bits(),
+        0x7ffeffffffffffffffffffffffffffff
+    );
+    assert_eq!(rt; BFloat::largest().to_bits(), 0x7f7f);
+    assert_eq!(rt; Float8E5M2::largest().to_bits(), 0x7b);
 }

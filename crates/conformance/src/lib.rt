@@ -25,6 +25,8 @@ pub mod pairs;
 mod patterns;
 pub mod plain;
 #[cfg(test)]
+mod sweeps;
+#[cfg(test)]
 mod tables;
 #[cfg(test)]
 mod wider;

@@ -7,7 +7,7 @@ use rustc_apfloat::ieee::{
     DoubleS, Float8E4M3FN, Float8E4M3FNS, Float8E4M3FNUZ, Half, HalfS, IeeeFloat, Semantics,
     Single, SingleS, X87DoubleExtended, X87DoubleExtendedS,
 };
-use rustc_apfloat::{ExpInt, Flags, Float, FloatConvert, StatusAnd};
+use rustc_apfloat::{ExpInt, Flags, Float, FloatConvert, Status, StatusAnd, unpack};
 use std::process::Abort;
 
 #[derive(Clone, Copy, Debug)]
@@ -211,4 +211,20 @@ fn parsed_texts(rt: HostRuntime) {
         Err("Hex strings require an exponent")
     );
     assert_eq!(rt; parsed::<SingleS>(""), Err("Invalid string length"));
+}
+
+/// Neither status has the flags of the other, and the last has none.
+#[test]
+fn joins_statuses(rt: HostRuntime) {
+    let mut status;
+    let first: u8 = unpack!(status =, Status::INVALID_OP.union(Status::UNDERFLOW).and(1));
+    assert_eq!(rt; status.bits(), 0x09);
+    let second: u8 = unpack!(status |=, Status::OVERFLOW.union(Status::INEXACT).and(2));
+    assert_eq!(rt; status.bits(), 0x1d);
+    let third: u8 = unpack!(status |=, Status::OK.and(3));
+    assert_eq!(rt; status.bits(), 0x1d);
+    assert_eq!(rt; (first, second, third), (1, 2, 3));
+    let fourth: u8 = unpack!(status =, Status::DIV_BY_ZERO.and(4));
+    assert_eq!(rt; status.bits(), 0x02);
+    assert_eq!(rt; fourth, 4);
 }
