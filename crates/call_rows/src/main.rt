@@ -2,13 +2,14 @@
 //!
 //! Standard input has the rows, a line for each. The columns, which tabs part, are
 //!
-//! - the call; `through_i128` is a whole number of 128 digits out and in again;
-//! - the format, or `SOURCE>TARGET` for a conversion;
+//! - the call, or an operator; `through_i128` is a whole number of 128 digits out and in again;
+//! - the format, `dd` for pairs of doubles, or `SOURCE>TARGET` for a conversion;
 //! - the mode, as `vectors` names it, `any` for each mode, or `-` for a call that has none;
-//! - the operands, which single spaces part; those of `from_str_r` are a text as it stands;
+//! - the operands, which single spaces part; those of `from_str_r` and `from_str` are a text as it stands, and that of a
+//!   constant is `-`;
 //! - the value;
-//! - the names of the flags, `OK` for none, or `-` for a call without a status; `ParseError` says that the text is
-//!   refused, with the words of the value's column;
+//! - the names of the flags, which bars join in the order of their bits, `OK` for none, or `-` for a call without a status;
+//!   `ParseError` says that the text is refused, with the words of the value's column;
 //! - what else the call answers, as `exponent=-3`, or `-`.
 //!
 //! A value is written by its bits, as hexadecimal digits, or in a format without bits as a text.

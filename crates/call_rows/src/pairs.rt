@@ -2,7 +2,6 @@
 
 ghost use Rattle.std.specs.Prelude.{◌≡◌, true};
 ghost use Rattle.rustc_apfloat.specs.PairParts.{CanComparePairMagnitudes};
-ghost use Rattle.std.specs.Option.{IfSome};
 
 use crate::order::is_order;
 use crate::row::{Operands, Row};

@@ -9,7 +9,7 @@ use Rattle.rustc_apfloat.specs.Members.{IsMember}
 use Rattle.rustc_apfloat.specs.Order.{number}
 use Rattle.rustc_apfloat.specs.PairFormats.{double}
 use Rattle.rustc_apfloat.specs.Pairs.{Pair, alone, pair_number}
-use Rattle.rustc_apfloat.specs.PairAccuracy.{sum_reach, IsSingle, AreWithinReach, IsExactPair, IsClosePair, IsErrorFreeSum, IsAccurateSum}
+use Rattle.rustc_apfloat.specs.PairAccuracy.{sum_reach, IsSingle, IsExactPair, IsClosePair, IsErrorFreeSum, IsAccurateSum}
 use Rattle.apfloat_pairs.proofs.Signed.{magnitude_le, first_most}
 use Rattle.apfloat_pairs.proofs.SignedProducts.{times_one}
 use Rattle.apfloat_pairs.proofs.Operands.{magnitude_quanta, normalised_low, double_alone}
