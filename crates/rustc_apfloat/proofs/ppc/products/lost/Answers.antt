@@ -24,7 +24,8 @@ returns c =
       cross_flags = bits_of c.add_r-answer.result.status;
       tau_flags = bits_of c.add_r-answer-2.result.status;
       is_lost =
-          subst (λ (d : Datum). IsFusedSum double c.args.round c.x.inside.0 c.y.inside.0 d c.mul_add_r-answer.result.value (bits_of c.mul_add_r-answer.result.status))
+          subst (λ (d : Datum). IsFusedSum double c.args.round c.x.inside.0 c.y.inside.0 d
+          c.mul_add_r-answer.result.value (bits_of c.mul_add_r-answer.result.status))
           c.neg.ensures c.mul_add_r-answer.ensures;
       is_v = c.mul_r-answer.ensures.product;
       is_w = c.mul_r-answer-2.ensures.product;

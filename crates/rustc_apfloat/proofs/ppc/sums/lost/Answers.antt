@@ -31,7 +31,8 @@ returns c =
       is_z_again = c.add_r-answer-2.ensures.sum;
       is_gained = c.sub_r-answer-2.ensures.difference;
       is_lost =
-          subst (λ (d : Datum). IsSum double c.args.round c.add_r-answer.result.value d c.add_r-answer-3.result.value (bits_of c.add_r-answer-3.result.status))
+          subst (λ (d : Datum). IsSum double c.args.round c.add_r-answer.result.value d
+          c.add_r-answer-3.result.value (bits_of c.add_r-answer-3.result.status))
           c.neg.ensures c.add_r-answer-3.ensures.sum;
       is_with_aa = c.add_r-answer-4.ensures.sum;
       is_zz = c.add_r-answer-5.ensures.sum;

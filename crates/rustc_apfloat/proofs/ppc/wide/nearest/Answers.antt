@@ -14,4 +14,5 @@ returns-clause-remainder c =
 
 pub returns-clause-exact : goal.returns-clause-exact
 returns-clause-exact c =
-    exact_nearest_remainder c.args.x c.args.y c.split_answer.result.value (bits_of c.split_answer.result.status) (returns-clause-remainder c)
+    exact_nearest_remainder c.args.x c.args.y c.split_answer.result.value
+    (bits_of c.split_answer.result.status) (returns-clause-remainder c)

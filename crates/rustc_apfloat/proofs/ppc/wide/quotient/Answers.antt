@@ -14,4 +14,5 @@ returns-clause-quotient c =
 
 pub returns-clause-exact : goal.returns-clause-exact
 returns-clause-exact c =
-    exact_quotient c.args.round c.args.x c.args.y c.split_answer.result.value (bits_of c.split_answer.result.status) (returns-clause-quotient c)
+    exact_quotient c.args.round c.args.x c.args.y c.split_answer.result.value
+    (bits_of c.split_answer.result.status) (returns-clause-quotient c)
