@@ -102,7 +102,7 @@ pub fn divide(shape: Shape, x: Unpacked, y: Unpacked, round: Round) -> StatusAnd
             Category::Normal => divide_numbers(shape, x, y, round),
             Category::Zero => divided_by_zero(shape, negative),
             Category::Infinity => exact_zero(shape, negative),
-            Category::NaN => propagated(shape, y),
+            _ => propagated(shape, y),
         },
         Category::Zero => match y.category {
             Category::Normal => exact_zero(shape, negative),
@@ -116,6 +116,6 @@ pub fn divide(shape: Shape, x: Unpacked, y: Unpacked, round: Round) -> StatusAnd
             Category::Infinity => invalid(shape),
             Category::NaN => propagated(shape, y),
         },
-        Category::NaN => propagated_left(shape, x, y),
+        _ => propagated_left(shape, x, y),
     }
 }

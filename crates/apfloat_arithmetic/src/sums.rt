@@ -142,7 +142,7 @@ fn add_to_number(shape: Shape, x: Unpacked, y: Unpacked, round: Round) -> Status
         Category::Normal => add_numbers(shape, x, y, round),
         Category::Zero => Status::OK.and(x),
         Category::Infinity => Status::OK.and(y),
-        Category::NaN => propagated(shape, y),
+        _ => propagated(shape, y),
     }
 }
 
@@ -159,7 +159,7 @@ pub fn add(shape: Shape, x: Unpacked, y: Unpacked, round: Round) -> StatusAnd<Un
         Category::Normal => add_to_number(shape, x, y, round),
         Category::Zero => add_to_zero(shape, x, y, round),
         Category::Infinity => add_to_infinity(shape, x, y),
-        Category::NaN => propagated_left(shape, x, y),
+        _ => propagated_left(shape, x, y),
     }
 }
 
@@ -171,10 +171,8 @@ fn added(shape: Shape, y: Unpacked) -> Unpacked
     ensures datum { datum_at shape result ≡ added shape.nonfinite (datum_at shape y) }
 {
     match y.category {
-        Category::Normal => negated(shape, y),
-        Category::Zero => negated(shape, y),
-        Category::Infinity => negated(shape, y),
         Category::NaN => y,
+        _ => negated(shape, y),
     }
 }
 

@@ -109,25 +109,24 @@ fn keep(precision: u32, significand: u128, unit: ExpInt, loss: Loss) -> Kept
 pub fn moves_up(mode: Round, negative: bool, loss: Loss, odd: bool) -> bool
     ensures { result ≡ rounds_up mode negative loss odd }
 {
-    match loss {
-        Loss::ExactlyZero => false,
-        Loss::LessThanHalf => match mode {
-            Round::TowardPositive => !negative,
-            Round::TowardNegative => negative,
+    match mode {
+        Round::NearestTiesToEven => match loss {
+            Loss::MoreThanHalf => true,
+            Loss::ExactlyHalf => odd,
             _ => false,
         },
-        Loss::ExactlyHalf => match mode {
-            Round::NearestTiesToEven => odd,
-            Round::NearestTiesToAway => true,
-            Round::TowardPositive => !negative,
-            Round::TowardNegative => negative,
-            Round::TowardZero => false,
+        Round::NearestTiesToAway => match loss {
+            Loss::MoreThanHalf => true,
+            Loss::ExactlyHalf => true,
+            _ => false,
         },
-        Loss::MoreThanHalf => match mode {
-            Round::TowardPositive => !negative,
-            Round::TowardNegative => negative,
-            Round::TowardZero => false,
-            _ => true,
+        Round::TowardZero => false,
+        _ => match loss {
+            Loss::ExactlyZero => false,
+            _ => match mode {
+                Round::TowardNegative => negative,
+                _ => !negative,
+            },
         },
     }
 }

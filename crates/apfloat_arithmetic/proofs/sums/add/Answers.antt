@@ -1,4 +1,4 @@
-use Rattle.std.proofs.Common.{rules, refl}
+use Rattle.std.proofs.Common.{refl}
 use Rattle.apfloat_base.specs.declared.kinds.Category.TheVariants.{Infinity}
 use Rattle.apfloat_base.specs.Flags.{bits_of}
 use Rattle.apfloat_base.specs.Datum.{infinite}
@@ -15,6 +15,3 @@ returns-in-Infinity-clause-delivered c =
     let i = bits_of c.add_to_infinity.result.status in
     same_sum (format_at s) c.args.round (datum_at s x) (datum_at s c.args.y) v (infinite x.negative) (datum_at s c.args.y) v i i
     (datum_is Infinity s x c.in-Infinity.is) refl refl refl (c.add_to_infinity.ensures.delivered c.args.round)
-
-pub returns-in-NaN-clause-delivered : goal.returns-in-NaN-clause-delivered
-returns-in-NaN-clause-delivered c = search rules steps 500000
