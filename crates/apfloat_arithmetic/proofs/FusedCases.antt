@@ -1,20 +1,14 @@
 -- Fused sums with a product or an addend that is zero.
-use Rattle.std.proofs.Common.{◌≡◌, ℕ, ◌+ℤ◌, ◌*◌, ◌^◌, ◌<◌, pos, Bool, ap, refl, subst, ◌∙◌, arith}
+use Rattle.std.proofs.Common.{◌≡◌, ℕ, ◌+ℤ◌, ◌*◌, ◌^◌, ◌<◌, pos, Bool, ap, subst, ◌∙◌, arith}
 use Rattle.std.proofs.Math.Nat.{mul-pos}
 use Rattle.std.proofs.lemmas.Nat.{pow_pos}
-use Rattle.apfloat_base.specs.declared.kinds.Category.{Category}
-use Rattle.apfloat_base.specs.declared.kinds.Category.TheVariants.{Normal, Zero, Infinity, NaN}
 use Rattle.apfloat_base.specs.declared.kinds.Round.{Round}
 use Rattle.apfloat_base.specs.Datum.{Datum, finite}
 use Rattle.apfloat_base.specs.Format.{Format}
 use Rattle.apfloat_base.specs.Exact.{product_sign, signed}
 use Rattle.apfloat_base.specs.Rounding.{IsDelivered}
 use Rattle.apfloat_base.specs.Sums.{zero_sum_sign}
-use Rattle.apfloat_base.specs.FusedSums.{IsFusedSum, IsSumWithProduct}
-use Rattle.apfloat_unpacked.specs.Shapes.{format_at}
-use Rattle.apfloat_unpacked.specs.Stored.{datum_by}
-use Rattle.apfloat_unpacked.specs.declared.shape.Shape.{Shape}
-use Rattle.apfloat_unpacked.specs.declared.unpacked.Unpacked.{Unpacked}
+use Rattle.apfloat_base.specs.FusedSums.{IsFusedSum}
 use Rattle.apfloat_base.proofs.Signs.{no_sign, and_zero, zero_and, rounded_signed}
 
 -- the exact sum where one of the two is zero
@@ -41,22 +35,3 @@ zeros_rounded f mode b c d sign l m value status z e h =
 
 pub same_fused : (f : Format) (mode : Round) (x y z v d w : Datum) (i j : ℕ) → z ≡ d → v ≡ w → i ≡ j → IsFusedSum f mode x y d w j → IsFusedSum f mode x y z v i
 same_fused f mode x y z v d w i j p q r h = rw (p, q, r) h
-
--- the left factor is no finite number
-pub left_special : (k : Category) (s : Shape) (mode : Round) (x : Unpacked) (y z value : Datum) (status : ℕ)
-    → (k ≡ Normal → ⊥) → (k ≡ Zero → ⊥) → IsSumWithProduct (format_at s) mode (datum_by k s x) y z value status
-    → IsFusedSum (format_at s) mode (datum_by k s x) y z value status
-left_special Normal s mode x y z value status a b h = absurd (a refl)
-left_special Zero s mode x y z value status a b h = absurd (b refl)
-left_special Infinity s mode x y z value status a b h = h
-left_special NaN s mode x y z value status a b h = h
-
--- the right factor is no finite number
-pub right_special : (l : Category) (s : Shape) (mode : Round) (n : ℕ) (b : Bool) (y : Unpacked) (z value : Datum)
-    (status : ℕ) → (l ≡ Normal → ⊥) → (l ≡ Zero → ⊥)
-    → IsSumWithProduct (format_at s) mode (finite b n) (datum_by l s y) z value status
-    → IsFusedSum (format_at s) mode (finite b n) (datum_by l s y) z value status
-right_special Normal s mode n b y z value status p q h = absurd (p refl)
-right_special Zero s mode n b y z value status p q h = absurd (q refl)
-right_special Infinity s mode n b y z value status p q h = h
-right_special NaN s mode n b y z value status p q h = h

@@ -9,13 +9,14 @@ ghost use Rattle.apfloat_arithmetic.specs.Subtrahends.{added};
 ghost use Rattle.apfloat_unpacked.specs.Shapes.{IsShape, format_at};
 ghost use Rattle.apfloat_unpacked.specs.Stored.{IsNormal, IsStored, datum_at, quanta_at};
 
+use crate::classes::are_normal;
 use crate::signs::negated;
 use apfloat_base::sig::{Loss, Term, Total, add_terms, is_zero};
 use apfloat_base::{Category, Round, Status, StatusAnd};
 use apfloat_unpacked::nans::{invalid, propagated, propagated_left};
 use apfloat_unpacked::normalize::deliver;
 use apfloat_unpacked::shape::{Shape, last_exponent};
-use apfloat_unpacked::unpacked::{Unpacked, zero_of};
+use apfloat_unpacked::unpacked::{Unpacked, remade, zero_of};
 
 /// The number, by the exponent of its last digit.
 #[inline(always)]
@@ -142,13 +143,14 @@ fn add_to_number(shape: Shape, x: Unpacked, y: Unpacked, round: Round) -> Status
         Category::Normal => add_numbers(shape, x, y, round),
         Category::Zero => Status::OK.and(x),
         Category::Infinity => Status::OK.and(y),
-        _ => propagated(shape, y),
+        Category::NaN => propagated(shape, y),
     }
 }
 
-/// `x + y`, rounded once (IEEE 754-2008 5.4.1).
-#[inline(always)]
-pub fn add(shape: Shape, x: Unpacked, y: Unpacked, round: Round) -> StatusAnd<Unpacked>
+/// The sum of any two values. It stands apart, so that of a sum of two numbers nothing else is inlined.
+#[cold]
+#[inline(never)]
+fn add_any(shape: Shape, x: Unpacked, y: Unpacked, round: Round) -> StatusAnd<Unpacked>
     requires lawful { IsShape shape }
     requires x_stored { IsStored shape x }
     requires y_stored { IsStored shape y }
@@ -159,7 +161,24 @@ pub fn add(shape: Shape, x: Unpacked, y: Unpacked, round: Round) -> StatusAnd<Un
         Category::Normal => add_to_number(shape, x, y, round),
         Category::Zero => add_to_zero(shape, x, y, round),
         Category::Infinity => add_to_infinity(shape, x, y),
-        _ => propagated_left(shape, x, y),
+        Category::NaN => propagated_left(shape, x, y),
+    }
+}
+
+/// `x + y`, rounded once (IEEE 754-2008 5.4.1).
+#[inline(always)]
+pub fn add(shape: Shape, x: Unpacked, y: Unpacked, round: Round) -> StatusAnd<Unpacked>
+    requires lawful { IsShape shape }
+    requires x_stored { IsStored shape x }
+    requires y_stored { IsStored shape y }
+    ensures stored { IsStored shape result.value }
+    ensures delivered { IsSum (format_at shape) round
+        (datum_at shape x) (datum_at shape y) (datum_at shape result.value) (bits_of result.status) }
+{
+    if are_normal(x, y) {
+        add_numbers(shape, x, y, round)
+    } else {
+        remade(add_any(shape, x, y, round))
     }
 }
 
