@@ -109,11 +109,7 @@ fn keep(precision: u32, significand: u128, unit: ExpInt, loss: Loss) -> Kept
 fn is_outward(mode: Round, negative: bool) -> bool
     ensures { result ≡ takes_above mode negative 1 2 false }
 {
-    match mode {
-        Round::TowardPositive => !negative,
-        Round::TowardNegative => negative,
-        _ => false,
-    }
+    ((mode == Round::TowardPositive) & !negative) | ((mode == Round::TowardNegative) & negative)
 }
 
 /// Whether the mode moves a significand up for what was lost.
