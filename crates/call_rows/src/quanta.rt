@@ -4,9 +4,9 @@
 //! 2^70 quanta, `+0q` and `-0q` are the zeros, `+inf` is an infinity, and `-nan:2a` and `-snan:2a` are the quiet NaN and the
 //! signaling one of a payload in hexadecimal digits.
 //!
-//! Which value has a word is told by calls that read no text, and of a number by a whole number: scaled by a power of two
-//! (`scalbn`) it comes out (`to_u128`) exactly as the odd part of the count. An operand is made the other way, and then told
-//! so too. Zeros and infinities are told by their class, NaNs by being those of `qnan` and `snan`, and all by their sign.
+//! Whether a value is that of a word is told by calls that read no text. A number is told by a whole number: scaled by a power
+//! of two (`scalbn`) it comes out (`to_u128`) exactly as the odd part of the count. Zeros and infinities are told by their
+//! class, NaNs by being those of `qnan` and `snan`, and all by their sign. An operand is made by calls too, and then told.
 
 use commands::{bits_of, number_of};
 use rustc_apfloat::{ExpInt, Flags, Float};
@@ -51,11 +51,8 @@ fn with_magnitude<F: Float>(magnitude: Magnitude) -> Option<F> {
         Magnitude::Signaling(payload) => Some(F::snan(Some(payload))),
         Magnitude::Zero => Some(F::zero()),
         Magnitude::Quanta(count) => {
-            Some(
-                F::from_u128(count.odd)
-                    .value
-                    .scalbn(exponent_of::<F>(count)?),
-            )
+            let exponent = exponent_of::<F>(count)?;
+            Some(F::from_u128(count.odd).value.scalbn(exponent))
         }
     }
 }
@@ -73,9 +70,8 @@ fn has_magnitude<F: Float>(x: F, magnitude: Magnitude) -> Option<bool> {
 
 // Whether a value is so many quanta: the odd part of the count is what is left of it as it is scaled to a whole number.
 fn is_quanta<F: Float>(x: F, count: Count) -> Option<bool> {
-    let whole = x
-        .scalbn(exponent_of::<F>(count)?.checked_neg()?)
-        .to_u128(128);
+    let exponent = exponent_of::<F>(count)?;
+    let whole = x.scalbn(exponent.checked_neg()?).to_u128(128);
     Some(x.is_finite_non_zero() && whole.status.is_empty() && whole.value == count.odd)
 }
 
