@@ -57,11 +57,11 @@ fn read_bytes(shape: Shape, text: &[u8], round: Round) -> Result<StatusAnd<Unpac
     if body.is_empty() {
         return Err(Fault::LoneMark);
     }
-    if let Some(special) = special_of(mark, body) {
-        return Ok(Status::OK.and(special_value(shape, mark.is_minus(), special)));
+    if let Some(rest) = behind_prefix(body) {
+        return read_literal(shape, mark.is_minus(), rest, round);
     }
-    match behind_prefix(body) {
-        Some(rest) => read_literal(shape, mark.is_minus(), rest, round),
+    match special_of(mark, body) {
+        Some(special) => Ok(Status::OK.and(special_value(shape, mark.is_minus(), special))),
         None => Err(Fault::NoLiteral),
     }
 }
