@@ -199,6 +199,7 @@ impl Scan {
 ///
 /// The first loop ends where digits begin to be cut off. As far as it goes nothing is lost, and all that it counts stays in
 /// registers; few texts reach the second one.
+#[inline(always)]
 pub fn scanned(rest: &[u8]) -> Result<(Scan, &[u8]), Fault>
     ensures { MatchResult result (λ answer. IsScanned rest.now answer.1.now answer.0.digits.significand answer.0.digits.loss answer.0.digits.cut answer.0.places answer.0.some) (λ fault. (fault ≡ SecondDot) × (ltb 1 (length (filter is_dot (significand_of rest.now))) ≡ true)) }
 {
