@@ -45,7 +45,7 @@ fn loss_behind(loss: Loss, digit: u8) -> Loss
                 Loss::MoreThanHalf
             }
         }
-        Loss::MoreThanHalf => Loss::MoreThanHalf,
+        _ => Loss::MoreThanHalf,
     }
 }
 
