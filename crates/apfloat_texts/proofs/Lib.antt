@@ -1,4 +1,5 @@
 pub mod KeptDigits
+pub mod Marking
 pub mod Scanning
 pub mod Saturations
 pub mod ReadNumbers
