@@ -1,5 +1,4 @@
 pub mod KeptDigits
-pub mod Marking
 pub mod Scanning
 pub mod Saturations
 pub mod ReadNumbers
