@@ -18,16 +18,22 @@ const MODES: [Round; 5] = [
     Round::NearestTiesToAway,
 ];
 
-const SETS: [OperandSet; 2] = [OperandSet::Normal, OperandSet::Denormal];
+const TABLE_HEAD: &str =
+    "| | add | sub | mul | div | fma | rem | mod | conv:half | conv:single | conv:double | toint | int | parse | bits |\n\
+    |---|---|---|---|---|---|---|---|---|---|---|---|---|---|---|";
 
 /// Prints the checksums of all operations in all types.
 pub fn print_checksums(rt: &(impl Clock + Print + AllocGlobal)) -> io::Result<()> {
     for kind in KINDS.iter() {
-        for operation in OPERATIONS.iter() {
-            for set in SETS {
-                print_line(rt, *kind, *operation, set)?;
-            }
-        }
+        print_lines(rt, *kind)?;
+    }
+    Ok(())
+}
+
+fn print_lines(rt: &(impl Clock + Print + AllocGlobal), kind: Kind) -> io::Result<()> {
+    for operation in OPERATIONS.iter() {
+        print_line(rt, kind, *operation, OperandSet::Normal)?;
+        print_line(rt, kind, *operation, OperandSet::Denormal)?;
     }
     Ok(())
 }
@@ -75,18 +81,17 @@ fn sums_of(
 
 /// Prints the time of each operation in each type, in nanoseconds.
 pub fn print_times(rt: &(impl Clock + Print + AllocGlobal)) -> io::Result<()> {
-    for set in SETS {
-        println!(rt; "Set {}, nanoseconds\n", set.name())?;
-        println!(rt;
-            "| | add | sub | mul | div | fma | rem | mod | conv:half | conv:single | conv:double | toint | int | parse | bits |"
-        )?;
-        println!(rt; "|---|---|---|---|---|---|---|---|---|---|---|---|---|---|---|")?;
-        for kind in KINDS.iter() {
-            print_row(rt, *kind, set)?;
-        }
-        println!(rt; "")?;
+    print_table(rt, OperandSet::Normal)?;
+    print_table(rt, OperandSet::Denormal)
+}
+
+fn print_table(rt: &(impl Clock + Print + AllocGlobal), set: OperandSet) -> io::Result<()> {
+    println!(rt; "Set {}, nanoseconds\n", set.name())?;
+    println!(rt; "{TABLE_HEAD}")?;
+    for kind in KINDS.iter() {
+        print_row(rt, *kind, set)?;
     }
-    Ok(())
+    println!(rt; "")
 }
 
 fn print_row(
