@@ -20,7 +20,7 @@ use apfloat_unpacked::nans::{
 };
 use apfloat_unpacked::normalize::deliver;
 use apfloat_unpacked::shape::{Shape, last_exponent};
-use apfloat_unpacked::unpacked::{Unpacked, infinity_of, nan_of, zero_of};
+use apfloat_unpacked::unpacked::{Unpacked, infinity_of, nan_of, remade, zero_of};
 
 /// An answer in the other format, and whether information was lost.
 #[derive(Clone, Copy, Debug)]
@@ -165,6 +165,27 @@ fn converted_nan(from: Shape, into: Shape, x: Unpacked) -> Converted
     }
 }
 
+/// Any value of one format in another. It stands apart, so that of a number nothing else is inlined.
+#[cold]
+#[inline(never)]
+fn convert_any(from: Shape, into: Shape, x: Unpacked, round: Round) -> Converted
+    requires from { IsShape from }
+    requires into { IsShape into }
+    requires x { IsStored from x }
+    ensures stored { IsStored into result.answer.value }
+    ensures converted { IsConversion (format_at from) (format_at into) round (datum_at from x)
+        (datum_at into result.answer.value) (bits_of result.answer.status) result.loses_info }
+    ensures exact { IsExactlyConverted (format_at from) (format_at into) (datum_at from x)
+        (datum_at into result.answer.value) (bits_of result.answer.status) result.loses_info }
+{
+    match x.category {
+        Category::Normal => converted_number(from, into, x, round),
+        Category::Zero => converted_zero(into, x.negative),
+        Category::Infinity => converted_infinity(into, x.negative),
+        Category::NaN => converted_nan(from, into, x),
+    }
+}
+
 /// A value of one format in another, rounded once, and whether that lost information (IEEE 754-2008 5.4.2, convertFormat).
 #[inline(always)]
 pub fn convert(from: Shape, into: Shape, x: Unpacked, round: Round) -> Converted
@@ -172,13 +193,19 @@ pub fn convert(from: Shape, into: Shape, x: Unpacked, round: Round) -> Converted
     requires into { IsShape into }
     requires x { IsStored from x }
     ensures stored { IsStored into result.answer.value }
-    ensures converted { IsConversion (format_at from) (format_at into) round (datum_at from x) (datum_at into result.answer.value) (bits_of result.answer.status) result.loses_info }
-    ensures exact { IsExactlyConverted (format_at from) (format_at into) (datum_at from x) (datum_at into result.answer.value) (bits_of result.answer.status) result.loses_info }
+    ensures converted { IsConversion (format_at from) (format_at into) round (datum_at from x)
+        (datum_at into result.answer.value) (bits_of result.answer.status) result.loses_info }
+    ensures exact { IsExactlyConverted (format_at from) (format_at into) (datum_at from x)
+        (datum_at into result.answer.value) (bits_of result.answer.status) result.loses_info }
 {
     match x.category {
         Category::Normal => converted_number(from, into, x, round),
-        Category::Zero => converted_zero(into, x.negative),
-        Category::Infinity => converted_infinity(into, x.negative),
-        _ => converted_nan(from, into, x),
+        _ => {
+            let converted = convert_any(from, into, x, round);
+            Converted {
+                answer: remade(converted.answer),
+                loses_info: converted.loses_info,
+            }
+        }
     }
 }

@@ -102,14 +102,16 @@ fn number_to_unsigned(shape: Shape, x: Unpacked, width: u32, round: Round) -> Un
     }
 }
 
-/// A value as a whole number of so many binary digits.
-#[inline(always)]
-pub fn to_unsigned(shape: Shape, x: Unpacked, width: u32, round: Round) -> Unsigned
+/// Any value as a whole number. It stands apart, so that of a number nothing else is inlined.
+#[cold]
+#[inline(never)]
+fn any_to_unsigned(shape: Shape, x: Unpacked, width: u32, round: Round) -> Unsigned
     requires lawful { IsShape shape }
     requires stored { IsStored shape x }
     requires low { 1 ≤ width }
     requires high { width ≤ 128 }
-    ensures whole { IsToUnsigned (format_at shape) round width (datum_at shape x) result.answer.value (bits_of result.answer.status) result.is_exact }
+    ensures whole { IsToUnsigned (format_at shape) round width (datum_at shape x)
+        result.answer.value (bits_of result.answer.status) result.is_exact }
     ensures fits { result.answer.value < 2 ^ width }
 {
     match x.category {
@@ -119,6 +121,23 @@ pub fn to_unsigned(shape: Shape, x: Unpacked, width: u32, round: Round) -> Unsig
             is_exact: !x.negative,
         },
         Category::Infinity => out_of_range(limit_of(width, x.negative)),
-        _ => out_of_range(0),
+        Category::NaN => out_of_range(0),
+    }
+}
+
+/// A value as a whole number of so many binary digits.
+#[inline(always)]
+pub fn to_unsigned(shape: Shape, x: Unpacked, width: u32, round: Round) -> Unsigned
+    requires lawful { IsShape shape }
+    requires stored { IsStored shape x }
+    requires low { 1 ≤ width }
+    requires high { width ≤ 128 }
+    ensures whole { IsToUnsigned (format_at shape) round width (datum_at shape x)
+        result.answer.value (bits_of result.answer.status) result.is_exact }
+    ensures fits { result.answer.value < 2 ^ width }
+{
+    match x.category {
+        Category::Normal => number_to_unsigned(shape, x, width, round),
+        _ => any_to_unsigned(shape, x, width, round),
     }
 }
