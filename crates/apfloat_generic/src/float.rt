@@ -82,6 +82,8 @@ pub(crate) fn read<S: Semantics>(bits: u128) -> IeeeFloat<S>
     requires { S.PRECISION < S.BITS }
     ensures read { result ≡ datum_of (format_of S.Semantics) (layout_of S.Semantics) bits }
     ensures back { S.EXPLICIT_INTEGER_BIT ≡ false → bits < 2 ^ S.BITS → IsEncodedBy (format_of S.Semantics) (layout_of S.Semantics) bits result }
+    ensures once { S.EXPLICIT_INTEGER_BIT ≡ false → bits < 2 ^ S.BITS → (other : ℕ)
+        → IsEncodedBy (format_of S.Semantics) (layout_of S.Semantics) other result → other ≡ bits }
 {
     IeeeFloat::packed(decode(shape_of::<S>(), widths_of::<S>(), bits))
 }

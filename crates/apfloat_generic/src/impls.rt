@@ -242,6 +242,9 @@ impl<S: Semantics> Float for IeeeFloat<S> {
         requires { S.PRECISION < S.BITS }
         ensures read { result ≡ datum_of (format_of S.Semantics) (layout_of S.Semantics) bits }
         ensures back { S.EXPLICIT_INTEGER_BIT ≡ false → bits < 2 ^ S.BITS → IsEncodedBy (format_of S.Semantics) (layout_of S.Semantics) bits result }
+        ensures once { S.EXPLICIT_INTEGER_BIT ≡ false → bits < 2 ^ S.BITS → (other : ℕ)
+            → IsEncodedBy (format_of S.Semantics) (layout_of S.Semantics) other result
+            → other ≡ bits }
     {
         read::<S>(bits)
     }

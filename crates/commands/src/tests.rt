@@ -106,19 +106,28 @@ fn reads_long_operands(rt: HostRuntime) -> Result<(), Fail> {
     Ok(())
 }
 
-// A writer that takes so many writes, of a byte each, and fails at the next one.
+// A writer with room for so many bytes, which takes one at each write.
 #[derive(Drop)]
 struct Failing {
-    writes_left: usize,
+    room: usize,
+    taken: Vec<u8>,
+}
+
+impl Failing {
+    fn new(alloc: Global, room: usize) -> Failing {
+        Failing {
+            room,
+            taken: Vec::new(alloc),
+        }
+    }
 }
 
 impl Write for Failing {
     fn write(&mut self, buf: &[u8]) -> io::Result<usize> {
-        if self.writes_left == 0 {
+        if self.taken.len() >= self.room {
             return Err(io::Error::from(ErrorKind::BrokenPipe));
         }
-        self.writes_left -= 1;
-        Ok(buf.len().min(1))
+        self.taken.write(&buf[..buf.len().min(1)])
     }
 
     fn flush(&mut self) -> io::Result<()> {
@@ -126,27 +135,48 @@ impl Write for Failing {
     }
 }
 
+// What the system gives: the words of a command, or of an empty one no memory for them.
+fn given_for(alloc: Global, command: &str) -> Result<io::Result<Vec<String>>, AllocError> {
+    if command.is_empty() {
+        return Ok(Err(io::Error::from(ErrorKind::OutOfMemory)));
+    }
+    Ok(Ok(words_of(alloc, command)?))
+}
+
+// Asserts that a run on writers with room for so many bytes leaves the first bytes of `on_out` and of `on_err` that fit, and
+// answers the status, or 1 where not all fit.
+fn expect_first_bytes<R: Abort + AllocGlobal>(
+    rt: &R,
+    command: &str,
+    (status, on_out, on_err): (u8, &str, &str),
+    (out_room, err_room): (usize, usize),
+) -> Result<(), Fail> {
+    let given = given_for(rt.alloc(), command)?;
+    let mut out = Failing::new(rt.alloc(), out_room);
+    let mut err = Failing::new(rt.alloc(), err_room);
+    let answered = run_given(given, &mut out, &mut err);
+    let is_written = on_out.len() <= out_room && on_err.len() <= err_room;
+    let wanted = if is_written { status } else { 1 };
+    assert_eq!(rt; answered, wanted, "{command} {out_room} {err_room}");
+    let first_on_out = &on_out.as_bytes()[..on_out.len().min(out_room)];
+    assert_eq!(rt; out.taken.as_slice(), first_on_out, "{command}");
+    let first_on_err = &on_err.as_bytes()[..on_err.len().min(err_room)];
+    assert_eq!(rt; err.taken.as_slice(), first_on_err, "{command}");
+    Ok(())
+}
+
+// A writer that is not written to may have no room at all.
 #[test]
 fn answers_1_exactly_where_a_write_fails(rt: HostRuntime) -> Result<(), Fail> {
-    for (command, reply, status) in [
-        ("half int even 65520", "7c00 OVERFLOW|INEXACT", 0),
-        ("half int odd 1", "refused: odd", 2),
+    for (command, wanted) in [
+        ("half int even 65520", (0, "7c00 OVERFLOW|INEXACT\n", "")),
+        ("half int odd 1", (2, "", "refused: odd\n")),
+        ("", (3, "", "refused: memory\n")),
     ] {
-        let words = words_of(rt.alloc(), command)?;
-        for writes in 0..40 {
-            let mut out = Failing {
-                writes_left: writes,
-            };
-            let mut err = Failing {
-                writes_left: writes,
-            };
-            let answered = run(words.as_slice(), &mut out, &mut err);
-            let is_written = reply.len() < writes;
-            assert_eq!(rt;
-                answered,
-                if is_written { status } else { 1 },
-                "{command} {writes}"
-            );
+        for room in 0..30 {
+            expect_first_bytes(&rt, command, wanted, (room, 0))?;
+            expect_first_bytes(&rt, command, wanted, (0, room))?;
+            expect_first_bytes(&rt, command, wanted, (room, room))?;
         }
     }
     Ok(())
@@ -165,13 +195,5 @@ fn answers_what_the_system_gives(rt: HostRuntime) -> Result<(), Fail> {
         assert!(rt; out.is_empty());
         assert_eq!(rt; err.as_slice(), on_err.as_bytes());
     }
-    let mut out = Vec::new(rt.alloc());
-    let words = words_of(rt.alloc(), "half int even 464")?;
-    let answered = run_given(Ok(words), &mut out, &mut Failing { writes_left: 0 });
-    assert_eq!(rt; answered, 0);
-    assert_eq!(rt; out.as_slice(), b"5f40 OK\n".as_slice());
-    let no_memory = Err(io::Error::from(ErrorKind::OutOfMemory));
-    let answered = run_given(no_memory, &mut out, &mut Failing { writes_left: 5 });
-    assert_eq!(rt; answered, 1);
     Ok(())
 }

@@ -228,3 +228,25 @@ fn joins_statuses(rt: HostRuntime) {
     assert_eq!(rt; status.bits(), 0x02);
     assert_eq!(rt; fourth, 4);
 }
+
+/// Each pair has a flag in common and one that is not, so no operator answers as another one.
+#[test]
+fn operators_of_statuses(rt: HostRuntime) {
+    let left = Status::INVALID_OP | Status::INEXACT;
+    let right = Status::INEXACT | Status::OVERFLOW;
+    assert_eq!(rt; (left.bits(), right.bits()), (0x11, 0x14));
+    assert_eq!(rt; (left | right).bits(), 0x15);
+    assert_eq!(rt; (left & right).bits(), 0x10);
+    assert_eq!(rt; (left ^ right).bits(), 0x05);
+    assert_eq!(rt; (left - right).bits(), 0x01);
+    assert_eq!(rt; (!left).bits(), 0x0e);
+    let mut status = left;
+    status |= right;
+    assert_eq!(rt; status.bits(), 0x15);
+    status &= right;
+    assert_eq!(rt; status.bits(), 0x14);
+    status ^= left;
+    assert_eq!(rt; status.bits(), 0x05);
+    status -= right;
+    assert_eq!(rt; status.bits(), 0x01);
+}

@@ -5,3 +5,6 @@ returns-clause-read g c = assumption
 
 pub returns-clause-back : goal.returns-clause-back
 returns-clause-back g c = assumption
+
+pub returns-clause-once : goal.returns-clause-once
+returns-clause-once g c = assumption

@@ -5,3 +5,6 @@ returns-clause-read g c = c.read.ensures.read
 
 pub returns-clause-back : goal.returns-clause-back
 returns-clause-back g c = c.read.ensures.back
+
+pub returns-clause-once : goal.returns-clause-once
+returns-clause-once g c = c.read.ensures.once
