@@ -1,6 +1,6 @@
 -- The two multiples of the spacing beside a magnitude are its neighbours.
-use Rattle.std.proofs.Common.{◌≡◌, ℕ, ◌+◌, ◌-◌, ◌*◌, ◌/◌, ◌%◌, ◌^◌, ◌<◌, ◌≤◌, ◌⊎◌, ⊎_elim, sym, subst, arith}
-use Rattle.std.proofs.Math.Nat.{mul-le-mul_right, div-add-mod'}
+use Rattle.std.proofs.Common.{◌≡◌, ℕ, zero, suc, ◌+◌, ◌-◌, ◌*◌, ◌/◌, ◌%◌, ◌^◌, ◌<◌, ◌≤◌, ◌⊎◌, ⊎_elim, sym, subst, arith}
+use Rattle.std.proofs.Math.Nat.{mul-le-mul_right, div-add-mod', pow-suc}
 use Rattle.std.proofs.lemmas.Nat.{pow_pos}
 use Rattle.std.proofs.lemmas.Bool.{cases_lt}
 use Rattle.std.specs.Int.{div_ceil}
@@ -41,17 +41,34 @@ ceiling_is precision amount parts spacing h p s =
     subst (λ (x : ℕ). IsAbove precision (div_ceil amount (parts * x) * x) amount parts) (sym s.is)
     (ceiling_of precision (2 ^ (precision - 1)) s.place amount parts p (enclosed precision amount parts spacing h p s))
 
--- a power of two above the magnitude is above the least point that is not below it
+-- a power of two that is not below the magnitude is not below its upper neighbour
+above_to : (precision above amount parts place : ℕ) → 0 < precision → IsAbove precision above amount parts → amount ≤ 2 ^ place * parts → above ≤ 2 ^ place
+above_to precision above amount parts place h i l =
+    let t : 2 * 2 ^ (precision - 1) ≡ 2 ^ precision = twice_half precision h in
+    let q : 1 ≤ 2 ^ (precision - 1) = pow_pos (precision - 1) in
+    i.least (2 ^ place) (record { significand = 1; place = place; fits = omega arith; is = omega arith }) l
+
 pub above_bound : (precision above amount parts place : ℕ) → 0 < precision → 0 < parts → IsAbove precision above amount parts → amount ≤ 2 ^ place → above ≤ 2 ^ place
 above_bound precision above amount parts place h p i l =
     let k : 2 ^ place * 1 ≤ 2 ^ place * parts = omega (arith, mul-le-mul_right (2 ^ place) p) in
-    let t : 2 * 2 ^ (precision - 1) ≡ 2 ^ precision = twice_half precision h in
-    let q : 1 ≤ 2 ^ (precision - 1) = pow_pos (precision - 1) in
-    i.least (2 ^ place) (record { significand = 1; place = place; fits = omega arith; is = omega arith }) (omega arith)
+    above_to precision above amount parts place h i (omega arith)
+
+-- it is at most the magnitude doubled, or 1
+pub above_near : (precision above amount parts place : ℕ) → 0 < precision → 0 < parts → IsAbove precision above amount parts → above ≤ 2 ^ place → above * parts ≤ 2 * amount + parts
+above_near precision above amount parts zero h p i l =
+    let k : above * parts ≤ 1 * parts = mul-le-mul_right parts l in
+    omega arith
+above_near precision above amount parts (suc place) h p i l =
+    ⊎_elim
+    (λ (q : 2 ^ place * parts < amount).
+    let k : above * parts ≤ 2 ^ place * 2 * parts = mul-le-mul_right parts (subst (λ (x : ℕ). above ≤ x) (pow-suc 2 place) l) in
+    omega arith)
+    (λ (q : amount ≤ 2 ^ place * parts). above_near precision above amount parts place h p i (above_to precision above amount parts place h i q))
+    (cases_lt (2 ^ place * parts) amount)
 
 -- so it has room
-pub above_fits : (precision above amount parts : ℕ) → 0 < precision → 0 < parts → IsAbove precision above amount parts → amount < 2 ^ 100 → parts < 2 ^ 24 → above * parts < 2 ^ 128
+pub above_fits : (precision above amount parts : ℕ) → 0 < precision → 0 < parts → IsAbove precision above amount parts → amount < 2 ^ 126 → parts < 2 ^ 64 → above * parts < 2 ^ 128
 above_fits precision above amount parts h p i a b =
-    let l : above ≤ 2 ^ 100 = above_bound precision above amount parts 100 h p i (omega arith) in
-    let k : above * parts ≤ 2 ^ 100 * parts = mul-le-mul_right parts l in
+    let l : above ≤ 2 ^ 126 = above_bound precision above amount parts 126 h p i (omega arith) in
+    let k : above * parts ≤ 2 * amount + parts = above_near precision above amount parts 126 h p i l in
     omega arith

@@ -1,3 +1,4 @@
 pub mod Agreements
+pub mod Laws
 pub mod Plain
 pub mod Summands

@@ -1,19 +1,19 @@
 -- What the plain program of one rounding works with.
 use Rattle.std.specs.Prelude.{◌≡◌, ℕ, ◌-◌, ◌*◌, ◌^◌, ◌<◌, ◌≤◌, ◌⊎◌, Bool, ltb, if◌then◌else◌}
-use Rattle.apfloat_base.specs.declared.kinds.NonfiniteBehavior.TheVariants.{IEEE754}
-use Rattle.rustc_apfloat.specs.Format.{Format, smallest_normalized, largest}
-use Rattle.rustc_apfloat.specs.Datum.{Datum, finite, infinite}
+use Rattle.apfloat_base.specs.declared.kinds.NonfiniteBehavior.{NonfiniteBehavior}
+use Rattle.rustc_apfloat.specs.Format.{Format, smallest_normalized, largest, nan_base_of}
+use Rattle.rustc_apfloat.specs.Datum.{Datum, finite, infinite, nan}
 use Rattle.conformance.specs.declared.plain.Answer.{Answer}
-use Rattle.conformance.specs.declared.plain.Answer.TheVariants.{Finite, Infinite}
+use Rattle.conformance.specs.declared.plain.Answer.TheVariants.{Finite, Infinite, NotANumber}
 use Rattle.conformance.specs.declared.plain.Bounds.{Bounds}
 
 -- so small that no product leaves 128 bits
 pub record IsSmall (precision amount parts : ℕ) : Type 0 where
   pub some_digits : 3 ≤ precision
   pub few_digits : precision ≤ 60
-  pub amount_bound : amount < 2 ^ 100
+  pub amount_bound : amount < 2 ^ 126
   pub some_parts : 0 < parts
-  pub parts_bound : parts < 2 ^ 24
+  pub parts_bound : parts < 2 ^ 64
 
 -- The distance of neighbouring grid points about amount / parts: a power of two, of which the magnitude has less than
 -- 2 ^ precision, and at least half of so many unless it is the last one.
@@ -23,18 +23,20 @@ pub record IsSpacing (precision amount parts spacing : ℕ) : Type 0 where
   pub few : amount < 2 ^ precision * (parts * spacing)
   pub many : (place ≡ 0) ⊎ (2 ^ (precision - 1) * (parts * spacing) ≤ amount)
 
--- a format with infinities that has these bounds
+-- a format that has these bounds
 pub record HasBounds (f : Format) (b : Bounds) : Type 0 where
   pub precision : f.precision ≡ b.precision
   pub largest : largest f ≡ b.largest
   pub smallest_normalized : smallest_normalized f ≡ b.smallest_normalized
-  pub nonfinite : f.nonfinite ≡ IEEE754
+  pub nonfinite : f.nonfinite ≡ b.nonfinite
   pub tiny_before_rounding : f.tiny_before_rounding ≡ b.tiny_before_rounding
 
 abbrev pub tiny_of : Bounds → ℕ → ℕ → ℕ → Bool
 tiny_of b amount parts pick =
     if b.tiny_before_rounding then ltb amount (b.smallest_normalized * parts) else ltb pick b.smallest_normalized
 
-abbrev pub datum_of : Answer → Datum
-datum_of (Finite negative quanta) = finite negative quanta
-datum_of (Infinite negative) = infinite negative
+-- the NaN that stands past the largest value of a format of that kind and precision
+abbrev pub datum_of : NonfiniteBehavior → ℕ → Answer → Datum
+datum_of kind precision (Finite negative quanta) = finite negative quanta
+datum_of kind precision (Infinite negative) = infinite negative
+datum_of kind precision (NotANumber negative) = nan negative (nan_base_of kind precision)

@@ -8,7 +8,7 @@ use crate::formats::{HalfTinyBeforeS, SevenS};
 use crate::plain::{Answer, Bounds, deliver};
 use apfloat_base::sig::Loss;
 use rustc_apfloat::ieee::float::normalize;
-use rustc_apfloat::ieee::{Half, HalfS, Semantics};
+use rustc_apfloat::ieee::{Half, HalfS, NonfiniteBehavior, Semantics};
 use rustc_apfloat::{ExpInt, Float, Round};
 use std::process::Abort;
 
@@ -37,6 +37,7 @@ const HALF: Subject = Subject {
         largest: 65504 << 24,
         smallest_normalized: 1 << 10,
         tiny_before_rounding: false,
+        nonfinite: NonfiniteBehavior::IEEE754,
     },
     exponent: -27,
     minus: 0x8000,
@@ -49,6 +50,7 @@ const HALF_TINY_BEFORE: Subject = Subject {
         largest: 65504 << 24,
         smallest_normalized: 1 << 10,
         tiny_before_rounding: true,
+        nonfinite: NonfiniteBehavior::IEEE754,
     },
     exponent: -27,
     minus: 0x8000,
@@ -62,6 +64,7 @@ const SEVEN: Subject = Subject {
         largest: 30 << 4,
         smallest_normalized: 1 << 3,
         tiny_before_rounding: false,
+        nonfinite: NonfiniteBehavior::IEEE754,
     },
     exponent: -7,
     minus: 0x40,
@@ -73,7 +76,9 @@ fn bits_of(subject: Subject, value: Answer) -> u128
     requires { 0 < subject.bounds.smallest_normalized }
 {
     match value {
-        Answer::Infinite { negative } => sign_bit(subject, negative) | subject.infinity,
+        Answer::Infinite { negative } | Answer::NotANumber { negative } => {
+            sign_bit(subject, negative) | subject.infinity
+        }
         Answer::Finite { negative, quanta } => sign_bit(subject, negative)
             | magnitude_bits(subject.bounds.smallest_normalized, quanta),
     }

@@ -14,6 +14,7 @@ mod constants;
 #[cfg(test)]
 mod example;
 pub mod formats;
+pub mod laws;
 #[cfg(test)]
 mod limits;
 #[cfg(test)]

@@ -3,13 +3,15 @@
 //! It works on whole numbers alone: a spacing is doubled until the magnitude has few enough of it, its two neighbours
 //! are multiples of that spacing, and their distances are compared. Its contracts are the definition of one rounding.
 
-ghost use Rattle.std.specs.Prelude.{◌≡◌, ◌+◌, ◌*◌, ◌^◌, ◌<◌, ◌≤◌, if◌then◌else◌};
+ghost use Rattle.std.specs.Prelude.{◌≡◌, ◌+◌, ◌*◌, ◌/◌, ◌^◌, ◌<◌, ◌≤◌, ℕ, if◌then◌else◌};
 ghost use Rattle.rustc_apfloat.specs.Flags.{bits_of};
-ghost use Rattle.rustc_apfloat.specs.Format.{Format};
+ghost use Rattle.rustc_apfloat.specs.Format.{Format, nan_base_of};
 ghost use Rattle.rustc_apfloat.specs.Grid.{IsBelow, IsAbove};
-ghost use Rattle.rustc_apfloat.specs.Rounding.{takes_above, IsPick, IsDelivered, leads_out, ok_bits, underflow_bit, inexact_bit};
+ghost use Rattle.rustc_apfloat.specs.Rounding.{takes_above, IsPick, IsDelivered, leads_out, past_largest, signed_quanta, ok_bits, underflow_bit, inexact_bit};
+ghost use Rattle.rustc_apfloat.specs.WholeNumbers.{whole_pick};
 ghost use Rattle.conformance.specs.Plain.{IsSmall, IsSpacing, HasBounds, tiny_of, datum_of};
 
+use rustc_apfloat::ieee::NonfiniteBehavior;
 use rustc_apfloat::{Flags, Round, Status, StatusAnd};
 
 /// The distance of neighbouring points of the grid about the magnitude `amount / parts`.
@@ -77,7 +79,25 @@ pub fn pick(precision: u32, mode: Round, negative: bool, amount: u128, parts: u1
     }
 }
 
-/// The bounds of a format that has infinities; magnitudes are counted in quanta.
+/// The whole number that the mode picks beside `amount / parts`.
+pub fn whole(mode: Round, negative: bool, amount: u128, parts: u128) -> u128
+    requires { 0 < parts }
+    ensures picked { result ≡ whole_pick mode negative amount parts }
+    ensures near { result ≤ amount / parts + 1 }
+{
+    let below = amount / parts;
+    let below_by = amount % parts;
+    if below_by == 0 {
+        return below;
+    }
+    if takes_above(mode, negative, below_by, parts - below_by, below % 2 == 1) {
+        below + 1
+    } else {
+        below
+    }
+}
+
+/// The bounds of a format; magnitudes are counted in quanta.
 #[derive(Clone, Copy, Debug)]
 pub struct Bounds {
     /// How many binary digits a significand has.
@@ -88,6 +108,8 @@ pub struct Bounds {
     pub smallest_normalized: u128,
     /// Whether a result is tiny by the exact magnitude, in place of the rounded one.
     pub tiny_before_rounding: bool,
+    /// Which values that are no numbers the format has.
+    pub nonfinite: NonfiniteBehavior,
 }
 
 /// The value that a rounding answers.
@@ -97,9 +119,33 @@ pub enum Answer {
     Finite { negative: bool, quanta: u128 },
     /// The infinity of that sign.
     Infinite { negative: bool },
+    /// The NaN of that sign, in a format that has no infinity.
+    NotANumber { negative: bool },
 }
 
-/// Whether the mode leads to an infinity past the largest value.
+/// What stands past the largest value.
+fn past_largest(nonfinite: NonfiniteBehavior, negative: bool) -> Answer
+    ensures { (precision : ℕ) → datum_of nonfinite precision result ≡ past_largest nonfinite (nan_base_of nonfinite precision) negative }
+{
+    match nonfinite {
+        NonfiniteBehavior::IEEE754 => Answer::Infinite { negative },
+        NonfiniteBehavior::NanOnly => Answer::NotANumber { negative },
+        NonfiniteBehavior::NanNegativeZero => Answer::NotANumber { negative: false },
+    }
+}
+
+/// So many quanta with that sign, but that of a zero only where the format has it.
+fn number_of(nonfinite: NonfiniteBehavior, negative: bool, quanta: u128) -> Answer
+    ensures { (precision : ℕ) → datum_of nonfinite precision result ≡ signed_quanta nonfinite negative quanta }
+{
+    let unsigned_zero = quanta == 0 && nonfinite == NonfiniteBehavior::NanNegativeZero;
+    Answer::Finite {
+        negative: negative && !unsigned_zero,
+        quanta,
+    }
+}
+
+/// Whether the mode leads out of the format past the largest value.
 fn leads_out(mode: Round, negative: bool) -> bool
     ensures { result ≡ leads_out mode negative }
 {
@@ -115,7 +161,7 @@ fn leads_out(mode: Round, negative: bool) -> bool
 /// Whether an inexact result counts as tiny, by the exact magnitude or by the picked one.
 fn is_tiny(bounds: Bounds, amount: u128, parts: u128, picked: u128) -> bool
     requires normalized { bounds.smallest_normalized < 2 ^ 60 }
-    requires parts { parts < 2 ^ 24 }
+    requires parts { parts < 2 ^ 64 }
     ensures { result ≡ tiny_of bounds amount parts picked }
 {
     if bounds.tiny_before_rounding {
@@ -128,7 +174,7 @@ fn is_tiny(bounds: Bounds, amount: u128, parts: u128, picked: u128) -> bool
 /// The status of a rounding that stays within the format.
 fn status_within(bounds: Bounds, amount: u128, parts: u128, picked: u128) -> Status
     requires normalized { bounds.smallest_normalized < 2 ^ 60 }
-    requires parts { parts < 2 ^ 24 }
+    requires parts { parts < 2 ^ 64 }
     requires picked { picked * parts < 2 ^ 128 }
     ensures exact { picked * parts ≡ amount → bits_of result ≡ ok_bits }
     ensures inexact { (picked * parts ≡ amount → ⊥) → bits_of result ≡ (if tiny_of bounds amount parts picked then underflow_bit + inexact_bit else inexact_bit) }
@@ -152,19 +198,20 @@ pub fn deliver(
 ) -> StatusAnd<Answer>
     requires small { IsSmall bounds.precision amount parts }
     requires normalized { bounds.smallest_normalized < 2 ^ 60 }
-    ensures { (f : Format) → HasBounds f bounds → IsDelivered f mode negative amount parts (datum_of result.value) (bits_of result.status) }
+    ensures { (f : Format) → HasBounds f bounds → IsDelivered f mode negative amount parts (datum_of bounds.nonfinite bounds.precision result.value) (bits_of result.status) }
 {
     let quanta = pick(bounds.precision, mode, negative, amount, parts);
     if quanta <= bounds.largest {
-        return status_within(bounds, amount, parts, quanta).and(Answer::Finite {
+        return status_within(bounds, amount, parts, quanta).and(number_of(
+            bounds.nonfinite,
             negative,
             quanta,
-        });
+        ));
     }
     if leads_out(mode, negative) {
         return Status::OVERFLOW
             .union(Status::INEXACT)
-            .and(Answer::Infinite { negative });
+            .and(past_largest(bounds.nonfinite, negative));
     }
     let quanta = bounds.largest;
     Status::INEXACT.and(Answer::Finite { negative, quanta })

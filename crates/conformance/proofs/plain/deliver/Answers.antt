@@ -11,6 +11,6 @@ status_within-requires-clause-picked c =
 pub returns-then-quanta-bounds : goal.returns-then-quanta-bounds
 returns-then-quanta-bounds c = λ f h.
     let s = ap bits_of c.and.ensures.status in
-    within_is f c.args.bounds c.args.mode c.args.negative c.args.amount c.args.parts c.pick-quanta.result _ _ h c.pick-quanta.ensures c.if-quanta-bounds.true (ap datum_of c.and.ensures.value)
+    within_is f c.args.bounds c.args.mode c.args.negative c.args.amount c.args.parts c.pick-quanta.result _ _ h c.pick-quanta.ensures c.if-quanta-bounds.true (ap (datum_of c.args.bounds.nonfinite c.args.bounds.precision) c.and.ensures.value ∙ c.number_of.ensures c.args.bounds.precision)
     (λ e. s ∙ c.status_within.ensures.exact e)
     (λ n. s ∙ c.status_within.ensures.inexact n)

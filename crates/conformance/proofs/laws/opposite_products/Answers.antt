@@ -1,0 +1,25 @@
+use Rattle.std.proofs.Common.{◌≡◌, ℕ, subst}
+use Rattle.apfloat_base.specs.declared.kinds.Round.{Round}
+use Rattle.rustc_apfloat.specs.Format.{Format}
+use Rattle.rustc_apfloat.specs.Datum.{Datum}
+use Rattle.rustc_apfloat.specs.Negation.{swapped}
+use Rattle.rustc_apfloat.specs.Products.{IsProduct}
+use Rattle.rustc_apfloat.specs.Types.{format_of}
+use Rattle.apfloat_base.proofs.Once.{product_once}
+use Rattle.conformance.proofs.laws.opposite_products.Goals as goal
+
+turned_once : (f : Format) (opposite other : Round) (x turned y v w : Datum) (s t : ℕ) → other ≡ opposite → turned ≡ x
+    → IsProduct f other turned y v s → IsProduct f opposite x y w t → (v ≡ w) × (s ≡ t)
+turned_once f opposite other x turned y v w s t m e h k =
+    product_once f opposite x y v w s t
+    (subst (λ (z : Datum). IsProduct f opposite z y v s) e (subst (λ (r : Round). IsProduct f r turned y v s) m h)) k
+
+pub returns-clause-value : goal.returns-clause-value
+returns-clause-value g c = λ left right.
+    (turned_once (format_of g.S.Semantics) (swapped c.args.mode) _ _ _ _ _ _ _ _ c.neg-2.ensures c.neg.ensures
+    c.mul_r-2.ensures.product (c.mul_r.ensures.opposite left right)).0
+
+pub returns-clause-status : goal.returns-clause-status
+returns-clause-status g c = λ left right.
+    (turned_once (format_of g.S.Semantics) (swapped c.args.mode) _ _ _ _ _ _ _ _ c.neg-2.ensures c.neg.ensures
+    c.mul_r-2.ensures.product (c.mul_r.ensures.opposite left right)).1

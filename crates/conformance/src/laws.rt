@@ -1,0 +1,94 @@
+//! The laws of the public calls at work, for every format: each function calls the library and has what the law says
+//! of its answers as its contract. None has a premise on the format but that a call needs it.
+
+ghost use Rattle.std.specs.Prelude.{◌≡◌, ◌^◌, ◌<◌, ◌≤◌, IsTrue, true, false, ◌-ℤ◌, ◌≤ℤ◌};
+ghost use Rattle.apfloat_base.specs.declared.kinds.NonfiniteBehavior.TheVariants.{IEEE754};
+ghost use Rattle.rustc_apfloat.specs.Classes.{is_finite, is_finite_non_zero};
+ghost use Rattle.rustc_apfloat.specs.Flags.{bits_of};
+ghost use Rattle.rustc_apfloat.specs.Negation.{negated};
+ghost use Rattle.rustc_apfloat.specs.Order.{number, AtMost};
+ghost use Rattle.rustc_apfloat.specs.Rounding.{ok_bits};
+ghost use Rattle.rustc_apfloat.specs.Types.{format_of};
+ghost use Rattle.conformance.specs.Laws.{AreNear, IsInBoth};
+
+use rustc_apfloat::ieee::{IeeeFloat, Semantics};
+use rustc_apfloat::{Float, FloatConvert, Round, StatusAnd};
+
+/// The difference of two values. That of two positive numbers, neither of which is more than twice the other, is exact in
+/// each mode.
+pub fn near_difference<S: Semantics>(
+    x: IeeeFloat<S>,
+    y: IeeeFloat<S>,
+    mode: Round,
+) -> StatusAnd<IeeeFloat<S>>
+    ensures exact { AreNear x y → number result.value ≡ number x -ℤ number y }
+    ensures ok { AreNear x y → bits_of result.status ≡ ok_bits }
+{
+    x.sub_r(y, mode)
+}
+
+/// What `x` and `y` become by adding `z`: of numbers in order, and in a format with infinities, the sums are in order.
+pub fn sums_in_order<S: Semantics>(
+    x: IeeeFloat<S>,
+    y: IeeeFloat<S>,
+    z: IeeeFloat<S>,
+    mode: Round,
+) -> (IeeeFloat<S>, IeeeFloat<S>)
+    ensures { S.NONFINITE_BEHAVIOR ≡ IEEE754 → IsTrue (is_finite x) → IsTrue (is_finite y) → IsTrue (is_finite z) → number x ≤ℤ number y → AtMost result.0 result.1 }
+{
+    (x.add_r(z, mode).value, y.add_r(z, mode).value)
+}
+
+/// A product, and that of the turned left factor in the opposite mode, which is the turned product with the same flags.
+pub fn opposite_products<S: Semantics>(
+    x: IeeeFloat<S>,
+    y: IeeeFloat<S>,
+    mode: Round,
+) -> (StatusAnd<IeeeFloat<S>>, StatusAnd<IeeeFloat<S>>)
+    requires { S.PRECISION ≤ 64 }
+    ensures value { IsTrue (is_finite_non_zero x) → IsTrue (is_finite_non_zero y) → result.1.value ≡ negated S.NONFINITE_BEHAVIOR result.0.value }
+    ensures status { IsTrue (is_finite_non_zero x) → IsTrue (is_finite_non_zero y) → bits_of result.1.status ≡ bits_of result.0.status }
+{
+    (x.mul_r(y, mode), (-x).mul_r(y, -mode))
+}
+
+/// The value in the format `T` and back, and whether either way lost information. A number of both formats comes back
+/// as it was.
+pub fn there_and_back<S: Semantics, T: Semantics>(
+    x: IeeeFloat<S>,
+    mode: Round,
+) -> (IeeeFloat<S>, bool)
+    ensures value { IsInBoth (format_of S.Semantics) (format_of T.Semantics) x → result.0 ≡ x }
+    ensures loss { IsInBoth (format_of S.Semantics) (format_of T.Semantics) x → result.1 ≡ false }
+{
+    // `category` ensures that a value is one of its format.
+    let _ = x.category();
+    let mut lost_there = false;
+    let mut lost_back = false;
+    let there: StatusAnd<IeeeFloat<T>> = x.convert_r(mode, &mut lost_there);
+    let back: StatusAnd<IeeeFloat<S>> = there.value.convert_r(mode, &mut lost_back);
+    (back.value, lost_there || lost_back)
+}
+
+/// A step up and a step down: in a format with infinities a number that is not zero is itself again.
+pub fn up_and_down<S: Semantics>(x: IeeeFloat<S>) -> IeeeFloat<S>
+    ensures { S.NONFINITE_BEHAVIOR ≡ IEEE754 → is_finite_non_zero x ≡ true → result ≡ x }
+{
+    x.next_up().value.next_down().value
+}
+
+/// A value written as bits and read again.
+pub fn through_bits<S: Semantics>(x: IeeeFloat<S>) -> IeeeFloat<S>
+    requires { S.PRECISION < S.BITS }
+    ensures { result ≡ x }
+{
+    IeeeFloat::from_bits(x.to_bits())
+}
+
+/// Bits read as a value and written again. Where the integer bit is not written they are the same.
+pub fn through_value<S: Semantics>(bits: u128) -> u128
+    requires { S.PRECISION < S.BITS }
+    ensures { S.EXPLICIT_INTEGER_BIT ≡ false → bits < 2 ^ S.BITS → result ≡ bits }
+{
+    IeeeFloat::<S>::from_bits(bits).to_bits()
+}
