@@ -1,6 +1,6 @@
 //! Classes of values (IEEE 754-2008 5.7.2).
 
-ghost use Rattle.std.specs.Prelude.{◌≡◌, ltb};
+ghost use Rattle.std.specs.Prelude.{◌≡◌, ltb, true, false};
 ghost use Rattle.apfloat_base.specs.Format.{smallest_normalized};
 ghost use Rattle.apfloat_base.specs.Classes.{is_denormal};
 ghost use Rattle.apfloat_unpacked.specs.Shapes.{IsShape, format_at};
@@ -18,6 +18,16 @@ fn is_below_normal(shape: Shape, x: Unpacked) -> bool
     ensures { result ≡ ltb (quanta_at shape.min_exp x.significand x.exponent) (smallest_normalized (format_at shape)) }
 {
     x.exponent < shape.min_exp
+}
+
+/// Whether both values are finite and not zero: told by one test without a branch between, since a branch on a category
+/// joins the branches that follow on it, and becomes a jump that the processor foretells badly.
+#[inline(always)]
+pub(crate) fn are_normal(x: Unpacked, y: Unpacked) -> bool
+    ensures yes { result ≡ true → (x.category ≡ Category.Normal) × (y.category ≡ Category.Normal) }
+    ensures no { result ≡ false → x.category ≡ Category.Normal → y.category ≡ Category.Normal → ⊥ }
+{
+    (x.category == Category::Normal) & (y.category == Category::Normal)
 }
 
 /// Whether the value is a number, not zero, and of less magnitude than the smallest normalized one.

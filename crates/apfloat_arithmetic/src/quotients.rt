@@ -11,6 +11,7 @@ ghost use Rattle.apfloat_base.specs.Quotients.{IsQuotient, div_by_zero_bit};
 ghost use Rattle.apfloat_unpacked.specs.Shapes.{IsShape, format_at};
 ghost use Rattle.apfloat_unpacked.specs.Stored.{IsStored, IsNormal, quanta_at, datum_at};
 
+use crate::classes::are_normal;
 use crate::exact::{exact_infinity, exact_zero};
 use crate::products::product_sign;
 use apfloat_base::sig::{self, Quotient, divide_short};
@@ -18,7 +19,7 @@ use apfloat_base::{Category, ExpInt, Round, Status, StatusAnd};
 use apfloat_unpacked::nans::{invalid, propagated, propagated_left};
 use apfloat_unpacked::normalize::deliver;
 use apfloat_unpacked::shape::Shape;
-use apfloat_unpacked::unpacked::{Unpacked, infinity_of};
+use apfloat_unpacked::unpacked::{Unpacked, infinity_of, remade};
 
 /// The exponent of the last digit of a quotient with so many places below the exponents' difference.
 #[inline(always)]
@@ -87,14 +88,16 @@ fn divided_by_zero(shape: Shape, negative: bool) -> StatusAnd<Unpacked>
     Status::DIV_BY_ZERO.and(infinity_of(shape, negative))
 }
 
-/// The quotient of two values, rounded once (IEEE 754-2008 5.4.1, division).
-#[inline(always)]
-pub fn divide(shape: Shape, x: Unpacked, y: Unpacked, round: Round) -> StatusAnd<Unpacked>
+/// The quotient of any two values. It stands apart, as `add_any` does.
+#[cold]
+#[inline(never)]
+fn divide_any(shape: Shape, x: Unpacked, y: Unpacked, round: Round) -> StatusAnd<Unpacked>
     requires lawful { IsShape shape }
     requires left { IsStored shape x }
     requires right { IsStored shape y }
     ensures stored { IsStored shape result.value }
-    ensures delivered { IsQuotient (format_at shape) round (datum_at shape x) (datum_at shape y) (datum_at shape result.value) (bits_of result.status) }
+    ensures delivered { IsQuotient (format_at shape) round
+        (datum_at shape x) (datum_at shape y) (datum_at shape result.value) (bits_of result.status) }
 {
     let negative = product_sign(x.negative, y.negative);
     match x.category {
@@ -117,5 +120,22 @@ pub fn divide(shape: Shape, x: Unpacked, y: Unpacked, round: Round) -> StatusAnd
             Category::NaN => propagated(shape, y),
         },
         Category::NaN => propagated_left(shape, x, y),
+    }
+}
+
+/// The quotient of two values, rounded once (IEEE 754-2008 5.4.1, division).
+#[inline(always)]
+pub fn divide(shape: Shape, x: Unpacked, y: Unpacked, round: Round) -> StatusAnd<Unpacked>
+    requires lawful { IsShape shape }
+    requires left { IsStored shape x }
+    requires right { IsStored shape y }
+    ensures stored { IsStored shape result.value }
+    ensures delivered { IsQuotient (format_at shape) round
+        (datum_at shape x) (datum_at shape y) (datum_at shape result.value) (bits_of result.status) }
+{
+    if are_normal(x, y) {
+        divide_numbers(shape, x, y, round)
+    } else {
+        remade(divide_any(shape, x, y, round))
     }
 }

@@ -14,6 +14,7 @@ ghost use Rattle.apfloat_base.specs.Remainders.{truncated_quotient, nearest_quot
 ghost use Rattle.apfloat_unpacked.specs.Shapes.{IsShape, format_at};
 ghost use Rattle.apfloat_unpacked.specs.Stored.{IsOperandAt, IsNormal, IsStored, datum_at, quanta_at};
 
+use crate::classes::are_normal;
 use apfloat_base::sig::digits;
 use apfloat_base::{Category, ExpInt, Status, StatusAnd};
 use apfloat_unpacked::nans::{invalid, propagated, propagated_left};
@@ -314,15 +315,6 @@ fn nearest_number(shape: Shape, x: Unpacked, y: Unpacked) -> StatusAnd<Unpacked>
         nearest.point.significand,
         nearest.point.place,
     ))
-}
-
-/// Whether both operands are finite and not zero.
-#[inline(always)]
-fn are_normal(x: Unpacked, y: Unpacked) -> bool
-    ensures yes { result ≡ true → (x.category ≡ Category.Normal) × (y.category ≡ Category.Normal) }
-    ensures no { result ≡ false → x.category ≡ Category.Normal → y.category ≡ Category.Normal → ⊥ }
-{
-    x.category == Category::Normal && y.category == Category::Normal
 }
 
 /// The remainder of a finite operand, where it is zero or the divisor is no number other than zero.

@@ -18,8 +18,7 @@ pub fn negated(shape: Shape, x: Unpacked) -> Unpacked
     match x.category {
         Category::Zero => zero_of(shape, !x.negative),
         Category::NaN => nan_of(shape, !x.negative, x.significand),
-        Category::Infinity => turned(x),
-        Category::Normal => turned(x),
+        _ => turned(x),
     }
 }
 

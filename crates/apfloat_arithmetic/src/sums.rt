@@ -9,13 +9,14 @@ ghost use Rattle.apfloat_arithmetic.specs.Subtrahends.{added};
 ghost use Rattle.apfloat_unpacked.specs.Shapes.{IsShape, format_at};
 ghost use Rattle.apfloat_unpacked.specs.Stored.{IsNormal, IsStored, datum_at, quanta_at};
 
+use crate::classes::are_normal;
 use crate::signs::negated;
 use apfloat_base::sig::{Loss, Term, Total, add_terms, is_zero};
 use apfloat_base::{Category, Round, Status, StatusAnd};
 use apfloat_unpacked::nans::{invalid, propagated, propagated_left};
 use apfloat_unpacked::normalize::deliver;
 use apfloat_unpacked::shape::{Shape, last_exponent};
-use apfloat_unpacked::unpacked::{Unpacked, zero_of};
+use apfloat_unpacked::unpacked::{Unpacked, remade, zero_of};
 
 /// The number, by the exponent of its last digit.
 #[inline(always)]
@@ -146,9 +147,10 @@ fn add_to_number(shape: Shape, x: Unpacked, y: Unpacked, round: Round) -> Status
     }
 }
 
-/// `x + y`, rounded once (IEEE 754-2008 5.4.1).
-#[inline(always)]
-pub fn add(shape: Shape, x: Unpacked, y: Unpacked, round: Round) -> StatusAnd<Unpacked>
+/// The sum of any two values. It stands apart, so that of a sum of two numbers nothing else is inlined.
+#[cold]
+#[inline(never)]
+fn add_any(shape: Shape, x: Unpacked, y: Unpacked, round: Round) -> StatusAnd<Unpacked>
     requires lawful { IsShape shape }
     requires x_stored { IsStored shape x }
     requires y_stored { IsStored shape y }
@@ -163,6 +165,23 @@ pub fn add(shape: Shape, x: Unpacked, y: Unpacked, round: Round) -> StatusAnd<Un
     }
 }
 
+/// `x + y`, rounded once (IEEE 754-2008 5.4.1).
+#[inline(always)]
+pub fn add(shape: Shape, x: Unpacked, y: Unpacked, round: Round) -> StatusAnd<Unpacked>
+    requires lawful { IsShape shape }
+    requires x_stored { IsStored shape x }
+    requires y_stored { IsStored shape y }
+    ensures stored { IsStored shape result.value }
+    ensures delivered { IsSum (format_at shape) round
+        (datum_at shape x) (datum_at shape y) (datum_at shape result.value) (bits_of result.status) }
+{
+    if are_normal(x, y) {
+        add_numbers(shape, x, y, round)
+    } else {
+        remade(add_any(shape, x, y, round))
+    }
+}
+
 /// What is added where a value is subtracted: a NaN is not negated.
 #[inline(always)]
 fn added(shape: Shape, y: Unpacked) -> Unpacked
@@ -171,10 +190,8 @@ fn added(shape: Shape, y: Unpacked) -> Unpacked
     ensures datum { datum_at shape result ≡ added shape.nonfinite (datum_at shape y) }
 {
     match y.category {
-        Category::Normal => negated(shape, y),
-        Category::Zero => negated(shape, y),
-        Category::Infinity => negated(shape, y),
         Category::NaN => y,
+        _ => negated(shape, y),
     }
 }
 

@@ -179,6 +179,6 @@ pub fn convert(from: Shape, into: Shape, x: Unpacked, round: Round) -> Converted
         Category::Normal => converted_number(from, into, x, round),
         Category::Zero => converted_zero(into, x.negative),
         Category::Infinity => converted_infinity(into, x.negative),
-        Category::NaN => converted_nan(from, into, x),
+        _ => converted_nan(from, into, x),
     }
 }

@@ -119,6 +119,6 @@ pub fn to_unsigned(shape: Shape, x: Unpacked, width: u32, round: Round) -> Unsig
             is_exact: !x.negative,
         },
         Category::Infinity => out_of_range(limit_of(width, x.negative)),
-        Category::NaN => out_of_range(0),
+        _ => out_of_range(0),
     }
 }

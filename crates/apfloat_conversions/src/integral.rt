@@ -46,7 +46,7 @@ pub fn round_to_integral(shape: Shape, x: Unpacked, round: Round) -> StatusAnd<U
         Category::Normal => round_number(shape, x, round),
         Category::NaN => propagated(shape, x),
         Category::Zero => Status::OK.and(x),
-        Category::Infinity => Status::OK.and(x),
+        _ => Status::OK.and(x),
     }
 }
 
@@ -76,6 +76,6 @@ pub fn is_integer(shape: Shape, x: Unpacked) -> bool
         Category::Normal => is_whole_number(shape, x),
         Category::Zero => true,
         Category::Infinity => false,
-        Category::NaN => false,
+        _ => false,
     }
 }

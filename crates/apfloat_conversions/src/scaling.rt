@@ -79,7 +79,7 @@ pub fn scaled(shape: Shape, x: Unpacked, places: ExpInt, round: Round) -> Unpack
         Category::Normal => scale_number(shape, x, places, round).value,
         Category::NaN => propagated(shape, x).value,
         Category::Zero => x,
-        Category::Infinity => x,
+        _ => x,
     }
 }
 
@@ -94,7 +94,7 @@ pub fn ilogb(shape: Shape, x: Unpacked) -> ExpInt
         Category::Normal => x.exponent,
         Category::Zero => IEK_ZERO,
         Category::Infinity => IEK_INF,
-        Category::NaN => IEK_NAN,
+        _ => IEK_NAN,
     }
 }
 

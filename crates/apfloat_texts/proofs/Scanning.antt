@@ -5,6 +5,7 @@ use Rattle.std.specs.Prelude.{Result, Ok, Err, IsErrAnd, MatchResult}
 use Rattle.apfloat_base.specs.declared.sig.loss.Loss.{Loss}
 use Rattle.apfloat_base.specs.Digits.{begins}
 use Rattle.apfloat_base.specs.Texts.{is_digit_or_dot, significand_of, behind_significand}
+use Rattle.apfloat_texts.specs.declared.significand.Scan.{Scan}
 use Rattle.apfloat_texts.specs.Scans.{IsKept, IsScan, IsScanned}
 
 -- ---- lists
@@ -31,6 +32,14 @@ begins_first test (x ∷ xs) h e = e
 pub refused_by : {T E : Type 0} (r : Result T E) (e : E) (P : T → Type 0) (Q : E → Type 0) → IsErrAnd r (λ y. y ≡ e) → Q e → MatchResult r P Q
 refused_by (Ok x) e P Q is q = absurd is
 refused_by (Err y) e P Q is q = subst Q (sym is) q
+
+-- ---- a scan as it is made anew
+
+pub scan_remade : (rest left : List ℕ) (next made : Scan) → made ≡ next
+    → IsScan rest left next.digits.significand next.digits.loss next.digits.cut next.places next.pointed next.some
+    → IsScan rest left made.digits.significand made.digits.loss made.digits.cut made.places made.pointed made.some
+scan_remade rest left next made e s =
+    subst (λ (x : Scan). IsScan rest left x.digits.significand x.digits.loss x.digits.cut x.places x.pointed x.some) (sym e) s
 
 -- ---- the end of a significand
 

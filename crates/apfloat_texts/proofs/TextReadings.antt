@@ -1,14 +1,15 @@
 -- The reading of a text by its special or by its literal.
-use Rattle.std.proofs.Common.{◌≡◌, ℕ, Bool, true, false, refl, sym, ◌∙◌, subst, List, drop, Some, None}
+use Rattle.std.proofs.Common.{◌≡◌, ℕ, Bool, true, false, refl, sym, ap, ◌∙◌, ⊎_elim, subst, List, ◌++◌, drop, codes, Some, None}
 use Rattle.std.specs.Prelude.{Result, Ok, Err, MatchResult}
 use Rattle.apfloat_base.specs.declared.kinds.Round.{Round}
 use Rattle.apfloat_base.specs.declared.status.StatusAnd.{StatusAnd}
 use Rattle.apfloat_base.specs.Flags.{bits_of}
 use Rattle.apfloat_base.specs.Digits.{is_empty}
-use Rattle.apfloat_base.specs.Specials.{hexadecimal, mark_of, behind_mark, is_minus, special_of}
+use Rattle.apfloat_base.specs.Specials.{Mark, unmarked, plus, minus, hexadecimal, mark_of, behind_mark, is_minus, special_meaning, special_of}
 use Rattle.apfloat_base.specs.Texts.{Means, begins_literal, behind_prefix_fault, fault_of}
 use Rattle.apfloat_base.specs.Literals.{digits_number, places_behind_dot, exponent_text, exponent_number}
 use Rattle.apfloat_base.specs.Readings.{IsMeant}
+use Rattle.apfloat_base.proofs.EachText.{begun_of}
 use Rattle.apfloat_base.proofs.LiteralMeanings.{literal_meaning}
 use Rattle.apfloat_unpacked.specs.declared.shape.Shape.{Shape}
 use Rattle.apfloat_unpacked.specs.declared.unpacked.Unpacked.{Unpacked}
@@ -42,6 +43,28 @@ special_read shape mode text negative special value answer e stored meant v s =
       };
     }
 
+-- ---- a literal is no special
+
+no_small_special : (mark : Mark) (rest : List ℕ) → special_meaning mark (codes "0x" ++ rest) ≡ None
+no_small_special unmarked rest = refl
+no_small_special plus rest = refl
+no_small_special minus rest = refl
+
+no_capital_special : (mark : Mark) (rest : List ℕ) → special_meaning mark (codes "0X" ++ rest) ≡ None
+no_capital_special unmarked rest = refl
+no_capital_special plus rest = refl
+no_capital_special minus rest = refl
+
+no_special : (text : List ℕ) → begins_literal (behind_mark text) ≡ true → special_of text ≡ None
+no_special text b =
+    let body = behind_mark text in
+    let rest = drop 2 body in
+    let meaning = λ (t : List ℕ). special_meaning (mark_of text) t in
+    ⊎_elim
+    (λ (p : body ≡ codes "0x" ++ rest). ap meaning p ∙ no_small_special (mark_of text) rest)
+    (λ (p : body ≡ codes "0X" ++ rest). ap meaning p ∙ no_capital_special (mark_of text) rest)
+    (begun_of body b)
+
 literal_fault_is : (text : List ℕ) → is_empty text ≡ false → is_empty (behind_mark text) ≡ false → special_of text ≡ None → begins_literal (behind_mark text) ≡ true
     → fault_of text ≡ behind_prefix_fault (drop 2 (behind_mark text))
 literal_fault_is text t b s l = rw (t, b, s, l) refl
@@ -60,9 +83,9 @@ text_of_literal shape mode text answer l r =
     }
 
 pub literal_text : (shape : Shape) (mode : Round) (text rest : List ℕ) (negative : Bool) (result : Result (StatusAnd Unpacked) Fault)
-    → is_empty text ≡ false → is_empty (behind_mark text) ≡ false → special_of text ≡ None → begins_literal (behind_mark text) ≡ true
+    → is_empty text ≡ false → is_empty (behind_mark text) ≡ false → begins_literal (behind_mark text) ≡ true
     → rest ≡ drop 2 (behind_mark text) → negative ≡ is_minus (mark_of text)
     → MatchResult result (λ answer. IsLiteralRead shape mode negative rest answer) (λ fault. behind_prefix_fault rest ≡ Some (fault_at fault))
     → MatchResult result (λ answer. IsTextRead shape mode text answer) (λ fault. fault_of text ≡ Some (fault_at fault))
-literal_text shape mode text rest negative (Ok answer) t b s l r n h = text_of_literal shape mode text answer l (rw (r, n) at h)
-literal_text shape mode text rest negative (Err fault) t b s l r n h = literal_fault_is text t b s l ∙ (rw r at h)
+literal_text shape mode text rest negative (Ok answer) t b l r n h = text_of_literal shape mode text answer l (rw (r, n) at h)
+literal_text shape mode text rest negative (Err fault) t b l r n h = literal_fault_is text t b (no_special text l) l ∙ (rw r at h)

@@ -32,6 +32,7 @@ fn with_digit(number: u128, digit: u8) -> u128
 }
 
 /// The number that decimal digits stand for.
+#[inline(always)]
 fn magnitude(digits: &[u8]) -> Result<u128, Fault>
     ensures { MatchResult result (λ n. IsSaturated (number 10 digits.now) n × (n < 2 ^ 100) × (exponent_fault digits.now ≡ None)) (λ fault. exponent_fault digits.now ≡ Some (fault_at fault)) }
 {
@@ -51,6 +52,7 @@ fn magnitude(digits: &[u8]) -> Result<u128, Fault>
 }
 
 /// The exponent that is written behind the letter.
+#[inline(always)]
 fn signed(text: &[u8]) -> Result<i128, Fault>
     ensures { MatchResult result (λ e. IsNear (2 ^ 96) (exponent_number text.now) e × (e ≤ℤ pos (2 ^ 100)) × (neg_ℤ (pos (2 ^ 100)) ≤ℤ e) × (exponent_fault (behind_mark text.now) ≡ None)) (λ fault. exponent_fault (behind_mark text.now) ≡ Some (fault_at fault)) }
 {
@@ -64,6 +66,7 @@ fn signed(text: &[u8]) -> Result<i128, Fault>
 }
 
 /// The exponent in what follows a significand with some digit or with none.
+#[inline(always)]
 pub fn exponent_in(tail: &[u8], some: bool) -> Result<i128, Fault>
     ensures { MatchResult result (λ e. IsNear (2 ^ 96) (exponent_number (drop 1 tail.now)) e × (e ≤ℤ pos (2 ^ 100)) × (neg_ℤ (pos (2 ^ 100)) ≤ℤ e) × (fault_behind some tail.now ≡ None)) (λ fault. fault_behind some tail.now ≡ Some (fault_at fault)) }
 {

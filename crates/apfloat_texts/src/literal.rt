@@ -15,6 +15,7 @@ use apfloat_unpacked::shape::Shape;
 use apfloat_unpacked::unpacked::Unpacked;
 
 /// The number that stands behind the prefix, rounded once, or what is wrong with it first.
+#[inline(always)]
 pub fn read_literal(
     shape: Shape,
     negative: bool,

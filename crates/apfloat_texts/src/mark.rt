@@ -29,6 +29,7 @@ impl Mark {
 }
 
 /// The mark, and what stands behind it.
+#[inline(always)]
 pub fn split_mark(text: &[u8]) -> (Mark, &[u8])
     ensures mark { mark_at result.0 ≡ mark_of text.now }
     ensures behind { result.1.now ≡ behind_mark text.now }

@@ -17,6 +17,7 @@ use apfloat_unpacked::unpacked::{Unpacked, zero_of};
 
 /// The number with those digits, of which `places` stand behind the dot, times 2 to the power of `exponent`, rounded
 /// once. An exponent that is not counted on is as good as the exact one.
+#[inline(always)]
 pub fn delivered(
     shape: Shape,
     negative: bool,

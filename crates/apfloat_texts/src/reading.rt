@@ -21,6 +21,7 @@ use apfloat_unpacked::shape::Shape;
 use apfloat_unpacked::unpacked::{Unpacked, infinity_of, nan_of};
 
 /// The infinity or the NaN, with the sign of its text.
+#[inline(always)]
 fn special_value(shape: Shape, negative: bool, special: Special) -> Unpacked
     requires { IsShape shape }
     ensures stored { IsStored shape result }
@@ -36,6 +37,7 @@ fn special_value(shape: Shape, negative: bool, special: Special) -> Unpacked
 }
 
 /// What stands behind the prefix of a hexadecimal number.
+#[inline(always)]
 fn behind_prefix(body: &[u8]) -> Option<&[u8]>
     ensures { MatchOption result (begins_literal body.now ≡ false) (λ rest. (begins_literal body.now ≡ true) × (rest.now ≡ drop 2 body.now)) }
 {
@@ -46,6 +48,7 @@ fn behind_prefix(body: &[u8]) -> Option<&[u8]>
 }
 
 /// The value of a text, or what is wrong with it first.
+#[inline(always)]
 fn read_bytes(shape: Shape, text: &[u8], round: Round) -> Result<StatusAnd<Unpacked>, Fault>
     requires { IsShape shape }
     ensures { MatchResult result (λ answer. IsTextRead shape round text.now answer) (λ fault. fault_of text.now ≡ Some (fault_at fault)) }
@@ -57,17 +60,20 @@ fn read_bytes(shape: Shape, text: &[u8], round: Round) -> Result<StatusAnd<Unpac
     if body.is_empty() {
         return Err(Fault::LoneMark);
     }
-    if let Some(special) = special_of(mark, body) {
-        return Ok(Status::OK.and(special_value(shape, mark.is_minus(), special)));
+    if let Some(rest) = behind_prefix(body) {
+        return read_literal(shape, mark.is_minus(), rest, round);
     }
-    match behind_prefix(body) {
-        Some(rest) => read_literal(shape, mark.is_minus(), rest, round),
+    match special_of(mark, body) {
+        Some(special) => Ok(Status::OK.and(special_value(shape, mark.is_minus(), special))),
         None => Err(Fault::NoLiteral),
     }
 }
 
 /// Reads a text (IEEE 754-2008 5.12): the value of the one meaning that it has, rounded once, or the words of the first
 /// fault from the left.
+///
+/// It is inlined into the call of each format, so that the constants of the format are known where its number is rounded.
+#[inline(always)]
 pub fn read(shape: Shape, text: &str, round: Round) -> Result<StatusAnd<Unpacked>, ParseError>
     requires { IsShape shape }
     ensures { MatchResult result (λ answer. IsTextRead shape round text.now answer) (λ error. IsRefusal text.now error.0.now) }

@@ -45,7 +45,7 @@ fn loss_behind(loss: Loss, digit: u8) -> Loss
                 Loss::MoreThanHalf
             }
         }
-        Loss::MoreThanHalf => Loss::MoreThanHalf,
+        _ => Loss::MoreThanHalf,
     }
 }
 
@@ -162,6 +162,23 @@ impl Scan {
         })
     }
 
+    /// The scan, made anew of its parts, which are copied in registers.
+    #[inline(always)]
+    fn remade(self) -> Scan
+        ensures { result ≡ self }
+    {
+        Scan {
+            digits: Digits {
+                significand: self.digits.significand,
+                loss: self.digits.loss,
+                cut: self.digits.cut,
+            },
+            places: self.places,
+            pointed: self.pointed,
+            some: self.some,
+        }
+    }
+
     /// With one more character.
     #[inline(always)]
     fn with(self, byte: u8) -> Result<Scan, Fault>
@@ -179,25 +196,28 @@ impl Scan {
 }
 
 /// The significand at the start of what stands behind the prefix, and what follows it.
+///
+/// The first loop ends where digits begin to be cut off. As far as it goes nothing is lost, and all that it counts stays in
+/// registers; few texts reach the second one.
+#[inline(always)]
 pub fn scanned(rest: &[u8]) -> Result<(Scan, &[u8]), Fault>
     ensures { MatchResult result (λ answer. IsScanned rest.now answer.1.now answer.0.digits.significand answer.0.digits.loss answer.0.digits.cut answer.0.places answer.0.some) (λ fault. (fault ≡ SecondDot) × (ltb 1 (length (filter is_dot (significand_of rest.now))) ≡ true)) }
 {
     let mut scan = Scan::none();
     let mut left = rest;
     while let [byte, behind @ ..] = left
+        && scan.digits.significand < 1 << 124
         && is_digit_or_dot(*byte)
     {
         let next = scan.with(*byte)?;
-        scan = Scan {
-            digits: Digits {
-                significand: next.digits.significand,
-                loss: next.digits.loss,
-                cut: next.digits.cut,
-            },
-            places: next.places,
-            pointed: next.pointed,
-            some: next.some,
-        };
+        scan = next.remade();
+        left = behind;
+    }
+    while let [byte, behind @ ..] = left
+        && is_digit_or_dot(*byte)
+    {
+        let next = scan.with(*byte)?;
+        scan = next.remade();
         left = behind;
     }
     Ok((scan, left))

@@ -62,6 +62,8 @@ fn nan(body: &[u8]) -> Option<Special>
 }
 
 /// The infinity or the NaN of a text, by its mark and by what stands behind it.
+#[cold]
+#[inline(never)]
 pub fn special_of(mark: Mark, body: &[u8]) -> Option<Special>
     ensures { meaning_at (is_minus (mark_at mark)) result ≡ special_meaning (mark_at mark) body.now }
 {

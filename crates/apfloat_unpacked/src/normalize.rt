@@ -3,13 +3,13 @@
 //! The significand is cut once. The place of the cut follows from its length, its exponent and the format; what is cut off
 //! decides together with the incoming loss, and at most one is added to what is kept.
 
-ghost use Rattle.std.specs.Prelude.{◌≡◌, ℕ, ◌+◌, ◌-◌, ◌*◌, ◌/◌, ◌%◌, ◌^◌, ◌<◌, ◌≤◌, ◌⊎◌, ltb, pos, neg_ℤ, ◌≤ℤ◌, ◌+ℤ◌, if◌then◌else◌};
+ghost use Rattle.std.specs.Prelude.{◌≡◌, ℕ, ◌+◌, ◌-◌, ◌*◌, ◌/◌, ◌%◌, ◌^◌, ◌<◌, ◌≤◌, ◌⊎◌, ltb, pos, neg_ℤ, ◌≤ℤ◌, ◌+ℤ◌, if◌then◌else◌, false};
 ghost use Rattle.apfloat_base.specs.Flags.{bits_of};
 ghost use Rattle.apfloat_base.specs.Format.{Format, smallest_normalized, largest, nan_base};
 ghost use Rattle.apfloat_base.specs.Datum.{finite};
 ghost use Rattle.apfloat_base.specs.Standing.{StandsFor, up, down};
 ghost use Rattle.apfloat_base.specs.Enclosure.{IsEnclosed, rounds_up};
-ghost use Rattle.apfloat_base.specs.Rounding.{ok_bits, overflow_bit, underflow_bit, inexact_bit, IsPick, IsDelivered, leads_out, past_largest};
+ghost use Rattle.apfloat_base.specs.Rounding.{takes_above, ok_bits, overflow_bit, underflow_bit, inexact_bit, IsPick, IsDelivered, leads_out, past_largest};
 ghost use Rattle.apfloat_unpacked.specs.Shapes.{IsShape, format_at};
 ghost use Rattle.apfloat_unpacked.specs.Stored.{IsStored, datum_at};
 
@@ -104,32 +104,24 @@ fn keep(precision: u32, significand: u128, unit: ExpInt, loss: Loss) -> Kept
     }
 }
 
+/// Whether a directed mode rounds a magnitude of this sign up.
+#[inline(always)]
+fn is_outward(mode: Round, negative: bool) -> bool
+    ensures { result ≡ takes_above mode negative 1 2 false }
+{
+    ((mode == Round::TowardPositive) & !negative) | ((mode == Round::TowardNegative) & negative)
+}
+
 /// Whether the mode moves a significand up for what was lost.
 #[inline(always)]
 pub fn moves_up(mode: Round, negative: bool, loss: Loss, odd: bool) -> bool
     ensures { result ≡ rounds_up mode negative loss odd }
 {
-    match loss {
-        Loss::ExactlyZero => false,
-        Loss::LessThanHalf => match mode {
-            Round::TowardPositive => !negative,
-            Round::TowardNegative => negative,
-            _ => false,
-        },
-        Loss::ExactlyHalf => match mode {
-            Round::NearestTiesToEven => odd,
-            Round::NearestTiesToAway => true,
-            Round::TowardPositive => !negative,
-            Round::TowardNegative => negative,
-            Round::TowardZero => false,
-        },
-        Loss::MoreThanHalf => match mode {
-            Round::TowardPositive => !negative,
-            Round::TowardNegative => negative,
-            Round::TowardZero => false,
-            _ => true,
-        },
-    }
+    let to_even = mode == Round::NearestTiesToEven;
+    let to_nearest = to_even | (mode == Round::NearestTiesToAway);
+    let outward = is_outward(mode, negative) & (loss != Loss::ExactlyZero);
+    let tie = (loss == Loss::ExactlyHalf) & (!to_even | odd);
+    outward | (to_nearest & (tie | (loss == Loss::MoreThanHalf)))
 }
 
 /// A point of the grid, `significand * 2^place` quanta.

@@ -9,7 +9,8 @@ use crate::{
     arithmetic, constants, ieee, operators, order, pairs, parts, predicates, whole_numbers,
 };
 use conformance::formats::{
-    HalfTinyBeforeS, LeastFiniteS, LeastS, SevenS, TenS, VastS, WrittenBitS,
+    BroadS, DeepS, HalfTinyBeforeS, LeastFiniteS, LeastS, PreciseS, SevenS, TenS, VastS,
+    WrittenBitS,
 };
 use rustc_apfloat::Float;
 use rustc_apfloat::ieee::{
@@ -36,8 +37,11 @@ macro_rules! in_format {
             "fallbackext" => $function::<$($source,)? FallbackExtendedS>($($argument),+),
             "lim3" => $function::<$($source,)? LeastS>($($argument),+),
             "lim3nan" => $function::<$($source,)? LeastFiniteS>($($argument),+),
+            "lim3deep" => $function::<$($source,)? DeepS>($($argument),+),
+            "lim125" => $function::<$($source,)? PreciseS>($($argument),+),
             "lim125deep" => $function::<$($source,)? VastS>($($argument),+),
             "seven" => $function::<$($source,)? SevenS>($($argument),+),
+            "wide128" => $function::<$($source,)? BroadS>($($argument),+),
             "expl14" => $function::<$($source,)? WrittenBitS>($($argument),+),
             "nan10" => $function::<$($source,)? TenS>($($argument),+),
             "halftbr" => $function::<$($source,)? HalfTinyBeforeS>($($argument),+),

@@ -12,7 +12,8 @@
 //!   `ParseError` says that the text is refused, with the words of the value's column;
 //! - what else the call answers, as `exponent=-3`, or `-`.
 //!
-//! A value is written by its bits, as hexadecimal digits, or in a format without bits as a text.
+//! A value is written by its bits, as hexadecimal digits, or in a format without bits by its quanta, as `+3q`; `src/quanta.rt`
+//! says what such words mean and by which calls they are told.
 //!
 //! The program writes the rows that differ or are not understood, and how many agree. Its exit status is 0 where all do,
 //! and else 1.
@@ -28,6 +29,7 @@ mod order;
 mod pairs;
 mod parts;
 mod predicates;
+mod quanta;
 mod row;
 mod texts;
 mod values;

@@ -1,14 +1,15 @@
 //! Values, as rows write them.
 
+use crate::quanta;
 use commands::bits_of;
-use rustc_apfloat::{Flags, Float, Round};
+use rustc_apfloat::Float;
 
-/// The value that a word stands for: its bits, or in a format without bits its text.
+/// The value that a word stands for: its bits, or in a format without bits a count of quanta.
 pub fn value_of<F: Float>(word: &str) -> Option<F> {
     if F::PRECISION < F::BITS {
         Some(F::from_bits(bits_of(word, F::BITS)?))
     } else {
-        value_of_text(word)
+        quanta::value_of(word)
     }
 }
 
@@ -17,14 +18,6 @@ pub fn is_value<F: Float>(x: F, word: &str) -> Option<bool> {
     if F::PRECISION < F::BITS {
         Some(x.to_bits() == bits_of(word, F::BITS)?)
     } else {
-        Some(x.bitwise_eq(value_of_text(word)?))
-    }
-}
-
-// The value that a text has exactly.
-fn value_of_text<F: Float>(word: &str) -> Option<F> {
-    match F::from_str_r(word, Round::NearestTiesToEven) {
-        Ok(answer) if answer.status.is_empty() => Some(answer.value),
-        _ => None,
+        quanta::is_value(x, word)
     }
 }

@@ -1,18 +1,31 @@
-use Rattle.std.proofs.Common.{rules, not, sym, ap, ◌∙◌}
-use Rattle.apfloat_base.specs.declared.kinds.Category.TheVariants.{Normal}
+use Rattle.std.proofs.Common.{◌≡◌, rules, not, refl, sym, ap, ◌∙◌}
+use Rattle.apfloat_base.specs.declared.kinds.Category.{Category}
+use Rattle.apfloat_base.specs.declared.kinds.Category.TheVariants.{Normal, Zero, Infinity, NaN}
 use Rattle.apfloat_base.specs.Negation.{negated}
 use Rattle.apfloat_base.proofs.Laws.{number_swapped}
-use Rattle.apfloat_unpacked.specs.Stored.{datum_at, quanta_at}
+use Rattle.apfloat_unpacked.specs.declared.shape.Shape.{Shape}
+use Rattle.apfloat_unpacked.specs.declared.unpacked.Unpacked.{Unpacked}
+use Rattle.apfloat_unpacked.specs.Stored.{IsStored, datum_at, quanta_at}
 use Rattle.apfloat_arithmetic.proofs.SumCases.{number_stored, datum_is}
 use Rattle.apfloat_arithmetic.proofs.signs.negated.Goals as goal
 
-pub returns-in-Normal-clause-datum : goal.returns-in-Normal-clause-datum
-returns-in-Normal-clause-datum c =
-    let x = c.args.x in
-    let s = c.args.shape in
-    let h = number_stored s x c.in-Normal.is c.requires in
-    ap (datum_at s) c.turned-in-Normal.ensures ∙ datum_is Normal s (record x { negative = not x.negative }) c.in-Normal.is
-    ∙ number_swapped s.nonfinite x.negative (quanta_at s.min_exp x.significand x.exponent) h.1 ∙ ap (negated s.nonfinite) (sym (datum_is Normal s x c.in-Normal.is))
+-- a number or an infinity
+turned_datum : (k : Category) (s : Shape) (x : Unpacked) → x.category ≡ k → IsStored s x → (k ≡ Zero → ⊥)
+    → (k ≡ NaN → ⊥) → datum_at s (record x { negative = not x.negative }) ≡ negated s.nonfinite (datum_at s x)
+turned_datum Normal s x e h a b =
+    let n = number_stored s x e h in
+    datum_is Normal s (record x { negative = not x.negative }) e
+    ∙ number_swapped s.nonfinite x.negative (quanta_at s.min_exp x.significand x.exponent) n.1
+    ∙ ap (negated s.nonfinite) (sym (datum_is Normal s x e))
+turned_datum Infinity s x e h a b =
+    datum_is Infinity s (record x { negative = not x.negative }) e ∙ ap (negated s.nonfinite) (sym (datum_is Infinity s x e))
+turned_datum Zero s x e h a b = absurd (a refl)
+turned_datum NaN s x e h a b = absurd (b refl)
+
+pub returns-in_default-clause-datum : goal.returns-in_default-clause-datum
+returns-in_default-clause-datum c =
+    ap (datum_at c.args.shape) c.turned.ensures
+    ∙ turned_datum c.args.x.category c.args.shape c.args.x refl c.requires c.in_default.not-Zero c.in_default.not-NaN
 
 pub returns-in-NaN-clause-datum : goal.returns-in-NaN-clause-datum
 returns-in-NaN-clause-datum c = search rules steps 500000

@@ -1,20 +1,9 @@
-use Rattle.std.proofs.Common.{rules, refl}
-use Rattle.apfloat_base.specs.declared.kinds.Category.TheVariants.{Infinity}
-use Rattle.apfloat_base.specs.Flags.{bits_of}
-use Rattle.apfloat_base.specs.Datum.{infinite}
-use Rattle.apfloat_unpacked.specs.Shapes.{format_at}
-use Rattle.apfloat_unpacked.specs.Stored.{datum_at}
-use Rattle.apfloat_arithmetic.proofs.SumCases.{same_sum, datum_is}
+use Rattle.apfloat_base.specs.declared.kinds.Category.TheVariants.{Normal}
+use Rattle.apfloat_arithmetic.proofs.SumCases.{datum_is}
 use Rattle.apfloat_arithmetic.proofs.sums.add.Goals as goal
 
-pub returns-in-Infinity-clause-delivered : goal.returns-in-Infinity-clause-delivered
-returns-in-Infinity-clause-delivered c =
-    let x = c.args.x in
+pub returns-then-are_normal-clause-delivered : goal.returns-then-are_normal-clause-delivered
+returns-then-are_normal-clause-delivered c =
     let s = c.args.shape in
-    let v = datum_at s c.add_to_infinity.result.value in
-    let i = bits_of c.add_to_infinity.result.status in
-    same_sum (format_at s) c.args.round (datum_at s x) (datum_at s c.args.y) v (infinite x.negative) (datum_at s c.args.y) v i i
-    (datum_is Infinity s x c.in-Infinity.is) refl refl refl (c.add_to_infinity.ensures.delivered c.args.round)
-
-pub returns-in-NaN-clause-delivered : goal.returns-in-NaN-clause-delivered
-returns-in-NaN-clause-delivered c = search rules steps 500000
+    let both = c.are_normal.ensures.yes c.if-are_normal.true in
+    rw (datum_is Normal s c.args.x both.0, datum_is Normal s c.args.y both.1) assumption

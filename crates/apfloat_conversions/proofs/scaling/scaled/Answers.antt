@@ -34,8 +34,8 @@ returns-in-NaN-clause-stored c = c.propagated.ensures.stored
 pub returns-in-Zero-clause-stored : goal.returns-in-Zero-clause-stored
 returns-in-Zero-clause-stored c = c.requires.stored
 
-pub returns-in-Infinity-clause-stored : goal.returns-in-Infinity-clause-stored
-returns-in-Infinity-clause-stored c = c.requires.stored
+pub returns-in_default-clause-stored : goal.returns-in_default-clause-stored
+returns-in_default-clause-stored c = c.requires.stored
 
 pub returns-in-Zero-clause-scaled : goal.returns-in-Zero-clause-scaled
 returns-in-Zero-clause-scaled c =

@@ -10,21 +10,20 @@ use Rattle.apfloat_texts.proofs.reading.read_bytes.Goals as goal
 pub returns-in-Some : goal.returns-in-Some
 returns-in-Some c =
     let mark = c.split_mark-mark.ensures.mark in
-    let e = rw (mark, c.split_mark-mark.ensures.behind) at c.in-Some.ensures in
-    let n = c.is_minus.ensures ∙ ap is_minus mark in
-    special_read c.args.shape c.args.round c.args.text.now c.is_minus.result c.in-Some.special c.special_value.result c.and.result (rw n (sym e)) c.special_value.ensures.stored
-    c.special_value.ensures.meant c.and.ensures.value (ap bits_of c.and.ensures.status)
-
-pub returns-in-Some-behind_prefix : goal.returns-in-Some-behind_prefix
-returns-in-Some-behind_prefix c =
-    let mark = c.split_mark-mark.ensures.mark in
     let behind = c.split_mark-mark.ensures.behind in
-    let prefix = c.in-Some-behind_prefix.ensures in
-    literal_text c.args.shape c.args.round c.args.text.now c.in-Some-behind_prefix.rest.now c.is_minus-in-Some-behind_prefix.result c.read_literal.result
+    let prefix = c.in-Some.ensures in
+    literal_text c.args.shape c.args.round c.args.text.now c.in-Some.rest.now c.is_minus.result c.read_literal.result
     (some_text c.args.text.now c.if-is_empty.ensures)
     (ap is_empty (sym behind) ∙ some_text c.split_mark-mark.result.1.now c.if-is_empty-2.ensures)
-    (sym (rw (mark, behind) at c.in_default.ensures))
     (ap begins_literal (sym behind) ∙ prefix.0)
     (prefix.1 ∙ ap (λ (t : List ℕ). drop 2 t) behind)
-    (c.is_minus-in-Some-behind_prefix.ensures ∙ ap is_minus mark)
+    (c.is_minus.ensures ∙ ap is_minus mark)
     c.read_literal.ensures
+
+pub returns-in-Some-special_of : goal.returns-in-Some-special_of
+returns-in-Some-special_of c =
+    let mark = c.split_mark-mark.ensures.mark in
+    let e = rw (mark, c.split_mark-mark.ensures.behind) at c.in-Some-special_of.ensures in
+    let n = c.is_minus-in-Some-special_of.ensures ∙ ap is_minus mark in
+    special_read c.args.shape c.args.round c.args.text.now c.is_minus-in-Some-special_of.result c.in-Some-special_of.special c.special_value.result c.and.result (rw n (sym e)) c.special_value.ensures.stored
+    c.special_value.ensures.meant c.and.ensures.value (ap bits_of c.and.ensures.status)

@@ -1,0 +1,176 @@
+//! How times grow.
+
+ghost use Rattle.std.specs.Prelude.{◌<◌};
+
+use crate::encoding::Encoding;
+use crate::generator::Generator;
+use crate::kind::Kind;
+use crate::measure::{Rounds, for_each, in_rounds};
+use crate::nanoseconds::Nanoseconds;
+use crate::numbers::read;
+use crate::operand_set::OperandSet;
+use crate::operation::Operation;
+use crate::task::{Task, room};
+use rustc_apfloat::ieee::{Double, DoubleS, IeeeFloat, QuadS, Semantics, X87DoubleExtendedS};
+use rustc_apfloat::{Float, Round, StatusAnd};
+use std::alloc::{AllocError, Global};
+use std::io;
+use std::rt::Clock;
+use std::time::Instant;
+
+/// Prints the time of reading a text by its length, of a remainder by the exponents' difference, and of a quotient by
+/// its digits.
+pub fn print_growth(rt: &(impl Clock + Print + AllocGlobal)) -> io::Result<()> {
+    print_readings(rt)?;
+    print_remainders(rt)?;
+    print_quotients(rt)
+}
+
+fn print_readings(rt: &(impl Clock + Print + AllocGlobal)) -> io::Result<()> {
+    println!(rt;
+        "| Hexadecimal digits, read as a double | Nanoseconds | For each digit |\n|---|---|---|"
+    )?;
+    for digits in [1_000, 1_000_000, 100_000_000, 1_000_000_000] {
+        let reading = time_of_reading(rt, digits)?;
+        println!(rt; "| {digits} | {reading} | {} |", reading.part(digits))?;
+    }
+    println!(rt; "")
+}
+
+fn time_of_reading(rt: &(impl Clock + AllocGlobal), digits: u64) -> io::Result<Nanoseconds> {
+    let mut texts = Vec::new(rt.alloc());
+    texts
+        .push(long_text(rt.alloc(), digits)?)
+        .map_err(AllocError::from)?;
+    let operands = texts.as_slice();
+    let mut room = room(rt.alloc(), 1, Double::zero())?;
+    let answers = room.as_mut_slice();
+    let mode = Round::NearestTiesToEven;
+    let times = in_rounds!(rt, 300, read::<DoubleS>(mode, operands, answers));
+    Ok(Nanoseconds::of_each(times.with_answers(answers)))
+}
+
+// A text with so many digits after the point, a multiple of 8.
+fn long_text(alloc: Global, digits: u64) -> Result<String, AllocError> {
+    let mut text = String::from_str(alloc, "0x1.")?;
+    for _ in 0..digits / 8 {
+        text.push_str("3b9e0d57")?;
+    }
+    Ok(text)
+}
+
+fn print_remainders(rt: &(impl Clock + Print + AllocGlobal)) -> io::Result<()> {
+    println!(rt;
+        "| Remainders in | Exponents' difference | c_fmod | For each | ieee_rem | For each |\n|---|---|---|---|---|---|"
+    )?;
+    for difference in [1, 10, 100, 1000, 2000] {
+        print_remainder::<DoubleS>(rt, "double", difference)?;
+    }
+    for difference in [1, 10, 100, 1000, 16_000, 30_000] {
+        print_remainder::<QuadS>(rt, "quad", difference)?;
+    }
+    for difference in [1, 10, 100, 1000, 16_000, 30_000] {
+        print_remainder::<X87DoubleExtendedS>(rt, "x87", difference)?;
+    }
+    println!(rt; "")
+}
+
+fn print_remainder<S: Semantics>(
+    rt: &(impl Clock + Print + AllocGlobal),
+    name: &str,
+    difference: i32,
+) -> io::Result<()>
+    requires { S.PRECISION < S.BITS }
+{
+    let steps = u64::from(difference.unsigned_abs());
+    let truncated = time_of_remainder::<S>(rt, Operation::TruncatedRemainder, difference)?;
+    let nearest = time_of_remainder::<S>(rt, Operation::NearestRemainder, difference)?;
+    print!(rt;
+        "| {name} | {difference} | {truncated} | {} |",
+        truncated.part(steps)
+    )?;
+    println!(rt; " {nearest} | {} |", nearest.part(steps))
+}
+
+fn time_of_remainder<S: Semantics>(
+    rt: &(impl Clock + AllocGlobal),
+    operation: Operation,
+    difference: i32,
+) -> io::Result<Nanoseconds>
+    requires { S.PRECISION < S.BITS }
+{
+    let drawn = apart::<S>(rt.alloc(), difference)?;
+    let operands = drawn.as_slice();
+    let mut room = room(rt.alloc(), operands.len(), IeeeFloat::<S>::zero())?;
+    let answers = room.as_mut_slice();
+    let times = in_rounds!(rt, 300, divide(operation, operands, answers));
+    Ok(Nanoseconds::of_each(times.with_answers(answers)))
+}
+
+fn divide<S: Semantics>(
+    operation: Operation,
+    operands: &[[IeeeFloat<S>; 2]],
+    answers: &mut [StatusAnd<IeeeFloat<S>>],
+) {
+    match operation {
+        Operation::TruncatedRemainder => for_each!(operands, answers, x => x[0].c_fmod(x[1])),
+        _ => for_each!(operands, answers, x => x[0].ieee_rem(x[1])),
+    }
+}
+
+// Pairs of normal numbers whose exponents differ by so much.
+fn apart<S: Semantics>(alloc: Global, difference: i32) -> Result<Vec<[IeeeFloat<S>; 2]>, AllocError>
+    requires { S.PRECISION < S.BITS }
+{
+    let encoding = Encoding::of::<S>();
+    let mut generator = Generator::new();
+    let mut pairs = Vec::new(alloc);
+    let lower = 0i32.saturating_sub(difference / 2);
+    let upper = lower.saturating_add(difference);
+    for _ in 0..256 {
+        let x = encoding.normal_bits(false, upper, generator.wide_word());
+        let y = encoding.normal_bits(false, lower, generator.wide_word());
+        pairs.push([IeeeFloat::from_bits(x), IeeeFloat::from_bits(y)])?;
+    }
+    Ok(pairs)
+}
+
+static PRECISIONS: [(Kind, u64); 7] = [
+    (Kind::Float8E4M3FN, 4),
+    (Kind::BFloat, 8),
+    (Kind::Half, 11),
+    (Kind::Single, 24),
+    (Kind::Double, 53),
+    (Kind::X87DoubleExtended, 64),
+    (Kind::Quad, 113),
+];
+
+fn print_quotients(rt: &(impl Clock + Print + AllocGlobal)) -> io::Result<()> {
+    println!(rt; "| Quotients in | Precision | Nanoseconds | For each digit |\n|---|---|---|---|")?;
+    for (kind, precision) in PRECISIONS.iter() {
+        print_quotient(rt, *kind, *precision)?;
+    }
+    Ok(())
+}
+
+fn print_quotient(
+    rt: &(impl Clock + Print + AllocGlobal),
+    kind: Kind,
+    precision: u64,
+) -> io::Result<()> {
+    let task = Task {
+        operation: Operation::Quotient,
+        set: OperandSet::Normal,
+        mode: Round::NearestTiesToEven,
+        rounds: 300,
+    };
+    let Some(known) = kind.measured(rt, task)? else {
+        return Ok(());
+    };
+    let quotient = Nanoseconds::of_each(known);
+    println!(rt;
+        "| {} | {precision} | {quotient} | {} |",
+        kind.name(),
+        quotient.part(precision)
+    )
+}

@@ -1,0 +1,81 @@
+//! Does a fixed amount of work of each operation in each type, and tells what it answers and how long it takes.
+//!
+//! With no word it prints a line for each operation, type and set of operands: the checksums of 1024 answers, flags
+//! included, in the modes even, up, down, zero and away, or one checksum where the operation has no mode. `time` prints
+//! the time of a call in place of that, the best of many rounds, and `growth` how times grow with the length of a text,
+//! the exponents' difference of a remainder, and the digits of a quotient.
+//!
+//! The operands come from a generator of whole numbers. Of the functions here only safety is proved.
+//!
+//! The exit status is 0, or 2 for other words, and 1 where a write fails or there is no memory.
+#![tactic(auto)]
+
+mod checksum;
+mod encoding;
+mod generator;
+mod growth;
+mod kind;
+mod measure;
+mod nanoseconds;
+mod numbers;
+mod operand_set;
+mod operands;
+mod operation;
+mod pairs;
+mod report;
+mod task;
+
+use crate::growth::print_growth;
+use crate::report::{print_checksums, print_times};
+use std::env::Env;
+use std::process::ExitCode;
+use std::rt::Clock;
+use std::{env, io};
+
+fn main(rt: HostRuntime) -> ExitCode {
+    match answer(&rt) {
+        Ok(status) => ExitCode::from(status),
+        Err(_) => ExitCode::from(1),
+    }
+}
+
+// The exit status.
+fn answer(rt: &(impl Env + Clock + Print + Eprint + AllocGlobal)) -> io::Result<u8> {
+    let words = words_of_system(rt)?;
+    match subject_of(words.as_slice()) {
+        Some(Subject::Checksums) => print_checksums(rt)?,
+        Some(Subject::Times) => print_times(rt)?,
+        Some(Subject::Growth) => print_growth(rt)?,
+        None => {
+            eprintln!(rt; "usage: bench [time | growth]")?;
+            return Ok(2);
+        }
+    }
+    Ok(0)
+}
+
+// What is printed.
+#[derive(Clone, Copy, Debug)]
+enum Subject {
+    Checksums,
+    Times,
+    Growth,
+}
+
+fn subject_of(words: &[String]) -> Option<Subject> {
+    match words {
+        [] => Some(Subject::Checksums),
+        [word] => match word.as_str() {
+            "time" => Some(Subject::Times),
+            "growth" => Some(Subject::Growth),
+            _ => None,
+        },
+        _ => None,
+    }
+}
+
+// The words without the program's own name.
+fn words_of_system(rt: &(impl Env + AllocGlobal)) -> io::Result<Vec<String>> {
+    let words = env::args(rt)?.skip(1).collect(rt.alloc())?;
+    Ok(words)
+}

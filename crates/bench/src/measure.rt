@@ -1,0 +1,85 @@
+//! Times of rounds, and what is known of an operation.
+
+use crate::checksum::{Written, checksum_of};
+use rustc_apfloat::StatusAnd;
+use std::time::Duration;
+
+/// What is known of calls for many operands.
+#[derive(Clone, Copy, Debug)]
+pub struct Measured {
+    /// The checksum of the answers.
+    pub checksum: u64,
+    /// The least time of a round, which is one call for each operand.
+    pub time: Duration,
+    /// How many operands there are.
+    pub count: usize,
+}
+
+/// The times of rounds.
+#[derive(Clone, Copy, Debug)]
+pub struct Rounds {
+    least: Duration,
+    spent: Duration,
+}
+
+impl Rounds {
+    /// No rounds yet.
+    pub fn new() -> Self {
+        Rounds {
+            least: Duration::MAX,
+            spent: Duration::ZERO,
+        }
+    }
+
+    /// Takes a round's time in.
+    pub fn take(&mut self, round: Duration) {
+        self.least = self.least.min(round);
+        self.spent = self.spent.saturating_add(round);
+    }
+
+    /// Whether a fifth of a second is spent.
+    pub fn are_enough(self) -> bool {
+        self.spent > Duration::from_millis(200)
+    }
+
+    /// What is known, with the answers of the last round.
+    pub fn with_answers<T: Written>(self, answers: &[StatusAnd<T>]) -> Measured {
+        Measured {
+            checksum: checksum_of(answers),
+            time: self.least,
+            count: answers.len(),
+        }
+    }
+}
+
+// Does the work of a round once, and then in timed rounds, at most so many, until they are enough.
+macro_rules! in_rounds {
+    ($rt:ident, $rounds:expr, $round:expr) => {{
+        let mut times = Rounds::new();
+        $round;
+        for _ in 0..$rounds {
+            let start = Instant::now($rt)?;
+            $round;
+            times.take(start.elapsed($rt)?);
+            if times.are_enough() {
+                break;
+            }
+        }
+        times
+    }};
+}
+
+// A call for each operand, from memory to memory.
+macro_rules! for_each {
+    ($operands:ident, $answers:ident, $x:ident => $call:expr) => {
+        for i in 0..$operands.len() {
+            if i < $answers.len() {
+                let $x = $operands[i];
+                $answers[i] = $call;
+            }
+        }
+    };
+}
+
+pub(crate) use for_each;
+pub(crate) use in_rounds;

@@ -1,0 +1,93 @@
+//! The operands that are drawn.
+
+use crate::encoding::Encoding;
+use crate::generator::Generator;
+use crate::operand_set::OperandSet;
+use std::alloc::{AllocError, Global};
+use std::fmt::Write;
+
+/// How many operands of each kind are drawn.
+const COUNT: usize = 1024;
+
+/// What operands are made of.
+#[derive(Clone, Copy, Debug)]
+pub enum Source {
+    /// The bits of a number.
+    Number(Encoding),
+    /// The bits of a pair of numbers, the high part below the low one.
+    Pair(Encoding),
+}
+
+impl Source {
+    fn operand(self, set: OperandSet, generator: &mut Generator) -> u128 {
+        match self {
+            Source::Number(encoding) => encoding.operand(set, generator),
+            Source::Pair(encoding) => encoding.pair(set, generator),
+        }
+    }
+}
+
+/// The bits of the operands of calls with up to three.
+pub fn drawn_bits(
+    alloc: Global,
+    source: Source,
+    set: OperandSet,
+) -> Result<Vec<[u128; 3]>, AllocError> {
+    let mut generator = Generator::new();
+    let mut bits = Vec::new(alloc);
+    for _ in 0..COUNT {
+        let first = source.operand(set, &mut generator);
+        let second = source.operand(set, &mut generator);
+        let third = source.operand(set, &mut generator);
+        bits.push([first, second, third])?;
+    }
+    Ok(bits)
+}
+
+/// Whole numbers of any count of bits up to 128.
+pub fn drawn_integers(alloc: Global) -> Result<Vec<u128>, AllocError> {
+    let mut generator = Generator::new();
+    let mut numbers = Vec::new(alloc);
+    for _ in 0..COUNT {
+        let number = generator.wide_word();
+        numbers.push(number >> (generator.word() % 128))?;
+    }
+    Ok(numbers)
+}
+
+/// Hexadecimal texts of numbers, with some digits more than a significand has at most.
+pub fn drawn_texts(
+    alloc: Global,
+    encoding: Encoding,
+    set: OperandSet,
+) -> Result<Vec<String>, AllocError> {
+    let mut generator = Generator::new();
+    let mut texts = Vec::new(alloc);
+    for _ in 0..COUNT {
+        texts.push(drawn_text(alloc, encoding, set, &mut generator)?)?;
+    }
+    Ok(texts)
+}
+
+fn drawn_text(
+    alloc: Global,
+    encoding: Encoding,
+    set: OperandSet,
+    generator: &mut Generator,
+) -> Result<String, AllocError> {
+    const DIGITS: [&str; 16] = [
+        "0", "1", "2", "3", "4", "5", "6", "7", "8", "9", "a", "b", "c", "d", "e", "f",
+    ];
+    let head = generator.word();
+    let count = generator
+        .below(encoding.digits_of_texts())
+        .saturating_add(1);
+    let mut text = String::from_str(alloc, if head >> 63 == 1 { "-0x1." } else { "0x1." })?;
+    for _ in 0..count {
+        text.push_str(DIGITS[(generator.word() % 16) as usize])?;
+    }
+    let is_small = set == OperandSet::Denormal && head >> 8 & 1 == 0;
+    let exponent = encoding.exponent_of_text(is_small, generator);
+    write!(text, "p{exponent}")?;
+    Ok(text)
+}

@@ -1,0 +1,128 @@
+//! What is printed of all operations: checksums, and times.
+
+use crate::kind::{KINDS, Kind};
+use crate::nanoseconds::Nanoseconds;
+use crate::operand_set::OperandSet;
+use crate::operation::{OPERATIONS, Operation};
+use crate::task::Task;
+use rustc_apfloat::Round;
+use std::alloc::AllocError;
+use std::io;
+use std::rt::Clock;
+
+const MODES: [Round; 5] = [
+    Round::NearestTiesToEven,
+    Round::TowardPositive,
+    Round::TowardNegative,
+    Round::TowardZero,
+    Round::NearestTiesToAway,
+];
+
+const TABLE_HEAD: &str =
+    "| | add | sub | mul | div | fma | rem | mod | conv:half | conv:single | conv:double | toint | int | parse | bits |\n\
+    |---|---|---|---|---|---|---|---|---|---|---|---|---|---|---|";
+
+/// Prints the checksums of all operations in all types.
+pub fn print_checksums(rt: &(impl Clock + Print + AllocGlobal)) -> io::Result<()> {
+    for kind in KINDS.iter() {
+        print_lines(rt, *kind)?;
+    }
+    Ok(())
+}
+
+fn print_lines(rt: &(impl Clock + Print + AllocGlobal), kind: Kind) -> io::Result<()> {
+    for operation in OPERATIONS.iter() {
+        print_line(rt, kind, *operation, OperandSet::Normal)?;
+        print_line(rt, kind, *operation, OperandSet::Denormal)?;
+    }
+    Ok(())
+}
+
+fn print_line(
+    rt: &(impl Clock + Print + AllocGlobal),
+    kind: Kind,
+    operation: Operation,
+    set: OperandSet,
+) -> io::Result<()> {
+    let sums = sums_of(rt, kind, operation, set)?;
+    if sums.is_empty() {
+        return Ok(());
+    }
+    print!(rt; "{} {} {}", kind.name(), operation.name(), set.name())?;
+    for sum in sums.iter() {
+        print!(rt; " {sum:016x}")?;
+    }
+    println!(rt; "")
+}
+
+// The checksums of an operation in each mode, or one where it has no mode.
+fn sums_of(
+    rt: &(impl Clock + AllocGlobal),
+    kind: Kind,
+    operation: Operation,
+    set: OperandSet,
+) -> io::Result<Vec<u64>> {
+    let mut sums = Vec::new(rt.alloc());
+    for mode in MODES {
+        let task = Task {
+            operation,
+            set,
+            mode,
+            rounds: 0,
+        };
+        if operation.rounds() || sums.is_empty() {
+            if let Some(known) = kind.measured(rt, task)? {
+                sums.push(known.checksum).map_err(AllocError::from)?;
+            }
+        }
+    }
+    Ok(sums)
+}
+
+/// Prints the time of each operation in each type, in nanoseconds.
+pub fn print_times(rt: &(impl Clock + Print + AllocGlobal)) -> io::Result<()> {
+    print_table(rt, OperandSet::Normal)?;
+    print_table(rt, OperandSet::Denormal)
+}
+
+fn print_table(rt: &(impl Clock + Print + AllocGlobal), set: OperandSet) -> io::Result<()> {
+    println!(rt; "Set {}, nanoseconds\n", set.name())?;
+    println!(rt; "{TABLE_HEAD}")?;
+    for kind in KINDS.iter() {
+        print_row(rt, *kind, set)?;
+    }
+    println!(rt; "")
+}
+
+fn print_row(
+    rt: &(impl Clock + Print + AllocGlobal),
+    kind: Kind,
+    set: OperandSet,
+) -> io::Result<()> {
+    print!(rt; "| {} |", kind.name())?;
+    for operation in OPERATIONS.iter() {
+        print_time(rt, kind, *operation, set)?;
+    }
+    println!(rt; "")
+}
+
+fn print_time(
+    rt: &(impl Clock + Print + AllocGlobal),
+    kind: Kind,
+    operation: Operation,
+    set: OperandSet,
+) -> io::Result<()> {
+    let task = Task {
+        operation,
+        set,
+        mode: Round::NearestTiesToEven,
+        rounds: 300,
+    };
+    match kind.measured(rt, task)? {
+        Some(known) => {
+            let time = Nanoseconds::of_each(known);
+            print!(rt; " {time} |")
+        }
+        None => print!(rt; " - |"),
+    }
+}

@@ -1,0 +1,32 @@
+//! What is measured of a type.
+
+use crate::operand_set::OperandSet;
+use crate::operation::Operation;
+use rustc_apfloat::{Round, Status, StatusAnd};
+use std::alloc::{AllocError, Global};
+
+/// An operation on drawn operands.
+#[derive(Clone, Copy, Debug)]
+pub struct Task {
+    /// The operation.
+    pub operation: Operation,
+    /// Which operands are drawn.
+    pub set: OperandSet,
+    /// The rounding mode.
+    pub mode: Round,
+    /// How many rounds are timed at most.
+    pub rounds: u32,
+}
+
+/// Room for so many answers.
+pub fn room<T: Copy>(
+    alloc: Global,
+    count: usize,
+    blank: T,
+) -> Result<Vec<StatusAnd<T>>, AllocError> {
+    let mut answers = Vec::new(alloc);
+    for _ in 0..count {
+        answers.push(Status::OK.and(blank))?;
+    }
+    Ok(answers)
+}
