@@ -6,6 +6,7 @@ ghost use Rattle.conformance.specs.Plain.{HasBounds};
 
 use crate::formats::{HalfTinyBeforeS, SevenS};
 use crate::plain::{Answer, Bounds, deliver};
+use crate::small::magnitude_bits;
 use apfloat_base::sig::Loss;
 use rustc_apfloat::ieee::float::normalize;
 use rustc_apfloat::ieee::{Half, HalfS, NonfiniteBehavior, Semantics};
@@ -86,20 +87,6 @@ fn bits_of(subject: Subject, value: Answer) -> u128
 
 fn sign_bit(subject: Subject, negative: bool) -> u128 {
     if negative { subject.minus } else { 0 }
-}
-
-/// The bits of so many quanta: they are halved until the integer bit is their highest digit, and each halving adds one to
-/// the exponent, which is written from the place of the integer bit on.
-fn magnitude_bits(integer_bit: u128, quanta: u128) -> u128
-    requires { 0 < integer_bit }
-{
-    let mut significand = quanta;
-    let mut exponent = 0;
-    while significand / 2 >= integer_bit {
-        significand /= 2;
-        exponent += integer_bit;
-    }
-    exponent + significand
 }
 
 /// Compares what the library and the plain program make of `eighths / 8` quanta, in each mode and with each sign.

@@ -20,11 +20,15 @@ mod limits;
 #[cfg(test)]
 mod long_texts;
 #[cfg(test)]
+mod operations;
+#[cfg(test)]
 mod operators;
 pub mod pairs;
 #[cfg(test)]
 mod patterns;
 pub mod plain;
+#[cfg(test)]
+mod small;
 #[cfg(test)]
 mod sweeps;
 #[cfg(test)]

@@ -1,0 +1,139 @@
+//! Sums, differences, products and quotients of patterns: value and status against the plain program of one rounding.
+
+ghost use Rattle.std.specs.Prelude.{◌<◌, ◌≤◌};
+
+use crate::small::{Expected, Small, difference, product, quotient, sum};
+use crate::tables::{AWAY, DOWN, EVEN, UP, ZERO};
+use rustc_apfloat::ieee::{
+    Float8E4M3FNS, Float8E4M3FNUZS, Float8E5M2S, HalfS, IeeeFloat, Semantics,
+};
+use rustc_apfloat::{Flags, Float, Round, StatusAnd};
+use std::process::Abort;
+
+fn check<S: Semantics>(
+    rt: &impl Abort,
+    answer: StatusAnd<IeeeFloat<S>>,
+    expected: Expected,
+    operation: &str,
+    x: u128,
+    y: u128,
+)
+    requires { S.PRECISION < S.BITS }
+{
+    let got = Expected {
+        bits: answer.value.to_bits(),
+        status: answer.status.bits(),
+    };
+    assert_eq!(rt; got, expected, "{x:x} {operation} {y:x}");
+}
+
+/// The four operations on two patterns.
+fn check_pair<S: Semantics>(rt: &impl Abort, format: Small, mode: Round, x: u128, y: u128)
+    requires written { S.PRECISION < S.BITS }
+    requires multiplied { S.PRECISION ≤ 64 }
+{
+    let left = S::from_bits(x);
+    let right = S::from_bits(y);
+    check(
+        rt,
+        left.add_r(right, mode),
+        sum(format, mode, x, y),
+        "+",
+        x,
+        y,
+    );
+    check(
+        rt,
+        left.sub_r(right, mode),
+        difference(format, mode, x, y),
+        "-",
+        x,
+        y,
+    );
+    check(
+        rt,
+        left.mul_r(right, mode),
+        product(format, mode, x, y),
+        "*",
+        x,
+        y,
+    );
+    check(
+        rt,
+        left.div_r(right, mode),
+        quotient(format, mode, x, y),
+        "/",
+        x,
+        y,
+    );
+}
+
+/// All pairs of patterns of eight bits.
+fn check_all<S: Semantics>(rt: &impl Abort, format: Small, mode: Round)
+    requires written { S.PRECISION < S.BITS }
+    requires multiplied { S.PRECISION ≤ 64 }
+{
+    for x in 0..256u64 {
+        for y in 0..256u64 {
+            check_pair::<S>(rt, format, mode, u128::from(x), u128::from(y));
+        }
+    }
+}
+
+/// +0, the greatest negative number, the greatest denormal, the number below 1, 3, the lowest number, the infinity, and a
+/// NaN that signals.
+static PARTNERS: [u128; 8] = [
+    0x0000, 0x8001, 0x03ff, 0x3bff, 0x4200, 0xfbff, 0x7c00, 0x7d00,
+];
+
+/// All patterns of binary16 beside each of the partners, on either side.
+fn check_half(rt: &impl Abort, mode: Round) {
+    for pattern in 0..1u64 << 16 {
+        let bits = u128::from(pattern);
+        for partner in PARTNERS {
+            check_pair::<HalfS>(rt, Small::Half, mode, bits, partner);
+            check_pair::<HalfS>(rt, Small::Half, mode, partner, bits);
+        }
+    }
+}
+
+fn check_eight_bits(rt: &impl Abort, mode: Round) {
+    check_all::<Float8E5M2S>(rt, Small::Float8E5M2, mode);
+    check_all::<Float8E4M3FNS>(rt, Small::Float8E4M3FN, mode);
+    check_all::<Float8E4M3FNUZS>(rt, Small::Float8E4M3FNUZ, mode);
+}
+
+#[test]
+fn half_to_even(rt: HostRuntime) {
+    check_half(&rt, EVEN);
+}
+
+#[test]
+fn half_downward(rt: HostRuntime) {
+    check_half(&rt, DOWN);
+}
+
+#[test]
+fn eight_bits_to_even(rt: HostRuntime) {
+    check_eight_bits(&rt, EVEN);
+}
+
+#[test]
+fn eight_bits_to_away(rt: HostRuntime) {
+    check_eight_bits(&rt, AWAY);
+}
+
+#[test]
+fn eight_bits_upward(rt: HostRuntime) {
+    check_eight_bits(&rt, UP);
+}
+
+#[test]
+fn eight_bits_downward(rt: HostRuntime) {
+    check_eight_bits(&rt, DOWN);
+}
+
+#[test]
+fn eight_bits_toward_zero(rt: HostRuntime) {
+    check_eight_bits(&rt, ZERO);
+}

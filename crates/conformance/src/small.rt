@@ -1,0 +1,375 @@
+//! Small formats by numbers: their bits read and written by plain arithmetic, and what each operation on two patterns
+//! has to answer, by the rules for zeros, infinities and NaNs and by the plain program of one rounding.
+
+ghost use Rattle.std.specs.Prelude.{◌*◌, ◌^◌, ◌<◌, ◌≤◌};
+
+use crate::plain::{Answer, Bounds, deliver, whole};
+use crate::tables::{DIV_BY_ZERO, INEXACT, INVALID_OP, OK};
+use rustc_apfloat::ieee::NonfiniteBehavior;
+use rustc_apfloat::{Flags, Round};
+
+#[derive(Clone, Copy, Debug)]
+pub enum Small {
+    Half,
+    Float8E5M2,
+    Float8E4M3FN,
+    Float8E4M3FNUZ,
+}
+
+/// What the bits of a format stand for; patterns of positive numbers rise with them from zero to the largest.
+#[derive(Clone, Copy)]
+pub struct Layout {
+    pub bounds: Bounds,
+    /// How many quanta 1 is.
+    pub one: u128,
+    /// The bits of a minus sign.
+    pub minus: u128,
+    /// The bits of the infinity, or of the NaN in a format that has none.
+    pub past: u128,
+    /// The bit of a quiet NaN, 0 where no NaN signals.
+    pub quiet: u128,
+}
+
+pub fn layout_of(format: Small) -> Layout
+    ensures some_digits { 3 ≤ result.bounds.precision }
+    ensures few_digits { result.bounds.precision ≤ 60 }
+    ensures some_normalized { 0 < result.bounds.smallest_normalized }
+    ensures few_normalized { result.bounds.smallest_normalized < 2 ^ 60 }
+    ensures largest { result.bounds.largest < 2 ^ 40 }
+    ensures some_one { 0 < result.one }
+    ensures few_one { result.one < 2 ^ 25 }
+    ensures some_minus { 0 < result.minus }
+    ensures few_exponents { result.minus ≤ 32 * result.bounds.smallest_normalized }
+{
+    match format {
+        Small::Half => Layout {
+            bounds: Bounds {
+                precision: 11,
+                largest: 65504 << 24,
+                smallest_normalized: 1 << 10,
+                tiny_before_rounding: false,
+                nonfinite: NonfiniteBehavior::IEEE754,
+            },
+            one: 1 << 24,
+            minus: 0x8000,
+            past: 0x7c00,
+            quiet: 0x0200,
+        },
+        Small::Float8E5M2 => Layout {
+            bounds: Bounds {
+                precision: 3,
+                largest: 57344 << 16,
+                smallest_normalized: 1 << 2,
+                tiny_before_rounding: false,
+                nonfinite: NonfiniteBehavior::IEEE754,
+            },
+            one: 1 << 16,
+            minus: 0x80,
+            past: 0x7c,
+            quiet: 0x02,
+        },
+        Small::Float8E4M3FN => Layout {
+            bounds: Bounds {
+                precision: 4,
+                largest: 448 << 9,
+                smallest_normalized: 1 << 3,
+                tiny_before_rounding: false,
+                nonfinite: NonfiniteBehavior::NanOnly,
+            },
+            one: 1 << 9,
+            minus: 0x80,
+            past: 0x7f,
+            quiet: 0,
+        },
+        Small::Float8E4M3FNUZ => Layout {
+            bounds: Bounds {
+                precision: 4,
+                largest: 240 << 10,
+                smallest_normalized: 1 << 3,
+                tiny_before_rounding: false,
+                nonfinite: NonfiniteBehavior::NanNegativeZero,
+            },
+            one: 1 << 10,
+            minus: 0x80,
+            past: 0x80,
+            quiet: 0,
+        },
+    }
+}
+
+#[derive(Clone, Copy, Debug)]
+pub enum Class {
+    Number,
+    Infinity,
+    NotANumber,
+}
+
+/// What a pattern stands for; `quanta` is 0 unless it is a number.
+#[derive(Clone, Copy, Debug)]
+pub struct Operand {
+    pub class: Class,
+    pub negative: bool,
+    pub quanta: u128,
+}
+
+/// The quanta of the number that the pattern without its sign would be if all patterns were numbers.
+fn quanta_of(integer_bit: u128, magnitude: u128) -> u128
+    requires some { 0 < integer_bit }
+    requires few_exponents { magnitude < 32 * integer_bit }
+{
+    let exponent = magnitude / integer_bit;
+    let fraction = magnitude % integer_bit;
+    if exponent == 0 {
+        fraction
+    } else {
+        (integer_bit | fraction) << (exponent - 1)
+    }
+}
+
+pub fn decoded(format: Small, bits: u128) -> Operand
+    ensures { result.quanta < 2 ^ 40 }
+{
+    let layout = layout_of(format);
+    let negative = bits / layout.minus % 2 == 1;
+    let magnitude = bits % layout.minus;
+    let quanta = quanta_of(layout.bounds.smallest_normalized, magnitude);
+    if bits == layout.past || quanta > layout.bounds.largest {
+        let class = match layout.bounds.nonfinite {
+            NonfiniteBehavior::IEEE754 if magnitude == layout.past => Class::Infinity,
+            _ => Class::NotANumber,
+        };
+        return Operand {
+            class,
+            negative,
+            quanta: 0,
+        };
+    }
+    Operand {
+        class: Class::Number,
+        negative,
+        quanta,
+    }
+}
+
+/// The bits of so many quanta: they are halved until the integer bit is their highest digit, and each halving adds one to
+/// the exponent, which is written from the place of the integer bit on.
+pub fn magnitude_bits(integer_bit: u128, quanta: u128) -> u128
+    requires { 0 < integer_bit }
+{
+    let mut significand = quanta;
+    let mut exponent = 0;
+    while significand / 2 >= integer_bit {
+        significand /= 2;
+        exponent += integer_bit;
+    }
+    exponent + significand
+}
+
+/// The bits of that sign; a zero and a NaN of some formats have none.
+fn sign_bit(layout: Layout, negative: bool) -> u128 {
+    if negative { layout.minus } else { 0 }
+}
+
+/// The bits of what stands past the largest value.
+fn past_bits(layout: Layout, negative: bool) -> u128 {
+    sign_bit(layout, negative) | layout.past
+}
+
+/// The bits of an answer.
+pub fn bits_of(layout: Layout, answer: Answer) -> u128
+    requires { 0 < layout.bounds.smallest_normalized }
+{
+    match answer {
+        Answer::Finite { negative, quanta } => {
+            sign_bit(layout, negative) | magnitude_bits(layout.bounds.smallest_normalized, quanta)
+        }
+        Answer::Infinite { negative } => past_bits(layout, negative),
+        Answer::NotANumber { negative } => past_bits(layout, negative),
+    }
+}
+
+/// The bits and the status that an operation has to answer.
+#[derive(Clone, Copy, Debug, PartialEq, Eq)]
+pub struct Expected {
+    pub bits: u128,
+    pub status: u8,
+}
+
+fn exactly(bits: u128) -> Expected {
+    Expected { bits, status: OK }
+}
+
+/// The answer of an invalid operation on operands that are no NaNs: the positive quiet NaN without a payload.
+fn invalid(layout: Layout) -> Expected {
+    Expected {
+        bits: layout.past | layout.quiet,
+        status: INVALID_OP,
+    }
+}
+
+/// The magnitude `amount / parts`, in quanta, rounded once.
+fn rounded(format: Small, mode: Round, negative: bool, amount: u128, parts: u128) -> Expected
+    requires amount { amount < 2 ^ 126 }
+    requires some_parts { 0 < parts }
+    requires few_parts { parts < 2 ^ 64 }
+{
+    let layout = layout_of(format);
+    let answer = deliver(layout.bounds, mode, negative, amount, parts);
+    Expected {
+        bits: bits_of(layout, answer.value),
+        status: answer.status.bits(),
+    }
+}
+
+fn is_nan(format: Small, bits: u128) -> bool {
+    match decoded(format, bits).class {
+        Class::NotANumber => true,
+        Class::Number => false,
+        Class::Infinity => false,
+    }
+}
+
+/// Whether the pattern is a NaN that signals.
+fn signals(format: Small, bits: u128) -> bool {
+    is_nan(format, bits) && bits | layout_of(format).quiet != bits
+}
+
+/// The answer of an operation on patterns of which one at least is a NaN: the left one, made quiet.
+fn of_nans(format: Small, x: u128, y: u128) -> Expected {
+    let nan = if is_nan(format, x) { x } else { y };
+    Expected {
+        bits: nan | layout_of(format).quiet,
+        status: if signals(format, x) || signals(format, y) {
+            INVALID_OP
+        } else {
+            OK
+        },
+    }
+}
+
+/// The exact sum of two numbers of quanta, rounded once. An exact zero of unlike signs is negative downward alone.
+fn rounded_sum(format: Small, mode: Round, x: Operand, y: Operand) -> Expected
+    requires left { x.quanta < 2 ^ 40 }
+    requires right { y.quanta < 2 ^ 40 }
+{
+    if x.negative == y.negative {
+        return rounded(format, mode, x.negative, x.quanta + y.quanta, 1);
+    }
+    if x.quanta > y.quanta {
+        return rounded(format, mode, x.negative, x.quanta - y.quanta, 1);
+    }
+    if x.quanta < y.quanta {
+        return rounded(format, mode, y.negative, y.quanta - x.quanta, 1);
+    }
+    rounded(format, mode, mode == Round::TowardNegative, 0, 1)
+}
+
+/// The sum of numbers and infinities.
+fn sum_of(format: Small, mode: Round, x: Operand, y: Operand) -> Expected
+    requires left { x.quanta < 2 ^ 40 }
+    requires right { y.quanta < 2 ^ 40 }
+{
+    let layout = layout_of(format);
+    match (x.class, y.class) {
+        (Class::Number, Class::Number) => rounded_sum(format, mode, x, y),
+        (Class::Number, _) => exactly(past_bits(layout, y.negative)),
+        (_, Class::Number) => exactly(past_bits(layout, x.negative)),
+        (_, _) if x.negative == y.negative => exactly(past_bits(layout, x.negative)),
+        (_, _) => invalid(layout),
+    }
+}
+
+pub fn sum(format: Small, mode: Round, x: u128, y: u128) -> Expected {
+    if is_nan(format, x) || is_nan(format, y) {
+        return of_nans(format, x, y);
+    }
+    sum_of(format, mode, decoded(format, x), decoded(format, y))
+}
+
+pub fn difference(format: Small, mode: Round, x: u128, y: u128) -> Expected {
+    if is_nan(format, x) || is_nan(format, y) {
+        return of_nans(format, x, y);
+    }
+    let right = decoded(format, y);
+    let turned = Operand {
+        class: right.class,
+        negative: !right.negative,
+        quanta: right.quanta,
+    };
+    sum_of(format, mode, decoded(format, x), turned)
+}
+
+pub fn product(format: Small, mode: Round, x: u128, y: u128) -> Expected {
+    if is_nan(format, x) || is_nan(format, y) {
+        return of_nans(format, x, y);
+    }
+    let layout = layout_of(format);
+    let left = decoded(format, x);
+    let right = decoded(format, y);
+    let negative = left.negative != right.negative;
+    match (left.class, right.class) {
+        (Class::Number, Class::Number) => {
+            rounded(
+                format,
+                mode,
+                negative,
+                left.quanta * right.quanta,
+                layout.one,
+            )
+        }
+        (Class::Number, _) if left.quanta == 0 => invalid(layout),
+        (_, Class::Number) if right.quanta == 0 => invalid(layout),
+        (_, _) => exactly(past_bits(layout, negative)),
+    }
+}
+
+pub fn quotient(format: Small, mode: Round, x: u128, y: u128) -> Expected {
+    if is_nan(format, x) || is_nan(format, y) {
+        return of_nans(format, x, y);
+    }
+    let layout = layout_of(format);
+    let left = decoded(format, x);
+    let right = decoded(format, y);
+    let negative = left.negative != right.negative;
+    match (left.class, right.class) {
+        (Class::Number, Class::Number) => {
+            quotient_of_numbers(format, mode, negative, left.quanta, right.quanta)
+        }
+        (Class::Number, _) => exactly(sign_bit(layout, negative)),
+        (_, Class::Number) => exactly(past_bits(layout, negative)),
+        (_, _) => invalid(layout),
+    }
+}
+
+fn quotient_of_numbers(format: Small, mode: Round, negative: bool, x: u128, y: u128) -> Expected
+    requires left { x < 2 ^ 40 }
+    requires right { y < 2 ^ 40 }
+{
+    let layout = layout_of(format);
+    match (x, y) {
+        (0, 0) => invalid(layout),
+        (_, 0) => Expected {
+            bits: past_bits(layout, negative),
+            status: DIV_BY_ZERO,
+        },
+        (_, _) => rounded(format, mode, negative, x * layout.one, y),
+    }
+}
+
+/// The answer of rounding the pattern to a whole number.
+pub fn integral(format: Small, mode: Round, bits: u128) -> Expected {
+    let layout = layout_of(format);
+    let x = decoded(format, bits);
+    match x.class {
+        Class::NotANumber => of_nans(format, bits, bits),
+        Class::Infinity => exactly(bits),
+        Class::Number => {
+            let quanta = whole(mode, x.negative, x.quanta, layout.one) * layout.one;
+            let status = if quanta == x.quanta { OK } else { INEXACT };
+            Expected {
+                bits: rounded(format, mode, x.negative, quanta, 1).bits,
+                status,
+            }
+        }
+    }
+}
