@@ -1,0 +1,7 @@
+use Rattle.apfloat_c.proofs.Answers.{fraction_answer}
+use Rattle.apfloat_c.proofs.values.fraction.Goals as goal
+
+pub returns : goal.returns
+returns g c =
+    fraction_answer _ c.args.x _ _ c.frexp_r-fraction.new.exp c.shown.result c.from_bits.ensures.read
+    c.frexp_r-fraction.ensures c.shown.ensures

@@ -1,0 +1,57 @@
+//! What can be asked of a format.
+
+use crate::codes::Format;
+
+/// An operation on two values.
+#[derive(Clone, Copy)]
+pub enum Arithmetic {
+    /// The first plus the second.
+    Sum,
+    /// The first minus the second.
+    Difference,
+    /// The first times the second.
+    Product,
+    /// The first divided by the second.
+    Quotient,
+    /// The remainder by the whole number nearest to the quotient, a tie to the even one.
+    NearestRemainder,
+    /// The remainder by the quotient cut toward zero.
+    TruncatedRemainder,
+}
+
+/// An operation with its operands, values by their bits.
+#[derive(Clone, Copy)]
+pub enum Call<'a> {
+    /// Of two values.
+    OfTwo(Arithmetic, u128, u128),
+    /// The product of the first two values plus the third, rounded once.
+    FusedSum(u128, u128, u128),
+    /// A whole number as a value.
+    FromUnsigned(u128),
+    /// A whole number with a sign as a value.
+    FromSigned(i128),
+    /// A value as a whole number of so many digits.
+    ToUnsigned(u128, u32),
+    /// A value as a whole number of so many digits in two's complement.
+    ToSigned(u128, u32),
+    /// The whole number beside a value.
+    RoundToIntegral(u128),
+    /// A value times a power of two.
+    Scaling(u128, i32),
+    /// The fraction of a value, with its exponent.
+    Fraction(u128),
+    /// The exponent of the highest digit.
+    Exponent(u128),
+    /// The least value above.
+    NextUp(u128),
+    /// The greatest value below.
+    NextDown(u128),
+    /// The order of two values.
+    Comparison(u128, u128),
+    /// The class of a value.
+    Class(u128),
+    /// The value in another format, if that is known.
+    Conversion(u128, Option<Format>),
+    /// The value of a text.
+    Text(&'a [u8]),
+}

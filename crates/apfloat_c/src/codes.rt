@@ -1,0 +1,133 @@
+//! What codes stand for.
+
+ghost use Rattle.std.specs.Prelude.{◌≡◌, ◌&&◌, nat_le};
+ghost use Rattle.apfloat_c.specs.Answers.{class_code, one_if, order_code};
+ghost use Rattle.apfloat_c.specs.Requests.{formats, found, may_compute, modes};
+
+use crate::call::Arithmetic;
+use rustc_apfloat::{Category, Round};
+use std::cmp::Ordering;
+
+/// The kinds of values: those of the built-in formats that have bits, and pairs of doubles.
+#[derive(Clone, Copy)]
+pub enum Format {
+    Half,
+    Single,
+    Double,
+    Quad,
+    BFloat,
+    E5M2,
+    E4M3FN,
+    E4M3FNUZ,
+    X87,
+    DoubleDouble,
+}
+
+/// What an export returns where it answered.
+pub const ANSWERED: u32 = 0;
+
+/// The error of a format without a code.
+pub const UNKNOWN_FORMAT: u32 = 1;
+
+/// The error of a rounding mode without a code.
+pub const UNKNOWN_MODE: u32 = 2;
+
+/// The error of an operation that the format does not have.
+pub const NO_SUCH_OPERATION: u32 = 3;
+
+/// The error of a width that whole numbers cannot have.
+pub const WRONG_WIDTH: u32 = 4;
+
+/// The error of a text without a meaning.
+pub const REFUSED_TEXT: u32 = 5;
+
+/// The format of a code.
+pub fn format_of(code: u32) -> Option<Format>
+    ensures { result ≡ found formats code }
+{
+    match code {
+        1 => Some(Format::Half),
+        2 => Some(Format::Single),
+        3 => Some(Format::Double),
+        4 => Some(Format::Quad),
+        5 => Some(Format::BFloat),
+        6 => Some(Format::E5M2),
+        7 => Some(Format::E4M3FN),
+        8 => Some(Format::E4M3FNUZ),
+        9 => Some(Format::X87),
+        10 => Some(Format::DoubleDouble),
+        _ => None,
+    }
+}
+
+/// The rounding mode of a code.
+pub fn mode_of(code: u32) -> Option<Round>
+    ensures { result ≡ found modes code }
+{
+    match code {
+        0 => Some(Round::NearestTiesToEven),
+        1 => Some(Round::TowardPositive),
+        2 => Some(Round::TowardNegative),
+        3 => Some(Round::TowardZero),
+        4 => Some(Round::NearestTiesToAway),
+        _ => None,
+    }
+}
+
+/// Whether a format of this precision has an operation on two values.
+pub fn may_compute(precision: usize, arithmetic: Arithmetic) -> bool
+    ensures { result ≡ may_compute precision arithmetic }
+{
+    match arithmetic {
+        Arithmetic::Product => precision <= 64,
+        Arithmetic::Sum => true,
+        Arithmetic::Difference => true,
+        Arithmetic::Quotient => true,
+        Arithmetic::NearestRemainder => true,
+        Arithmetic::TruncatedRemainder => true,
+    }
+}
+
+/// Whether a whole number can have this width, which is at least so much.
+pub fn is_width(least: u32, width: u32) -> bool
+    ensures { result ≡ (nat_le least width && nat_le width 128) }
+{
+    least <= width && width <= 128
+}
+
+/// 1 where it holds, and else 0.
+pub fn one_if(holds: bool) -> i32
+    ensures { result ≡ one_if holds }
+{
+    if holds { 1 } else { 0 }
+}
+
+/// The code of an order: -1, 0 or 1, and 2 beside a NaN.
+pub fn order_code(order: Option<Ordering>) -> i32
+    ensures { result ≡ order_code order }
+{
+    match order {
+        Some(Ordering::Less) => -1,
+        Some(Ordering::Equal) => 0,
+        Some(Ordering::Greater) => 1,
+        None => 2,
+    }
+}
+
+/// The code of the class of a value of this category and sign (IEEE 754-2008 5.7.2).
+pub fn class_code(category: Category, negative: bool, denormal: bool, signaling: bool) -> i32
+    ensures { result ≡ class_code category negative denormal signaling }
+{
+    match category {
+        Category::NaN => if signaling { 0 } else { 1 },
+        Category::Infinity => if negative { 2 } else { 9 },
+        Category::Normal => {
+            if negative {
+                if denormal { 4 } else { 3 }
+            } else {
+                if denormal { 7 } else { 8 }
+            }
+        }
+        Category::Zero => if negative { 5 } else { 6 },
+    }
+}

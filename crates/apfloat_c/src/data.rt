@@ -1,0 +1,76 @@
+//! What crosses between C and the library.
+
+ghost use Rattle.std.specs.Prelude.{◌≡◌};
+ghost use Rattle.rustc_apfloat.specs.Flags.{bits_of};
+ghost use Rattle.apfloat_c.specs.Answers.{whole};
+
+use rustc_apfloat::{Flags, Status};
+
+/// A number of 128 bits as two of 64.
+#[repr(C)]
+#[derive(Clone, Copy)]
+pub struct Halves {
+    /// The lower half.
+    pub low: u64,
+    /// The upper half.
+    pub high: u64,
+}
+
+/// What a call answers. A part that a call does not have is 0.
+#[repr(C)]
+#[derive(Clone, Copy)]
+pub struct Answer {
+    /// The bits of a value, or a whole number.
+    pub bits: Halves,
+    /// The flags that the operation raised.
+    pub status: u32,
+    /// What a call answers beside these: an exponent, an order, a class, or whether a conversion was exact.
+    pub number: i32,
+}
+
+impl Halves {
+    /// The number of these halves.
+    pub fn number(self) -> u128
+        ensures { result ≡ whole self }
+    {
+        self.low as u128 + self.high as u128 * (1 << 64)
+    }
+
+    /// The halves of a number.
+    pub fn of(number: u128) -> Halves
+        ensures { whole result ≡ number }
+    {
+        Halves {
+            low: (number % (1 << 64)) as u64,
+            high: (number / (1 << 64)) as u64,
+        }
+    }
+}
+
+impl Answer {
+    /// An answer that is a number alone.
+    pub fn number(number: i32) -> Answer
+        ensures bits { whole result.bits ≡ 0 }
+        ensures status { result.status ≡ 0 }
+        ensures number { result.number ≡ number }
+    {
+        Answer {
+            bits: Halves { low: 0, high: 0 },
+            status: 0,
+            number,
+        }
+    }
+
+    /// An answer of bits, flags and a number.
+    pub fn of(bits: u128, status: Status, number: i32) -> Answer
+        ensures bits { whole result.bits ≡ bits }
+        ensures status { result.status ≡ bits_of status }
+        ensures number { result.number ≡ number }
+    {
+        Answer {
+            bits: Halves::of(bits),
+            status: status.bits() as u32,
+            number,
+        }
+    }
+}

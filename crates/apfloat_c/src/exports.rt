@@ -1,0 +1,370 @@
+//! The exports, which `include/apfloat.h` declares for programs in C.
+
+ghost use Rattle.std.specs.Prelude.{Some};
+ghost use Rattle.std.specs.Int.{cast_signed, w128};
+ghost use Rattle.rustc_apfloat.specs.declared.Round.TheVariants.{NearestTiesToEven};
+ghost use Rattle.apfloat_c.specs.declared.call.Arithmetic.TheVariants.{Sum, Difference, Product, Quotient, NearestRemainder, TruncatedRemainder};
+ghost use Rattle.apfloat_c.specs.declared.call.Call.TheVariants.{OfTwo, FusedSum, FromUnsigned, FromSigned, ToUnsigned, ToSigned, RoundToIntegral, Scaling, Fraction, Exponent, NextUp, NextDown, Comparison, Class, Conversion, Text};
+ghost use Rattle.apfloat_c.specs.Requests.{asked, formats, found, modes};
+ghost use Rattle.apfloat_c.specs.Answers.{IsReply, whole};
+
+use crate::call::{Arithmetic, Call};
+use crate::codes::{format_of, mode_of};
+use crate::data::{Answer, Halves};
+use crate::reply::reply;
+use rustc_apfloat::Round;
+
+/// The sum of two values, rounded once.
+#[unsafe(no_mangle)]
+pub extern "C" fn apfloat_add(
+    format: u32,
+    mode: u32,
+    x: Halves,
+    y: Halves,
+    answer: &mut Answer,
+) -> u32
+    ensures { let call = OfTwo Sum (whole x) (whole y) in
+        IsReply (asked (found formats format) (found modes mode) call) answer.old answer.new result }
+{
+    reply(
+        format,
+        mode_of(mode),
+        Call::OfTwo(Arithmetic::Sum, x.number(), y.number()),
+        answer,
+    )
+}
+
+/// The difference of two values, rounded once.
+#[unsafe(no_mangle)]
+pub extern "C" fn apfloat_sub(
+    format: u32,
+    mode: u32,
+    x: Halves,
+    y: Halves,
+    answer: &mut Answer,
+) -> u32
+    ensures { let call = OfTwo Difference (whole x) (whole y) in
+        IsReply (asked (found formats format) (found modes mode) call) answer.old answer.new result }
+{
+    reply(
+        format,
+        mode_of(mode),
+        Call::OfTwo(Arithmetic::Difference, x.number(), y.number()),
+        answer,
+    )
+}
+
+/// The product of two values, rounded once; a format of more than 64 digits has none.
+#[unsafe(no_mangle)]
+pub extern "C" fn apfloat_mul(
+    format: u32,
+    mode: u32,
+    x: Halves,
+    y: Halves,
+    answer: &mut Answer,
+) -> u32
+    ensures { let call = OfTwo Product (whole x) (whole y) in
+        IsReply (asked (found formats format) (found modes mode) call) answer.old answer.new result }
+{
+    reply(
+        format,
+        mode_of(mode),
+        Call::OfTwo(Arithmetic::Product, x.number(), y.number()),
+        answer,
+    )
+}
+
+/// The quotient of two values, rounded once.
+#[unsafe(no_mangle)]
+pub extern "C" fn apfloat_div(
+    format: u32,
+    mode: u32,
+    x: Halves,
+    y: Halves,
+    answer: &mut Answer,
+) -> u32
+    ensures { let call = OfTwo Quotient (whole x) (whole y) in
+        IsReply (asked (found formats format) (found modes mode) call) answer.old answer.new result }
+{
+    reply(
+        format,
+        mode_of(mode),
+        Call::OfTwo(Arithmetic::Quotient, x.number(), y.number()),
+        answer,
+    )
+}
+
+/// The remainder by the whole number nearest to the quotient, a tie to the even one.
+#[unsafe(no_mangle)]
+pub extern "C" fn apfloat_rem(format: u32, x: Halves, y: Halves, answer: &mut Answer) -> u32
+    ensures { let call = OfTwo NearestRemainder (whole x) (whole y) in
+        IsReply (asked (found formats format) (Some NearestTiesToEven) call) answer.old answer.new result }
+{
+    reply(
+        format,
+        Some(Round::NearestTiesToEven),
+        Call::OfTwo(Arithmetic::NearestRemainder, x.number(), y.number()),
+        answer,
+    )
+}
+
+/// The remainder by the quotient cut toward zero, as `fmod` of C.
+#[unsafe(no_mangle)]
+pub extern "C" fn apfloat_mod(format: u32, x: Halves, y: Halves, answer: &mut Answer) -> u32
+    ensures { let call = OfTwo TruncatedRemainder (whole x) (whole y) in
+        IsReply (asked (found formats format) (Some NearestTiesToEven) call) answer.old answer.new result }
+{
+    reply(
+        format,
+        Some(Round::NearestTiesToEven),
+        Call::OfTwo(Arithmetic::TruncatedRemainder, x.number(), y.number()),
+        answer,
+    )
+}
+
+/// The product of two values plus a third, rounded once; a format of more than 63 digits has none, nor have pairs.
+#[unsafe(no_mangle)]
+pub extern "C" fn apfloat_fma(
+    format: u32,
+    mode: u32,
+    x: Halves,
+    y: Halves,
+    z: Halves,
+    answer: &mut Answer,
+) -> u32
+    ensures { let call = FusedSum (whole x) (whole y) (whole z) in
+        IsReply (asked (found formats format) (found modes mode) call) answer.old answer.new result }
+{
+    reply(
+        format,
+        mode_of(mode),
+        Call::FusedSum(x.number(), y.number(), z.number()),
+        answer,
+    )
+}
+
+/// A value in another format, and in `number` whether information was lost. Pairs of doubles have no conversion.
+#[unsafe(no_mangle)]
+pub extern "C" fn apfloat_convert(
+    format: u32,
+    mode: u32,
+    to: u32,
+    x: Halves,
+    answer: &mut Answer,
+) -> u32
+    ensures { let call = Conversion (whole x) (found formats to) in
+        IsReply (asked (found formats format) (found modes mode) call) answer.old answer.new result }
+{
+    reply(
+        format,
+        mode_of(mode),
+        Call::Conversion(x.number(), format_of(to)),
+        answer,
+    )
+}
+
+/// A whole number as a value, rounded once.
+#[unsafe(no_mangle)]
+pub extern "C" fn apfloat_from_u128(
+    format: u32,
+    mode: u32,
+    number: Halves,
+    answer: &mut Answer,
+) -> u32
+    ensures { let call = FromUnsigned (whole number) in
+        IsReply (asked (found formats format) (found modes mode) call) answer.old answer.new result }
+{
+    reply(
+        format,
+        mode_of(mode),
+        Call::FromUnsigned(number.number()),
+        answer,
+    )
+}
+
+/// A whole number in two's complement as a value, rounded once.
+#[unsafe(no_mangle)]
+pub extern "C" fn apfloat_from_i128(
+    format: u32,
+    mode: u32,
+    number: Halves,
+    answer: &mut Answer,
+) -> u32
+    ensures { let call = FromSigned (cast_signed w128 (whole number)) in
+        IsReply (asked (found formats format) (found modes mode) call) answer.old answer.new result }
+{
+    reply(
+        format,
+        mode_of(mode),
+        Call::FromSigned(number.number().cast_signed()),
+        answer,
+    )
+}
+
+/// A value as a whole number of `width` binary digits, 1 to 128, in `bits`; in `number` whether it is the value.
+#[unsafe(no_mangle)]
+pub extern "C" fn apfloat_to_u128(
+    format: u32,
+    mode: u32,
+    x: Halves,
+    width: u32,
+    answer: &mut Answer,
+) -> u32
+    ensures { let call = ToUnsigned (whole x) width in
+        IsReply (asked (found formats format) (found modes mode) call) answer.old answer.new result }
+{
+    reply(
+        format,
+        mode_of(mode),
+        Call::ToUnsigned(x.number(), width),
+        answer,
+    )
+}
+
+/// A value as a whole number of `width` binary digits, 2 to 128, in two's complement of 128 digits in `bits`; in
+/// `number` whether it is the value.
+#[unsafe(no_mangle)]
+pub extern "C" fn apfloat_to_i128(
+    format: u32,
+    mode: u32,
+    x: Halves,
+    width: u32,
+    answer: &mut Answer,
+) -> u32
+    ensures { let call = ToSigned (whole x) width in
+        IsReply (asked (found formats format) (found modes mode) call) answer.old answer.new result }
+{
+    reply(
+        format,
+        mode_of(mode),
+        Call::ToSigned(x.number(), width),
+        answer,
+    )
+}
+
+/// The whole number beside a value, as a value.
+#[unsafe(no_mangle)]
+pub extern "C" fn apfloat_round_to_integral(
+    format: u32,
+    mode: u32,
+    x: Halves,
+    answer: &mut Answer,
+) -> u32
+    ensures { let call = RoundToIntegral (whole x) in
+        IsReply (asked (found formats format) (found modes mode) call) answer.old answer.new result }
+{
+    reply(
+        format,
+        mode_of(mode),
+        Call::RoundToIntegral(x.number()),
+        answer,
+    )
+}
+
+/// A value times 2 to the power of `power`, rounded once, without flags.
+#[unsafe(no_mangle)]
+pub extern "C" fn apfloat_scalbn(
+    format: u32,
+    mode: u32,
+    x: Halves,
+    power: i32,
+    answer: &mut Answer,
+) -> u32
+    ensures { let call = Scaling (whole x) power in
+        IsReply (asked (found formats format) (found modes mode) call) answer.old answer.new result }
+{
+    reply(
+        format,
+        mode_of(mode),
+        Call::Scaling(x.number(), power),
+        answer,
+    )
+}
+
+/// The exponent of the highest binary digit, in `number`.
+#[unsafe(no_mangle)]
+pub extern "C" fn apfloat_ilogb(format: u32, x: Halves, answer: &mut Answer) -> u32
+    ensures { let call = Exponent (whole x) in
+        IsReply (asked (found formats format) (Some NearestTiesToEven) call) answer.old answer.new result }
+{
+    reply(
+        format,
+        Some(Round::NearestTiesToEven),
+        Call::Exponent(x.number()),
+        answer,
+    )
+}
+
+/// The fraction of a value, from a half to below 1, and in `number` its exponent. Only pairs of doubles use the mode.
+#[unsafe(no_mangle)]
+pub extern "C" fn apfloat_frexp(format: u32, mode: u32, x: Halves, answer: &mut Answer) -> u32
+    ensures { let call = Fraction (whole x) in
+        IsReply (asked (found formats format) (found modes mode) call) answer.old answer.new result }
+{
+    reply(format, mode_of(mode), Call::Fraction(x.number()), answer)
+}
+
+/// The least value above.
+#[unsafe(no_mangle)]
+pub extern "C" fn apfloat_next_up(format: u32, x: Halves, answer: &mut Answer) -> u32
+    ensures { let call = NextUp (whole x) in
+        IsReply (asked (found formats format) (Some NearestTiesToEven) call) answer.old answer.new result }
+{
+    reply(
+        format,
+        Some(Round::NearestTiesToEven),
+        Call::NextUp(x.number()),
+        answer,
+    )
+}
+
+/// The greatest value below.
+#[unsafe(no_mangle)]
+pub extern "C" fn apfloat_next_down(format: u32, x: Halves, answer: &mut Answer) -> u32
+    ensures { let call = NextDown (whole x) in
+        IsReply (asked (found formats format) (Some NearestTiesToEven) call) answer.old answer.new result }
+{
+    reply(
+        format,
+        Some(Round::NearestTiesToEven),
+        Call::NextDown(x.number()),
+        answer,
+    )
+}
+
+/// The order of two values in `number`: -1, 0 or 1, and 2 beside a NaN.
+#[unsafe(no_mangle)]
+pub extern "C" fn apfloat_compare(format: u32, x: Halves, y: Halves, answer: &mut Answer) -> u32
+    ensures { let call = Comparison (whole x) (whole y) in
+        IsReply (asked (found formats format) (Some NearestTiesToEven) call) answer.old answer.new result }
+{
+    reply(
+        format,
+        Some(Round::NearestTiesToEven),
+        Call::Comparison(x.number(), y.number()),
+        answer,
+    )
+}
+
+/// The class of a value in `number` (IEEE 754-2008 5.7.2).
+#[unsafe(no_mangle)]
+pub extern "C" fn apfloat_classify(format: u32, x: Halves, answer: &mut Answer) -> u32
+    ensures { let call = Class (whole x) in
+        IsReply (asked (found formats format) (Some NearestTiesToEven) call) answer.old answer.new result }
+{
+    reply(
+        format,
+        Some(Round::NearestTiesToEven),
+        Call::Class(x.number()),
+        answer,
+    )
+}
+
+/// The value of a text, rounded once; one with a byte above 127 is refused.
+#[unsafe(no_mangle)]
+pub extern "C" fn apfloat_parse(format: u32, mode: u32, text: &[u8], answer: &mut Answer) -> u32
+    ensures { let call = Text text.entry in
+        IsReply (asked (found formats format) (found modes mode) call) answer.old answer.new result }
+{
+    reply(format, mode_of(mode), Call::Text(text), answer)
+}

@@ -1,0 +1,112 @@
+/* A constant folder: reads lines FORMAT OP MODE OPERAND.., and prints the bits and the flags of each answer.
+ *
+ * OP is add, sub, mul, div, rem or mod of two values, fma of three, or parse of a text. A value is written by its bits in
+ * hexadecimal. Build it at the top of the repository, after `rt lib` in crates/apfloat_c:
+ *
+ *   cc -std=c99 -Wall -Wextra -O2 -Iinclude examples/c/fold.c crates/apfloat_c/out/libapfloat_c.a -o fold
+ *
+ * and run it as `./fold < examples/c/lines`. */
+#include "apfloat.h"
+
+#include <stdbool.h>
+#include <stdio.h>
+#include <string.h>
+
+struct code {
+    const char *name;
+    uint32_t code;
+};
+
+static const struct code formats[] = {
+    {"half", APFLOAT_HALF},     {"single", APFLOAT_SINGLE}, {"double", APFLOAT_DOUBLE},
+    {"quad", APFLOAT_QUAD},     {"bfloat", APFLOAT_BFLOAT}, {"e5m2", APFLOAT_E5M2},
+    {"e4m3fn", APFLOAT_E4M3FN}, {"x87", APFLOAT_X87},       {"e4m3fnuz", APFLOAT_E4M3FNUZ},
+    {"dd", APFLOAT_DOUBLE_PAIR}};
+
+static const struct code modes[] = {{"even", APFLOAT_NEAREST_EVEN},
+                                    {"up", APFLOAT_UPWARD},
+                                    {"down", APFLOAT_DOWNWARD},
+                                    {"zero", APFLOAT_TOWARD_ZERO},
+                                    {"away", APFLOAT_NEAREST_AWAY}};
+
+static const struct code flags[] = {{"INVALID_OP", APFLOAT_INVALID_OP},
+                                    {"DIV_BY_ZERO", APFLOAT_DIV_BY_ZERO},
+                                    {"OVERFLOW", APFLOAT_OVERFLOW},
+                                    {"UNDERFLOW", APFLOAT_UNDERFLOW},
+                                    {"INEXACT", APFLOAT_INEXACT}};
+
+#define COUNT(table) (sizeof(table) / sizeof((table)[0]))
+
+/* The code of a name; one that the library refuses, where the name has none. */
+static uint32_t code_of(const struct code *table, size_t count, const char *name) {
+    for (size_t i = 0; i < count; i++)
+        if (strcmp(table[i].name, name) == 0) return table[i].code;
+    return UINT32_MAX;
+}
+
+/* Hexadecimal digits, behind 0x or without it, as bits. */
+static bool read_bits(const char *word, apfloat_halves *bits) {
+    bits->low = bits->high = 0;
+    if (strncmp(word, "0x", 2) == 0) word += 2;
+    size_t digits = strlen(word);
+    if (digits == 0 || digits > 32) return false;
+    for (; *word; word++) {
+        const char *all = "0123456789abcdef", *digit = strchr(all, *word);
+        if (!digit) return false;
+        bits->high = bits->high << 4 | bits->low >> 60;
+        bits->low = bits->low << 4 | (uint64_t)(digit - all);
+    }
+    return true;
+}
+
+/* Answers one line; the return value is the library's, or UINT32_MAX for an operation or operands that are none. */
+static uint32_t fold(char *words[], size_t count, apfloat_answer *answer) {
+    if (count < 4) return UINT32_MAX;
+    uint32_t format = code_of(formats, COUNT(formats), words[0]);
+    uint32_t mode = code_of(modes, COUNT(modes), words[2]);
+    const char *op = words[1];
+    if (strcmp(op, "parse") == 0)
+        return apfloat_parse(format, mode, (const uint8_t *)words[3], strlen(words[3]), answer);
+    apfloat_halves x[3];
+    for (size_t i = 3; i < count; i++)
+        if (!read_bits(words[i], &x[i - 3])) return UINT32_MAX;
+    if (count == 6 && strcmp(op, "fma") == 0) return apfloat_fma(format, mode, x[0], x[1], x[2], answer);
+    if (count != 5) return UINT32_MAX;
+    if (strcmp(op, "add") == 0) return apfloat_add(format, mode, x[0], x[1], answer);
+    if (strcmp(op, "sub") == 0) return apfloat_sub(format, mode, x[0], x[1], answer);
+    if (strcmp(op, "mul") == 0) return apfloat_mul(format, mode, x[0], x[1], answer);
+    if (strcmp(op, "div") == 0) return apfloat_div(format, mode, x[0], x[1], answer);
+    if (strcmp(op, "rem") == 0) return apfloat_rem(format, x[0], x[1], answer);
+    if (strcmp(op, "mod") == 0) return apfloat_mod(format, x[0], x[1], answer);
+    return UINT32_MAX;
+}
+
+static void print(const apfloat_answer *answer) {
+    if (answer->bits.high)
+        printf("0x%llx%016llx", (unsigned long long)answer->bits.high, (unsigned long long)answer->bits.low);
+    else
+        printf("0x%llx", (unsigned long long)answer->bits.low);
+    const char *before = " ";
+    for (size_t i = 0; i < COUNT(flags); i++)
+        if (answer->status & flags[i].code) {
+            printf("%s%s", before, flags[i].name);
+            before = "|";
+        }
+    puts(answer->status ? "" : " OK");
+}
+
+int main(void) {
+    char line[4096];
+    while (fgets(line, sizeof line, stdin)) {
+        char *words[6];
+        size_t count = 0;
+        for (char *word = strtok(line, " \n"); word && count < 6; word = strtok(NULL, " \n")) words[count++] = word;
+        apfloat_answer answer;
+        uint32_t code = fold(words, count, &answer);
+        if (code == APFLOAT_ANSWERED)
+            print(&answer);
+        else
+            printf("refused: %d\n", code == UINT32_MAX ? -1 : (int)code);
+    }
+    return 0;
+}
