@@ -15,7 +15,8 @@ use apfloat_unpacked::unpacked::Unpacked;
 fn is_below_normal(shape: Shape, x: Unpacked) -> bool
     requires lawful { IsShape shape }
     requires normal { IsNormal shape x.significand x.exponent }
-    ensures { result ≡ ltb (quanta_at shape.min_exp x.significand x.exponent) (smallest_normalized (format_at shape)) }
+    ensures { result ≡ ltb (quanta_at shape.min_exp x.significand x.exponent)
+        (smallest_normalized (format_at shape)) }
 {
     x.exponent < shape.min_exp
 }

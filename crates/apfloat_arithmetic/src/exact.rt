@@ -19,8 +19,11 @@ use apfloat_unpacked::unpacked::{Unpacked, infinity_of, zero_of};
 pub fn exact_zero(shape: Shape, negative: bool) -> StatusAnd<Unpacked>
     requires { IsShape shape }
     ensures stored { IsStored shape result.value }
-    ensures answer { IsAnswer (signed_quanta shape.nonfinite negative 0) ok_bits (datum_at shape result.value) (bits_of result.status) }
-    ensures delivered { (round : Round) (parts : ℕ) → 0 < parts → IsDelivered (format_at shape) round negative 0 parts (datum_at shape result.value) (bits_of result.status) }
+    ensures answer { IsAnswer (signed_quanta shape.nonfinite negative 0) ok_bits
+        (datum_at shape result.value) (bits_of result.status) }
+    ensures delivered { (round : Round) (parts : ℕ) → 0 < parts
+        → IsDelivered (format_at shape) round negative 0 parts (datum_at shape result.value)
+        (bits_of result.status) }
 {
     Status::OK.and(zero_of(shape, negative))
 }
@@ -31,7 +34,8 @@ pub fn exact_infinity(shape: Shape, negative: bool) -> StatusAnd<Unpacked>
     requires lawful { IsShape shape }
     requires infinities { shape.nonfinite ≡ IEEE754 }
     ensures stored { IsStored shape result.value }
-    ensures answer { IsAnswer (infinite negative) ok_bits (datum_at shape result.value) (bits_of result.status) }
+    ensures answer { IsAnswer (infinite negative) ok_bits (datum_at shape result.value)
+        (bits_of result.status) }
 {
     Status::OK.and(infinity_of(shape, negative))
 }

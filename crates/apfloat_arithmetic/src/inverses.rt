@@ -31,7 +31,8 @@ pub fn exact_inverse(shape: Shape, x: Unpacked) -> Option<Unpacked>
     requires lawful { IsShape shape }
     requires stored { IsStored shape x }
     ensures stored { (inverse : Unpacked) → result ≡ Some inverse → IsStored shape inverse }
-    ensures inverse { IsExactInverse (format_at shape) (datum_at shape x) (option_map (datum_at shape) result) }
+    ensures inverse { IsExactInverse (format_at shape) (datum_at shape x)
+        (option_map (datum_at shape) result) }
 {
     match x.category {
         Category::Normal => {

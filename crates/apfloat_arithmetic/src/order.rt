@@ -18,7 +18,10 @@ use std::cmp::Ordering;
 /// first.
 #[inline(always)]
 fn compare_significands(x: Unpacked, y: Unpacked) -> Ordering
-    ensures { (shape : Shape) → IsNormal shape x.significand x.exponent → IsNormal shape y.significand y.exponent → result ≡ nat_cmp (quanta_at shape.min_exp x.significand x.exponent) (quanta_at shape.min_exp y.significand y.exponent) }
+    ensures { (shape : Shape) → IsNormal shape x.significand x.exponent
+        → IsNormal shape y.significand y.exponent
+        → result ≡ nat_cmp (quanta_at shape.min_exp x.significand x.exponent)
+        (quanta_at shape.min_exp y.significand y.exponent) }
 {
     x.exponent
         .cmp(&y.exponent)
@@ -30,7 +33,8 @@ fn compare_significands(x: Unpacked, y: Unpacked) -> Ordering
 pub fn compare_magnitudes(x: Unpacked, y: Unpacked) -> Ordering
     requires left { x.category ≡ Normal }
     requires right { y.category ≡ Normal }
-    ensures { (shape : Shape) → IsStored shape x → IsStored shape y → result ≡ compared_magnitudes (datum_at shape x) (datum_at shape y) }
+    ensures { (shape : Shape) → IsStored shape x → IsStored shape y
+        → result ≡ compared_magnitudes (datum_at shape x) (datum_at shape y) }
 {
     compare_significands(x, y)
 }
@@ -63,7 +67,9 @@ fn side(x: Unpacked) -> u8
 /// The order of two values that stand on one side.
 #[inline(always)]
 fn compare_beside(x: Unpacked, y: Unpacked) -> Ordering
-    ensures { (shape : Shape) → IsStored shape x → IsStored shape y → side (datum_at shape x) ≡ side (datum_at shape y) → result ≡ int_cmp (number (datum_at shape x)) (number (datum_at shape y)) }
+    ensures { (shape : Shape) → IsStored shape x → IsStored shape y
+        → side (datum_at shape x) ≡ side (datum_at shape y)
+        → result ≡ int_cmp (number (datum_at shape x)) (number (datum_at shape y)) }
 {
     match x.category {
         Category::Normal => {
@@ -83,7 +89,8 @@ fn compare_beside(x: Unpacked, y: Unpacked) -> Ordering
 /// (IEEE 754-2008 5.11).
 #[inline(always)]
 pub fn compare(x: Unpacked, y: Unpacked) -> Option<Ordering>
-    ensures { (shape : Shape) → IsStored shape x → IsStored shape y → result ≡ compared (datum_at shape x) (datum_at shape y) }
+    ensures { (shape : Shape) → IsStored shape x → IsStored shape y
+        → result ≡ compared (datum_at shape x) (datum_at shape y) }
 {
     if is_nan(x) || is_nan(y) {
         return None;
@@ -117,7 +124,8 @@ fn same_number(x: Unpacked, y: Unpacked) -> bool
 /// Whether two values are one: of one class and sign, and with the same number or the same significand of a NaN.
 #[inline(always)]
 pub fn is_same(x: Unpacked, y: Unpacked) -> bool
-    ensures { (shape : Shape) → IsStored shape x → IsStored shape y → result ≡ same_datum (datum_at shape x) (datum_at shape y) }
+    ensures { (shape : Shape) → IsStored shape x → IsStored shape y
+        → result ≡ same_datum (datum_at shape x) (datum_at shape y) }
 {
     same_class(x, y) && same_number(x, y)
 }

@@ -64,7 +64,10 @@ fn divide_numbers(shape: Shape, x: Unpacked, y: Unpacked, round: Round) -> Statu
     requires left { IsNormal shape x.significand x.exponent }
     requires right { IsNormal shape y.significand y.exponent }
     ensures stored { IsStored shape result.value }
-    ensures delivered { IsDelivered (format_at shape) round (product_sign x.negative y.negative) (quanta_at shape.min_exp x.significand x.exponent * 2 ^ (format_at shape).scale) (quanta_at shape.min_exp y.significand y.exponent) (datum_at shape result.value) (bits_of result.status) }
+    ensures delivered { IsDelivered (format_at shape) round (product_sign x.negative y.negative)
+        (quanta_at shape.min_exp x.significand x.exponent * 2 ^ (format_at shape).scale)
+        (quanta_at shape.min_exp y.significand y.exponent) (datum_at shape result.value)
+        (bits_of result.status) }
 {
     let places = shape.precision + 1;
     let quotient = quotient_of(shape.precision, x.significand, y.significand);
@@ -83,7 +86,8 @@ fn divide_numbers(shape: Shape, x: Unpacked, y: Unpacked, round: Round) -> Statu
 fn divided_by_zero(shape: Shape, negative: bool) -> StatusAnd<Unpacked>
     requires { IsShape shape }
     ensures stored { IsStored shape result.value }
-    ensures answer { IsAnswer (infinity_of (format_at shape) negative) div_by_zero_bit (datum_at shape result.value) (bits_of result.status) }
+    ensures answer { IsAnswer (infinity_of (format_at shape) negative) div_by_zero_bit
+        (datum_at shape result.value) (bits_of result.status) }
 {
     Status::DIV_BY_ZERO.and(infinity_of(shape, negative))
 }

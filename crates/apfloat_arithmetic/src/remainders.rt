@@ -60,8 +60,11 @@ fn raised(precision: u32, point: Point, least: u32) -> Point
 fn less_multiple(rest: Point, divisor: Point) -> Point
     requires narrow { rest.significand < 2 ^ 126 }
     requires close { rest.significand < 2 * divisor.significand }
-    requires reaches { ((divisor.place < rest.place) × (divisor.significand ≤ 2 * rest.significand)) ⊎ ((divisor.place ≡ rest.place) × (divisor.significand ≤ rest.significand)) }
-    ensures taken { (result.significand + divisor.significand) * 2 ^ result.place ≡ rest.significand * 2 ^ rest.place }
+    requires reaches { ((divisor.place < rest.place)
+        × (divisor.significand ≤ 2 * rest.significand))
+        ⊎ ((divisor.place ≡ rest.place) × (divisor.significand ≤ rest.significand)) }
+    ensures taken { (result.significand + divisor.significand) * 2 ^ result.place
+        ≡ rest.significand * 2 ^ rest.place }
     ensures below { result.significand < divisor.significand }
     ensures least { divisor.place ≤ result.place }
 {
@@ -95,9 +98,12 @@ fn rest_by(precision: u32, x: Point, y: Point) -> Rest
     requires y_fits { y.significand < 2 ^ precision }
     requires y_full { 2 ^ (precision - 1) ≤ y.significand }
     requires near { x.place ≤ 33554432 }
-    ensures rest { result.point.significand * 2 ^ result.point.place ≡ x.significand * 2 ^ x.place % (y.significand * 2 ^ y.place) }
-    ensures steps { result.steps ≡ count_ones (x.significand * 2 ^ x.place / (y.significand * 2 ^ y.place)) }
-    ensures odd { result.odd ≡ eqb (x.significand * 2 ^ x.place / (y.significand * 2 ^ y.place) % 2) 1 }
+    ensures rest { result.point.significand * 2 ^ result.point.place
+        ≡ x.significand * 2 ^ x.place % (y.significand * 2 ^ y.place) }
+    ensures steps { result.steps
+        ≡ count_ones (x.significand * 2 ^ x.place / (y.significand * 2 ^ y.place)) }
+    ensures odd { result.odd
+        ≡ eqb (x.significand * 2 ^ x.place / (y.significand * 2 ^ y.place) % 2) 1 }
     ensures fits { result.point.significand < 2 ^ precision }
     ensures low { result.point.place ≤ y.place }
 {
@@ -153,8 +159,15 @@ fn nearest_by(precision: u32, x: Point, y: Point) -> Nearest
     requires y_fits { y.significand < 2 ^ precision }
     requires y_full { 2 ^ (precision - 1) ≤ y.significand }
     requires near { x.place ≤ 33554432 }
-    ensures past { result.past ≡ takes_above Round.NearestTiesToEven false (x.significand * 2 ^ x.place % (y.significand * 2 ^ y.place)) (y.significand * 2 ^ y.place - x.significand * 2 ^ x.place % (y.significand * 2 ^ y.place)) (eqb (x.significand * 2 ^ x.place / (y.significand * 2 ^ y.place) % 2) 1) }
-    ensures distance { result.point.significand * 2 ^ result.point.place ≡ cond result.past (y.significand * 2 ^ y.place - x.significand * 2 ^ x.place % (y.significand * 2 ^ y.place)) (x.significand * 2 ^ x.place % (y.significand * 2 ^ y.place)) }
+    ensures past { result.past ≡ takes_above Round.NearestTiesToEven false
+        (x.significand * 2 ^ x.place % (y.significand * 2 ^ y.place))
+        (y.significand * 2 ^ y.place - x.significand * 2 ^ x.place
+        % (y.significand * 2 ^ y.place))
+        (eqb (x.significand * 2 ^ x.place / (y.significand * 2 ^ y.place) % 2) 1) }
+    ensures distance { result.point.significand * 2 ^ result.point.place
+        ≡ cond result.past (y.significand * 2 ^ y.place - x.significand * 2 ^ x.place
+        % (y.significand * 2 ^ y.place))
+        (x.significand * 2 ^ x.place % (y.significand * 2 ^ y.place)) }
     ensures fits { result.point.significand < 2 ^ precision }
     ensures low { result.point.place ≤ y.place }
 {
@@ -192,9 +205,11 @@ fn nearest_by(precision: u32, x: Point, y: Point) -> Nearest
 #[inline(always)]
 fn point_of(shape: Shape, x: Unpacked) -> Point
     requires lawful { IsShape shape }
-    requires operand { IsOperandAt shape.precision shape.min_exp shape.max_exp x.significand x.exponent }
+    requires operand { IsOperandAt shape.precision shape.min_exp shape.max_exp x.significand
+        x.exponent }
     ensures significand { result.significand ≡ x.significand }
-    ensures place { pos result.place ≡ ((x.exponent -ℤ shape.min_exp) +ℤ pos (shape.precision - 1)) }
+    ensures place { pos result.place
+        ≡ ((x.exponent -ℤ shape.min_exp) +ℤ pos (shape.precision - 1)) }
     ensures near { result.place ≤ 33554432 }
 {
     Point {
@@ -211,7 +226,8 @@ fn in_quanta(precision: u32, point: Point) -> Point
     requires fits { point.significand < 2 ^ precision }
     ensures fits { result.significand < 2 ^ precision }
     ensures lower { result.place ≤ point.place }
-    ensures same { (n : ℕ) → point.significand * 2 ^ point.place ≡ n * 2 ^ (precision - 1) → result.significand * 2 ^ result.place ≡ n }
+    ensures same { (n : ℕ) → point.significand * 2 ^ point.place ≡ n * 2 ^ (precision - 1)
+        → result.significand * 2 ^ result.place ≡ n }
 {
     let quantum = precision - 1;
     if point.place > quantum {
@@ -235,8 +251,12 @@ fn truncated_rest(shape: Shape, x: Unpacked, y: Unpacked) -> Rest
     requires y { IsNormal shape y.significand y.exponent }
     ensures fits { result.point.significand < 2 ^ shape.precision }
     ensures near { result.point.place ≤ 33554432 }
-    ensures quanta { result.point.significand * 2 ^ result.point.place ≡ quanta_at shape.min_exp x.significand x.exponent % quanta_at shape.min_exp y.significand y.exponent }
-    ensures steps { result.steps ≡ count_ones (truncated_quotient (quanta_at shape.min_exp x.significand x.exponent) (quanta_at shape.min_exp y.significand y.exponent)) }
+    ensures quanta { result.point.significand * 2 ^ result.point.place
+        ≡ quanta_at shape.min_exp x.significand x.exponent % quanta_at shape.min_exp
+        y.significand y.exponent }
+    ensures steps { result.steps ≡ count_ones
+        (truncated_quotient (quanta_at shape.min_exp x.significand x.exponent)
+        (quanta_at shape.min_exp y.significand y.exponent)) }
 {
     let rest = rest_by(shape.precision, point_of(shape, x), point_of(shape, y));
     Rest {
@@ -253,9 +273,11 @@ fn nearest_rest(shape: Shape, x: Unpacked, y: Unpacked) -> Nearest
     requires y { IsNormal shape y.significand y.exponent }
     ensures fits { result.point.significand < 2 ^ shape.precision }
     ensures near { result.point.place ≤ 33554432 }
-    ensures past { let m = quanta_at shape.min_exp x.significand x.exponent in let n = quanta_at shape.min_exp y.significand y.exponent in
+    ensures past { let m = quanta_at shape.min_exp x.significand x.exponent in let n =
+        quanta_at shape.min_exp y.significand y.exponent in
         result.past ≡ takes_above Round.NearestTiesToEven false (m % n) (n - m % n) (eqb (m / n % 2) 1) }
-    ensures quanta { let m = quanta_at shape.min_exp x.significand x.exponent in let n = quanta_at shape.min_exp y.significand y.exponent in
+    ensures quanta { let m = quanta_at shape.min_exp x.significand x.exponent in let n =
+        quanta_at shape.min_exp y.significand y.exponent in
         result.point.significand * 2 ^ result.point.place ≡ cond result.past (n - m % n) (m % n) }
 {
     let number = point_of(shape, x);
@@ -282,10 +304,13 @@ fn truncated_number(shape: Shape, x: Unpacked, y: Unpacked) -> Remainder
     requires x { IsNormal shape x.significand x.exponent }
     requires y { IsNormal shape y.significand y.exponent }
     ensures stored { IsStored shape result.answer.value }
-    ensures value { let m = quanta_at shape.min_exp x.significand x.exponent in let n = quanta_at shape.min_exp y.significand y.exponent in
+    ensures value { let m = quanta_at shape.min_exp x.significand x.exponent in let n =
+        quanta_at shape.min_exp y.significand y.exponent in
         datum_at shape result.answer.value ≡ rest_of shape.nonfinite x.negative m (n * truncated_quotient m n) }
     ensures status { bits_of result.answer.status ≡ ok_bits }
-    ensures steps { result.steps ≡ count_ones (truncated_quotient (quanta_at shape.min_exp x.significand x.exponent) (quanta_at shape.min_exp y.significand y.exponent)) }
+    ensures steps { result.steps ≡ count_ones
+        (truncated_quotient (quanta_at shape.min_exp x.significand x.exponent)
+        (quanta_at shape.min_exp y.significand y.exponent)) }
 {
     let Rest {
         point,
@@ -304,7 +329,8 @@ fn nearest_number(shape: Shape, x: Unpacked, y: Unpacked) -> StatusAnd<Unpacked>
     requires x { IsNormal shape x.significand x.exponent }
     requires y { IsNormal shape y.significand y.exponent }
     ensures stored { IsStored shape result.value }
-    ensures value { let m = quanta_at shape.min_exp x.significand x.exponent in let n = quanta_at shape.min_exp y.significand y.exponent in
+    ensures value { let m = quanta_at shape.min_exp x.significand x.exponent in let n =
+        quanta_at shape.min_exp y.significand y.exponent in
         datum_at shape result.value ≡ rest_of shape.nonfinite x.negative m (n * nearest_quotient m n) }
     ensures status { bits_of result.status ≡ ok_bits }
 {
@@ -325,7 +351,9 @@ fn special_divisor(shape: Shape, x: Unpacked, y: Unpacked) -> StatusAnd<Unpacked
     requires finite { (x.category ≡ Category.Zero) ⊎ (x.category ≡ Category.Normal) }
     requires special { x.category ≡ Category.Normal → y.category ≡ Category.Normal → ⊥ }
     ensures stored { IsStored shape result.value }
-    ensures delivered { (quotient : ℕ → ℕ → ℕ) → ((n : ℕ) → 0 < n → quotient 0 n ≡ 0) → IsRemainder (format_at shape) quotient (datum_at shape x) (datum_at shape y) (datum_at shape result.value) (bits_of result.status) }
+    ensures delivered { (quotient : ℕ → ℕ → ℕ) → ((n : ℕ) → 0 < n → quotient 0 n ≡ 0)
+        → IsRemainder (format_at shape) quotient (datum_at shape x) (datum_at shape y)
+        (datum_at shape result.value) (bits_of result.status) }
 {
     match y.category {
         Category::NaN => propagated(shape, y),
@@ -342,7 +370,9 @@ fn special_remainder(shape: Shape, x: Unpacked, y: Unpacked) -> StatusAnd<Unpack
     requires y_stored { IsStored shape y }
     requires special { x.category ≡ Category.Normal → y.category ≡ Category.Normal → ⊥ }
     ensures stored { IsStored shape result.value }
-    ensures delivered { (quotient : ℕ → ℕ → ℕ) → ((n : ℕ) → 0 < n → quotient 0 n ≡ 0) → IsRemainder (format_at shape) quotient (datum_at shape x) (datum_at shape y) (datum_at shape result.value) (bits_of result.status) }
+    ensures delivered { (quotient : ℕ → ℕ → ℕ) → ((n : ℕ) → 0 < n → quotient 0 n ≡ 0)
+        → IsRemainder (format_at shape) quotient (datum_at shape x) (datum_at shape y)
+        (datum_at shape result.value) (bits_of result.status) }
 {
     match x.category {
         Category::NaN => propagated_left(shape, x, y),
@@ -365,9 +395,12 @@ pub fn truncated_remainder(shape: Shape, x: Unpacked, y: Unpacked) -> Remainder
     requires x { IsStored shape x }
     requires y { IsStored shape y }
     ensures stored { IsStored shape result.answer.value }
-    ensures delivered { IsTruncatedRemainder (format_at shape) (datum_at shape x) (datum_at shape y) (datum_at shape result.answer.value) (bits_of result.answer.status) }
+    ensures delivered { IsTruncatedRemainder (format_at shape) (datum_at shape x)
+        (datum_at shape y) (datum_at shape result.answer.value) (bits_of result.answer.status) }
     ensures steps { result.steps ≡ ones_of_quotient (datum_at shape x) (datum_at shape y) }
-    ensures few { (a b : ℤ) → IsIlogb (format_at shape) (datum_at shape x) a → IsIlogb (format_at shape) (datum_at shape y) b → 0 < result.steps → pos result.steps ≤ℤ ((a -ℤ b) +ℤ pos 1) }
+    ensures few { (a b : ℤ) → IsIlogb (format_at shape) (datum_at shape x) a
+        → IsIlogb (format_at shape) (datum_at shape y) b → 0 < result.steps
+        → pos result.steps ≤ℤ ((a -ℤ b) +ℤ pos 1) }
 {
     if are_normal(x, y) {
         truncated_number(shape, x, y)
@@ -385,7 +418,8 @@ pub fn nearest_remainder(shape: Shape, x: Unpacked, y: Unpacked) -> StatusAnd<Un
     requires x { IsStored shape x }
     requires y { IsStored shape y }
     ensures stored { IsStored shape result.value }
-    ensures delivered { IsNearestRemainder (format_at shape) (datum_at shape x) (datum_at shape y) (datum_at shape result.value) (bits_of result.status) }
+    ensures delivered { IsNearestRemainder (format_at shape) (datum_at shape x)
+        (datum_at shape y) (datum_at shape result.value) (bits_of result.status) }
 {
     if are_normal(x, y) {
         nearest_number(shape, x, y)

@@ -55,7 +55,8 @@ pub(crate) fn sign_of_zero(round: Round, left: bool, right: bool) -> bool
 #[inline(always)]
 pub(crate) fn sign_of_total(total: Total, of_zero: bool) -> bool
     ensures zero { total.significand ≡ 0 → total.loss ≡ Loss.ExactlyZero → result ≡ of_zero }
-    ensures other { (total.significand ≡ 0 → total.loss ≡ Loss.ExactlyZero → ⊥) → result ≡ total.negative }
+    ensures other { (total.significand ≡ 0 → total.loss ≡ Loss.ExactlyZero → ⊥)
+        → result ≡ total.negative }
 {
     if is_zero(total) {
         of_zero
@@ -71,7 +72,11 @@ fn add_numbers(shape: Shape, x: Unpacked, y: Unpacked, round: Round) -> StatusAn
     requires x_normal { IsNormal shape x.significand x.exponent }
     requires y_normal { IsNormal shape y.significand y.exponent }
     ensures stored { IsStored shape result.value }
-    ensures delivered { IsRounded (format_at shape) round (zero_sum_sign round x.negative y.negative) (signed x.negative (quanta_at shape.min_exp x.significand x.exponent) +ℤ signed y.negative (quanta_at shape.min_exp y.significand y.exponent)) 1 (datum_at shape result.value) (bits_of result.status) }
+    ensures delivered { IsRounded (format_at shape) round
+        (zero_sum_sign round x.negative y.negative)
+        (signed x.negative (quanta_at shape.min_exp x.significand x.exponent) +ℤ signed
+        y.negative (quanta_at shape.min_exp y.significand y.exponent)) 1
+        (datum_at shape result.value) (bits_of result.status) }
 {
     let total = add_terms(term_of(shape, x), term_of(shape, y));
     let of_zero = sign_of_zero(round, x.negative, y.negative);
@@ -94,7 +99,9 @@ fn add_to_infinity(shape: Shape, x: Unpacked, y: Unpacked) -> StatusAnd<Unpacked
     requires x_stored { IsStored shape x }
     requires y_stored { IsStored shape y }
     ensures stored { IsStored shape result.value }
-    ensures delivered { (mode : Round) → IsSum (format_at shape) mode (infinite x.negative) (datum_at shape y) (datum_at shape result.value) (bits_of result.status) }
+    ensures delivered { (mode : Round)
+        → IsSum (format_at shape) mode (infinite x.negative) (datum_at shape y)
+        (datum_at shape result.value) (bits_of result.status) }
 {
     match y.category {
         Category::NaN => propagated(shape, y),
@@ -116,7 +123,8 @@ fn add_to_zero(shape: Shape, x: Unpacked, y: Unpacked, round: Round) -> StatusAn
     requires lawful { IsShape shape }
     requires y_stored { IsStored shape y }
     ensures stored { IsStored shape result.value }
-    ensures delivered { IsSum (format_at shape) round (finite x.negative 0) (datum_at shape y) (datum_at shape result.value) (bits_of result.status) }
+    ensures delivered { IsSum (format_at shape) round (finite x.negative 0) (datum_at shape y)
+        (datum_at shape result.value) (bits_of result.status) }
 {
     match y.category {
         Category::NaN => propagated(shape, y),
@@ -137,7 +145,9 @@ fn add_to_number(shape: Shape, x: Unpacked, y: Unpacked, round: Round) -> Status
     requires x_stored { IsStored shape x }
     requires y_stored { IsStored shape y }
     ensures stored { IsStored shape result.value }
-    ensures delivered { IsSum (format_at shape) round (finite x.negative (quanta_at shape.min_exp x.significand x.exponent)) (datum_at shape y) (datum_at shape result.value) (bits_of result.status) }
+    ensures delivered { IsSum (format_at shape) round
+        (finite x.negative (quanta_at shape.min_exp x.significand x.exponent))
+        (datum_at shape y) (datum_at shape result.value) (bits_of result.status) }
 {
     match y.category {
         Category::Normal => add_numbers(shape, x, y, round),
@@ -155,7 +165,8 @@ fn add_any(shape: Shape, x: Unpacked, y: Unpacked, round: Round) -> StatusAnd<Un
     requires x_stored { IsStored shape x }
     requires y_stored { IsStored shape y }
     ensures stored { IsStored shape result.value }
-    ensures delivered { IsSum (format_at shape) round (datum_at shape x) (datum_at shape y) (datum_at shape result.value) (bits_of result.status) }
+    ensures delivered { IsSum (format_at shape) round (datum_at shape x) (datum_at shape y)
+        (datum_at shape result.value) (bits_of result.status) }
 {
     match x.category {
         Category::Normal => add_to_number(shape, x, y, round),
@@ -202,7 +213,8 @@ pub fn subtract(shape: Shape, x: Unpacked, y: Unpacked, round: Round) -> StatusA
     requires x_stored { IsStored shape x }
     requires y_stored { IsStored shape y }
     ensures stored { IsStored shape result.value }
-    ensures delivered { IsDifference (format_at shape) round (datum_at shape x) (datum_at shape y) (datum_at shape result.value) (bits_of result.status) }
+    ensures delivered { IsDifference (format_at shape) round (datum_at shape x)
+        (datum_at shape y) (datum_at shape result.value) (bits_of result.status) }
 {
     add(shape, x, added(shape, y), round)
 }

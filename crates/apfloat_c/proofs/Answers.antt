@@ -22,7 +22,8 @@ use Rattle.apfloat_c.specs.Answers.{IsFractionOf, IsOutcomeBy, IsPairFractionOf,
 
 -- ---- fractions
 
-pub fraction_answer : (c : Constants) (bits : ℕ) (x value : Datum) (exponent : ℤ) (answer : Answer) → x ≡ value_of c bits
+pub fraction_answer : (c : Constants) (bits : ℕ) (x value : Datum) (exponent : ℤ) (answer : Answer)
+    → x ≡ value_of c bits
     → IsFrexp (format_with c) x value exponent → IsWritten c value 0 (in_32_bits exponent) answer
     → IsFractionOf c (IsFrexp (format_with c) (value_of c bits)) answer
 fraction_answer c bits x value exponent answer read holds written =
@@ -33,7 +34,8 @@ fraction_answer c bits x value exponent answer read holds written =
       is_written = written;
     }
 
-pub pair_fraction_answer : (mode : Round) (bits : ℕ) (x value : Pair) (exponent : ℤ) (answer : Answer) → x ≡ pair_of bits
+pub pair_fraction_answer : (mode : Round) (bits : ℕ) (x value : Pair) (exponent : ℤ) (answer : Answer)
+    → x ≡ pair_of bits
     → IsPairFraction mode x value exponent → IsPairWritten value 0 (in_32_bits exponent) answer
     → IsPairFractionOf (IsPairFraction mode (pair_of bits)) answer
 pair_fraction_answer mode bits x value exponent answer read holds written =
@@ -56,10 +58,13 @@ answered_if false error Holds answer e h = absurd (false≢true e)
 pub pair_signed_answer : (mode : Round) (width bits : ℕ) (x : Pair) (integer : ℤ) (status : ℕ) (exact : Bool)
     (answer : Answer)
     → FitsSigned w128 integer → (nat_le 2 width && nat_le width 128) ≡ true → x ≡ pair_of bits
-    → IsPairToSigned mode width x integer status exact → whole answer.bits ≡ of_z w128 (to_z w128 (of_z w128 integer))
+    → IsPairToSigned mode width x integer status exact
+    → whole answer.bits ≡ of_z w128 (to_z w128 (of_z w128 integer))
     → answer.status ≡ status → answer.number ≡ one_if exact
-    → IsOutcomeBy (width_fault 2 width) (λ (a : Answer). IsSigned (IsPairToSigned mode width (pair_of bits)) a) (Ok answer)
-pair_signed_answer mode width bits x integer status exact answer small fits read holds bits_are status_is number_is =
+    → IsOutcomeBy (width_fault 2 width)
+    (λ (a : Answer). IsSigned (IsPairToSigned mode width (pair_of bits)) a) (Ok answer)
+pair_signed_answer mode width bits x integer status exact answer small fits read holds bits_are status_is
+    number_is =
     let of_bits = subst (λ (d : Pair). IsPairToSigned mode width d integer status exact) read holds in
     answered_if (nat_le 2 width && nat_le width 128) wrong_width _ answer fits
     (record {
@@ -77,14 +82,17 @@ text_with_meaning : (text : List ℕ) (meaning : Meaning) → every is_ascii tex
     → is_text text ≡ true
 text_with_meaning text meaning ascii means = rw (ascii, meaning_no_fault text meaning means) refl
 
-pub read_answer : (c : Constants) (mode : Round) (bytes text : List ℕ) (value : Datum) (status : ℕ) (answer : Answer)
+pub read_answer : (c : Constants) (mode : Round) (bytes text : List ℕ) (value : Datum) (status : ℕ)
+    (answer : Answer)
     → text ≡ bytes → every is_ascii bytes ≡ true → IsReading (format_with c) mode text value status
     → IsWritten c value status (pos 0) answer
-    → IsOutcomeBy (unless (is_text bytes) refused_text) (λ (a : Answer). IsValue c (IsReading (format_with c) mode bytes) a)
+    → IsOutcomeBy (unless (is_text bytes) refused_text)
+    (λ (a : Answer). IsValue c (IsReading (format_with c) mode bytes) a)
     (Ok answer)
 read_answer c mode bytes text value status answer same ascii holds written =
     let reading = subst (λ (t : List ℕ). IsReading (format_with c) mode t value status) same holds in
-    answered_if (is_text bytes) refused_text _ answer (text_with_meaning bytes reading.meaning ascii reading.means)
+    answered_if (is_text bytes) refused_text _ answer
+    (text_with_meaning bytes reading.meaning ascii reading.means)
     (record { value = value; status = status; holds = reading; is_written = written })
 
 pub pair_read_answer : (mode : Round) (bytes text : List ℕ) (value : Pair) (status : ℕ) (answer : Answer)

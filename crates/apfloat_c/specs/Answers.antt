@@ -146,7 +146,8 @@ IsConverted c mode x (Some target) answer = IsConvertedIn c mode x (kind_of targ
 
 abbrev pub class_of : Constants → Datum → ℤ
 class_of c x =
-    class_code (category_of x) (is_negative x) (is_denormal (format_with c) x) (is_signaling_nan (format_with c) x)
+    class_code (category_of x) (is_negative x) (is_denormal (format_with c) x)
+    (is_signaling_nan (format_with c) x)
 
 abbrev pub IsAnswer : Constants → Round → Call → Answer → Type 0
 IsAnswer c mode (OfTwo arithmetic x y) answer =
@@ -155,9 +156,11 @@ IsAnswer c mode (FusedSum x y z) answer =
     IsValue c (IsFusedSum (format_with c) mode (value_of c x) (value_of c y) (value_of c z)) answer
 IsAnswer c mode (FromUnsigned number) answer = IsValue c (IsFromUnsigned (format_with c) mode number) answer
 IsAnswer c mode (FromSigned number) answer = IsValue c (IsFromSigned (format_with c) mode number) answer
-IsAnswer c mode (ToUnsigned x width) answer = IsUnsigned (IsToUnsigned (format_with c) mode width (value_of c x)) answer
+IsAnswer c mode (ToUnsigned x width) answer =
+    IsUnsigned (IsToUnsigned (format_with c) mode width (value_of c x)) answer
 IsAnswer c mode (ToSigned x width) answer = IsSigned (IsToSigned (format_with c) mode width (value_of c x)) answer
-IsAnswer c mode (RoundToIntegral x) answer = IsValue c (IsRoundToIntegral (format_with c) mode (value_of c x)) answer
+IsAnswer c mode (RoundToIntegral x) answer =
+    IsValue c (IsRoundToIntegral (format_with c) mode (value_of c x)) answer
 IsAnswer c mode (Scaling x power) answer = IsUntold c (IsScaling (format_with c) mode (value_of c x) power) answer
 IsAnswer c mode (Fraction x) answer = IsFractionOf c (IsFrexp (format_with c) (value_of c x)) answer
 IsAnswer c mode (Exponent x) answer = IsNumber (IsIlogb (format_with c) (value_of c x)) answer
@@ -219,7 +222,8 @@ IsPairAnswer mode (Fraction x) answer = IsPairFractionOf (IsPairFraction mode (p
 IsPairAnswer mode (Exponent x) answer = IsNumber (IsPairIlogb (pair_of x)) answer
 IsPairAnswer mode (NextUp x) answer = IsPairValue (IsPairNextUp (pair_of x)) answer
 IsPairAnswer mode (NextDown x) answer = IsPairValue (IsPairNextDown (pair_of x)) answer
-IsPairAnswer mode (Comparison x y) answer = IsNumber (λ n. n ≡ order_code (compared_pairs (pair_of x) (pair_of y))) answer
+IsPairAnswer mode (Comparison x y) answer =
+    IsNumber (λ n. n ≡ order_code (compared_pairs (pair_of x) (pair_of y))) answer
 IsPairAnswer mode (Class x) answer = IsNumber (λ n. n ≡ pair_class_of (pair_of x)) answer
 IsPairAnswer mode (Conversion x target) answer = ⊥
 IsPairAnswer mode (Text text) answer = IsPairValue (IsPairReading mode text.now) answer

@@ -58,7 +58,8 @@ fn of_two<S: Semantics>(
     y: u128,
 ) -> Result<Answer, u32>
     requires { S.PRECISION < S.BITS }
-    ensures { let kind = of_format (constants_of S.Semantics) in IsOutcome kind round (OfTwo arithmetic x y) result }
+    ensures { let kind = of_format (constants_of S.Semantics) in
+        IsOutcome kind round (OfTwo arithmetic x y) result }
 {
     if !may_compute(S::PRECISION, arithmetic) {
         return Err(NO_SUCH_OPERATION);
@@ -89,7 +90,8 @@ fn computed<S: Semantics>(
 /// A product plus a third value, rounded once.
 fn fused_sum<S: Semantics>(round: Round, x: u128, y: u128, z: u128) -> Result<Answer, u32>
     requires { S.PRECISION < S.BITS }
-    ensures { let kind = of_format (constants_of S.Semantics) in IsOutcome kind round (FusedSum x y z) result }
+    ensures { let kind = of_format (constants_of S.Semantics) in
+        IsOutcome kind round (FusedSum x y z) result }
 {
     if S::PRECISION > 63 {
         return Err(NO_SUCH_OPERATION);
@@ -117,7 +119,8 @@ fn from_signed<S: Semantics>(round: Round, number: i128) -> Answer
 /// A value as a whole number.
 fn to_unsigned<S: Semantics>(round: Round, x: u128, width: u32) -> Result<Answer, u32>
     requires { S.PRECISION < S.BITS }
-    ensures { let kind = of_format (constants_of S.Semantics) in IsOutcome kind round (ToUnsigned x width) result }
+    ensures { let kind = of_format (constants_of S.Semantics) in
+        IsOutcome kind round (ToUnsigned x width) result }
 {
     if !is_width(1, width) {
         return Err(WRONG_WIDTH);
@@ -130,7 +133,8 @@ fn to_unsigned<S: Semantics>(round: Round, x: u128, width: u32) -> Result<Answer
 /// A value as a whole number with a sign.
 fn to_signed<S: Semantics>(round: Round, x: u128, width: u32) -> Result<Answer, u32>
     requires { S.PRECISION < S.BITS }
-    ensures { let kind = of_format (constants_of S.Semantics) in IsOutcome kind round (ToSigned x width) result }
+    ensures { let kind = of_format (constants_of S.Semantics) in
+        IsOutcome kind round (ToSigned x width) result }
 {
     if !is_width(2, width) {
         return Err(WRONG_WIDTH);
@@ -222,7 +226,8 @@ fn class<S: Semantics>(x: u128) -> Answer
 /// A value in another format.
 fn converted<S: Semantics>(round: Round, x: u128, target: Option<Format>) -> Result<Answer, u32>
     requires { S.PRECISION < S.BITS }
-    ensures { let kind = of_format (constants_of S.Semantics) in IsOutcome kind round (Conversion x target) result }
+    ensures { let kind = of_format (constants_of S.Semantics) in
+        IsOutcome kind round (Conversion x target) result }
 {
     let x = S::from_bits(x);
     match target {
@@ -254,7 +259,8 @@ fn converted_to<S: Semantics, T: Semantics>(round: Round, x: IeeeFloat<S>) -> An
 /// The value of a text.
 fn read<S: Semantics>(round: Round, bytes: &[u8]) -> Result<Answer, u32>
     requires { S.PRECISION < S.BITS }
-    ensures { let kind = of_format (constants_of S.Semantics) in IsOutcome kind round (Text bytes.entry) result }
+    ensures { let kind = of_format (constants_of S.Semantics) in
+        IsOutcome kind round (Text bytes.entry) result }
 {
     let Some(text) = text_of(bytes) else {
         return Err(REFUSED_TEXT);
@@ -268,7 +274,8 @@ fn read<S: Semantics>(round: Round, bytes: &[u8]) -> Result<Answer, u32>
 /// A value with its flags.
 fn written<S: Semantics>(answer: StatusAnd<IeeeFloat<S>>) -> Answer
     requires { S.PRECISION < S.BITS }
-    ensures { IsWritten (constants_of S.Semantics) answer.value (bits_of answer.status) (pos 0) result }
+    ensures { IsWritten (constants_of S.Semantics) answer.value (bits_of answer.status) (pos 0)
+        result }
 {
     shown(answer.value, answer.status, 0)
 }

@@ -39,7 +39,9 @@ fn converted_number(from: Shape, into: Shape, x: Unpacked, round: Round) -> Conv
     requires into { IsShape into }
     requires x { IsNormal from x.significand x.exponent }
     ensures stored { IsStored into result.answer.value }
-    ensures converted { IsConvertedNumber (format_at from) (format_at into) round x.negative (quanta_at from.min_exp x.significand x.exponent) (datum_at into result.answer.value) (bits_of result.answer.status) result.loses_info }
+    ensures converted { IsConvertedNumber (format_at from) (format_at into) round x.negative
+        (quanta_at from.min_exp x.significand x.exponent) (datum_at into result.answer.value)
+        (bits_of result.answer.status) result.loses_info }
 {
     if holds(from, into) {
         return Converted {
@@ -84,7 +86,9 @@ fn kept(value: Unpacked, loses_info: bool) -> Converted
 fn converted_infinity(into: Shape, negative: bool) -> Converted
     requires { IsShape into }
     ensures stored { IsStored into result.answer.value }
-    ensures converted { IsKept (infinity_of (format_at into) negative) (not (has_infinities into.nonfinite)) (datum_at into result.answer.value) (bits_of result.answer.status) result.loses_info }
+    ensures converted { IsKept (infinity_of (format_at into) negative)
+        (not (has_infinities into.nonfinite)) (datum_at into result.answer.value)
+        (bits_of result.answer.status) result.loses_info }
 {
     let loses_info = match into.nonfinite {
         NonfiniteBehavior::IEEE754 => false,
@@ -98,7 +102,9 @@ fn converted_infinity(into: Shape, negative: bool) -> Converted
 #[inline(always)]
 fn converted_zero(into: Shape, negative: bool) -> Converted
     ensures stored { IsStored into result.answer.value }
-    ensures converted { IsKept (finite (zero_sign into.nonfinite negative) 0) (loses_zero_sign (format_at into) negative) (datum_at into result.answer.value) (bits_of result.answer.status) result.loses_info }
+    ensures converted { IsKept (finite (zero_sign into.nonfinite negative) 0)
+        (loses_zero_sign (format_at into) negative) (datum_at into result.answer.value)
+        (bits_of result.answer.status) result.loses_info }
 {
     let zero = zero_of(into, negative);
     kept(zero, zero.negative != negative)
@@ -124,7 +130,8 @@ fn carried_payload(from: Shape, into: Shape, significand: u128) -> u128
     requires from { IsShape from }
     requires into { IsShape into }
     requires fits { significand < 2 ^ from.precision }
-    ensures { result ≡ significand * 2 ^ (into.precision - from.precision) / 2 ^ places_out (format_at from) (format_at into) }
+    ensures { result ≡ significand * 2 ^ (into.precision - from.precision) / 2 ^ places_out
+        (format_at from) (format_at into) }
 {
     let places_in = into.precision.saturating_sub(from.precision);
     (significand << places_in) >> places_out(from, into)
@@ -135,7 +142,8 @@ fn carried_payload(from: Shape, into: Shape, significand: u128) -> u128
 fn nan_loses(from: Shape, into: Shape, significand: u128) -> bool
     requires from { IsShape from }
     requires into { IsShape into }
-    requires nan { IsNanSignificand from.nonfinite from.explicit_integer_bit from.precision significand }
+    requires nan { IsNanSignificand from.nonfinite from.explicit_integer_bit from.precision
+        significand }
     ensures { result ≡ nan_loses (format_at from) (format_at into) significand }
 {
     let cut = low_digits(
@@ -154,7 +162,11 @@ fn converted_nan(from: Shape, into: Shape, x: Unpacked) -> Converted
     requires into { IsShape into }
     requires x { IsNan from x.significand x.exponent x.negative }
     ensures stored { IsStored into result.answer.value }
-    ensures converted { IsConverted (converted_nan (format_at from) (format_at into) x.negative x.significand) (invalid_if (is_signaling (format_at from) x.significand)) (nan_loses (format_at from) (format_at into) x.significand) (datum_at into result.answer.value) (bits_of result.answer.status) result.loses_info }
+    ensures converted { IsConverted
+        (converted_nan (format_at from) (format_at into) x.negative x.significand)
+        (invalid_if (is_signaling (format_at from) x.significand))
+        (nan_loses (format_at from) (format_at into) x.significand)
+        (datum_at into result.answer.value) (bits_of result.answer.status) result.loses_info }
 {
     let quieted = quieted_significand(from, x.significand);
     let payload = carried_payload(from, into, quieted);

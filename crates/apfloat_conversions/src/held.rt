@@ -47,7 +47,9 @@ pub fn widened(from: Shape, into: Shape, x: Unpacked) -> Unpacked
     requires held { IsHeld from into }
     requires x { IsNormal from x.significand x.exponent }
     ensures stored { IsStored into result }
-    ensures datum { datum_at into result ≡ finite x.negative (quanta_at from.min_exp x.significand x.exponent * 2 ^ ((format_at into).scale - (format_at from).scale)) }
+    ensures datum { datum_at into result
+        ≡ finite x.negative (quanta_at from.min_exp x.significand
+        x.exponent * 2 ^ ((format_at into).scale - (format_at from).scale)) }
 {
     Unpacked {
         significand: x.significand << (into.precision - from.precision),

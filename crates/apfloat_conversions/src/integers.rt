@@ -20,7 +20,8 @@ use apfloat_unpacked::unpacked::Unpacked;
 pub fn from_unsigned(shape: Shape, number: u128, round: Round) -> StatusAnd<Unpacked>
     requires { IsShape shape }
     ensures stored { IsStored shape result.value }
-    ensures delivered { IsFromUnsigned (format_at shape) round number (datum_at shape result.value) (bits_of result.status) }
+    ensures delivered { IsFromUnsigned (format_at shape) round number
+        (datum_at shape result.value) (bits_of result.status) }
 {
     deliver(shape, number, 0, Loss::ExactlyZero, round, false)
 }
@@ -83,7 +84,9 @@ fn number_to_unsigned(shape: Shape, x: Unpacked, width: u32, round: Round) -> Un
     requires normal { IsNormal shape x.significand x.exponent }
     requires low { 1 ≤ width }
     requires high { width ≤ 128 }
-    ensures whole { IsToUnsigned (format_at shape) round width (finite x.negative (quanta_at shape.min_exp x.significand x.exponent)) result.answer.value (bits_of result.answer.status) result.is_exact }
+    ensures whole { IsToUnsigned (format_at shape) round width
+        (finite x.negative (quanta_at shape.min_exp x.significand x.exponent))
+        result.answer.value (bits_of result.answer.status) result.is_exact }
     ensures fits { result.answer.value < 2 ^ width }
 {
     let limit = limit_of(width, x.negative);

@@ -23,7 +23,8 @@ fn round_number(shape: Shape, x: Unpacked, round: Round) -> StatusAnd<Unpacked>
     requires number { x.category ≡ Normal }
     requires normal { IsNormal shape x.significand x.exponent }
     ensures stored { IsStored shape result.value }
-    ensures delivered { IsRoundToIntegral (format_at shape) round (datum_at shape x) (datum_at shape result.value) (bits_of result.status) }
+    ensures delivered { IsRoundToIntegral (format_at shape) round (datum_at shape x)
+        (datum_at shape result.value) (bits_of result.status) }
 {
     let exponent = last_exponent(shape, x.exponent);
     if exponent >= 0 {
@@ -40,7 +41,8 @@ pub fn round_to_integral(shape: Shape, x: Unpacked, round: Round) -> StatusAnd<U
     requires lawful { IsShape shape }
     requires stored { IsStored shape x }
     ensures stored { IsStored shape result.value }
-    ensures delivered { IsRoundToIntegral (format_at shape) round (datum_at shape x) (datum_at shape result.value) (bits_of result.status) }
+    ensures delivered { IsRoundToIntegral (format_at shape) round (datum_at shape x)
+        (datum_at shape result.value) (bits_of result.status) }
 {
     match x.category {
         Category::Normal => round_number(shape, x, round),
@@ -55,7 +57,8 @@ pub fn round_to_integral(shape: Shape, x: Unpacked, round: Round) -> StatusAnd<U
 fn is_whole_number(shape: Shape, x: Unpacked) -> bool
     requires lawful { IsShape shape }
     requires normal { IsNormal shape x.significand x.exponent }
-    ensures { result ≡ eqb (quanta_at shape.min_exp x.significand x.exponent % 2 ^ (format_at shape).scale) 0 }
+    ensures { result ≡ eqb
+        (quanta_at shape.min_exp x.significand x.exponent % 2 ^ (format_at shape).scale) 0 }
 {
     let exponent = last_exponent(shape, x.exponent);
     if exponent >= 0 {

@@ -45,7 +45,8 @@ fn least_exponent(shape: Shape) -> ExpInt
 fn is_largest(shape: Shape, x: Unpacked) -> bool
     requires lawful { IsShape shape }
     requires normal { IsNormal shape x.significand x.exponent }
-    ensures { result ≡ eqb (quanta_at shape.min_exp x.significand x.exponent) (largest (format_at shape)) }
+    ensures { result ≡ eqb (quanta_at shape.min_exp x.significand x.exponent)
+        (largest (format_at shape)) }
 {
     if x.exponent == shape.max_exp {
         x.significand == shape.greatest_significand()
@@ -61,7 +62,8 @@ fn next_greater(shape: Shape, x: Unpacked) -> Unpacked
     requires normal { IsNormal shape x.significand x.exponent }
     requires below { quanta_at shape.min_exp x.significand x.exponent < largest (format_at shape) }
     ensures stored { IsStored shape result }
-    ensures next { IsNextGreater (format_at shape) (quanta_at shape.min_exp x.significand x.exponent) (datum_at shape result) 0 }
+    ensures next { IsNextGreater (format_at shape)
+        (quanta_at shape.min_exp x.significand x.exponent) (datum_at shape result) 0 }
 {
     let significand = x.significand + step(shape, x.exponent);
     if significand < power_of_two(shape.precision) {
@@ -87,7 +89,8 @@ fn next_less(shape: Shape, x: Unpacked) -> Unpacked
     requires lawful { IsShape shape }
     requires normal { IsNormal shape x.significand x.exponent }
     ensures stored { IsStored shape result }
-    ensures next { IsNextLess (format_at shape) (quanta_at shape.min_exp x.significand x.exponent) (datum_at shape result) 0 }
+    ensures next { IsNextLess (format_at shape)
+        (quanta_at shape.min_exp x.significand x.exponent) (datum_at shape result) 0 }
 {
     if x.significand > shape.integer_bit() {
         return Unpacked {
@@ -115,7 +118,8 @@ fn next_of_number(shape: Shape, x: Unpacked) -> Unpacked
     requires lawful { IsShape shape }
     requires normal { IsNormal shape x.significand x.exponent }
     ensures stored { IsStored shape result }
-    ensures next { IsNextOfNumber (format_at shape) x.negative (quanta_at shape.min_exp x.significand x.exponent) (datum_at shape result) 0 }
+    ensures next { IsNextOfNumber (format_at shape) x.negative
+        (quanta_at shape.min_exp x.significand x.exponent) (datum_at shape result) 0 }
 {
     if x.negative {
         next_less(shape, x)
@@ -133,7 +137,8 @@ fn next_of_nan(shape: Shape, x: Unpacked) -> StatusAnd<Unpacked>
     requires stored { IsStored shape x }
     requires nan { x.category ≡ NaN }
     ensures stored { IsStored shape result.value }
-    ensures next { IsNextUp (format_at shape) (datum_at shape x) (datum_at shape result.value) (bits_of result.status) }
+    ensures next { IsNextUp (format_at shape) (datum_at shape x) (datum_at shape result.value)
+        (bits_of result.status) }
 {
     if signals(shape, x.significand) {
         Status::INVALID_OP.and(nan_of(shape, x.negative, quiet_significand(shape, 0)))
@@ -148,7 +153,8 @@ pub fn next_up(shape: Shape, x: Unpacked) -> StatusAnd<Unpacked>
     requires lawful { IsShape shape }
     requires stored { IsStored shape x }
     ensures stored { IsStored shape result.value }
-    ensures next { IsNextUp (format_at shape) (datum_at shape x) (datum_at shape result.value) (bits_of result.status) }
+    ensures next { IsNextUp (format_at shape) (datum_at shape x) (datum_at shape result.value)
+        (bits_of result.status) }
 {
     match x.category {
         Category::Normal => Status::OK.and(next_of_number(shape, x)),

@@ -22,7 +22,8 @@ use apfloat_unpacked::unpacked::Unpacked;
 pub fn clamped(places: ExpInt) -> ExpInt
     ensures low { neg_ℤ (pos 6000000) ≤ℤ result }
     ensures high { result ≤ℤ pos 6000000 }
-    ensures is { (result ≡ places) ⊎ (((result ≡ pos 6000000) × (pos 6000000 ≤ℤ places)) ⊎ ((result ≡ neg_ℤ (pos 6000000)) × (places ≤ℤ neg_ℤ (pos 6000000)))) }
+    ensures is { (result ≡ places) ⊎ (((result ≡ pos 6000000) × (pos 6000000 ≤ℤ places))
+        ⊎ ((result ≡ neg_ℤ (pos 6000000)) × (places ≤ℤ neg_ℤ (pos 6000000)))) }
 {
     if places > 6000000 {
         6000000
@@ -53,7 +54,9 @@ fn scale_number(shape: Shape, x: Unpacked, places: ExpInt, round: Round) -> Stat
     requires lawful { IsShape shape }
     requires normal { IsNormal shape x.significand x.exponent }
     ensures stored { IsStored shape result.value }
-    ensures delivered { IsDelivered (format_at shape) round x.negative (quanta_at shape.min_exp x.significand x.exponent * 2 ^ up places) (2 ^ down places) (datum_at shape result.value) (bits_of result.status) }
+    ensures delivered { IsDelivered (format_at shape) round x.negative
+        (quanta_at shape.min_exp x.significand x.exponent * 2 ^ up places) (2 ^ down places)
+        (datum_at shape result.value) (bits_of result.status) }
 {
     let near = clamped(places);
     let exponent = last_exponent(shape, moved(x.exponent, near));
@@ -73,7 +76,8 @@ pub fn scaled(shape: Shape, x: Unpacked, places: ExpInt, round: Round) -> Unpack
     requires lawful { IsShape shape }
     requires stored { IsStored shape x }
     ensures stored { IsStored shape result }
-    ensures scaled { IsScaling (format_at shape) round (datum_at shape x) places (datum_at shape result) }
+    ensures scaled { IsScaling (format_at shape) round (datum_at shape x) places
+        (datum_at shape result) }
 {
     match x.category {
         Category::Normal => scale_number(shape, x, places, round).value,
@@ -113,7 +117,9 @@ fn number_fraction(shape: Shape, x: Unpacked) -> Fraction
     requires lawful { IsShape shape }
     requires normal { IsNormal shape x.significand x.exponent }
     ensures stored { IsStored shape result.value }
-    ensures fraction { IsFraction (format_at shape) x.negative (quanta_at shape.min_exp x.significand x.exponent) (datum_at shape result.value) result.exponent }
+    ensures fraction { IsFraction (format_at shape) x.negative
+        (quanta_at shape.min_exp x.significand x.exponent) (datum_at shape result.value)
+        result.exponent }
 {
     Fraction {
         value: Unpacked {
@@ -133,7 +139,8 @@ pub fn fraction_of(shape: Shape, x: Unpacked) -> Fraction
     requires lawful { IsShape shape }
     requires stored { IsStored shape x }
     ensures stored { IsStored shape result.value }
-    ensures fraction { IsFrexp (format_at shape) (datum_at shape x) (datum_at shape result.value) result.exponent }
+    ensures fraction { IsFrexp (format_at shape) (datum_at shape x)
+        (datum_at shape result.value) result.exponent }
 {
     match x.category {
         Category::Normal => number_fraction(shape, x),

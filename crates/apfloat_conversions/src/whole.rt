@@ -25,7 +25,8 @@ pub struct Whole {
 pub fn round_fraction(significand: u128, places: u32, round: Round, negative: bool) -> Whole
     requires { significand < 2 ^ 125 }
     ensures bound { result.magnitude ≤ significand / 2 ^ places + 1 }
-    ensures picked { (amount parts : ℕ) → 0 < parts → amount * 2 ^ places ≡ significand * parts → IsPicked round negative amount parts result }
+    ensures picked { (amount parts : ℕ) → 0 < parts → amount * 2 ^ places ≡ significand * parts
+        → IsPicked round negative amount parts result }
 {
     let kept = shift_right(significand, places, Loss::ExactlyZero);
     let exact = is_exact(kept.loss);
@@ -58,7 +59,8 @@ fn raised(precision: u32, significand: u128, places: u32) -> u128
 pub fn whole_of(shape: Shape, x: Unpacked, round: Round) -> Option<Whole>
     requires lawful { IsShape shape }
     requires normal { IsNormal shape x.significand x.exponent }
-    ensures { IsPickedWithin round x.negative (quanta_at shape.min_exp x.significand x.exponent) (2 ^ (format_at shape).scale) result }
+    ensures { IsPickedWithin round x.negative (quanta_at shape.min_exp x.significand x.exponent)
+        (2 ^ (format_at shape).scale) result }
 {
     if x.exponent >= 128 {
         return None;

@@ -15,8 +15,10 @@ impl<S: Semantics, T: Semantics> FloatConvert<IeeeFloat<T>> for IeeeFloat<S> {
     /// A finite value whose number the format `T` has, with its sign, comes through as it is, with OK and without loss.
     #[inline]
     fn convert_r(self, round: Round, loses_info: &mut bool) -> StatusAnd<IeeeFloat<T>>
-        ensures converted { IsConversion (format_of S.Semantics) (format_of T.Semantics) round self result.value (bits_of result.status) loses_info.new }
-        ensures exact { IsExactlyConverted (format_of S.Semantics) (format_of T.Semantics) self result.value (bits_of result.status) loses_info.new }
+        ensures converted { IsConversion (format_of S.Semantics) (format_of T.Semantics) round
+            self result.value (bits_of result.status) loses_info.new }
+        ensures exact { IsExactlyConverted (format_of S.Semantics) (format_of T.Semantics) self
+            result.value (bits_of result.status) loses_info.new }
     {
         let converted = convert(shape_of::<S>(), shape_of::<T>(), self.unpacked(), round);
         *loses_info = converted.loses_info;

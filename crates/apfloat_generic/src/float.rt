@@ -81,7 +81,8 @@ fn widths_of<S: Semantics>() -> Widths
 pub(crate) fn read<S: Semantics>(bits: u128) -> IeeeFloat<S>
     requires { S.PRECISION < S.BITS }
     ensures read { result ≡ datum_of (format_of S.Semantics) (layout_of S.Semantics) bits }
-    ensures back { S.EXPLICIT_INTEGER_BIT ≡ false → bits < 2 ^ S.BITS → IsEncodedBy (format_of S.Semantics) (layout_of S.Semantics) bits result }
+    ensures back { S.EXPLICIT_INTEGER_BIT ≡ false → bits < 2 ^ S.BITS
+        → IsEncodedBy (format_of S.Semantics) (layout_of S.Semantics) bits result }
     ensures once { S.EXPLICIT_INTEGER_BIT ≡ false → bits < 2 ^ S.BITS → (other : ℕ)
         → IsEncodedBy (format_of S.Semantics) (layout_of S.Semantics) other result → other ≡ bits }
 {
@@ -93,7 +94,8 @@ pub(crate) fn read<S: Semantics>(bits: u128) -> IeeeFloat<S>
 pub(crate) fn write<S: Semantics>(x: IeeeFloat<S>) -> u128
     requires { S.PRECISION < S.BITS }
     ensures written { IsEncodedBy (format_of S.Semantics) (layout_of S.Semantics) result x }
-    ensures only { (other : ℕ) → IsEncodedBy (format_of S.Semantics) (layout_of S.Semantics) other x → other ≡ result }
+    ensures only { (other : ℕ)
+        → IsEncodedBy (format_of S.Semantics) (layout_of S.Semantics) other x → other ≡ result }
 {
     encode(shape_of::<S>(), widths_of::<S>(), x.unpacked())
 }
@@ -153,8 +155,12 @@ pub fn normalize<S: Semantics>(
 ) -> StatusAnd<IeeeFloat<S>>
     requires near { exponent ≤ℤ pos 8388608 }
     requires far { neg_ℤ (pos 8388608) ≤ℤ exponent }
-    requires fine { (loss ≡ Loss.ExactlyZero) ⊎ (((exponent +ℤ pos (format_of S.Semantics).scale) ≤ℤ pos 0) ⊎ (2 ^ ((format_of S.Semantics).precision - 1) ≤ significand)) }
-    ensures { let unit = exponent +ℤ pos (format_of S.Semantics).scale in (amount parts : ℕ) → 0 < parts → StandsFor significand loss (amount * 2 ^ down unit) (parts * 2 ^ up unit) → Gives (IsDelivered (format_of S.Semantics) round negative amount parts) result }
+    requires fine { (loss ≡ Loss.ExactlyZero)
+        ⊎ (((exponent +ℤ pos (format_of S.Semantics).scale) ≤ℤ pos 0)
+        ⊎ (2 ^ ((format_of S.Semantics).precision - 1) ≤ significand)) }
+    ensures { let unit = exponent +ℤ pos (format_of S.Semantics).scale in (amount parts : ℕ)
+        → 0 < parts → StandsFor significand loss (amount * 2 ^ down unit) (parts * 2 ^ up unit)
+        → Gives (IsDelivered (format_of S.Semantics) round negative amount parts) result }
 {
     IeeeFloat::answered(deliver(
         shape_of::<S>(),

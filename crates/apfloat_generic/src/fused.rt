@@ -36,7 +36,8 @@ impl<S: Semantics> IeeeFloat<S> {
     #[inline]
     pub fn mul_add(self, multiplicand: Self, addend: Self) -> StatusAnd<Self>
         requires { S.PRECISION ≤ 63 }
-        ensures { Gives (IsFusedSum (format_of S.Semantics) NearestTiesToEven self multiplicand addend) result }
+        ensures { Gives (IsFusedSum (format_of S.Semantics) NearestTiesToEven self multiplicand
+            addend) result }
     {
         self.mul_add_r(multiplicand, addend, Round::NearestTiesToEven)
     }

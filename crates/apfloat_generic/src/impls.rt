@@ -232,7 +232,8 @@ impl<S: Semantics> Float for IeeeFloat<S> {
     #[inline]
     fn next_up(self) -> StatusAnd<Self>
         ensures next { Gives (IsNextUp (format_of S.Semantics) self) result }
-        ensures back { S.NONFINITE_BEHAVIOR ≡ IEEE754 → is_finite_non_zero self ≡ true → IsNextDown (format_of S.Semantics) result.value self ok_bits }
+        ensures back { S.NONFINITE_BEHAVIOR ≡ IEEE754 → is_finite_non_zero self ≡ true
+            → IsNextDown (format_of S.Semantics) result.value self ok_bits }
     {
         IeeeFloat::answered(next_up(shape_of::<S>(), self.unpacked()))
     }
@@ -241,7 +242,8 @@ impl<S: Semantics> Float for IeeeFloat<S> {
     fn from_bits(bits: u128) -> Self
         requires { S.PRECISION < S.BITS }
         ensures read { result ≡ datum_of (format_of S.Semantics) (layout_of S.Semantics) bits }
-        ensures back { S.EXPLICIT_INTEGER_BIT ≡ false → bits < 2 ^ S.BITS → IsEncodedBy (format_of S.Semantics) (layout_of S.Semantics) bits result }
+        ensures back { S.EXPLICIT_INTEGER_BIT ≡ false → bits < 2 ^ S.BITS
+            → IsEncodedBy (format_of S.Semantics) (layout_of S.Semantics) bits result }
         ensures once { S.EXPLICIT_INTEGER_BIT ≡ false → bits < 2 ^ S.BITS → (other : ℕ)
             → IsEncodedBy (format_of S.Semantics) (layout_of S.Semantics) other result
             → other ≡ bits }
@@ -265,7 +267,9 @@ impl<S: Semantics> Float for IeeeFloat<S> {
         ensures written { IsEncodedBy (format_of S.Semantics) (layout_of S.Semantics) result self }
         ensures below { result < 2 ^ S.BITS }
         ensures back { datum_of (format_of S.Semantics) (layout_of S.Semantics) result ≡ self }
-        ensures only { (other : ℕ) → IsEncodedBy (format_of S.Semantics) (layout_of S.Semantics) other self → other ≡ result }
+        ensures only { (other : ℕ)
+            → IsEncodedBy (format_of S.Semantics) (layout_of S.Semantics) other self
+            → other ≡ result }
     {
         write::<S>(self)
     }

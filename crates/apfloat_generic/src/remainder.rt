@@ -38,7 +38,9 @@ impl<S: Semantics> IeeeFloat<S> {
     pub fn c_fmod_steps(self, rhs: Self) -> (StatusAnd<Self>, u32)
         ensures answer { Gives (IsTruncatedRemainder (format_of S.Semantics) self rhs) result.0 }
         ensures steps { result.1 ≡ ones_of_quotient self rhs }
-        ensures few { (a b : ℤ) → IsIlogb (format_of S.Semantics) self a → IsIlogb (format_of S.Semantics) rhs b → 0 < result.1 → pos result.1 ≤ℤ ((a -ℤ b) +ℤ pos 1) }
+        ensures few { (a b : ℤ) → IsIlogb (format_of S.Semantics) self a
+            → IsIlogb (format_of S.Semantics) rhs b → 0 < result.1
+            → pos result.1 ≤ℤ ((a -ℤ b) +ℤ pos 1) }
     {
         let remainder = truncated_remainder(shape_of::<S>(), self.unpacked(), rhs.unpacked());
         (IeeeFloat::answered(remainder.answer), remainder.steps)

@@ -94,9 +94,13 @@ pub trait Semantics: Copy {
     #[inline]
     final fn from_bits(bits: u128) -> IeeeFloat<Self>
         requires { PRECISION < BITS }
-        ensures read { let c = constants_with BITS EXP_BITS PRECISION NONFINITE_BEHAVIOR MAX_EXP IEEE_MAX_EXP MIN_EXP IEEE_MIN_EXP NAN_SIGNIFICAND_BASE NAN_PAYLOAD_MASK QNAN_SIGNIFICAND EXPLICIT_INTEGER_BIT TINY_BEFORE_ROUNDING in
+        ensures read { let c = constants_with BITS EXP_BITS PRECISION NONFINITE_BEHAVIOR MAX_EXP
+            IEEE_MAX_EXP MIN_EXP IEEE_MIN_EXP NAN_SIGNIFICAND_BASE NAN_PAYLOAD_MASK
+            QNAN_SIGNIFICAND EXPLICIT_INTEGER_BIT TINY_BEFORE_ROUNDING in
             result ≡ datum_of (format_with c) (layout_with c) bits }
-        ensures back { let c = constants_with BITS EXP_BITS PRECISION NONFINITE_BEHAVIOR MAX_EXP IEEE_MAX_EXP MIN_EXP IEEE_MIN_EXP NAN_SIGNIFICAND_BASE NAN_PAYLOAD_MASK QNAN_SIGNIFICAND EXPLICIT_INTEGER_BIT TINY_BEFORE_ROUNDING in
+        ensures back { let c = constants_with BITS EXP_BITS PRECISION NONFINITE_BEHAVIOR MAX_EXP
+            IEEE_MAX_EXP MIN_EXP IEEE_MIN_EXP NAN_SIGNIFICAND_BASE NAN_PAYLOAD_MASK
+            QNAN_SIGNIFICAND EXPLICIT_INTEGER_BIT TINY_BEFORE_ROUNDING in
             EXPLICIT_INTEGER_BIT ≡ false → bits < 2 ^ BITS → IsEncodedBy (format_with c) (layout_with c) bits result }
         ensures once { let c = constants_with BITS EXP_BITS PRECISION NONFINITE_BEHAVIOR MAX_EXP
             IEEE_MAX_EXP MIN_EXP IEEE_MIN_EXP NAN_SIGNIFICAND_BASE NAN_PAYLOAD_MASK
@@ -112,9 +116,13 @@ pub trait Semantics: Copy {
     #[inline]
     final fn to_bits(x: IeeeFloat<Self>) -> u128
         requires { PRECISION < BITS }
-        ensures written { let c = constants_with BITS EXP_BITS PRECISION NONFINITE_BEHAVIOR MAX_EXP IEEE_MAX_EXP MIN_EXP IEEE_MIN_EXP NAN_SIGNIFICAND_BASE NAN_PAYLOAD_MASK QNAN_SIGNIFICAND EXPLICIT_INTEGER_BIT TINY_BEFORE_ROUNDING in
+        ensures written { let c = constants_with BITS EXP_BITS PRECISION NONFINITE_BEHAVIOR
+            MAX_EXP IEEE_MAX_EXP MIN_EXP IEEE_MIN_EXP NAN_SIGNIFICAND_BASE NAN_PAYLOAD_MASK
+            QNAN_SIGNIFICAND EXPLICIT_INTEGER_BIT TINY_BEFORE_ROUNDING in
             IsEncodedBy (format_with c) (layout_with c) result x }
-        ensures only { let c = constants_with BITS EXP_BITS PRECISION NONFINITE_BEHAVIOR MAX_EXP IEEE_MAX_EXP MIN_EXP IEEE_MIN_EXP NAN_SIGNIFICAND_BASE NAN_PAYLOAD_MASK QNAN_SIGNIFICAND EXPLICIT_INTEGER_BIT TINY_BEFORE_ROUNDING in
+        ensures only { let c = constants_with BITS EXP_BITS PRECISION NONFINITE_BEHAVIOR MAX_EXP
+            IEEE_MAX_EXP MIN_EXP IEEE_MIN_EXP NAN_SIGNIFICAND_BASE NAN_PAYLOAD_MASK
+            QNAN_SIGNIFICAND EXPLICIT_INTEGER_BIT TINY_BEFORE_ROUNDING in
             (other : ℕ) → IsEncodedBy (format_with c) (layout_with c) other x → other ≡ result }
     {
         write::<Self>(x)

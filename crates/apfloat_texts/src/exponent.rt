@@ -21,7 +21,8 @@ const FAR: u128 = 1 << 96;
 fn with_digit(number: u128, digit: u8) -> u128
     requires small { digit < 16 }
     requires fits { number < 2 ^ 100 }
-    ensures saturated { (exact : ℕ) → IsSaturated exact number → IsSaturated (exact * 10 + digit) result }
+    ensures saturated { (exact : ℕ) → IsSaturated exact number
+        → IsSaturated (exact * 10 + digit) result }
     ensures fits { result < 2 ^ 100 }
 {
     if number < FAR {
@@ -34,7 +35,9 @@ fn with_digit(number: u128, digit: u8) -> u128
 /// The number that decimal digits stand for.
 #[inline(always)]
 fn magnitude(digits: &[u8]) -> Result<u128, Fault>
-    ensures { MatchResult result (λ n. IsSaturated (number 10 digits.now) n × (n < 2 ^ 100) × (exponent_fault digits.now ≡ None)) (λ fault. exponent_fault digits.now ≡ Some (fault_at fault)) }
+    ensures { MatchResult result (λ n. IsSaturated (number 10 digits.now) n × (n < 2 ^ 100)
+        × (exponent_fault digits.now ≡ None))
+        (λ fault. exponent_fault digits.now ≡ Some (fault_at fault)) }
 {
     if digits.is_empty() {
         return Err(Fault::NoExponentDigits);
@@ -54,7 +57,10 @@ fn magnitude(digits: &[u8]) -> Result<u128, Fault>
 /// The exponent that is written behind the letter.
 #[inline(always)]
 fn signed(text: &[u8]) -> Result<i128, Fault>
-    ensures { MatchResult result (λ e. IsNear (2 ^ 96) (exponent_number text.now) e × (e ≤ℤ pos (2 ^ 100)) × (neg_ℤ (pos (2 ^ 100)) ≤ℤ e) × (exponent_fault (behind_mark text.now) ≡ None)) (λ fault. exponent_fault (behind_mark text.now) ≡ Some (fault_at fault)) }
+    ensures { MatchResult result (λ e. IsNear (2 ^ 96) (exponent_number text.now) e
+        × (e ≤ℤ pos (2 ^ 100)) × (neg_ℤ (pos (2 ^ 100)) ≤ℤ e)
+        × (exponent_fault (behind_mark text.now) ≡ None))
+        (λ fault. exponent_fault (behind_mark text.now) ≡ Some (fault_at fault)) }
 {
     let (mark, digits) = split_mark(text);
     let magnitude = magnitude(digits)? as i128;
@@ -68,7 +74,10 @@ fn signed(text: &[u8]) -> Result<i128, Fault>
 /// The exponent in what follows a significand with some digit or with none.
 #[inline(always)]
 pub fn exponent_in(tail: &[u8], some: bool) -> Result<i128, Fault>
-    ensures { MatchResult result (λ e. IsNear (2 ^ 96) (exponent_number (drop 1 tail.now)) e × (e ≤ℤ pos (2 ^ 100)) × (neg_ℤ (pos (2 ^ 100)) ≤ℤ e) × (fault_behind some tail.now ≡ None)) (λ fault. fault_behind some tail.now ≡ Some (fault_at fault)) }
+    ensures { MatchResult result (λ e. IsNear (2 ^ 96) (exponent_number (drop 1 tail.now)) e
+        × (e ≤ℤ pos (2 ^ 100)) × (neg_ℤ (pos (2 ^ 100)) ≤ℤ e)
+        × (fault_behind some tail.now ≡ None))
+        (λ fault. fault_behind some tail.now ≡ Some (fault_at fault)) }
 {
     match tail {
         [b'p' | b'P', exponent @ ..] if some => signed(exponent),
@@ -110,7 +119,8 @@ fn clamped(exponent: i128) -> ExpInt
 pub fn unit_exponent(exponent: i128, cut: usize, places: usize) -> ExpInt
     requires high { exponent ≤ℤ pos (2 ^ 100) }
     requires low { neg_ℤ (pos (2 ^ 100)) ≤ℤ exponent }
-    ensures near { (exact : ℤ) → IsNear (2 ^ 96) exact exponent → IsNear 4194304 ((exact +ℤ pos (4 * cut)) -ℤ pos (4 * places)) result }
+    ensures near { (exact : ℤ) → IsNear (2 ^ 96) exact exponent
+        → IsNear 4194304 ((exact +ℤ pos (4 * cut)) -ℤ pos (4 * places)) result }
     ensures high { result ≤ℤ pos 4194304 }
     ensures low { neg_ℤ (pos 4194304) ≤ℤ result }
 {

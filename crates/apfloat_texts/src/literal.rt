@@ -23,7 +23,8 @@ pub fn read_literal(
     round: Round,
 ) -> Result<StatusAnd<Unpacked>, Fault>
     requires { IsShape shape }
-    ensures { MatchResult result (λ answer. IsLiteralRead shape round negative rest.now answer) (λ fault. behind_prefix_fault rest.now ≡ Some (fault_at fault)) }
+    ensures { MatchResult result (λ answer. IsLiteralRead shape round negative rest.now answer)
+        (λ fault. behind_prefix_fault rest.now ≡ Some (fault_at fault)) }
 {
     if rest.is_empty() {
         return Err(Fault::LonePrefix);

@@ -31,7 +31,12 @@ pub fn delivered(
     requires high { exponent ≤ℤ pos (2 ^ 100) }
     requires low { neg_ℤ (pos (2 ^ 100)) ≤ℤ exponent }
     ensures stored { IsStored shape result.value }
-    ensures delivered { (number : ℕ) (exact : ℤ) → IsKept number digits.significand digits.loss digits.cut → IsNear (2 ^ 96) exact exponent → IsScaledDelivery (format_at shape) round negative number ((exact -ℤ pos (4 * places)) +ℤ pos (format_at shape).scale) (datum_at shape result.value) (bits_of result.status) }
+    ensures delivered { (number : ℕ) (exact : ℤ)
+        → IsKept number digits.significand digits.loss digits.cut
+        → IsNear (2 ^ 96) exact exponent
+        → IsScaledDelivery (format_at shape) round negative number
+        ((exact -ℤ pos (4 * places)) +ℤ pos (format_at shape).scale)
+        (datum_at shape result.value) (bits_of result.status) }
 {
     if digits.significand == 0 {
         return Status::OK.and(zero_of(shape, negative));

@@ -25,7 +25,8 @@ use apfloat_unpacked::unpacked::{Unpacked, infinity_of, nan_of};
 fn special_value(shape: Shape, negative: bool, special: Special) -> Unpacked
     requires { IsShape shape }
     ensures stored { IsStored shape result }
-    ensures meant { (mode : Round) → IsMeant (format_at shape) mode (meaning_of negative special) (datum_at shape result) ok_bits }
+    ensures meant { (mode : Round) → IsMeant (format_at shape) mode
+        (meaning_of negative special) (datum_at shape result) ok_bits }
 {
     match special {
         Special::Infinity => infinity_of(shape, negative),
@@ -39,7 +40,8 @@ fn special_value(shape: Shape, negative: bool, special: Special) -> Unpacked
 /// What stands behind the prefix of a hexadecimal number.
 #[inline(always)]
 fn behind_prefix(body: &[u8]) -> Option<&[u8]>
-    ensures { MatchOption result (begins_literal body.now ≡ false) (λ rest. (begins_literal body.now ≡ true) × (rest.now ≡ drop 2 body.now)) }
+    ensures { MatchOption result (begins_literal body.now ≡ false)
+        (λ rest. (begins_literal body.now ≡ true) × (rest.now ≡ drop 2 body.now)) }
 {
     match body {
         [b'0', b'x' | b'X', rest @ ..] => Some(rest),
@@ -51,7 +53,8 @@ fn behind_prefix(body: &[u8]) -> Option<&[u8]>
 #[inline(always)]
 fn read_bytes(shape: Shape, text: &[u8], round: Round) -> Result<StatusAnd<Unpacked>, Fault>
     requires { IsShape shape }
-    ensures { MatchResult result (λ answer. IsTextRead shape round text.now answer) (λ fault. fault_of text.now ≡ Some (fault_at fault)) }
+    ensures { MatchResult result (λ answer. IsTextRead shape round text.now answer)
+        (λ fault. fault_of text.now ≡ Some (fault_at fault)) }
 {
     if text.is_empty() {
         return Err(Fault::EmptyText);
@@ -76,7 +79,8 @@ fn read_bytes(shape: Shape, text: &[u8], round: Round) -> Result<StatusAnd<Unpac
 #[inline(always)]
 pub fn read(shape: Shape, text: &str, round: Round) -> Result<StatusAnd<Unpacked>, ParseError>
     requires { IsShape shape }
-    ensures { MatchResult result (λ answer. IsTextRead shape round text.now answer) (λ error. IsRefusal text.now error.0.now) }
+    ensures { MatchResult result (λ answer. IsTextRead shape round text.now answer)
+        (λ error. IsRefusal text.now error.0.now) }
 {
     match read_bytes(shape, text.as_bytes(), round) {
         Ok(answer) => Ok(answer),

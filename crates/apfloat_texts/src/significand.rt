@@ -27,7 +27,9 @@ pub struct Digits {
 #[inline(always)]
 fn loss_behind(loss: Loss, digit: u8) -> Loss
     requires { digit < 16 }
-    ensures { (number significand half : ℕ) → 0 < half → StandsFor significand loss number (2 * half) → StandsFor significand result (number * 16 + digit) (16 * (2 * half)) }
+    ensures { (number significand half : ℕ) → 0 < half
+        → StandsFor significand loss number (2 * half)
+        → StandsFor significand result (number * 16 + digit) (16 * (2 * half)) }
 {
     match loss {
         Loss::ExactlyZero => {
@@ -70,7 +72,8 @@ impl Digits {
     fn followed_by(self, digit: u8) -> Digits
         requires small { digit < 16 }
         requires room { self.cut < usize.MAX }
-        ensures kept { (number : ℕ) → IsKept number self.significand self.loss self.cut → IsKept (number * 16 + digit) result.significand result.loss result.cut }
+        ensures kept { (number : ℕ) → IsKept number self.significand self.loss self.cut
+            → IsKept (number * 16 + digit) result.significand result.loss result.cut }
         ensures cut { result.cut ≤ self.cut + 1 }
     {
         if self.significand < 1 << 124 {
@@ -116,7 +119,8 @@ impl Scan {
 
     /// Nothing was read.
     fn none() -> Scan
-        ensures { (rest : List ℕ) → IsScan rest rest result.digits.significand result.digits.loss result.digits.cut result.places result.pointed result.some }
+        ensures { (rest : List ℕ) → IsScan rest rest result.digits.significand
+            result.digits.loss result.digits.cut result.places result.pointed result.some }
     {
         Scan {
             digits: Digits::none(),
@@ -132,7 +136,10 @@ impl Scan {
         requires digit { IsTrue (is_hexadecimal byte) }
         requires cut { self.digits.cut < usize.MAX }
         requires places { self.places < usize.MAX }
-        ensures { (rest left : List ℕ) → IsScan rest (byte ∷ left) self.digits.significand self.digits.loss self.digits.cut self.places self.pointed self.some → IsScan rest left result.digits.significand result.digits.loss result.digits.cut result.places result.pointed result.some }
+        ensures { (rest left : List ℕ) → IsScan rest (byte ∷ left) self.digits.significand
+            self.digits.loss self.digits.cut self.places self.pointed self.some
+            → IsScan rest left result.digits.significand result.digits.loss result.digits.cut
+            result.places result.pointed result.some }
     {
         Scan {
             digits: self.digits.followed_by(digit_value(byte)),
@@ -149,7 +156,12 @@ impl Scan {
     /// With the dot.
     #[inline(always)]
     fn with_dot(self) -> Result<Scan, Fault>
-        ensures { (rest left : List ℕ) → IsScan rest (46 ∷ left) self.digits.significand self.digits.loss self.digits.cut self.places self.pointed self.some → MatchResult result (λ scan. IsScan rest left scan.digits.significand scan.digits.loss scan.digits.cut scan.places scan.pointed scan.some) (λ fault. (fault ≡ SecondDot) × (ltb 1 (length (filter is_dot (significand_of rest))) ≡ true)) }
+        ensures { (rest left : List ℕ) → IsScan rest (46 ∷ left) self.digits.significand
+            self.digits.loss self.digits.cut self.places self.pointed self.some
+            → MatchResult result (λ scan. IsScan rest left scan.digits.significand
+            scan.digits.loss scan.digits.cut scan.places scan.pointed scan.some)
+            (λ fault. (fault ≡ SecondDot)
+            × (ltb 1 (length (filter is_dot (significand_of rest))) ≡ true)) }
     {
         if self.pointed {
             return Err(Fault::SecondDot);
@@ -185,7 +197,12 @@ impl Scan {
         requires passes { IsTrue (is_digit_or_dot byte) }
         requires cut { self.digits.cut < usize.MAX }
         requires places { self.places < usize.MAX }
-        ensures { (rest left : List ℕ) → IsScan rest (byte ∷ left) self.digits.significand self.digits.loss self.digits.cut self.places self.pointed self.some → MatchResult result (λ scan. IsScan rest left scan.digits.significand scan.digits.loss scan.digits.cut scan.places scan.pointed scan.some) (λ fault. (fault ≡ SecondDot) × (ltb 1 (length (filter is_dot (significand_of rest))) ≡ true)) }
+        ensures { (rest left : List ℕ) → IsScan rest (byte ∷ left) self.digits.significand
+            self.digits.loss self.digits.cut self.places self.pointed self.some
+            → MatchResult result (λ scan. IsScan rest left scan.digits.significand
+            scan.digits.loss scan.digits.cut scan.places scan.pointed scan.some)
+            (λ fault. (fault ≡ SecondDot)
+            × (ltb 1 (length (filter is_dot (significand_of rest))) ≡ true)) }
     {
         if byte == b'.' {
             self.with_dot()
@@ -201,7 +218,10 @@ impl Scan {
 /// registers; few texts reach the second one.
 #[inline(always)]
 pub fn scanned(rest: &[u8]) -> Result<(Scan, &[u8]), Fault>
-    ensures { MatchResult result (λ answer. IsScanned rest.now answer.1.now answer.0.digits.significand answer.0.digits.loss answer.0.digits.cut answer.0.places answer.0.some) (λ fault. (fault ≡ SecondDot) × (ltb 1 (length (filter is_dot (significand_of rest.now))) ≡ true)) }
+    ensures { MatchResult result (λ answer. IsScanned rest.now answer.1.now
+        answer.0.digits.significand answer.0.digits.loss answer.0.digits.cut answer.0.places
+        answer.0.some) (λ fault. (fault ≡ SecondDot)
+        × (ltb 1 (length (filter is_dot (significand_of rest.now))) ≡ true)) }
 {
     let mut scan = Scan::none();
     let mut left = rest;

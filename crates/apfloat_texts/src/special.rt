@@ -53,7 +53,9 @@ fn payload_behind_name(text: &[u8]) -> Option<u128>
 
 /// The NaN of a text without a plus.
 fn nan(body: &[u8]) -> Option<Special>
-    ensures { (negative : Bool) → meaning_at negative result ≡ (if begins is_s body.now then named_nan negative true (drop 1 body.now) else named_nan negative false body.now) }
+    ensures { (negative : Bool) → meaning_at negative result
+        ≡ (if begins is_s body.now then named_nan negative true (drop 1 body.now) else named_nan
+        negative false body.now) }
 {
     match body {
         [b's' | b'S', name @ ..] => Some(Special::Signaling(payload_behind_name(name)?)),
@@ -65,7 +67,8 @@ fn nan(body: &[u8]) -> Option<Special>
 #[cold]
 #[inline(never)]
 pub fn special_of(mark: Mark, body: &[u8]) -> Option<Special>
-    ensures { meaning_at (is_minus (mark_at mark)) result ≡ special_meaning (mark_at mark) body.now }
+    ensures { meaning_at (is_minus (mark_at mark)) result
+        ≡ special_meaning (mark_at mark) body.now }
 {
     if names_infinity(mark, body) {
         return Some(Special::Infinity);

@@ -100,8 +100,11 @@ fn implied_number(shape: Shape, widths: Widths, fields: Fields) -> Unpacked
     requires interchange { IsInterchange (format_at shape) (layout_at widths) }
     requires biased { fields.biased_exponent < 2 ^ widths.exponent_bits }
     requires trailing { fields.trailing < smallest_normalized (format_at shape) }
-    requires within { 0 < fields.biased_exponent → (smallest_normalized (format_at shape) + fields.trailing) * 2 ^ (fields.biased_exponent - 1) ≤ largest (format_at shape) }
-    requires signed { fields.biased_exponent ≡ 0 → fields.trailing ≡ 0 → zero_sign shape.nonfinite fields.negative ≡ fields.negative }
+    requires within { 0 < fields.biased_exponent
+        → (smallest_normalized (format_at shape) + fields.trailing) * 2
+        ^ (fields.biased_exponent - 1) ≤ largest (format_at shape) }
+    requires signed { fields.biased_exponent ≡ 0 → fields.trailing ≡ 0
+        → zero_sign shape.nonfinite fields.negative ≡ fields.negative }
     ensures stored { IsStored shape result }
     ensures datum { datum_at shape result ≡ implied_number (format_at shape) (fields_at fields) }
 {
@@ -125,7 +128,8 @@ fn implied_value(shape: Shape, widths: Widths, fields: Fields) -> Unpacked
     requires implied { shape.explicit_integer_bit ≡ false }
     requires within { AreWithin (format_at shape) (layout_at widths) (fields_at fields) }
     ensures stored { IsStored shape result }
-    ensures datum { datum_at shape result ≡ implied_datum shape.nonfinite (format_at shape) (layout_at widths) (fields_at fields) }
+    ensures datum { datum_at shape result
+        ≡ implied_datum shape.nonfinite (format_at shape) (layout_at widths) (fields_at fields) }
 {
     let is_greatest = fields.biased_exponent == ones(widths.exponent_bits);
     match shape.nonfinite {
@@ -188,7 +192,8 @@ fn written_value(shape: Shape, widths: Widths, fields: Fields) -> Unpacked
     requires explicit { shape.explicit_integer_bit ≡ true }
     requires within { AreWithin (format_at shape) (layout_at widths) (fields_at fields) }
     ensures stored { IsStored shape result }
-    ensures datum { datum_at shape result ≡ written_datum (format_at shape) (layout_at widths) (fields_at fields) }
+    ensures datum { datum_at shape result
+        ≡ written_datum (format_at shape) (layout_at widths) (fields_at fields) }
 {
     if fields.biased_exponent != ones(widths.exponent_bits) {
         written_number(shape, widths, fields)
@@ -221,7 +226,8 @@ fn fields_of_number(shape: Shape, widths: Widths, x: Unpacked) -> Fields
     requires lawful { IsShape shape }
     requires interchange { IsInterchange (format_at shape) (layout_at widths) }
     requires normal { IsNormal shape x.significand x.exponent }
-    ensures { AreFieldsOf (format_at shape) (layout_at widths) (fields_at result) (finite x.negative (quanta_at shape.min_exp x.significand x.exponent)) }
+    ensures { AreFieldsOf (format_at shape) (layout_at widths) (fields_at result)
+        (finite x.negative (quanta_at shape.min_exp x.significand x.exponent)) }
 {
     if x.exponent < shape.min_exp {
         return Fields {
@@ -247,7 +253,8 @@ fn fields_of_nan(shape: Shape, widths: Widths, x: Unpacked) -> Fields
     requires lawful { IsShape shape }
     requires interchange { IsInterchange (format_at shape) (layout_at widths) }
     requires nan { IsNan shape x.significand x.exponent x.negative }
-    ensures { AreFieldsOf (format_at shape) (layout_at widths) (fields_at result) (nan x.negative x.significand) }
+    ensures { AreFieldsOf (format_at shape) (layout_at widths) (fields_at result)
+        (nan x.negative x.significand) }
 {
     match shape.nonfinite {
         NonfiniteBehavior::NanNegativeZero => Fields {
@@ -269,7 +276,8 @@ fn fields_of_value(shape: Shape, widths: Widths, x: Unpacked) -> Fields
     requires lawful { IsShape shape }
     requires interchange { IsInterchange (format_at shape) (layout_at widths) }
     requires stored { IsStored shape x }
-    ensures { AreFieldsOf (format_at shape) (layout_at widths) (fields_at result) (datum_at shape x) }
+    ensures { AreFieldsOf (format_at shape) (layout_at widths) (fields_at result)
+        (datum_at shape x) }
 {
     match x.category {
         Category::Zero => Fields {
@@ -298,7 +306,9 @@ pub fn encode(shape: Shape, widths: Widths, x: Unpacked) -> u128
     requires interchange { IsInterchange (format_at shape) (layout_at widths) }
     requires stored { IsStored shape x }
     ensures encoded { IsEncodedBy (format_at shape) (layout_at widths) result (datum_at shape x) }
-    ensures only { (other : ℕ) → IsEncodedBy (format_at shape) (layout_at widths) other (datum_at shape x) → other ≡ result }
+    ensures only { (other : ℕ)
+        → IsEncodedBy (format_at shape) (layout_at widths) other (datum_at shape x)
+        → other ≡ result }
 {
     let fields = fields_of_value(shape, widths, x);
     join(shape, widths, fields)

@@ -102,9 +102,11 @@ pub fn is_signaling(shape: Shape, x: Unpacked) -> bool
 #[inline(always)]
 pub fn quieted_significand(shape: Shape, significand: u128) -> u128
     requires lawful { IsShape shape }
-    requires nan { IsNanSignificand shape.nonfinite shape.explicit_integer_bit shape.precision significand }
+    requires nan { IsNanSignificand shape.nonfinite shape.explicit_integer_bit shape.precision
+        significand }
     ensures value { result ≡ quieted (format_at shape) significand }
-    ensures nan { IsNanSignificand shape.nonfinite shape.explicit_integer_bit shape.precision result }
+    ensures nan { IsNanSignificand shape.nonfinite shape.explicit_integer_bit shape.precision
+        result }
 {
     if signals(shape, significand) {
         significand | quiet_bit(shape)
@@ -118,7 +120,8 @@ pub fn quieted_significand(shape: Shape, significand: u128) -> u128
 pub fn quiet_significand(shape: Shape, payload: u128) -> u128
     requires { IsShape shape }
     ensures value { result ≡ quiet_significand (format_at shape) payload }
-    ensures nan { IsNanSignificand shape.nonfinite shape.explicit_integer_bit shape.precision result }
+    ensures nan { IsNanSignificand shape.nonfinite shape.explicit_integer_bit shape.precision
+        result }
 {
     (nan_base(shape) | quiet_bits(shape)) | (payload & payload_mask(shape))
 }
@@ -141,7 +144,8 @@ fn with_payload(shape: Shape, significand: u128) -> u128
 pub fn signaling_significand(shape: Shape, payload: u128) -> u128
     requires { IsShape shape }
     ensures value { result ≡ signaling_significand (format_at shape) payload }
-    ensures nan { IsNanSignificand shape.nonfinite shape.explicit_integer_bit shape.precision result }
+    ensures nan { IsNanSignificand shape.nonfinite shape.explicit_integer_bit shape.precision
+        result }
 {
     let quiet = quiet_significand(shape, payload);
     with_payload(shape, quiet - (quiet & quiet_bit(shape)))
@@ -175,7 +179,8 @@ fn quieted(shape: Shape, x: Unpacked) -> Unpacked
     requires stored { IsStored shape x }
     requires nan { x.category ≡ NaN }
     ensures stored { IsStored shape result }
-    ensures datum { datum_at shape result ≡ nan x.negative (quieted (format_at shape) x.significand) }
+    ensures datum { datum_at shape result
+        ≡ nan x.negative (quieted (format_at shape) x.significand) }
 {
     nan_of(shape, x.negative, quieted_significand(shape, x.significand))
 }
@@ -199,7 +204,8 @@ pub fn propagated(shape: Shape, x: Unpacked) -> StatusAnd<Unpacked>
     requires stored { IsStored shape x }
     requires nan { x.category ≡ NaN }
     ensures stored { IsStored shape result.value }
-    ensures delivered { IsOfNan (format_at shape) x.negative x.significand (datum_at shape result.value) (bits_of result.status) }
+    ensures delivered { IsOfNan (format_at shape) x.negative x.significand
+        (datum_at shape result.value) (bits_of result.status) }
 {
     status_of(signals(shape, x.significand)).and(quieted(shape, x))
 }
@@ -212,7 +218,8 @@ pub fn propagated_left(shape: Shape, x: Unpacked, y: Unpacked) -> StatusAnd<Unpa
     requires y_stored { IsStored shape y }
     requires nan { x.category ≡ NaN }
     ensures stored { IsStored shape result.value }
-    ensures delivered { IsOfNans (format_at shape) x.negative x.significand (datum_at shape y) (datum_at shape result.value) (bits_of result.status) }
+    ensures delivered { IsOfNans (format_at shape) x.negative x.significand (datum_at shape y)
+        (datum_at shape result.value) (bits_of result.status) }
 {
     let signaling = signals(shape, x.significand) || is_signaling(shape, y);
     status_of(signaling).and(quieted(shape, x))
@@ -223,7 +230,8 @@ pub fn propagated_left(shape: Shape, x: Unpacked, y: Unpacked) -> StatusAnd<Unpa
 pub fn invalid(shape: Shape) -> StatusAnd<Unpacked>
     requires { IsShape shape }
     ensures stored { IsStored shape result.value }
-    ensures delivered { IsInvalid (format_at shape) (datum_at shape result.value) (bits_of result.status) }
+    ensures delivered { IsInvalid (format_at shape) (datum_at shape result.value)
+        (bits_of result.status) }
 {
     Status::INVALID_OP.and(quiet_nan(shape, 0))
 }

@@ -73,12 +73,18 @@ fn keep(precision: u32, significand: u128, unit: ExpInt, loss: Loss) -> Kept
     requires precise { precision ≤ 125 }
     requires near { unit ≤ℤ pos 16777216 }
     requires far { neg_ℤ (pos 16777216) ≤ℤ unit }
-    requires fine { (loss ≡ Loss.ExactlyZero) ⊎ ((unit ≤ℤ pos 0) ⊎ (2 ^ (precision - 1) ≤ significand)) }
+    requires fine { (loss ≡ Loss.ExactlyZero)
+        ⊎ ((unit ≤ℤ pos 0) ⊎ (2 ^ (precision - 1) ≤ significand)) }
     ensures fits { result.significand < 2 ^ precision }
     ensures full { (result.place ≡ 0) ⊎ (2 ^ (precision - 1) ≤ result.significand) }
     ensures near { result.place ≤ 33554431 }
-    ensures enclosed { (amount parts : ℕ) → 0 < parts → StandsFor significand loss (amount * 2 ^ down unit) (parts * 2 ^ up unit) → IsEnclosed precision (2 ^ (precision - 1)) result.significand result.place amount parts }
-    ensures stands { (amount parts : ℕ) → 0 < parts → StandsFor significand loss (amount * 2 ^ down unit) (parts * 2 ^ up unit) → StandsFor result.significand result.loss amount (2 ^ result.place * parts) }
+    ensures enclosed { (amount parts : ℕ) → 0 < parts
+        → StandsFor significand loss (amount * 2 ^ down unit) (parts * 2 ^ up unit)
+        → IsEnclosed precision (2 ^ (precision - 1)) result.significand result.place amount
+        parts }
+    ensures stands { (amount parts : ℕ) → 0 < parts
+        → StandsFor significand loss (amount * 2 ^ down unit) (parts * 2 ^ up unit)
+        → StandsFor result.significand result.loss amount (2 ^ result.place * parts) }
 {
     let place = kept_place(precision, digits(significand), unit);
     if unit > place as ExpInt {
@@ -139,7 +145,10 @@ fn pick(precision: u32, kept: Kept, mode: Round, negative: bool) -> Point
     requires fits { kept.significand < 2 ^ precision }
     requires full { (kept.place ≡ 0) ⊎ (2 ^ (precision - 1) ≤ kept.significand) }
     requires near { kept.place ≤ 33554431 }
-    ensures picked { (amount parts : ℕ) → 0 < parts → IsEnclosed precision (2 ^ (precision - 1)) kept.significand kept.place amount parts → StandsFor kept.significand kept.loss amount (2 ^ kept.place * parts) → IsPick precision mode negative amount parts (result.significand * 2 ^ result.place) }
+    ensures picked { (amount parts : ℕ) → 0 < parts
+        → IsEnclosed precision (2 ^ (precision - 1)) kept.significand kept.place amount parts
+        → StandsFor kept.significand kept.loss amount (2 ^ kept.place * parts)
+        → IsPick precision mode negative amount parts (result.significand * 2 ^ result.place) }
     ensures fits { result.significand < 2 ^ precision }
     ensures full { (result.place ≡ 0) ⊎ (2 ^ (precision - 1) ≤ result.significand) }
     ensures near { result.place ≤ 33554432 }
@@ -198,7 +207,8 @@ fn leads_past(mode: Round, negative: bool) -> bool
 #[inline(always)]
 fn is_tiny(shape: Shape, before: u128, after: u128) -> bool
     requires { IsShape shape }
-    ensures { result ≡ (if shape.tiny_before_rounding then ltb before (2 ^ (shape.precision - 1)) else ltb after (2 ^ (shape.precision - 1))) }
+    ensures { result ≡ (if shape.tiny_before_rounding then ltb before
+        (2 ^ (shape.precision - 1)) else ltb after (2 ^ (shape.precision - 1))) }
 {
     if shape.tiny_before_rounding {
         before < shape.integer_bit()
@@ -212,8 +222,11 @@ fn is_tiny(shape: Shape, before: u128, after: u128) -> bool
 fn overflowed(shape: Shape, mode: Round, negative: bool) -> StatusAnd<Unpacked>
     requires { IsShape shape }
     ensures stored { IsStored shape result.value }
-    ensures value { datum_at shape result.value ≡ (if leads_out mode negative then past_largest shape.nonfinite (nan_base (format_at shape)) negative else finite negative (largest (format_at shape))) }
-    ensures status { bits_of result.status ≡ (if leads_out mode negative then overflow_bit + inexact_bit else inexact_bit) }
+    ensures value { datum_at shape result.value
+        ≡ (if leads_out mode negative then past_largest shape.nonfinite
+        (nan_base (format_at shape)) negative else finite negative (largest (format_at shape))) }
+    ensures status { bits_of result.status
+        ≡ (if leads_out mode negative then overflow_bit + inexact_bit else inexact_bit) }
 {
     if leads_past(mode, negative) {
         Status::OVERFLOW
@@ -228,7 +241,8 @@ fn overflowed(shape: Shape, mode: Round, negative: bool) -> StatusAnd<Unpacked>
 #[inline(always)]
 fn status_within(loss: Loss, tiny: bool) -> Status
     ensures exact { loss ≡ Loss.ExactlyZero → bits_of result ≡ ok_bits }
-    ensures inexact { (loss ≡ Loss.ExactlyZero → ⊥) → bits_of result ≡ (if tiny then underflow_bit + inexact_bit else inexact_bit) }
+    ensures inexact { (loss ≡ Loss.ExactlyZero → ⊥)
+        → bits_of result ≡ (if tiny then underflow_bit + inexact_bit else inexact_bit) }
 {
     match loss {
         Loss::ExactlyZero => Status::OK,
@@ -250,7 +264,11 @@ fn finish(shape: Shape, kept: Kept, mode: Round, negative: bool) -> StatusAnd<Un
     requires full { (kept.place ≡ 0) ⊎ (2 ^ (shape.precision - 1) ≤ kept.significand) }
     requires near { kept.place ≤ 33554431 }
     ensures stored { IsStored shape result.value }
-    ensures delivered { (amount parts : ℕ) → 0 < parts → IsEnclosed shape.precision (2 ^ (shape.precision - 1)) kept.significand kept.place amount parts → StandsFor kept.significand kept.loss amount (2 ^ kept.place * parts) → IsDelivered (format_at shape) mode negative amount parts (datum_at shape result.value) (bits_of result.status) }
+    ensures delivered { (amount parts : ℕ) → 0 < parts
+        → IsEnclosed shape.precision (2 ^ (shape.precision - 1)) kept.significand kept.place
+        amount parts → StandsFor kept.significand kept.loss amount (2 ^ kept.place * parts)
+        → IsDelivered (format_at shape) mode negative amount parts (datum_at shape result.value)
+        (bits_of result.status) }
 {
     let point = pick(shape.precision, kept, mode, negative);
     let greatest = shape.greatest_significand();
@@ -291,9 +309,14 @@ pub fn deliver(
     requires lawful { IsShape shape }
     requires near { exponent ≤ℤ pos 8388608 }
     requires far { neg_ℤ (pos 8388608) ≤ℤ exponent }
-    requires fine { (loss ≡ Loss.ExactlyZero) ⊎ (((exponent +ℤ pos (format_at shape).scale) ≤ℤ pos 0) ⊎ (2 ^ (shape.precision - 1) ≤ significand)) }
+    requires fine { (loss ≡ Loss.ExactlyZero)
+        ⊎ (((exponent +ℤ pos (format_at shape).scale) ≤ℤ pos 0)
+        ⊎ (2 ^ (shape.precision - 1) ≤ significand)) }
     ensures stored { IsStored shape result.value }
-    ensures delivered { let unit = exponent +ℤ pos (format_at shape).scale in (amount parts : ℕ) → 0 < parts → StandsFor significand loss (amount * 2 ^ down unit) (parts * 2 ^ up unit) → IsDelivered (format_at shape) mode negative amount parts (datum_at shape result.value) (bits_of result.status) }
+    ensures delivered { let unit = exponent +ℤ pos (format_at shape).scale in (amount parts : ℕ)
+        → 0 < parts → StandsFor significand loss (amount * 2 ^ down unit) (parts * 2 ^ up unit)
+        → IsDelivered (format_at shape) mode negative amount parts (datum_at shape result.value)
+        (bits_of result.status) }
 {
     let unit = unit_place(shape, exponent);
     let kept = keep(shape.precision, significand, unit, loss);

@@ -67,7 +67,8 @@ pub fn zero_of(shape: Shape, negative: bool) -> Unpacked
 /// The NaN with that significand, and with that sign where NaNs have one.
 #[inline(always)]
 pub fn nan_of(shape: Shape, negative: bool, significand: u128) -> Unpacked
-    requires { IsNanSignificand shape.nonfinite shape.explicit_integer_bit shape.precision significand }
+    requires { IsNanSignificand shape.nonfinite shape.explicit_integer_bit shape.precision
+        significand }
     ensures stored { IsStored shape result }
     ensures datum { datum_at shape result ≡ nan (nan_sign shape.nonfinite negative) significand }
 {
@@ -124,7 +125,8 @@ pub fn quanta_of(shape: Shape, negative: bool, significand: u128, place: u32) ->
     requires near { place ≤ 33554432 }
     requires within { significand * 2 ^ place ≤ largest (format_at shape) }
     ensures stored { IsStored shape result }
-    ensures datum { datum_at shape result ≡ signed_quanta shape.nonfinite negative (significand * 2 ^ place) }
+    ensures datum { datum_at shape result
+        ≡ signed_quanta shape.nonfinite negative (significand * 2 ^ place) }
 {
     if significand == 0 {
         return zero_of(shape, negative);
@@ -147,7 +149,8 @@ pub fn rounded_quanta_of(shape: Shape, negative: bool, significand: u128, place:
     requires near { place ≤ 33554432 }
     requires within { significand * 2 ^ place ≤ largest (format_at shape) }
     ensures stored { IsStored shape result }
-    ensures datum { datum_at shape result ≡ signed_quanta shape.nonfinite negative (significand * 2 ^ place) }
+    ensures datum { datum_at shape result
+        ≡ signed_quanta shape.nonfinite negative (significand * 2 ^ place) }
 {
     if significand >= shape.integer_bit() {
         return Unpacked {

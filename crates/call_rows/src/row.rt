@@ -26,7 +26,8 @@ pub struct Row<'a> {
 
 /// The row of a line, if it has seven columns.
 pub fn row_of(line: &str) -> Option<Row<'_>>
-    ensures { IfSome result (λ row. line.now ≡ row.call.now ++ 9 ∷ row.format.now ++ 9 ∷ row.mode.now ++ 9
+    ensures { IfSome result
+        (λ row. line.now ≡ row.call.now ++ 9 ∷ row.format.now ++ 9 ∷ row.mode.now ++ 9
         ∷ row.operands.now ++ 9 ∷ row.value.now ++ 9 ∷ row.status.now ++ 9 ∷ row.extra.now) }
 {
     let (call, others) = cut_column(line)?;

@@ -11,20 +11,28 @@ use Rattle.apfloat_base.proofs.Neighbours.{below_is, above_is_same, above_is_nex
 use Rattle.apfloat_base.proofs.Existence.{enclosed_by_quotient}
 use Rattle.conformance.specs.Plain.{IsSpacing}
 
-enclosed : (precision amount parts spacing : ℕ) → 0 < precision → 0 < parts → (s : IsSpacing precision amount parts spacing) → IsEnclosed precision (2 ^ (precision - 1)) (amount / (parts * 2 ^ s.place)) s.place amount parts
+enclosed : (precision amount parts spacing : ℕ) → 0 < precision → 0 < parts
+    → (s : IsSpacing precision amount parts spacing)
+    → IsEnclosed precision (2 ^ (precision - 1)) (amount / (parts * 2 ^ s.place)) s.place amount parts
 enclosed precision amount parts spacing h p s =
     enclosed_by_quotient precision (2 ^ (precision - 1)) s.place amount parts p (sym (twice_half precision h))
     (subst (λ (x : ℕ). amount < 2 ^ precision * (parts * x)) s.is s.few)
     (subst (λ (x : ℕ). (s.place ≡ 0) ⊎ (2 ^ (precision - 1) * (parts * x) ≤ amount)) s.is s.many)
 
-pub floor_is : (precision amount parts spacing : ℕ) → 0 < precision → 0 < parts → IsSpacing precision amount parts spacing → IsBelow precision (amount / (parts * spacing) * spacing) amount parts
+pub floor_is : (precision amount parts spacing : ℕ) → 0 < precision → 0 < parts
+    → IsSpacing precision amount parts spacing
+    → IsBelow precision (amount / (parts * spacing) * spacing) amount parts
 floor_is precision amount parts spacing h p s =
     subst (λ (x : ℕ). IsBelow precision (amount / (parts * x) * x) amount parts) (sym s.is)
-    (below_is precision (2 ^ (precision - 1)) (amount / (parts * 2 ^ s.place)) s.place amount parts (enclosed precision amount parts spacing h p s))
+    (below_is precision (2 ^ (precision - 1)) (amount / (parts * 2 ^ s.place)) s.place amount parts
+    (enclosed precision amount parts spacing h p s))
 
-ceiling_of : (precision half c amount parts : ℕ) → 0 < parts → IsEnclosed precision half (amount / (parts * 2 ^ c)) c amount parts → IsAbove precision (div_ceil amount (parts * 2 ^ c) * 2 ^ c) amount parts
+ceiling_of : (precision half c amount parts : ℕ) → 0 < parts
+    → IsEnclosed precision half (amount / (parts * 2 ^ c)) c amount parts
+    → IsAbove precision (div_ceil amount (parts * 2 ^ c) * 2 ^ c) amount parts
 ceiling_of precision half c amount parts p i =
-    let d : amount / (parts * 2 ^ c) * (parts * 2 ^ c) + amount % (parts * 2 ^ c) ≡ amount = div-add-mod' amount (parts * 2 ^ c) in
+    let d : amount / (parts * 2 ^ c) * (parts * 2 ^ c) + amount % (parts * 2 ^ c) ≡ amount =
+    div-add-mod' amount (parts * 2 ^ c) in
     ⊎_elim
     (λ (q : 0 < amount % (parts * 2 ^ c)).
     let e : amount / (parts * 2 ^ c) + 1 ≡ div_ceil amount (parts * 2 ^ c) = omega arith in
@@ -36,38 +44,47 @@ ceiling_of precision half c amount parts p i =
     (above_is_same precision half (amount / (parts * 2 ^ c)) c amount parts p i (omega arith)))
     (cases_lt 0 (amount % (parts * 2 ^ c)))
 
-pub ceiling_is : (precision amount parts spacing : ℕ) → 0 < precision → 0 < parts → IsSpacing precision amount parts spacing → IsAbove precision (div_ceil amount (parts * spacing) * spacing) amount parts
+pub ceiling_is : (precision amount parts spacing : ℕ) → 0 < precision → 0 < parts
+    → IsSpacing precision amount parts spacing
+    → IsAbove precision (div_ceil amount (parts * spacing) * spacing) amount parts
 ceiling_is precision amount parts spacing h p s =
     subst (λ (x : ℕ). IsAbove precision (div_ceil amount (parts * x) * x) amount parts) (sym s.is)
-    (ceiling_of precision (2 ^ (precision - 1)) s.place amount parts p (enclosed precision amount parts spacing h p s))
+    (ceiling_of precision (2 ^ (precision - 1)) s.place amount parts p
+    (enclosed precision amount parts spacing h p s))
 
 -- a power of two that is not below the magnitude is not below its upper neighbour
-above_to : (precision above amount parts place : ℕ) → 0 < precision → IsAbove precision above amount parts → amount ≤ 2 ^ place * parts → above ≤ 2 ^ place
+above_to : (precision above amount parts place : ℕ) → 0 < precision → IsAbove precision above amount parts
+    → amount ≤ 2 ^ place * parts → above ≤ 2 ^ place
 above_to precision above amount parts place h i l =
     let t : 2 * 2 ^ (precision - 1) ≡ 2 ^ precision = twice_half precision h in
     let q : 1 ≤ 2 ^ (precision - 1) = pow_pos (precision - 1) in
     i.least (2 ^ place) (record { significand = 1; place = place; fits = omega arith; is = omega arith }) l
 
-pub above_bound : (precision above amount parts place : ℕ) → 0 < precision → 0 < parts → IsAbove precision above amount parts → amount ≤ 2 ^ place → above ≤ 2 ^ place
+pub above_bound : (precision above amount parts place : ℕ) → 0 < precision → 0 < parts
+    → IsAbove precision above amount parts → amount ≤ 2 ^ place → above ≤ 2 ^ place
 above_bound precision above amount parts place h p i l =
     let k : 2 ^ place * 1 ≤ 2 ^ place * parts = omega (arith, mul-le-mul_right (2 ^ place) p) in
     above_to precision above amount parts place h i (omega arith)
 
 -- it is at most the magnitude doubled, or 1
-pub above_near : (precision above amount parts place : ℕ) → 0 < precision → 0 < parts → IsAbove precision above amount parts → above ≤ 2 ^ place → above * parts ≤ 2 * amount + parts
+pub above_near : (precision above amount parts place : ℕ) → 0 < precision → 0 < parts
+    → IsAbove precision above amount parts → above ≤ 2 ^ place → above * parts ≤ 2 * amount + parts
 above_near precision above amount parts zero h p i l =
     let k : above * parts ≤ 1 * parts = mul-le-mul_right parts l in
     omega arith
 above_near precision above amount parts (suc place) h p i l =
     ⊎_elim
     (λ (q : 2 ^ place * parts < amount).
-    let k : above * parts ≤ 2 ^ place * 2 * parts = mul-le-mul_right parts (subst (λ (x : ℕ). above ≤ x) (pow-suc 2 place) l) in
+    let k : above * parts ≤ 2 ^ place * 2 * parts =
+    mul-le-mul_right parts (subst (λ (x : ℕ). above ≤ x) (pow-suc 2 place) l) in
     omega arith)
-    (λ (q : amount ≤ 2 ^ place * parts). above_near precision above amount parts place h p i (above_to precision above amount parts place h i q))
+    (λ (q : amount ≤ 2 ^ place * parts). above_near precision above amount parts place h p i
+    (above_to precision above amount parts place h i q))
     (cases_lt (2 ^ place * parts) amount)
 
 -- so it has room
-pub above_fits : (precision above amount parts : ℕ) → 0 < precision → 0 < parts → IsAbove precision above amount parts → amount < 2 ^ 126 → parts < 2 ^ 64 → above * parts < 2 ^ 128
+pub above_fits : (precision above amount parts : ℕ) → 0 < precision → 0 < parts
+    → IsAbove precision above amount parts → amount < 2 ^ 126 → parts < 2 ^ 64 → above * parts < 2 ^ 128
 above_fits precision above amount parts h p i a b =
     let l : above ≤ 2 ^ 126 = above_bound precision above amount parts 126 h p i (omega arith) in
     let k : above * parts ≤ 2 * amount + parts = above_near precision above amount parts 126 h p i l in

@@ -14,23 +14,30 @@ pub record IsReached (precision amount parts spacing : ℕ) : Type 0 where
 pub spacing_some : (precision amount parts spacing : ℕ) → IsReached precision amount parts spacing → 0 < spacing
 spacing_some precision amount parts spacing r = subst (λ (x : ℕ). 0 < x) (sym r.is) (pow_pos r.place)
 
-divisor_some : (precision amount parts spacing : ℕ) → 0 < parts → IsReached precision amount parts spacing → 0 < parts * spacing
+divisor_some : (precision amount parts spacing : ℕ) → 0 < parts → IsReached precision amount parts spacing
+    → 0 < parts * spacing
 divisor_some precision amount parts spacing h r = mul-pos h (spacing_some precision amount parts spacing r)
 
 -- where the magnitude has too many of them
-too_many : (precision amount parts spacing : ℕ) → 0 < parts → IsReached precision amount parts spacing → 2 ^ precision ≤ amount / (parts * spacing) → 2 ^ precision * (parts * spacing) ≤ amount
-too_many precision amount parts spacing h r l = (le-div_iff_mul-le (divisor_some precision amount parts spacing h r)).0 l
+too_many : (precision amount parts spacing : ℕ) → 0 < parts → IsReached precision amount parts spacing
+    → 2 ^ precision ≤ amount / (parts * spacing) → 2 ^ precision * (parts * spacing) ≤ amount
+too_many precision amount parts spacing h r l =
+    (le-div_iff_mul-le (divisor_some precision amount parts spacing h r)).0 l
 
-pub doubled : (precision amount parts spacing : ℕ) → 0 < precision → 0 < parts → IsReached precision amount parts spacing → 2 ^ precision ≤ amount / (parts * spacing) → IsReached precision amount parts (spacing * 2)
+pub doubled : (precision amount parts spacing : ℕ) → 0 < precision → 0 < parts
+    → IsReached precision amount parts spacing → 2 ^ precision ≤ amount / (parts * spacing)
+    → IsReached precision amount parts (spacing * 2)
 doubled precision amount parts spacing p h r l =
     let m : 2 ^ precision * (parts * spacing) ≤ amount = too_many precision amount parts spacing h r l in
     let t : 2 * 2 ^ (precision - 1) ≡ 2 ^ precision = twice_half precision p in
     let e : 2 ^ (r.place + 1) ≡ 2 ^ r.place * 2 = pow-add 2 r.place 1 in
     let s : spacing ≡ 2 ^ r.place = r.is in
-    let k : 2 * 2 ^ (precision - 1) * (parts * spacing) ≡ 2 ^ precision * (parts * spacing) = ap (λ (x : ℕ). x * (parts * spacing)) t in
+    let k : 2 * 2 ^ (precision - 1) * (parts * spacing) ≡ 2 ^ precision * (parts * spacing) =
+    ap (λ (x : ℕ). x * (parts * spacing)) t in
     record { place = r.place + 1; is = omega arith; many = inr (omega arith) }
 
-pub spacing_below : (precision amount parts spacing : ℕ) → 0 < precision → 0 < parts → IsReached precision amount parts spacing → 2 ^ precision ≤ amount / (parts * spacing) → spacing < amount
+pub spacing_below : (precision amount parts spacing : ℕ) → 0 < precision → 0 < parts
+    → IsReached precision amount parts spacing → 2 ^ precision ≤ amount / (parts * spacing) → spacing < amount
 spacing_below precision amount parts spacing p h r l =
     let m : 2 ^ precision * (parts * spacing) ≤ amount = too_many precision amount parts spacing h r l in
     let t : 2 * 2 ^ (precision - 1) ≡ 2 ^ precision = twice_half precision p in
@@ -42,7 +49,8 @@ spacing_below precision amount parts spacing p h r l =
     omega arith
 
 -- where it has few enough
-pub last : (precision amount parts spacing : ℕ) → 0 < parts → IsReached precision amount parts spacing → amount / (parts * spacing) < 2 ^ precision → IsSpacing precision amount parts spacing
+pub last : (precision amount parts spacing : ℕ) → 0 < parts → IsReached precision amount parts spacing
+    → amount / (parts * spacing) < 2 ^ precision → IsSpacing precision amount parts spacing
 last precision amount parts spacing h r l = record {
   place = r.place;
   is = r.is;

@@ -67,14 +67,16 @@ first_reach x y s k m e =
     (magnitude (number x)) (magnitude (number y))
     (normalised_low s e.normalised) (first_most (number s.high) (number s.low)) sum
     (summand_size reach_of_three x k) (summand_size reach_of_three y m) in
-    let quanta = subst (λ (i : ℕ). i ≤ 4 * reach_of_three) (magnitude_quanta s.high e.normalised.finite_high) most in
+    let quanta = subst (λ (i : ℕ). i ≤ 4 * reach_of_three) (magnitude_quanta s.high e.normalised.finite_high)
+    most in
     subst (λ (i : ℕ). quanta_of s.high ≤ i) four_times quanta
 
 widened_reach : (t n : ℕ) → n ≤ t → n ≤ 4 * t
 widened_reach t n h = omega arith
 
 third_reach : (z : Datum) → IsSummand reach_of_three z → quanta_of z ≤ sum_reach
-third_reach z s = subst (λ (i : ℕ). quanta_of z ≤ i) four_times (widened_reach reach_of_three (quanta_of z) s.within)
+third_reach z s = subst (λ (i : ℕ). quanta_of z ≤ i) four_times
+    (widened_reach reach_of_three (quanta_of z) s.within)
 
 close_by : (m n p q : ℤ) (answer : Pair) → m ≡ n → p ≡ q
     → IsClosePair (m +ℤ p) 1 103 (magnitude m + magnitude p) answer

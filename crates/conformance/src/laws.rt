@@ -34,7 +34,8 @@ pub fn sums_in_order<S: Semantics>(
     z: IeeeFloat<S>,
     mode: Round,
 ) -> (IeeeFloat<S>, IeeeFloat<S>)
-    ensures { S.NONFINITE_BEHAVIOR ≡ IEEE754 → IsTrue (is_finite x) → IsTrue (is_finite y) → IsTrue (is_finite z) → number x ≤ℤ number y → AtMost result.0 result.1 }
+    ensures { S.NONFINITE_BEHAVIOR ≡ IEEE754 → IsTrue (is_finite x) → IsTrue (is_finite y)
+        → IsTrue (is_finite z) → number x ≤ℤ number y → AtMost result.0 result.1 }
 {
     (x.add_r(z, mode).value, y.add_r(z, mode).value)
 }
@@ -46,8 +47,10 @@ pub fn opposite_products<S: Semantics>(
     mode: Round,
 ) -> (StatusAnd<IeeeFloat<S>>, StatusAnd<IeeeFloat<S>>)
     requires { S.PRECISION ≤ 64 }
-    ensures value { IsTrue (is_finite_non_zero x) → IsTrue (is_finite_non_zero y) → result.1.value ≡ negated S.NONFINITE_BEHAVIOR result.0.value }
-    ensures status { IsTrue (is_finite_non_zero x) → IsTrue (is_finite_non_zero y) → bits_of result.1.status ≡ bits_of result.0.status }
+    ensures value { IsTrue (is_finite_non_zero x) → IsTrue (is_finite_non_zero y)
+        → result.1.value ≡ negated S.NONFINITE_BEHAVIOR result.0.value }
+    ensures status { IsTrue (is_finite_non_zero x) → IsTrue (is_finite_non_zero y)
+        → bits_of result.1.status ≡ bits_of result.0.status }
 {
     (x.mul_r(y, mode), (-x).mul_r(y, -mode))
 }

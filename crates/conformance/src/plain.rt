@@ -125,7 +125,8 @@ pub enum Answer {
 
 /// What stands past the largest value.
 fn past_largest(nonfinite: NonfiniteBehavior, negative: bool) -> Answer
-    ensures { (precision : ℕ) → datum_of nonfinite precision result ≡ past_largest nonfinite (nan_base_of nonfinite precision) negative }
+    ensures { (precision : ℕ) → datum_of nonfinite precision result
+        ≡ past_largest nonfinite (nan_base_of nonfinite precision) negative }
 {
     match nonfinite {
         NonfiniteBehavior::IEEE754 => Answer::Infinite { negative },
@@ -136,7 +137,8 @@ fn past_largest(nonfinite: NonfiniteBehavior, negative: bool) -> Answer
 
 /// So many quanta with that sign, but that of a zero only where the format has it.
 fn number_of(nonfinite: NonfiniteBehavior, negative: bool, quanta: u128) -> Answer
-    ensures { (precision : ℕ) → datum_of nonfinite precision result ≡ signed_quanta nonfinite negative quanta }
+    ensures { (precision : ℕ)
+        → datum_of nonfinite precision result ≡ signed_quanta nonfinite negative quanta }
 {
     let unsigned_zero = quanta == 0 && nonfinite == NonfiniteBehavior::NanNegativeZero;
     Answer::Finite {
@@ -177,7 +179,9 @@ fn status_within(bounds: Bounds, amount: u128, parts: u128, picked: u128) -> Sta
     requires parts { parts < 2 ^ 64 }
     requires picked { picked * parts < 2 ^ 128 }
     ensures exact { picked * parts ≡ amount → bits_of result ≡ ok_bits }
-    ensures inexact { (picked * parts ≡ amount → ⊥) → bits_of result ≡ (if tiny_of bounds amount parts picked then underflow_bit + inexact_bit else inexact_bit) }
+    ensures inexact { (picked * parts ≡ amount → ⊥)
+        → bits_of result ≡ (if tiny_of bounds amount parts picked
+        then underflow_bit + inexact_bit else inexact_bit) }
 {
     if picked * parts == amount {
         Status::OK
@@ -198,7 +202,9 @@ pub fn deliver(
 ) -> StatusAnd<Answer>
     requires small { IsSmall bounds.precision amount parts }
     requires normalized { bounds.smallest_normalized < 2 ^ 60 }
-    ensures { (f : Format) → HasBounds f bounds → IsDelivered f mode negative amount parts (datum_of bounds.nonfinite bounds.precision result.value) (bits_of result.status) }
+    ensures { (f : Format) → HasBounds f bounds
+        → IsDelivered f mode negative amount parts
+        (datum_of bounds.nonfinite bounds.precision result.value) (bits_of result.status) }
 {
     let quanta = pick(bounds.precision, mode, negative, amount, parts);
     if quanta <= bounds.largest {

@@ -7,4 +7,5 @@ returns-in-Ok c = (c.in-Ok.ensures.cases.0, every_ascii c.args.bytes.now c.if-no
 
 -- ASCII is UTF-8
 pub returns-in-Err : goal.returns-in-Err
-returns-in-Err c = absurd (c.in-Err.ensures.cases.0 (IsUtf8-from_ascii c.args.bytes.now c.if-not-is_ascii.ensures.cases))
+returns-in-Err c = absurd
+    (c.in-Err.ensures.cases.0 (IsUtf8-from_ascii c.args.bytes.now c.if-not-is_ascii.ensures.cases))

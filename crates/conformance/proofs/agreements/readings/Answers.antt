@@ -19,5 +19,7 @@ returns g c =
     let t = g.met.F.Float in
     let parsed = t.read_law c.args.text.now c.parse.result c.parse.ensures.value in
     let one =
-    (t.determined NearestTiesToEven).reading c.args.text.now parsed.0 c.from_str_r.result parsed.1 c.from_str_r.ensures in
-    subst (λ r. AreOneValue r c.from_str_r.result) (sym parsed.2) (value_of_reading parsed.0 c.from_str_r.result one)
+    (t.determined NearestTiesToEven).reading c.args.text.now parsed.0 c.from_str_r.result parsed.1
+    c.from_str_r.ensures in
+    subst (λ r. AreOneValue r c.from_str_r.result) (sym parsed.2)
+    (value_of_reading parsed.0 c.from_str_r.result one)

@@ -5,4 +5,5 @@ pub returns : goal.returns
 returns g c =
     let t = g.met.F.Float in
     let by_operator = t.rem_law c.args.x c.args.y c.rem.result c.rem.ensures in
-    (t.determined NearestTiesToEven).remainder c.args.x c.args.y c.rem.result c.c_fmod.result by_operator c.c_fmod.ensures
+    (t.determined NearestTiesToEven).remainder c.args.x c.args.y c.rem.result c.c_fmod.result by_operator
+    c.c_fmod.ensures

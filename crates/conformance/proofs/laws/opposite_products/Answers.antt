@@ -8,11 +8,13 @@ use Rattle.rustc_apfloat.specs.Types.{format_of}
 use Rattle.apfloat_base.proofs.Once.{product_once}
 use Rattle.conformance.proofs.laws.opposite_products.Goals as goal
 
-turned_once : (f : Format) (opposite other : Round) (x turned y v w : Datum) (s t : ℕ) → other ≡ opposite → turned ≡ x
+turned_once : (f : Format) (opposite other : Round) (x turned y v w : Datum) (s t : ℕ) → other ≡ opposite
+    → turned ≡ x
     → IsProduct f other turned y v s → IsProduct f opposite x y w t → (v ≡ w) × (s ≡ t)
 turned_once f opposite other x turned y v w s t m e h k =
     product_once f opposite x y v w s t
-    (subst (λ (z : Datum). IsProduct f opposite z y v s) e (subst (λ (r : Round). IsProduct f r turned y v s) m h)) k
+    (subst (λ (z : Datum). IsProduct f opposite z y v s) e
+    (subst (λ (r : Round). IsProduct f r turned y v s) m h)) k
 
 pub returns-clause-value : goal.returns-clause-value
 returns-clause-value g c = λ left right.
