@@ -177,10 +177,9 @@ fn converted_nan(from: Shape, into: Shape, x: Unpacked) -> Converted
     }
 }
 
-/// Any value of one format in another. It stands apart, so that of a number nothing else is inlined.
-#[cold]
-#[inline(never)]
-fn convert_any(from: Shape, into: Shape, x: Unpacked, round: Round) -> Converted
+/// A value of one format in another, by its category.
+#[inline(always)]
+fn convert_by_category(from: Shape, into: Shape, x: Unpacked, round: Round) -> Converted
     requires from { IsShape from }
     requires into { IsShape into }
     requires x { IsStored from x }
@@ -198,6 +197,22 @@ fn convert_any(from: Shape, into: Shape, x: Unpacked, round: Round) -> Converted
     }
 }
 
+/// The same, apart: of a number that is rounded nothing else is inlined.
+#[cold]
+#[inline(never)]
+fn convert_apart(from: Shape, into: Shape, x: Unpacked, round: Round) -> Converted
+    requires from { IsShape from }
+    requires into { IsShape into }
+    requires x { IsStored from x }
+    ensures stored { IsStored into result.answer.value }
+    ensures converted { IsConversion (format_at from) (format_at into) round (datum_at from x)
+        (datum_at into result.answer.value) (bits_of result.answer.status) result.loses_info }
+    ensures exact { IsExactlyConverted (format_at from) (format_at into) (datum_at from x)
+        (datum_at into result.answer.value) (bits_of result.answer.status) result.loses_info }
+{
+    convert_by_category(from, into, x, round)
+}
+
 /// A value of one format in another, rounded once, and whether that lost information (IEEE 754-2008 5.4.2, convertFormat).
 #[inline(always)]
 pub fn convert(from: Shape, into: Shape, x: Unpacked, round: Round) -> Converted
@@ -210,10 +225,13 @@ pub fn convert(from: Shape, into: Shape, x: Unpacked, round: Round) -> Converted
     ensures exact { IsExactlyConverted (format_at from) (format_at into) (datum_at from x)
         (datum_at into result.answer.value) (bits_of result.answer.status) result.loses_info }
 {
+    if holds(from, into) {
+        return convert_by_category(from, into, x, round);
+    }
     match x.category {
         Category::Normal => converted_number(from, into, x, round),
         _ => {
-            let converted = convert_any(from, into, x, round);
+            let converted = convert_apart(from, into, x, round);
             Converted {
                 answer: remade(converted.answer),
                 loses_info: converted.loses_info,

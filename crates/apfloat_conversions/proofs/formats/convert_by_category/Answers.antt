@@ -2,7 +2,7 @@ use Rattle.apfloat_unpacked.specs.Shapes.{format_at}
 use Rattle.apfloat_unpacked.specs.Stored.{datum_at}
 use Rattle.apfloat_base.proofs.ExactConversions.{exactly_converted}
 use Rattle.apfloat_conversions.proofs.ConvertedValues.{of_number, of_zero}
-use Rattle.apfloat_conversions.proofs.formats.convert_any.Goals as goal
+use Rattle.apfloat_conversions.proofs.formats.convert_by_category.Goals as goal
 
 pub returns-in-Normal-clause-converted : goal.returns-in-Normal-clause-converted
 returns-in-Normal-clause-converted c = of_number c.args.from c.args.into c.args.round c.args.x.category c.args.x _ _ _ c.in-Normal.is c.requires.x c.converted_number.ensures.converted
