@@ -12,7 +12,8 @@ returns-in-Some c =
     let mark = c.split_mark-mark.ensures.mark in
     let behind = c.split_mark-mark.ensures.behind in
     let prefix = c.in-Some.ensures in
-    literal_text c.args.shape c.args.round c.args.text.now c.in-Some.rest.now c.is_minus.result c.read_literal.result
+    literal_text c.args.shape c.args.round c.args.text.now c.in-Some.rest.now c.is_minus.result
+    c.read_literal.result
     (some_text c.args.text.now c.if-is_empty.ensures)
     (ap is_empty (sym behind) ∙ some_text c.split_mark-mark.result.1.now c.if-is_empty-2.ensures)
     (ap begins_literal (sym behind) ∙ prefix.0)
@@ -25,5 +26,7 @@ returns-in-Some-special_of c =
     let mark = c.split_mark-mark.ensures.mark in
     let e = rw (mark, c.split_mark-mark.ensures.behind) at c.in-Some-special_of.ensures in
     let n = c.is_minus-in-Some-special_of.ensures ∙ ap is_minus mark in
-    special_read c.args.shape c.args.round c.args.text.now c.is_minus-in-Some-special_of.result c.in-Some-special_of.special c.special_value.result c.and.result (rw n (sym e)) c.special_value.ensures.stored
+    special_read c.args.shape c.args.round c.args.text.now c.is_minus-in-Some-special_of.result
+    c.in-Some-special_of.special c.special_value.result c.and.result (rw n (sym e))
+    c.special_value.ensures.stored
     c.special_value.ensures.meant c.and.ensures.value (ap bits_of c.and.ensures.status)
