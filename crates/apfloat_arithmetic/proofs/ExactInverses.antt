@@ -19,7 +19,7 @@ use Rattle.apfloat_unpacked.specs.Shapes.{IsShape, format_at}
 use Rattle.apfloat_unpacked.specs.Stored.{IsNormal, IsQuantaAt, quanta_at}
 use Rattle.apfloat_unpacked.proofs.ShapeExponents.{scale_is}
 use Rattle.apfloat_unpacked.proofs.StoredNumbers.{whole_is, above_zero}
-use Rattle.apfloat_arithmetic.specs.Inverses.{IsInvertible}
+use Rattle.apfloat_arithmetic.specs.ExactInverseParts.{IsInvertible}
 use Rattle.apfloat_arithmetic.proofs.ProductExponents.{normal_near}
 use Rattle.apfloat_arithmetic.proofs.PowerFactors.{factor_of_power, power_with_digits}
 use Rattle.apfloat_arithmetic.proofs.NumberClasses.{quanta_low_is, quanta_high_is}

@@ -2,7 +2,7 @@ mod Comparisons
 mod WholeQuotients
 mod NearestMultiples
 pub mod ProductExponents
-pub mod ExactAnswers
+pub mod ZeroAnswers
 mod NumberClasses
 mod PowerFactors
 mod ExactInverses

@@ -1,3 +1,3 @@
 pub mod Subtrahends
 pub mod Sides
-pub mod Inverses
+pub mod ExactInverseParts

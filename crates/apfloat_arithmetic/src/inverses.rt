@@ -5,7 +5,7 @@ ghost use Rattle.std.specs.Option.{option_map};
 ghost use Rattle.apfloat_base.specs.Exponents.{IsExactInverse};
 ghost use Rattle.apfloat_unpacked.specs.Shapes.{IsShape, format_at};
 ghost use Rattle.apfloat_unpacked.specs.Stored.{IsStored, IsNormal, datum_at};
-ghost use Rattle.apfloat_arithmetic.specs.Inverses.{IsInvertible};
+ghost use Rattle.apfloat_arithmetic.specs.ExactInverseParts.{IsInvertible};
 
 use apfloat_base::Category;
 use apfloat_unpacked::shape::Shape;

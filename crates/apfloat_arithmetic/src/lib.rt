@@ -1,7 +1,7 @@
 //! Arithmetic on unpacked values of one format: sums, products, quotients, fused sums, remainders, and their order.
 //!
 //! Nothing here is generic. Each operation answers what the model says of its operands, NaNs, infinities and zeros too;
-//! `apfloat_generic` brings the constants of a type to it.
+//! `apfloat_ieee` brings the constants of a type to it.
 #![tactic(auto)]
 
 pub mod classes;

@@ -17,7 +17,7 @@ use crate::products::product_sign;
 use apfloat_base::sig::{self, Quotient, divide_short};
 use apfloat_base::{Category, ExpInt, Round, Status, StatusAnd};
 use apfloat_unpacked::nans::{invalid, propagated, propagated_left};
-use apfloat_unpacked::normalize::deliver;
+use apfloat_unpacked::rounding::deliver;
 use apfloat_unpacked::shape::Shape;
 use apfloat_unpacked::unpacked::{Unpacked, infinity_of, remade};
 

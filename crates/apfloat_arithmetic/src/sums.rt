@@ -14,7 +14,7 @@ use crate::signs::negated;
 use apfloat_base::sig::{Loss, Term, Total, add_terms, is_zero};
 use apfloat_base::{Category, Round, Status, StatusAnd};
 use apfloat_unpacked::nans::{invalid, propagated, propagated_left};
-use apfloat_unpacked::normalize::deliver;
+use apfloat_unpacked::rounding::deliver;
 use apfloat_unpacked::shape::{Shape, last_exponent};
 use apfloat_unpacked::unpacked::{Unpacked, remade, zero_of};
 

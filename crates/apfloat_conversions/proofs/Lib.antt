@@ -1,8 +1,8 @@
-mod Operands
+mod StoredExponents
 mod Wholes
 mod Limits
 mod Nexts
-mod Fractions
+mod NumberFractions
 mod ConvertedValues
 mod HeldNumbers
 mod Steps

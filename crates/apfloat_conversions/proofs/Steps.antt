@@ -20,7 +20,7 @@ use Rattle.apfloat_unpacked.specs.Stored.{IsOperandAt, IsQuantaAt, IsNormal, qua
 use Rattle.apfloat_unpacked.specs.StoredBack.{quanta_some}
 use Rattle.apfloat_unpacked.proofs.StoredNumbers.{quanta_is}
 use Rattle.apfloat_unpacked.proofs.ShapeExponents.{span_is}
-use Rattle.apfloat_conversions.proofs.Operands.{half_within, number_of}
+use Rattle.apfloat_conversions.proofs.StoredExponents.{half_within, number_of}
 use Rattle.apfloat_conversions.proofs.Nexts.{operand_down, step_room, step_small, step_within, step_above, next_is, next_within, less_is, least_less, stepped_by, stepped_down_by, stays_operand, carries_operand, carried_quanta, lowered_quanta, lowered_operand, room_above, room_cases}
 
 some : (s : Shape) → IsShape s → 0 < s.precision

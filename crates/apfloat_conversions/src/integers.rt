@@ -11,7 +11,7 @@ ghost use Rattle.apfloat_unpacked.specs.Stored.{IsStored, IsNormal, quanta_at, d
 use crate::whole::{Whole, whole_of};
 use apfloat_base::sig::Loss;
 use apfloat_base::{Category, Round, Status, StatusAnd};
-use apfloat_unpacked::normalize::deliver;
+use apfloat_unpacked::rounding::deliver;
 use apfloat_unpacked::shape::Shape;
 use apfloat_unpacked::unpacked::Unpacked;
 

@@ -13,7 +13,7 @@ use crate::exponents::raised;
 use apfloat_base::sig::Loss;
 use apfloat_base::{Category, ExpInt, IEK_INF, IEK_NAN, IEK_ZERO, Round, StatusAnd};
 use apfloat_unpacked::nans::propagated;
-use apfloat_unpacked::normalize::deliver;
+use apfloat_unpacked::rounding::deliver;
 use apfloat_unpacked::shape::{Shape, last_exponent};
 use apfloat_unpacked::unpacked::Unpacked;
 

@@ -7,7 +7,7 @@ ghost use Rattle.apfloat_conversions.specs.Wholes.{IsPicked, IsPickedWithin};
 
 use apfloat_base::Round;
 use apfloat_base::sig::{Loss, is_exact, power_of_two, shift_right, steps_between};
-use apfloat_unpacked::normalize::moves_up;
+use apfloat_unpacked::rounding::moves_up;
 use apfloat_unpacked::shape::{Shape, last_exponent};
 use apfloat_unpacked::unpacked::Unpacked;
 

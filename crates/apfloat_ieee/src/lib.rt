@@ -1,13 +1,22 @@
-//! The built-in binary floating-point formats, and with them the calls on values of any format.
+//! Arithmetic on the values of one binary floating-point format, generic in the format.
 //!
-//! A format is a type that implements `Semantics`; `IeeeFloat<S>` is a value of the format `S`.
+//! A format is a type that implements `Semantics`; `IeeeFloat<S>` is a value of the format `S`. The work is done by the
+//! functions of `apfloat_unpacked`, `apfloat_arithmetic`, `apfloat_conversions` and `apfloat_texts` over a `Shape`, the
+//! constants of a format that rounding reads; the generic calls only bring a type's constants to them.
 #![tactic(auto)]
 
-pub mod formats;
+mod convert;
+mod debug;
+pub mod fused;
+pub mod ieee_float;
+pub mod impls;
+pub mod order;
+pub mod products;
+pub mod remainders;
+pub mod semantics;
+pub mod sums;
+pub mod texts;
 
-pub use apfloat_generic::{IeeeFloat, NonfiniteBehavior, Semantics, float};
-pub use formats::{
-    BFloat, BFloatS, Double, DoubleS, FallbackExtendedS, FallbackS, Float8E4M3FN, Float8E4M3FNS,
-    Float8E4M3FNUZ, Float8E4M3FNUZS, Float8E5M2, Float8E5M2S, Half, HalfS, Quad, QuadS, Single,
-    SingleS, X87DoubleExtended, X87DoubleExtendedS,
-};
+pub use apfloat_base::NonfiniteBehavior;
+pub use ieee_float::{IeeeFloat, normalize};
+pub use semantics::Semantics;

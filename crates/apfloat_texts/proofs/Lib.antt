@@ -1,8 +1,8 @@
-pub mod KeptDigits
+pub mod NextDigits
 pub mod Scanning
 pub mod Saturations
 pub mod ReadNumbers
-pub mod Readings
+pub mod FaultsRead
 pub mod Payloads
 pub mod Parentheses
 pub mod TextReadings

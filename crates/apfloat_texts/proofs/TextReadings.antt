@@ -19,7 +19,7 @@ use Rattle.apfloat_texts.specs.declared.fault.Fault.{Fault}
 use Rattle.apfloat_texts.specs.declared.special.Special.{Special}
 use Rattle.apfloat_texts.specs.declared.special.Special.TheVariants.{Infinity, Quiet, Signaling}
 use Rattle.apfloat_texts.specs.Faults.{fault_at}
-use Rattle.apfloat_texts.specs.Literals.{IsLiteralRead}
+use Rattle.apfloat_texts.specs.LiteralParts.{IsLiteralRead}
 use Rattle.apfloat_texts.specs.Payloads.{meaning_of}
 use Rattle.apfloat_texts.specs.TextsRead.{IsTextRead}
 

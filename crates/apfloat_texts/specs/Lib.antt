@@ -2,6 +2,6 @@ pub mod Faults
 pub mod Marks
 pub mod Scans
 pub mod Saturation
-pub mod Literals
+pub mod LiteralParts
 pub mod Payloads
 pub mod TextsRead

@@ -2,7 +2,7 @@
 //!
 //! Nothing here is generic. A text is read once from the left, in time linear in its length and without taking memory:
 //! of a significand the leading bits are kept and what the other digits are of the last of them, so that the number is
-//! rounded once; `apfloat_generic` brings the constants of a type to it.
+//! rounded once; `apfloat_ieee` brings the constants of a type to it.
 #![tactic(auto)]
 
 mod characters;

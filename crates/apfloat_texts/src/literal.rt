@@ -4,7 +4,7 @@ ghost use Rattle.std.specs.Prelude.{◌≡◌, Some, None, MatchResult};
 ghost use Rattle.apfloat_base.specs.Texts.{behind_prefix_fault};
 ghost use Rattle.apfloat_unpacked.specs.Shapes.{IsShape};
 ghost use Rattle.apfloat_texts.specs.Faults.{fault_at};
-ghost use Rattle.apfloat_texts.specs.Literals.{IsLiteralRead};
+ghost use Rattle.apfloat_texts.specs.LiteralParts.{IsLiteralRead};
 
 use crate::exponent::exponent_in;
 use crate::fault::Fault;

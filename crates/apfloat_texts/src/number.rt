@@ -11,7 +11,7 @@ ghost use Rattle.apfloat_texts.specs.Saturation.{IsNear};
 use crate::exponent::unit_exponent;
 use crate::significand::Digits;
 use apfloat_base::{Round, Status, StatusAnd};
-use apfloat_unpacked::normalize::deliver;
+use apfloat_unpacked::rounding::deliver;
 use apfloat_unpacked::shape::Shape;
 use apfloat_unpacked::unpacked::{Unpacked, zero_of};
 

@@ -8,7 +8,7 @@ use crate::whole_numbers::is_exponent;
 use crate::{
     arithmetic, constants, ieee, operators, order, pairs, parts, predicates, whole_numbers,
 };
-use conformance::formats::{
+use conformance::own_formats::{
     BroadS, DeepS, HalfTinyBeforeS, LeastFiniteS, LeastS, PreciseS, SevenS, TenS, VastS,
     WrittenBitS,
 };

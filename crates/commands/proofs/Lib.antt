@@ -1,8 +1,8 @@
 pub mod Numerals
 pub mod HexadecimalNumbers
 pub mod Hexadecimals
-pub mod Flags
+pub mod FlagNames
 pub mod Named
-pub mod Once
-pub mod PairsOnce
+pub mod RepliesOnce
+pub mod PairRepliesOnce
 pub mod Runs

@@ -12,8 +12,8 @@ use Rattle.rustc_apfloat.specs.Pairs.{Pair, alone, pair_number}
 use Rattle.rustc_apfloat.specs.PairAccuracy.{sum_reach, IsSingle, IsExactPair, IsClosePair, IsErrorFreeSum, IsAccurateSum}
 use Rattle.apfloat_pairs.proofs.Signed.{magnitude_le, first_most}
 use Rattle.apfloat_pairs.proofs.SignedProducts.{times_one}
-use Rattle.apfloat_pairs.proofs.Operands.{magnitude_quanta, normalised_low, double_alone}
-use Rattle.apfloat_pairs.proofs.SumLaws.{single_normalised}
+use Rattle.apfloat_pairs.proofs.LawOperands.{magnitude_quanta, normalised_low, double_alone}
+use Rattle.apfloat_pairs.proofs.PairSumLaws.{single_normalised}
 use Rattle.conformance.specs.Summands.{reach_of_three, IsSummand}
 
 beside_zero : (z : ℤ) → (z +ℤ pos 0) ≡ z

@@ -1,4 +1,4 @@
 pub mod Agreements
-pub mod Laws
+pub mod LawPremises
 pub mod Plain
 pub mod Summands

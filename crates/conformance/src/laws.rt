@@ -9,7 +9,7 @@ ghost use Rattle.rustc_apfloat.specs.Negation.{negated};
 ghost use Rattle.rustc_apfloat.specs.Order.{number, AtMost};
 ghost use Rattle.rustc_apfloat.specs.Rounding.{ok_bits};
 ghost use Rattle.rustc_apfloat.specs.Types.{format_of};
-ghost use Rattle.conformance.specs.Laws.{AreNear, IsInBoth};
+ghost use Rattle.conformance.specs.LawPremises.{AreNear, IsInBoth};
 
 use rustc_apfloat::ieee::{IeeeFloat, Semantics};
 use rustc_apfloat::{Float, FloatConvert, Round, StatusAnd};

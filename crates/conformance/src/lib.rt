@@ -13,7 +13,7 @@ mod comparison;
 mod constants;
 #[cfg(test)]
 mod example;
-pub mod formats;
+pub mod own_formats;
 pub mod laws;
 #[cfg(test)]
 mod limits;

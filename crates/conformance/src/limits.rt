@@ -2,7 +2,7 @@
 
 ghost use Rattle.std.specs.Prelude.{◌<◌};
 
-use crate::formats::{
+use crate::own_formats::{
     BroadS, DeepS, LeastFinite, LeastFiniteS, LeastS, PreciseS, Ten, TenS, VastS, WrittenBitS,
 };
 use crate::tables::{EVEN, INEXACT, OK, OVERFLOW_INEXACT, ZERO};

@@ -23,9 +23,9 @@ use Rattle.apfloat_pairs.specs.PairParts.{is_denormal_pair}
 use Rattle.apfloat_pairs.proofs.DenormalPairs.{denormal_by_sum}
 use Rattle.apfloat_pairs.specs.PairProducts.{IsLostOfProduct, IsNumberProduct, IsProductOfNumbers, IsProductOfCategories, IsPairProduct}
 use Rattle.apfloat_pairs.specs.PairAccuracy.{IsErrorFreeSum, IsAccurateSum, IsErrorFreeDifference, IsAccurateDifference, IsErrorFreeProduct, IsAccurateProduct, HasPlainStatus}
-use Rattle.apfloat_pairs.proofs.SumLaws.{error_free_sum, accurate_sum, plain_sum}
+use Rattle.apfloat_pairs.proofs.PairSumLaws.{error_free_sum, accurate_sum, plain_sum}
 use Rattle.apfloat_pairs.proofs.DifferenceLaws.{error_free_difference, accurate_difference, plain_difference}
-use Rattle.apfloat_pairs.proofs.ProductLaws.{error_free_product, accurate_product}
+use Rattle.apfloat_pairs.proofs.PairProductLaws.{error_free_product, accurate_product}
 
 pub match_true : (b : Bool) (P Q : Type 0) → b ≡ true → P → MatchBool b P Q
 match_true true P Q e p = p

@@ -43,7 +43,7 @@ pub use Rattle.apfloat_base.specs.Determined
 pub use Rattle.apfloat_base.specs.Log
 pub use Rattle.apfloat_base.specs.Standing
 pub use Rattle.apfloat_base.specs.Enclosure
-pub use Rattle.apfloat_generic.specs.Types
+pub use Rattle.apfloat_ieee.specs.Types
 pub use Rattle.apfloat_pairs.specs.PairFormats
 pub use Rattle.apfloat_pairs.specs.Pairs
 pub use Rattle.apfloat_pairs.specs.PairSums

@@ -11,7 +11,7 @@ pub use apfloat_base::{
     Category, ExpInt, Flags, Float, FloatConvert, IEK_INF, IEK_NAN, IEK_ZERO, ParseError, Round,
     Status, StatusAnd,
 };
-pub use apfloat_ieee as ieee;
+pub use apfloat_formats as ieee;
 
 /// Sets a status to that of an expression, or joins that status to it, and is the expression's value.
 ///

@@ -17,8 +17,8 @@ mod sums;
 mod wide;
 
 use apfloat_base::Float;
-use apfloat_ieee::{Double, IeeeFloat};
-pub use apfloat_ieee::{FallbackExtendedS, FallbackS};
+use apfloat_formats::{Double, IeeeFloat};
+pub use apfloat_formats::{FallbackExtendedS, FallbackS};
 use std::marker::Model;
 
 /// A number as the exact sum of two doubles: the high part, and the low part, which is what the high one leaves.

@@ -1,5 +1,5 @@
 -- Each clause is a law of its own.
-use Rattle.apfloat_pairs.proofs.ExactAnswers.{exact_quotient, exact_truncated_remainder, exact_nearest_remainder}
+use Rattle.apfloat_pairs.proofs.ExactPairs.{exact_quotient, exact_truncated_remainder, exact_nearest_remainder}
 use Rattle.apfloat_pairs.proofs.quotient_laws.Goals as goal
 
 pub returns-clause-quotient : goal.returns-clause-quotient

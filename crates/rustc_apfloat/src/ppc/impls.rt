@@ -22,7 +22,7 @@ use super::products::product;
 use super::sums::{difference, sum};
 use super::{DoubleFloat, parts, wide};
 use apfloat_base::{Category, ExpInt, Float, ParseError, Round, StatusAnd};
-use apfloat_ieee::Double;
+use apfloat_formats::Double;
 use std::cmp::Ordering;
 use std::str::FromStr;
 

@@ -10,7 +10,7 @@ ghost use Rattle.apfloat_pairs.specs.Pairs.{IsJoined, IsNearestDouble, IsSplit, 
 
 use super::{DoubleFloat, Fallback};
 use apfloat_base::{Float, FloatConvert, Status, StatusAnd};
-use apfloat_ieee::Double;
+use apfloat_formats::Double;
 
 /// A double in the wide format, which has all of them; a signaling NaN is made quiet.
 #[inline]

@@ -9,7 +9,7 @@ ghost use Rattle.apfloat_pairs.specs.PairParts.{is_denormal_pair, is_integer_pai
 
 use super::DoubleFloat;
 use apfloat_base::{Category, ExpInt, Float, Round};
-use apfloat_ieee::Double;
+use apfloat_formats::Double;
 
 /// What the high part is, and with it the pair.
 #[inline]

@@ -11,7 +11,7 @@ use super::parts::category;
 use super::sums::closed;
 use crate::unpack;
 use apfloat_base::{Category, Float, Round, Status, StatusAnd};
-use apfloat_ieee::Double;
+use apfloat_formats::Double;
 
 /// What the product `t` of the high parts lost, and the products of a high part and a low one.
 #[inline]

@@ -13,7 +13,7 @@ use super::DoubleFloat;
 use super::parts::{category, negation};
 use crate::unpack;
 use apfloat_base::{Category, Float, Round, Status, StatusAnd};
-use apfloat_ieee::Double;
+use apfloat_formats::Double;
 use std::cmp::Ordering;
 
 /// The end of a sum and of a product: `z + zz`, with what that sum leaves of both as the low part. `status` has the flags

@@ -7,7 +7,7 @@ use Rattle.apfloat_base.specs.Products.{IsProduct}
 use Rattle.apfloat_unpacked.specs.StoredBack.{quanta_some}
 use Rattle.apfloat_unpacked.specs.Shapes.{format_at}
 use Rattle.apfloat_unpacked.specs.Stored.{quanta_at, datum_at, IsNormal, IsStoredBy}
-use Rattle.apfloat_arithmetic.proofs.ExactAnswers.{by_categories, zero_product, number_by_infinity, infinity_by_number}
+use Rattle.apfloat_arithmetic.proofs.ZeroAnswers.{by_categories, zero_product, number_by_infinity, infinity_by_number}
 use Rattle.apfloat_arithmetic.proofs.SumCases.{datum_is}
 use Rattle.apfloat_arithmetic.proofs.products.multiply_any.Goals as goal
 

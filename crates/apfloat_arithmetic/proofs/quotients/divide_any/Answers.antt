@@ -9,7 +9,7 @@ use Rattle.apfloat_base.specs.Quotients.{IsQuotient}
 use Rattle.apfloat_unpacked.specs.Shapes.{format_at}
 use Rattle.apfloat_unpacked.specs.Stored.{IsStoredBy, IsNormal, quanta_at, datum_at}
 use Rattle.apfloat_unpacked.specs.StoredBack.{quanta_some}
-use Rattle.apfloat_arithmetic.proofs.ExactAnswers.{by_categories, some_quotient, zero_quotient, number_by_zero}
+use Rattle.apfloat_arithmetic.proofs.ZeroAnswers.{by_categories, some_quotient, zero_quotient, number_by_zero}
 use Rattle.apfloat_arithmetic.proofs.quotients.divide_any.Goals as goal
 
 pub returns-in-Normal-category-clause-delivered : goal.returns-in-Normal-category-clause-delivered

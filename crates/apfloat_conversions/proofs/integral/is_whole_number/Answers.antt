@@ -4,7 +4,7 @@ use Rattle.std.proofs.lemmas.Nat.{pow_pos}
 use Rattle.apfloat_base.specs.Standing.{up}
 use Rattle.apfloat_unpacked.specs.Shapes.{format_at}
 use Rattle.apfloat_unpacked.specs.Stored.{quanta_at}
-use Rattle.apfloat_conversions.proofs.Operands.{whole_places, fraction_places, significand_small}
+use Rattle.apfloat_conversions.proofs.StoredExponents.{whole_places, fraction_places, significand_small}
 use Rattle.apfloat_conversions.proofs.Wholes.{whole_toward_zero, whole_multiple}
 use Rattle.apfloat_conversions.proofs.integral.is_whole_number.Goals as goal
 

@@ -4,7 +4,7 @@ use Rattle.apfloat_base.specs.Standing.{up}
 use Rattle.apfloat_unpacked.specs.Stored.{quanta_at}
 use Rattle.apfloat_unpacked.proofs.StoredNumbers.{quanta_is}
 use Rattle.apfloat_unpacked.proofs.ShapeExponents.{exponent_word}
-use Rattle.apfloat_conversions.proofs.Fractions.{fraction_size, fraction_number}
+use Rattle.apfloat_conversions.proofs.NumberFractions.{fraction_size, fraction_number}
 use Rattle.apfloat_conversions.proofs.Nexts.{fraction_quanta, fraction_same}
 use Rattle.apfloat_conversions.proofs.scaling.number_fraction.Goals as goal
 

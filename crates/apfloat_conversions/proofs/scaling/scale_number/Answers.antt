@@ -3,7 +3,7 @@ use Rattle.std.proofs.lemmas.Int.{to_z-of_z, ints}
 use Rattle.apfloat_base.specs.Flags.{bits_of}
 use Rattle.apfloat_unpacked.specs.Stored.{datum_at}
 use Rattle.apfloat_unpacked.proofs.ShapeExponents.{exponent_word}
-use Rattle.apfloat_conversions.proofs.Operands.{scale_delivered}
+use Rattle.apfloat_conversions.proofs.StoredExponents.{scale_delivered}
 use Rattle.apfloat_conversions.proofs.scaling.scale_number.Goals as goal
 
 pub moved-requires-clause-near : goal.moved-requires-clause-near

@@ -6,7 +6,7 @@ use Rattle.apfloat_base.proofs.Existence.{two_pos}
 use Rattle.apfloat_unpacked.specs.Shapes.{format_at}
 use Rattle.apfloat_unpacked.specs.Stored.{quanta_at}
 use Rattle.apfloat_unpacked.proofs.ShapeExponents.{exponent_word, scale_is}
-use Rattle.apfloat_conversions.proofs.Operands.{fraction_places}
+use Rattle.apfloat_conversions.proofs.StoredExponents.{fraction_places}
 use Rattle.apfloat_conversions.proofs.Wholes.{too_large, places_up, whole_exactly, exactly_so}
 use Rattle.apfloat_conversions.proofs.whole.whole_of.Goals as goal
 

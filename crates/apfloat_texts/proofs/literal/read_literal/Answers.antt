@@ -1,7 +1,7 @@
 use Rattle.std.proofs.Common.{refl}
 use Rattle.std.specs.Int.{w128}
 use Rattle.std.proofs.lemmas.Int.{to_z-of_z}
-use Rattle.apfloat_texts.proofs.Readings.{literal_read, empty_text, some_text, exponent_fits}
+use Rattle.apfloat_texts.proofs.FaultsRead.{literal_read, empty_text, some_text, exponent_fits}
 use Rattle.apfloat_texts.proofs.literal.read_literal.Goals as goal
 
 pub returns-then-is_empty : goal.returns-then-is_empty

@@ -3,7 +3,7 @@ use Rattle.apfloat_base.specs.Flags.{bits_of}
 use Rattle.apfloat_base.specs.Digits.{is_empty}
 use Rattle.apfloat_base.specs.Specials.{is_minus}
 use Rattle.apfloat_base.specs.Texts.{begins_literal}
-use Rattle.apfloat_texts.proofs.Readings.{some_text}
+use Rattle.apfloat_texts.proofs.FaultsRead.{some_text}
 use Rattle.apfloat_texts.proofs.TextReadings.{special_read, literal_text}
 use Rattle.apfloat_texts.proofs.reading.read_bytes.Goals as goal
 

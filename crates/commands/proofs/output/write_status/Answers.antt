@@ -1,6 +1,6 @@
 use Rattle.std.proofs.Common.{◌==◌, not, sym, ◌∙◌, ap}
 use Rattle.std.specs.Int.RustNames.{bit_and}
-use Rattle.commands.proofs.Flags.{name_none, name_more, name_same, name_all}
+use Rattle.commands.proofs.FlagNames.{name_none, name_more, name_same, name_all}
 use Rattle.commands.proofs.output.write_status.Goals as goal
 use Rattle.commands.proofs.output.write_status.Goals.{then-intersects+in_ok-write_name, else-intersects}
 

@@ -1,5 +1,5 @@
 use Rattle.std.proofs.Common.{map}
-use Rattle.commands.proofs.Flags.{IsNamedTo}
+use Rattle.commands.proofs.FlagNames.{IsNamedTo}
 use Rattle.commands.proofs.output.write_status.Given as goal
 
 abbrev pub invariant-loop-flag : goal.invariant-loop-flag

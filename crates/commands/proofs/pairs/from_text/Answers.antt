@@ -1,6 +1,6 @@
 use Rattle.commands.specs.Commands.{of_pairs}
-use Rattle.commands.proofs.Once.{only_refusal}
-use Rattle.commands.proofs.PairsOnce.{only_pair_text}
+use Rattle.commands.proofs.RepliesOnce.{only_refusal}
+use Rattle.commands.proofs.PairRepliesOnce.{only_pair_text}
 use Rattle.commands.proofs.pairs.from_text.Goals as goal
 
 pub returns-in-Ok-clause-reply : goal.returns-in-Ok-clause-reply

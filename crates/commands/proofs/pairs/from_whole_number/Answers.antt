@@ -1,5 +1,5 @@
 use Rattle.std.proofs.Common.{sym}
-use Rattle.commands.proofs.PairsOnce.{only_pair_whole_number}
+use Rattle.commands.proofs.PairRepliesOnce.{only_pair_whole_number}
 use Rattle.commands.proofs.pairs.from_whole_number.Goals as goal
 
 pub returns-clause-reply : goal.returns-clause-reply

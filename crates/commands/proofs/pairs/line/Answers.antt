@@ -1,5 +1,5 @@
 use Rattle.std.proofs.Common.{refl}
-use Rattle.commands.proofs.PairsOnce.{only_pair_line}
+use Rattle.commands.proofs.PairRepliesOnce.{only_pair_line}
 use Rattle.commands.proofs.pairs.line.Goals as goal
 
 pub returns-clause-line : goal.returns-clause-line

@@ -1,6 +1,6 @@
 use Rattle.rustc_apfloat.specs.Types.{constants_of}
 use Rattle.commands.specs.Commands.{of_format}
-use Rattle.commands.proofs.Once.{only_text, only_refusal}
+use Rattle.commands.proofs.RepliesOnce.{only_text, only_refusal}
 use Rattle.commands.proofs.reply.from_text.Goals as goal
 
 pub returns-in-Ok-clause-reply : goal.returns-in-Ok-clause-reply

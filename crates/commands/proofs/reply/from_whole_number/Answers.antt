@@ -1,5 +1,5 @@
 use Rattle.std.proofs.Common.{sym}
-use Rattle.commands.proofs.Once.{only_whole_number}
+use Rattle.commands.proofs.RepliesOnce.{only_whole_number}
 use Rattle.commands.proofs.reply.from_whole_number.Goals as goal
 
 pub returns-clause-reply : goal.returns-clause-reply

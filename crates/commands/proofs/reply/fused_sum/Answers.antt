@@ -1,7 +1,7 @@
 use Rattle.std.proofs.Common.{◌≡◌, Some, subst, sym}
 use Rattle.rustc_apfloat.specs.Types.{constants_of}
 use Rattle.commands.specs.Commands.{bits_of_word}
-use Rattle.commands.proofs.Once.{only_fused_sum}
+use Rattle.commands.proofs.RepliesOnce.{only_fused_sum}
 use Rattle.commands.proofs.reply.fused_sum.Goals as goal
 
 pub returns-clause-reply : goal.returns-clause-reply

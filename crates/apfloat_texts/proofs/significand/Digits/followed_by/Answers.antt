@@ -1,5 +1,5 @@
 use Rattle.std.proofs.Math.Nat.{pos_of_ne-zero}
-use Rattle.apfloat_texts.proofs.KeptDigits.{with_first_cut, with_next_cut}
+use Rattle.apfloat_texts.proofs.NextDigits.{with_first_cut, with_next_cut}
 use Rattle.apfloat_texts.proofs.significand.Digits.followed_by.Goals as goal
 use Rattle.apfloat_texts.proofs.significand.Digits.followed_by.Goals.{then-self-eq0, else-self-eq0}
 

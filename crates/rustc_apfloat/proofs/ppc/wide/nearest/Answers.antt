@@ -2,7 +2,7 @@ use Rattle.std.proofs.Common.{ap}
 use Rattle.apfloat_base.specs.Flags.{bits_of}
 use Rattle.apfloat_base.specs.Remainders.{IsNearestRemainder}
 use Rattle.apfloat_pairs.specs.PairFormats.{wide}
-use Rattle.apfloat_pairs.proofs.ExactAnswers.{exact_nearest_remainder}
+use Rattle.apfloat_pairs.proofs.ExactPairs.{exact_nearest_remainder}
 use Rattle.rustc_apfloat.proofs.PairSteps.{wide_of_two}
 use Rattle.rustc_apfloat.proofs.ppc.wide.nearest.Goals as goal
 

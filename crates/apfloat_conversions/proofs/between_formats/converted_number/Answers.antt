@@ -1,0 +1,65 @@
+use Rattle.std.proofs.Common.{ℕ, ◌-◌, ◌*◌, ◌^◌, w32, inl, refl, subst, ap, ◌∙◌, arith}
+use Rattle.std.proofs.lemmas.Int.{to_z-of_z, ints}
+use Rattle.std.proofs.lemmas.Nat.{pow_pos}
+use Rattle.apfloat_base.specs.Datum.{Datum}
+use Rattle.apfloat_base.specs.Flags.{bits_of}
+use Rattle.apfloat_base.specs.Members.{IsMember}
+use Rattle.apfloat_base.proofs.SingleScalings.{converted_is}
+use Rattle.apfloat_unpacked.specs.Shapes.{format_at}
+use Rattle.apfloat_unpacked.specs.Stored.{quanta_at, datum_at}
+use Rattle.apfloat_unpacked.specs.StoredBack.{quanta_some}
+use Rattle.apfloat_unpacked.proofs.ShapeExponents.{exponent_word, scale_is}
+use Rattle.apfloat_unpacked.proofs.StoredMembers.{member_is}
+use Rattle.apfloat_conversions.proofs.HeldNumbers.{held_converted}
+use Rattle.apfloat_conversions.proofs.between_formats.converted_number.Goals as goal
+
+pub last_exponent-requires-clause-lawful : goal.last_exponent-requires-clause-lawful
+last_exponent-requires-clause-lawful c = c.requires.from
+
+pub last_exponent-requires-clause-near : goal.last_exponent-requires-clause-near
+last_exponent-requires-clause-near c = omega (arith, ints, c.requires.from.max_exp_high, c.requires.x.operand.greatest)
+
+pub last_exponent-requires-clause-far : goal.last_exponent-requires-clause-far
+last_exponent-requires-clause-far c = omega (arith, ints, c.requires.from.min_exp_low, c.requires.from.precision_high, c.requires.x.operand.least)
+
+pub deliver-answer-requires-clause-lawful : goal.deliver-answer-requires-clause-lawful
+deliver-answer-requires-clause-lawful c = c.requires.into
+
+pub deliver-answer-requires-clause-near : goal.deliver-answer-requires-clause-near
+deliver-answer-requires-clause-near c = omega (arith, ints, c.last_exponent.ensures.near)
+
+pub deliver-answer-requires-clause-far : goal.deliver-answer-requires-clause-far
+deliver-answer-requires-clause-far c = omega (arith, ints, c.last_exponent.ensures.far)
+
+pub deliver-answer-requires-clause-fine : goal.deliver-answer-requires-clause-fine
+deliver-answer-requires-clause-fine c = inl refl
+
+pub returns-clause-stored : goal.returns-clause-stored
+returns-clause-stored c = c.deliver-answer.ensures.stored
+
+pub returns-clause-converted : goal.returns-clause-converted
+returns-clause-converted c =
+    let s = c.args.from in
+    let t = c.args.into in
+    let ex = exponent_word s c.args.x.significand c.args.x.exponent c.requires.from c.requires.x in
+    let v = rw ex at c.last_exponent.ensures.value in
+    let w = to_z-of_z w32 c.last_exponent.result (record { sfits = c.last_exponent.type_inv }) in
+    let g = rw w at c.deliver-answer.ensures.delivered in
+    let k = scale_is s c.requires.from in
+    let k' = scale_is t c.requires.into in
+    let a : ℕ = quanta_at s.min_exp c.args.x.significand c.args.x.exponent in
+    record {
+      is_delivered = g (a * 2 ^ (format_at t).scale) (2 ^ (format_at s).scale) (pow_pos (format_at s).scale)
+          (converted_is (s.precision - 1) (format_at s).scale (t.precision - 1) (format_at t).scale s.min_exp t.min_exp c.args.x.exponent c.last_exponent.result c.args.x.significand a k k' v c.requires.x.whole);
+      loses_is = c.ne.ensures;
+    }
+
+pub returns-then-holds-clause-converted : goal.returns-then-holds-clause-converted
+returns-then-holds-clause-converted c =
+    let s = c.args.from in
+    let t = c.args.into in
+    let h = c.holds.ensures c.if-holds.true in
+    let v = ap (datum_at t) c.and.ensures.value ∙ c.widened.ensures.datum in
+    let m = subst (λ (d : Datum). IsMember (format_at t) d) c.widened.ensures.datum (member_is t c.widened.result c.widened.ensures.stored) in
+    held_converted (format_at s) (format_at t) c.args.round c.args.x.negative (quanta_at s.min_exp c.args.x.significand c.args.x.exponent) _ _ h.fine
+    (quanta_some s c.args.x.significand c.args.x.exponent c.requires.x) v m (ap bits_of c.and.ensures.status)

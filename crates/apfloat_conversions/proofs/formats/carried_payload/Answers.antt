@@ -1,8 +1,0 @@
-use Rattle.std.proofs.Common.{refl}
-use Rattle.apfloat_conversions.proofs.ConvertedValues.{moved_in}
-use Rattle.apfloat_conversions.proofs.formats.carried_payload.Goals as goal
-
-pub returns : goal.returns
-returns c =
-    let m = moved_in c.args.significand c.args.from.precision c.args.into.precision c.saturating_sub-places_in.result c.requires.into.precision_high c.requires.from.precision_high c.requires.fits c.saturating_sub-places_in.ensures in
-    rw (m, c.places_out.ensures.value) refl

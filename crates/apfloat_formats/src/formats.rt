@@ -1,0 +1,39 @@
+//! The formats of the library.
+
+pub mod basic;
+pub mod computing;
+pub mod extended;
+pub mod short;
+
+use apfloat_ieee::IeeeFloat;
+pub use basic::{DoubleS, HalfS, QuadS, SingleS};
+pub use computing::{FallbackExtendedS, FallbackS};
+pub use extended::X87DoubleExtendedS;
+pub use short::{BFloatS, Float8E4M3FNS, Float8E4M3FNUZS, Float8E5M2S};
+
+/// Binary16.
+pub type Half = IeeeFloat<HalfS>;
+
+/// Binary32.
+pub type Single = IeeeFloat<SingleS>;
+
+/// Binary64.
+pub type Double = IeeeFloat<DoubleS>;
+
+/// Binary128.
+pub type Quad = IeeeFloat<QuadS>;
+
+/// The upper half of a binary32.
+pub type BFloat = IeeeFloat<BFloatS>;
+
+/// Eight bits with the exponents of binary16.
+pub type Float8E5M2 = IeeeFloat<Float8E5M2S>;
+
+/// Eight bits without infinities.
+pub type Float8E4M3FN = IeeeFloat<Float8E4M3FNS>;
+
+/// Eight bits without infinities and without a negative zero.
+pub type Float8E4M3FNUZ = IeeeFloat<Float8E4M3FNUZS>;
+
+/// The 80 bits of the x87.
+pub type X87DoubleExtended = IeeeFloat<X87DoubleExtendedS>;

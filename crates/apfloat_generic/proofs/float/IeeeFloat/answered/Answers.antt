@@ -1,8 +1,0 @@
-use Rattle.std.proofs.Common.{◌∙◌}
-use Rattle.apfloat_generic.proofs.float.IeeeFloat.answered.Goals as goal
-
-pub returns-clause-status : goal.returns-clause-status
-returns-clause-status g c = c.and.ensures.status
-
-pub returns-clause-value : goal.returns-clause-value
-returns-clause-value g c = c.and.ensures.value ∙ c.packed.ensures

@@ -1,9 +1,0 @@
-use Rattle.std.proofs.Common.{w32}
-use Rattle.std.proofs.lemmas.Int.{to_z-of_z}
-use Rattle.apfloat_generic.proofs.float.normalize.Goals as goal
-
-pub returns : goal.returns
-returns g c = λ amount parts u h.
-    let e = to_z-of_z w32 c.args.exponent c.ranges.exponent in
-    let d = rw (c.shape_of.ensures.value, e) at c.deliver.ensures.delivered in
-    rw (c.answered.ensures.value, c.answered.ensures.status) (d amount parts u h)

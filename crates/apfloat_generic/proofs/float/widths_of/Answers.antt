@@ -1,6 +1,0 @@
-use Rattle.apfloat_base.proofs.Encodings.{lawful_interchange}
-use Rattle.apfloat_generic.specs.Types.{constants_of}
-use Rattle.apfloat_generic.proofs.float.widths_of.Goals as goal
-
-pub returns-clause-interchange : goal.returns-clause-interchange
-returns-clause-interchange g c = lawful_interchange (constants_of g.S.Semantics) g.S.Semantics.lawful c.requires

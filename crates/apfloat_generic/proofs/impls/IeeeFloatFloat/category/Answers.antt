@@ -1,7 +1,0 @@
-use Rattle.apfloat_generic.proofs.impls.IeeeFloatFloat.category.Goals as goal
-
-pub returns-clause-category : goal.returns-clause-category
-returns-clause-category g c = assumption
-
-pub returns-clause-member : goal.returns-clause-member
-returns-clause-member g c = assumption

@@ -1,4 +1,0 @@
-use Rattle.apfloat_generic.proofs.impls.IeeeFloatFloat.from_str_r.Goals as goal
-
-pub returns : goal.returns
-returns g c = assumption

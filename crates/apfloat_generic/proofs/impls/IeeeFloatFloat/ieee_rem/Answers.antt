@@ -1,4 +1,0 @@
-use Rattle.apfloat_generic.proofs.impls.IeeeFloatFloat.ieee_rem.Goals as goal
-
-pub returns : goal.returns
-returns g c = assumption

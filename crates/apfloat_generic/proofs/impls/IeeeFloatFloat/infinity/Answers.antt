@@ -1,6 +1,0 @@
-use Rattle.apfloat_generic.proofs.impls.IeeeFloatFloat.infinity.Goals as goal
-
-pub returns : goal.returns
-returns g c =
-    let d = rw c.shape_of.ensures.value at c.infinity_of.ensures.datum in
-    rw c.packed.ensures (assumption d)

@@ -1,4 +1,0 @@
-use Rattle.apfloat_generic.proofs.impls.IeeeFloatFloat.smallest.Goals as goal
-
-pub returns : goal.returns
-returns g c = rw c.packed.ensures (rw⁻¹ c.shape_of.ensures.value assumption)

@@ -1,4 +1,0 @@
-use Rattle.apfloat_generic.proofs.order.IeeeFloatPartialOrd.partial_cmp.Goals as goal
-
-pub returns : goal.returns
-returns g c = c.comparison.ensures

@@ -1,4 +1,0 @@
-use Rattle.apfloat_generic.proofs.products.IeeeFloatDiv.div.Goals as goal
-
-pub returns : goal.returns
-returns g c = c.quotient.ensures

@@ -1,4 +1,0 @@
-use Rattle.apfloat_generic.proofs.products.IeeeFloatMul.mul.Goals as goal
-
-pub returns : goal.returns
-returns g c = c.product.ensures.product

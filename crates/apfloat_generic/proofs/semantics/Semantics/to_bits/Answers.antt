@@ -1,7 +1,0 @@
-use Rattle.apfloat_generic.proofs.semantics.Semantics.to_bits.Goals as goal
-
-pub returns-clause-written : goal.returns-clause-written
-returns-clause-written g c = c.write.ensures.written
-
-pub returns-clause-only : goal.returns-clause-only
-returns-clause-only g c = c.write.ensures.only

@@ -1,4 +1,0 @@
-use Rattle.apfloat_generic.proofs.sums.IeeeFloatNeg.neg.Goals as goal
-
-pub returns : goal.returns
-returns g c = c.negation.ensures

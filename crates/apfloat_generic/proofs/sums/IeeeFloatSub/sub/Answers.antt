@@ -1,4 +1,0 @@
-use Rattle.apfloat_generic.proofs.sums.IeeeFloatSub.sub.Goals as goal
-
-pub returns : goal.returns
-returns g c = c.difference.ensures.difference

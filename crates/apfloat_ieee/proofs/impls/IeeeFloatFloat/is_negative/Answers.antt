@@ -1,0 +1,20 @@
+use Rattle.std.proofs.Common.{◌≡◌, refl}
+use Rattle.apfloat_base.specs.declared.kinds.Category.{Category}
+use Rattle.apfloat_base.specs.declared.kinds.Category.TheVariants.{Infinity, NaN, Normal, Zero}
+use Rattle.apfloat_base.specs.Classes.{is_negative}
+use Rattle.apfloat_unpacked.specs.declared.shape.Shape.{Shape}
+use Rattle.apfloat_unpacked.specs.declared.unpacked.Unpacked.{Unpacked}
+use Rattle.apfloat_unpacked.specs.Stored.{datum_by}
+use Rattle.apfloat_ieee.specs.Types.{shape_of}
+use Rattle.apfloat_ieee.proofs.impls.IeeeFloatFloat.is_negative.Goals as goal
+
+sign_by : (category : Category) (s : Shape) (x : Unpacked) → x.negative ≡ is_negative (datum_by category s x)
+sign_by Normal s x = refl
+sign_by Zero s x = refl
+sign_by Infinity s x = refl
+sign_by NaN s x = refl
+
+pub returns : goal.returns
+returns g c =
+    let n = sign_by c.unpacked.result.category (shape_of g.S.Semantics) c.unpacked.result in
+    rw c.unpacked.ensures.datum (assumption n)

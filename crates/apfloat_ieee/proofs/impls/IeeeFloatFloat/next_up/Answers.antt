@@ -1,0 +1,26 @@
+use Rattle.std.proofs.Common.{◌^◌, ◌≤◌, arith}
+use Rattle.std.proofs.Math.Nat.{pow-le-pow_right}
+use Rattle.apfloat_base.proofs.Existence.{two_pos}
+use Rattle.apfloat_base.proofs.NextBack.{next_back}
+use Rattle.apfloat_unpacked.specs.Stored.{datum_at}
+use Rattle.apfloat_unpacked.proofs.StoredMembers.{member_is}
+use Rattle.apfloat_ieee.specs.Types.{shape_of, format_of}
+use Rattle.apfloat_ieee.proofs.impls.IeeeFloatFloat.next_up.Goals as goal
+
+pub returns-clause-back : goal.returns-clause-back
+returns-clause-back g c = λ k z.
+    let s = shape_of g.S.Semantics in
+    let v = c.shape_of.ensures.value in
+    let n = rw v at c.next_up.ensures.next in
+    let law = rw v at c.shape_of.ensures.lawful in
+    let m = member_is (shape_of g.S.Semantics) c.unpacked.result c.unpacked.ensures.stored in
+    let l = law.precision_low in
+    let p : 2 ^ 3 ≤ 2 ^ g.S.Semantics.PRECISION = pow-le-pow_right two_pos l in
+    let d = c.unpacked.ensures.datum in
+    let b = next_back (format_of g.S.Semantics) (datum_at s c.unpacked.result) (datum_at s c.next_up.result.value) _ k (omega (arith, p)) m (rw d at z) n in
+    rw (c.answered.ensures.value, d) (assumption b)
+
+pub returns-clause-next : goal.returns-clause-next
+returns-clause-next g c =
+    let d = rw c.shape_of.ensures.value at c.next_up.ensures.next in
+    rw (c.unpacked.ensures.datum, c.answered.ensures.value, c.answered.ensures.status) (assumption d)

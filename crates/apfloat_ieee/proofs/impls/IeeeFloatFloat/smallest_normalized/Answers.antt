@@ -1,0 +1,14 @@
+use Rattle.std.proofs.Common.{◌≡◌, ◌∙◌, subst}
+use Rattle.apfloat_base.specs.Constants.{smallest_normalized_datum}
+use Rattle.apfloat_base.specs.Datum.{Datum}
+use Rattle.apfloat_unpacked.specs.declared.shape.Shape.{Shape}
+use Rattle.apfloat_unpacked.specs.declared.unpacked.Unpacked.{Unpacked}
+use Rattle.apfloat_unpacked.specs.Shapes.{format_at}
+use Rattle.apfloat_unpacked.specs.Stored.{datum_at}
+use Rattle.apfloat_ieee.proofs.impls.IeeeFloatFloat.smallest_normalized.Goals as goal
+
+of_shape : (datum : Datum) (x : Unpacked) (s t : Shape) → datum ≡ datum_at t x → s ≡ t → datum_at s x ≡ smallest_normalized_datum (format_at s) → datum ≡ smallest_normalized_datum (format_at t)
+of_shape datum x s t d e h = d ∙ subst (λ (r : Shape). datum_at r x ≡ smallest_normalized_datum (format_at r)) e h
+
+pub returns : goal.returns
+returns g c = of_shape _ _ _ _ c.packed.ensures c.shape_of.ensures.value assumption

@@ -1,0 +1,29 @@
+-- The constants, the format and the layout of a type of formats.
+use Rattle.apfloat_base.specs.Format.{Format}
+use Rattle.apfloat_base.specs.Layout.{Layout}
+use Rattle.apfloat_base.specs.Lawful.{Constants, constants_with, format_with, layout_with}
+use Rattle.apfloat_ieee.specs.declared.semantics.Semantics.{Ghosts}
+use Rattle.apfloat_unpacked.specs.declared.shape.Shape.{Shape}
+
+abbrev pub constants_of : {X : Type 0} → Ghosts X → Constants
+constants_of s =
+    constants_with s.BITS s.EXP_BITS s.PRECISION s.NONFINITE_BEHAVIOR s.MAX_EXP s.IEEE_MAX_EXP s.MIN_EXP s.IEEE_MIN_EXP
+    s.NAN_SIGNIFICAND_BASE s.NAN_PAYLOAD_MASK s.QNAN_SIGNIFICAND s.EXPLICIT_INTEGER_BIT s.TINY_BEFORE_ROUNDING
+
+abbrev pub format_of : {X : Type 0} → Ghosts X → Format
+format_of s = format_with (constants_of s)
+
+abbrev pub layout_of : {X : Type 0} → Ghosts X → Layout
+layout_of s = layout_with (constants_of s)
+
+-- what rounding reads of them
+abbrev pub shape_of : {X : Type 0} → Ghosts X → Shape
+shape_of s =
+    record {
+      precision = s.PRECISION;
+      min_exp = s.MIN_EXP;
+      max_exp = s.MAX_EXP;
+      nonfinite = s.NONFINITE_BEHAVIOR;
+      explicit_integer_bit = s.EXPLICIT_INTEGER_BIT;
+      tiny_before_rounding = s.TINY_BEFORE_ROUNDING;
+    }

@@ -1,0 +1,27 @@
+//! Conversions between any two formats.
+
+ghost use Rattle.apfloat_base.specs.Flags.{bits_of};
+ghost use Rattle.apfloat_base.specs.Conversions.{IsConversion, IsExactlyConverted};
+ghost use Rattle.apfloat_ieee.specs.Types.{format_of};
+
+use crate::ieee_float::{IeeeFloat, shape_of};
+use crate::semantics::Semantics;
+use apfloat_base::{FloatConvert, Round, StatusAnd};
+use apfloat_conversions::between_formats::convert;
+
+impl<S: Semantics, T: Semantics> FloatConvert<IeeeFloat<T>> for IeeeFloat<S> {
+    ghost converts = { λ x mode answer loses_info. IsConversion (format_of S.Semantics) (format_of T.Semantics) mode x answer.value (bits_of answer.status) loses_info };
+
+    /// A finite value whose number the format `T` has, with its sign, comes through as it is, with OK and without loss.
+    #[inline]
+    fn convert_r(self, round: Round, loses_info: &mut bool) -> StatusAnd<IeeeFloat<T>>
+        ensures converted { IsConversion (format_of S.Semantics) (format_of T.Semantics) round
+            self result.value (bits_of result.status) loses_info.new }
+        ensures exact { IsExactlyConverted (format_of S.Semantics) (format_of T.Semantics) self
+            result.value (bits_of result.status) loses_info.new }
+    {
+        let converted = convert(shape_of::<S>(), shape_of::<T>(), self.unpacked(), round);
+        *loses_info = converted.loses_info;
+        IeeeFloat::answered(converted.answer)
+    }
+}

@@ -1,0 +1,85 @@
+//! The text of a value for debugging: `(CATEGORY | SIGNIFICAND * 2^EXPONENT)`.
+//!
+//! The significand is decimal, with the sign directly before it. A finite value that is not zero shows its significand
+//! as a whole number below `2^PRECISION`, and the exponent of the integer bit, which is `MIN_EXP` at least.
+
+ghost use Rattle.apfloat_unpacked.specs.Shapes.{IsShape};
+ghost use Rattle.apfloat_unpacked.specs.Stored.{IsStored, IsNormal};
+
+use crate::ieee_float::{IeeeFloat, shape_of};
+use crate::semantics::Semantics;
+use apfloat_base::sig::steps_between;
+use apfloat_base::{Category, ExpInt, NonfiniteBehavior};
+use apfloat_unpacked::shape::Shape;
+use apfloat_unpacked::unpacked::Unpacked;
+use std::fmt;
+
+/// The significand and the exponent that are shown for a value.
+struct Text {
+    significand: u128,
+    exponent: ExpInt,
+}
+
+/// What is shown of a number: a denormal one without the zeros that follow its last digit.
+fn number_text(shape: Shape, x: Unpacked) -> Text
+    requires lawful { IsShape shape }
+    requires normal { IsNormal shape x.significand x.exponent }
+{
+    if x.exponent < shape.min_exp {
+        Text {
+            significand: x.significand >> steps_between(shape.min_exp, x.exponent),
+            exponent: shape.min_exp,
+        }
+    } else {
+        Text {
+            significand: x.significand,
+            exponent: x.exponent,
+        }
+    }
+}
+
+/// The exponent that NaNs are written with, or what stands for it.
+fn nan_exponent(shape: Shape) -> ExpInt
+    requires { IsShape shape }
+{
+    match shape.nonfinite {
+        NonfiniteBehavior::IEEE754 => shape.max_exp + 1,
+        NonfiniteBehavior::NanOnly => shape.max_exp,
+        NonfiniteBehavior::NanNegativeZero => shape.min_exp - 1,
+    }
+}
+
+/// What is shown of a value.
+fn text_of(shape: Shape, x: Unpacked) -> Text
+    requires lawful { IsShape shape }
+    requires stored { IsStored shape x }
+{
+    match x.category {
+        Category::Normal => number_text(shape, x),
+        Category::Zero => Text {
+            significand: 0,
+            exponent: shape.min_exp - 1,
+        },
+        Category::Infinity => Text {
+            significand: 0,
+            exponent: shape.max_exp + 1,
+        },
+        Category::NaN => Text {
+            significand: x.significand,
+            exponent: nan_exponent(shape),
+        },
+    }
+}
+
+impl<S: Semantics> fmt::Debug for IeeeFloat<S> {
+    fn fmt<W: fmt::Write>(&self, f: &mut fmt::Formatter<W>) -> fmt::Result {
+        let x = self.unpacked();
+        let Text {
+            significand,
+            exponent,
+        } = text_of(shape_of::<S>(), x);
+        let category = x.category;
+        let sign = if x.negative { '-' } else { '+' };
+        write!(f, "({category:?} | {sign}{significand} * 2^{exponent})")
+    }
+}

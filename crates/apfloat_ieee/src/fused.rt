@@ -1,0 +1,44 @@
+//! Fused sums of values of one format.
+
+ghost use Rattle.std.specs.Prelude.{◌≤◌};
+ghost use Rattle.apfloat_base.specs.declared.kinds.Round.TheVariants.{NearestTiesToEven};
+ghost use Rattle.apfloat_base.specs.Flags.{Gives};
+ghost use Rattle.apfloat_base.specs.FusedSums.{IsFusedSum};
+ghost use Rattle.apfloat_ieee.specs.Types.{format_of};
+
+use crate::ieee_float::{IeeeFloat, shape_of};
+use crate::semantics::Semantics;
+use apfloat_arithmetic::fused::multiply_add;
+use apfloat_base::{Round, StatusAnd};
+
+impl<S: Semantics> IeeeFloat<S> {
+    /// The product with `multiplicand` plus `addend`, rounded once (IEEE 754-2008 5.4.1, fusedMultiplyAdd).
+    ///
+    /// Also where the product lies below the smallest denormal value, and where it cancels the addend. An exact zero has
+    /// the sign of a sum of the product and the addend (6.3). An infinity times a zero is invalid (7.2): the quiet NaN
+    /// without a payload, with `INVALID_OP`, whatever the addend is; and so is the sum of an infinite product and the
+    /// infinity of the other sign. The first operand that is a NaN is answered, made quiet (6.2.3).
+    #[inline]
+    pub fn mul_add_r(self, multiplicand: Self, addend: Self, round: Round) -> StatusAnd<Self>
+        requires { S.PRECISION ≤ 63 }
+        ensures { Gives (IsFusedSum (format_of S.Semantics) round self multiplicand addend) result }
+    {
+        IeeeFloat::answered(multiply_add(
+            shape_of::<S>(),
+            self.unpacked(),
+            multiplicand.unpacked(),
+            addend.unpacked(),
+            round,
+        ))
+    }
+
+    /// The product with `multiplicand` plus `addend`, rounded once to the nearest value, a tie to the even one.
+    #[inline]
+    pub fn mul_add(self, multiplicand: Self, addend: Self) -> StatusAnd<Self>
+        requires { S.PRECISION ≤ 63 }
+        ensures { Gives (IsFusedSum (format_of S.Semantics) NearestTiesToEven self multiplicand
+            addend) result }
+    {
+        self.mul_add_r(multiplicand, addend, Round::NearestTiesToEven)
+    }
+}

@@ -1,0 +1,173 @@
+//! A value of one format.
+
+ghost use Rattle.std.specs.Prelude.{◌≡◌, ℕ, ◌-◌, ◌*◌, ◌^◌, ◌<◌, ◌≤◌, ◌⊎◌, pos, neg_ℤ, ◌+ℤ◌, ◌≤ℤ◌, false};
+ghost use Rattle.apfloat_base.specs.declared.sig.loss.Loss.{Loss};
+ghost use Rattle.apfloat_base.specs.Classes.{category_of};
+ghost use Rattle.apfloat_base.specs.Members.{IsMember};
+ghost use Rattle.apfloat_base.specs.Flags.{Gives};
+ghost use Rattle.apfloat_base.specs.Rounding.{IsDelivered};
+ghost use Rattle.apfloat_base.specs.Standing.{StandsFor, up, down};
+ghost use Rattle.apfloat_base.specs.Interchange.{IsInterchange};
+ghost use Rattle.apfloat_base.specs.Layout.{datum_of, IsEncodedBy};
+ghost use Rattle.apfloat_unpacked.specs.Encoded.{layout_at};
+ghost use Rattle.apfloat_unpacked.specs.Shapes.{IsShape};
+ghost use Rattle.apfloat_unpacked.specs.Stored.{IsStored, datum_at};
+ghost use Rattle.apfloat_ieee.specs.Types.{shape_of, format_of, layout_of};
+
+use crate::semantics::Semantics;
+use apfloat_base::sig::Loss;
+use apfloat_base::{ExpInt, Round, StatusAnd};
+use apfloat_unpacked::bits::{Widths, decode, encode};
+use apfloat_unpacked::rounding::deliver;
+use apfloat_unpacked::shape::Shape;
+use apfloat_unpacked::unpacked::Unpacked;
+use std::marker::{Model, PhantomData};
+
+/// A value of the format `S`.
+#[derive_where(Clone, Copy)]
+pub struct IeeeFloat<S: Semantics> {
+    unpacked: Unpacked,
+    marker: PhantomData<S>,
+}
+
+impl<S: Semantics> Model for IeeeFloat<S> {
+    ghost use Rattle.apfloat_base.specs.Datum.{Datum};
+    ghost use Rattle.apfloat_unpacked.specs.Stored.{IsStored, datum_at, unpacked_of};
+    ghost use Rattle.apfloat_unpacked.specs.StoredBack.{comes_back};
+    ghost use Rattle.apfloat_ieee.specs.Types.{shape_of};
+
+    ghost Value = { Datum };
+
+    ghost view = { λ x. datum_at (shape_of S.Semantics) x.unpacked };
+
+    ghost invariant = { λ x. IsStored (shape_of S.Semantics) x.unpacked };
+
+    ghost inverse = { λ d. record { unpacked = unpacked_of (shape_of S.Semantics) d; marker = record {} } };
+
+    ghost inverse_ok = { λ x h. Prim.rw (comes_back (shape_of S.Semantics) x.unpacked h) };
+}
+
+/// The constants of a format that rounding reads.
+#[inline]
+pub(crate) fn shape_of<S: Semantics>() -> Shape
+    ensures value { result ≡ shape_of S.Semantics }
+    ensures lawful { IsShape result }
+{
+    Shape {
+        precision: S::PRECISION as u32,
+        min_exp: S::MIN_EXP,
+        max_exp: S::MAX_EXP,
+        nonfinite: S::NONFINITE_BEHAVIOR,
+        explicit_integer_bit: S::EXPLICIT_INTEGER_BIT,
+        tiny_before_rounding: S::TINY_BEFORE_ROUNDING,
+    }
+}
+
+/// The widths of a format's encodings.
+#[inline]
+fn widths_of<S: Semantics>() -> Widths
+    requires { S.PRECISION < S.BITS }
+    ensures value { layout_at result ≡ layout_of S.Semantics }
+    ensures interchange { IsInterchange (format_of S.Semantics) (layout_of S.Semantics) }
+{
+    Widths {
+        bits: S::BITS as u32,
+        exponent_bits: S::EXP_BITS as u32,
+    }
+}
+
+/// The value that is written as `bits`.
+#[inline]
+pub(crate) fn read<S: Semantics>(bits: u128) -> IeeeFloat<S>
+    requires { S.PRECISION < S.BITS }
+    ensures read { result ≡ datum_of (format_of S.Semantics) (layout_of S.Semantics) bits }
+    ensures back { S.EXPLICIT_INTEGER_BIT ≡ false → bits < 2 ^ S.BITS
+        → IsEncodedBy (format_of S.Semantics) (layout_of S.Semantics) bits result }
+    ensures once { S.EXPLICIT_INTEGER_BIT ≡ false → bits < 2 ^ S.BITS → (other : ℕ)
+        → IsEncodedBy (format_of S.Semantics) (layout_of S.Semantics) other result → other ≡ bits }
+{
+    IeeeFloat::packed(decode(shape_of::<S>(), widths_of::<S>(), bits))
+}
+
+/// The bits of the one canonical encoding of the value.
+#[inline]
+pub(crate) fn write<S: Semantics>(x: IeeeFloat<S>) -> u128
+    requires { S.PRECISION < S.BITS }
+    ensures written { IsEncodedBy (format_of S.Semantics) (layout_of S.Semantics) result x }
+    ensures only { (other : ℕ)
+        → IsEncodedBy (format_of S.Semantics) (layout_of S.Semantics) other x → other ≡ result }
+{
+    encode(shape_of::<S>(), widths_of::<S>(), x.unpacked())
+}
+
+impl<S: Semantics> IeeeFloat<S> {
+    /// The value that is stored so.
+    #[inline]
+    pub(crate) fn packed(unpacked: Unpacked) -> Self
+        requires { IsStored (shape_of S.Semantics) unpacked }
+        ensures { result ≡ datum_at (shape_of S.Semantics) unpacked }
+    {
+        IeeeFloat {
+            unpacked: Unpacked {
+                significand: unpacked.significand,
+                exponent: unpacked.exponent,
+                category: unpacked.category,
+                negative: unpacked.negative,
+            },
+            marker: PhantomData,
+        }
+    }
+
+    /// What is stored of the value.
+    #[inline]
+    pub(crate) fn unpacked(self) -> Unpacked
+        ensures stored { IsStored (shape_of S.Semantics) result }
+        ensures datum { self ≡ datum_at (shape_of S.Semantics) result }
+        ensures category { result.category ≡ category_of self }
+        ensures member { IsMember (format_of S.Semantics) self }
+    {
+        self.unpacked
+    }
+
+    /// An answer with the value that is stored so.
+    #[inline]
+    pub(crate) fn answered(answer: StatusAnd<Unpacked>) -> StatusAnd<Self>
+        requires { IsStored (shape_of S.Semantics) answer.value }
+        ensures status { result.status ≡ answer.status }
+        ensures value { result.value ≡ datum_at (shape_of S.Semantics) answer.value }
+    {
+        answer.status.and(Self::packed(answer.value))
+    }
+}
+
+/// Delivers `significand * 2^exponent`, with `loss` below its last digit, rounded once to the format (IEEE 754-2008 4.3),
+/// with exactly the flags of that rounding.
+///
+/// Where something was lost below, the unit has to be so fine that it divides the spacing of the format there: it is at
+/// most the quantum, or the significand has all digits of the format.
+#[inline]
+pub fn normalize<S: Semantics>(
+    negative: bool,
+    significand: u128,
+    exponent: ExpInt,
+    loss: Loss,
+    round: Round,
+) -> StatusAnd<IeeeFloat<S>>
+    requires near { exponent ≤ℤ pos 8388608 }
+    requires far { neg_ℤ (pos 8388608) ≤ℤ exponent }
+    requires fine { (loss ≡ Loss.ExactlyZero)
+        ⊎ (((exponent +ℤ pos (format_of S.Semantics).scale) ≤ℤ pos 0)
+        ⊎ (2 ^ ((format_of S.Semantics).precision - 1) ≤ significand)) }
+    ensures { let unit = exponent +ℤ pos (format_of S.Semantics).scale in (amount parts : ℕ)
+        → 0 < parts → StandsFor significand loss (amount * 2 ^ down unit) (parts * 2 ^ up unit)
+        → Gives (IsDelivered (format_of S.Semantics) round negative amount parts) result }
+{
+    IeeeFloat::answered(deliver(
+        shape_of::<S>(),
+        significand,
+        exponent,
+        loss,
+        round,
+        negative,
+    ))
+}

@@ -1,0 +1,406 @@
+//! `Float` for each format, and `Default`.
+
+ghost use Rattle.std.specs.Prelude.{◌≡◌, ◌^◌, ◌<◌, ℕ, true, false, leb, IsTrue, refl};
+ghost use Rattle.apfloat_base.specs.Flags.{Gives, bits_of};
+ghost use Rattle.apfloat_base.specs.Nan.{qnan, snan, is_signaling_nan};
+ghost use Rattle.apfloat_base.specs.Negation.{negated};
+ghost use Rattle.apfloat_base.specs.Sums.{IsSum, IsDifference, IsMonotone, IsNearby};
+ghost use Rattle.apfloat_base.proofs.SignedNumbers.{signed_above, signed_below, largest_some};
+ghost use Rattle.apfloat_base.specs.Remainders.{IsTruncatedRemainder, IsNearestRemainder};
+ghost use Rattle.apfloat_base.specs.Exponents.{IsExactInverse, IsIlogb, IsFrexp};
+ghost use Rattle.apfloat_base.specs.Members.{IsMember};
+ghost use Rattle.apfloat_base.specs.declared.kinds.NonfiniteBehavior.TheVariants.{IEEE754};
+ghost use Rattle.apfloat_base.specs.Classes.{category_of, is_negative, is_denormal, is_finite_non_zero, is_integer, same_datum};
+ghost use Rattle.apfloat_base.specs.Order.{AreNumbers, compared_magnitudes};
+ghost use Rattle.apfloat_base.specs.Products.{IsProduct, IsOpposite};
+ghost use Rattle.apfloat_base.specs.Quotients.{IsQuotient};
+ghost use Rattle.std.proofs.lemmas.Bool.{leb-true};
+ghost use Rattle.apfloat_base.specs.Constants.{zero_datum, smallest_datum, infinity_datum, largest_datum, smallest_normalized_datum};
+ghost use Rattle.apfloat_base.specs.Layout.{datum_of, IsEncodedBy};
+ghost use Rattle.apfloat_base.specs.NextUp.{IsNextUp, IsNextDown};
+ghost use Rattle.apfloat_base.specs.Rounding.{ok_bits};
+ghost use Rattle.apfloat_base.specs.Scaling.{IsScaling};
+ghost use Rattle.apfloat_base.specs.WholeNumbers.{IsFromUnsigned, IsFromSigned, IsRoundToIntegral};
+ghost use Rattle.apfloat_base.specs.WholeNumbersOut.{IsToUnsigned, IsToSigned};
+ghost use Rattle.apfloat_conversions.proofs.ToSigned.{to_signed_above, to_signed_below};
+ghost use Rattle.apfloat_base.specs.Parsing.{IsRead};
+ghost use Rattle.apfloat_base.proofs.Determined.{determined, scale_some};
+ghost use Rattle.apfloat_base.proofs.Encodings.{lawful_interchange};
+ghost use Rattle.apfloat_ieee.specs.Types.{constants_of, format_of, layout_of};
+
+use crate::ieee_float::{IeeeFloat, read, shape_of, write};
+use crate::order::{is_same, magnitude_order};
+use crate::products::{inverse, product, quotient};
+use crate::remainders::{nearest, truncated};
+use crate::semantics::Semantics;
+use crate::sums::{difference, sum};
+use crate::texts::read_text;
+use apfloat_arithmetic::classes::is_denormal;
+use apfloat_base::{Category, ExpInt, Float, ParseError, Round, StatusAnd};
+use apfloat_conversions::integers::{from_unsigned, to_unsigned};
+use apfloat_conversions::integral::{is_integer, round_to_integral};
+use apfloat_conversions::neighbours::next_up;
+use apfloat_conversions::scaling::{fraction_of, ilogb, scaled};
+use apfloat_unpacked::nans::{is_signaling, quiet_nan, signaling_nan};
+use apfloat_unpacked::unpacked::{
+    infinity_of, largest_of, smallest_normalized_of, smallest_of, zero_of,
+};
+use std::cmp::Ordering;
+
+impl<S: Semantics> Default for IeeeFloat<S> {
+    ghost is_default = { λ x. x ≡ zero_datum };
+
+    /// +0.
+    fn default() -> Self {
+        IeeeFloat::packed(zero_of(shape_of::<S>(), false))
+    }
+}
+
+impl<S: Semantics> Float for IeeeFloat<S> {
+    const BITS: usize = S::BITS;
+
+    const PRECISION: usize = S::PRECISION;
+
+    const MAX_EXP: ExpInt = S::MAX_EXP;
+
+    const MIN_EXP: ExpInt = S::MIN_EXP;
+
+    const MULTIPLIES: bool = S::PRECISION <= 64;
+
+    ghost BITS = { S.BITS };
+
+    ghost PRECISION = { S.PRECISION };
+
+    ghost MAX_EXP = { S.MAX_EXP };
+
+    ghost MIN_EXP = { S.MIN_EXP };
+
+    ghost MULTIPLIES = { leb S.PRECISION 64 };
+
+    ghost the_zero = { zero_datum };
+
+    ghost the_smallest = { smallest_datum };
+
+    ghost the_infinity = { infinity_datum (format_of S.Semantics) };
+
+    ghost the_largest = { largest_datum (format_of S.Semantics) };
+
+    ghost the_smallest_normalized = { smallest_normalized_datum (format_of S.Semantics) };
+
+    ghost quiet_nan_of = { qnan (format_of S.Semantics) };
+
+    ghost signaling_nan_of = { snan (format_of S.Semantics) };
+
+    ghost adds = { λ x y mode answer. Gives (IsSum (format_of S.Semantics) mode x y) answer };
+
+    ghost subtracts = { λ x y mode answer. Gives (IsDifference (format_of S.Semantics) mode x y) answer };
+
+    ghost negated = { negated (format_of S.Semantics).nonfinite };
+
+    ghost category_of = { category_of };
+
+    ghost sign_of = { is_negative };
+
+    ghost signals = { is_signaling_nan (format_of S.Semantics) };
+
+    ghost denormal = { is_denormal (format_of S.Semantics) };
+
+    ghost multiplies = { λ x y mode answer. Gives (IsProduct (format_of S.Semantics) mode x y) answer };
+
+    ghost divides = { λ x y mode answer. Gives (IsQuotient (format_of S.Semantics) mode x y) answer };
+
+    ghost inverts = { IsExactInverse (format_of S.Semantics) };
+
+    ghost leaves = { λ x y answer. Gives (IsTruncatedRemainder (format_of S.Semantics) x y) answer };
+
+    ghost leaves_nearest = { λ x y answer. Gives (IsNearestRemainder (format_of S.Semantics) x y) answer };
+
+    ghost same = { same_datum };
+
+    ghost can_compare_magnitudes = { AreNumbers };
+
+    ghost magnitude_order = { compared_magnitudes };
+
+    ghost value_of_bits = { datum_of (format_of S.Semantics) (layout_of S.Semantics) };
+
+    ghost writes_bits = { λ x bits. IsEncodedBy (format_of S.Semantics) (layout_of S.Semantics) bits x };
+
+    ghost converts_unsigned = { λ number mode answer. Gives (IsFromUnsigned (format_of S.Semantics) mode number) answer };
+
+    ghost converts_signed = { λ number mode answer. Gives (IsFromSigned (format_of S.Semantics) mode number) answer };
+
+    ghost rounds_to_integral = { λ x mode answer. Gives (IsRoundToIntegral (format_of S.Semantics) mode x) answer };
+
+    ghost is_whole = { is_integer (format_of S.Semantics) };
+
+    ghost converts_to_unsigned = { λ x width mode answer exact. IsToUnsigned (format_of S.Semantics) mode width x answer.value (bits_of answer.status) exact };
+
+    ghost converts_to_signed = { λ x width mode answer exact. IsToSigned (format_of S.Semantics) mode width x answer.value (bits_of answer.status) exact };
+
+    ghost steps_up = { λ x answer. Gives (IsNextUp (format_of S.Semantics) x) answer };
+
+    ghost steps_down = { λ x answer. Gives (IsNextDown (format_of S.Semantics) x) answer };
+
+    ghost scales = { λ x places mode value. IsScaling (format_of S.Semantics) mode x places value };
+
+    ghost has_exponent = { λ x exponent. IsIlogb (format_of S.Semantics) x exponent };
+
+    ghost has_fraction = { λ x mode value exponent. IsFrexp (format_of S.Semantics) x value exponent };
+
+    ghost reads = { λ text mode answer. IsRead (format_of S.Semantics) mode text answer };
+
+    #[inline]
+    fn zero() -> Self {
+        IeeeFloat::packed(zero_of(shape_of::<S>(), false))
+    }
+
+    #[inline]
+    fn infinity() -> Self {
+        IeeeFloat::packed(infinity_of(shape_of::<S>(), false))
+    }
+
+    #[inline]
+    fn qnan(payload: Option<u128>) -> Self {
+        IeeeFloat::packed(quiet_nan(shape_of::<S>(), payload.unwrap_or(0)))
+    }
+
+    #[inline]
+    fn snan(payload: Option<u128>) -> Self {
+        IeeeFloat::packed(signaling_nan(shape_of::<S>(), payload.unwrap_or(0)))
+    }
+
+    #[inline]
+    fn largest() -> Self {
+        IeeeFloat::packed(largest_of(shape_of::<S>(), false))
+    }
+
+    #[inline]
+    fn smallest() -> Self {
+        IeeeFloat::packed(smallest_of(shape_of::<S>()))
+    }
+
+    #[inline]
+    fn smallest_normalized() -> Self {
+        IeeeFloat::packed(smallest_normalized_of(shape_of::<S>()))
+    }
+
+    #[inline]
+    fn add_r(self, rhs: Self, round: Round) -> StatusAnd<Self>
+        ensures sum { Gives (IsSum (format_of S.Semantics) round self rhs) result }
+        ensures monotone { IsMonotone (format_of S.Semantics) round self rhs result.value }
+    {
+        sum(self, rhs, round)
+    }
+
+    #[inline]
+    fn sub_r(self, rhs: Self, round: Round) -> StatusAnd<Self>
+        ensures difference { Gives (IsDifference (format_of S.Semantics) round self rhs) result }
+        ensures nearby { Gives (IsNearby self rhs) result }
+    {
+        difference(self, rhs, round)
+    }
+
+    #[inline]
+    fn mul_r(self, rhs: Self, round: Round) -> StatusAnd<Self>
+        requires { IsTrue (leb S.PRECISION 64) }
+        ensures product { Gives (IsProduct (format_of S.Semantics) round self rhs) result }
+        ensures opposite { Gives (IsOpposite (format_of S.Semantics) round self rhs) result }
+    {
+        product(self, rhs, round)
+    }
+
+    #[inline]
+    fn div_r(self, rhs: Self, round: Round) -> StatusAnd<Self> {
+        quotient(self, rhs, round)
+    }
+
+    #[inline]
+    fn ieee_rem(self, rhs: Self) -> StatusAnd<Self> {
+        nearest(self, rhs)
+    }
+
+    #[inline]
+    fn c_fmod(self, rhs: Self) -> StatusAnd<Self> {
+        truncated(self, rhs)
+    }
+
+    #[inline]
+    fn round_to_integral(self, round: Round) -> StatusAnd<Self> {
+        IeeeFloat::answered(round_to_integral(shape_of::<S>(), self.unpacked(), round))
+    }
+
+    #[inline]
+    fn next_up(self) -> StatusAnd<Self>
+        ensures next { Gives (IsNextUp (format_of S.Semantics) self) result }
+        ensures back { S.NONFINITE_BEHAVIOR ≡ IEEE754 → is_finite_non_zero self ≡ true
+            → IsNextDown (format_of S.Semantics) result.value self ok_bits }
+    {
+        IeeeFloat::answered(next_up(shape_of::<S>(), self.unpacked()))
+    }
+
+    #[inline]
+    fn from_bits(bits: u128) -> Self
+        requires { S.PRECISION < S.BITS }
+        ensures read { result ≡ datum_of (format_of S.Semantics) (layout_of S.Semantics) bits }
+        ensures back { S.EXPLICIT_INTEGER_BIT ≡ false → bits < 2 ^ S.BITS
+            → IsEncodedBy (format_of S.Semantics) (layout_of S.Semantics) bits result }
+        ensures once { S.EXPLICIT_INTEGER_BIT ≡ false → bits < 2 ^ S.BITS → (other : ℕ)
+            → IsEncodedBy (format_of S.Semantics) (layout_of S.Semantics) other result
+            → other ≡ bits }
+    {
+        read::<S>(bits)
+    }
+
+    #[inline]
+    fn from_u128_r(input: u128, round: Round) -> StatusAnd<Self> {
+        IeeeFloat::answered(from_unsigned(shape_of::<S>(), input, round))
+    }
+
+    #[inline]
+    fn from_str_r(s: &str, round: Round) -> Result<StatusAnd<Self>, ParseError> {
+        read_text::<S>(s, round)
+    }
+
+    #[inline]
+    fn to_bits(self) -> u128
+        requires { S.PRECISION < S.BITS }
+        ensures written { IsEncodedBy (format_of S.Semantics) (layout_of S.Semantics) result self }
+        ensures below { result < 2 ^ S.BITS }
+        ensures back { datum_of (format_of S.Semantics) (layout_of S.Semantics) result ≡ self }
+        ensures only { (other : ℕ)
+            → IsEncodedBy (format_of S.Semantics) (layout_of S.Semantics) other self
+            → other ≡ result }
+    {
+        write::<S>(self)
+    }
+
+    #[inline]
+    fn to_u128_r(self, width: usize, round: Round, is_exact: &mut bool) -> StatusAnd<u128> {
+        let whole = to_unsigned(shape_of::<S>(), self.unpacked(), width as u32, round);
+        *is_exact = whole.is_exact;
+        whole.answer
+    }
+
+    #[inline]
+    fn cmp_abs_normal(self, rhs: Self) -> Ordering {
+        magnitude_order(self, rhs)
+    }
+
+    #[inline]
+    fn bitwise_eq(self, rhs: Self) -> bool {
+        is_same(self, rhs)
+    }
+
+    #[inline]
+    fn is_negative(self) -> bool {
+        self.unpacked().negative
+    }
+
+    #[inline]
+    fn is_denormal(self) -> bool {
+        is_denormal(shape_of::<S>(), self.unpacked())
+    }
+
+    #[inline]
+    fn is_signaling(self) -> bool {
+        is_signaling(shape_of::<S>(), self.unpacked())
+    }
+
+    #[inline]
+    fn category(self) -> Category
+        ensures category { result ≡ category_of self }
+        ensures member { IsMember (format_of S.Semantics) self }
+    {
+        self.unpacked().category
+    }
+
+    #[inline]
+    fn is_integer(self) -> bool {
+        is_integer(shape_of::<S>(), self.unpacked())
+    }
+
+    #[inline]
+    fn get_exact_inverse(self) -> Option<Self> {
+        inverse(self)
+    }
+
+    #[inline]
+    fn ilogb(self) -> ExpInt {
+        ilogb(shape_of::<S>(), self.unpacked())
+    }
+
+    #[inline]
+    fn scalbn_r(self, exp: ExpInt, round: Round) -> Self {
+        IeeeFloat::packed(scaled(shape_of::<S>(), self.unpacked(), exp, round))
+    }
+
+    #[inline]
+    fn frexp_r(self, exp: &mut ExpInt, _round: Round) -> Self {
+        let fraction = fraction_of(shape_of::<S>(), self.unpacked());
+        *exp = fraction.exponent;
+        IeeeFloat::packed(fraction.value)
+    }
+
+    ghost can_mul_law = { λ m x y. leb-true S.PRECISION 64 m };
+
+    ghost mul_law = { λ x y r h. h };
+
+    ghost can_mul_assign_law = { λ m x y. leb-true S.PRECISION 64 m };
+
+    ghost mul_assign_law = { λ x y z h. (record { status = record { 0 = h.0 }; value = z }, h.1, refl) };
+
+    ghost can_div_law = { λ x y. tt };
+
+    ghost div_law = { λ x y r h. h };
+
+    ghost can_div_assign_law = { λ x y. tt };
+
+    ghost div_assign_law = { λ x y z h. (record { status = record { 0 = h.0 }; value = z }, h.1, refl) };
+
+    ghost can_rem_law = { λ x y. tt };
+
+    ghost rem_law = { λ x y r h. h };
+
+    ghost can_rem_assign_law = { λ x y. tt };
+
+    ghost rem_assign_law = { λ x y z h. (record { status = record { 0 = h.0 }; value = z }, h.1, refl) };
+
+    ghost read_law = { λ text r h. h };
+
+    ghost steps_down_law = { λ x r h. record { up_of_negated = r.value; is_next_up = h; is = refl } };
+
+    ghost to_signed_above_law = { λ x width mode number exact z h. to_signed_above (format_of S.Semantics) mode width x number.value (bits_of number.status) exact z h };
+
+    ghost to_signed_below_law = { λ x width mode number exact answer is_exact z w h g. to_signed_below (format_of S.Semantics) mode width x number.value (bits_of number.status) exact answer.value (bits_of answer.status) is_exact z w h g };
+
+    ghost default_law = { λ x h. h };
+
+    ghost can_neg_law = { λ x. tt };
+
+    ghost neg_law = { λ x r h. h };
+
+    ghost can_add_law = { λ x y. tt };
+
+    ghost add_law = { λ x y r h. h };
+
+    ghost can_add_assign_law = { λ x y. tt };
+
+    ghost add_assign_law = { λ x y z h. h };
+
+    ghost can_sub_law = { λ x y. tt };
+
+    ghost sub_law = { λ x y r h. h };
+
+    ghost can_sub_assign_law = { λ x y. tt };
+
+    ghost sub_assign_law = { λ x y z h. h };
+
+    ghost signed_above_law = { λ n mode r h. signed_above (format_of S.Semantics) mode n r.value (bits_of r.status) h };
+
+    ghost signed_below_law = { λ n mode r p h. signed_below (format_of S.Semantics) mode n r.value (bits_of r.status) (largest_some (format_of S.Semantics) S.lawful.precision_low) p h };
+
+    ghost determined = { λ mode.
+        determined (format_of S.Semantics) (layout_of S.Semantics) S.PRECISION S.BITS mode
+        (scale_some (constants_of S.Semantics) S.lawful)
+        (lawful_interchange (constants_of S.Semantics) S.lawful) };
+}

@@ -1,0 +1,122 @@
+//! Products, quotients and exact inverses of values of one format, and the operators `*`, `/`, `*=` and `/=`.
+
+ghost use Rattle.std.specs.Prelude.{◌≡◌, ◌≤◌};
+ghost use Rattle.apfloat_base.specs.Flags.{Gives};
+ghost use Rattle.apfloat_base.specs.Exponents.{IsExactInverse};
+ghost use Rattle.apfloat_base.specs.Products.{IsProduct, IsOpposite};
+ghost use Rattle.apfloat_base.specs.Quotients.{IsQuotient};
+ghost use Rattle.apfloat_ieee.specs.Types.{format_of};
+
+use crate::ieee_float::{IeeeFloat, shape_of};
+use crate::semantics::Semantics;
+use apfloat_arithmetic::inverses::exact_inverse;
+use apfloat_arithmetic::products::multiply;
+use apfloat_arithmetic::quotients::divide;
+use apfloat_base::{Round, StatusAnd};
+use std::ops::{Div, DivAssign, Mul, MulAssign};
+
+/// The product of two values, rounded once; a format of at most 64 digits has it.
+#[inline]
+pub(crate) fn product<S: Semantics>(
+    x: IeeeFloat<S>,
+    y: IeeeFloat<S>,
+    round: Round,
+) -> StatusAnd<IeeeFloat<S>>
+    requires { S.PRECISION ≤ 64 }
+    ensures product { Gives (IsProduct (format_of S.Semantics) round x y) result }
+    ensures opposite { Gives (IsOpposite (format_of S.Semantics) round x y) result }
+{
+    IeeeFloat::answered(multiply(shape_of::<S>(), x.unpacked(), y.unpacked(), round))
+}
+
+/// The quotient of two values, rounded once.
+#[inline]
+pub(crate) fn quotient<S: Semantics>(
+    x: IeeeFloat<S>,
+    y: IeeeFloat<S>,
+    round: Round,
+) -> StatusAnd<IeeeFloat<S>>
+    ensures { Gives (IsQuotient (format_of S.Semantics) round x y) result }
+{
+    IeeeFloat::answered(divide(shape_of::<S>(), x.unpacked(), y.unpacked(), round))
+}
+
+/// The exact inverse of a value, where the format has it.
+#[inline]
+pub(crate) fn inverse<S: Semantics>(x: IeeeFloat<S>) -> Option<IeeeFloat<S>>
+    ensures { IsExactInverse (format_of S.Semantics) x result }
+{
+    match exact_inverse(shape_of::<S>(), x.unpacked()) {
+        Some(inverse) => Some(IeeeFloat::packed(inverse)),
+        None => None,
+    }
+}
+
+impl<S: Semantics> Mul for IeeeFloat<S> {
+    type Output = StatusAnd<IeeeFloat<S>>;
+
+    ghost use Rattle.std.specs.Prelude.{◌≤◌};
+    ghost use Rattle.apfloat_base.specs.declared.kinds.Round.TheVariants.{NearestTiesToEven};
+    ghost use Rattle.apfloat_base.specs.Flags.{Gives};
+    ghost use Rattle.apfloat_base.specs.Products.{IsProduct};
+    ghost use Rattle.apfloat_ieee.specs.Types.{format_of};
+
+    ghost can_mul = { λ _ _. S.PRECISION ≤ 64 };
+
+    ghost mul_gives = { λ x y r. Gives (IsProduct (format_of S.Semantics) NearestTiesToEven x y) r };
+
+    /// The product, rounded once to the nearest value, a tie to the even one.
+    #[inline]
+    fn mul(self, rhs: IeeeFloat<S>) -> StatusAnd<IeeeFloat<S>> {
+        product(self, rhs, Round::NearestTiesToEven)
+    }
+}
+
+impl<S: Semantics> Div for IeeeFloat<S> {
+    type Output = StatusAnd<IeeeFloat<S>>;
+
+    ghost use Rattle.apfloat_base.specs.declared.kinds.Round.TheVariants.{NearestTiesToEven};
+    ghost use Rattle.apfloat_base.specs.Flags.{Gives};
+    ghost use Rattle.apfloat_base.specs.Quotients.{IsQuotient};
+    ghost use Rattle.apfloat_ieee.specs.Types.{format_of};
+
+    ghost div_gives = { λ x y r. Gives (IsQuotient (format_of S.Semantics) NearestTiesToEven x y) r };
+
+    /// The quotient, rounded once to the nearest value, a tie to the even one.
+    #[inline]
+    fn div(self, rhs: IeeeFloat<S>) -> StatusAnd<IeeeFloat<S>> {
+        quotient(self, rhs, Round::NearestTiesToEven)
+    }
+}
+
+impl<S: Semantics> MulAssign for IeeeFloat<S> {
+    ghost use Rattle.std.specs.Prelude.{ℕ, ◌≤◌};
+    ghost use Rattle.apfloat_base.specs.declared.kinds.Round.TheVariants.{NearestTiesToEven};
+    ghost use Rattle.apfloat_base.specs.Products.{IsProduct};
+    ghost use Rattle.apfloat_ieee.specs.Types.{format_of};
+
+    ghost can_mul_assign = { λ _ _. S.PRECISION ≤ 64 };
+
+    ghost mul_assign_gives = { λ x y z. (status : ℕ) × IsProduct (format_of S.Semantics) NearestTiesToEven x y z status };
+
+    /// The product by `*`; its status is dropped.
+    #[inline]
+    fn mul_assign(&mut self, rhs: IeeeFloat<S>) {
+        *self = product(*self, rhs, Round::NearestTiesToEven).value;
+    }
+}
+
+impl<S: Semantics> DivAssign for IeeeFloat<S> {
+    ghost use Rattle.std.specs.Prelude.{ℕ};
+    ghost use Rattle.apfloat_base.specs.declared.kinds.Round.TheVariants.{NearestTiesToEven};
+    ghost use Rattle.apfloat_base.specs.Quotients.{IsQuotient};
+    ghost use Rattle.apfloat_ieee.specs.Types.{format_of};
+
+    ghost div_assign_gives = { λ x y z. (status : ℕ) × IsQuotient (format_of S.Semantics) NearestTiesToEven x y z status };
+
+    /// The quotient by `/`; its status is dropped.
+    #[inline]
+    fn div_assign(&mut self, rhs: IeeeFloat<S>) {
+        *self = quotient(*self, rhs, Round::NearestTiesToEven).value;
+    }
+}

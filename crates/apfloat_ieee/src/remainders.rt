@@ -1,0 +1,78 @@
+//! Remainders of values of one format, and the operators `%` and `%=`.
+
+ghost use Rattle.std.specs.Prelude.{◌≡◌, ℤ, ◌<◌, pos, ◌+ℤ◌, ◌-ℤ◌, ◌≤ℤ◌};
+ghost use Rattle.apfloat_base.specs.Flags.{Gives};
+ghost use Rattle.apfloat_base.specs.Exponents.{IsIlogb};
+ghost use Rattle.apfloat_base.specs.Remainders.{IsTruncatedRemainder, IsNearestRemainder, ones_of_quotient};
+ghost use Rattle.apfloat_ieee.specs.Types.{format_of};
+
+use crate::ieee_float::{IeeeFloat, shape_of};
+use crate::semantics::Semantics;
+use apfloat_arithmetic::remainders::{nearest_remainder, truncated_remainder};
+use apfloat_base::StatusAnd;
+use std::ops::{Rem, RemAssign};
+
+/// The remainder by the quotient cut toward zero, which is exact.
+#[inline]
+pub(crate) fn truncated<S: Semantics>(x: IeeeFloat<S>, y: IeeeFloat<S>) -> StatusAnd<IeeeFloat<S>>
+    ensures { Gives (IsTruncatedRemainder (format_of S.Semantics) x y) result }
+{
+    IeeeFloat::answered(truncated_remainder(shape_of::<S>(), x.unpacked(), y.unpacked()).answer)
+}
+
+/// The remainder by the whole number nearest to the quotient, a tie to the even one, which is exact.
+#[inline]
+pub(crate) fn nearest<S: Semantics>(x: IeeeFloat<S>, y: IeeeFloat<S>) -> StatusAnd<IeeeFloat<S>>
+    ensures { Gives (IsNearestRemainder (format_of S.Semantics) x y) result }
+{
+    IeeeFloat::answered(nearest_remainder(shape_of::<S>(), x.unpacked(), y.unpacked()))
+}
+
+impl<S: Semantics> IeeeFloat<S> {
+    /// The remainder by `%`, and the number of subtractions that it took.
+    ///
+    /// Each turn subtracts the greatest multiple of the divisor by a power of two (1 or more) that is not above what is
+    /// left. So the number is the count of ones among the binary digits of the quotient cut toward zero, and at most
+    /// `ilogb(self) - ilogb(rhs) + 1` where it is not 0. Where an operand is zero, infinite or a NaN it is 0.
+    #[inline]
+    pub fn c_fmod_steps(self, rhs: Self) -> (StatusAnd<Self>, u32)
+        ensures answer { Gives (IsTruncatedRemainder (format_of S.Semantics) self rhs) result.0 }
+        ensures steps { result.1 ≡ ones_of_quotient self rhs }
+        ensures few { (a b : ℤ) → IsIlogb (format_of S.Semantics) self a
+            → IsIlogb (format_of S.Semantics) rhs b → 0 < result.1
+            → pos result.1 ≤ℤ ((a -ℤ b) +ℤ pos 1) }
+    {
+        let remainder = truncated_remainder(shape_of::<S>(), self.unpacked(), rhs.unpacked());
+        (IeeeFloat::answered(remainder.answer), remainder.steps)
+    }
+}
+
+impl<S: Semantics> Rem for IeeeFloat<S> {
+    type Output = StatusAnd<IeeeFloat<S>>;
+
+    ghost use Rattle.apfloat_base.specs.Flags.{Gives};
+    ghost use Rattle.apfloat_base.specs.Remainders.{IsTruncatedRemainder};
+    ghost use Rattle.apfloat_ieee.specs.Types.{format_of};
+
+    ghost rem_gives = { λ x y r. Gives (IsTruncatedRemainder (format_of S.Semantics) x y) r };
+
+    /// The remainder by the quotient cut toward zero, which is exact.
+    #[inline]
+    fn rem(self, rhs: IeeeFloat<S>) -> StatusAnd<IeeeFloat<S>> {
+        truncated(self, rhs)
+    }
+}
+
+impl<S: Semantics> RemAssign for IeeeFloat<S> {
+    ghost use Rattle.std.specs.Prelude.{ℕ};
+    ghost use Rattle.apfloat_base.specs.Remainders.{IsTruncatedRemainder};
+    ghost use Rattle.apfloat_ieee.specs.Types.{format_of};
+
+    ghost rem_assign_gives = { λ x y z. (status : ℕ) × IsTruncatedRemainder (format_of S.Semantics) x y z status };
+
+    /// The remainder by `%`; its status is dropped.
+    #[inline]
+    fn rem_assign(&mut self, rhs: IeeeFloat<S>) {
+        *self = truncated(*self, rhs).value;
+    }
+}

@@ -1,0 +1,107 @@
+//! Sums and differences of values of one format, the other sign, and the operators `-`, `+`, `+=` and `-=`.
+
+ghost use Rattle.std.specs.Prelude.{◌≡◌};
+ghost use Rattle.apfloat_base.specs.declared.kinds.Round.TheVariants.{NearestTiesToEven};
+ghost use Rattle.apfloat_base.specs.declared.status.StatusAnd.{StatusAnd};
+ghost use Rattle.apfloat_base.specs.Flags.{Gives};
+ghost use Rattle.apfloat_base.specs.Negation.{negated};
+ghost use Rattle.apfloat_base.specs.Sums.{IsSum, IsDifference, IsMonotone, IsNearby};
+ghost use Rattle.apfloat_ieee.specs.Types.{format_of};
+
+use crate::ieee_float::{IeeeFloat, shape_of};
+use crate::semantics::Semantics;
+use apfloat_arithmetic::signs::negated;
+use apfloat_arithmetic::sums::{add, subtract};
+use apfloat_base::{Round, StatusAnd};
+use std::ops::{Add, AddAssign, Neg, Sub, SubAssign};
+
+/// The sum of two values, rounded once. In a format with infinities it does not fall as a finite `x` grows.
+#[inline]
+pub(crate) fn sum<S: Semantics>(
+    x: IeeeFloat<S>,
+    y: IeeeFloat<S>,
+    round: Round,
+) -> StatusAnd<IeeeFloat<S>>
+    ensures sum { Gives (IsSum (format_of S.Semantics) round x y) result }
+    ensures monotone { IsMonotone (format_of S.Semantics) round x y result.value }
+{
+    IeeeFloat::answered(add(shape_of::<S>(), x.unpacked(), y.unpacked(), round))
+}
+
+/// The difference of two values, rounded once. That of positive numbers is exact where neither is more than twice the
+/// other.
+#[inline]
+pub(crate) fn difference<S: Semantics>(
+    x: IeeeFloat<S>,
+    y: IeeeFloat<S>,
+    round: Round,
+) -> StatusAnd<IeeeFloat<S>>
+    ensures difference { Gives (IsDifference (format_of S.Semantics) round x y) result }
+    ensures nearby { Gives (IsNearby x y) result }
+{
+    IeeeFloat::answered(subtract(shape_of::<S>(), x.unpacked(), y.unpacked(), round))
+}
+
+/// The value with the other sign.
+#[inline]
+fn negation<S: Semantics>(x: IeeeFloat<S>) -> IeeeFloat<S>
+    ensures { result ≡ negated (format_of S.Semantics).nonfinite x }
+{
+    IeeeFloat::packed(negated(shape_of::<S>(), x.unpacked()))
+}
+
+impl<S: Semantics> Neg for IeeeFloat<S> {
+    type Output = IeeeFloat<S>;
+
+    ghost neg_gives = { λ x r. r ≡ negated (format_of S.Semantics).nonfinite x };
+
+    /// The value with the other sign (IEEE 754-2008 5.5.1, negate), also of a NaN; none is signaled.
+    #[inline]
+    fn neg(self) -> IeeeFloat<S> {
+        negation(self)
+    }
+}
+
+impl<S: Semantics> Add for IeeeFloat<S> {
+    type Output = StatusAnd<IeeeFloat<S>>;
+
+    ghost add_gives = { λ x y r. Gives (IsSum (format_of S.Semantics) NearestTiesToEven x y) r };
+
+    /// The sum, rounded once to the nearest value, a tie to the even one.
+    #[inline]
+    fn add(self, rhs: IeeeFloat<S>) -> StatusAnd<IeeeFloat<S>> {
+        sum(self, rhs, Round::NearestTiesToEven)
+    }
+}
+
+impl<S: Semantics> Sub for IeeeFloat<S> {
+    type Output = StatusAnd<IeeeFloat<S>>;
+
+    ghost sub_gives = { λ x y r. Gives (IsDifference (format_of S.Semantics) NearestTiesToEven x y) r };
+
+    /// The difference, rounded once to the nearest value, a tie to the even one.
+    #[inline]
+    fn sub(self, rhs: IeeeFloat<S>) -> StatusAnd<IeeeFloat<S>> {
+        difference(self, rhs, Round::NearestTiesToEven)
+    }
+}
+
+impl<S: Semantics> AddAssign for IeeeFloat<S> {
+    ghost add_assign_gives = { λ x y z. (r : StatusAnd Self) × Gives (IsSum (format_of S.Semantics) NearestTiesToEven x y) r × (z ≡ r.value) };
+
+    /// The sum by `+`; its status is dropped.
+    #[inline]
+    fn add_assign(&mut self, rhs: IeeeFloat<S>) {
+        *self = sum(*self, rhs, Round::NearestTiesToEven).value;
+    }
+}
+
+impl<S: Semantics> SubAssign for IeeeFloat<S> {
+    ghost sub_assign_gives = { λ x y z. (r : StatusAnd Self) × Gives (IsDifference (format_of S.Semantics) NearestTiesToEven x y) r × (z ≡ r.value) };
+
+    /// The difference by `-`; its status is dropped.
+    #[inline]
+    fn sub_assign(&mut self, rhs: IeeeFloat<S>) {
+        *self = difference(*self, rhs, Round::NearestTiesToEven).value;
+    }
+}

@@ -1,0 +1,43 @@
+//! Reading texts.
+
+ghost use Rattle.std.specs.Prelude.{◌≡◌, Result};
+ghost use Rattle.apfloat_base.specs.declared.kinds.Round.TheVariants.{NearestTiesToEven};
+ghost use Rattle.apfloat_base.specs.declared.parse_error.ParseError.{ParseError};
+ghost use Rattle.apfloat_base.specs.declared.status.StatusAnd.{StatusAnd};
+ghost use Rattle.apfloat_base.specs.Datum.{Datum};
+ghost use Rattle.apfloat_base.specs.Parsing.{IsRead, without_status};
+ghost use Rattle.apfloat_ieee.specs.Types.{format_of};
+
+use crate::ieee_float::{IeeeFloat, shape_of};
+use crate::semantics::Semantics;
+use apfloat_base::{ParseError, Round, StatusAnd};
+use apfloat_texts::read;
+use std::str::FromStr;
+
+/// The value of a text, or its refusal.
+#[inline]
+pub(crate) fn read_text<S: Semantics>(
+    text: &str,
+    round: Round,
+) -> Result<StatusAnd<IeeeFloat<S>>, ParseError>
+    ensures { IsRead (format_of S.Semantics) round text.now result }
+{
+    match read(shape_of::<S>(), text, round) {
+        Ok(answer) => Ok(IeeeFloat::answered(answer)),
+        Err(error) => Err(error),
+    }
+}
+
+impl<S: Semantics> FromStr for IeeeFloat<S> {
+    type Err = ParseError;
+
+    ghost from_str_gives = { λ text r. (answer : Result (StatusAnd Datum) ParseError) × IsRead (format_of S.Semantics) NearestTiesToEven text answer × (r ≡ without_status answer) };
+
+    /// Reads a text as `from_str_r` does, to the nearest value, a tie to the even one, and drops the status.
+    fn from_str(s: &str) -> Result<Self, ParseError> {
+        match read_text::<S>(s, Round::NearestTiesToEven) {
+            Ok(answer) => Ok(answer.value),
+            Err(error) => Err(error),
+        }
+    }
+}

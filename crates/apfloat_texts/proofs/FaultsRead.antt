@@ -1,0 +1,52 @@
+-- What was read of a text is what the model says of it.
+use Rattle.std.proofs.Common.{◌≡◌, ℕ, ◌*◌, Bool, true, false, refl, sym, List, [], ◌∷◌, length, drop, ◌==◌, None, ℤ, pos, negsuc, neg_ℤ, ◌+ℤ◌, ◌-ℤ◌, ◌≤ℤ◌, ◌^◌, ◌<◌, ◌≤◌, arith, FitsSigned}
+use Rattle.std.proofs.lemmas.Bool.{eqb-true}
+use Rattle.std.proofs.lemmas.Int.{ints}
+use Rattle.std.specs.Int.{w128}
+use Rattle.apfloat_base.specs.declared.kinds.Round.{Round}
+use Rattle.apfloat_base.specs.declared.status.StatusAnd.{StatusAnd}
+use Rattle.apfloat_base.specs.declared.sig.loss.Loss.{Loss}
+use Rattle.apfloat_base.specs.Flags.{bits_of}
+use Rattle.apfloat_base.specs.Digits.{is_empty}
+use Rattle.apfloat_base.specs.Texts.{behind_prefix_fault}
+use Rattle.apfloat_base.specs.Literals.{digits_number, exponent_number}
+use Rattle.apfloat_base.specs.Readings.{IsScaledDelivery}
+use Rattle.apfloat_unpacked.specs.declared.shape.Shape.{Shape}
+use Rattle.apfloat_unpacked.specs.declared.unpacked.Unpacked.{Unpacked}
+use Rattle.apfloat_unpacked.specs.Shapes.{format_at}
+use Rattle.apfloat_unpacked.specs.Stored.{IsStored, datum_at}
+use Rattle.apfloat_texts.specs.Scans.{IsScanned}
+use Rattle.apfloat_texts.specs.Saturation.{fault_behind}
+use Rattle.apfloat_texts.specs.LiteralParts.{IsLiteralRead}
+
+-- ---- the number behind the prefix
+
+fault_free : (rest tail : List ℕ) (significand : ℕ) (loss : Loss) (cut places : ℕ) (some : Bool) → is_empty rest ≡ false
+    → IsScanned rest tail significand loss cut places some → fault_behind some tail ≡ None → behind_prefix_fault rest ≡ None
+fault_free rest tail significand loss cut places some n s f = rw (n, s.one_dot, s.empty_is, s.tail_is) f
+
+pub literal_read : (shape : Shape) (mode : Round) (negative : Bool) (rest tail : List ℕ) (significand : ℕ) (loss : Loss) (cut places : ℕ) (some : Bool) (answer : StatusAnd Unpacked)
+    → is_empty rest ≡ false → IsScanned rest tail significand loss cut places some → fault_behind some tail ≡ None → IsStored shape answer.value
+    → IsScaledDelivery (format_at shape) mode negative (digits_number rest) ((exponent_number (drop 1 tail) -ℤ pos (4 * places)) +ℤ pos (format_at shape).scale) (datum_at shape answer.value) (bits_of answer.status)
+    → IsLiteralRead shape mode negative rest answer
+literal_read shape mode negative rest tail significand loss cut places some answer n s f stored d =
+    record {
+      no_fault = fault_free rest tail significand loss cut places some n s f;
+      stored = stored;
+      delivered = rw (s.tail_is, s.places_are) d;
+    }
+
+pub empty_text : (rest : List ℕ) → true ≡ (length rest == 0) → is_empty rest ≡ true
+empty_text [] h = refl
+empty_text (c ∷ rest) h =
+    let e = eqb-true (length (c ∷ rest)) 0 (sym h) in
+    absurd (omega (arith, e))
+
+pub some_text : (rest : List ℕ) → false ≡ (length rest == 0) → is_empty rest ≡ false
+some_text [] h = sym h
+some_text (c ∷ rest) h = refl
+
+-- an exponent that is counted fits its type
+pub exponent_fits : (e : ℤ) → e ≤ℤ pos (2 ^ 100) → neg_ℤ (pos (2 ^ 100)) ≤ℤ e → FitsSigned w128 e
+exponent_fits (pos n) h l = let m : n ≤ 2 ^ 100 = omega (arith, ints, h) in record { sfits = omega (arith, m) }
+exponent_fits (negsuc n) h l = let m : n < 2 ^ 100 = omega (arith, ints, l) in record { sfits = omega (arith, m) }

@@ -1,0 +1,86 @@
+-- A command of pairs of doubles has one reply.
+use Rattle.std.proofs.Common.{◌≡◌, ℕ, ◌/◌, List, Some, subst, sym, ap, ◌∙◌}
+use Rattle.rustc_apfloat.specs.declared.Round.{Round}
+use Rattle.rustc_apfloat.specs.Pairs.{Pair, pair_of, IsPairEncodedBy}
+use Rattle.rustc_apfloat.specs.PairAnswers.{OncePair}
+use Rattle.rustc_apfloat.specs.PairCalls.{IsPairFromUnsigned, IsPairReading}
+use Rattle.apfloat_pairs.proofs.PairsOnce.{pair_sum_once, pair_difference_once, pair_product_once}
+use Rattle.apfloat_pairs.proofs.CallsOnce.{pair_quotient_once, pair_nearest_remainder_once, pair_truncated_remainder_once, pair_from_unsigned_once, pair_reading_once}
+use Rattle.apfloat_pairs.proofs.PairBits.{pair_encoded_once}
+use Rattle.commands.specs.declared.operation.Arithmetic.{Arithmetic}
+use Rattle.commands.specs.declared.operation.Arithmetic.TheVariants.{Sum, Difference, Product, Quotient, NearestRemainder, TruncatedRemainder}
+use Rattle.commands.specs.Commands.{of_pairs, bits_in, Call, of_two, fused_sum, from_whole_number, from_text, bits_of_word, requested, whole_number_of, with_text, with_two, with_whole_number}
+use Rattle.commands.specs.Replies.{Reply, line, IsAnsweredInPairs, IsOnly, IsPairAnswerOf, IsPairLineOf, IsPairOfTwo, IsReplyTo}
+use Rattle.commands.proofs.RepliesOnce.{only_with_two, only_with_whole_number, only_with_text}
+
+-- ---- one answer
+
+pair_of_two_once : (arithmetic : Arithmetic) (mode : Round) (x y : Pair) → OncePair (IsPairOfTwo arithmetic mode x y)
+pair_of_two_once Sum mode x y = pair_sum_once mode x y
+pair_of_two_once Difference mode x y = pair_difference_once mode x y
+pair_of_two_once Product mode x y = pair_product_once mode x y
+pair_of_two_once Quotient mode x y = pair_quotient_once mode x y
+pair_of_two_once NearestRemainder mode x y = pair_nearest_remainder_once x y
+pair_of_two_once TruncatedRemainder mode x y = pair_truncated_remainder_once x y
+
+pair_call_once : (call : Call) (mode : Round) → OncePair (IsPairAnswerOf call mode)
+pair_call_once (of_two arithmetic x y) mode = pair_of_two_once arithmetic mode (pair_of x) (pair_of y)
+pair_call_once (fused_sum x y z) mode = λ v w r s h k. absurd h
+pair_call_once (from_whole_number n) mode = pair_from_unsigned_once mode n
+pair_call_once (from_text text) mode = pair_reading_once mode text
+
+-- ---- one line
+
+pub only_pair_line : (value : Pair) (status bits width : ℕ) → IsPairEncodedBy bits value → width ≡ bits_in of_pairs
+    → IsOnly (IsPairLineOf value status) (line bits (width / 4) status)
+only_pair_line value status bits width encoded width_is =
+    let digits = ap (λ (w : ℕ). line bits (w / 4) status) width_is in
+    record {
+      holds = record { bits = bits; is_encoded = encoded; is = digits };
+      only = λ other h.
+          let same = pair_encoded_once value h.bits bits h.is_encoded encoded in
+          h.is ∙ ap (λ (b : ℕ). line b (bits_in of_pairs / 4) status) same ∙ sym digits;
+    }
+
+line_of : (v w : Pair) (s t : ℕ) (reply : Reply) → v ≡ w → s ≡ t → IsPairLineOf v s reply → IsPairLineOf w t reply
+line_of v w s t reply value_is status_is is_line =
+    subst (λ (x : ℕ). IsPairLineOf w x reply) status_is (subst (λ (x : Pair). IsPairLineOf x s reply) value_is is_line)
+
+-- ---- one reply
+
+only_pair_answer : (mode : Round) (call : Call) (value : Pair) (status : ℕ) (reply : Reply)
+    → IsPairAnswerOf call mode value status → IsOnly (IsPairLineOf value status) reply
+    → IsOnly (IsAnsweredInPairs mode call) reply
+only_pair_answer mode call value status reply answers is_line = record {
+  holds = record { value = value; status = status; answers = answers; is_line = is_line.holds };
+  only = λ other h.
+      let same = pair_call_once call mode h.value value h.status status h.answers answers in
+      is_line.only other (line_of h.value value h.status status other same.0 same.1 h.is_line);
+}
+
+pub only_pair_of_two : (arithmetic : Arithmetic) (mode : Round) (left right : List ℕ) (x y : ℕ) (a b value : Pair)
+    (status : ℕ) (reply : Reply)
+    → bits_of_word (bits_in of_pairs) left ≡ Some x → bits_of_word (bits_in of_pairs) right ≡ Some y
+    → a ≡ pair_of x → b ≡ pair_of y
+    → IsPairOfTwo arithmetic mode a b value status → IsOnly (IsPairLineOf value status) reply
+    → IsOnly (IsReplyTo (requested of_pairs mode (with_two (bits_in of_pairs) arithmetic left right))) reply
+only_pair_of_two arithmetic mode left right x y a b value status reply first second a_is b_is answers is_line =
+    let of_first = subst (λ (d : Pair). IsPairOfTwo arithmetic mode d b value status) a_is answers in
+    let of_both = subst (λ (d : Pair). IsPairOfTwo arithmetic mode (pair_of x) d value status) b_is of_first in
+    only_with_two of_pairs arithmetic mode left right x y reply first second
+    (only_pair_answer mode (of_two arithmetic x y) value status reply of_both is_line)
+
+pub only_pair_whole_number : (mode : Round) (word : List ℕ) (number : ℕ) (value : Pair) (status : ℕ) (reply : Reply)
+    → whole_number_of word ≡ Some number → IsPairFromUnsigned mode number value status
+    → IsOnly (IsPairLineOf value status) reply
+    → IsOnly (IsReplyTo (requested of_pairs mode (with_whole_number word))) reply
+only_pair_whole_number mode word number value status reply read answers is_line =
+    only_with_whole_number of_pairs mode word number reply read
+    (only_pair_answer mode (from_whole_number number) value status reply answers is_line)
+
+pub only_pair_text : (mode : Round) (text : List ℕ) (value : Pair) (status : ℕ) (reply : Reply)
+    → IsPairReading mode text value status → IsOnly (IsPairLineOf value status) reply
+    → IsOnly (IsReplyTo (requested of_pairs mode (with_text text))) reply
+only_pair_text mode text value status reply answers is_line =
+    only_with_text of_pairs mode text answers.is_value.meaning reply answers.is_value.means
+    (only_pair_answer mode (from_text text) value status reply answers is_line)
