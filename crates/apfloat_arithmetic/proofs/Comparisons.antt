@@ -14,10 +14,10 @@ use Rattle.std.proofs.Math.Nat.{mul-lt-mul_of_pos_right, lt_of_mul-lt-mul_right,
 use Rattle.apfloat_base.proofs.Existence.{two_pos}
 use Rattle.apfloat_base.specs.declared.kinds.Category.{Category}
 use Rattle.apfloat_base.specs.declared.kinds.Category.TheVariants.{Infinity, NaN, Normal, Zero}
-use Rattle.apfloat_base.specs.Datum.{Datum, finite, infinite, nan}
-use Rattle.apfloat_base.specs.PredicatesAgree.{same_sign_is, same_sign_self}
-use Rattle.apfloat_base.specs.Classes.{is_nan, same_datum}
-use Rattle.apfloat_base.specs.Order.{number, compared}
+use Rattle.apfloat_base.specs.formats.Datum.{Datum, finite, infinite, nan}
+use Rattle.apfloat_base.proofs.PredicatesAgree.{same_sign_is, same_sign_self}
+use Rattle.apfloat_base.specs.order.Classes.{is_nan, same_datum}
+use Rattle.apfloat_base.specs.order.Order.{number, compared}
 use Rattle.apfloat_unpacked.specs.declared.shape.Shape.{Shape}
 use Rattle.apfloat_unpacked.specs.declared.unpacked.Unpacked.{Unpacked}
 use Rattle.apfloat_unpacked.specs.Stored.{IsNormal, IsStored, IsStoredBy, datum_at, datum_by, quanta_at, unpacked_of}

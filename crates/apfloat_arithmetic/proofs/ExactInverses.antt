@@ -6,10 +6,10 @@ use Rattle.std.proofs.lemmas.Nat.{pow_pos, pow-add}
 use Rattle.std.proofs.lemmas.Bool.{cases_lt}
 use Rattle.std.proofs.lemmas.Int.{ints, by_lt_z, to_z-of_z}
 use borrow.Author.Differences.{fits_in}
-use Rattle.apfloat_base.specs.Exact.{up, down}
-use Rattle.apfloat_base.specs.Format.{largest, greatest_significand}
-use Rattle.apfloat_base.specs.Exponents.{AreInverse, IsExactInverse}
-use Rattle.apfloat_base.specs.Datum.{finite}
+use Rattle.apfloat_base.specs.arithmetic.Exact.{up, down}
+use Rattle.apfloat_base.specs.formats.Format.{largest, greatest_significand}
+use Rattle.apfloat_base.specs.arithmetic.Exponents.{AreInverse, IsExactInverse}
+use Rattle.apfloat_base.specs.formats.Datum.{finite}
 use Rattle.apfloat_base.proofs.Existence.{two_pos}
 use Rattle.apfloat_base.proofs.Greatest.{greatest_fits, greatest_full}
 use Rattle.apfloat_base.proofs.Powers.{pow3, pow22, twice_power}

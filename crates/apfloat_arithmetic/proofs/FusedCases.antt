@@ -3,12 +3,12 @@ use Rattle.std.proofs.Common.{◌≡◌, ℕ, ◌+ℤ◌, ◌*◌, ◌^◌, ◌<
 use Rattle.std.proofs.Math.Nat.{mul-pos}
 use Rattle.std.proofs.lemmas.Nat.{pow_pos}
 use Rattle.apfloat_base.specs.declared.kinds.Round.{Round}
-use Rattle.apfloat_base.specs.Datum.{Datum, finite}
-use Rattle.apfloat_base.specs.Format.{Format}
-use Rattle.apfloat_base.specs.Exact.{product_sign, signed}
-use Rattle.apfloat_base.specs.Rounding.{IsDelivered}
-use Rattle.apfloat_base.specs.Sums.{zero_sum_sign}
-use Rattle.apfloat_base.specs.FusedSums.{IsFusedSum}
+use Rattle.apfloat_base.specs.formats.Datum.{Datum, finite}
+use Rattle.apfloat_base.specs.formats.Format.{Format}
+use Rattle.apfloat_base.specs.arithmetic.Exact.{product_sign, signed}
+use Rattle.apfloat_base.specs.rounding.Rounding.{IsDelivered}
+use Rattle.apfloat_base.specs.arithmetic.Sums.{zero_sum_sign}
+use Rattle.apfloat_base.specs.arithmetic.FusedSums.{IsFusedSum}
 use Rattle.apfloat_base.proofs.Signs.{no_sign, and_zero, zero_and, rounded_signed}
 
 -- the exact sum where one of the two is zero

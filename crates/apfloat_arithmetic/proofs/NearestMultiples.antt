@@ -7,9 +7,9 @@ use Rattle.std.proofs.lemmas.Nat.{pow-add, pow_pos}
 use Rattle.std.proofs.lemmas.Int.{ints}
 use Rattle.apfloat_base.specs.declared.kinds.NonfiniteBehavior.{NonfiniteBehavior}
 use Rattle.apfloat_base.specs.declared.kinds.Round.TheVariants.{NearestTiesToEven}
-use Rattle.apfloat_base.specs.Rounding.{takes_above, signed_quanta}
-use Rattle.apfloat_base.specs.Remainders.{nearest_quotient, rest_of}
-use Rattle.apfloat_base.specs.Exact.{up, down}
+use Rattle.apfloat_base.specs.rounding.Rounding.{takes_above, signed_quanta}
+use Rattle.apfloat_base.specs.arithmetic.Remainders.{nearest_quotient, rest_of}
+use Rattle.apfloat_base.specs.arithmetic.Exact.{up, down}
 use Rattle.apfloat_base.proofs.Picks.{takes_less, takes_half, takes_more, cond_same}
 use Rattle.apfloat_base.proofs.Powers.{twice_power}
 use Rattle.apfloat_base.proofs.Scaled.{less_scaled}

@@ -6,9 +6,9 @@ use Rattle.std.proofs.Math.Nat.{mul-le-mul_left}
 use Rattle.std.proofs.lemmas.Nat.{pow_pos}
 use Rattle.std.proofs.lemmas.Bool.{lt-ltb, le-ltb}
 use Rattle.std.proofs.lemmas.Int.{ints}
-use Rattle.apfloat_base.specs.Datum.{finite}
-use Rattle.apfloat_base.specs.Classes.{is_denormal}
-use Rattle.apfloat_base.specs.Format.{Format, smallest_normalized}
+use Rattle.apfloat_base.specs.formats.Datum.{finite}
+use Rattle.apfloat_base.specs.order.Classes.{is_denormal}
+use Rattle.apfloat_base.specs.formats.Format.{Format, smallest_normalized}
 use Rattle.apfloat_unpacked.specs.declared.shape.Shape.{Shape}
 use Rattle.apfloat_unpacked.specs.Stored.{IsNormal, quanta_at}
 use Rattle.apfloat_unpacked.proofs.StoredNumbers.{quanta_low_below, quanta_high}

@@ -5,10 +5,10 @@ use Rattle.std.proofs.lemmas.Bool.{ne_eqb}
 use Rattle.apfloat_base.specs.declared.kinds.Category.{Category}
 use Rattle.apfloat_base.specs.declared.kinds.Category.TheVariants.{Infinity, NaN, Normal, Zero}
 use Rattle.apfloat_base.specs.declared.kinds.NonfiniteBehavior.{NonfiniteBehavior}
-use Rattle.apfloat_base.specs.Datum.{Datum, finite}
-use Rattle.apfloat_base.specs.Answer.{IsAnswer}
-use Rattle.apfloat_base.specs.Rounding.{ok_bits, zero_sign}
-use Rattle.apfloat_base.specs.Remainders.{IsRemainder, ones_of_quotient, rest_of}
+use Rattle.apfloat_base.specs.formats.Datum.{Datum, finite}
+use Rattle.apfloat_base.specs.rounding.Answer.{IsAnswer}
+use Rattle.apfloat_base.specs.rounding.Rounding.{ok_bits, zero_sign}
+use Rattle.apfloat_base.specs.arithmetic.Remainders.{IsRemainder, ones_of_quotient, rest_of}
 use Rattle.apfloat_unpacked.specs.declared.shape.Shape.{Shape}
 use Rattle.apfloat_unpacked.specs.declared.unpacked.Unpacked.{Unpacked}
 use Rattle.apfloat_unpacked.specs.Shapes.{format_at}

@@ -4,12 +4,12 @@ use Rattle.apfloat_base.specs.declared.kinds.Category.{Category}
 use Rattle.apfloat_base.specs.declared.kinds.Category.TheVariants.{Normal}
 use Rattle.apfloat_base.specs.declared.kinds.Round.{Round}
 use Rattle.apfloat_base.specs.declared.kinds.NonfiniteBehavior.{NonfiniteBehavior}
-use Rattle.apfloat_base.specs.Datum.{Datum, finite, infinite, nan}
-use Rattle.apfloat_base.specs.Format.{Format}
-use Rattle.apfloat_base.specs.Members.{IsFiniteOf, IsMember}
-use Rattle.apfloat_base.specs.Nan.{is_signaling_nan}
-use Rattle.apfloat_base.specs.Negation.{negated}
-use Rattle.apfloat_base.specs.Sums.{IsSum, IsDifference}
+use Rattle.apfloat_base.specs.formats.Datum.{Datum, finite, infinite, nan}
+use Rattle.apfloat_base.specs.formats.Format.{Format}
+use Rattle.apfloat_base.specs.formats.Members.{IsFiniteOf, IsMember}
+use Rattle.apfloat_base.specs.formats.Nan.{is_signaling_nan}
+use Rattle.apfloat_base.specs.rounding.Negation.{negated}
+use Rattle.apfloat_base.specs.arithmetic.Sums.{IsSum, IsDifference}
 use Rattle.apfloat_unpacked.specs.declared.shape.Shape.{Shape}
 use Rattle.apfloat_unpacked.specs.declared.unpacked.Unpacked.{Unpacked}
 use Rattle.apfloat_unpacked.specs.Shapes.{format_at}

@@ -4,14 +4,14 @@ use Rattle.std.proofs.lemmas.Nat.{pow_pos}
 use Rattle.std.proofs.lemmas.Bool.{ne_eqb}
 use Rattle.apfloat_base.specs.declared.kinds.Round.{Round}
 use Rattle.apfloat_base.specs.declared.kinds.Category.{Category}
-use Rattle.apfloat_base.specs.Format.{Format}
-use Rattle.apfloat_base.specs.Datum.{Datum, finite, infinite}
-use Rattle.apfloat_base.specs.Answer.{IsAnswer}
-use Rattle.apfloat_base.specs.Constants.{infinity_of}
-use Rattle.apfloat_base.specs.Exact.{product_sign}
-use Rattle.apfloat_base.specs.Products.{IsProduct}
-use Rattle.apfloat_base.specs.Quotients.{IsQuotient, div_by_zero_bit}
-use Rattle.apfloat_base.specs.Rounding.{IsDelivered, ok_bits}
+use Rattle.apfloat_base.specs.formats.Format.{Format}
+use Rattle.apfloat_base.specs.formats.Datum.{Datum, finite, infinite}
+use Rattle.apfloat_base.specs.rounding.Answer.{IsAnswer}
+use Rattle.apfloat_base.specs.formats.Constants.{infinity_of}
+use Rattle.apfloat_base.specs.arithmetic.Exact.{product_sign}
+use Rattle.apfloat_base.specs.arithmetic.Products.{IsProduct}
+use Rattle.apfloat_base.specs.arithmetic.Quotients.{IsQuotient, div_by_zero_bit}
+use Rattle.apfloat_base.specs.rounding.Rounding.{IsDelivered, ok_bits}
 use Rattle.apfloat_unpacked.specs.declared.shape.Shape.{Shape}
 use Rattle.apfloat_unpacked.specs.declared.unpacked.Unpacked.{Unpacked}
 use Rattle.apfloat_unpacked.specs.Stored.{datum_at, datum_by}

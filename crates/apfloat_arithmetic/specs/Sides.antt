@@ -1,6 +1,6 @@
 -- Where a datum stands: below the numbers, among the negative ones, at zero, among the positive ones, above them.
 use Rattle.std.specs.Prelude.{ℕ, zero, suc, Bool, if◌then◌else◌}
-use Rattle.apfloat_base.specs.Datum.{Datum, finite, infinite, nan}
+use Rattle.apfloat_base.specs.formats.Datum.{Datum, finite, infinite, nan}
 
 -- of a number that is not zero
 abbrev pub number_side : Bool → ℕ

@@ -1,8 +1,8 @@
 //! Classes of values (IEEE 754-2008 5.7.2).
 
 ghost use Rattle.std.specs.Prelude.{◌≡◌, ltb, true, false};
-ghost use Rattle.apfloat_base.specs.Format.{smallest_normalized};
-ghost use Rattle.apfloat_base.specs.Classes.{is_denormal};
+ghost use Rattle.apfloat_base.specs.formats.Format.{smallest_normalized};
+ghost use Rattle.apfloat_base.specs.order.Classes.{is_denormal};
 ghost use Rattle.apfloat_unpacked.specs.Shapes.{IsShape, format_at};
 ghost use Rattle.apfloat_unpacked.specs.Stored.{IsStored, IsNormal, quanta_at, datum_at};
 

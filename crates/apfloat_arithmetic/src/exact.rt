@@ -3,10 +3,10 @@
 ghost use Rattle.std.specs.Prelude.{◌≡◌, ℕ, ◌<◌};
 ghost use Rattle.apfloat_base.specs.declared.kinds.NonfiniteBehavior.TheVariants.{IEEE754};
 ghost use Rattle.apfloat_base.specs.declared.kinds.Round.{Round};
-ghost use Rattle.apfloat_base.specs.Flags.{bits_of};
-ghost use Rattle.apfloat_base.specs.Datum.{infinite};
-ghost use Rattle.apfloat_base.specs.Answer.{IsAnswer};
-ghost use Rattle.apfloat_base.specs.Rounding.{ok_bits, signed_quanta, IsDelivered};
+ghost use Rattle.apfloat_base.specs.rounding.Flags.{bits_of};
+ghost use Rattle.apfloat_base.specs.formats.Datum.{infinite};
+ghost use Rattle.apfloat_base.specs.rounding.Answer.{IsAnswer};
+ghost use Rattle.apfloat_base.specs.rounding.Rounding.{ok_bits, signed_quanta, IsDelivered};
 ghost use Rattle.apfloat_unpacked.specs.Shapes.{IsShape, format_at};
 ghost use Rattle.apfloat_unpacked.specs.Stored.{IsStored, datum_at};
 

@@ -2,7 +2,7 @@
 
 ghost use Rattle.std.specs.Prelude.{◌≡◌, Option, Some, true, false};
 ghost use Rattle.std.specs.Option.{option_map};
-ghost use Rattle.apfloat_base.specs.Exponents.{IsExactInverse};
+ghost use Rattle.apfloat_base.specs.arithmetic.Exponents.{IsExactInverse};
 ghost use Rattle.apfloat_unpacked.specs.Shapes.{IsShape, format_at};
 ghost use Rattle.apfloat_unpacked.specs.Stored.{IsStored, IsNormal, datum_at};
 ghost use Rattle.apfloat_arithmetic.specs.ExactInverseParts.{IsInvertible};

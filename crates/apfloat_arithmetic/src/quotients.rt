@@ -1,13 +1,13 @@
 //! Quotients.
 
 ghost use Rattle.std.specs.Prelude.{◌≡◌, ◌+◌, ◌-◌, ◌*◌, ◌/◌, ◌^◌, ◌<◌, ◌≤◌, pos, neg_ℤ, ◌≤ℤ◌, ◌-ℤ◌};
-ghost use Rattle.apfloat_base.specs.Flags.{bits_of};
-ghost use Rattle.apfloat_base.specs.Answer.{IsAnswer};
-ghost use Rattle.apfloat_base.specs.Constants.{infinity_of};
-ghost use Rattle.apfloat_base.specs.Exact.{product_sign};
-ghost use Rattle.apfloat_base.specs.Rounding.{IsDelivered};
-ghost use Rattle.apfloat_base.specs.Standing.{StandsFor};
-ghost use Rattle.apfloat_base.specs.Quotients.{IsQuotient, div_by_zero_bit};
+ghost use Rattle.apfloat_base.specs.rounding.Flags.{bits_of};
+ghost use Rattle.apfloat_base.specs.rounding.Answer.{IsAnswer};
+ghost use Rattle.apfloat_base.specs.formats.Constants.{infinity_of};
+ghost use Rattle.apfloat_base.specs.arithmetic.Exact.{product_sign};
+ghost use Rattle.apfloat_base.specs.rounding.Rounding.{IsDelivered};
+ghost use Rattle.apfloat_base.specs.rounding.Standing.{StandsFor};
+ghost use Rattle.apfloat_base.specs.arithmetic.Quotients.{IsQuotient, div_by_zero_bit};
 ghost use Rattle.apfloat_unpacked.specs.Shapes.{IsShape, format_at};
 ghost use Rattle.apfloat_unpacked.specs.Stored.{IsStored, IsNormal, quanta_at, datum_at};
 

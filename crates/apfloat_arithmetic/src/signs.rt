@@ -1,7 +1,7 @@
 //! The other sign (IEEE 754-2008 5.5.1).
 
 ghost use Rattle.std.specs.Prelude.{◌≡◌, not};
-ghost use Rattle.apfloat_base.specs.Negation.{negated};
+ghost use Rattle.apfloat_base.specs.rounding.Negation.{negated};
 ghost use Rattle.apfloat_unpacked.specs.Stored.{IsStored, datum_at};
 
 use apfloat_base::Category;

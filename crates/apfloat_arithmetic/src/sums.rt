@@ -1,10 +1,10 @@
 //! Sums and differences, rounded once (IEEE 754-2008 5.4.1, 6.1, 6.3).
 
 ghost use Rattle.std.specs.Prelude.{◌≡◌, pos, ◌+ℤ◌};
-ghost use Rattle.apfloat_base.specs.Exact.{signed, IsRounded};
-ghost use Rattle.apfloat_base.specs.Flags.{bits_of};
-ghost use Rattle.apfloat_base.specs.Datum.{finite, infinite};
-ghost use Rattle.apfloat_base.specs.Sums.{zero_sum_sign, IsSum, IsDifference};
+ghost use Rattle.apfloat_base.specs.arithmetic.Exact.{signed, IsRounded};
+ghost use Rattle.apfloat_base.specs.rounding.Flags.{bits_of};
+ghost use Rattle.apfloat_base.specs.formats.Datum.{finite, infinite};
+ghost use Rattle.apfloat_base.specs.arithmetic.Sums.{zero_sum_sign, IsSum, IsDifference};
 ghost use Rattle.apfloat_arithmetic.specs.Subtrahends.{added};
 ghost use Rattle.apfloat_unpacked.specs.Shapes.{IsShape, format_at};
 ghost use Rattle.apfloat_unpacked.specs.Stored.{IsNormal, IsStored, datum_at, quanta_at};

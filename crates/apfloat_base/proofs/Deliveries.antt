@@ -7,11 +7,11 @@ use Rattle.apfloat_base.specs.declared.kinds.Round.{Round}
 use Rattle.apfloat_base.specs.declared.sig.loss.Loss.{Loss}
 use Rattle.apfloat_base.specs.declared.sig.loss.Loss.TheVariants.{ExactlyZero, LessThanHalf, ExactlyHalf, MoreThanHalf}
 use Rattle.apfloat_base.specs.declared.kinds.NonfiniteBehavior.{NonfiniteBehavior}
-use Rattle.apfloat_base.specs.Format.{Format, largest, greatest_significand, nan_base}
-use Rattle.apfloat_base.specs.Datum.{Datum, finite}
-use Rattle.apfloat_base.specs.Standing.{StandsFor}
-use Rattle.apfloat_base.specs.Enclosure.{IsEnclosed, rounds_up}
-use Rattle.apfloat_base.specs.Rounding.{IsPick, IsDelivered, past_largest, signed_quanta, leads_out, is_tiny}
+use Rattle.apfloat_base.specs.formats.Format.{Format, largest, greatest_significand, nan_base}
+use Rattle.apfloat_base.specs.formats.Datum.{Datum, finite}
+use Rattle.apfloat_base.specs.rounding.Standing.{StandsFor}
+use Rattle.apfloat_base.specs.rounding.Enclosure.{IsEnclosed, rounds_up}
+use Rattle.apfloat_base.specs.rounding.Rounding.{IsPick, IsDelivered, past_largest, signed_quanta, leads_out, is_tiny}
 use Rattle.apfloat_base.proofs.Picks.{kept, pick_is, pick_unique}
 use Rattle.apfloat_base.proofs.Existence.{two_pos}
 use Rattle.apfloat_base.proofs.Losses.{stands_past, stands_to}

@@ -8,25 +8,25 @@ use Rattle.std.proofs.lemmas.Int.{ints}
 use Rattle.apfloat_base.specs.declared.kinds.Round.{Round}
 use Rattle.apfloat_base.specs.declared.parse_error.ParseError.{ParseError}
 use Rattle.apfloat_base.specs.declared.status.StatusAnd.{StatusAnd}
-use Rattle.apfloat_base.specs.Flags.{Gives, bits_of}
-use Rattle.apfloat_base.specs.Format.{Format}
-use Rattle.apfloat_base.specs.Datum.{Datum, finite, infinite, nan}
-use Rattle.apfloat_base.specs.Lawful.{Constants, IsLawful, format_with}
-use Rattle.apfloat_base.specs.Layout.{Layout, IsEncodedBy}
-use Rattle.apfloat_base.specs.Interchange.{IsInterchange}
-use Rattle.apfloat_base.specs.Sums.{IsSum, IsDifference}
-use Rattle.apfloat_base.specs.Products.{IsProduct}
-use Rattle.apfloat_base.specs.Quotients.{IsQuotient}
-use Rattle.apfloat_base.specs.Remainders.{IsTruncatedRemainder, IsNearestRemainder, truncated_quotient, nearest_quotient}
-use Rattle.apfloat_base.specs.Scaling.{IsScaling}
-use Rattle.apfloat_base.specs.WholeNumbers.{IsFromUnsigned, IsFromSigned, IsRoundToIntegral}
-use Rattle.apfloat_base.specs.WholeNumbersOut.{IsToUnsigned, IsToSigned, to_unsigned, to_signed}
-use Rattle.apfloat_base.specs.NextUp.{IsNextUp, IsNextDown}
-use Rattle.apfloat_base.specs.Exponents.{IsIlogb, IsLogarithm, IsFraction, IsFrexp, AreInverse, IsExactInverse}
-use Rattle.apfloat_base.specs.Specials.{Meaning, infinity, not_a_number, hexadecimal}
-use Rattle.apfloat_base.specs.Texts.{Fault, words}
-use Rattle.apfloat_base.specs.Readings.{IsMeant, IsReading, IsRefusal}
-use Rattle.apfloat_base.specs.Parsing.{IsRead}
+use Rattle.apfloat_base.specs.rounding.Flags.{Gives, bits_of}
+use Rattle.apfloat_base.specs.formats.Format.{Format}
+use Rattle.apfloat_base.specs.formats.Datum.{Datum, finite, infinite, nan}
+use Rattle.apfloat_base.specs.formats.Lawful.{Constants, IsLawful, format_with}
+use Rattle.apfloat_base.specs.bits.Layout.{Layout, IsEncodedBy}
+use Rattle.apfloat_base.specs.bits.Interchange.{IsInterchange}
+use Rattle.apfloat_base.specs.arithmetic.Sums.{IsSum, IsDifference}
+use Rattle.apfloat_base.specs.arithmetic.Products.{IsProduct}
+use Rattle.apfloat_base.specs.arithmetic.Quotients.{IsQuotient}
+use Rattle.apfloat_base.specs.arithmetic.Remainders.{IsTruncatedRemainder, IsNearestRemainder, truncated_quotient, nearest_quotient}
+use Rattle.apfloat_base.specs.arithmetic.Scaling.{IsScaling}
+use Rattle.apfloat_base.specs.whole_numbers.WholeNumbers.{IsFromUnsigned, IsFromSigned, IsRoundToIntegral}
+use Rattle.apfloat_base.specs.whole_numbers.WholeNumbersOut.{IsToUnsigned, IsToSigned, to_unsigned, to_signed}
+use Rattle.apfloat_base.specs.arithmetic.NextUp.{IsNextUp, IsNextDown}
+use Rattle.apfloat_base.specs.arithmetic.Exponents.{IsIlogb, IsLogarithm, IsFraction, IsFrexp, AreInverse, IsExactInverse}
+use Rattle.apfloat_base.specs.texts.Specials.{Meaning, infinity, not_a_number, hexadecimal}
+use Rattle.apfloat_base.specs.texts.Texts.{Fault, words}
+use Rattle.apfloat_base.specs.texts.Readings.{IsMeant, IsReading, IsRefusal}
+use Rattle.apfloat_base.specs.texts.Parsing.{IsRead}
 use Rattle.apfloat_base.specs.Determined.{Determines, DeterminesBoth, AreOneReading, IsDetermined}
 use Rattle.apfloat_base.proofs.Once.{Once, answer_once, rounded_once, sum_once, difference_once, product_once, quotient_once, scaling_once, from_unsigned_once, from_signed_once, round_to_integral_once, whole_once, remainder_once, next_up_once, next_down_once}
 use Rattle.apfloat_base.proofs.EncodedOnce.{encoded_once}

@@ -7,12 +7,12 @@ use Rattle.std.proofs.lemmas.Bool.{cases_eq, eq-eqb, ne_eqb, le-leb, lt-leb, leb
 use Rattle.std.proofs.Math.Nat.{mul-le-mul_right, mul-le-mul_left, mul-lt-mul_of_pos_right}
 use Rattle.apfloat_base.specs.declared.kinds.NonfiniteBehavior.{NonfiniteBehavior}
 use Rattle.apfloat_base.specs.declared.kinds.NonfiniteBehavior.TheVariants.{IEEE754, NanOnly, NanNegativeZero}
-use Rattle.apfloat_base.specs.Format.{Format, smallest_normalized}
-use Rattle.apfloat_base.specs.Datum.{Datum, finite, infinite, nan}
-use Rattle.apfloat_base.specs.Layout.{Layout, Fields, all_ones, trailing_bits, fields_of, implied_number, implied_datum, written_number, written_datum, datum_of_fields, is_canonical, is_canonical_written, IsEncodedBy}
-use Rattle.apfloat_base.specs.Lawful.{MayBeExplicit}
-use Rattle.apfloat_base.specs.Interchange.{IsInterchange, AreWithin, bits_of_fields}
-use Rattle.apfloat_base.specs.Log.{log2}
+use Rattle.apfloat_base.specs.formats.Format.{Format, smallest_normalized}
+use Rattle.apfloat_base.specs.formats.Datum.{Datum, finite, infinite, nan}
+use Rattle.apfloat_base.specs.bits.Layout.{Layout, Fields, all_ones, trailing_bits, fields_of, implied_number, implied_datum, written_number, written_datum, datum_of_fields, is_canonical, is_canonical_written, IsEncodedBy}
+use Rattle.apfloat_base.specs.formats.Lawful.{MayBeExplicit}
+use Rattle.apfloat_base.specs.bits.Interchange.{IsInterchange, AreWithin, bits_of_fields}
+use Rattle.apfloat_base.specs.formats.Log.{log2}
 use Rattle.apfloat_base.proofs.Logarithms.{log2_is}
 use Rattle.apfloat_base.proofs.Losses.{twice_half}
 use Rattle.apfloat_base.proofs.Encodings.{fields_within, bits_back}

@@ -4,10 +4,10 @@ use Rattle.std.specs.Prelude.{pos, ◌-ℤ◌, unsigned_abs}
 use Rattle.std.proofs.lemmas.Int.{ints}
 use Rattle.std.proofs.lemmas.Nat.{pow_pos, pow-add, mod_low, shr_high, shr-shr, mul-add-lt, div_below, shr_split, mod_below}
 use Rattle.std.proofs.Math.Nat.{two-pow-succ}
-use Rattle.apfloat_base.specs.Format.{Format}
-use Rattle.apfloat_base.specs.Layout.{Layout, Fields, trailing_bits, fields_of}
-use Rattle.apfloat_base.specs.Lawful.{Constants, HasNoBits, HasBits, IsLawful, more_exponents, format_with, layout_with}
-use Rattle.apfloat_base.specs.Interchange.{IsInterchange, AreWithin, bits_of_fields}
+use Rattle.apfloat_base.specs.formats.Format.{Format}
+use Rattle.apfloat_base.specs.bits.Layout.{Layout, Fields, trailing_bits, fields_of}
+use Rattle.apfloat_base.specs.formats.Lawful.{Constants, HasNoBits, HasBits, IsLawful, more_exponents, format_with, layout_with}
+use Rattle.apfloat_base.specs.bits.Interchange.{IsInterchange, AreWithin, bits_of_fields}
 use Rattle.apfloat_base.proofs.Losses.{twice_half}
 
 -- ---- the law

@@ -4,12 +4,12 @@ use Rattle.std.proofs.lemmas.Bool.{ne_eqb}
 use Rattle.std.proofs.lemmas.Nat.{pow_pos}
 use Rattle.std.proofs.Math.Nat.{mul-pos}
 use Rattle.apfloat_base.specs.declared.kinds.Round.{Round}
-use Rattle.apfloat_base.specs.Format.{Format}
-use Rattle.apfloat_base.specs.Datum.{Datum, finite, infinite, nan}
-use Rattle.apfloat_base.specs.Rounding.{ok_bits, zero_sign, signed_quanta}
-use Rattle.apfloat_base.specs.Members.{IsFiniteOf}
-use Rattle.apfloat_base.specs.Conversions.{IsConversion, IsConverted, IsConvertedNumber, IsExactlyConverted, loses_zero_sign, IsKept}
-use Rattle.apfloat_base.specs.PredicatesAgree.{same_sign_self}
+use Rattle.apfloat_base.specs.formats.Format.{Format}
+use Rattle.apfloat_base.specs.formats.Datum.{Datum, finite, infinite, nan}
+use Rattle.apfloat_base.specs.rounding.Rounding.{ok_bits, zero_sign, signed_quanta}
+use Rattle.apfloat_base.specs.formats.Members.{IsFiniteOf}
+use Rattle.apfloat_base.specs.arithmetic.Conversions.{IsConversion, IsConverted, IsConvertedNumber, IsExactlyConverted, loses_zero_sign, IsKept}
+use Rattle.apfloat_base.proofs.PredicatesAgree.{same_sign_self}
 use Rattle.apfloat_base.proofs.Deliveries.{signed_some}
 use Rattle.apfloat_base.proofs.Laws.{exact_delivered, delivered_once}
 

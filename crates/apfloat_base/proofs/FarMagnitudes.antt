@@ -5,11 +5,11 @@ use Rattle.std.proofs.lemmas.Nat.{pow-add, pow_pos}
 use Rattle.std.proofs.lemmas.Bool.{lt-ltb, ne_eqb}
 use Rattle.apfloat_base.specs.declared.kinds.Round.{Round}
 use Rattle.apfloat_base.specs.declared.sig.loss.Loss.TheVariants.{LessThanHalf}
-use Rattle.apfloat_base.specs.Format.{Format, largest, greatest_significand, smallest_normalized}
-use Rattle.apfloat_base.specs.Datum.{Datum}
-use Rattle.apfloat_base.specs.Grid.{IsOnGrid}
-use Rattle.apfloat_base.specs.Rounding.{IsPick, IsDelivered, delivered_value, delivered_status, is_tiny}
-use Rattle.apfloat_base.specs.Enclosure.{IsEnclosed, rounds_up}
+use Rattle.apfloat_base.specs.formats.Format.{Format, largest, greatest_significand, smallest_normalized}
+use Rattle.apfloat_base.specs.formats.Datum.{Datum}
+use Rattle.apfloat_base.specs.rounding.Grid.{IsOnGrid}
+use Rattle.apfloat_base.specs.rounding.Rounding.{IsPick, IsDelivered, delivered_value, delivered_status, is_tiny}
+use Rattle.apfloat_base.specs.rounding.Enclosure.{IsEnclosed, rounds_up}
 use Rattle.apfloat_base.proofs.Losses.{twice_half}
 use Rattle.apfloat_base.proofs.Existence.{two_pos}
 use Rattle.apfloat_base.proofs.Greatest.{greatest_fits}

@@ -7,13 +7,13 @@ use Rattle.std.proofs.lemmas.Bool.{cases_eq, cases_lt, eq-eqb, ne_eqb, le-leb, l
 use Rattle.std.proofs.Math.Nat.{pow-le-pow_right, mul-le-mul_right, mul-le-mul_left, mul-lt-mul_of_pos_right, le_of_mul-le-mul_right}
 use Rattle.apfloat_base.specs.declared.kinds.NonfiniteBehavior.{NonfiniteBehavior}
 use Rattle.apfloat_base.specs.declared.kinds.NonfiniteBehavior.TheVariants.{IEEE754, NanOnly, NanNegativeZero}
-use Rattle.apfloat_base.specs.Format.{Format, smallest_normalized, largest, greatest_significand}
-use Rattle.apfloat_base.specs.Datum.{Datum, finite, infinite, nan}
-use Rattle.apfloat_base.specs.Rounding.{zero_sign}
-use Rattle.apfloat_base.specs.Members.{IsNanSignificand}
-use Rattle.apfloat_base.specs.Layout.{Layout, Fields, all_ones, trailing_bits, implied_datum, written_datum, datum_of_fields, is_canonical, is_canonical_written, IsEncodedBy}
-use Rattle.apfloat_base.specs.Lawful.{MayBeExplicit}
-use Rattle.apfloat_base.specs.Interchange.{IsInterchange, AreFieldsOf, bits_of_fields}
+use Rattle.apfloat_base.specs.formats.Format.{Format, smallest_normalized, largest, greatest_significand}
+use Rattle.apfloat_base.specs.formats.Datum.{Datum, finite, infinite, nan}
+use Rattle.apfloat_base.specs.rounding.Rounding.{zero_sign}
+use Rattle.apfloat_base.specs.formats.Members.{IsNanSignificand}
+use Rattle.apfloat_base.specs.bits.Layout.{Layout, Fields, all_ones, trailing_bits, implied_datum, written_datum, datum_of_fields, is_canonical, is_canonical_written, IsEncodedBy}
+use Rattle.apfloat_base.specs.formats.Lawful.{MayBeExplicit}
+use Rattle.apfloat_base.specs.bits.Interchange.{IsInterchange, AreFieldsOf, bits_of_fields}
 use Rattle.apfloat_base.proofs.Existence.{two_pos}
 use Rattle.apfloat_base.proofs.Losses.{twice_half}
 use Rattle.apfloat_base.proofs.Choices.{eqb_self}

@@ -3,7 +3,7 @@ use Rattle.std.proofs.Common.{◌≡◌, ℕ, ◌+◌, ◌-◌, ◌*◌, ◌/◌
 use Rattle.std.proofs.Math.Nat.{mul-le-mul_left, pow-le-pow_right, eq_of_mul-eq-mul_right, mul-pos, le-div_iff_mul-le, mul-le-mul_right}
 use Rattle.std.proofs.lemmas.Nat.{pow_pos}
 use Rattle.apfloat_base.specs.declared.sig.loss.Loss.{Loss}
-use Rattle.apfloat_base.specs.Standing.{StandsFor}
+use Rattle.apfloat_base.specs.rounding.Standing.{StandsFor}
 use Rattle.apfloat_base.proofs.Existence.{two_pos}
 use Rattle.apfloat_base.proofs.KeptDigits.{stands_cancel, stands_times}
 use Rattle.apfloat_base.proofs.Powers.{pow3, pow4, pow22}

@@ -40,3 +40,5 @@ pub mod Rows
 pub mod RowsExact
 pub mod RowsTexts
 pub mod Determined
+pub mod OrderLaws
+pub mod PredicatesAgree

@@ -5,7 +5,7 @@ use Rattle.std.proofs.lemmas.Nat.{leading_top, pow_pos}
 use Rattle.std.proofs.lemmas.Bool.{cases_order}
 use Rattle.std.proofs.Math.Nat.{two-pow-succ}
 use Rattle.std.proofs.Math.Pow.{pow_mono}
-use Rattle.apfloat_base.specs.Log.{log2}
+use Rattle.apfloat_base.specs.formats.Log.{log2}
 
 lt_pow : (n : ℕ) → n < 2 ^ n
 lt_pow zero = omega arith

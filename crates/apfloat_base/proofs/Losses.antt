@@ -5,7 +5,7 @@ use Rattle.std.proofs.lemmas.Nat.{pow-add, pow_below}
 use Rattle.apfloat_base.proofs.Existence.{two_pos}
 use Rattle.apfloat_base.specs.declared.sig.loss.Loss.{Loss}
 use Rattle.apfloat_base.specs.declared.sig.loss.Loss.TheVariants.{ExactlyZero, LessThanHalf, ExactlyHalf, MoreThanHalf}
-use Rattle.apfloat_base.specs.Standing.{StandsFor}
+use Rattle.apfloat_base.specs.rounding.Standing.{StandsFor}
 
 pub stands_from : (s : ℕ) (loss : Loss) (amount unit : ℕ) → StandsFor s loss amount unit → s * unit ≤ amount
 stands_from s ExactlyZero amount unit h = omega (arith, h)

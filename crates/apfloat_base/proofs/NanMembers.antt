@@ -6,9 +6,9 @@ use Rattle.std.proofs.lemmas.Nat.{pow_pos, or_lt, le_or_l, le_or_r, and_le_r, an
 use Rattle.std.proofs.Math.Nat.{mod_self, pos_of_ne-zero}
 use Rattle.apfloat_base.specs.declared.kinds.NonfiniteBehavior.{NonfiniteBehavior}
 use Rattle.apfloat_base.specs.declared.kinds.NonfiniteBehavior.TheVariants.{IEEE754, NanOnly, NanNegativeZero}
-use Rattle.apfloat_base.specs.Format.{Format, nan_base_of, payload_mask_of, quiet_bits_of}
-use Rattle.apfloat_base.specs.Members.{IsNanSignificand}
-use Rattle.apfloat_base.specs.Nan.{quiet_bit_of, quiet_significand, signaling_significand}
+use Rattle.apfloat_base.specs.formats.Format.{Format, nan_base_of, payload_mask_of, quiet_bits_of}
+use Rattle.apfloat_base.specs.formats.Members.{IsNanSignificand}
+use Rattle.apfloat_base.specs.formats.Nan.{quiet_bit_of, quiet_significand, signaling_significand}
 
 truth : Bool → Type 0
 truth true = ⊤

@@ -3,14 +3,14 @@ use Rattle.std.proofs.Common.{◌≡◌, ℕ, ◌+◌, ◌-◌, ◌^◌, ◌<◌
 use Rattle.std.proofs.lemmas.Bool.{cases_lt, cases_eq, eq-eqb, ne_eqb, le-ltb, false≢true}
 use Rattle.apfloat_base.specs.declared.kinds.NonfiniteBehavior.{NonfiniteBehavior}
 use Rattle.apfloat_base.specs.declared.kinds.NonfiniteBehavior.TheVariants.{IEEE754}
-use Rattle.apfloat_base.specs.Format.{Format, largest}
-use Rattle.apfloat_base.specs.Datum.{Datum, finite, infinite, nan}
-use Rattle.apfloat_base.specs.Grid.{IsOnGrid, IsBelow, IsAbove}
-use Rattle.apfloat_base.specs.Rounding.{signed_quanta, past_largest}
-use Rattle.apfloat_base.specs.Members.{IsMember, IsFiniteOf}
-use Rattle.apfloat_base.specs.Classes.{is_finite_non_zero}
-use Rattle.apfloat_base.specs.Negation.{negated}
-use Rattle.apfloat_base.specs.NextUp.{IsNextGreater, IsNextLess, IsNextOfNumber, IsNextUp, IsNextDown}
+use Rattle.apfloat_base.specs.formats.Format.{Format, largest}
+use Rattle.apfloat_base.specs.formats.Datum.{Datum, finite, infinite, nan}
+use Rattle.apfloat_base.specs.rounding.Grid.{IsOnGrid, IsBelow, IsAbove}
+use Rattle.apfloat_base.specs.rounding.Rounding.{signed_quanta, past_largest}
+use Rattle.apfloat_base.specs.formats.Members.{IsMember, IsFiniteOf}
+use Rattle.apfloat_base.specs.order.Classes.{is_finite_non_zero}
+use Rattle.apfloat_base.specs.rounding.Negation.{negated}
+use Rattle.apfloat_base.specs.arithmetic.NextUp.{IsNextGreater, IsNextLess, IsNextOfNumber, IsNextUp, IsNextDown}
 use Rattle.apfloat_base.proofs.Deliveries.{signed_some}
 
 no_zero : (n : ℕ) → 0 < n → eqb n 0 ≡ false

@@ -4,9 +4,9 @@ use Rattle.apfloat_base.specs.declared.kinds.Round.{Round}
 use Rattle.apfloat_base.specs.declared.kinds.Round.TheVariants.{NearestTiesToEven, TowardPositive, TowardNegative, TowardZero, NearestTiesToAway}
 use Rattle.apfloat_base.specs.declared.sig.loss.Loss.{Loss}
 use Rattle.apfloat_base.specs.declared.sig.loss.Loss.TheVariants.{ExactlyZero, LessThanHalf, ExactlyHalf, MoreThanHalf}
-use Rattle.apfloat_base.specs.Rounding.{takes_above, pick_between, IsPick}
-use Rattle.apfloat_base.specs.Standing.{StandsFor}
-use Rattle.apfloat_base.specs.Enclosure.{IsEnclosed, rounds_up}
+use Rattle.apfloat_base.specs.rounding.Rounding.{takes_above, pick_between, IsPick}
+use Rattle.apfloat_base.specs.rounding.Standing.{StandsFor}
+use Rattle.apfloat_base.specs.rounding.Enclosure.{IsEnclosed, rounds_up}
 use Rattle.apfloat_base.proofs.Neighbours.{below_is, above_is_same, above_is_next, below_unique, above_unique}
 use Rattle.std.proofs.Math.Nat.{mul-div_cancel, mul-pos}
 use Rattle.std.proofs.lemmas.Nat.{pow_pos}

@@ -5,9 +5,9 @@ use Rattle.std.proofs.lemmas.Nat.{pow_pos}
 use Rattle.std.proofs.lemmas.Bool.{cases_lt, lt-ltb, le-ltb}
 use Rattle.apfloat_base.specs.declared.kinds.Round.{Round}
 use Rattle.apfloat_base.specs.declared.sig.loss.Loss.{Loss}
-use Rattle.apfloat_base.specs.Standing.{StandsFor}
-use Rattle.apfloat_base.specs.Enclosure.{IsEnclosed, rounds_up}
-use Rattle.apfloat_base.specs.Rounding.{IsPick}
+use Rattle.apfloat_base.specs.rounding.Standing.{StandsFor}
+use Rattle.apfloat_base.specs.rounding.Enclosure.{IsEnclosed, rounds_up}
+use Rattle.apfloat_base.specs.rounding.Rounding.{IsPick}
 use Rattle.apfloat_base.proofs.Neighbours.{fine_point_at, carried}
 use Rattle.apfloat_base.proofs.Picks.{kept, pick_is}
 use Rattle.apfloat_base.proofs.Existence.{two_pos}

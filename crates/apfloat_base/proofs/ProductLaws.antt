@@ -3,12 +3,12 @@ use Rattle.std.proofs.Common.{◌≡◌, ℕ, zero, suc, ◌<◌, ◌*◌, ◌^�
 use Rattle.std.proofs.lemmas.Bool.{ne_eqb, false≢true}
 use Rattle.apfloat_base.specs.declared.kinds.Round.{Round}
 use Rattle.apfloat_base.specs.declared.kinds.NonfiniteBehavior.{NonfiniteBehavior}
-use Rattle.apfloat_base.specs.Format.{Format, largest}
-use Rattle.apfloat_base.specs.Datum.{Datum, finite, infinite, nan}
-use Rattle.apfloat_base.specs.Rounding.{IsDelivered}
-use Rattle.apfloat_base.specs.Negation.{swapped, negated}
-use Rattle.apfloat_base.specs.Exact.{product_sign}
-use Rattle.apfloat_base.specs.Products.{IsProduct, IsOpposite}
+use Rattle.apfloat_base.specs.formats.Format.{Format, largest}
+use Rattle.apfloat_base.specs.formats.Datum.{Datum, finite, infinite, nan}
+use Rattle.apfloat_base.specs.rounding.Rounding.{IsDelivered}
+use Rattle.apfloat_base.specs.rounding.Negation.{swapped, negated}
+use Rattle.apfloat_base.specs.arithmetic.Exact.{product_sign}
+use Rattle.apfloat_base.specs.arithmetic.Products.{IsProduct, IsOpposite}
 use Rattle.apfloat_base.proofs.Laws.{delivered_swapped}
 
 other_sign : (b c : Bool) → not (product_sign b c) ≡ product_sign (not b) c

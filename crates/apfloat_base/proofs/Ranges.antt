@@ -4,9 +4,9 @@ use Rattle.std.proofs.lemmas.Nat.{pow-add, mul-le}
 use Rattle.std.proofs.lemmas.Bool.{cases_eq}
 use Rattle.std.proofs.Math.Nat.{pow-le-pow_right}
 use Rattle.apfloat_base.specs.declared.kinds.NonfiniteBehavior.TheVariants.{IEEE754, NanOnly, NanNegativeZero}
-use Rattle.apfloat_base.specs.Format.{Format, largest, greatest_significand}
-use Rattle.apfloat_base.specs.Layout.{Layout, all_ones}
-use Rattle.apfloat_base.specs.Interchange.{IsInterchange}
+use Rattle.apfloat_base.specs.formats.Format.{Format, largest, greatest_significand}
+use Rattle.apfloat_base.specs.bits.Layout.{Layout, all_ones}
+use Rattle.apfloat_base.specs.bits.Interchange.{IsInterchange}
 use Rattle.apfloat_base.proofs.Existence.{two_pos}
 use Rattle.apfloat_base.proofs.Losses.{twice_half}
 use Rattle.apfloat_base.proofs.Greatest.{greatest_low}

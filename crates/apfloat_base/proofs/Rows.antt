@@ -3,15 +3,15 @@
 use Rattle.std.proofs.Common.{◌≡◌, ℕ, ◌+◌, true, false, refl, neg_ℤ, pos}
 use Rattle.apfloat_base.specs.declared.kinds.Round.{Round}
 use Rattle.apfloat_base.specs.declared.kinds.Round.TheVariants.{NearestTiesToEven, TowardPositive, TowardNegative, TowardZero, NearestTiesToAway}
-use Rattle.apfloat_base.specs.Datum.{Datum}
-use Rattle.apfloat_base.specs.Rounding.{ok_bits, inexact_bit, overflow_bit, underflow_bit}
-use Rattle.apfloat_base.specs.Sums.{IsSum, IsDifference}
-use Rattle.apfloat_base.specs.Products.{IsProduct}
-use Rattle.apfloat_base.specs.Quotients.{IsQuotient}
-use Rattle.apfloat_base.specs.FusedSums.{IsFusedSum}
-use Rattle.apfloat_base.specs.Scaling.{IsScaling}
-use Rattle.apfloat_base.specs.WholeNumbers.{IsFromUnsigned, IsFromSigned}
-use Rattle.apfloat_base.specs.Conversions.{IsConversion}
+use Rattle.apfloat_base.specs.formats.Datum.{Datum}
+use Rattle.apfloat_base.specs.rounding.Rounding.{ok_bits, inexact_bit, overflow_bit, underflow_bit}
+use Rattle.apfloat_base.specs.arithmetic.Sums.{IsSum, IsDifference}
+use Rattle.apfloat_base.specs.arithmetic.Products.{IsProduct}
+use Rattle.apfloat_base.specs.arithmetic.Quotients.{IsQuotient}
+use Rattle.apfloat_base.specs.arithmetic.FusedSums.{IsFusedSum}
+use Rattle.apfloat_base.specs.arithmetic.Scaling.{IsScaling}
+use Rattle.apfloat_base.specs.whole_numbers.WholeNumbers.{IsFromUnsigned, IsFromSigned}
+use Rattle.apfloat_base.specs.arithmetic.Conversions.{IsConversion}
 use Rattle.apfloat_base.proofs.Once.{from_unsigned_once}
 use Rattle.apfloat_base.proofs.RowsIn.{half, single, e5m2, e4m3fn, e4m3fnuz, half_tiny_before, in_half, in_single, in_e5m2, in_e4m3fn, in_e4m3fnuz, rounded}
 

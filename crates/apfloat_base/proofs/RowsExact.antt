@@ -3,20 +3,20 @@ use Rattle.std.proofs.Common.{◌≡◌, ◌^◌, true, false, refl, neg_ℤ, po
 use Rattle.std.specs.Prelude.{Some, None}
 use Rattle.apfloat_base.specs.declared.kinds.Round.{Round}
 use Rattle.apfloat_base.specs.declared.kinds.Round.TheVariants.{NearestTiesToEven, TowardNegative, TowardZero}
-use Rattle.apfloat_base.specs.Rounding.{ok_bits, inexact_bit}
-use Rattle.apfloat_base.specs.Nan.{invalid_bit}
-use Rattle.apfloat_base.specs.Negation.{negated}
-use Rattle.apfloat_base.specs.Sums.{IsSum, IsDifference}
-use Rattle.apfloat_base.specs.Products.{IsProduct}
-use Rattle.apfloat_base.specs.Quotients.{IsQuotient, div_by_zero_bit}
-use Rattle.apfloat_base.specs.FusedSums.{IsFusedSum}
-use Rattle.apfloat_base.specs.Conversions.{IsConversion}
-use Rattle.apfloat_base.specs.Remainders.{IsTruncatedRemainder, IsNearestRemainder}
-use Rattle.apfloat_base.specs.WholeNumbers.{IsRoundToIntegral}
-use Rattle.apfloat_base.specs.WholeNumbersOut.{IsToUnsigned, IsToSigned}
-use Rattle.apfloat_base.specs.NextUp.{IsNextUp}
-use Rattle.apfloat_base.specs.Exponents.{IsIlogb, IsFrexp, IsExactInverse}
-use Rattle.apfloat_base.specs.Order.{min_num, max_num, minimum, maximum}
+use Rattle.apfloat_base.specs.rounding.Rounding.{ok_bits, inexact_bit}
+use Rattle.apfloat_base.specs.formats.Nan.{invalid_bit}
+use Rattle.apfloat_base.specs.rounding.Negation.{negated}
+use Rattle.apfloat_base.specs.arithmetic.Sums.{IsSum, IsDifference}
+use Rattle.apfloat_base.specs.arithmetic.Products.{IsProduct}
+use Rattle.apfloat_base.specs.arithmetic.Quotients.{IsQuotient, div_by_zero_bit}
+use Rattle.apfloat_base.specs.arithmetic.FusedSums.{IsFusedSum}
+use Rattle.apfloat_base.specs.arithmetic.Conversions.{IsConversion}
+use Rattle.apfloat_base.specs.arithmetic.Remainders.{IsTruncatedRemainder, IsNearestRemainder}
+use Rattle.apfloat_base.specs.whole_numbers.WholeNumbers.{IsRoundToIntegral}
+use Rattle.apfloat_base.specs.whole_numbers.WholeNumbersOut.{IsToUnsigned, IsToSigned}
+use Rattle.apfloat_base.specs.arithmetic.NextUp.{IsNextUp}
+use Rattle.apfloat_base.specs.arithmetic.Exponents.{IsIlogb, IsFrexp, IsExactInverse}
+use Rattle.apfloat_base.specs.order.Order.{min_num, max_num, minimum, maximum}
 use Rattle.apfloat_base.proofs.RowsIn.{half, single, e4m3fn, e4m3fnuz, in_half, in_single, in_e4m3fn, in_e4m3fnuz, answer, whole, converted}
 
 -- ---- NaNs

@@ -3,16 +3,16 @@ use Rattle.std.proofs.Common.{◌≡◌, ℕ, ◌+◌, ◌-◌, ◌*◌, ◌^◌
 use Rattle.std.proofs.Math.Arith.{lt_of_le-ne}
 use Rattle.std.proofs.lemmas.Bool.{and_parts, or_cases, leb-true, ltb-true, eqb-true, eqb-false}
 use Rattle.apfloat_base.specs.declared.kinds.Round.{Round}
-use Rattle.apfloat_base.specs.Format.{Format}
-use Rattle.apfloat_base.specs.Datum.{Datum}
-use Rattle.apfloat_base.specs.Enclosure.{IsEnclosed}
-use Rattle.apfloat_base.specs.Rounding.{pick_between, delivered_value, delivered_status, IsPick, IsDelivered}
-use Rattle.apfloat_base.specs.Answer.{IsAnswer}
-use Rattle.apfloat_base.specs.WholeNumbersOut.{Whole, IsWhole}
-use Rattle.apfloat_base.specs.Conversions.{IsConverted}
-use Rattle.apfloat_base.specs.Layout.{datum_of}
-use Rattle.apfloat_base.specs.Lawful.{Constants, format_with, layout_with}
-use Rattle.apfloat_base.specs.Formats.{half_constants, single_constants, e5m2_constants, e4m3fn_constants, e4m3fnuz_constants}
+use Rattle.apfloat_base.specs.formats.Format.{Format}
+use Rattle.apfloat_base.specs.formats.Datum.{Datum}
+use Rattle.apfloat_base.specs.rounding.Enclosure.{IsEnclosed}
+use Rattle.apfloat_base.specs.rounding.Rounding.{pick_between, delivered_value, delivered_status, IsPick, IsDelivered}
+use Rattle.apfloat_base.specs.rounding.Answer.{IsAnswer}
+use Rattle.apfloat_base.specs.whole_numbers.WholeNumbersOut.{Whole, IsWhole}
+use Rattle.apfloat_base.specs.arithmetic.Conversions.{IsConverted}
+use Rattle.apfloat_base.specs.bits.Layout.{datum_of}
+use Rattle.apfloat_base.specs.formats.Lawful.{Constants, format_with, layout_with}
+use Rattle.apfloat_base.specs.formats.Formats.{half_constants, single_constants, e5m2_constants, e4m3fn_constants, e4m3fnuz_constants}
 use Rattle.apfloat_base.proofs.Neighbours.{below_is, above_is_same, above_is_next}
 use Rattle.apfloat_base.proofs.Picks.{cond_same}
 

@@ -3,15 +3,15 @@ use Rattle.std.proofs.Common.{◌≡◌, ℕ, ◌+◌, ◌*◌, ◌^◌, ◌≤�
 use Rattle.std.specs.Prelude.{IsTrue}
 use Rattle.apfloat_base.specs.declared.kinds.Round.{Round}
 use Rattle.apfloat_base.specs.declared.kinds.Round.TheVariants.{NearestTiesToEven, TowardZero}
-use Rattle.apfloat_base.specs.Datum.{Datum, finite, infinite, nan}
-use Rattle.apfloat_base.specs.Rounding.{ok_bits, inexact_bit, overflow_bit, underflow_bit}
-use Rattle.apfloat_base.specs.Layout.{IsEncodedBy}
-use Rattle.apfloat_base.specs.Lawful.{Constants, format_with, layout_with}
-use Rattle.apfloat_base.specs.Formats.{half_constants, e4m3fn_constants, e4m3fnuz_constants}
-use Rattle.apfloat_base.specs.Digits.{every, is_decimal, is_hexadecimal, number}
-use Rattle.apfloat_base.specs.Specials.{not_a_number, hexadecimal, mark_of, behind_mark}
-use Rattle.apfloat_base.specs.Texts.{marked, IsHexadecimal, no_literal, second_dot, no_exponent}
-use Rattle.apfloat_base.specs.Readings.{IsReading, IsRefusal}
+use Rattle.apfloat_base.specs.formats.Datum.{Datum, finite, infinite, nan}
+use Rattle.apfloat_base.specs.rounding.Rounding.{ok_bits, inexact_bit, overflow_bit, underflow_bit}
+use Rattle.apfloat_base.specs.bits.Layout.{IsEncodedBy}
+use Rattle.apfloat_base.specs.formats.Lawful.{Constants, format_with, layout_with}
+use Rattle.apfloat_base.specs.formats.Formats.{half_constants, e4m3fn_constants, e4m3fnuz_constants}
+use Rattle.apfloat_base.specs.texts.Digits.{every, is_decimal, is_hexadecimal, number}
+use Rattle.apfloat_base.specs.texts.Specials.{not_a_number, hexadecimal, mark_of, behind_mark}
+use Rattle.apfloat_base.specs.texts.Texts.{marked, IsHexadecimal, no_literal, second_dot, no_exponent}
+use Rattle.apfloat_base.specs.texts.Readings.{IsReading, IsRefusal}
 use Rattle.apfloat_base.proofs.RowsIn.{half, single, e4m3fnuz, in_half, in_single, in_e4m3fnuz, answer, rounded}
 
 -- ---- encodings: the values are so many quanta, in half precision of 2 ^ -24

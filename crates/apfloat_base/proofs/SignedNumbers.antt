@@ -4,10 +4,10 @@ use Rattle.std.proofs.Math.Nat.{mul-pos}
 use Rattle.std.proofs.lemmas.Nat.{pow_pos}
 use Rattle.apfloat_base.specs.declared.kinds.Round.{Round}
 use Rattle.apfloat_base.specs.declared.kinds.Round.TheVariants.{NearestTiesToEven, TowardPositive, TowardNegative, TowardZero, NearestTiesToAway}
-use Rattle.apfloat_base.specs.Datum.{Datum}
-use Rattle.apfloat_base.specs.Format.{Format, largest}
-use Rattle.apfloat_base.specs.Negation.{negated, swapped}
-use Rattle.apfloat_base.specs.WholeNumbers.{IsFromUnsigned, IsFromSigned}
+use Rattle.apfloat_base.specs.formats.Datum.{Datum}
+use Rattle.apfloat_base.specs.formats.Format.{Format, largest}
+use Rattle.apfloat_base.specs.rounding.Negation.{negated, swapped}
+use Rattle.apfloat_base.specs.whole_numbers.WholeNumbers.{IsFromUnsigned, IsFromSigned}
 use Rattle.apfloat_base.proofs.Laws.{delivered_swapped}
 use Rattle.apfloat_base.proofs.Greatest.{greatest_some}
 use Rattle.apfloat_base.proofs.Signs.{sign_signed, magnitude_signed}

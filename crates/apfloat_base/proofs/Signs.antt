@@ -4,10 +4,10 @@ use Rattle.std.proofs.lemmas.Int.{ints}
 use Rattle.apfloat_base.specs.declared.kinds.Round.{Round}
 use Rattle.apfloat_base.specs.declared.kinds.NonfiniteBehavior.{NonfiniteBehavior}
 use Rattle.apfloat_base.specs.declared.kinds.NonfiniteBehavior.TheVariants.{IEEE754, NanOnly, NanNegativeZero}
-use Rattle.apfloat_base.specs.Exact.{up, down, signed, sign_of, magnitude, IsRounded}
-use Rattle.apfloat_base.specs.Format.{Format}
-use Rattle.apfloat_base.specs.Datum.{Datum}
-use Rattle.apfloat_base.specs.Rounding.{zero_sign, IsDelivered}
+use Rattle.apfloat_base.specs.arithmetic.Exact.{up, down, signed, sign_of, magnitude, IsRounded}
+use Rattle.apfloat_base.specs.formats.Format.{Format}
+use Rattle.apfloat_base.specs.formats.Datum.{Datum}
+use Rattle.apfloat_base.specs.rounding.Rounding.{zero_sign, IsDelivered}
 
 pub no_sign : (b : Bool) → signed b 0 ≡ pos 0
 no_sign true = refl

@@ -8,15 +8,15 @@ use Rattle.std.proofs.lemmas.Int.{ints}
 use Rattle.apfloat_base.specs.declared.kinds.Round.{Round}
 use Rattle.apfloat_base.specs.declared.kinds.NonfiniteBehavior.{NonfiniteBehavior}
 use Rattle.apfloat_base.specs.declared.kinds.NonfiniteBehavior.TheVariants.{IEEE754}
-use Rattle.apfloat_base.specs.Exact.{up, down, signed, sign_of, magnitude, IsRounded}
-use Rattle.apfloat_base.specs.Format.{Format, largest, nan_base}
-use Rattle.apfloat_base.specs.Datum.{Datum, finite, infinite, nan}
-use Rattle.apfloat_base.specs.Grid.{IsOnGrid}
-use Rattle.apfloat_base.specs.Members.{IsFiniteOf, IsMember}
-use Rattle.apfloat_base.specs.Classes.{is_finite}
-use Rattle.apfloat_base.specs.Order.{number, AtMost}
-use Rattle.apfloat_base.specs.Sums.{IsSum, IsDifference, zero_sum_sign, IsExactly, IsNearby, IsMonotone}
-use Rattle.apfloat_base.specs.Rounding.{IsDelivered, delivered_value, leads_out, past_largest, zero_sign, signed_quanta, ok_bits}
+use Rattle.apfloat_base.specs.arithmetic.Exact.{up, down, signed, sign_of, magnitude, IsRounded}
+use Rattle.apfloat_base.specs.formats.Format.{Format, largest, nan_base}
+use Rattle.apfloat_base.specs.formats.Datum.{Datum, finite, infinite, nan}
+use Rattle.apfloat_base.specs.rounding.Grid.{IsOnGrid}
+use Rattle.apfloat_base.specs.formats.Members.{IsFiniteOf, IsMember}
+use Rattle.apfloat_base.specs.order.Classes.{is_finite}
+use Rattle.apfloat_base.specs.order.Order.{number, AtMost}
+use Rattle.apfloat_base.specs.arithmetic.Sums.{IsSum, IsDifference, zero_sum_sign, IsExactly, IsNearby, IsMonotone}
+use Rattle.apfloat_base.specs.rounding.Rounding.{IsDelivered, delivered_value, leads_out, past_largest, zero_sign, signed_quanta, ok_bits}
 use Rattle.apfloat_base.proofs.Deliveries.{signed_some}
 use Rattle.apfloat_base.proofs.Laws.{delivered_once, exact_delivered, zero_delivered, pick_grows}
 use Rattle.apfloat_base.proofs.Signs.{no_sign, magnitude_signed, one_side}

@@ -7,9 +7,9 @@ use Rattle.std.proofs.lemmas.Nat.{pow-add, pow_pos}
 use Rattle.std.proofs.lemmas.Int.{ints}
 use Rattle.apfloat_base.specs.declared.sig.loss.Loss.{Loss}
 use Rattle.apfloat_base.specs.declared.sig.loss.Loss.TheVariants.{ExactlyZero, LessThanHalf, ExactlyHalf, MoreThanHalf}
-use Rattle.apfloat_base.specs.Exact.{up, down, signed}
-use Rattle.apfloat_base.specs.Standing.{StandsFor}
-use Rattle.apfloat_base.specs.Totals.{counted, StandsForSigned, Balances, IsApart}
+use Rattle.apfloat_base.specs.arithmetic.Exact.{up, down, signed}
+use Rattle.apfloat_base.specs.rounding.Standing.{StandsFor}
+use Rattle.apfloat_base.specs.arithmetic.Totals.{counted, StandsForSigned, Balances, IsApart}
 use Rattle.apfloat_base.proofs.Existence.{two_pos}
 use Rattle.apfloat_base.proofs.Losses.{twice_half, stands_from, stands_to}
 use Rattle.apfloat_base.proofs.KeptDigits.{stands_times}

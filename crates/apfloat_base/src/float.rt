@@ -3,18 +3,18 @@
 ghost use Rattle.std.specs.Prelude.{◌≡◌, ℕ, ℤ, pos, neg_ℤ, ◌-◌, ◌^◌, ◌<◌, ◌≤◌, Bool, true, false, IsTrue, Option, not, if◌then◌else◌, List, Result, ◌&&◌};
 ghost use Rattle.std.specs.declared.cmp.Ordering.{Ordering};
 ghost use Rattle.std.specs.Option.{unwrap_or};
-ghost use Rattle.apfloat_base.specs.Exact.{same_sign};
-ghost use Rattle.apfloat_base.specs.Negation.{swapped};
+ghost use Rattle.apfloat_base.specs.arithmetic.Exact.{same_sign};
+ghost use Rattle.apfloat_base.specs.rounding.Negation.{swapped};
 ghost use Rattle.apfloat_base.specs.declared.kinds.Category.{Category};
 ghost use Rattle.apfloat_base.specs.declared.kinds.Round.{Round};
 ghost use Rattle.apfloat_base.specs.declared.kinds.Round.TheVariants.{NearestTiesToEven, TowardZero};
-ghost use Rattle.apfloat_base.specs.Classes.{is_nan_category, is_number_category};
+ghost use Rattle.apfloat_base.specs.order.Classes.{is_nan_category, is_number_category};
 ghost use Rattle.apfloat_base.specs.declared.parse_error.ParseError.{ParseError};
-ghost use Rattle.apfloat_base.specs.Predicates.{is_zero_category, is_infinite_category, is_finite_category, min_by, max_by, minimum_by, maximum_by, signed_like};
+ghost use Rattle.apfloat_base.specs.order.Predicates.{is_zero_category, is_infinite_category, is_finite_category, min_by, max_by, minimum_by, maximum_by, signed_like};
 ghost use Rattle.apfloat_base.specs.declared.status.StatusAnd.{StatusAnd};
-ghost use Rattle.apfloat_base.specs.Parsing.{without_status};
-ghost use Rattle.apfloat_base.specs.Flags.{bits_of};
-ghost use Rattle.apfloat_base.specs.SignedWholes.{IsNegatedWhole};
+ghost use Rattle.apfloat_base.specs.texts.Parsing.{without_status};
+ghost use Rattle.apfloat_base.specs.rounding.Flags.{bits_of};
+ghost use Rattle.apfloat_base.specs.whole_numbers.SignedWholes.{IsNegatedWhole};
 ghost use Rattle.apfloat_base.specs.Determined.{IsDetermined};
 
 use crate::kinds::{Category, ExpInt, Round};

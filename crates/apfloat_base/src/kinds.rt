@@ -1,7 +1,7 @@
 //! The small types that calls speak of: categories, rounding modes, kinds of non-finite behaviour, exponents.
 
 ghost use Rattle.std.specs.Prelude.{◌≡◌};
-ghost use Rattle.apfloat_base.specs.Negation.{swapped};
+ghost use Rattle.apfloat_base.specs.rounding.Negation.{swapped};
 
 use std::ops::Neg;
 

@@ -1,8 +1,8 @@
 //! Statuses, which are sets of flags, and values with a status.
 
 ghost use Rattle.std.specs.Prelude.{⊤, ◌≡◌, [], ◌∷◌, codes};
-ghost use Rattle.apfloat_base.specs.Rounding.{ok_bits};
-ghost use Rattle.apfloat_base.specs.Flags.{bits_of};
+ghost use Rattle.apfloat_base.specs.rounding.Rounding.{ok_bits};
+ghost use Rattle.apfloat_base.specs.rounding.Flags.{bits_of};
 
 use bitflags::{Flag, Flags, bitflag_items};
 

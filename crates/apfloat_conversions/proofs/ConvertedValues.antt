@@ -8,10 +8,10 @@ use Rattle.apfloat_base.specs.declared.kinds.Category.TheVariants.{Normal, Zero}
 use Rattle.apfloat_base.specs.declared.kinds.Round.{Round}
 use Rattle.apfloat_base.specs.declared.kinds.NonfiniteBehavior.{NonfiniteBehavior}
 use Rattle.apfloat_base.specs.declared.kinds.NonfiniteBehavior.TheVariants.{IEEE754, NanOnly, NanNegativeZero}
-use Rattle.apfloat_base.specs.Datum.{Datum, finite}
-use Rattle.apfloat_base.specs.Rounding.{zero_sign}
-use Rattle.apfloat_base.specs.Members.{IsNanSignificand}
-use Rattle.apfloat_base.specs.Conversions.{IsConversion, IsConvertedNumber, IsKept, loses_zero_sign}
+use Rattle.apfloat_base.specs.formats.Datum.{Datum, finite}
+use Rattle.apfloat_base.specs.rounding.Rounding.{zero_sign}
+use Rattle.apfloat_base.specs.formats.Members.{IsNanSignificand}
+use Rattle.apfloat_base.specs.arithmetic.Conversions.{IsConversion, IsConvertedNumber, IsKept, loses_zero_sign}
 use Rattle.apfloat_base.proofs.Losses.{twice_half}
 use Rattle.apfloat_base.proofs.KeptDigits.{fits_shifted}
 use Rattle.apfloat_unpacked.specs.declared.shape.Shape.{Shape}

@@ -4,12 +4,12 @@ use Rattle.std.proofs.Math.Nat.{mul-le-mul_right, mul-pos, pow-le-pow_right, mod
 use Rattle.std.proofs.lemmas.Nat.{pow-add, pow_pos}
 use Rattle.std.proofs.lemmas.Int.{ints}
 use Rattle.apfloat_base.specs.declared.kinds.Round.{Round}
-use Rattle.apfloat_base.specs.Conversions.{IsConvertedNumber}
-use Rattle.apfloat_base.specs.Datum.{Datum, finite}
-use Rattle.apfloat_base.specs.Exact.{up, down}
-use Rattle.apfloat_base.specs.Format.{Format, largest, greatest_significand}
-use Rattle.apfloat_base.specs.Members.{IsFiniteOf}
-use Rattle.apfloat_base.specs.Rounding.{ok_bits}
+use Rattle.apfloat_base.specs.arithmetic.Conversions.{IsConvertedNumber}
+use Rattle.apfloat_base.specs.formats.Datum.{Datum, finite}
+use Rattle.apfloat_base.specs.arithmetic.Exact.{up, down}
+use Rattle.apfloat_base.specs.formats.Format.{Format, largest, greatest_significand}
+use Rattle.apfloat_base.specs.formats.Members.{IsFiniteOf}
+use Rattle.apfloat_base.specs.rounding.Rounding.{ok_bits}
 use Rattle.apfloat_base.proofs.Deliveries.{signed_some}
 use Rattle.apfloat_base.proofs.Existence.{two_pos}
 use Rattle.apfloat_base.proofs.Greatest.{greatest_fits, greatest_full}

@@ -5,11 +5,11 @@ use Rattle.std.proofs.lemmas.Nat.{pow-add, pow_pos}
 use Rattle.std.proofs.lemmas.Int.{ints}
 use Rattle.std.proofs.lemmas.Bool.{ne_eqb}
 use Rattle.apfloat_base.specs.declared.kinds.Round.{Round}
-use Rattle.apfloat_base.specs.Format.{Format}
-use Rattle.apfloat_base.specs.Datum.{finite}
-use Rattle.apfloat_base.specs.Exact.{signed}
-use Rattle.apfloat_base.specs.WholeNumbers.{whole_pick, whole_quanta, inexact_unless}
-use Rattle.apfloat_base.specs.WholeNumbersOut.{IsToUnsigned, ranged, exact_or_not}
+use Rattle.apfloat_base.specs.formats.Format.{Format}
+use Rattle.apfloat_base.specs.formats.Datum.{finite}
+use Rattle.apfloat_base.specs.arithmetic.Exact.{signed}
+use Rattle.apfloat_base.specs.whole_numbers.WholeNumbers.{whole_pick, whole_quanta, inexact_unless}
+use Rattle.apfloat_base.specs.whole_numbers.WholeNumbersOut.{IsToUnsigned, ranged, exact_or_not}
 
 pub greatest_is : (width : ℕ) → width ≤ 128 → (2 ^ 128 - 1) / 2 ^ (128 - width) ≡ 2 ^ width - 1
 greatest_is width h =

@@ -5,11 +5,11 @@ use Rattle.std.proofs.lemmas.Nat.{pow-add, pow_pos}
 use Rattle.std.proofs.lemmas.Int.{ints}
 use Rattle.apfloat_base.specs.declared.kinds.NonfiniteBehavior.{NonfiniteBehavior}
 use Rattle.apfloat_base.specs.declared.kinds.NonfiniteBehavior.TheVariants.{IEEE754, NanOnly, NanNegativeZero}
-use Rattle.apfloat_base.specs.Format.{Format, largest, greatest_significand}
-use Rattle.apfloat_base.specs.Grid.{IsOnGrid, IsBelow, IsAbove}
-use Rattle.apfloat_base.specs.Enclosure.{IsEnclosed}
-use Rattle.apfloat_base.specs.Exponents.{IsLogarithm}
-use Rattle.apfloat_base.specs.Standing.{up, down}
+use Rattle.apfloat_base.specs.formats.Format.{Format, largest, greatest_significand}
+use Rattle.apfloat_base.specs.rounding.Grid.{IsOnGrid, IsBelow, IsAbove}
+use Rattle.apfloat_base.specs.rounding.Enclosure.{IsEnclosed}
+use Rattle.apfloat_base.specs.arithmetic.Exponents.{IsLogarithm}
+use Rattle.apfloat_base.specs.rounding.Standing.{up, down}
 use Rattle.apfloat_base.proofs.Existence.{two_pos}
 use Rattle.apfloat_base.proofs.Laws.{exact_below, zero_on_grid}
 use Rattle.apfloat_base.proofs.Losses.{twice_half}

@@ -1,8 +1,8 @@
 -- The fraction of a stored number.
 use Rattle.std.proofs.Common.{ℕ, ◌-◌, ◌*◌, ◌^◌, ◌<◌, ◌≤◌, arith, ℤ, negsuc, ◌-ℤ◌}
 use Rattle.std.proofs.lemmas.Nat.{pow_pos}
-use Rattle.apfloat_base.specs.Format.{largest}
-use Rattle.apfloat_base.specs.Standing.{up}
+use Rattle.apfloat_base.specs.formats.Format.{largest}
+use Rattle.apfloat_base.specs.rounding.Standing.{up}
 use Rattle.apfloat_unpacked.specs.declared.shape.Shape.{Shape}
 use Rattle.apfloat_unpacked.specs.Shapes.{format_at, IsShape}
 use Rattle.apfloat_unpacked.specs.Stored.{IsNormal}

@@ -4,12 +4,12 @@ use Rattle.std.proofs.Math.Nat.{eq_of_mul-eq-mul_right}
 use Rattle.std.proofs.lemmas.Nat.{pow-add, pow_pos}
 use Rattle.std.proofs.lemmas.Int.{ints}
 use Rattle.std.proofs.lemmas.Bool.{cases_eq, eq-eqb, ne_eqb}
-use Rattle.apfloat_base.specs.Format.{largest, greatest_significand}
-use Rattle.apfloat_base.specs.Datum.{finite}
-use Rattle.apfloat_base.specs.Grid.{IsBelow, IsAbove}
-use Rattle.apfloat_base.specs.Rounding.{zero_sign}
-use Rattle.apfloat_base.specs.NextUp.{IsNextGreater, IsNextLess}
-use Rattle.apfloat_base.specs.Standing.{up, down}
+use Rattle.apfloat_base.specs.formats.Format.{largest, greatest_significand}
+use Rattle.apfloat_base.specs.formats.Datum.{finite}
+use Rattle.apfloat_base.specs.rounding.Grid.{IsBelow, IsAbove}
+use Rattle.apfloat_base.specs.rounding.Rounding.{zero_sign}
+use Rattle.apfloat_base.specs.arithmetic.NextUp.{IsNextGreater, IsNextLess}
+use Rattle.apfloat_base.specs.rounding.Standing.{up, down}
 use Rattle.apfloat_base.proofs.Deliveries.{signed_some}
 use Rattle.apfloat_base.proofs.Signs.{one_side}
 use Rattle.apfloat_base.proofs.Losses.{twice_half}

@@ -5,11 +5,11 @@ use Rattle.std.proofs.lemmas.Nat.{pow_pos}
 use Rattle.std.proofs.Math.Nat.{mul-le-mul_right, mul-le-mul_left, pow-le-pow_right}
 use Rattle.apfloat_base.specs.declared.kinds.Round.{Round}
 use Rattle.apfloat_base.specs.declared.sig.loss.Loss.TheVariants.{ExactlyZero}
-use Rattle.apfloat_base.specs.Format.{Format, largest, greatest_significand}
-use Rattle.apfloat_base.specs.Datum.{Datum, finite}
-use Rattle.apfloat_base.specs.Rounding.{IsDelivered, zero_sign}
-use Rattle.apfloat_base.specs.Scaling.{IsScaling}
-use Rattle.apfloat_base.specs.Standing.{StandsFor, up, down}
+use Rattle.apfloat_base.specs.formats.Format.{Format, largest, greatest_significand}
+use Rattle.apfloat_base.specs.formats.Datum.{Datum, finite}
+use Rattle.apfloat_base.specs.rounding.Rounding.{IsDelivered, zero_sign}
+use Rattle.apfloat_base.specs.arithmetic.Scaling.{IsScaling}
+use Rattle.apfloat_base.specs.rounding.Standing.{StandsFor, up, down}
 use Rattle.apfloat_base.proofs.Existence.{two_pos}
 use Rattle.apfloat_base.proofs.Greatest.{greatest_full}
 use Rattle.apfloat_base.proofs.Tables.{scaling_zero}

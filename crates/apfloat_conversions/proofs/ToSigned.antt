@@ -9,15 +9,15 @@ use Rattle.apfloat_base.specs.declared.kinds.NonfiniteBehavior.{NonfiniteBehavio
 use Rattle.apfloat_base.specs.declared.kinds.NonfiniteBehavior.TheVariants.{IEEE754, NanOnly, NanNegativeZero}
 use Rattle.apfloat_base.specs.declared.kinds.Round.{Round}
 use Rattle.apfloat_base.specs.declared.kinds.Round.TheVariants.{NearestTiesToEven, TowardPositive, TowardNegative, TowardZero, NearestTiesToAway}
-use Rattle.apfloat_base.specs.Format.{Format}
-use Rattle.apfloat_base.specs.Datum.{Datum, finite, infinite, nan}
-use Rattle.apfloat_base.specs.Classes.{is_negative, category_of}
-use Rattle.apfloat_base.specs.SignedWholes.{IsNegatedWhole}
-use Rattle.apfloat_base.specs.Predicates.{is_zero_category}
-use Rattle.apfloat_base.specs.Negation.{swapped, negated, negated_nan, negated_zero}
-use Rattle.apfloat_base.specs.Rounding.{takes_above}
-use Rattle.apfloat_base.specs.WholeNumbers.{whole_pick, whole_quanta, inexact_unless}
-use Rattle.apfloat_base.specs.WholeNumbersOut.{IsToUnsigned, IsToSigned, IsWhole, Whole, ranged, exact_or_not, invalid_whole}
+use Rattle.apfloat_base.specs.formats.Format.{Format}
+use Rattle.apfloat_base.specs.formats.Datum.{Datum, finite, infinite, nan}
+use Rattle.apfloat_base.specs.order.Classes.{is_negative, category_of}
+use Rattle.apfloat_base.specs.whole_numbers.SignedWholes.{IsNegatedWhole}
+use Rattle.apfloat_base.specs.order.Predicates.{is_zero_category}
+use Rattle.apfloat_base.specs.rounding.Negation.{swapped, negated, negated_nan, negated_zero}
+use Rattle.apfloat_base.specs.rounding.Rounding.{takes_above}
+use Rattle.apfloat_base.specs.whole_numbers.WholeNumbers.{whole_pick, whole_quanta, inexact_unless}
+use Rattle.apfloat_base.specs.whole_numbers.WholeNumbersOut.{IsToUnsigned, IsToSigned, IsWhole, Whole, ranged, exact_or_not, invalid_whole}
 use Rattle.apfloat_base.proofs.Existence.{two_pos}
 use Rattle.apfloat_base.proofs.Losses.{twice_half}
 use Rattle.apfloat_base.proofs.Signs.{no_sign}

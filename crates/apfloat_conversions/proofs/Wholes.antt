@@ -8,12 +8,12 @@ use Rattle.apfloat_base.specs.declared.kinds.Round.{Round}
 use Rattle.apfloat_base.specs.declared.kinds.Round.TheVariants.{TowardZero}
 use Rattle.apfloat_base.specs.declared.sig.loss.Loss.{Loss}
 use Rattle.apfloat_base.specs.declared.sig.loss.Loss.TheVariants.{ExactlyZero, LessThanHalf, ExactlyHalf, MoreThanHalf}
-use Rattle.apfloat_base.specs.Standing.{StandsFor, up, down}
-use Rattle.apfloat_base.specs.Enclosure.{rounds_up}
-use Rattle.apfloat_base.specs.Format.{Format}
-use Rattle.apfloat_base.specs.Datum.{Datum, finite}
-use Rattle.apfloat_base.specs.Rounding.{takes_above, pick_between, signed_quanta}
-use Rattle.apfloat_base.specs.WholeNumbers.{whole_pick, whole_quanta, inexact_unless, IsRoundToIntegral}
+use Rattle.apfloat_base.specs.rounding.Standing.{StandsFor, up, down}
+use Rattle.apfloat_base.specs.rounding.Enclosure.{rounds_up}
+use Rattle.apfloat_base.specs.formats.Format.{Format}
+use Rattle.apfloat_base.specs.formats.Datum.{Datum, finite}
+use Rattle.apfloat_base.specs.rounding.Rounding.{takes_above, pick_between, signed_quanta}
+use Rattle.apfloat_base.specs.whole_numbers.WholeNumbers.{whole_pick, whole_quanta, inexact_unless, IsRoundToIntegral}
 use Rattle.apfloat_base.proofs.Existence.{two_pos}
 use Rattle.apfloat_base.proofs.Deliveries.{signed_some}
 use Rattle.apfloat_base.proofs.Losses.{stands_to, stands_past, twice_half}

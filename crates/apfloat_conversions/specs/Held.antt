@@ -1,6 +1,6 @@
 -- When each number of one shape is a number of another.
 use Rattle.std.specs.Prelude.{◌≡◌, ◌-◌, ◌*◌, ◌^◌, ◌≤◌, ◌⊎◌, pos, ◌+ℤ◌, ◌≤ℤ◌}
-use Rattle.apfloat_base.specs.Format.{greatest_significand}
+use Rattle.apfloat_base.specs.formats.Format.{greatest_significand}
 use Rattle.apfloat_unpacked.specs.declared.shape.Shape.{Shape}
 use Rattle.apfloat_unpacked.specs.Shapes.{format_at}
 

@@ -1,7 +1,7 @@
 -- The whole number that a mode picks beside a magnitude, as the engine hands it on.
 use Rattle.std.specs.Prelude.{◌≡◌, ℕ, ◌*◌, ◌^◌, ◌≤◌, Bool, eqb, Option, Some, None}
 use Rattle.apfloat_base.specs.declared.kinds.Round.{Round}
-use Rattle.apfloat_base.specs.WholeNumbers.{whole_pick}
+use Rattle.apfloat_base.specs.whole_numbers.WholeNumbers.{whole_pick}
 use Rattle.apfloat_conversions.specs.declared.whole.Whole.{Whole}
 
 -- it, and whether it is the magnitude itself

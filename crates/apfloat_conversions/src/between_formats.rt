@@ -2,13 +2,13 @@
 
 ghost use Rattle.std.specs.Prelude.{◌≡◌, ℕ, ◌-◌, ◌*◌, ◌/◌, ◌^◌, ◌<◌, ◌≤◌, Bool, cond, not};
 ghost use Rattle.apfloat_base.specs.declared.kinds.NonfiniteBehavior.{NonfiniteBehavior};
-ghost use Rattle.apfloat_base.specs.Flags.{bits_of};
-ghost use Rattle.apfloat_base.specs.Datum.{finite};
-ghost use Rattle.apfloat_base.specs.Rounding.{ok_bits, inexact_bit, zero_sign};
-ghost use Rattle.apfloat_base.specs.Constants.{infinity_of};
-ghost use Rattle.apfloat_base.specs.Conversions.{IsConversion, IsConverted, IsConvertedNumber, IsExactlyConverted, IsKept, loses_zero_sign, has_infinities, places_out, nan_loses, converted_nan};
-ghost use Rattle.apfloat_base.specs.Members.{IsNanSignificand};
-ghost use Rattle.apfloat_base.specs.Nan.{invalid_if, is_signaling};
+ghost use Rattle.apfloat_base.specs.rounding.Flags.{bits_of};
+ghost use Rattle.apfloat_base.specs.formats.Datum.{finite};
+ghost use Rattle.apfloat_base.specs.rounding.Rounding.{ok_bits, inexact_bit, zero_sign};
+ghost use Rattle.apfloat_base.specs.formats.Constants.{infinity_of};
+ghost use Rattle.apfloat_base.specs.arithmetic.Conversions.{IsConversion, IsConverted, IsConvertedNumber, IsExactlyConverted, IsKept, loses_zero_sign, has_infinities, places_out, nan_loses, converted_nan};
+ghost use Rattle.apfloat_base.specs.formats.Members.{IsNanSignificand};
+ghost use Rattle.apfloat_base.specs.formats.Nan.{invalid_if, is_signaling};
 ghost use Rattle.apfloat_unpacked.specs.Shapes.{IsShape, format_at};
 ghost use Rattle.apfloat_unpacked.specs.Stored.{IsNan, IsNormal, IsStored, datum_at, quanta_at};
 

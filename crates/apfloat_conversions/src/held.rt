@@ -1,7 +1,7 @@
 //! Formats whose numbers are all numbers of another format, and these numbers there.
 
 ghost use Rattle.std.specs.Prelude.{◌≡◌, ◌-◌, ◌*◌, ◌^◌, ◌≤◌, true};
-ghost use Rattle.apfloat_base.specs.Datum.{finite};
+ghost use Rattle.apfloat_base.specs.formats.Datum.{finite};
 ghost use Rattle.apfloat_unpacked.specs.Shapes.{IsShape, format_at};
 ghost use Rattle.apfloat_unpacked.specs.Stored.{IsNormal, IsStored, datum_at, quanta_at};
 ghost use Rattle.apfloat_conversions.specs.Held.{IsHeld, IsReached};

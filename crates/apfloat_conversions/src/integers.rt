@@ -1,10 +1,10 @@
 //! Whole numbers into a format and out of it.
 
 ghost use Rattle.std.specs.Prelude.{◌≡◌, ◌-◌, ◌^◌, ◌<◌, ◌≤◌, false, if◌then◌else◌};
-ghost use Rattle.apfloat_base.specs.Datum.{finite};
-ghost use Rattle.apfloat_base.specs.Flags.{bits_of};
-ghost use Rattle.apfloat_base.specs.WholeNumbers.{IsFromUnsigned, inexact_unless};
-ghost use Rattle.apfloat_base.specs.WholeNumbersOut.{IsToUnsigned};
+ghost use Rattle.apfloat_base.specs.formats.Datum.{finite};
+ghost use Rattle.apfloat_base.specs.rounding.Flags.{bits_of};
+ghost use Rattle.apfloat_base.specs.whole_numbers.WholeNumbers.{IsFromUnsigned, inexact_unless};
+ghost use Rattle.apfloat_base.specs.whole_numbers.WholeNumbersOut.{IsToUnsigned};
 ghost use Rattle.apfloat_unpacked.specs.Shapes.{IsShape, format_at};
 ghost use Rattle.apfloat_unpacked.specs.Stored.{IsStored, IsNormal, quanta_at, datum_at};
 

@@ -1,10 +1,10 @@
 //! Values rounded to whole numbers of their format.
 
 ghost use Rattle.std.specs.Prelude.{◌≡◌, ◌%◌, ◌^◌, eqb};
-ghost use Rattle.apfloat_base.specs.Classes.{is_integer};
+ghost use Rattle.apfloat_base.specs.order.Classes.{is_integer};
 ghost use Rattle.apfloat_base.specs.declared.kinds.Category.TheVariants.{Normal};
-ghost use Rattle.apfloat_base.specs.Flags.{bits_of};
-ghost use Rattle.apfloat_base.specs.WholeNumbers.{IsRoundToIntegral};
+ghost use Rattle.apfloat_base.specs.rounding.Flags.{bits_of};
+ghost use Rattle.apfloat_base.specs.whole_numbers.WholeNumbers.{IsRoundToIntegral};
 ghost use Rattle.apfloat_unpacked.specs.Shapes.{IsShape, format_at};
 ghost use Rattle.apfloat_unpacked.specs.Stored.{IsStored, IsNormal, quanta_at, datum_at};
 

@@ -2,10 +2,10 @@
 
 ghost use Rattle.std.specs.Prelude.{◌≡◌, ◌^◌, ◌<◌, eqb, pos, ◌+ℤ◌, ◌-ℤ◌, ◌≤ℤ◌};
 ghost use Rattle.apfloat_base.specs.declared.kinds.Category.TheVariants.{NaN};
-ghost use Rattle.apfloat_base.specs.Exact.{down};
-ghost use Rattle.apfloat_base.specs.Flags.{bits_of};
-ghost use Rattle.apfloat_base.specs.Format.{largest};
-ghost use Rattle.apfloat_base.specs.NextUp.{IsNextGreater, IsNextLess, IsNextOfNumber, IsNextUp};
+ghost use Rattle.apfloat_base.specs.arithmetic.Exact.{down};
+ghost use Rattle.apfloat_base.specs.rounding.Flags.{bits_of};
+ghost use Rattle.apfloat_base.specs.formats.Format.{largest};
+ghost use Rattle.apfloat_base.specs.arithmetic.NextUp.{IsNextGreater, IsNextLess, IsNextOfNumber, IsNextUp};
 ghost use Rattle.apfloat_unpacked.specs.Shapes.{IsShape, format_at};
 ghost use Rattle.apfloat_unpacked.specs.Stored.{IsStored, IsNormal, quanta_at, datum_at};
 

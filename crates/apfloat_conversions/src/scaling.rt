@@ -1,11 +1,11 @@
 //! Values times powers of two, and values taken apart into a fraction and a power of two.
 
 ghost use Rattle.std.specs.Prelude.{◌≡◌, ◌⊎◌, ◌*◌, ◌^◌, pos, neg_ℤ, ◌+ℤ◌, ◌≤ℤ◌};
-ghost use Rattle.apfloat_base.specs.Exact.{up, down};
-ghost use Rattle.apfloat_base.specs.Exponents.{IsIlogb, IsFrexp, IsFraction};
-ghost use Rattle.apfloat_base.specs.Flags.{bits_of};
-ghost use Rattle.apfloat_base.specs.Rounding.{IsDelivered};
-ghost use Rattle.apfloat_base.specs.Scaling.{IsScaling};
+ghost use Rattle.apfloat_base.specs.arithmetic.Exact.{up, down};
+ghost use Rattle.apfloat_base.specs.arithmetic.Exponents.{IsIlogb, IsFrexp, IsFraction};
+ghost use Rattle.apfloat_base.specs.rounding.Flags.{bits_of};
+ghost use Rattle.apfloat_base.specs.rounding.Rounding.{IsDelivered};
+ghost use Rattle.apfloat_base.specs.arithmetic.Scaling.{IsScaling};
 ghost use Rattle.apfloat_unpacked.specs.Shapes.{IsShape, format_at};
 ghost use Rattle.apfloat_unpacked.specs.Stored.{IsStored, IsNormal, quanta_at, datum_at};
 

@@ -1,7 +1,7 @@
 -- The constants, the format and the layout of a type of formats.
-use Rattle.apfloat_base.specs.Format.{Format}
-use Rattle.apfloat_base.specs.Layout.{Layout}
-use Rattle.apfloat_base.specs.Lawful.{Constants, constants_with, format_with, layout_with}
+use Rattle.apfloat_base.specs.formats.Format.{Format}
+use Rattle.apfloat_base.specs.bits.Layout.{Layout}
+use Rattle.apfloat_base.specs.formats.Lawful.{Constants, constants_with, format_with, layout_with}
 use Rattle.apfloat_ieee.specs.declared.semantics.Semantics.{Ghosts}
 use Rattle.apfloat_unpacked.specs.declared.shape.Shape.{Shape}
 

@@ -1,7 +1,7 @@
 //! Conversions between any two formats.
 
-ghost use Rattle.apfloat_base.specs.Flags.{bits_of};
-ghost use Rattle.apfloat_base.specs.Conversions.{IsConversion, IsExactlyConverted};
+ghost use Rattle.apfloat_base.specs.rounding.Flags.{bits_of};
+ghost use Rattle.apfloat_base.specs.arithmetic.Conversions.{IsConversion, IsExactlyConverted};
 ghost use Rattle.apfloat_ieee.specs.Types.{format_of};
 
 use crate::ieee_float::{IeeeFloat, shape_of};

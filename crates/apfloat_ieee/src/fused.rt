@@ -2,8 +2,8 @@
 
 ghost use Rattle.std.specs.Prelude.{◌≤◌};
 ghost use Rattle.apfloat_base.specs.declared.kinds.Round.TheVariants.{NearestTiesToEven};
-ghost use Rattle.apfloat_base.specs.Flags.{Gives};
-ghost use Rattle.apfloat_base.specs.FusedSums.{IsFusedSum};
+ghost use Rattle.apfloat_base.specs.rounding.Flags.{Gives};
+ghost use Rattle.apfloat_base.specs.arithmetic.FusedSums.{IsFusedSum};
 ghost use Rattle.apfloat_ieee.specs.Types.{format_of};
 
 use crate::ieee_float::{IeeeFloat, shape_of};

@@ -2,13 +2,13 @@
 
 ghost use Rattle.std.specs.Prelude.{◌≡◌, ℕ, ◌-◌, ◌*◌, ◌^◌, ◌<◌, ◌≤◌, ◌⊎◌, pos, neg_ℤ, ◌+ℤ◌, ◌≤ℤ◌, false};
 ghost use Rattle.apfloat_base.specs.declared.sig.loss.Loss.{Loss};
-ghost use Rattle.apfloat_base.specs.Classes.{category_of};
-ghost use Rattle.apfloat_base.specs.Members.{IsMember};
-ghost use Rattle.apfloat_base.specs.Flags.{Gives};
-ghost use Rattle.apfloat_base.specs.Rounding.{IsDelivered};
-ghost use Rattle.apfloat_base.specs.Standing.{StandsFor, up, down};
-ghost use Rattle.apfloat_base.specs.Interchange.{IsInterchange};
-ghost use Rattle.apfloat_base.specs.Layout.{datum_of, IsEncodedBy};
+ghost use Rattle.apfloat_base.specs.order.Classes.{category_of};
+ghost use Rattle.apfloat_base.specs.formats.Members.{IsMember};
+ghost use Rattle.apfloat_base.specs.rounding.Flags.{Gives};
+ghost use Rattle.apfloat_base.specs.rounding.Rounding.{IsDelivered};
+ghost use Rattle.apfloat_base.specs.rounding.Standing.{StandsFor, up, down};
+ghost use Rattle.apfloat_base.specs.bits.Interchange.{IsInterchange};
+ghost use Rattle.apfloat_base.specs.bits.Layout.{datum_of, IsEncodedBy};
 ghost use Rattle.apfloat_unpacked.specs.Encoded.{layout_at};
 ghost use Rattle.apfloat_unpacked.specs.Shapes.{IsShape};
 ghost use Rattle.apfloat_unpacked.specs.Stored.{IsStored, datum_at};
@@ -31,7 +31,7 @@ pub struct IeeeFloat<S: Semantics> {
 }
 
 impl<S: Semantics> Model for IeeeFloat<S> {
-    ghost use Rattle.apfloat_base.specs.Datum.{Datum};
+    ghost use Rattle.apfloat_base.specs.formats.Datum.{Datum};
     ghost use Rattle.apfloat_unpacked.specs.Stored.{IsStored, datum_at, unpacked_of};
     ghost use Rattle.apfloat_unpacked.specs.StoredBack.{comes_back};
     ghost use Rattle.apfloat_ieee.specs.Types.{shape_of};

@@ -1,8 +1,8 @@
 //! The order of the values of one format, `==` and `<`, and their sameness.
 
 ghost use Rattle.std.specs.Prelude.{◌≡◌};
-ghost use Rattle.apfloat_base.specs.Classes.{same_datum};
-ghost use Rattle.apfloat_base.specs.Order.{AreNumbers, compared, compared_magnitudes};
+ghost use Rattle.apfloat_base.specs.order.Classes.{same_datum};
+ghost use Rattle.apfloat_base.specs.order.Order.{AreNumbers, compared, compared_magnitudes};
 
 use crate::ieee_float::IeeeFloat;
 use crate::semantics::Semantics;
@@ -35,8 +35,8 @@ pub(crate) fn is_same<S: Semantics>(x: IeeeFloat<S>, y: IeeeFloat<S>) -> bool
 }
 
 impl<S: Semantics> PartialEq for IeeeFloat<S> {
-    ghost use Rattle.apfloat_base.specs.Order.{is_equal};
-    ghost use Rattle.apfloat_base.specs.OrderLaws.{equal_laws};
+    ghost use Rattle.apfloat_base.specs.order.Order.{is_equal};
+    ghost use Rattle.apfloat_base.proofs.OrderLaws.{equal_laws};
 
     ghost eq = { is_equal };
 
@@ -53,8 +53,8 @@ impl<S: Semantics> PartialEq for IeeeFloat<S> {
 }
 
 impl<S: Semantics> PartialOrd for IeeeFloat<S> {
-    ghost use Rattle.apfloat_base.specs.Order.{compared};
-    ghost use Rattle.apfloat_base.specs.OrderLaws.{compared_laws};
+    ghost use Rattle.apfloat_base.specs.order.Order.{compared};
+    ghost use Rattle.apfloat_base.proofs.OrderLaws.{compared_laws};
 
     ghost partial_cmp = { compared };
 

@@ -3,10 +3,10 @@
 ghost use Rattle.std.specs.Prelude.{◌≡◌, ◌≤◌};
 ghost use Rattle.apfloat_base.specs.declared.kinds.Round.TheVariants.{NearestTiesToEven};
 ghost use Rattle.apfloat_base.specs.declared.status.StatusAnd.{StatusAnd};
-ghost use Rattle.apfloat_base.specs.Flags.{Gives};
-ghost use Rattle.apfloat_base.specs.Exponents.{IsExactInverse};
-ghost use Rattle.apfloat_base.specs.Products.{IsProduct, IsOpposite};
-ghost use Rattle.apfloat_base.specs.Quotients.{IsQuotient};
+ghost use Rattle.apfloat_base.specs.rounding.Flags.{Gives};
+ghost use Rattle.apfloat_base.specs.arithmetic.Exponents.{IsExactInverse};
+ghost use Rattle.apfloat_base.specs.arithmetic.Products.{IsProduct, IsOpposite};
+ghost use Rattle.apfloat_base.specs.arithmetic.Quotients.{IsQuotient};
 ghost use Rattle.apfloat_ieee.specs.Types.{format_of};
 
 use crate::ieee_float::{IeeeFloat, shape_of};

@@ -2,8 +2,8 @@
 
 ghost use Rattle.std.specs.Prelude.{◌≡◌, ℕ, ℤ, ◌^◌, ◌<◌, Bool, false};
 ghost use Rattle.apfloat_base.specs.declared.kinds.NonfiniteBehavior.{NonfiniteBehavior};
-ghost use Rattle.apfloat_base.specs.Layout.{datum_of, IsEncodedBy};
-ghost use Rattle.apfloat_base.specs.Lawful.{IsLawful, constants_with, format_with, layout_with};
+ghost use Rattle.apfloat_base.specs.bits.Layout.{datum_of, IsEncodedBy};
+ghost use Rattle.apfloat_base.specs.formats.Lawful.{IsLawful, constants_with, format_with, layout_with};
 
 use crate::ieee_float::{IeeeFloat, read, write};
 use apfloat_base::{ExpInt, NonfiniteBehavior};

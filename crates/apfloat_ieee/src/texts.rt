@@ -4,8 +4,8 @@ ghost use Rattle.std.specs.Prelude.{◌≡◌, Result};
 ghost use Rattle.apfloat_base.specs.declared.kinds.Round.TheVariants.{NearestTiesToEven};
 ghost use Rattle.apfloat_base.specs.declared.parse_error.ParseError.{ParseError};
 ghost use Rattle.apfloat_base.specs.declared.status.StatusAnd.{StatusAnd};
-ghost use Rattle.apfloat_base.specs.Datum.{Datum};
-ghost use Rattle.apfloat_base.specs.Parsing.{IsRead, without_status};
+ghost use Rattle.apfloat_base.specs.formats.Datum.{Datum};
+ghost use Rattle.apfloat_base.specs.texts.Parsing.{IsRead, without_status};
 ghost use Rattle.apfloat_ieee.specs.Types.{format_of};
 
 use crate::ieee_float::{IeeeFloat, shape_of};

@@ -2,10 +2,10 @@
 use Rattle.std.proofs.Common.{◌≡◌, ℕ, Bool, true, false, not, ◌&&◌, ◌||◌, refl, ap}
 use Rattle.std.specs.Bool.{MatchBool}
 use Rattle.apfloat_base.specs.declared.kinds.Round.TheVariants.{NearestTiesToEven}
-use Rattle.apfloat_base.specs.Datum.{Datum}
-use Rattle.apfloat_base.specs.Classes.{is_finite_non_zero, is_denormal}
-use Rattle.apfloat_base.specs.Order.{is_equal}
-use Rattle.apfloat_base.specs.Sums.{IsSum}
+use Rattle.apfloat_base.specs.formats.Datum.{Datum}
+use Rattle.apfloat_base.specs.order.Classes.{is_finite_non_zero, is_denormal}
+use Rattle.apfloat_base.specs.order.Order.{is_equal}
+use Rattle.apfloat_base.specs.arithmetic.Sums.{IsSum}
 use Rattle.apfloat_base.proofs.Once.{sum_once}
 use Rattle.apfloat_pairs.specs.PairFormats.{double}
 use Rattle.apfloat_pairs.specs.Pairs.{Pair}

@@ -1,9 +1,9 @@
 -- The answer of a call by the wide format adds up exactly to the wide answer, wherever its high part is finite.
 use Rattle.std.specs.Prelude.{ℕ}
 use Rattle.apfloat_base.specs.declared.kinds.Round.{Round}
-use Rattle.apfloat_base.specs.Datum.{Datum}
-use Rattle.apfloat_base.specs.Quotients.{IsQuotient}
-use Rattle.apfloat_base.specs.Remainders.{IsTruncatedRemainder, IsNearestRemainder}
+use Rattle.apfloat_base.specs.formats.Datum.{Datum}
+use Rattle.apfloat_base.specs.arithmetic.Quotients.{IsQuotient}
+use Rattle.apfloat_base.specs.arithmetic.Remainders.{IsTruncatedRemainder, IsNearestRemainder}
 use Rattle.apfloat_pairs.specs.PairFormats.{wide}
 use Rattle.apfloat_pairs.specs.Pairs.{Pair, IsWideAnswerOfTwo}
 use Rattle.apfloat_pairs.specs.PairCalls.{IsPairQuotient, IsPairTruncatedRemainder, IsPairNearestRemainder}

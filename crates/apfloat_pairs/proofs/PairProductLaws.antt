@@ -6,10 +6,10 @@ use Rattle.std.proofs.Math.Nat.{mul-le-mul_right, le_of_mul-le-mul_left, le_of_m
 use Rattle.std.proofs.lemmas.Nat.{pow_pos, mul-le}
 use Rattle.std.proofs.lemmas.Int.{ints}
 use Rattle.apfloat_base.specs.declared.kinds.Round.TheVariants.{NearestTiesToEven}
-use Rattle.apfloat_base.specs.Classes.{is_finite, is_finite_non_zero}
-use Rattle.apfloat_base.specs.Exact.{magnitude}
-use Rattle.apfloat_base.specs.Members.{IsMember}
-use Rattle.apfloat_base.specs.Order.{number}
+use Rattle.apfloat_base.specs.order.Classes.{is_finite, is_finite_non_zero}
+use Rattle.apfloat_base.specs.arithmetic.Exact.{magnitude}
+use Rattle.apfloat_base.specs.formats.Members.{IsMember}
+use Rattle.apfloat_base.specs.order.Order.{number}
 use Rattle.apfloat_pairs.specs.PairFormats.{double}
 use Rattle.apfloat_pairs.specs.Pairs.{Pair, pair_number, IsNormalised}
 use Rattle.apfloat_pairs.specs.PairProducts.{IsPairProduct}

@@ -4,13 +4,13 @@ use Rattle.std.proofs.Common.{◌≡◌, ℕ, ◌+◌, ◌*◌, ◌^◌, ◌≤�
 use Rattle.std.specs.Prelude.{ℤ, pos, ◌+ℤ◌, ◌-ℤ◌, ◌*ℤ◌}
 use Rattle.std.proofs.lemmas.Int.{ints}
 use Rattle.apfloat_base.specs.declared.kinds.Round.TheVariants.{NearestTiesToEven}
-use Rattle.apfloat_base.specs.Format.{largest}
-use Rattle.apfloat_base.specs.Datum.{Datum}
-use Rattle.apfloat_base.specs.Classes.{is_finite, quanta_of}
-use Rattle.apfloat_base.specs.Exact.{magnitude}
-use Rattle.apfloat_base.specs.Members.{IsMember}
-use Rattle.apfloat_base.specs.Order.{number}
-use Rattle.apfloat_base.specs.Sums.{IsSum}
+use Rattle.apfloat_base.specs.formats.Format.{largest}
+use Rattle.apfloat_base.specs.formats.Datum.{Datum}
+use Rattle.apfloat_base.specs.order.Classes.{is_finite, quanta_of}
+use Rattle.apfloat_base.specs.arithmetic.Exact.{magnitude}
+use Rattle.apfloat_base.specs.formats.Members.{IsMember}
+use Rattle.apfloat_base.specs.order.Order.{number}
+use Rattle.apfloat_base.specs.arithmetic.Sums.{IsSum}
 use Rattle.apfloat_pairs.specs.PairFormats.{double}
 use Rattle.apfloat_pairs.specs.Pairs.{Pair, pair_number, IsNormalised}
 use Rattle.apfloat_pairs.specs.PairSums.{IsSumOfNumbers, IsPairSum}

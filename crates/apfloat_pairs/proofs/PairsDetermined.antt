@@ -3,7 +3,7 @@ use Rattle.std.proofs.Common.{ℕ, Bool, List, Result, Ok, Err}
 use Rattle.apfloat_base.specs.declared.kinds.Round.{Round}
 use Rattle.apfloat_base.specs.declared.parse_error.ParseError.{ParseError}
 use Rattle.apfloat_base.specs.declared.status.StatusAnd.{StatusAnd}
-use Rattle.apfloat_base.specs.Flags.{Gives, bits_of}
+use Rattle.apfloat_base.specs.rounding.Flags.{Gives, bits_of}
 use Rattle.apfloat_base.specs.Determined.{Determines, DeterminesBoth, AreOneReading, IsDetermined}
 use Rattle.apfloat_base.proofs.Determined.{same_answer, refusal_once, reading_or_refusal}
 use Rattle.apfloat_pairs.specs.PairFormats.{wide}

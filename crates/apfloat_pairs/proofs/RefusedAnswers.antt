@@ -4,11 +4,11 @@ use Rattle.std.specs.Prelude.{ℤ, pos, neg_ℤ}
 use Rattle.std.proofs.lemmas.Bool.{false≢true, le-leb}
 use Rattle.std.proofs.lemmas.Int.{ints}
 use Rattle.apfloat_base.specs.declared.kinds.Round.TheVariants.{NearestTiesToEven}
-use Rattle.apfloat_base.specs.Datum.{Datum, finite}
-use Rattle.apfloat_base.specs.Exact.{magnitude}
-use Rattle.apfloat_base.specs.Order.{is_equal}
-use Rattle.apfloat_base.specs.Rounding.{ok_bits, inexact_bit}
-use Rattle.apfloat_base.specs.Sums.{IsSum}
+use Rattle.apfloat_base.specs.formats.Datum.{Datum, finite}
+use Rattle.apfloat_base.specs.arithmetic.Exact.{magnitude}
+use Rattle.apfloat_base.specs.order.Order.{is_equal}
+use Rattle.apfloat_base.specs.rounding.Rounding.{ok_bits, inexact_bit}
+use Rattle.apfloat_base.specs.arithmetic.Sums.{IsSum}
 use Rattle.apfloat_base.proofs.Once.{sum_once}
 use Rattle.apfloat_base.proofs.RowsIn.{rounded}
 use Rattle.apfloat_pairs.specs.PairFormats.{double}

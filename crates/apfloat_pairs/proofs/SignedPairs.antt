@@ -4,11 +4,11 @@ use Rattle.std.specs.Prelude.{ℤ, pos, neg_ℤ, int_lt}
 use Rattle.std.specs.Bool.{MatchBool}
 use Rattle.std.proofs.lemmas.Int.{ints}
 use Rattle.apfloat_base.specs.declared.kinds.Round.{Round}
-use Rattle.apfloat_base.specs.Negation.{swapped}
-use Rattle.apfloat_base.specs.Classes.{category_of, is_negative}
-use Rattle.apfloat_base.specs.Predicates.{is_zero_category}
-use Rattle.apfloat_base.specs.PredicatesAgree.{zero_agrees}
-use Rattle.apfloat_base.specs.SignedWholes.{IsNegatedWhole}
+use Rattle.apfloat_base.specs.rounding.Negation.{swapped}
+use Rattle.apfloat_base.specs.order.Classes.{category_of, is_negative}
+use Rattle.apfloat_base.specs.order.Predicates.{is_zero_category}
+use Rattle.apfloat_base.proofs.PredicatesAgree.{zero_agrees}
+use Rattle.apfloat_base.specs.whole_numbers.SignedWholes.{IsNegatedWhole}
 use Rattle.apfloat_pairs.specs.Pairs.{Pair, negated_pair}
 use Rattle.apfloat_pairs.specs.PairCalls.{IsPairFromUnsigned, IsPairFromNegative, IsPairFromSigned, IsPairToUnsigned, IsPairToNegative, IsPairToNatural, IsPairToSigned}
 

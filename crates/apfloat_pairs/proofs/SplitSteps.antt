@@ -6,15 +6,15 @@ use Rattle.std.proofs.lemmas.Nat.{pow_pos}
 use Rattle.std.proofs.lemmas.Bool.{false≢true}
 use Rattle.std.proofs.lemmas.Int.{ints}
 use Rattle.apfloat_base.specs.declared.kinds.Round.TheVariants.{NearestTiesToEven}
-use Rattle.apfloat_base.specs.Format.{largest}
-use Rattle.apfloat_base.specs.Datum.{Datum, finite, infinite, nan}
-use Rattle.apfloat_base.specs.Rounding.{ok_bits}
-use Rattle.apfloat_base.specs.Classes.{is_finite, is_finite_non_zero}
-use Rattle.apfloat_base.specs.Exact.{magnitude, signed, sign_of, IsRounded}
-use Rattle.apfloat_base.specs.Grid.{IsOnGrid}
-use Rattle.apfloat_base.specs.Members.{IsMember, IsFiniteOf}
-use Rattle.apfloat_base.specs.Sums.{IsSum, IsDifference, zero_sum_sign}
-use Rattle.apfloat_base.specs.Conversions.{IsConversion}
+use Rattle.apfloat_base.specs.formats.Format.{largest}
+use Rattle.apfloat_base.specs.formats.Datum.{Datum, finite, infinite, nan}
+use Rattle.apfloat_base.specs.rounding.Rounding.{ok_bits}
+use Rattle.apfloat_base.specs.order.Classes.{is_finite, is_finite_non_zero}
+use Rattle.apfloat_base.specs.arithmetic.Exact.{magnitude, signed, sign_of, IsRounded}
+use Rattle.apfloat_base.specs.rounding.Grid.{IsOnGrid}
+use Rattle.apfloat_base.specs.formats.Members.{IsMember, IsFiniteOf}
+use Rattle.apfloat_base.specs.arithmetic.Sums.{IsSum, IsDifference, zero_sum_sign}
+use Rattle.apfloat_base.specs.arithmetic.Conversions.{IsConversion}
 use Rattle.apfloat_base.proofs.ExactConversions.{exactly_converted}
 use Rattle.apfloat_base.proofs.Laws.{delivered_once}
 use Rattle.apfloat_base.proofs.Signs.{magnitude_signed}

@@ -4,8 +4,8 @@
 use Rattle.std.specs.Prelude.{ℕ}
 use Rattle.std.proofs.Common.{lit<}
 use Rattle.apfloat_base.specs.declared.kinds.Round.TheVariants.{NearestTiesToEven}
-use Rattle.apfloat_base.specs.Datum.{Datum}
-use Rattle.apfloat_base.specs.Sums.{IsSum}
+use Rattle.apfloat_base.specs.formats.Datum.{Datum}
+use Rattle.apfloat_base.specs.arithmetic.Sums.{IsSum}
 use Rattle.apfloat_base.proofs.Exists.{sum_exists}
 use Rattle.apfloat_pairs.specs.PairFormats.{double}
 

@@ -1,6 +1,6 @@
 -- Operands, and what a chain of steps would answer them if it left one out: the laws on sums and products refuse each.
 use Rattle.std.specs.Prelude.{◌^◌, false}
-use Rattle.apfloat_base.specs.Datum.{finite}
+use Rattle.apfloat_base.specs.formats.Datum.{finite}
 use Rattle.apfloat_pairs.specs.Pairs.{Pair, alone}
 
 abbrev pub one : Pair

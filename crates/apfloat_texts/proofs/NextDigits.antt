@@ -3,7 +3,7 @@ use Rattle.std.proofs.Common.{◌≡◌, ℕ, ◌+◌, ◌-◌, ◌*◌, ◌^◌
 use Rattle.std.proofs.lemmas.Nat.{pow-add, pow_pos}
 use Rattle.apfloat_base.specs.declared.sig.loss.Loss.{Loss}
 use Rattle.apfloat_base.specs.declared.sig.loss.Loss.TheVariants.{ExactlyZero}
-use Rattle.apfloat_base.specs.Standing.{StandsFor}
+use Rattle.apfloat_base.specs.rounding.Standing.{StandsFor}
 use Rattle.apfloat_texts.specs.Scans.{IsKept}
 
 sixteenfold : (cut : ℕ) → 2 ^ (4 * (cut + 1)) ≡ 16 * 2 ^ (4 * cut)

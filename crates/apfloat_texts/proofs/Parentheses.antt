@@ -2,8 +2,8 @@
 use Rattle.std.proofs.Common.{◌≡◌, ℕ, ◌-◌, ◌<◌, ◌≤◌, Bool, false, ◌&&◌, eqb, List, [], ◌∷◌, ◌++◌, length, take, drop, get_or, refl, sym, ap, ◌∙◌, arith}
 use Rattle.std.proofs.Math.Bool.{and-true}
 use Rattle.std.proofs.lemmas.Bool.{eq-eqb, ne_eqb, and_right, cond-true, cond-false}
-use Rattle.apfloat_base.specs.Digits.{same}
-use Rattle.apfloat_base.specs.Specials.{inside, in_parentheses, plain_payload, payload_of}
+use Rattle.apfloat_base.specs.texts.Digits.{same}
+use Rattle.apfloat_base.specs.texts.Specials.{inside, in_parentheses, plain_payload, payload_of}
 use Rattle.apfloat_base.proofs.Choices.{eqb_self}
 
 -- with another last character it is the same only if it had that one

@@ -7,12 +7,12 @@ use Rattle.std.proofs.Math.Nat.{mul-le-mul_right, mul-lt-mul_of_pos_right, pow-l
 use Rattle.apfloat_base.specs.declared.kinds.Round.{Round}
 use Rattle.apfloat_base.specs.declared.sig.loss.Loss.{Loss}
 use Rattle.apfloat_base.specs.declared.sig.loss.Loss.TheVariants.{ExactlyZero}
-use Rattle.apfloat_base.specs.Format.{Format}
-use Rattle.apfloat_base.specs.Datum.{Datum, finite}
-use Rattle.apfloat_base.specs.Exact.{up, down}
-use Rattle.apfloat_base.specs.Standing.{StandsFor}
-use Rattle.apfloat_base.specs.Rounding.{IsDelivered, zero_sign}
-use Rattle.apfloat_base.specs.Readings.{IsScaledDelivery}
+use Rattle.apfloat_base.specs.formats.Format.{Format}
+use Rattle.apfloat_base.specs.formats.Datum.{Datum, finite}
+use Rattle.apfloat_base.specs.arithmetic.Exact.{up, down}
+use Rattle.apfloat_base.specs.rounding.Standing.{StandsFor}
+use Rattle.apfloat_base.specs.rounding.Rounding.{IsDelivered, zero_sign}
+use Rattle.apfloat_base.specs.texts.Readings.{IsScaledDelivery}
 use Rattle.apfloat_base.proofs.Existence.{two_pos}
 use Rattle.apfloat_base.proofs.Losses.{stands_from, stands_to}
 use Rattle.apfloat_base.proofs.KeptDigits.{stands_times}

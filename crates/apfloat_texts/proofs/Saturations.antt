@@ -1,7 +1,7 @@
 -- Counts that are not counted on from where they decide.
 use Rattle.std.proofs.Common.{◌≡◌, ℕ, ◌+◌, ◌*◌, ◌^◌, ◌<◌, true, inl, inr, arith, List, ◌∷◌, ℤ, pos, ◌+ℤ◌, ◌-ℤ◌}
 use Rattle.std.proofs.lemmas.Int.{ints}
-use Rattle.apfloat_base.specs.Digits.{is_decimal, digit_value}
+use Rattle.apfloat_base.specs.texts.Digits.{is_decimal, digit_value}
 use Rattle.apfloat_texts.specs.Saturation.{IsSaturated, IsNear, IsCounted}
 
 pub count_goes : (digits left : List ℕ) (c counted after : ℕ) → is_decimal c ≡ true

@@ -3,12 +3,12 @@ use Rattle.std.proofs.Common.{◌≡◌, ℕ, Bool, true, false, refl, sym, ap, 
 use Rattle.std.specs.Prelude.{Result, Ok, Err, MatchResult}
 use Rattle.apfloat_base.specs.declared.kinds.Round.{Round}
 use Rattle.apfloat_base.specs.declared.status.StatusAnd.{StatusAnd}
-use Rattle.apfloat_base.specs.Flags.{bits_of}
-use Rattle.apfloat_base.specs.Digits.{is_empty}
-use Rattle.apfloat_base.specs.Specials.{Mark, unmarked, plus, minus, hexadecimal, mark_of, behind_mark, is_minus, special_meaning, special_of}
-use Rattle.apfloat_base.specs.Texts.{Means, begins_literal, behind_prefix_fault, fault_of}
-use Rattle.apfloat_base.specs.Literals.{digits_number, places_behind_dot, exponent_text, exponent_number}
-use Rattle.apfloat_base.specs.Readings.{IsMeant}
+use Rattle.apfloat_base.specs.rounding.Flags.{bits_of}
+use Rattle.apfloat_base.specs.texts.Digits.{is_empty}
+use Rattle.apfloat_base.specs.texts.Specials.{Mark, unmarked, plus, minus, hexadecimal, mark_of, behind_mark, is_minus, special_meaning, special_of}
+use Rattle.apfloat_base.specs.texts.Texts.{Means, begins_literal, behind_prefix_fault, fault_of}
+use Rattle.apfloat_base.specs.texts.Literals.{digits_number, places_behind_dot, exponent_text, exponent_number}
+use Rattle.apfloat_base.specs.texts.Readings.{IsMeant}
 use Rattle.apfloat_base.proofs.EachText.{begun_of}
 use Rattle.apfloat_base.proofs.LiteralMeanings.{literal_meaning}
 use Rattle.apfloat_unpacked.specs.declared.shape.Shape.{Shape}

@@ -1,5 +1,5 @@
 -- The faults of the code as those of the model.
-use Rattle.apfloat_base.specs.Texts as model
+use Rattle.apfloat_base.specs.texts.Texts as model
 use Rattle.apfloat_texts.specs.declared.fault.Fault.{Fault}
 use Rattle.apfloat_texts.specs.declared.fault.Fault.TheVariants.{EmptyText, LoneMark, NoLiteral, LonePrefix, SecondDot, WrongInSignificand, NoDigits, WrongInExponent, NoExponentDigits, NoExponent}
 

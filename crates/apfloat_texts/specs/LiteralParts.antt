@@ -2,10 +2,10 @@
 use Rattle.std.specs.Prelude.{◌≡◌, ◌*◌, pos, ◌+ℤ◌, ◌-ℤ◌, ℕ, Bool, List, None}
 use Rattle.apfloat_base.specs.declared.kinds.Round.{Round}
 use Rattle.apfloat_base.specs.declared.status.StatusAnd.{StatusAnd}
-use Rattle.apfloat_base.specs.Flags.{bits_of}
-use Rattle.apfloat_base.specs.Texts.{behind_prefix_fault}
-use Rattle.apfloat_base.specs.Literals.{digits_number, places_behind_dot, exponent_text, exponent_number}
-use Rattle.apfloat_base.specs.Readings.{IsScaledDelivery}
+use Rattle.apfloat_base.specs.rounding.Flags.{bits_of}
+use Rattle.apfloat_base.specs.texts.Texts.{behind_prefix_fault}
+use Rattle.apfloat_base.specs.texts.Literals.{digits_number, places_behind_dot, exponent_text, exponent_number}
+use Rattle.apfloat_base.specs.texts.Readings.{IsScaledDelivery}
 use Rattle.apfloat_unpacked.specs.declared.shape.Shape.{Shape}
 use Rattle.apfloat_unpacked.specs.declared.unpacked.Unpacked.{Unpacked}
 use Rattle.apfloat_unpacked.specs.Shapes.{format_at}

@@ -1,5 +1,5 @@
 -- The marks of the code as those of the model.
-use Rattle.apfloat_base.specs.Specials as model
+use Rattle.apfloat_base.specs.texts.Specials as model
 use Rattle.apfloat_texts.specs.declared.mark.Mark.{Mark}
 use Rattle.apfloat_texts.specs.declared.mark.Mark.TheVariants.{Unmarked, Plus, Minus}
 

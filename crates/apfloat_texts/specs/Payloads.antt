@@ -1,7 +1,7 @@
 -- The bases of payloads and the specials of the code as those of the model.
 use Rattle.std.specs.Prelude.{◌≡◌, ℕ, ◌+◌, ◌*◌, ◌^◌, ◌<◌, Bool, false, true, ◌&&◌, ltb, if◌then◌else◌, List, take, drop, fold, Option, Some, None}
-use Rattle.apfloat_base.specs.Digits.{every, digit_value}
-use Rattle.apfloat_base.specs.Specials as model
+use Rattle.apfloat_base.specs.texts.Digits.{every, digit_value}
+use Rattle.apfloat_base.specs.texts.Specials as model
 use Rattle.apfloat_texts.specs.declared.payload.Radix.{Radix}
 use Rattle.apfloat_texts.specs.declared.payload.Radix.TheVariants.{Sixteen, Eight, Ten}
 use Rattle.apfloat_texts.specs.declared.special.Special.{Special}

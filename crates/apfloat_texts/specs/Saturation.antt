@@ -1,7 +1,7 @@
 -- Counts that are not counted on from where they decide, and the faults of what they are counted in.
 use Rattle.std.specs.Prelude.{◌≡◌, ◌⊎◌, ℕ, ◌+◌, ◌*◌, ◌^◌, ◌<◌, ◌≤◌, ℤ, pos, neg_ℤ, ◌≤ℤ◌, Bool, not, ◌&&◌, if◌then◌else◌, List, fold, Option, Some}
-use Rattle.apfloat_base.specs.Digits.{every, begins, is_empty, is_decimal, digit_value, number}
-use Rattle.apfloat_base.specs.Texts.{Fault, wrong_in_significand, no_digits, is_p, tail_fault}
+use Rattle.apfloat_base.specs.texts.Digits.{every, begins, is_empty, is_decimal, digit_value, number}
+use Rattle.apfloat_base.specs.texts.Texts.{Fault, wrong_in_significand, no_digits, is_p, tail_fault}
 
 -- a count from 0 up, or one of those that are too many
 abbrev pub IsSaturated : ℕ → ℕ → Type 0

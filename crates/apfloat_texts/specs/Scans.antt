@@ -2,10 +2,10 @@
 use Rattle.std.specs.Prelude.{◌≡◌, ◌⊎◌, ℕ, ◌+◌, ◌*◌, ◌^◌, ◌≤◌, Bool, false, not, ltb, ◌&&◌, if◌then◌else◌, List, length, filter, fold}
 use Rattle.apfloat_base.specs.declared.sig.loss.Loss.{Loss}
 use Rattle.apfloat_base.specs.declared.sig.loss.Loss.TheVariants.{ExactlyZero}
-use Rattle.apfloat_base.specs.Digits.{is_empty, is_hexadecimal, digit_value}
-use Rattle.apfloat_base.specs.Texts.{is_dot, significand_of, behind_significand}
-use Rattle.apfloat_base.specs.Literals.{digits_number, places_behind_dot}
-use Rattle.apfloat_base.specs.Standing.{StandsFor}
+use Rattle.apfloat_base.specs.texts.Digits.{is_empty, is_hexadecimal, digit_value}
+use Rattle.apfloat_base.specs.texts.Texts.{is_dot, significand_of, behind_significand}
+use Rattle.apfloat_base.specs.texts.Literals.{digits_number, places_behind_dot}
+use Rattle.apfloat_base.specs.rounding.Standing.{StandsFor}
 
 -- what is kept of a number when `cut` hexadecimal digits are cut off: all of it, or at least 125 bits and a loss
 pub record IsKept (number significand : ℕ) (loss : Loss) (cut : ℕ) : Type 0 where

@@ -2,8 +2,8 @@
 use Rattle.std.specs.Prelude.{List, ℕ}
 use Rattle.apfloat_base.specs.declared.kinds.Round.{Round}
 use Rattle.apfloat_base.specs.declared.status.StatusAnd.{StatusAnd}
-use Rattle.apfloat_base.specs.Flags.{bits_of}
-use Rattle.apfloat_base.specs.Readings.{IsReading}
+use Rattle.apfloat_base.specs.rounding.Flags.{bits_of}
+use Rattle.apfloat_base.specs.texts.Readings.{IsReading}
 use Rattle.apfloat_unpacked.specs.declared.shape.Shape.{Shape}
 use Rattle.apfloat_unpacked.specs.declared.unpacked.Unpacked.{Unpacked}
 use Rattle.apfloat_unpacked.specs.Shapes.{format_at}

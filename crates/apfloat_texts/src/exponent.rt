@@ -1,10 +1,10 @@
 //! The exponent of a hexadecimal text.
 
 ghost use Rattle.std.specs.Prelude.{◌≡◌, ℕ, ◌+◌, ◌*◌, ◌^◌, ◌<◌, ℤ, pos, neg_ℤ, ◌+ℤ◌, ◌-ℤ◌, ◌≤ℤ◌, drop, Some, None, MatchResult};
-ghost use Rattle.apfloat_base.specs.Digits.{number};
-ghost use Rattle.apfloat_base.specs.Specials.{behind_mark};
-ghost use Rattle.apfloat_base.specs.Texts.{exponent_fault};
-ghost use Rattle.apfloat_base.specs.Literals.{exponent_number};
+ghost use Rattle.apfloat_base.specs.texts.Digits.{number};
+ghost use Rattle.apfloat_base.specs.texts.Specials.{behind_mark};
+ghost use Rattle.apfloat_base.specs.texts.Texts.{exponent_fault};
+ghost use Rattle.apfloat_base.specs.texts.Literals.{exponent_number};
 ghost use Rattle.apfloat_texts.specs.Faults.{fault_at};
 ghost use Rattle.apfloat_texts.specs.Saturation.{IsSaturated, IsNear, fault_behind};
 

@@ -1,7 +1,7 @@
 //! What can be wrong with a text, and the words of its refusal.
 
 ghost use Rattle.std.specs.Prelude.{◌≡◌};
-ghost use Rattle.apfloat_base.specs.Texts.{words};
+ghost use Rattle.apfloat_base.specs.texts.Texts.{words};
 ghost use Rattle.apfloat_texts.specs.Faults.{fault_at};
 
 use apfloat_base::ParseError;
@@ -33,7 +33,7 @@ pub enum Fault {
 
 impl Fault {
     ghost use Rattle.std.specs.Prelude.{◌≡◌};
-    ghost use Rattle.apfloat_base.specs.Texts.{words};
+    ghost use Rattle.apfloat_base.specs.texts.Texts.{words};
     ghost use Rattle.apfloat_texts.specs.Faults.{fault_at};
 
     /// The refusal that says so.

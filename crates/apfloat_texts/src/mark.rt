@@ -1,7 +1,7 @@
 //! The mark in front of a text or of an exponent.
 
 ghost use Rattle.std.specs.Prelude.{◌≡◌};
-ghost use Rattle.apfloat_base.specs.Specials.{mark_of, behind_mark, is_minus};
+ghost use Rattle.apfloat_base.specs.texts.Specials.{mark_of, behind_mark, is_minus};
 ghost use Rattle.apfloat_texts.specs.Marks.{mark_at};
 
 /// A sign that is written, or none.
@@ -14,7 +14,7 @@ pub enum Mark {
 
 impl Mark {
     ghost use Rattle.std.specs.Prelude.{◌≡◌};
-    ghost use Rattle.apfloat_base.specs.Specials.{is_minus};
+    ghost use Rattle.apfloat_base.specs.texts.Specials.{is_minus};
     ghost use Rattle.apfloat_texts.specs.Marks.{mark_at};
 
     /// Whether it is a minus.

@@ -1,8 +1,8 @@
 //! The number of a significand and an exponent.
 
 ghost use Rattle.std.specs.Prelude.{◌≡◌, ◌⊎◌, ℕ, ◌*◌, ◌^◌, ◌≤◌, ℤ, pos, neg_ℤ, ◌-ℤ◌, ◌+ℤ◌, ◌≤ℤ◌};
-ghost use Rattle.apfloat_base.specs.Flags.{bits_of};
-ghost use Rattle.apfloat_base.specs.Readings.{IsScaledDelivery};
+ghost use Rattle.apfloat_base.specs.rounding.Flags.{bits_of};
+ghost use Rattle.apfloat_base.specs.texts.Readings.{IsScaledDelivery};
 ghost use Rattle.apfloat_unpacked.specs.Shapes.{IsShape, format_at};
 ghost use Rattle.apfloat_unpacked.specs.Stored.{IsStored, datum_at};
 ghost use Rattle.apfloat_texts.specs.Scans.{IsKept};

@@ -1,7 +1,7 @@
 //! Payloads of NaNs.
 
 ghost use Rattle.std.specs.Prelude.{◌≡◌, ◌<◌, ◌^◌};
-ghost use Rattle.apfloat_base.specs.Specials.{radix_of, behind_prefix, behind_plus, is_digit_of, base_of, payload_of_digits, plain_payload, payload_of};
+ghost use Rattle.apfloat_base.specs.texts.Specials.{radix_of, behind_prefix, behind_plus, is_digit_of, base_of, payload_of_digits, plain_payload, payload_of};
 ghost use Rattle.apfloat_texts.specs.Payloads.{radix_at, next};
 
 use crate::characters::{digit_value, is_decimal, is_hexadecimal, is_octal};
@@ -19,7 +19,7 @@ pub enum Radix {
 
 impl Radix {
     ghost use Rattle.std.specs.Prelude.{◌≡◌};
-    ghost use Rattle.apfloat_base.specs.Specials.{is_digit_of, base_of};
+    ghost use Rattle.apfloat_base.specs.texts.Specials.{is_digit_of, base_of};
     ghost use Rattle.apfloat_texts.specs.Payloads.{radix_at};
 
     /// The base as a number.

@@ -1,8 +1,8 @@
 //! The texts of infinities and NaNs.
 
 ghost use Rattle.std.specs.Prelude.{◌≡◌, Bool, true, false, drop, if◌then◌else◌};
-ghost use Rattle.apfloat_base.specs.Digits.{same, begins};
-ghost use Rattle.apfloat_base.specs.Specials.{is_infinity, is_minus, is_s, named_nan, special_meaning};
+ghost use Rattle.apfloat_base.specs.texts.Digits.{same, begins};
+ghost use Rattle.apfloat_base.specs.texts.Specials.{is_infinity, is_minus, is_s, named_nan, special_meaning};
 ghost use Rattle.apfloat_texts.specs.Marks.{mark_at};
 ghost use Rattle.apfloat_texts.specs.Payloads.{named_payload, meaning_at};
 

@@ -5,9 +5,9 @@ use Rattle.std.proofs.lemmas.Bool.{ne_eqb}
 use Rattle.std.proofs.Math.Nat.{mul-le-mul_left}
 use Rattle.apfloat_base.specs.declared.kinds.Category.{Category}
 use Rattle.apfloat_base.specs.declared.kinds.Category.TheVariants.{Infinity, NaN, Normal, Zero}
-use Rattle.apfloat_base.specs.Grid.{IsOnGrid}
-use Rattle.apfloat_base.specs.Classes.{category_of}
-use Rattle.apfloat_base.specs.Members.{IsMember}
+use Rattle.apfloat_base.specs.rounding.Grid.{IsOnGrid}
+use Rattle.apfloat_base.specs.order.Classes.{category_of}
+use Rattle.apfloat_base.specs.formats.Members.{IsMember}
 use Rattle.apfloat_base.proofs.Laws.{zero_on_grid}
 use Rattle.apfloat_base.proofs.Signs.{one_side}
 use Rattle.apfloat_unpacked.specs.declared.shape.Shape.{Shape}

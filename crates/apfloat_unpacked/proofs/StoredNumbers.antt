@@ -5,8 +5,8 @@ use Rattle.std.proofs.Math.Nat.{mul-le-mul_right, mul-le-mul_left, pow-le-pow_ri
 use Rattle.std.proofs.lemmas.Nat.{pow-add, pow_pos, shl-shr}
 use Rattle.std.proofs.lemmas.Int.{ints}
 use Rattle.std.proofs.lemmas.Bool.{cases_lt}
-use Rattle.apfloat_base.specs.Format.{greatest_significand}
-use Rattle.apfloat_base.specs.Exact.{up, down}
+use Rattle.apfloat_base.specs.formats.Format.{greatest_significand}
+use Rattle.apfloat_base.specs.arithmetic.Exact.{up, down}
 use Rattle.apfloat_base.proofs.Existence.{two_pos}
 use Rattle.apfloat_base.proofs.Greatest.{greatest_fits}
 use Rattle.apfloat_base.proofs.Losses.{twice_half}

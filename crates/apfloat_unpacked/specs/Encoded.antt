@@ -1,5 +1,5 @@
 -- The layout and the fields that the code's structs stand for.
-use Rattle.apfloat_base.specs.Layout.{Layout, Fields}
+use Rattle.apfloat_base.specs.bits.Layout.{Layout, Fields}
 use Rattle.apfloat_unpacked.specs.declared.bits.Widths.{Widths}
 use Rattle.apfloat_unpacked.specs.declared.bits.Fields.{Fields as Parts}
 

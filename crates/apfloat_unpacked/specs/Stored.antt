@@ -3,15 +3,15 @@ use Rattle.std.specs.Prelude.{◌≡◌, ℕ, ◌-◌, ◌*◌, ◌/◌, ◌^◌
 use Rattle.apfloat_base.specs.declared.kinds.Category.{Category}
 use Rattle.apfloat_base.specs.declared.kinds.Category.TheVariants.{Infinity, NaN, Normal, Zero}
 use Rattle.apfloat_base.specs.declared.kinds.NonfiniteBehavior.TheVariants.{IEEE754}
-use Rattle.apfloat_base.specs.Format.{largest}
-use Rattle.apfloat_base.specs.Datum.{Datum, finite, infinite, nan}
-use Rattle.apfloat_base.specs.Rounding.{zero_sign}
-use Rattle.apfloat_base.specs.Members.{IsNanOf}
-use Rattle.apfloat_base.specs.Exact.{up, down}
+use Rattle.apfloat_base.specs.formats.Format.{largest}
+use Rattle.apfloat_base.specs.formats.Datum.{Datum, finite, infinite, nan}
+use Rattle.apfloat_base.specs.rounding.Rounding.{zero_sign}
+use Rattle.apfloat_base.specs.formats.Members.{IsNanOf}
+use Rattle.apfloat_base.specs.arithmetic.Exact.{up, down}
 use Rattle.apfloat_unpacked.specs.declared.shape.Shape.{Shape}
 use Rattle.apfloat_unpacked.specs.declared.unpacked.Unpacked.{Unpacked}
 use Rattle.apfloat_unpacked.specs.Shapes.{format_at}
-use Rattle.apfloat_base.specs.Log.{log2}
+use Rattle.apfloat_base.specs.formats.Log.{log2}
 
 -- ---- a finite number that is not zero: significand * 2 ^ (exponent - (precision - 1))
 

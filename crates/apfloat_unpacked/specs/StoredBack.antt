@@ -7,11 +7,11 @@ use Rattle.std.proofs.lemmas.Bool.{ne_eqb}
 use Rattle.std.proofs.Math.Nat.{mul-le-mul_right, mul-lt-mul_of_pos_right, le_of_mul-le-mul_right, lt_of_mul-lt-mul_right, eq_of_mul-eq-mul_right}
 use Rattle.apfloat_base.specs.declared.kinds.Category.{Category}
 use Rattle.apfloat_base.specs.declared.kinds.Category.TheVariants.{Infinity, NaN, Normal, Zero}
-use Rattle.apfloat_base.specs.Exact.{up, down}
+use Rattle.apfloat_base.specs.arithmetic.Exact.{up, down}
 use Rattle.apfloat_base.proofs.Losses.{twice_half}
 use Rattle.apfloat_unpacked.specs.declared.shape.Shape.{Shape}
 use Rattle.apfloat_unpacked.specs.declared.unpacked.Unpacked.{Unpacked}
-use Rattle.apfloat_base.specs.Log.{log2}
+use Rattle.apfloat_base.specs.formats.Log.{log2}
 use Rattle.apfloat_base.proofs.Logarithms.{log2_is}
 use Rattle.apfloat_unpacked.specs.Stored.{quanta_at, IsNormal, IsStored, IsStoredBy, datum_at, datum_by, unpacked_of, unpacked_number, exponent_at}
 

@@ -1,11 +1,11 @@
 //! Values as bits, both ways: from the top the sign, the biased exponent and the trailing significand.
 
 ghost use Rattle.std.specs.Prelude.{◌≡◌, ℕ, ◌+◌, ◌-◌, ◌*◌, ◌^◌, ◌<◌, ◌≤◌, true, false, if◌then◌else◌};
-ghost use Rattle.apfloat_base.specs.Format.{largest, smallest_normalized};
-ghost use Rattle.apfloat_base.specs.Rounding.{zero_sign};
-ghost use Rattle.apfloat_base.specs.Layout.{all_ones, trailing_bits, fields_of, implied_number, implied_datum, written_number, written_datum, datum_of, IsEncodedBy};
-ghost use Rattle.apfloat_base.specs.Datum.{finite, nan};
-ghost use Rattle.apfloat_base.specs.Interchange.{IsInterchange, AreWithin, AreFieldsOf, bits_of_fields};
+ghost use Rattle.apfloat_base.specs.formats.Format.{largest, smallest_normalized};
+ghost use Rattle.apfloat_base.specs.rounding.Rounding.{zero_sign};
+ghost use Rattle.apfloat_base.specs.bits.Layout.{all_ones, trailing_bits, fields_of, implied_number, implied_datum, written_number, written_datum, datum_of, IsEncodedBy};
+ghost use Rattle.apfloat_base.specs.formats.Datum.{finite, nan};
+ghost use Rattle.apfloat_base.specs.bits.Interchange.{IsInterchange, AreWithin, AreFieldsOf, bits_of_fields};
 ghost use Rattle.apfloat_unpacked.specs.Shapes.{IsShape, format_at};
 ghost use Rattle.apfloat_unpacked.specs.Stored.{IsStored, IsNormal, IsNan, quanta_at, datum_at};
 ghost use Rattle.apfloat_unpacked.specs.Encoded.{layout_at, fields_at};

@@ -2,11 +2,11 @@
 
 ghost use Rattle.std.specs.Prelude.{◌≡◌, ℕ, ◌<◌, bit_and};
 ghost use Rattle.apfloat_base.specs.declared.kinds.Category.TheVariants.{NaN};
-ghost use Rattle.apfloat_base.specs.Flags.{bits_of};
-ghost use Rattle.apfloat_base.specs.Format.{nan_base, payload_mask, quiet_bits};
-ghost use Rattle.apfloat_base.specs.Datum.{nan};
-ghost use Rattle.apfloat_base.specs.Members.{IsNanSignificand};
-ghost use Rattle.apfloat_base.specs.Nan.{quiet_bit, is_signaling, is_signaling_nan, quieted, quiet_significand, signaling_significand, cleared, with_payload, nan_sign, qnan, snan, invalid_if, IsOfNan, IsOfNans, IsInvalid};
+ghost use Rattle.apfloat_base.specs.rounding.Flags.{bits_of};
+ghost use Rattle.apfloat_base.specs.formats.Format.{nan_base, payload_mask, quiet_bits};
+ghost use Rattle.apfloat_base.specs.formats.Datum.{nan};
+ghost use Rattle.apfloat_base.specs.formats.Members.{IsNanSignificand};
+ghost use Rattle.apfloat_base.specs.formats.Nan.{quiet_bit, is_signaling, is_signaling_nan, quieted, quiet_significand, signaling_significand, cleared, with_payload, nan_sign, qnan, snan, invalid_if, IsOfNan, IsOfNans, IsInvalid};
 ghost use Rattle.apfloat_unpacked.specs.Shapes.{IsShape, format_at};
 ghost use Rattle.apfloat_unpacked.specs.Stored.{IsStored, datum_at};
 

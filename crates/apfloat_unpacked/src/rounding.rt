@@ -4,12 +4,12 @@
 //! decides together with the incoming loss, and at most one is added to what is kept.
 
 ghost use Rattle.std.specs.Prelude.{◌≡◌, ℕ, ◌+◌, ◌-◌, ◌*◌, ◌/◌, ◌%◌, ◌^◌, ◌<◌, ◌≤◌, ◌⊎◌, ltb, pos, neg_ℤ, ◌≤ℤ◌, ◌+ℤ◌, if◌then◌else◌, false};
-ghost use Rattle.apfloat_base.specs.Flags.{bits_of};
-ghost use Rattle.apfloat_base.specs.Format.{Format, smallest_normalized, largest, nan_base};
-ghost use Rattle.apfloat_base.specs.Datum.{finite};
-ghost use Rattle.apfloat_base.specs.Standing.{StandsFor, up, down};
-ghost use Rattle.apfloat_base.specs.Enclosure.{IsEnclosed, rounds_up};
-ghost use Rattle.apfloat_base.specs.Rounding.{takes_above, ok_bits, overflow_bit, underflow_bit, inexact_bit, IsPick, IsDelivered, leads_out, past_largest};
+ghost use Rattle.apfloat_base.specs.rounding.Flags.{bits_of};
+ghost use Rattle.apfloat_base.specs.formats.Format.{Format, smallest_normalized, largest, nan_base};
+ghost use Rattle.apfloat_base.specs.formats.Datum.{finite};
+ghost use Rattle.apfloat_base.specs.rounding.Standing.{StandsFor, up, down};
+ghost use Rattle.apfloat_base.specs.rounding.Enclosure.{IsEnclosed, rounds_up};
+ghost use Rattle.apfloat_base.specs.rounding.Rounding.{takes_above, ok_bits, overflow_bit, underflow_bit, inexact_bit, IsPick, IsDelivered, leads_out, past_largest};
 ghost use Rattle.apfloat_unpacked.specs.Shapes.{IsShape, format_at};
 ghost use Rattle.apfloat_unpacked.specs.Stored.{IsStored, datum_at};
 

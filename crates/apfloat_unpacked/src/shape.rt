@@ -1,7 +1,7 @@
 //! What rounding reads of a format.
 
 ghost use Rattle.std.specs.Prelude.{◌≡◌, ◌-◌, ◌^◌, ◌<◌, ◌≤◌, pos, neg_ℤ, ◌-ℤ◌, ◌≤ℤ◌};
-ghost use Rattle.apfloat_base.specs.Format.{greatest_significand};
+ghost use Rattle.apfloat_base.specs.formats.Format.{greatest_significand};
 ghost use Rattle.apfloat_unpacked.specs.Shapes.{IsShape};
 
 use apfloat_base::sig::power_of_two;
@@ -26,7 +26,7 @@ pub struct Shape {
 
 impl Shape {
     ghost use Rattle.std.specs.Prelude.{◌≡◌, ◌-◌, ◌^◌, ◌<◌, ◌≤◌};
-    ghost use Rattle.apfloat_base.specs.Format.{greatest_significand, smallest_normalized};
+    ghost use Rattle.apfloat_base.specs.formats.Format.{greatest_significand, smallest_normalized};
     ghost use Rattle.apfloat_unpacked.specs.Shapes.{IsShape, format_at};
 
     /// The quantum is 2 to the power of minus this.

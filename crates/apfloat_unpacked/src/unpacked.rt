@@ -1,13 +1,13 @@
 //! Unpacked values, and the one way to make each kind of them.
 
 ghost use Rattle.std.specs.Prelude.{◌≡◌, ◌+◌, ◌*◌, ◌^◌, ◌<◌, ◌≤◌, pos, neg_ℤ, ◌+ℤ◌, ◌-ℤ◌, ◌≤ℤ◌};
-ghost use Rattle.apfloat_base.specs.Exact.{up, down};
-ghost use Rattle.apfloat_base.specs.Format.{largest};
-ghost use Rattle.apfloat_base.specs.Datum.{finite, infinite, nan};
-ghost use Rattle.apfloat_base.specs.Rounding.{zero_sign, signed_quanta};
-ghost use Rattle.apfloat_base.specs.Constants.{infinity_of, smallest_datum, smallest_normalized_datum};
-ghost use Rattle.apfloat_base.specs.Members.{IsNanSignificand};
-ghost use Rattle.apfloat_base.specs.Nan.{nan_sign};
+ghost use Rattle.apfloat_base.specs.arithmetic.Exact.{up, down};
+ghost use Rattle.apfloat_base.specs.formats.Format.{largest};
+ghost use Rattle.apfloat_base.specs.formats.Datum.{finite, infinite, nan};
+ghost use Rattle.apfloat_base.specs.rounding.Rounding.{zero_sign, signed_quanta};
+ghost use Rattle.apfloat_base.specs.formats.Constants.{infinity_of, smallest_datum, smallest_normalized_datum};
+ghost use Rattle.apfloat_base.specs.formats.Members.{IsNanSignificand};
+ghost use Rattle.apfloat_base.specs.formats.Nan.{nan_sign};
 ghost use Rattle.apfloat_unpacked.specs.Shapes.{IsShape, format_at};
 ghost use Rattle.apfloat_unpacked.specs.Stored.{IsStored, datum_at};
 

@@ -4,8 +4,8 @@ use Rattle.std.proofs.Math.Nat.{mul-le-mul_right, div-add-mod', pow-suc}
 use Rattle.std.proofs.lemmas.Nat.{pow_pos}
 use Rattle.std.proofs.lemmas.Bool.{cases_lt}
 use Rattle.std.specs.Int.{div_ceil}
-use Rattle.apfloat_base.specs.Grid.{IsBelow, IsAbove}
-use Rattle.apfloat_base.specs.Enclosure.{IsEnclosed}
+use Rattle.apfloat_base.specs.rounding.Grid.{IsBelow, IsAbove}
+use Rattle.apfloat_base.specs.rounding.Enclosure.{IsEnclosed}
 use Rattle.apfloat_base.proofs.Losses.{twice_half}
 use Rattle.apfloat_base.proofs.Neighbours.{below_is, above_is_same, above_is_next}
 use Rattle.apfloat_base.proofs.Existence.{enclosed_by_quotient}

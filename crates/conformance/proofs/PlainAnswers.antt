@@ -4,9 +4,9 @@ use Rattle.std.proofs.lemmas.Bool.{cases_eq, le-ltb}
 use Rattle.std.proofs.Math.Nat.{mul-le-mul_right}
 use Rattle.apfloat_base.specs.declared.kinds.Round.{Round}
 use Rattle.apfloat_base.specs.declared.kinds.NonfiniteBehavior.{NonfiniteBehavior}
-use Rattle.apfloat_base.specs.Format.{Format, largest}
-use Rattle.apfloat_base.specs.Datum.{Datum}
-use Rattle.apfloat_base.specs.Rounding.{IsPick, IsDelivered, signed_quanta, is_tiny}
+use Rattle.apfloat_base.specs.formats.Format.{Format, largest}
+use Rattle.apfloat_base.specs.formats.Datum.{Datum}
+use Rattle.apfloat_base.specs.rounding.Rounding.{IsPick, IsDelivered, signed_quanta, is_tiny}
 use Rattle.apfloat_base.proofs.Laws.{pick_within}
 use Rattle.apfloat_base.proofs.Deliveries.{delivered_exactly, delivered_inexactly}
 use Rattle.conformance.specs.Plain.{HasBounds, tiny_of}

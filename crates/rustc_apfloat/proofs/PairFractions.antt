@@ -7,14 +7,14 @@ use Rattle.std.proofs.lemmas.Bool.{MatchBool-at_false, cases_lt, ne_eqb}
 use Rattle.std.proofs.lemmas.Int.{to_z-of_z, ints}
 use Rattle.apfloat_base.specs.declared.kinds.Category.TheVariants.{Normal}
 use Rattle.apfloat_base.specs.declared.kinds.Round.{Round}
-use Rattle.apfloat_base.specs.Format.{Format, largest}
-use Rattle.apfloat_base.specs.Datum.{Datum, finite, infinite, nan}
-use Rattle.apfloat_base.specs.Classes.{category_of, is_finite_non_zero, is_number_category}
-use Rattle.apfloat_base.specs.PredicatesAgree.{number_agrees}
-use Rattle.apfloat_base.specs.Exact.{up, down}
-use Rattle.apfloat_base.specs.Exponents.{IsFraction, IsFrexp}
-use Rattle.apfloat_base.specs.Members.{IsMember}
-use Rattle.apfloat_base.specs.Scaling.{IsScaling}
+use Rattle.apfloat_base.specs.formats.Format.{Format, largest}
+use Rattle.apfloat_base.specs.formats.Datum.{Datum, finite, infinite, nan}
+use Rattle.apfloat_base.specs.order.Classes.{category_of, is_finite_non_zero, is_number_category}
+use Rattle.apfloat_base.proofs.PredicatesAgree.{number_agrees}
+use Rattle.apfloat_base.specs.arithmetic.Exact.{up, down}
+use Rattle.apfloat_base.specs.arithmetic.Exponents.{IsFraction, IsFrexp}
+use Rattle.apfloat_base.specs.formats.Members.{IsMember}
+use Rattle.apfloat_base.specs.arithmetic.Scaling.{IsScaling}
 use Rattle.apfloat_base.proofs.Existence.{two_pos}
 use Rattle.apfloat_base.proofs.Signs.{one_side}
 use Rattle.apfloat_pairs.specs.PairFormats.{double}

@@ -4,18 +4,18 @@ use mathlib.Core.Bool.{beq}
 use Rattle.std.specs.Bool.{MatchBool}
 use Rattle.apfloat_base.specs.declared.kinds.Category.{Category}
 use Rattle.apfloat_base.specs.declared.kinds.Round.{Round}
-use Rattle.apfloat_base.specs.Datum.{Datum}
-use Rattle.apfloat_base.specs.Classes.{category_of, is_finite, is_finite_non_zero, is_negative, is_number_category, is_denormal}
-use Rattle.apfloat_base.specs.Exact.{same_sign}
-use Rattle.apfloat_base.specs.Nan.{invalid_bit}
-use Rattle.apfloat_base.specs.Rounding.{ok_bits}
-use Rattle.apfloat_base.specs.Predicates.{is_finite_category}
-use Rattle.apfloat_base.specs.PredicatesAgree.{finite_agrees, number_agrees}
+use Rattle.apfloat_base.specs.formats.Datum.{Datum}
+use Rattle.apfloat_base.specs.order.Classes.{category_of, is_finite, is_finite_non_zero, is_negative, is_number_category, is_denormal}
+use Rattle.apfloat_base.specs.arithmetic.Exact.{same_sign}
+use Rattle.apfloat_base.specs.formats.Nan.{invalid_bit}
+use Rattle.apfloat_base.specs.rounding.Rounding.{ok_bits}
+use Rattle.apfloat_base.specs.order.Predicates.{is_finite_category}
+use Rattle.apfloat_base.proofs.PredicatesAgree.{finite_agrees, number_agrees}
 use Rattle.apfloat_base.specs.declared.kinds.Round.TheVariants.{NearestTiesToEven}
-use Rattle.apfloat_base.specs.Order.{is_equal}
-use Rattle.apfloat_base.specs.Members.{IsMember}
-use Rattle.apfloat_base.specs.Sums.{IsSum, IsDifference}
-use Rattle.apfloat_base.specs.Products.{IsProduct}
+use Rattle.apfloat_base.specs.order.Order.{is_equal}
+use Rattle.apfloat_base.specs.formats.Members.{IsMember}
+use Rattle.apfloat_base.specs.arithmetic.Sums.{IsSum, IsDifference}
+use Rattle.apfloat_base.specs.arithmetic.Products.{IsProduct}
 use Rattle.apfloat_pairs.specs.PairFormats.{double, wide}
 use Rattle.apfloat_pairs.specs.Pairs.{Pair, IsPairAnswer, IsJoined, IsSplit, IsSplitAnswer, IsSumOfParts, IsWidened, IsWideAnswer, IsWideAnswerOfTwo, alone, negated_pair, pair_category, pair_nan_signed_as}
 use Rattle.apfloat_pairs.specs.PairSums.{◌∪◌, greater, lesser, IsClosed, IsSumAnew, IsSumAnewLow, IsSumOfInfinities, IsSumOfCategories, IsPairSum, IsPairDifference}

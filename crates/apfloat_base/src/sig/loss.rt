@@ -1,7 +1,7 @@
 //! What is lost where digits are cut off.
 
 ghost use Rattle.std.specs.Prelude.{◌≡◌, ℕ, ◌+◌, ◌*◌, ◌<◌, true, false};
-ghost use Rattle.apfloat_base.specs.Standing.{StandsFor};
+ghost use Rattle.apfloat_base.specs.rounding.Standing.{StandsFor};
 
 /// What part of the lowest kept bit was cut off.
 #[derive(Clone, Copy, PartialEq, Eq, Debug)]

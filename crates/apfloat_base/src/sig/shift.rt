@@ -1,7 +1,7 @@
 //! Shifts of a significand.
 
 ghost use Rattle.std.specs.Prelude.{◌≡◌, ℕ, ◌-◌, ◌*◌, ◌/◌, ◌%◌, ◌^◌, ◌<◌, ◌≤◌, pos, neg_ℤ, ◌-ℤ◌, ◌≤ℤ◌};
-ghost use Rattle.apfloat_base.specs.Standing.{StandsFor};
+ghost use Rattle.apfloat_base.specs.rounding.Standing.{StandsFor};
 
 use crate::kinds::ExpInt;
 use crate::sig::loss::{Loss, loss_of_rest};

@@ -4,9 +4,9 @@ ghost use Rattle.std.specs.Prelude.{◌≡◌, ◌^◌, ◌<◌, pos, negsuc, tr
 ghost use Rattle.apfloat_base.specs.declared.kinds.Round.TheVariants.{NearestTiesToEven};
 ghost use Rattle.apfloat_base.specs.declared.parse_error.ParseError.{ParseError};
 ghost use Rattle.apfloat_base.specs.declared.status.StatusAnd.{StatusAnd};
-ghost use Rattle.apfloat_base.specs.Flags.{Gives, bits_of};
-ghost use Rattle.apfloat_base.specs.Members.{IsMember};
-ghost use Rattle.apfloat_base.specs.Parsing.{without_status};
+ghost use Rattle.apfloat_base.specs.rounding.Flags.{Gives, bits_of};
+ghost use Rattle.apfloat_base.specs.formats.Members.{IsMember};
+ghost use Rattle.apfloat_base.specs.texts.Parsing.{without_status};
 ghost use Rattle.apfloat_pairs.specs.PairFormats.{double};
 ghost use Rattle.apfloat_pairs.specs.Pairs.{Pair, negated_pair, pair_category, pair_of, IsPairEncodedBy};
 ghost use Rattle.apfloat_pairs.specs.PairSums.{IsPairSum, IsPairDifference};

@@ -2,9 +2,9 @@
 //! what that leaves.
 
 ghost use Rattle.std.specs.Prelude.{◌≡◌, ◌≢◌, true};
-ghost use Rattle.apfloat_base.specs.Classes.{is_finite_non_zero};
-ghost use Rattle.apfloat_base.specs.Flags.{bits_of};
-ghost use Rattle.apfloat_base.specs.Rounding.{ok_bits};
+ghost use Rattle.apfloat_base.specs.order.Classes.{is_finite_non_zero};
+ghost use Rattle.apfloat_base.specs.rounding.Flags.{bits_of};
+ghost use Rattle.apfloat_base.specs.rounding.Rounding.{ok_bits};
 ghost use Rattle.apfloat_pairs.specs.PairAccuracy.{IsExactSplit};
 ghost use Rattle.apfloat_pairs.specs.Pairs.{IsJoined, IsNearestDouble, IsSplit, IsWidened, left_over};
 

@@ -4,7 +4,7 @@
 ghost use Rattle.std.specs.Prelude.{◌≡◌};
 ghost use Rattle.apfloat_base.specs.declared.kinds.Round.TheVariants.{NearestTiesToEven};
 ghost use Rattle.apfloat_base.specs.declared.status.StatusAnd.{StatusAnd};
-ghost use Rattle.apfloat_base.specs.Flags.{Gives, bits_of};
+ghost use Rattle.apfloat_base.specs.rounding.Flags.{Gives, bits_of};
 ghost use Rattle.apfloat_pairs.specs.Pairs.{negated_pair};
 ghost use Rattle.apfloat_pairs.specs.PairSums.{IsPairSum, IsPairDifference};
 ghost use Rattle.apfloat_pairs.specs.PairProducts.{IsPairProduct};

@@ -51,7 +51,7 @@ pub(super) fn magnitude_order(x: DoubleFloat, y: DoubleFloat) -> Ordering
 
 impl PartialEq for DoubleFloat {
     ghost use Rattle.apfloat_pairs.specs.PairParts.{is_equal_pair};
-    ghost use Rattle.apfloat_pairs.specs.PairOrderLaws.{equal_pair_laws};
+    ghost use Rattle.apfloat_pairs.proofs.PairOrderLaws.{equal_pair_laws};
 
     ghost eq = { is_equal_pair };
 
@@ -66,7 +66,7 @@ impl PartialEq for DoubleFloat {
 
 impl PartialOrd for DoubleFloat {
     ghost use Rattle.apfloat_pairs.specs.PairParts.{compared_pairs};
-    ghost use Rattle.apfloat_pairs.specs.PairOrderLaws.{compared_pair_laws};
+    ghost use Rattle.apfloat_pairs.proofs.PairOrderLaws.{compared_pair_laws};
 
     ghost partial_cmp = { compared_pairs };
 

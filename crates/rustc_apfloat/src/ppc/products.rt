@@ -2,7 +2,7 @@
 
 ghost use Rattle.std.specs.Prelude.{◌≡◌};
 ghost use Rattle.apfloat_base.specs.declared.kinds.Round.TheVariants.{NearestTiesToEven};
-ghost use Rattle.apfloat_base.specs.Flags.{Gives, bits_of};
+ghost use Rattle.apfloat_base.specs.rounding.Flags.{Gives, bits_of};
 ghost use Rattle.apfloat_pairs.specs.PairProducts.{IsLostOfProduct, IsPairProduct, IsProductOfCategories, IsProductOfNumbers};
 ghost use Rattle.apfloat_pairs.specs.PairAccuracy.{IsAccurateProduct, IsErrorFreeProduct};
 

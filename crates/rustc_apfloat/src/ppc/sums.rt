@@ -3,8 +3,8 @@
 ghost use Rattle.std.specs.Prelude.{◌≡◌, ℕ};
 ghost use Rattle.apfloat_base.specs.declared.kinds.Category.TheVariants.{Infinity, Normal};
 ghost use Rattle.apfloat_base.specs.declared.kinds.Round.TheVariants.{NearestTiesToEven};
-ghost use Rattle.apfloat_base.specs.Classes.{category_of};
-ghost use Rattle.apfloat_base.specs.Flags.{Gives, bits_of};
+ghost use Rattle.apfloat_base.specs.order.Classes.{category_of};
+ghost use Rattle.apfloat_base.specs.rounding.Flags.{Gives, bits_of};
 ghost use Rattle.apfloat_pairs.specs.Pairs.{pair_category};
 ghost use Rattle.apfloat_pairs.specs.PairSums.{greater, lesser, IsClosed, IsFiniteSum, IsLost, IsPairSum, IsPairDifference, IsSumAnew, IsSumOfCategories, IsSumOfInfinities, IsSumOfNumbers};
 ghost use Rattle.apfloat_pairs.specs.PairAccuracy.{HasPlainStatus, IsAccurateDifference, IsAccurateSum, IsErrorFreeDifference, IsErrorFreeSum};

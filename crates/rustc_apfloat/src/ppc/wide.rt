@@ -2,7 +2,7 @@
 //! the wide call.
 
 ghost use Rattle.std.specs.Prelude.{◌≡◌, ◌≤◌, ◌<◌, ◌^◌, Result};
-ghost use Rattle.apfloat_base.specs.Flags.{Gives, bits_of};
+ghost use Rattle.apfloat_base.specs.rounding.Flags.{Gives, bits_of};
 ghost use Rattle.apfloat_pairs.specs.Pairs.{IsSplit};
 ghost use Rattle.apfloat_pairs.specs.PairAccuracy.{IsExactNearestRemainder, IsExactQuotient, IsExactTruncatedRemainder};
 ghost use Rattle.apfloat_pairs.specs.PairCalls.{IsPairQuotient, IsPairTruncatedRemainder, IsPairNearestRemainder, IsPairRoundToIntegral, IsPairNextUp, IsPairExactInverse, IsPairFromUnsigned, IsPairToUnsigned, IsPairRead};

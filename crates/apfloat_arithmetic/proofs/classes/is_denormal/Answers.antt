@@ -1,6 +1,6 @@
 use Rattle.std.proofs.Common.{rules, sym, subst, ◌≡◌, ◌∙◌}
 use Rattle.apfloat_base.specs.declared.kinds.Category.{Category}
-use Rattle.apfloat_base.specs.Classes.{is_denormal}
+use Rattle.apfloat_base.specs.order.Classes.{is_denormal}
 use Rattle.apfloat_unpacked.specs.Shapes.{format_at}
 use Rattle.apfloat_unpacked.specs.Stored.{IsStoredBy, IsNormal, quanta_at, datum_by}
 use Rattle.apfloat_unpacked.specs.StoredBack.{quanta_some}

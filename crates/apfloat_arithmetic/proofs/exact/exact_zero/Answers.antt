@@ -1,5 +1,5 @@
 use Rattle.std.proofs.Common.{◌≡◌, ◌∙◌, ap, refl}
-use Rattle.apfloat_base.specs.Rounding.{signed_quanta}
+use Rattle.apfloat_base.specs.rounding.Rounding.{signed_quanta}
 use Rattle.apfloat_base.proofs.Laws.{zero_delivered}
 use Rattle.apfloat_unpacked.specs.Shapes.{format_at}
 use Rattle.apfloat_unpacked.specs.Stored.{datum_at}

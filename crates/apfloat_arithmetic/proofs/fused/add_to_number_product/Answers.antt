@@ -1,7 +1,7 @@
 use Rattle.std.proofs.Common.{refl}
 use Rattle.apfloat_base.specs.declared.kinds.Category.TheVariants.{Zero}
-use Rattle.apfloat_base.specs.Flags.{bits_of}
-use Rattle.apfloat_base.specs.Datum.{finite}
+use Rattle.apfloat_base.specs.rounding.Flags.{bits_of}
+use Rattle.apfloat_base.specs.formats.Datum.{finite}
 use Rattle.apfloat_unpacked.specs.Shapes.{format_at}
 use Rattle.apfloat_unpacked.specs.Stored.{datum_at, quanta_at}
 use Rattle.apfloat_unpacked.specs.StoredBack.{quanta_some}

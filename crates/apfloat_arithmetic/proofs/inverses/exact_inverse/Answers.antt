@@ -1,8 +1,8 @@
 use Rattle.std.proofs.Common.{sym, subst}
 use Rattle.std.specs.Prelude.{neg_ℤ, Some, None}
 use Rattle.apfloat_base.specs.declared.kinds.Category.{Category}
-use Rattle.apfloat_base.specs.Datum.{finite}
-use Rattle.apfloat_base.specs.Exponents.{IsExactInverse}
+use Rattle.apfloat_base.specs.formats.Datum.{finite}
+use Rattle.apfloat_base.specs.arithmetic.Exponents.{IsExactInverse}
 use Rattle.apfloat_unpacked.specs.declared.unpacked.Unpacked.{Unpacked}
 use Rattle.apfloat_unpacked.specs.Shapes.{format_at}
 use Rattle.apfloat_unpacked.specs.Stored.{IsStored, IsStoredBy, IsNormal, quanta_at, datum_by}

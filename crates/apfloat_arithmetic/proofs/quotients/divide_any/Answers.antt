@@ -1,11 +1,11 @@
 use Rattle.std.proofs.Common.{subst, Bool}
-use Rattle.apfloat_base.specs.Rounding.{ok_bits, signed_quanta}
-use Rattle.apfloat_base.specs.Answer.{IsAnswer}
+use Rattle.apfloat_base.specs.rounding.Rounding.{ok_bits, signed_quanta}
+use Rattle.apfloat_base.specs.rounding.Answer.{IsAnswer}
 use Rattle.apfloat_base.specs.declared.kinds.Category.{Category}
 use Rattle.apfloat_base.specs.declared.kinds.Category.TheVariants.{Normal, Zero, Infinity}
-use Rattle.apfloat_base.specs.Datum.{Datum}
-use Rattle.apfloat_base.specs.Flags.{bits_of}
-use Rattle.apfloat_base.specs.Quotients.{IsQuotient}
+use Rattle.apfloat_base.specs.formats.Datum.{Datum}
+use Rattle.apfloat_base.specs.rounding.Flags.{bits_of}
+use Rattle.apfloat_base.specs.arithmetic.Quotients.{IsQuotient}
 use Rattle.apfloat_unpacked.specs.Shapes.{format_at}
 use Rattle.apfloat_unpacked.specs.Stored.{IsStoredBy, IsNormal, quanta_at, datum_at}
 use Rattle.apfloat_unpacked.specs.StoredBack.{quanta_some}

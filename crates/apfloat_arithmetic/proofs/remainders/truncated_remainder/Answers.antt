@@ -1,7 +1,7 @@
 use Rattle.std.proofs.Common.{◌∙◌, subst, arith}
 use Rattle.std.proofs.Math.Nat.{zero-div}
 use Rattle.apfloat_base.specs.declared.kinds.Category.{Category}
-use Rattle.apfloat_base.specs.Remainders.{truncated_quotient}
+use Rattle.apfloat_base.specs.arithmetic.Remainders.{truncated_quotient}
 use Rattle.apfloat_unpacked.specs.Shapes.{format_at}
 use Rattle.apfloat_unpacked.specs.Stored.{datum_at, IsStoredBy}
 use Rattle.apfloat_arithmetic.proofs.StepBounds.{few_steps}

@@ -1,9 +1,9 @@
 use Rattle.std.proofs.Common.{◌≡◌, ◌-◌, ◌^◌, ◌≤◌, ◌+ℤ◌, Bool, pos, subst, refl, to_z, of_z, w32, arith}
 use Rattle.std.proofs.lemmas.Int.{ints}
-use Rattle.apfloat_base.specs.Exact.{signed, sign_of, magnitude}
-use Rattle.apfloat_base.specs.Flags.{bits_of}
-use Rattle.apfloat_base.specs.Rounding.{IsDelivered}
-use Rattle.apfloat_base.specs.Sums.{zero_sum_sign}
+use Rattle.apfloat_base.specs.arithmetic.Exact.{signed, sign_of, magnitude}
+use Rattle.apfloat_base.specs.rounding.Flags.{bits_of}
+use Rattle.apfloat_base.specs.rounding.Rounding.{IsDelivered}
+use Rattle.apfloat_base.specs.arithmetic.Sums.{zero_sum_sign}
 use Rattle.apfloat_unpacked.specs.Shapes.{format_at}
 use Rattle.apfloat_unpacked.specs.Stored.{quanta_at, datum_at}
 use Rattle.apfloat_arithmetic.proofs.Additions.{IsRepresented, read_negative, sum_read, scale_is, roomy, sum_full, fine_if}

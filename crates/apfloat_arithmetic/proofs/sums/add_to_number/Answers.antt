@@ -1,8 +1,8 @@
 use Rattle.std.proofs.Common.{refl, ap, ◌∙◌}
 use Rattle.apfloat_base.specs.declared.kinds.Category.TheVariants.{Normal, Zero}
-use Rattle.apfloat_base.specs.Flags.{bits_of}
-use Rattle.apfloat_base.specs.Datum.{finite}
-use Rattle.apfloat_base.specs.Rounding.{ok_bits}
+use Rattle.apfloat_base.specs.rounding.Flags.{bits_of}
+use Rattle.apfloat_base.specs.formats.Datum.{finite}
+use Rattle.apfloat_base.specs.rounding.Rounding.{ok_bits}
 use Rattle.apfloat_base.proofs.Tables.{sum_finite_zero}
 use Rattle.apfloat_unpacked.specs.Shapes.{format_at}
 use Rattle.apfloat_unpacked.specs.Stored.{datum_at, quanta_at}

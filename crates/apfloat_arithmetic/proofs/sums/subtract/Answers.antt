@@ -1,4 +1,4 @@
-use Rattle.apfloat_base.specs.Flags.{bits_of}
+use Rattle.apfloat_base.specs.rounding.Flags.{bits_of}
 use Rattle.apfloat_unpacked.specs.Shapes.{format_at}
 use Rattle.apfloat_unpacked.specs.Stored.{datum_at}
 use Rattle.apfloat_arithmetic.proofs.SumCases.{difference_is}

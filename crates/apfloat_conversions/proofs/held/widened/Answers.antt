@@ -1,5 +1,5 @@
 use Rattle.std.proofs.Common.{ap}
-use Rattle.apfloat_base.specs.Datum.{finite}
+use Rattle.apfloat_base.specs.formats.Datum.{finite}
 use Rattle.apfloat_unpacked.proofs.ShapeExponents.{exponent_word}
 use Rattle.apfloat_conversions.proofs.HeldNumbers.{held_normal, held_quanta_are, held_shift}
 use Rattle.apfloat_conversions.proofs.held.widened.Goals as goal

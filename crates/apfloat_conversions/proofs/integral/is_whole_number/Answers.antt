@@ -1,7 +1,7 @@
 use Rattle.std.proofs.Common.{◌≡◌, ◌*◌, ◌^◌, ◌∙◌, arith, to_z, of_z, w32}
 use Rattle.std.proofs.lemmas.Int.{ints, to_z-of_z}
 use Rattle.std.proofs.lemmas.Nat.{pow_pos}
-use Rattle.apfloat_base.specs.Standing.{up}
+use Rattle.apfloat_base.specs.rounding.Standing.{up}
 use Rattle.apfloat_unpacked.specs.Shapes.{format_at}
 use Rattle.apfloat_unpacked.specs.Stored.{quanta_at}
 use Rattle.apfloat_conversions.proofs.StoredExponents.{whole_places, fraction_places, significand_small}

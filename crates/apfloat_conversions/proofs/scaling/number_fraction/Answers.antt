@@ -1,6 +1,6 @@
 use Rattle.std.proofs.Common.{◌≡◌, ◌*◌, ◌^◌, negsuc, ◌-ℤ◌, to_z, of_z, w32, refl}
 use Rattle.std.proofs.lemmas.Int.{to_z-of_z}
-use Rattle.apfloat_base.specs.Standing.{up}
+use Rattle.apfloat_base.specs.rounding.Standing.{up}
 use Rattle.apfloat_unpacked.specs.Stored.{quanta_at}
 use Rattle.apfloat_unpacked.proofs.StoredNumbers.{quanta_is}
 use Rattle.apfloat_unpacked.proofs.ShapeExponents.{exponent_word}

@@ -2,7 +2,7 @@ use Rattle.std.proofs.Common.{w32}
 use Rattle.std.proofs.lemmas.Int.{to_z-of_z}
 use Rattle.apfloat_unpacked.specs.Shapes.{format_at}
 use Rattle.apfloat_conversions.proofs.StoredExponents.{zero_scaled}
-use Rattle.apfloat_base.specs.Flags.{bits_of}
+use Rattle.apfloat_base.specs.rounding.Flags.{bits_of}
 use Rattle.apfloat_conversions.proofs.scaling.scaled.Goals as goal
 
 pub scale_number-requires-clause-lawful : goal.scale_number-requires-clause-lawful

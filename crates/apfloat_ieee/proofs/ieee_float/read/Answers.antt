@@ -1,7 +1,7 @@
 use Rattle.std.proofs.Common.{◌≡◌, false, sym, refl, subst, ◌∙◌}
 use Rattle.std.specs.Bool.{IsTrue}
-use Rattle.apfloat_base.specs.Format.{Format}
-use Rattle.apfloat_base.specs.Layout.{Layout, Fields, datum_of, fields_of, is_canonical}
+use Rattle.apfloat_base.specs.formats.Format.{Format}
+use Rattle.apfloat_base.specs.bits.Layout.{Layout, Fields, datum_of, fields_of, is_canonical}
 use Rattle.apfloat_base.proofs.EncodedOnce.{encoded_once}
 use Rattle.apfloat_unpacked.specs.Stored.{datum_at}
 use Rattle.apfloat_ieee.specs.Types.{shape_of, format_of, layout_of}

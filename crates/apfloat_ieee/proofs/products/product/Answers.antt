@@ -1,5 +1,5 @@
-use Rattle.apfloat_base.specs.Flags.{bits_of}
-use Rattle.apfloat_base.specs.Products.{IsProduct}
+use Rattle.apfloat_base.specs.rounding.Flags.{bits_of}
+use Rattle.apfloat_base.specs.arithmetic.Products.{IsProduct}
 use Rattle.apfloat_base.proofs.ProductLaws.{opposite_product}
 use Rattle.apfloat_base.proofs.SignedNumbers.{largest_some}
 use Rattle.apfloat_ieee.specs.Types.{format_of}

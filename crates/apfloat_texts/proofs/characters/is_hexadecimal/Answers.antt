@@ -1,7 +1,7 @@
 use Rattle.std.proofs.Common.{ℕ, ◌+◌, ◌/◌, ◌%◌, ◌^◌, refl, arith}
 use Rattle.std.proofs.Math.Dec.{eqb}
 use Rattle.std.proofs.lemmas.Bool.{agree_below_at}
-use Rattle.apfloat_base.specs.Digits.{is_hexadecimal}
+use Rattle.apfloat_base.specs.texts.Digits.{is_hexadecimal}
 use Rattle.apfloat_texts.specs.declared.characters.TheConstants.{HEXADECIMAL}
 use Rattle.apfloat_texts.proofs.characters.is_hexadecimal.Goals as goal
 

@@ -1,5 +1,5 @@
 use Rattle.std.proofs.Common.{◌∙◌, ap, sym, rules}
-use Rattle.apfloat_base.specs.Specials.{plain_payload}
+use Rattle.apfloat_base.specs.texts.Specials.{plain_payload}
 use Rattle.apfloat_texts.proofs.Parentheses.{inside_is, within, without_start, without_end, too_short}
 use Rattle.apfloat_texts.proofs.payload.payload.Goals as goal
 use Rattle.apfloat_texts.proofs.payload.payload.Goals.{in_default-via-then-text-lt2, in_default-via-else-text-lt2+in-40+in_default-1, in_default-via-else-text-lt2+in_default-1}

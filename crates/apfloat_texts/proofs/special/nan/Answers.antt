@@ -1,7 +1,7 @@
 use Rattle.std.proofs.Common.{◌≡◌, ℕ, Bool, true, false, if◌then◌else◌, List, take, drop, Option, Some, None, refl, rules}
 use Rattle.std.proofs.lemmas.List.{take_rest}
-use Rattle.apfloat_base.specs.Digits.{begins}
-use Rattle.apfloat_base.specs.Specials.{is_s, is_nan_name, named_nan, payload_of, with_payload}
+use Rattle.apfloat_base.specs.texts.Digits.{begins}
+use Rattle.apfloat_base.specs.texts.Specials.{is_s, is_nan_name, named_nan, payload_of, with_payload}
 use Rattle.apfloat_texts.specs.Payloads.{named_payload}
 use Rattle.apfloat_texts.proofs.special.nan.Goals as goal
 

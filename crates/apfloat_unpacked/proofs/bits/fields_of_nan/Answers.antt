@@ -1,8 +1,8 @@
 use Rattle.std.proofs.Common.{◌≡◌, ℕ, Bool, false}
 use Rattle.apfloat_base.specs.declared.kinds.NonfiniteBehavior.{NonfiniteBehavior}
 use Rattle.apfloat_base.specs.declared.kinds.NonfiniteBehavior.TheVariants.{NanNegativeZero}
-use Rattle.apfloat_base.specs.Members.{IsNanSignificand}
-use Rattle.apfloat_base.specs.Nan.{nan_sign}
+use Rattle.apfloat_base.specs.formats.Members.{IsNanSignificand}
+use Rattle.apfloat_base.specs.formats.Nan.{nan_sign}
 use Rattle.apfloat_base.proofs.FieldsOf.{nan_fields_of, one_nan_fields_of}
 use Rattle.apfloat_unpacked.specs.Shapes.{format_at}
 use Rattle.apfloat_unpacked.specs.Encoded.{layout_at}

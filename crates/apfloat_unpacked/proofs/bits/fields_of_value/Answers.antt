@@ -1,8 +1,8 @@
 use Rattle.std.proofs.Common.{◌≡◌, ◌-◌, refl, subst, Bool, true, false, ℕ, cond}
 use Rattle.std.proofs.lemmas.Nat.{pow_pos}
-use Rattle.apfloat_base.specs.Datum.{infinite}
-use Rattle.apfloat_base.specs.Interchange.{AreFieldsOf}
-use Rattle.apfloat_base.specs.Layout.{all_ones}
+use Rattle.apfloat_base.specs.formats.Datum.{infinite}
+use Rattle.apfloat_base.specs.bits.Interchange.{AreFieldsOf}
+use Rattle.apfloat_base.specs.bits.Layout.{all_ones}
 use Rattle.apfloat_base.proofs.EncodedOnce.{fields_with}
 use Rattle.apfloat_base.proofs.FieldsOf.{low_fields_of, infinity_fields_of}
 use Rattle.apfloat_unpacked.specs.Shapes.{format_at}

@@ -2,7 +2,7 @@ use Rattle.std.proofs.Common.{◌+◌, ◌-◌, ◌*◌, ◌^◌, ◌<◌, ◌�
 use Rattle.std.proofs.lemmas.Nat.{pow_pos}
 use Rattle.std.proofs.lemmas.Bool.{ne_eqb}
 use Rattle.std.proofs.Math.Nat.{mul-pos, pow-le-pow_right}
-use Rattle.apfloat_base.specs.Format.{smallest_normalized}
+use Rattle.apfloat_base.specs.formats.Format.{smallest_normalized}
 use Rattle.apfloat_base.proofs.Existence.{two_pos}
 use Rattle.apfloat_base.proofs.Ranges.{low_within}
 use Rattle.apfloat_base.proofs.Deliveries.{signed_some}

@@ -1,7 +1,7 @@
 use Rattle.std.proofs.Common.{ℕ, ◌<◌, ◌≤◌, ◌*◌, ◌^◌, ◌+◌, suc, Bool, true, false, cond, refl, arith}
 use Rattle.std.proofs.lemmas.Nat.{shl_whole, or_shifted, mul-add-lt}
 use Rattle.std.proofs.Math.Nat.{two-pow-succ}
-use Rattle.apfloat_base.specs.Layout.{trailing_bits}
+use Rattle.apfloat_base.specs.bits.Layout.{trailing_bits}
 use Rattle.apfloat_unpacked.specs.Shapes.{format_at}
 use Rattle.apfloat_unpacked.proofs.bits.join.Goals as goal
 

@@ -1,6 +1,6 @@
 use Rattle.std.proofs.Common.{◌≡◌, ◌*◌, ◌^◌, sym, ◌∙◌, subst, ℤ, to_z, of_z, w32}
 use Rattle.std.proofs.lemmas.Int.{to_z-of_z}
-use Rattle.apfloat_base.specs.Standing.{StandsFor, up, down}
+use Rattle.apfloat_base.specs.rounding.Standing.{StandsFor, up, down}
 use Rattle.apfloat_unpacked.proofs.rounding.deliver.Goals as goal
 
 pub returns-clause-delivered : goal.returns-clause-delivered

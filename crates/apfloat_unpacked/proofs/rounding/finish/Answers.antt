@@ -1,6 +1,6 @@
 use Rattle.std.proofs.Common.{◌≡◌, ◌-◌, ◌*◌, ◌^◌, true, false, ◌∙◌, ap, ⊎_elim}
 use Rattle.apfloat_base.specs.declared.sig.loss.Loss.TheVariants.{ExactlyZero}
-use Rattle.apfloat_base.specs.Flags.{bits_of}
+use Rattle.apfloat_base.specs.rounding.Flags.{bits_of}
 use Rattle.apfloat_unpacked.specs.Shapes.{format_at}
 use Rattle.apfloat_unpacked.specs.Stored.{datum_at}
 use Rattle.apfloat_base.proofs.Deliveries.{past_is, delivered_past, delivered_exactly, delivered_inexactly, exact_if, inexact_if, loss_cases, tiny_is}

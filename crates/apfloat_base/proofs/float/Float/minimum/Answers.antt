@@ -1,6 +1,6 @@
 use Rattle.std.proofs.Common.{◌≡◌, Bool, true, false, refl}
 use mathlib.Core.Bool.{beq}
-use Rattle.apfloat_base.specs.Exact.{same_sign}
+use Rattle.apfloat_base.specs.arithmetic.Exact.{same_sign}
 use Rattle.apfloat_base.proofs.float.Float.minimum.Goals as goal
 
 same_beq : (a b : Bool) → beq a b ≡ same_sign a b

@@ -1,7 +1,7 @@
 use Rattle.std.proofs.Common.{◌≡◌, sym, subst}
-use Rattle.apfloat_base.specs.Datum.{Datum}
-use Rattle.apfloat_base.specs.Classes.{category_of}
-use Rattle.apfloat_base.specs.Members.{IsMember}
+use Rattle.apfloat_base.specs.formats.Datum.{Datum}
+use Rattle.apfloat_base.specs.order.Classes.{category_of}
+use Rattle.apfloat_base.specs.formats.Members.{IsMember}
 use Rattle.apfloat_ieee.specs.Types.{shape_of, format_of}
 use Rattle.apfloat_unpacked.proofs.StoredMembers.{category_is, member_is}
 use Rattle.apfloat_ieee.proofs.ieee_float.IeeeFloat.unpacked.Goals as goal

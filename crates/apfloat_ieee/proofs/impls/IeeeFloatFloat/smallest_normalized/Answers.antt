@@ -1,6 +1,6 @@
 use Rattle.std.proofs.Common.{◌≡◌, ◌∙◌, subst}
-use Rattle.apfloat_base.specs.Constants.{smallest_normalized_datum}
-use Rattle.apfloat_base.specs.Datum.{Datum}
+use Rattle.apfloat_base.specs.formats.Constants.{smallest_normalized_datum}
+use Rattle.apfloat_base.specs.formats.Datum.{Datum}
 use Rattle.apfloat_unpacked.specs.declared.shape.Shape.{Shape}
 use Rattle.apfloat_unpacked.specs.declared.unpacked.Unpacked.{Unpacked}
 use Rattle.apfloat_unpacked.specs.Shapes.{format_at}

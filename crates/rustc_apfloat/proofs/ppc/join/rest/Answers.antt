@@ -1,4 +1,4 @@
-use Rattle.apfloat_base.specs.Flags.{bits_of}
+use Rattle.apfloat_base.specs.rounding.Flags.{bits_of}
 use Rattle.apfloat_pairs.proofs.SplitSteps.{rest_by_steps}
 use Rattle.rustc_apfloat.proofs.ppc.join.rest.Goals as goal
 

@@ -1,4 +1,4 @@
-use Rattle.apfloat_base.specs.Flags.{bits_of}
+use Rattle.apfloat_base.specs.rounding.Flags.{bits_of}
 use Rattle.rustc_apfloat.proofs.PairSteps.{product_error_free, product_accurate, product_by_categories}
 use Rattle.rustc_apfloat.proofs.ppc.products.product.Goals as goal
 

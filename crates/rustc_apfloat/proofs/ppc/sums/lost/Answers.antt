@@ -1,7 +1,7 @@
 use Rattle.std.proofs.Common.{ℕ, ap, ◌∙◌, subst}
-use Rattle.apfloat_base.specs.Datum.{Datum}
-use Rattle.apfloat_base.specs.Flags.{bits_of}
-use Rattle.apfloat_base.specs.Sums.{IsSum}
+use Rattle.apfloat_base.specs.formats.Datum.{Datum}
+use Rattle.apfloat_base.specs.rounding.Flags.{bits_of}
+use Rattle.apfloat_base.specs.arithmetic.Sums.{IsSum}
 use Rattle.apfloat_pairs.specs.PairFormats.{double}
 use Rattle.apfloat_pairs.specs.PairSums.{◌∪◌, IsLost}
 use Rattle.rustc_apfloat.proofs.PairSteps.{answered}

@@ -1,4 +1,4 @@
-use Rattle.apfloat_base.specs.Flags.{bits_of}
+use Rattle.apfloat_base.specs.rounding.Flags.{bits_of}
 use Rattle.rustc_apfloat.proofs.PairSteps.{sum_error_free, sum_accurate, sum_plain, sum_by_categories}
 use Rattle.rustc_apfloat.proofs.ppc.sums.sum.Goals as goal
 

@@ -1,5 +1,5 @@
 use Rattle.std.proofs.Common.{ap, ◌∙◌}
-use Rattle.apfloat_base.specs.Flags.{bits_of}
+use Rattle.apfloat_base.specs.rounding.Flags.{bits_of}
 use Rattle.rustc_apfloat.proofs.PairSteps.{anew_beyond, anew_within}
 use Rattle.rustc_apfloat.proofs.ppc.sums.sum_anew.Goals as goal
 

@@ -1,6 +1,6 @@
 use Rattle.std.proofs.Common.{ap, ◌∙◌}
-use Rattle.apfloat_base.specs.Classes.{is_negative}
-use Rattle.apfloat_base.specs.Flags.{bits_of}
+use Rattle.apfloat_base.specs.order.Classes.{is_negative}
+use Rattle.apfloat_base.specs.rounding.Flags.{bits_of}
 use Rattle.apfloat_pairs.specs.Pairs.{Pair}
 use Rattle.rustc_apfloat.proofs.PairSteps.{infinities_of_one_sign}
 use Rattle.rustc_apfloat.proofs.ppc.sums.sum_of_infinities.Goals as goal

@@ -1,6 +1,6 @@
 use Rattle.std.proofs.Common.{ap}
-use Rattle.apfloat_base.specs.Flags.{bits_of}
-use Rattle.apfloat_base.specs.WholeNumbers.{IsFromUnsigned}
+use Rattle.apfloat_base.specs.rounding.Flags.{bits_of}
+use Rattle.apfloat_base.specs.whole_numbers.WholeNumbers.{IsFromUnsigned}
 use Rattle.apfloat_pairs.specs.PairFormats.{wide}
 use Rattle.rustc_apfloat.proofs.PairSteps.{wide_of_none}
 use Rattle.rustc_apfloat.proofs.ppc.wide.from_unsigned.Goals as goal

@@ -1,6 +1,6 @@
 use Rattle.std.proofs.Common.{ap}
-use Rattle.apfloat_base.specs.Flags.{bits_of}
-use Rattle.apfloat_base.specs.NextUp.{IsNextUp}
+use Rattle.apfloat_base.specs.rounding.Flags.{bits_of}
+use Rattle.apfloat_base.specs.arithmetic.NextUp.{IsNextUp}
 use Rattle.apfloat_pairs.specs.PairFormats.{wide}
 use Rattle.rustc_apfloat.proofs.PairSteps.{wide_of_one}
 use Rattle.rustc_apfloat.proofs.ppc.wide.next_up.Goals as goal

@@ -1,6 +1,6 @@
 use Rattle.std.proofs.Common.{ap}
-use Rattle.apfloat_base.specs.Flags.{bits_of}
-use Rattle.apfloat_base.specs.Remainders.{IsTruncatedRemainder}
+use Rattle.apfloat_base.specs.rounding.Flags.{bits_of}
+use Rattle.apfloat_base.specs.arithmetic.Remainders.{IsTruncatedRemainder}
 use Rattle.apfloat_pairs.specs.PairFormats.{wide}
 use Rattle.apfloat_pairs.proofs.ExactPairs.{exact_truncated_remainder}
 use Rattle.rustc_apfloat.proofs.PairSteps.{wide_of_two}

@@ -1,0 +1,189 @@
+-- The predicates by category, and the minima and maxima by order, are at data those of the model.
+use Rattle.std.specs.Prelude.{◌≡◌, ℕ, zero, suc, ◌-◌, ◌<◌, ◌≤◌, Bool, true, false, not, ◌&&◌, eqb, ltb, leb, if◌then◌else◌}
+use Rattle.std.proofs.Common.{sym, refl, ◌∙◌, ⊎_elim, arith}
+use Rattle.std.proofs.lemmas.Nat.{pow_pos}
+use Rattle.std.proofs.lemmas.Bool.{eqb-true, ne_eqb, lt-ltb, lt-leb, le-leb, le-ltb, cases_lt}
+use Rattle.std.specs.Ordering.{partial_lt}
+use Rattle.apfloat_base.specs.declared.kinds.NonfiniteBehavior.{NonfiniteBehavior}
+use Rattle.apfloat_base.specs.formats.Format.{Format, smallest_normalized, largest}
+use Rattle.apfloat_base.specs.formats.Constants.{smallest_datum, smallest_normalized_datum, largest_datum}
+use Rattle.apfloat_base.specs.arithmetic.Signs.{abs, copy_sign}
+use Rattle.apfloat_base.specs.rounding.Negation.{negated}
+use Rattle.apfloat_base.specs.declared.kinds.Category.TheVariants.{Normal, Zero}
+use Rattle.apfloat_base.specs.formats.Datum.{Datum, finite, infinite, nan}
+use Rattle.apfloat_base.specs.arithmetic.Exact.{same_sign}
+use Rattle.apfloat_base.specs.order.Classes.{is_finite, is_infinite, is_nan, is_negative, is_zero, is_denormal, is_normal, is_finite_non_zero, is_smallest, is_smallest_normalized, is_largest, quanta_of, same_datum, category_of, is_nan_category, is_number_category}
+use Rattle.apfloat_base.specs.order.Order.{compared, min_num, max_num, minimum, maximum}
+use Rattle.apfloat_base.specs.order.Predicates.{is_finite_category, is_infinite_category, is_zero_category, min_by, max_by, minimum_by, maximum_by, signed_like}
+
+zero_or_not : (b : Bool) → is_zero_category (if b then Zero else Normal) ≡ b
+zero_or_not true = refl
+zero_or_not false = refl
+
+never_nan : (b : Bool) → is_nan_category (if b then Zero else Normal) ≡ false
+never_nan true = refl
+never_nan false = refl
+
+never_infinite : (b : Bool) → is_infinite_category (if b then Zero else Normal) ≡ false
+never_infinite true = refl
+never_infinite false = refl
+
+always_finite : (b : Bool) → is_finite_category (if b then Zero else Normal) ≡ true
+always_finite true = refl
+always_finite false = refl
+
+pub nan_agrees : (x : Datum) → is_nan_category (category_of x) ≡ is_nan x
+nan_agrees (finite b n) = never_nan (eqb n 0)
+nan_agrees (infinite b) = refl
+nan_agrees (nan b s) = refl
+
+pub infinite_agrees : (x : Datum) → is_infinite_category (category_of x) ≡ is_infinite x
+infinite_agrees (finite b n) = never_infinite (eqb n 0)
+infinite_agrees (infinite b) = refl
+infinite_agrees (nan b s) = refl
+
+pub zero_agrees : (x : Datum) → is_zero_category (category_of x) ≡ is_zero x
+zero_agrees (finite b n) = zero_or_not (eqb n 0)
+zero_agrees (infinite b) = refl
+zero_agrees (nan b s) = refl
+
+pub finite_agrees : (x : Datum) → is_finite_category (category_of x) ≡ is_finite x
+finite_agrees (finite b n) = always_finite (eqb n 0)
+finite_agrees (infinite b) = refl
+finite_agrees (nan b s) = refl
+
+number_or_not : (n : ℕ) → is_number_category (if eqb n 0 then Zero else Normal) ≡ ltb 0 n
+number_or_not zero = refl
+number_or_not (suc n) = rw (ne_eqb (suc n) 0 (λ z. omega (arith, z)), lt-ltb 0 (suc n) (omega arith)) refl
+
+pub number_agrees : (x : Datum) → is_number_category (category_of x) ≡ is_finite_non_zero x
+number_agrees (finite b n) = number_or_not n
+number_agrees (infinite b) = refl
+number_agrees (nan b s) = refl
+
+nothing : (b : Bool) → (b && not (b && true)) ≡ false
+nothing true = refl
+nothing false = refl
+
+-- what is not below a number that is not zero is not zero
+at_least : (n m : ℕ) → 0 < m → (ltb 0 n && not (ltb 0 n && ltb n m)) ≡ leb m n
+at_least n m h =
+    ⊎_elim
+    (λ (l : n < m). rw (lt-ltb n m l, lt-leb m n l) (nothing (ltb 0 n)))
+    (λ (l : m ≤ n). rw (lt-ltb 0 n (omega (arith, h, l)), le-ltb n m l, le-leb m n l) refl)
+    (cases_lt n m)
+
+pub normal_agrees : (f : Format) (x : Datum)
+    → (is_number_category (category_of x) && not (is_denormal f x)) ≡ is_normal f x
+normal_agrees f (finite b n) = rw (number_or_not n) (at_least n (smallest_normalized f) (pow_pos (f.precision - 1)))
+normal_agrees f (infinite b) = refl
+normal_agrees f (nan b s) = refl
+
+pub min_agrees : (x y : Datum) → min_by category_of compared x y ≡ min_num x y
+min_agrees x y = rw (nan_agrees x, nan_agrees y) refl
+
+pub max_agrees : (x y : Datum) → max_by category_of compared x y ≡ max_num x y
+max_agrees x y = rw (nan_agrees x, nan_agrees y) refl
+
+-- zeros of one sign are one datum, so that it plays no part which of them is the answer
+
+pub same_sign_is : (a b : Bool) → same_sign a b ≡ true → a ≡ b
+same_sign_is true true e = refl
+same_sign_is true false e = cc
+same_sign_is false true e = cc
+same_sign_is false false e = refl
+
+one_zero : (x y : Datum) → is_zero x ≡ true → is_zero y ≡ true → same_sign (is_negative x) (is_negative y) ≡ true
+    → x ≡ y
+one_zero (finite a m) (finite b n) e f s = rw (same_sign_is a b s, eqb-true m 0 e, eqb-true n 0 f) refl
+one_zero (finite a m) (infinite b) e f s = cc
+one_zero (finite a m) (nan b t) e f s = cc
+one_zero (infinite a) y e f s = cc
+one_zero (nan a t) y e f s = cc
+
+either : (b : Bool) (x y : Datum) → x ≡ y → (if b then x else y) ≡ x
+either true x y e = refl
+either false x y e = sym e
+
+chosen : (z w s : Bool) (p r : Datum) → (z ≡ true → w ≡ true → s ≡ true → p ≡ r)
+    → (if z && (w && not s) then p else r) ≡ (if z && w then p else r)
+chosen false w s p r h = refl
+chosen true false s p r h = refl
+chosen true true false p r h = refl
+chosen true true true p r h = sym (h refl refl refl)
+
+lesser_zero : (x y : Datum) (below : Bool) → is_zero x ≡ true → is_zero y ≡ true
+    → same_sign (is_negative x) (is_negative y) ≡ true → (if is_negative x then x else y) ≡ (if below then y else x)
+lesser_zero x y below e f s =
+    let q = one_zero x y e f s in
+    either (is_negative x) x y q ∙ q ∙ sym (either below y x (sym q))
+
+greater_zero : (x y : Datum) (below : Bool) → is_zero x ≡ true → is_zero y ≡ true
+    → same_sign (is_negative x) (is_negative y) ≡ true → (if is_negative x then y else x) ≡ (if below then y else x)
+greater_zero x y below e f s =
+    let q = one_zero x y e f s in
+    either (is_negative x) y x (sym q) ∙ sym (either below y x (sym q))
+
+no_nan : (n m : Bool) (x y p q : Datum) → (n ≡ false → m ≡ false → p ≡ q)
+    → (if n then x else (if m then y else p)) ≡ (if n then x else (if m then y else q))
+no_nan true m x y p q h = refl
+no_nan false true x y p q h = refl
+no_nan false false x y p q h = h refl refl
+
+pub minimum_agrees : (x y : Datum) → minimum_by category_of is_negative compared x y ≡ minimum x y
+minimum_agrees x y =
+    rw (nan_agrees x, nan_agrees y, zero_agrees x, zero_agrees y) (no_nan (is_nan x) (is_nan y) x y _ _ (λ n m.
+    rw (n, m) (chosen (is_zero x) (is_zero y) (same_sign (is_negative x) (is_negative y)) _ _
+        (λ e f s. lesser_zero x y (partial_lt compared y x) e f s))))
+
+pub maximum_agrees : (x y : Datum) → maximum_by category_of is_negative compared x y ≡ maximum x y
+maximum_agrees x y =
+    rw (nan_agrees x, nan_agrees y, zero_agrees x, zero_agrees y) (no_nan (is_nan x) (is_nan y) x y _ _ (λ n m.
+    rw (n, m) (chosen (is_zero x) (is_zero y) (same_sign (is_negative x) (is_negative y)) _ _
+        (λ e f s. greater_zero x y (partial_lt compared x y) e f s))))
+
+-- a named magnitude that is not zero, with the sign of the value
+
+pub same_sign_self : (b : Bool) → same_sign b b ≡ true
+same_sign_self true = refl
+same_sign_self false = refl
+
+turned_number : (kind : NonfiniteBehavior) (b : Bool) (m : ℕ) → 0 < m
+    → signed_like is_negative (negated kind) (finite false m) (finite b m) ≡ finite b m
+turned_number kind true m h = rw (ne_eqb m 0 (λ z. omega (arith, z, h))) refl
+turned_number kind false m h = refl
+
+sign_alone : (kind : NonfiniteBehavior) (m : ℕ) (x y : Datum) → is_negative x ≡ is_negative y
+    → signed_like is_negative (negated kind) (finite false m) x
+    ≡ signed_like is_negative (negated kind) (finite false m) y
+sign_alone kind m x y e = rw e refl
+
+pub magnitude_agrees : (kind : NonfiniteBehavior) (m : ℕ) (x : Datum) → 0 < m
+    → same_datum x (signed_like is_negative (negated kind) (finite false m) x)
+    ≡ (is_finite x && eqb (quanta_of x) m)
+magnitude_agrees kind m (finite b n) h =
+    rw (sign_alone kind m (finite b n) (finite b m) refl, turned_number kind b m h, same_sign_self b) refl
+magnitude_agrees kind m (infinite b) h =
+    rw (sign_alone kind m (infinite b) (finite b m) refl, turned_number kind b m h) refl
+magnitude_agrees kind m (nan b s) h =
+    rw (sign_alone kind m (nan b s) (finite b m) refl, turned_number kind b m h) refl
+
+pub smallest_agrees : (f : Format) (x : Datum)
+    → same_datum x (signed_like is_negative (negated f.nonfinite) smallest_datum x) ≡ is_smallest x
+smallest_agrees f x = magnitude_agrees f.nonfinite 1 x (omega arith)
+
+pub smallest_normalized_agrees : (f : Format) (x : Datum)
+    → same_datum x (signed_like is_negative (negated f.nonfinite) (smallest_normalized_datum f) x)
+    ≡ is_smallest_normalized f x
+smallest_normalized_agrees f x = magnitude_agrees f.nonfinite (smallest_normalized f) x (pow_pos (f.precision - 1))
+
+pub largest_agrees : (f : Format) (x : Datum) → 0 < largest f
+    → same_datum x (signed_like is_negative (negated f.nonfinite) (largest_datum f) x) ≡ is_largest f x
+largest_agrees f x h = magnitude_agrees f.nonfinite (largest f) x h
+
+pub abs_agrees : (f : Format) (x : Datum) → (if is_negative x then negated f.nonfinite x else x) ≡ abs f x
+abs_agrees f x = refl
+
+pub copy_sign_agrees : (f : Format) (x y : Datum)
+    → signed_like is_negative (negated f.nonfinite) x y ≡ copy_sign f x y
+copy_sign_agrees f x y = refl

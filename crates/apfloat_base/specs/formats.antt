@@ -1,0 +1,9 @@
+pub mod Format
+pub mod Datum
+pub mod Members
+pub mod Constants
+pub mod Nan
+pub mod Lawful
+pub mod LawTest
+pub mod Formats
+pub mod Log

@@ -1,0 +1,6 @@
+pub mod Digits
+pub mod Specials
+pub mod Texts
+pub mod Literals
+pub mod Readings
+pub mod Parsing

@@ -1,0 +1,3 @@
+pub mod WholeNumbers
+pub mod WholeNumbersOut
+pub mod SignedWholes
