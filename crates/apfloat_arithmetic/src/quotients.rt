@@ -21,7 +21,8 @@ use apfloat_unpacked::rounding::deliver;
 use apfloat_unpacked::shape::Shape;
 use apfloat_unpacked::unpacked::{Unpacked, infinity_of, remade};
 
-/// The exponent of the last digit of a quotient with so many places below the exponents' difference.
+/// The exponent of the last digit of a quotient that has so many places below the difference of the exponents of its
+/// operands' integer bits.
 #[inline(always)]
 fn quotient_exponent(left: ExpInt, right: ExpInt, places: u32) -> ExpInt
     requires left_near { left ≤ℤ pos 1048576 }

@@ -1,4 +1,4 @@
-//! Exponents of unpacked numbers.
+//! Exponents of the integer bits of unpacked numbers.
 
 ghost use Rattle.std.specs.Prelude.{◌≡◌, pos, neg_ℤ, ◌+ℤ◌, ◌-ℤ◌, ◌≤ℤ◌};
 

@@ -16,7 +16,8 @@ use apfloat_unpacked::nans::{quiet_significand, signals};
 use apfloat_unpacked::shape::Shape;
 use apfloat_unpacked::unpacked::{Unpacked, infinity_of, largest_of, nan_of, smallest_of, zero_of};
 
-/// How far apart neighbours are at an exponent, in units of a significand's last digit: one, or a quantum.
+/// How far apart neighbours are whose integer bit has that exponent, in units of a significand's last digit: one, or a
+/// quantum.
 #[inline(always)]
 fn step(shape: Shape, exponent: ExpInt) -> u128
     requires lawful { IsShape shape }

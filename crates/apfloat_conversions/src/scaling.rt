@@ -34,7 +34,7 @@ pub fn clamped(places: ExpInt) -> ExpInt
     }
 }
 
-/// The exponent that is so many places higher.
+/// The exponent of an integer bit that is moved up by so many places.
 #[inline(always)]
 fn moved(exponent: ExpInt, places: ExpInt) -> ExpInt
     requires near { exponent ≤ℤ pos 1048576 }

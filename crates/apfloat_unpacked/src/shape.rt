@@ -12,9 +12,9 @@ use apfloat_base::{ExpInt, NonfiniteBehavior};
 pub struct Shape {
     /// The binary digits of a significand, the integer bit included.
     pub precision: u32,
-    /// The exponent of the smallest normalized value.
+    /// The exponent of the integer bit of the smallest normalized value.
     pub min_exp: ExpInt,
-    /// The exponent of the largest value.
+    /// The exponent of the integer bit of the largest value.
     pub max_exp: ExpInt,
     /// Which values the format has that are no numbers.
     pub nonfinite: NonfiniteBehavior,
@@ -74,7 +74,7 @@ impl Shape {
     }
 }
 
-/// The exponent of the last digit of a number.
+/// The exponent of a number's last digit, of that of its integer bit.
 #[inline(always)]
 pub fn last_exponent(shape: Shape, exponent: ExpInt) -> ExpInt
     requires lawful { IsShape shape }

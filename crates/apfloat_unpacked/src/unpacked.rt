@@ -22,9 +22,13 @@ use apfloat_base::{Category, ExpInt, NonfiniteBehavior, StatusAnd};
 /// significand as it is written. Whatever a kind of value does not need is zero.
 #[derive(Clone, Copy, Debug)]
 pub struct Unpacked {
+    /// The digits of a number, or those of a NaN as they are written.
     pub significand: u128,
+    /// The exponent of a number's integer bit.
     pub exponent: ExpInt,
+    /// What the value is.
     pub category: Category,
+    /// Whether the sign is minus.
     pub negative: bool,
 }
 
@@ -103,8 +107,8 @@ pub fn infinity_of(shape: Shape, negative: bool) -> Unpacked
     }
 }
 
-/// The exponent of a number whose integer bit was moved up by `place` and down by `shift` from that of the smallest
-/// normalized value.
+/// The exponent of the integer bit of a number, where that bit was moved up by `place` and down by `shift` from the one of
+/// the smallest normalized value.
 #[inline(always)]
 fn exponent_at(min_exp: ExpInt, place: u32, shift: u32) -> ExpInt
     requires least { neg_ℤ (pos (2 ^ 20)) ≤ℤ min_exp }

@@ -15,7 +15,7 @@ pub fn power_of_two(exponent: u32) -> u128
     1 << exponent
 }
 
-/// How far one exponent is above another.
+/// How far one exponent is above another, both of last digits or both of integer bits.
 #[inline(always)]
 pub fn steps_between(high: ExpInt, low: ExpInt) -> u32
     requires above { low ≤ℤ high }
