@@ -141,6 +141,6 @@ pub fn divide(shape: Shape, x: Unpacked, y: Unpacked, round: Round) -> StatusAnd
     if are_normal(x, y) {
         divide_numbers(shape, x, y, round)
     } else {
-        remade(divide_any(shape, x, y, round))
+        remade(divide_any(shape.remade(), x.remade(), y.remade(), round))
     }
 }

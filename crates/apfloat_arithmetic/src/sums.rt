@@ -189,7 +189,7 @@ pub fn add(shape: Shape, x: Unpacked, y: Unpacked, round: Round) -> StatusAnd<Un
     if are_normal(x, y) {
         add_numbers(shape, x, y, round)
     } else {
-        remade(add_any(shape, x, y, round))
+        remade(add_any(shape.remade(), x.remade(), y.remade(), round))
     }
 }
 

@@ -225,13 +225,10 @@ pub fn convert(from: Shape, into: Shape, x: Unpacked, round: Round) -> Converted
     ensures exact { IsExactlyConverted (format_at from) (format_at into) (datum_at from x)
         (datum_at into result.answer.value) (bits_of result.answer.status) result.loses_info }
 {
-    if holds(from, into) {
-        return convert_by_category(from, into, x, round);
-    }
     match x.category {
         Category::Normal => converted_number(from, into, x, round),
         _ => {
-            let converted = convert_apart(from, into, x, round);
+            let converted = convert_apart(from.remade(), into.remade(), x.remade(), round);
             Converted {
                 answer: remade(converted.answer),
                 loses_info: converted.loses_info,

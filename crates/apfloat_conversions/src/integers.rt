@@ -141,6 +141,6 @@ pub fn to_unsigned(shape: Shape, x: Unpacked, width: u32, round: Round) -> Unsig
 {
     match x.category {
         Category::Normal => number_to_unsigned(shape, x, width, round),
-        _ => any_to_unsigned(shape, x, width, round),
+        _ => any_to_unsigned(shape.remade(), x.remade(), width, round),
     }
 }

@@ -194,13 +194,8 @@ fn is_past(precision: u32, point: Point, greatest: u128, span: u32) -> bool
 fn leads_past(mode: Round, negative: bool) -> bool
     ensures { result ≡ leads_out mode negative }
 {
-    match mode {
-        Round::TowardZero => false,
-        Round::TowardPositive => !negative,
-        Round::TowardNegative => negative,
-        Round::NearestTiesToEven => true,
-        Round::NearestTiesToAway => true,
-    }
+    let to_nearest = (mode == Round::NearestTiesToEven) | (mode == Round::NearestTiesToAway);
+    to_nearest | is_outward(mode, negative)
 }
 
 /// Whether an inexact result counts as tiny, by its significand before or after rounding.

@@ -29,6 +29,22 @@ impl Shape {
     ghost use Rattle.apfloat_base.specs.formats.Format.{greatest_significand, smallest_normalized};
     ghost use Rattle.apfloat_unpacked.specs.Shapes.{IsShape, format_at};
 
+    /// The same, made anew of its parts, for a call that takes it by its address: what is passed so is kept in memory, and
+    /// its constants would no longer fold in the caller.
+    #[inline(always)]
+    pub fn remade(self) -> Shape
+        ensures { result ≡ self }
+    {
+        Shape {
+            precision: self.precision,
+            min_exp: self.min_exp,
+            max_exp: self.max_exp,
+            nonfinite: self.nonfinite,
+            explicit_integer_bit: self.explicit_integer_bit,
+            tiny_before_rounding: self.tiny_before_rounding,
+        }
+    }
+
     /// The quantum is 2 to the power of minus this.
     #[inline(always)]
     pub fn scale(self) -> u32

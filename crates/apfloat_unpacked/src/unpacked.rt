@@ -32,6 +32,23 @@ pub struct Unpacked {
     pub negative: bool,
 }
 
+impl Unpacked {
+    ghost use Rattle.std.specs.Prelude.{◌≡◌};
+
+    /// The same, made anew of its parts, for a call that takes it by its address.
+    #[inline(always)]
+    pub fn remade(self) -> Unpacked
+        ensures { result ≡ self }
+    {
+        Unpacked {
+            significand: self.significand,
+            exponent: self.exponent,
+            category: self.category,
+            negative: self.negative,
+        }
+    }
+}
+
 /// The answer, made anew of its parts: a struct that another function has written is copied whole, with its padding, but
 /// parts are copied in registers.
 #[inline(always)]
