@@ -6,9 +6,10 @@
  *
  * The library takes no memory, keeps nothing between calls, and calls no other function. So its functions may be called
  * from any thread, and from a signal handler. They are defined for every value of every argument in memory: no code, no
- * bits, no width and no text is undefined behaviour. What C has to keep is that `answer` points to one apfloat_answer
- * that nothing else reads or writes during the call, and `text` to `length` bytes that nothing writes; they do not
- * overlap. `text` may not be null, not even where `length` is 0.
+ * bits, no width and no text is undefined behaviour. What C has to keep is that `answer` points to one apfloat_answer,
+ * aligned as such, that nothing else reads or writes during the call, and `text` to `length` bytes of one object, which
+ * nothing writes; they do not overlap. Neither may be null, `text` not even where `length` is 0. An operand may be the
+ * `bits` of the same answer, since it is passed by value.
  *
  * What each function answers is stated by the contract of its export in crates/apfloat_c, and proved. */
 #ifndef APFLOAT_H

@@ -1,14 +1,17 @@
 -- Answers from what the library's calls say.
 use Rattle.std.proofs.Common.{◌≡◌, ℕ, ℤ, pos, Bool, true, false, ◌&&◌, nat_le, List, Ok, refl, sym, ap, ◌∙◌, subst, FitsSigned, to_z, of_z}
 use Rattle.std.proofs.lemmas.Bool.{false≢true}
-use Rattle.std.specs.Int.{w128}
+use Rattle.std.specs.Int.{w32, w128}
 use Rattle.std.proofs.lemmas.Int.{to_z-of_z}
 use Rattle.std.specs.Char.{is_ascii}
 use Rattle.rustc_apfloat.specs.declared.Round.{Round}
 use Rattle.rustc_apfloat.specs.Datum.{Datum}
 use Rattle.rustc_apfloat.specs.Digits.{every}
 use Rattle.rustc_apfloat.specs.Exponents.{IsFrexp}
-use Rattle.rustc_apfloat.specs.Lawful.{Constants, format_with}
+use Rattle.rustc_apfloat.specs.Formats.{double_constants}
+use Rattle.rustc_apfloat.specs.Lawful.{Constants, IsLawful, format_with}
+use Rattle.rustc_apfloat.specs.Members.{IsMember}
+use Rattle.rustc_apfloat.specs.PairFormats.{double}
 use Rattle.rustc_apfloat.specs.Pairs.{Pair, pair_of}
 use Rattle.rustc_apfloat.specs.PairParts.{IsPairFraction}
 use Rattle.rustc_apfloat.specs.PairCalls.{IsPairReading, IsPairToSigned}
@@ -16,34 +19,39 @@ use Rattle.rustc_apfloat.specs.Readings.{IsReading}
 use Rattle.rustc_apfloat.specs.Specials.{Meaning}
 use Rattle.rustc_apfloat.specs.Texts.{Means}
 use Rattle.apfloat_base.proofs.OneMeaning.{meaning_no_fault}
+use Rattle.apfloat_pairs.proofs.PairBits.{double_is_lawful}
+use Rattle.apfloat_c.proofs.FractionExponents.{frexp_fits}
 use Rattle.apfloat_c.specs.declared.data.Answer.{Answer}
 use Rattle.apfloat_c.specs.Requests.{is_text, refused_text, unless, width_fault, wrong_width}
-use Rattle.apfloat_c.specs.Answers.{IsFractionOf, IsOutcomeBy, IsPairFractionOf, IsPairValue, IsPairWritten, IsSigned, IsValue, IsWritten, in_32_bits, one_if, value_of, whole}
+use Rattle.apfloat_c.specs.Answers.{IsFractionOf, IsOutcomeBy, IsPairFractionOf, IsPairValue, IsPairWritten, IsSigned, IsValue, IsWritten, one_if, value_of, whole}
 
 -- ---- fractions
 
-pub fraction_answer : (c : Constants) (bits : ℕ) (x value : Datum) (exponent : ℤ) (answer : Answer)
-    → x ≡ value_of c bits
-    → IsFrexp (format_with c) x value exponent → IsWritten c value 0 (in_32_bits exponent) answer
+-- the number that is written is the exponent itself
+pub fraction_answer : (c : Constants) → IsLawful c → (bits : ℕ) (x value : Datum) (exponent : ℤ) (answer : Answer)
+    → x ≡ value_of c bits → IsMember (format_with c) x
+    → IsFrexp (format_with c) x value exponent → IsWritten c value 0 (to_z w32 (of_z w32 exponent)) answer
     → IsFractionOf c (IsFrexp (format_with c) (value_of c bits)) answer
-fraction_answer c bits x value exponent answer read holds written =
+fraction_answer c law bits x value exponent answer read member holds written =
+    let fits = frexp_fits c law x value exponent member holds in
     record {
       value = value;
       exponent = exponent;
       holds = subst (λ (d : Datum). IsFrexp (format_with c) d value exponent) read holds;
-      is_written = written;
+      is_written = subst (λ (n : ℤ). IsWritten c value 0 n answer) (to_z-of_z w32 exponent fits) written;
     }
 
 pub pair_fraction_answer : (mode : Round) (bits : ℕ) (x value : Pair) (exponent : ℤ) (answer : Answer)
-    → x ≡ pair_of bits
-    → IsPairFraction mode x value exponent → IsPairWritten value 0 (in_32_bits exponent) answer
+    → x ≡ pair_of bits → IsMember double x.high
+    → IsPairFraction mode x value exponent → IsPairWritten value 0 (to_z w32 (of_z w32 exponent)) answer
     → IsPairFractionOf (IsPairFraction mode (pair_of bits)) answer
-pair_fraction_answer mode bits x value exponent answer read holds written =
+pair_fraction_answer mode bits x value exponent answer read member holds written =
+    let fits = frexp_fits double_constants double_is_lawful x.high value.high exponent member holds.high_is in
     record {
       value = value;
       exponent = exponent;
       holds = subst (λ (d : Pair). IsPairFraction mode d value exponent) read holds;
-      is_written = written;
+      is_written = subst (λ (n : ℤ). IsPairWritten value 0 n answer) (to_z-of_z w32 exponent fits) written;
     }
 
 -- ---- answers where nothing is refused

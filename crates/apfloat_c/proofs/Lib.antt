@@ -1,2 +1,4 @@
 pub mod AsciiTexts
+pub mod FractionExponents
 pub mod Answers
+pub mod RepliesOnce

@@ -1,6 +1,6 @@
 -- What a call answers.
 use Rattle.std.specs.Prelude.{◌≡◌, ℕ, ◌+◌, ◌*◌, ◌^◌, ℤ, pos, neg_ℤ, Bool, if◌then◌else◌, Option, Some, None, Result, Ok, Err}
-use Rattle.std.specs.Int.{w32, w128, cast_signed, cast_unsigned}
+use Rattle.std.specs.Int.{w128, cast_unsigned}
 use Rattle.std.specs.declared.cmp.Ordering.{Ordering}
 use Rattle.std.specs.declared.cmp.Ordering.TheVariants.{Less, Equal, Greater}
 use Rattle.rustc_apfloat.specs.declared.Category.{Category}
@@ -46,10 +46,6 @@ whole halves = halves.low + halves.high * 2 ^ 64
 
 abbrev pub one_if : Bool → ℤ
 one_if holds = if holds then pos 1 else pos 0
-
--- the number of 32 bits that stands for an exponent
-abbrev pub in_32_bits : ℤ → ℤ
-in_32_bits exponent = cast_signed w32 (cast_unsigned w32 exponent)
 
 abbrev pub order_code : Option Ordering → ℤ
 order_code (Some Less) = neg_ℤ (pos 1)
@@ -125,7 +121,7 @@ pub record IsFractionOf (c : Constants) (Holds : Datum → ℤ → Type 0) (answ
   pub value : Datum
   pub exponent : ℤ
   pub holds : Holds value exponent
-  pub is_written : IsWritten c value 0 (in_32_bits exponent) answer
+  pub is_written : IsWritten c value 0 exponent answer
 
 -- a value in the target, its flags, and whether information was lost
 pub record IsConvertedTo (c : Constants) (Holds : Datum → ℕ → Bool → Type 0) (answer : Answer) : Type 0 where
@@ -202,7 +198,7 @@ pub record IsPairFractionOf (Holds : Pair → ℤ → Type 0) (answer : Answer) 
   pub value : Pair
   pub exponent : ℤ
   pub holds : Holds value exponent
-  pub is_written : IsPairWritten value 0 (in_32_bits exponent) answer
+  pub is_written : IsPairWritten value 0 exponent answer
 
 abbrev pub pair_class_of : Pair → ℤ
 pair_class_of x = class_code (pair_category x) (is_negative_pair x) (is_denormal_pair x) (is_signaling_pair x)

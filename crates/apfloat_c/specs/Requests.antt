@@ -1,5 +1,5 @@
 -- What a call asks for, or its error.
-use Rattle.std.specs.Prelude.{ℕ, Bool, true, false, ◌==◌, ◌&&◌, nat_le, if◌then◌else◌, List, [], ◌∷◌, Option, is_none, Some, None, ok_or, Result, Ok, Err}
+use Rattle.std.specs.Prelude.{ℕ, Bool, true, ◌==◌, ◌&&◌, nat_le, if◌then◌else◌, List, [], ◌∷◌, Option, is_none, Some, None, ok_or, Result, Ok, Err}
 use Rattle.rustc_apfloat.specs.declared.Round.{Round}
 use Rattle.rustc_apfloat.specs.declared.Round.TheVariants.{NearestTiesToEven, TowardPositive, TowardNegative, TowardZero, NearestTiesToAway}
 use Rattle.std.specs.Char.{is_ascii}
@@ -12,7 +12,7 @@ use Rattle.apfloat_c.specs.declared.codes.Format.TheVariants.{Half, Single, Doub
 use Rattle.apfloat_c.specs.declared.call.Arithmetic.{Arithmetic}
 use Rattle.apfloat_c.specs.declared.call.Arithmetic.TheVariants.{Sum, Difference, Product, Quotient, NearestRemainder, TruncatedRemainder}
 use Rattle.apfloat_c.specs.declared.call.Call.{Call}
-use Rattle.apfloat_c.specs.declared.call.Call.TheVariants.{OfTwo, FusedSum, FromUnsigned, FromSigned, ToUnsigned, ToSigned, RoundToIntegral, Scaling, Fraction, Exponent, NextUp, NextDown, Comparison, Class, Conversion, Text}
+use Rattle.apfloat_c.specs.declared.call.Call.TheVariants.{OfTwo, FusedSum, ToUnsigned, ToSigned, Conversion, Text}
 
 -- ---- codes
 

@@ -131,8 +131,11 @@ fn scaled(round: Round, x: u128, power: i32) -> Answer
 fn fraction(round: Round, x: u128) -> Answer
     ensures { IsPairAnswer round (Fraction x) result }
 {
+    let x = DoubleDouble::from_bits(x);
+    // It says that the parts are doubles: so the exponent is one of 32 bits.
+    let _ = x.category();
     let mut exponent = 0;
-    let fraction = DoubleDouble::from_bits(x).frexp_r(&mut exponent, round);
+    let fraction = x.frexp_r(&mut exponent, round);
     shown(fraction, Status::OK, exponent)
 }
 

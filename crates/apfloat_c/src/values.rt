@@ -165,8 +165,11 @@ fn fraction<S: Semantics>(round: Round, x: u128) -> Answer
     requires { S.PRECISION < S.BITS }
     ensures { IsAnswer (constants_of S.Semantics) round (Fraction x) result }
 {
+    let x = S::from_bits(x);
+    // It says that `x` is a value of the format: so its exponent is one of 32 bits.
+    let _ = x.category();
     let mut exponent = 0;
-    let fraction = S::from_bits(x).frexp_r(&mut exponent, round);
+    let fraction = x.frexp_r(&mut exponent, round);
     shown(fraction, Status::OK, exponent)
 }
 

@@ -18,6 +18,7 @@ mod reply;
 mod row;
 #[cfg(test)]
 mod tests;
+mod text_buffer;
 mod words;
 
 pub use output::{run, run_given, write_status};

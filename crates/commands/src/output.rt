@@ -1,4 +1,7 @@
 //! Writes what the program replies.
+//!
+//! A reply is put together first and goes to its writer by one call, so that the replies of programs that run side by
+//! side do not mix. Only a refusal that is longer than `REFUSAL_ROOM` goes there in parts.
 
 ghost use Rattle.std.specs.Prelude.{◌≡◌, ◌≢◌, ◌<◌, ◌≤◌, ◌++◌, codes, if◌then◌else◌, IfErr, is_ok, map, MatchResult, OnErr, OnOk, string_bytes};
 ghost use Rattle.std.specs.IoError.{error_kind};
@@ -7,9 +10,16 @@ ghost use Rattle.rustc_apfloat.specs.Flags.{bits_of};
 ghost use Rattle.commands.specs.Replies.{IsMemoryRefused, IsRun, hexadecimal_digit, hexadecimal_text, line_text, refusal_text, status_text};
 
 use crate::reply::{Reply, command};
+use crate::text_buffer::TextBuffer;
 use rustc_apfloat::{Flags, Status};
 use std::io;
 use std::io::{ErrorKind, Write};
+
+// The longest line has 32 digits and all five flags, which is 83 bytes.
+const LINE_ROOM: usize = 96;
+
+// Of what one call writes to a pipe, the system itself parts no more than so much from what others write (`PIPE_BUF`).
+const REFUSAL_ROOM: usize = 4096;
 
 /// Runs a command, the words without the program's own name: writes a line to `out` or a refusal to `err`.
 ///
@@ -66,8 +76,28 @@ fn status_after(written: io::Result<()>, status: u8) -> u8
     }
 }
 
-// Writes bits and flags.
-fn write_line<W: Write>(bits: u128, digits: usize, status: Status, out: &mut W) -> io::Result<()>
+// Writes bits and flags by one call.
+pub(crate) fn write_line<W: Write>(
+    bits: u128,
+    digits: usize,
+    status: Status,
+    out: &mut W,
+) -> io::Result<()>
+    requires { digits ≤ 32 }
+    ensures { OnOk result
+        (Appends (W.contents out.old) (W.contents out.new) (line_text bits digits (bits_of status))) }
+{
+    let mut line = TextBuffer::<LINE_ROOM>::new();
+    write_line_parts(bits, digits, status, &mut line)?;
+    out.write_all(line.as_bytes())
+}
+
+fn write_line_parts<W: Write>(
+    bits: u128,
+    digits: usize,
+    status: Status,
+    out: &mut W,
+) -> io::Result<()>
     requires { digits ≤ 32 }
     ensures { OnOk result
         (Appends (W.contents out.old) (W.contents out.new) (line_text bits digits (bits_of status))) }
@@ -78,8 +108,19 @@ fn write_line<W: Write>(bits: u128, digits: usize, status: Status, out: &mut W) 
     out.write_all(b"\n")
 }
 
-// Writes the word of a refusal.
+// Writes the word of a refusal, by one call where there is room for it.
 fn write_refusal<W: Write>(word: &str, err: &mut W) -> io::Result<()>
+    ensures { OnOk result
+        (Appends (W.contents err.old) (W.contents err.new) (refusal_text word.now)) }
+{
+    let mut text = TextBuffer::<REFUSAL_ROOM>::new();
+    match write_refusal_parts(word, &mut text) {
+        Ok(()) => err.write_all(text.as_bytes()),
+        Err(_) => write_refusal_parts(word, err),
+    }
+}
+
+fn write_refusal_parts<W: Write>(word: &str, err: &mut W) -> io::Result<()>
     ensures { OnOk result
         (Appends (W.contents err.old) (W.contents err.new) (refusal_text word.now)) }
 {

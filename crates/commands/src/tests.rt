@@ -1,8 +1,8 @@
 //! Runs of the program on writers that a test reads, or that fail.
 
-use crate::output::{run, run_given};
+use crate::output::{run, run_given, write_line};
 use crate::reply::{Reply, command};
-use rustc_apfloat::Flags;
+use rustc_apfloat::{Flags, Status};
 use std::alloc::{AllocError, Global};
 use std::io;
 use std::io::{ErrorKind, Write};
@@ -133,6 +133,90 @@ impl Write for Failing {
     fn flush(&mut self) -> io::Result<()> {
         Ok(())
     }
+}
+
+// A writer that takes all of what each call brings, and counts the calls.
+#[derive(Drop)]
+struct Counting {
+    calls: usize,
+    taken: Vec<u8>,
+}
+
+impl Counting {
+    fn new(alloc: Global) -> Counting {
+        Counting {
+            calls: 0,
+            taken: Vec::new(alloc),
+        }
+    }
+}
+
+impl Write for Counting {
+    fn write(&mut self, buf: &[u8]) -> io::Result<usize> {
+        self.calls = self.calls.saturating_add(1);
+        self.taken.write(buf)
+    }
+
+    fn flush(&mut self) -> io::Result<()> {
+        Ok(())
+    }
+}
+
+// Asserts that a run on what the system gives calls its writers so often, and leaves these texts.
+fn expect_calls<R: Abort + AllocGlobal>(
+    rt: &R,
+    command: &str,
+    (out_calls, on_out): (usize, &str),
+    (err_calls, on_err): (usize, &str),
+) -> Result<(), Fail> {
+    let mut out = Counting::new(rt.alloc());
+    let mut err = Counting::new(rt.alloc());
+    run_given(given_for(rt.alloc(), command)?, &mut out, &mut err);
+    assert_eq!(rt; (out.calls, err.calls), (out_calls, err_calls));
+    assert_eq!(rt; out.taken.as_slice(), on_out.as_bytes());
+    assert_eq!(rt; err.taken.as_slice(), on_err.as_bytes());
+    Ok(())
+}
+
+#[test]
+fn writes_a_reply_by_one_call(rt: HostRuntime) -> Result<(), Fail> {
+    for (command, line) in [
+        ("half int even 464", "5f40 OK\n"),
+        ("half int even 65520", "7c00 OVERFLOW|INEXACT\n"),
+        (
+            "quad div even 00010000000000000000000000000000 40008000000000000000000000000000",
+            "00005555555555555555555555555555 UNDERFLOW|INEXACT\n",
+        ),
+    ] {
+        expect_calls(&rt, command, (1, line), (0, ""))?;
+    }
+    expect_calls(&rt, "half int odd 1", (0, ""), (1, "refused: odd\n"))?;
+    expect_calls(&rt, "", (0, ""), (1, "refused: memory\n"))?;
+    Ok(())
+}
+
+// A refusal of 4096 bytes is one call, and one of more goes in parts.
+#[test]
+fn writes_a_long_refusal_whole(rt: HostRuntime) -> Result<(), Fail> {
+    for (letters, calls) in [(4085, 1), (4086, 1), (4087, 3), (9000, 3)] {
+        let word = String::from_utf8(vec![in rt.alloc(); b'x'; letters]?)?;
+        let command = format!(in rt.alloc(); "{word} add even 0 0")?;
+        let refusal = format!(in rt.alloc(); "refused: {word}\n")?;
+        expect_calls(&rt, command.as_str(), (0, ""), (calls, refusal.as_str()))?;
+    }
+    Ok(())
+}
+
+#[test]
+fn has_room_for_the_longest_line(rt: HostRuntime) -> Result<(), Fail> {
+    let mut out = Counting::new(rt.alloc());
+    write_line(u128::MAX, 32, Status::all(), &mut out)?;
+    assert_eq!(rt; out.calls, 1);
+    assert_eq!(rt;
+        out.taken.as_slice(),
+        b"ffffffffffffffffffffffffffffffff INVALID_OP|DIV_BY_ZERO|OVERFLOW|UNDERFLOW|INEXACT\n".as_slice()
+    );
+    Ok(())
 }
 
 // What the system gives: the words of a command, or of an empty one no memory for them.
