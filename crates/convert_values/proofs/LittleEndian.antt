@@ -1,6 +1,6 @@
 -- Numbers read and written as bytes, one after another.
 use Rattle.std.proofs.Common.{◌≡◌, ℕ, zero, suc, ◌+◌, ◌-◌, ◌*◌, ◌/◌, ◌%◌, ◌^◌, ◌<◌, ◌≤◌, List, [], ◌∷◌, ◌++◌, length, get_or, set, take, drop, refl, sym, ◌∙◌, ap, arith, lit<, pow-add, length-set, add-one}
-use Rattle.std.proofs.Math.Nat.{pow-le-pow_right, mul_assoc, mul_comm, mul-add, mul-suc}
+use Rattle.std.proofs.Math.Nat.{pow-le-pow_right, pow-suc, mul_assoc, mul_comm, mul-add, mul-suc}
 use Rattle.std.proofs.Math.ListN.{drop_of_length-le}
 use Rattle.std.proofs.lemmas.List.{drop_more, take_more_set, take_all, length-take-le}
 use Rattle.convert_values.specs.Bytes.{number_of}
@@ -115,3 +115,20 @@ write_to_end number rest place bytes all small so_far =
     let scale : 256 ^ place ≡ 256 ^ length bytes = ap (λ k. 256 ^ k) all in
     let below : number < 256 ^ place = omega arith in
     ap number_of (sym whole) ∙ none_left (number_of (take place bytes)) (256 ^ place) rest number so_far.written below
+
+-- ---- numbers of so many bits
+
+bytes_of_bits : (n : ℕ) → 256 ^ n ≡ 2 ^ (8 * n)
+bytes_of_bits zero = refl
+bytes_of_bits (suc n) =
+    pow-suc 256 n
+    ∙ ap (λ k. k * 256) (bytes_of_bits n)
+    ∙ sym (pow-add 2 (8 * n) 8)
+    ∙ ap (λ k. 2 ^ k) (sym (mul-suc 8 n))
+
+pub fits : (number bits places : ℕ) → number < 2 ^ bits → bits ≤ 8 * places → number < 256 ^ places
+fits number bits places small room =
+    let base : 0 < 2 = lit< tt in
+    let wider : 2 ^ bits ≤ 2 ^ (8 * places) = pow-le-pow_right base room in
+    let same = bytes_of_bits places in
+    omega arith

@@ -6,7 +6,7 @@ use Rattle.convert_values.specs.declared.counts.Counts.{Counts}
 
 -- whether a conversion raised this flag
 abbrev pub raised : ℕ → Outcome → Bool
-raised flag outcome = not (bit_and bits_of outcome.status flag == 0)
+raised flag outcome = not (bit_and (bits_of outcome.status) flag == 0)
 
 abbrev pub became_nan : Outcome → Bool
 became_nan outcome = outcome.is_nan
