@@ -39,10 +39,10 @@ read_more bytes number byte place within so_far is small =
     let behind : length bytes - 1 - place + 1 ≡ length bytes - place = omega arith in
     let inside : length bytes - 1 - place < length bytes = omega arith in
     let split : drop (length bytes - (place + 1)) bytes ≡ byte ∷ drop (length bytes - place) bytes =
-        ap (λ n. drop n bytes) here
-        ∙ drop_more bytes (length bytes - 1 - place) 0 inside
-        ∙ ap (λ b. b ∷ drop (length bytes - 1 - place + 1) bytes) (sym is)
-        ∙ ap (λ n. byte ∷ drop n bytes) behind in
+    ap (λ n. drop n bytes) here
+    ∙ drop_more bytes (length bytes - 1 - place) 0 inside
+    ∙ ap (λ b. b ∷ drop (length bytes - 1 - place + 1) bytes) (sym is)
+    ∙ ap (λ n. byte ∷ drop n bytes) behind in
     let told : number_of (drop (length bytes - (place + 1)) bytes) ≡ byte + 256 * number_of (drop (length bytes - place) bytes) = ap number_of split in
     let last : number ≡ number_of (drop (length bytes - place) bytes) = so_far.read in
     record {
@@ -95,7 +95,7 @@ write_more number rest place bytes within so_far =
     let size : length (take place bytes) ≡ place = length-take-le place bytes enough in
     let taken : take (place + 1) (set bytes place (rest % 256)) ≡ take place bytes ++ (rest % 256) ∷ [] = take_more_set bytes place (rest % 256) within in
     let pushed : number_of (take (place + 1) (set bytes place (rest % 256))) ≡ number_of (take place bytes) + 256 ^ place * (rest % 256) =
-        ap number_of taken ∙ number_of-push (take place bytes) (rest % 256) ∙ ap (λ k. number_of (take place bytes) + 256 ^ k * (rest % 256)) size in
+    ap number_of taken ∙ number_of-push (take place bytes) (rest % 256) ∙ ap (λ k. number_of (take place bytes) + 256 ^ k * (rest % 256)) size in
     let more : 256 ^ (place + 1) ≡ 256 ^ place * 256 = pow-add 256 place 1 in
     let last = cut (number_of (take place bytes)) (256 ^ place) (256 ^ (place + 1)) rest number more so_far.written in
     record { written = ap (λ k. k + 256 ^ (place + 1) * (rest / 256)) pushed ∙ last }

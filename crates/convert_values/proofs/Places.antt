@@ -112,13 +112,13 @@ block_more Holds source target index count input output new counts outcome befor
     let written : List ℕ = put_mid (index * target) (index * target + target - index * target) output new in
     let outcomes : List Outcome = so_far.outcomes ++ outcome ∷ [] in
     let Says : ℕ → Type 0 = λ k. IfSome (slice_get (so_far.outcomes ++ outcome ∷ []) k)
-        (λ o. Holds (value_at source k input) (value_at target k (put_mid (index * target) (index * target + target - index * target) output new)) o) in
+    (λ o. Holds (value_at source k input) (value_at target k (put_mid (index * target) (index * target + target - index * target) output new)) o) in
     let at_end : Says index =
-        last_of Holds (value_at source index input) new (value_at target index written) so_far.outcomes outcome index so_far.size
-        (latest target index output new within width) here in
+    last_of Holds (value_at source index input) new (value_at target index written) so_far.outcomes outcome index so_far.size
+    (latest target index output new within width) here in
     let before_it : (k : ℕ) → k < index → Says k = λ k h.
-        kept_of Holds (value_at source k input) (value_at target k output) (value_at target k written) so_far.outcomes (outcome ∷ []) k (omega arith)
-        (earlier target k index output new h within) (so_far.each k) in
+    kept_of Holds (value_at source k input) (value_at target k output) (value_at target k written) so_far.outcomes (outcome ∷ []) k (omega arith)
+    (earlier target k index output new h within) (so_far.each k) in
     let longer : length (so_far.outcomes ++ outcome ∷ []) ≡ index + 1 = length_push so_far.outcomes outcome ∙ ap (λ n. n + 1) so_far.size in
     record {
       outcomes = so_far.outcomes ++ outcome ∷ [];
@@ -128,3 +128,12 @@ block_more Holds source target index count input output new counts outcome befor
           (cases_lt k index);
       counted = ap (λ c. with_outcome c outcome) so_far.counted ∙ counts_push so_far.outcomes outcome;
     }
+
+-- the same block, its parts named otherwise
+pub block_named : (Holds : List ℕ → List ℕ → Outcome → Type 0) (source target count count' : ℕ) (input input' output output' : List ℕ) (counts : Counts)
+    → count ≡ count' → input ≡ input' → output ≡ output' → IsBlock Holds source target count input output counts → IsBlock Holds source target count' input' output' counts
+block_named Holds source target count count' input input' output output' counts same_count same_input same_output block =
+    let At : ℕ → Type 0 = λ n. IsBlock Holds source target n input' output' counts in
+    let Of : List ℕ → Type 0 = λ bytes. IsBlock Holds source target count bytes output' counts in
+    let To : List ℕ → Type 0 = λ bytes. IsBlock Holds source target count input bytes counts in
+    subst At same_count (subst Of same_input (subst To same_output block))

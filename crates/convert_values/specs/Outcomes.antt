@@ -1,5 +1,5 @@
 -- What becomes of values, and how many of them.
-use Rattle.std.specs.Prelude.{ℕ, ◌+◌, ◌-◌, ◌^◌, ◌<◌, Bool, not, ◌==◌, bit_and, if◌then◌else◌, List, length, count_by}
+use Rattle.std.specs.Prelude.{ℕ, min, ◌+◌, ◌-◌, ◌^◌, ◌<◌, Bool, not, ◌==◌, bit_and, if◌then◌else◌, List, length, count_by}
 use Rattle.rustc_apfloat.specs.Flags.{bits_of}
 use Rattle.convert_values.specs.declared.counts.Outcome.{Outcome}
 use Rattle.convert_values.specs.declared.counts.Counts.{Counts}
@@ -47,23 +47,18 @@ pub record HaveRoom (counts : Counts) : Type 0 where
   pub invalid : counts.invalid < 2 ^ 64 - 1
   pub nans : counts.nans < 2 ^ 64 - 1
 
+-- a count that stops at the greatest number of its type
+abbrev pub sum_to_top : ℕ → ℕ → ℕ
+sum_to_top count more = min (count + more) (2 ^ 64 - 1)
+
 -- the counts of two blocks
 abbrev pub sum_of : Counts → Counts → Counts
 sum_of counts block =
     record {
-      values = counts.values + block.values;
-      inexact = counts.inexact + block.inexact;
-      underflow = counts.underflow + block.underflow;
-      overflow = counts.overflow + block.overflow;
-      invalid = counts.invalid + block.invalid;
-      nans = counts.nans + block.nans;
+      values = sum_to_top counts.values block.values;
+      inexact = sum_to_top counts.inexact block.inexact;
+      underflow = sum_to_top counts.underflow block.underflow;
+      overflow = sum_to_top counts.overflow block.overflow;
+      invalid = sum_to_top counts.invalid block.invalid;
+      nans = sum_to_top counts.nans block.nans;
     }
-
--- their sum can be counted
-pub record HaveRoomFor (counts block : Counts) : Type 0 where
-  pub values : counts.values + block.values < 2 ^ 64
-  pub inexact : counts.inexact + block.inexact < 2 ^ 64
-  pub underflow : counts.underflow + block.underflow < 2 ^ 64
-  pub overflow : counts.overflow + block.overflow < 2 ^ 64
-  pub invalid : counts.invalid + block.invalid < 2 ^ 64
-  pub nans : counts.nans + block.nans < 2 ^ 64

@@ -34,6 +34,8 @@ impl Conversion {
     pub fn widths(self) -> Widths
         ensures source { result.source ≡ source_width self }
         ensures target { result.target ≡ target_width self }
+        ensures least { 1 ≤ result.source }
+        ensures greatest { (result.source ≤ 16) × (result.target ≤ 16) }
     {
         Widths {
             source: self.source.width(self.extended),

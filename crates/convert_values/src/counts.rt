@@ -1,7 +1,7 @@
 //! What becomes of values, and how many of them.
 
 ghost use Rattle.std.specs.Prelude.{◌≡◌};
-ghost use Rattle.convert_values.specs.Outcomes.{HaveRoom, HaveRoomFor, sum_of, with_outcome};
+ghost use Rattle.convert_values.specs.Outcomes.{HaveRoom, sum_of, with_outcome};
 
 use rustc_apfloat::{Flags, Status};
 
@@ -57,16 +57,15 @@ impl Counts {
         self.nans += u64::from(outcome.is_nan);
     }
 
-    /// Counts the values of a block too.
+    /// Counts the values of a block too. A count stops at the greatest number of its type.
     pub fn add(&mut self, block: Counts)
-        requires { HaveRoomFor self.old block }
         ensures { self.new ≡ sum_of self.old block }
     {
-        self.values += block.values;
-        self.inexact += block.inexact;
-        self.underflow += block.underflow;
-        self.overflow += block.overflow;
-        self.invalid += block.invalid;
-        self.nans += block.nans;
+        self.values = self.values.saturating_add(block.values);
+        self.inexact = self.inexact.saturating_add(block.inexact);
+        self.underflow = self.underflow.saturating_add(block.underflow);
+        self.overflow = self.overflow.saturating_add(block.overflow);
+        self.invalid = self.invalid.saturating_add(block.invalid);
+        self.nans = self.nans.saturating_add(block.nans);
     }
 }

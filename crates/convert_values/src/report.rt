@@ -79,7 +79,10 @@ fn tell<V: Write>(summary: Summary, err: &mut V) -> io::Result<u8> {
     if bytes == 0 {
         return Ok(0);
     }
-    writeln!(err, "convert_values: the stream ended inside a value, {bytes} bytes behind the last one")?;
+    writeln!(
+        err,
+        "convert_values: the stream ended inside a value, {bytes} bytes behind the last one"
+    )?;
     Ok(ENDED_INSIDE)
 }
 

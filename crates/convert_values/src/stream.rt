@@ -1,6 +1,9 @@
 //! Streams of values.
 
-ghost use Rattle.std.specs.Prelude.{◌≤◌, IfOk, length};
+ghost use Rattle.std.specs.Prelude.{◌≡◌, ◌+◌, ◌*◌, ◌/◌, ◌≤◌, IfOk, length, take};
+ghost use Rattle.convert_values.specs.Formats.{constants_in, source_width, target_width};
+ghost use Rattle.convert_values.specs.Values.{IsConvertedValue};
+ghost use Rattle.convert_values.specs.Blocks.{IsBlock};
 
 use crate::conversion::Conversion;
 use crate::counts::Counts;
@@ -10,9 +13,6 @@ use std::io::{ErrorKind, Read, Write};
 
 // How many values are converted at a time.
 const BLOCK: usize = 1 << 14;
-
-// How many blocks a stream may have: more than can be read in a thousand years, and few enough to count their values.
-const BLOCKS: u64 = 1 << 48;
 
 /// What a stream held.
 #[derive(Clone, Copy, Debug)]
@@ -32,7 +32,7 @@ pub enum Failure {
     Reading(io::Error),
     /// A write failed.
     Writing(io::Error),
-    /// It has too many values to be counted.
+    /// It has more than 2^64 blocks.
     TooLong,
 }
 
@@ -52,31 +52,85 @@ pub fn convert_stream<R: Read, W: Write>(
     let widths = conversion.widths();
     let mut read = vec![in alloc; 0u8; BLOCK * widths.source]?;
     let mut written = vec![in alloc; 0u8; BLOCK * widths.target]?;
+    convert_through(
+        conversion,
+        read.as_mut_slice(),
+        written.as_mut_slice(),
+        input,
+        output,
+    )
+}
+
+// The same through buffers with room for a block.
+fn convert_through<R: Read, W: Write>(
+    conversion: Conversion,
+    read: &mut [u8],
+    written: &mut [u8],
+    input: &mut R,
+    output: &mut W,
+) -> Result<Summary, Failure>
+    requires read { length read.old ≡ BLOCK * source_width conversion }
+    requires written { length written.old ≡ BLOCK * target_width conversion }
+{
     let mut counts = Counts::NONE;
-    for _ in 0..BLOCKS {
-        let filled = match fill(input, read.as_mut_slice()) {
+    for _ in 0..u64::MAX {
+        let filled = match fill(input, read) {
             Ok(filled) => filled,
             Err(error) => return Err(Failure::Reading(error)),
         };
-        let count = filled / widths.source;
-        let whole = count * widths.source;
-        let values = &read.as_slice()[..whole];
-        let converted = &mut written.as_mut_slice()[..count * widths.target];
-        counts.add(conversion.convert(count, values, converted));
-        if let Err(error) = output.write_all(converted) {
+        let block = convert_whole(conversion, &read[..filled], written);
+        counts.add(block.counts);
+        if let Err(error) = output.write_all(&written[..block.written]) {
             return Err(Failure::Writing(error));
         }
         if filled < read.len() {
             return match output.flush() {
                 Ok(()) => Ok(Summary {
                     counts,
-                    left_over: filled - whole,
+                    left_over: block.left_over,
                 }),
                 Err(error) => Err(Failure::Writing(error)),
             };
         }
     }
     Err(Failure::TooLong)
+}
+
+// What was made of bytes.
+#[derive(Clone, Copy)]
+struct Block {
+    // The counts of the values.
+    counts: Counts,
+    // How many bytes were written.
+    written: usize,
+    // How many bytes stood behind the last value.
+    left_over: usize,
+}
+
+// Converts the values that stand whole in the bytes read, each in its place.
+fn convert_whole(conversion: Conversion, read: &[u8], written: &mut [u8]) -> Block
+    requires read { length read.now ≤ BLOCK * source_width conversion }
+    requires written { length written.old ≡ BLOCK * target_width conversion }
+    ensures parts { let count = length read.now / source_width conversion in
+        (result.written ≡ count * target_width conversion)
+        × (result.left_over + count * source_width conversion ≡ length read.now) }
+    ensures within { result.written ≤ length written.new }
+    ensures block { let count = length read.now / source_width conversion in
+        let c = constants_in conversion.source in let d = constants_in conversion.target in
+        IsBlock (IsConvertedValue c d conversion.round) (source_width conversion)
+        (target_width conversion) count (take (count * source_width conversion) read.now)
+        (take result.written written.new) result.counts }
+{
+    let widths = conversion.widths();
+    let count = read.len() / widths.source;
+    let whole = count * widths.source;
+    let end = count * widths.target;
+    let counts = conversion.convert(count, &read[..whole], &mut written[..end]);
+    Block {
+        counts,
+        written: end,
+        left_over: read.len() - whole,
+    }
 }
 
 // Reads until the buffer is full or the stream is at its end, and answers how many bytes came.

@@ -24,8 +24,10 @@ pub fn convert_value<S: Semantics, T: Semantics>(
         input.now output.new result }
 {
     let mut loses_info = false;
-    let answer: StatusAnd<IeeeFloat<T>> =
-        S::from_bits(number_of(input)).convert_r(round, &mut loses_info);
+    let answer: StatusAnd<IeeeFloat<T>> = S::from_bits(number_of(input)).convert_r(
+        round,
+        &mut loses_info,
+    );
     write_number(T::to_bits(answer.value), output);
     Outcome {
         status: answer.status,
