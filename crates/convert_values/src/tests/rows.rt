@@ -1,6 +1,5 @@
 //! Values of each format in each other one, computed apart from the library, on exact fractions.
 
-use crate::counts::Counts;
 use crate::format::Format;
 use rustc_apfloat::Round;
 
@@ -22,19 +21,8 @@ pub struct Target {
     pub round: Round,
     /// Their bits in it.
     pub values: [u128; 8],
-    /// The counts of their conversions.
-    pub counts: Counts,
-}
-
-const fn counts(inexact: u64, underflow: u64, overflow: u64, invalid: u64, nans: u64) -> Counts {
-    Counts {
-        values: 8,
-        inexact,
-        underflow,
-        overflow,
-        invalid,
-        nans,
-    }
+    /// How many of their conversions are inexact, underflow, overflow and are invalid, and how many of the values NaNs.
+    pub counts: [u64; 5],
 }
 
 /// Values of this format.
@@ -50,7 +38,7 @@ pub const FROM_HALF: Source = Source {
             values: [
                 0xbf01, 0x3c40, 0x78cc, 0x8280, 0xfc00, 0xfe01, 0x5f04, 0xe7d8,
             ],
-            counts: counts(0, 0, 0, 1, 1),
+            counts: [0, 0, 0, 1, 1],
         },
         Target {
             format: Format::Single,
@@ -59,7 +47,7 @@ pub const FROM_HALF: Source = Source {
                 0xbfe02000, 0x3f880000, 0x47198000, 0xb8200000, 0xff800000, 0xffc02000, 0x43e08000,
                 0xc4fb0000,
             ],
-            counts: counts(0, 0, 0, 1, 1),
+            counts: [0, 0, 0, 1, 1],
         },
         Target {
             format: Format::Double,
@@ -74,7 +62,7 @@ pub const FROM_HALF: Source = Source {
                 0x407c100000000000,
                 0xc09f600000000000,
             ],
-            counts: counts(0, 0, 0, 1, 1),
+            counts: [0, 0, 0, 1, 1],
         },
         Target {
             format: Format::Quad,
@@ -89,7 +77,7 @@ pub const FROM_HALF: Source = Source {
                 0x4007c100000000000000000000000000,
                 0xc009f600000000000000000000000000,
             ],
-            counts: counts(0, 0, 0, 1, 1),
+            counts: [0, 0, 0, 1, 1],
         },
         Target {
             format: Format::BFloat,
@@ -97,25 +85,25 @@ pub const FROM_HALF: Source = Source {
             values: [
                 0xbfe0, 0x3f88, 0x471a, 0xb820, 0xff80, 0xffc0, 0x43e1, 0xc4fb,
             ],
-            counts: counts(3, 0, 0, 1, 1),
+            counts: [3, 0, 0, 1, 1],
         },
         Target {
             format: Format::E5M2,
             round: Round::NearestTiesToEven,
             values: [0xbf, 0x3c, 0x79, 0x82, 0xfc, 0xfe, 0x5f, 0xe8],
-            counts: counts(6, 1, 0, 1, 1),
+            counts: [6, 1, 0, 1, 1],
         },
         Target {
             format: Format::E4M3FN,
             round: Round::TowardPositive,
             values: [0xbe, 0x39, 0x7f, 0x80, 0xff, 0xff, 0x7f, 0xfe],
-            counts: counts(7, 1, 2, 1, 4),
+            counts: [7, 1, 2, 1, 4],
         },
         Target {
             format: Format::E4M3FNUZ,
             round: Round::TowardNegative,
             values: [0xc7, 0x40, 0x7f, 0x81, 0x80, 0x80, 0x7f, 0x80],
-            counts: counts(7, 1, 1, 1, 3),
+            counts: [7, 1, 1, 1, 3],
         },
         Target {
             format: Format::X87,
@@ -130,7 +118,7 @@ pub const FROM_HALF: Source = Source {
                 0x4007e080000000000000,
                 0xc009fb00000000000000,
             ],
-            counts: counts(0, 0, 0, 1, 1),
+            counts: [0, 0, 0, 1, 1],
         },
     ],
 };
@@ -149,7 +137,7 @@ pub const FROM_SINGLE: Source = Source {
             values: [
                 0xbf00, 0x3c40, 0x7c00, 0x8000, 0xfc00, 0xfe00, 0x5f04, 0x884b,
             ],
-            counts: counts(4, 1, 1, 1, 1),
+            counts: [4, 1, 1, 1, 1],
         },
         Target {
             format: Format::Single,
@@ -158,7 +146,7 @@ pub const FROM_SINGLE: Source = Source {
                 0xbfe00001, 0x3f880000, 0x7f199999, 0x80500000, 0xff800000, 0xffc00001, 0x43e08000,
                 0xb9096a04,
             ],
-            counts: counts(0, 0, 0, 1, 1),
+            counts: [0, 0, 0, 1, 1],
         },
         Target {
             format: Format::Double,
@@ -173,7 +161,7 @@ pub const FROM_SINGLE: Source = Source {
                 0x407c100000000000,
                 0xbf212d4080000000,
             ],
-            counts: counts(0, 0, 0, 1, 1),
+            counts: [0, 0, 0, 1, 1],
         },
         Target {
             format: Format::Quad,
@@ -188,7 +176,7 @@ pub const FROM_SINGLE: Source = Source {
                 0x4007c100000000000000000000000000,
                 0xbff212d4080000000000000000000000,
             ],
-            counts: counts(0, 0, 0, 1, 1),
+            counts: [0, 0, 0, 1, 1],
         },
         Target {
             format: Format::BFloat,
@@ -196,25 +184,25 @@ pub const FROM_SINGLE: Source = Source {
             values: [
                 0xbfe0, 0x3f88, 0x7f1a, 0x8050, 0xff80, 0xffc0, 0x43e0, 0xb909,
             ],
-            counts: counts(4, 0, 0, 1, 1),
+            counts: [4, 0, 0, 1, 1],
         },
         Target {
             format: Format::E5M2,
             round: Round::TowardPositive,
             values: [0xbf, 0x3d, 0x7c, 0x80, 0xfc, 0xfe, 0x60, 0x88],
-            counts: counts(6, 1, 1, 1, 1),
+            counts: [6, 1, 1, 1, 1],
         },
         Target {
             format: Format::E4M3FN,
             round: Round::TowardNegative,
             values: [0xbf, 0x38, 0x7e, 0x81, 0xff, 0xff, 0x7e, 0x81],
-            counts: counts(7, 2, 0, 1, 2),
+            counts: [7, 2, 0, 1, 2],
         },
         Target {
             format: Format::E4M3FNUZ,
             round: Round::TowardZero,
             values: [0xc6, 0x40, 0x7f, 0x00, 0x80, 0x80, 0x7f, 0x00],
-            counts: counts(7, 2, 0, 1, 2),
+            counts: [7, 2, 0, 1, 2],
         },
         Target {
             format: Format::X87,
@@ -229,7 +217,7 @@ pub const FROM_SINGLE: Source = Source {
                 0x4007e080000000000000,
                 0xbff2896a040000000000,
             ],
-            counts: counts(0, 0, 0, 1, 1),
+            counts: [0, 0, 0, 1, 1],
         },
     ],
 };
@@ -254,7 +242,7 @@ pub const FROM_DOUBLE: Source = Source {
             values: [
                 0xbf01, 0x3c40, 0x7bff, 0x8001, 0xfc00, 0xfe00, 0x5f04, 0xfc00,
             ],
-            counts: counts(4, 1, 1, 1, 1),
+            counts: [4, 1, 1, 1, 1],
         },
         Target {
             format: Format::Single,
@@ -263,7 +251,7 @@ pub const FROM_DOUBLE: Source = Source {
                 0xbfe00000, 0x3f880000, 0x7f7fffff, 0x80000000, 0xff800000, 0xffc00000, 0x43e08000,
                 0xff7fffff,
             ],
-            counts: counts(4, 1, 0, 1, 1),
+            counts: [4, 1, 0, 1, 1],
         },
         Target {
             format: Format::Double,
@@ -278,7 +266,7 @@ pub const FROM_DOUBLE: Source = Source {
                 0x407c100000000000,
                 0xc963cfe0afae5a3b,
             ],
-            counts: counts(0, 0, 0, 1, 1),
+            counts: [0, 0, 0, 1, 1],
         },
         Target {
             format: Format::Quad,
@@ -293,7 +281,7 @@ pub const FROM_DOUBLE: Source = Source {
                 0x4007c100000000000000000000000000,
                 0xc0963cfe0afae5a3b000000000000000,
             ],
-            counts: counts(0, 0, 0, 1, 1),
+            counts: [0, 0, 0, 1, 1],
         },
         Target {
             format: Format::BFloat,
@@ -301,25 +289,25 @@ pub const FROM_DOUBLE: Source = Source {
             values: [
                 0xbfe0, 0x3f88, 0x7f80, 0x8000, 0xff80, 0xffc0, 0x43e1, 0xff7f,
             ],
-            counts: counts(5, 1, 1, 1, 1),
+            counts: [5, 1, 1, 1, 1],
         },
         Target {
             format: Format::E5M2,
             round: Round::TowardNegative,
             values: [0xc0, 0x3c, 0x7b, 0x81, 0xfc, 0xfe, 0x5f, 0xfc],
-            counts: counts(6, 1, 1, 1, 1),
+            counts: [6, 1, 1, 1, 1],
         },
         Target {
             format: Format::E4M3FN,
             round: Round::TowardZero,
             values: [0xbe, 0x38, 0x7e, 0x80, 0xff, 0xff, 0x7e, 0xfe],
-            counts: counts(7, 1, 0, 1, 2),
+            counts: [7, 1, 0, 1, 2],
         },
         Target {
             format: Format::E4M3FNUZ,
             round: Round::NearestTiesToAway,
             values: [0xc6, 0x41, 0x80, 0x00, 0x80, 0x80, 0x80, 0x80],
-            counts: counts(7, 1, 3, 1, 5),
+            counts: [7, 1, 3, 1, 5],
         },
         Target {
             format: Format::X87,
@@ -334,7 +322,7 @@ pub const FROM_DOUBLE: Source = Source {
                 0x4007e080000000000000,
                 0xc0969e7f057d72d1d800,
             ],
-            counts: counts(0, 0, 0, 1, 1),
+            counts: [0, 0, 0, 1, 1],
         },
     ],
 };
@@ -359,7 +347,7 @@ pub const FROM_QUAD: Source = Source {
             values: [
                 0xbf00, 0x3c40, 0x7bff, 0x8000, 0xfc00, 0xfe00, 0x5f04, 0x0000,
             ],
-            counts: counts(4, 2, 0, 1, 1),
+            counts: [4, 2, 0, 1, 1],
         },
         Target {
             format: Format::Single,
@@ -368,7 +356,7 @@ pub const FROM_QUAD: Source = Source {
                 0xbfe00000, 0x3f880000, 0x7f800000, 0x80000000, 0xff800000, 0xffc00000, 0x43e08000,
                 0x00000000,
             ],
-            counts: counts(4, 2, 1, 1, 1),
+            counts: [4, 2, 1, 1, 1],
         },
         Target {
             format: Format::Double,
@@ -383,7 +371,7 @@ pub const FROM_QUAD: Source = Source {
                 0x407c100000000000,
                 0x0000000000000000,
             ],
-            counts: counts(4, 2, 1, 1, 1),
+            counts: [4, 2, 1, 1, 1],
         },
         Target {
             format: Format::Quad,
@@ -398,7 +386,7 @@ pub const FROM_QUAD: Source = Source {
                 0x4007c100000000000000000000000000,
                 0x26b563b1e794ee14e1454c40c439f34a,
             ],
-            counts: counts(0, 0, 0, 1, 1),
+            counts: [0, 0, 0, 1, 1],
         },
         Target {
             format: Format::BFloat,
@@ -406,25 +394,25 @@ pub const FROM_QUAD: Source = Source {
             values: [
                 0xbfe1, 0x3f88, 0x7f7f, 0x8001, 0xff80, 0xffc0, 0x43e0, 0x0000,
             ],
-            counts: counts(5, 2, 0, 1, 1),
+            counts: [5, 2, 0, 1, 1],
         },
         Target {
             format: Format::E5M2,
             round: Round::TowardZero,
             values: [0xbf, 0x3c, 0x7b, 0x80, 0xfc, 0xfe, 0x5f, 0x00],
-            counts: counts(6, 2, 0, 1, 1),
+            counts: [6, 2, 0, 1, 1],
         },
         Target {
             format: Format::E4M3FN,
             round: Round::NearestTiesToAway,
             values: [0xbe, 0x39, 0x7f, 0x80, 0xff, 0xff, 0x7e, 0x00],
-            counts: counts(7, 2, 1, 1, 3),
+            counts: [7, 2, 1, 1, 3],
         },
         Target {
             format: Format::E4M3FNUZ,
             round: Round::NearestTiesToEven,
             values: [0xc6, 0x40, 0x80, 0x00, 0x80, 0x80, 0x80, 0x00],
-            counts: counts(7, 2, 2, 1, 4),
+            counts: [7, 2, 2, 1, 4],
         },
         Target {
             format: Format::X87,
@@ -439,7 +427,7 @@ pub const FROM_QUAD: Source = Source {
                 0x4007e080000000000000,
                 0x26b5b1d8f3ca770a70a3,
             ],
-            counts: counts(3, 0, 0, 1, 1),
+            counts: [3, 0, 0, 1, 1],
         },
     ],
 };
@@ -457,7 +445,7 @@ pub const FROM_BFLOAT: Source = Source {
             values: [
                 0xbf08, 0x3c40, 0x7c00, 0x8000, 0xfc00, 0xfe08, 0x5f00, 0x5420,
             ],
-            counts: counts(2, 1, 1, 1, 1),
+            counts: [2, 1, 1, 1, 1],
         },
         Target {
             format: Format::Single,
@@ -466,7 +454,7 @@ pub const FROM_BFLOAT: Source = Source {
                 0xbfe10000, 0x3f880000, 0x7f190000, 0x80500000, 0xff800000, 0xffc10000, 0x43e00000,
                 0x42840000,
             ],
-            counts: counts(0, 0, 0, 1, 1),
+            counts: [0, 0, 0, 1, 1],
         },
         Target {
             format: Format::Double,
@@ -481,7 +469,7 @@ pub const FROM_BFLOAT: Source = Source {
                 0x407c000000000000,
                 0x4050800000000000,
             ],
-            counts: counts(0, 0, 0, 1, 1),
+            counts: [0, 0, 0, 1, 1],
         },
         Target {
             format: Format::Quad,
@@ -496,7 +484,7 @@ pub const FROM_BFLOAT: Source = Source {
                 0x4007c000000000000000000000000000,
                 0x40050800000000000000000000000000,
             ],
-            counts: counts(0, 0, 0, 1, 1),
+            counts: [0, 0, 0, 1, 1],
         },
         Target {
             format: Format::BFloat,
@@ -504,25 +492,25 @@ pub const FROM_BFLOAT: Source = Source {
             values: [
                 0xbfe1, 0x3f88, 0x7f19, 0x8050, 0xff80, 0xffc1, 0x43e0, 0x4284,
             ],
-            counts: counts(0, 0, 0, 1, 1),
+            counts: [0, 0, 0, 1, 1],
         },
         Target {
             format: Format::E5M2,
             round: Round::NearestTiesToAway,
             values: [0xbf, 0x3c, 0x7c, 0x80, 0xfc, 0xfe, 0x5f, 0x54],
-            counts: counts(5, 1, 1, 1, 1),
+            counts: [5, 1, 1, 1, 1],
         },
         Target {
             format: Format::E4M3FN,
             round: Round::NearestTiesToEven,
             values: [0xbe, 0x38, 0x7f, 0x80, 0xff, 0xff, 0x7e, 0x68],
-            counts: counts(6, 1, 1, 1, 3),
+            counts: [6, 1, 1, 1, 3],
         },
         Target {
             format: Format::E4M3FNUZ,
             round: Round::TowardPositive,
             values: [0xc6, 0x41, 0x80, 0x00, 0x80, 0x80, 0x80, 0x71],
-            counts: counts(7, 1, 2, 1, 4),
+            counts: [7, 1, 2, 1, 4],
         },
         Target {
             format: Format::X87,
@@ -537,7 +525,7 @@ pub const FROM_BFLOAT: Source = Source {
                 0x4007e000000000000000,
                 0x40058400000000000000,
             ],
-            counts: counts(0, 0, 0, 1, 1),
+            counts: [0, 0, 0, 1, 1],
         },
     ],
 };
@@ -553,7 +541,7 @@ pub const FROM_E5M2: Source = Source {
             values: [
                 0xbd00, 0x3c00, 0x7800, 0x8200, 0xfc00, 0xff00, 0x5f00, 0xac00,
             ],
-            counts: counts(0, 0, 0, 1, 1),
+            counts: [0, 0, 0, 1, 1],
         },
         Target {
             format: Format::Single,
@@ -562,7 +550,7 @@ pub const FROM_E5M2: Source = Source {
                 0xbfa00000, 0x3f800000, 0x47000000, 0xb8000000, 0xff800000, 0xffe00000, 0x43e00000,
                 0xbd800000,
             ],
-            counts: counts(0, 0, 0, 1, 1),
+            counts: [0, 0, 0, 1, 1],
         },
         Target {
             format: Format::Double,
@@ -577,7 +565,7 @@ pub const FROM_E5M2: Source = Source {
                 0x407c000000000000,
                 0xbfb0000000000000,
             ],
-            counts: counts(0, 0, 0, 1, 1),
+            counts: [0, 0, 0, 1, 1],
         },
         Target {
             format: Format::Quad,
@@ -592,7 +580,7 @@ pub const FROM_E5M2: Source = Source {
                 0x4007c000000000000000000000000000,
                 0xbffb0000000000000000000000000000,
             ],
-            counts: counts(0, 0, 0, 1, 1),
+            counts: [0, 0, 0, 1, 1],
         },
         Target {
             format: Format::BFloat,
@@ -600,25 +588,25 @@ pub const FROM_E5M2: Source = Source {
             values: [
                 0xbfa0, 0x3f80, 0x4700, 0xb800, 0xff80, 0xffe0, 0x43e0, 0xbd80,
             ],
-            counts: counts(0, 0, 0, 1, 1),
+            counts: [0, 0, 0, 1, 1],
         },
         Target {
             format: Format::E5M2,
             round: Round::NearestTiesToEven,
             values: [0xbd, 0x3c, 0x78, 0x82, 0xfc, 0xff, 0x5f, 0xac],
-            counts: counts(0, 0, 0, 1, 1),
+            counts: [0, 0, 0, 1, 1],
         },
         Target {
             format: Format::E4M3FN,
             round: Round::TowardPositive,
             values: [0xba, 0x38, 0x7f, 0x80, 0xff, 0xff, 0x7e, 0x98],
-            counts: counts(3, 1, 1, 1, 3),
+            counts: [3, 1, 1, 1, 3],
         },
         Target {
             format: Format::E4M3FNUZ,
             round: Round::TowardNegative,
             values: [0xc2, 0x40, 0x7f, 0x81, 0x80, 0x80, 0x7f, 0xa0],
-            counts: counts(4, 1, 0, 1, 2),
+            counts: [4, 1, 0, 1, 2],
         },
         Target {
             format: Format::X87,
@@ -633,7 +621,7 @@ pub const FROM_E5M2: Source = Source {
                 0x4007e000000000000000,
                 0xbffb8000000000000000,
             ],
-            counts: counts(0, 0, 0, 1, 1),
+            counts: [0, 0, 0, 1, 1],
         },
     ],
 };
@@ -647,18 +635,18 @@ pub const FROM_E4M3FN: Source = Source {
             format: Format::Half,
             round: Round::TowardPositive,
             values: [
-                0xbe80, 0x3c00, 0x5c00, 0xa100, 0xfe00, 0x8000, 0x5f00, 0xb100,
+                0xbe80, 0x3c00, 0x5c00, 0xa100, 0xff80, 0x8000, 0x5f00, 0xb100,
             ],
-            counts: counts(0, 0, 0, 0, 1),
+            counts: [0, 0, 0, 0, 1],
         },
         Target {
             format: Format::Single,
             round: Round::TowardNegative,
             values: [
-                0xbfd00000, 0x3f800000, 0x43800000, 0xbc200000, 0xffc00000, 0x80000000, 0x43e00000,
+                0xbfd00000, 0x3f800000, 0x43800000, 0xbc200000, 0xfff00000, 0x80000000, 0x43e00000,
                 0xbe200000,
             ],
-            counts: counts(0, 0, 0, 0, 1),
+            counts: [0, 0, 0, 0, 1],
         },
         Target {
             format: Format::Double,
@@ -668,12 +656,12 @@ pub const FROM_E4M3FN: Source = Source {
                 0x3ff0000000000000,
                 0x4070000000000000,
                 0xbf84000000000000,
-                0xfff8000000000000,
+                0xfffe000000000000,
                 0x8000000000000000,
                 0x407c000000000000,
                 0xbfc4000000000000,
             ],
-            counts: counts(0, 0, 0, 0, 1),
+            counts: [0, 0, 0, 0, 1],
         },
         Target {
             format: Format::Quad,
@@ -683,38 +671,38 @@ pub const FROM_E4M3FN: Source = Source {
                 0x3fff0000000000000000000000000000,
                 0x40070000000000000000000000000000,
                 0xbff84000000000000000000000000000,
-                0xffff8000000000000000000000000000,
+                0xffffe000000000000000000000000000,
                 0x80000000000000000000000000000000,
                 0x4007c000000000000000000000000000,
                 0xbffc4000000000000000000000000000,
             ],
-            counts: counts(0, 0, 0, 0, 1),
+            counts: [0, 0, 0, 0, 1],
         },
         Target {
             format: Format::BFloat,
             round: Round::NearestTiesToEven,
             values: [
-                0xbfd0, 0x3f80, 0x4380, 0xbc20, 0xffc0, 0x8000, 0x43e0, 0xbe20,
+                0xbfd0, 0x3f80, 0x4380, 0xbc20, 0xfff0, 0x8000, 0x43e0, 0xbe20,
             ],
-            counts: counts(0, 0, 0, 0, 1),
+            counts: [0, 0, 0, 0, 1],
         },
         Target {
             format: Format::E5M2,
             round: Round::TowardPositive,
-            values: [0xbe, 0x3c, 0x5c, 0xa1, 0xfe, 0x80, 0x5f, 0xb1],
-            counts: counts(1, 0, 0, 0, 1),
+            values: [0xbe, 0x3c, 0x5c, 0xa1, 0xff, 0x80, 0x5f, 0xb1],
+            counts: [1, 0, 0, 0, 1],
         },
         Target {
             format: Format::E4M3FN,
             round: Round::TowardNegative,
             values: [0xbd, 0x38, 0x78, 0x85, 0xff, 0x80, 0x7e, 0xa2],
-            counts: counts(0, 0, 0, 0, 1),
+            counts: [0, 0, 0, 0, 1],
         },
         Target {
             format: Format::E4M3FNUZ,
             round: Round::TowardZero,
             values: [0xc5, 0x40, 0x7f, 0x8a, 0x80, 0x00, 0x7f, 0xaa],
-            counts: counts(3, 0, 0, 0, 1),
+            counts: [3, 0, 0, 0, 1],
         },
         Target {
             format: Format::X87,
@@ -724,12 +712,12 @@ pub const FROM_E4M3FN: Source = Source {
                 0x3fff8000000000000000,
                 0x40078000000000000000,
                 0xbff8a000000000000000,
-                0xffffc000000000000000,
+                0xfffff000000000000000,
                 0x80000000000000000000,
                 0x4007e000000000000000,
                 0xbffca000000000000000,
             ],
-            counts: counts(0, 0, 0, 0, 1),
+            counts: [0, 0, 0, 0, 1],
         },
     ],
 };
@@ -745,7 +733,7 @@ pub const FROM_E4M3FNUZ: Source = Source {
             values: [
                 0xbe80, 0x3c00, 0x5880, 0x9d00, 0x7e00, 0x1400, 0x5b80, 0xc880,
             ],
-            counts: counts(0, 0, 0, 0, 1),
+            counts: [0, 0, 0, 0, 1],
         },
         Target {
             format: Format::Single,
@@ -754,7 +742,7 @@ pub const FROM_E4M3FNUZ: Source = Source {
                 0xbfd00000, 0x3f800000, 0x43100000, 0xbba00000, 0x7fc00000, 0x3a800000, 0x43700000,
                 0xc1100000,
             ],
-            counts: counts(0, 0, 0, 0, 1),
+            counts: [0, 0, 0, 0, 1],
         },
         Target {
             format: Format::Double,
@@ -769,7 +757,7 @@ pub const FROM_E4M3FNUZ: Source = Source {
                 0x406e000000000000,
                 0xc022000000000000,
             ],
-            counts: counts(0, 0, 0, 0, 1),
+            counts: [0, 0, 0, 0, 1],
         },
         Target {
             format: Format::Quad,
@@ -784,7 +772,7 @@ pub const FROM_E4M3FNUZ: Source = Source {
                 0x4006e000000000000000000000000000,
                 0xc0022000000000000000000000000000,
             ],
-            counts: counts(0, 0, 0, 0, 1),
+            counts: [0, 0, 0, 0, 1],
         },
         Target {
             format: Format::BFloat,
@@ -792,25 +780,25 @@ pub const FROM_E4M3FNUZ: Source = Source {
             values: [
                 0xbfd0, 0x3f80, 0x4310, 0xbba0, 0x7fc0, 0x3a80, 0x4370, 0xc110,
             ],
-            counts: counts(0, 0, 0, 0, 1),
+            counts: [0, 0, 0, 0, 1],
         },
         Target {
             format: Format::E5M2,
             round: Round::TowardNegative,
             values: [0xbf, 0x3c, 0x58, 0x9d, 0x7e, 0x14, 0x5b, 0xc9],
-            counts: counts(4, 0, 0, 0, 1),
+            counts: [4, 0, 0, 0, 1],
         },
         Target {
             format: Format::E4M3FN,
             round: Round::TowardZero,
             values: [0xbd, 0x38, 0x71, 0x82, 0x7f, 0x00, 0x77, 0xd1],
-            counts: counts(2, 2, 0, 0, 1),
+            counts: [2, 2, 0, 0, 1],
         },
         Target {
             format: Format::E4M3FNUZ,
             round: Round::NearestTiesToAway,
             values: [0xc5, 0x40, 0x79, 0x85, 0x80, 0x01, 0x7f, 0xd9],
-            counts: counts(0, 0, 0, 0, 1),
+            counts: [0, 0, 0, 0, 1],
         },
         Target {
             format: Format::X87,
@@ -825,7 +813,7 @@ pub const FROM_E4M3FNUZ: Source = Source {
                 0x4006f000000000000000,
                 0xc0029000000000000000,
             ],
-            counts: counts(0, 0, 0, 0, 1),
+            counts: [0, 0, 0, 0, 1],
         },
     ],
 };
@@ -850,7 +838,7 @@ pub const FROM_X87: Source = Source {
             values: [
                 0xbf00, 0x3c40, 0x7bff, 0x8000, 0xfc00, 0xfe00, 0x5f04, 0xfecf,
             ],
-            counts: counts(3, 1, 0, 2, 2),
+            counts: [3, 1, 0, 2, 2],
         },
         Target {
             format: Format::Single,
@@ -859,7 +847,7 @@ pub const FROM_X87: Source = Source {
                 0xbfe00000, 0x3f880000, 0x7f800000, 0x80000000, 0xff800000, 0xffc00000, 0x43e08000,
                 0xffd9fcfc,
             ],
-            counts: counts(3, 1, 1, 2, 2),
+            counts: [3, 1, 1, 2, 2],
         },
         Target {
             format: Format::Double,
@@ -874,7 +862,7 @@ pub const FROM_X87: Source = Source {
                 0x407c100000000000,
                 0xfffb3f9f8c9cf550,
             ],
-            counts: counts(3, 1, 1, 2, 2),
+            counts: [3, 1, 1, 2, 2],
         },
         Target {
             format: Format::Quad,
@@ -889,7 +877,7 @@ pub const FROM_X87: Source = Source {
                 0x4007c100000000000000000000000000,
                 0xffffb3f9f8c9cf550aec000000000000,
             ],
-            counts: counts(0, 0, 0, 2, 2),
+            counts: [0, 0, 0, 2, 2],
         },
         Target {
             format: Format::BFloat,
@@ -897,25 +885,25 @@ pub const FROM_X87: Source = Source {
             values: [
                 0xbfe1, 0x3f88, 0x7f7f, 0x8001, 0xff80, 0xffc0, 0x43e0, 0xffd9,
             ],
-            counts: counts(4, 1, 0, 2, 2),
+            counts: [4, 1, 0, 2, 2],
         },
         Target {
             format: Format::E5M2,
             round: Round::TowardZero,
             values: [0xbf, 0x3c, 0x7b, 0x80, 0xfc, 0xfe, 0x5f, 0xfe],
-            counts: counts(5, 1, 0, 2, 2),
+            counts: [5, 1, 0, 2, 2],
         },
         Target {
             format: Format::E4M3FN,
             round: Round::NearestTiesToAway,
             values: [0xbe, 0x39, 0x7f, 0x80, 0xff, 0xff, 0x7e, 0xff],
-            counts: counts(6, 1, 1, 2, 4),
+            counts: [6, 1, 1, 2, 4],
         },
         Target {
             format: Format::E4M3FNUZ,
             round: Round::NearestTiesToEven,
             values: [0xc6, 0x40, 0x80, 0x00, 0x80, 0x80, 0x80, 0x80],
-            counts: counts(6, 1, 2, 2, 5),
+            counts: [6, 1, 2, 2, 5],
         },
         Target {
             format: Format::X87,
@@ -930,7 +918,7 @@ pub const FROM_X87: Source = Source {
                 0x4007e080000000000000,
                 0xffffd9fcfc64e7aa8576,
             ],
-            counts: counts(0, 0, 0, 2, 2),
+            counts: [0, 0, 0, 2, 2],
         },
     ],
 };
