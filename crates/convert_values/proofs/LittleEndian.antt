@@ -1,5 +1,5 @@
 -- Numbers read and written as bytes, one after another.
-use Rattle.std.proofs.Common.{◌≡◌, ℕ, zero, suc, ◌+◌, ◌-◌, ◌*◌, ◌/◌, ◌%◌, ◌^◌, ◌<◌, ◌≤◌, List, [], ◌∷◌, ◌++◌, length, get_or, set, take, drop, refl, sym, ◌∙◌, ap, arith, lit<, pow-add, length-set, add-one}
+use Rattle.std.proofs.Common.{◌≡◌, ℕ, zero, suc, ◌+◌, ◌-◌, ◌*◌, ◌/◌, ◌%◌, ◌^◌, ◌<◌, ◌≤◌, List, [], ◌∷◌, ◌++◌, length, get_or, set, take, drop, refl, sym, ◌∙◌, ap, arith, lit<, pow-add, add-one}
 use Rattle.std.proofs.Math.Nat.{pow-le-pow_right, pow-suc, mul_assoc, mul_comm, mul-add, mul-suc}
 use Rattle.std.proofs.Math.ListN.{drop_of_length-le}
 use Rattle.std.proofs.lemmas.List.{drop_more, take_more_set, take_all, length-take-le}
@@ -46,8 +46,8 @@ read_more bytes number byte place within so_far is small =
     ∙ ap (λ b. b ∷ drop (length bytes - 1 - place + 1) bytes) (sym is)
     ∙ ap (λ n. byte ∷ drop n bytes) behind in
     let told : number_of (drop (length bytes - (place + 1)) bytes)
-        ≡ byte + 256 * number_of (drop (length bytes - place) bytes) =
-        ap number_of split in
+    ≡ byte + 256 * number_of (drop (length bytes - place) bytes) =
+    ap number_of split in
     let last : number ≡ number_of (drop (length bytes - place) bytes) = so_far.read in
     record {
       below = scaled number byte place so_far.below small;
@@ -67,7 +67,7 @@ shifted : (first n more power wider byte : ℕ) → more ≡ n + power * byte �
     → first + 256 * more ≡ first + 256 * n + wider * byte
 shifted first n more power wider byte told scale =
     let turned : power * 256 * byte ≡ 256 * (power * byte) =
-        ap (λ k. k * byte) (mul_comm power 256) ∙ mul_assoc 256 power byte in
+    ap (λ k. k * byte) (mul_comm power 256) ∙ mul_assoc 256 power byte in
     let scaled_byte : wider * byte ≡ power * 256 * byte = ap (λ k. k * byte) scale in
     omega arith
 
@@ -78,7 +78,7 @@ number_of-push (first ∷ bytes) byte =
     let more : 256 ^ (length bytes + 1) ≡ 256 ^ length bytes * 256 = pow-add 256 (length bytes) 1 in
     let same : 256 ^ suc (length bytes) ≡ 256 ^ length bytes * 256 = rw (← add-one (length bytes)) more in
     shifted first (number_of bytes) (number_of (bytes ++ byte ∷ [])) (256 ^ length bytes) (256 ^ suc (length bytes))
-        byte (number_of-push bytes byte) same
+    byte (number_of-push bytes byte) same
 
 -- the first bytes, so many, and the rest above them say the number
 pub record IsWrittenUp (number rest place : ℕ) (bytes : List ℕ) : Type 0 where
@@ -92,7 +92,7 @@ cut : (n power wider rest number : ℕ) → wider ≡ power * 256 → n + power 
 cut n power wider rest number scale so_far =
     let parts : rest % 256 + 256 * (rest / 256) ≡ rest = omega arith in
     let spread : power * (rest % 256 + 256 * (rest / 256)) ≡ power * (rest % 256) + power * (256 * (rest / 256)) =
-        mul-add power (rest % 256) (256 * (rest / 256)) in
+    mul-add power (rest % 256) (256 * (rest / 256)) in
     let turned : power * 256 * (rest / 256) ≡ power * (256 * (rest / 256)) = mul_assoc power 256 (rest / 256) in
     let scaled_rest : wider * (rest / 256) ≡ power * 256 * (rest / 256) = ap (λ k. k * (rest / 256)) scale in
     let joined : power * (rest % 256 + 256 * (rest / 256)) ≡ power * rest = ap (λ k. power * k) parts in
@@ -104,11 +104,11 @@ write_more number rest place bytes within so_far =
     let enough : place ≤ length bytes = omega arith in
     let size : length (take place bytes) ≡ place = length-take-le place bytes enough in
     let taken : take (place + 1) (set bytes place (rest % 256)) ≡ take place bytes ++ (rest % 256) ∷ [] =
-        take_more_set bytes place (rest % 256) within in
+    take_more_set bytes place (rest % 256) within in
     let pushed : number_of (take (place + 1) (set bytes place (rest % 256)))
-        ≡ number_of (take place bytes) + 256 ^ place * (rest % 256) =
+    ≡ number_of (take place bytes) + 256 ^ place * (rest % 256) =
     ap number_of taken ∙ number_of-push (take place bytes) (rest % 256)
-        ∙ ap (λ k. number_of (take place bytes) + 256 ^ k * (rest % 256)) size in
+    ∙ ap (λ k. number_of (take place bytes) + 256 ^ k * (rest % 256)) size in
     let more : 256 ^ (place + 1) ≡ 256 ^ place * 256 = pow-add 256 place 1 in
     let last = cut (number_of (take place bytes)) (256 ^ place) (256 ^ (place + 1)) rest number more so_far.written in
     record { written = ap (λ k. k + 256 ^ (place + 1) * (rest / 256)) pushed ∙ last }

@@ -1,6 +1,6 @@
 -- One more value in its place.
-use Rattle.std.proofs.Common.{◌≡◌, ℕ, zero, suc, ◌+◌, ◌-◌, ◌*◌, ◌<◌, ◌≤◌, Bool, true, false, ◌⊎◌, inl, inr, ⊎_elim, if◌then◌else◌, List, [], ◌∷◌, ◌++◌, length, take, drop, Option, Some, None, refl, sym, ◌∙◌, ap, subst, arith, zero-add}
-use Rattle.std.specs.Prelude.{slice_get, slice_range, IfSome, count_by}
+use Rattle.std.proofs.Common.{◌≡◌, ℕ, zero, suc, ◌+◌, ◌-◌, ◌*◌, ◌<◌, ◌≤◌, Bool, ⊎_elim, if◌then◌else◌, List, [], ◌∷◌, ◌++◌, length, drop, Option, Some, refl, sym, ◌∙◌, ap, subst, arith, zero-add}
+use Rattle.std.specs.Prelude.{slice_get, IfSome, count_by}
 use Rattle.std.proofs.Math.Nat.{mul-le-mul_right, suc-mul}
 use Rattle.std.proofs.lemmas.Bool.{cases_lt, cases_eq}
 use Rattle.std.proofs.lemmas.List.{length_push}
@@ -49,7 +49,7 @@ place_size width index count bytes before size =
     let room = place_below index count width before in
     let within : index * width + width ≤ length bytes = omega arith in
     length-between bytes (index * width) (index * width + width) within
-        ∙ (let all : index * width + width - index * width ≡ width = omega arith in all)
+    ∙ (let all : index * width + width - index * width ≡ width = omega arith in all)
 
 get_left : {X : Type 0} (xs ys : List X) (k : ℕ) → k < length xs → slice_get (xs ++ ys) k ≡ slice_get xs k
 get_left [] ys k within = absurd (omega arith)
@@ -70,7 +70,7 @@ earlier width index later bytes new before within =
     between_is written (index * width) (index * width + width)
     ∙ ap (drop (index * width))
     (take-put_mid_below (later * width) (later * width + width - later * width) bytes new (index * width + width)
-        below within)
+    below within)
     ∙ sym (between_is bytes (index * width) (index * width + width))
 
 -- and has what was written
@@ -78,7 +78,7 @@ latest : (width index : ℕ) (bytes new : List ℕ) → index * width ≤ length
     → value_at width index (put_mid (index * width) (index * width + width - index * width) bytes new) ≡ new
 latest width index bytes new within size =
     between-put_mid (index * width) (index * width + width - index * width) bytes new (index * width + width) within
-        (omega arith)
+    (omega arith)
 
 -- ---- what is said of an index
 
@@ -99,7 +99,7 @@ last_of Holds source new now outcomes outcome index size same here =
     let At : List ℕ → Type 0 = λ bytes. Holds source bytes outcome in
     let Of : Option Outcome → Type 0 = λ found. IfSome found (λ o. Holds source now o) in
     let found : slice_get (outcomes ++ outcome ∷ []) index ≡ Some outcome =
-        ap (slice_get (outcomes ++ outcome ∷ [])) (sym size) ∙ get_last outcomes outcome in
+    ap (slice_get (outcomes ++ outcome ∷ [])) (sym size) ∙ get_last outcomes outcome in
     subst Of (sym found) (subst At (sym same) here)
 
 none_of : (Holds : List ℕ → List ℕ → Outcome → Type 0) (source now : List ℕ) (outcomes : List Outcome) (k : ℕ)
@@ -130,23 +130,23 @@ block_more Holds source target index count input output new counts outcome befor
     let outcomes : List Outcome = so_far.outcomes ++ outcome ∷ [] in
     let Says : ℕ → Type 0 = λ k. IfSome (slice_get (so_far.outcomes ++ outcome ∷ []) k)
     (λ o. Holds (value_at source k input)
-        (value_at target k (put_mid (index * target) (index * target + target - index * target) output new)) o) in
+    (value_at target k (put_mid (index * target) (index * target + target - index * target) output new)) o) in
     let at_end : Says index =
     last_of Holds (value_at source index input) new (value_at target index written) so_far.outcomes outcome index
-        so_far.size
+    so_far.size
     (latest target index output new within width) here in
     let before_it : (k : ℕ) → k < index → Says k = λ k h.
     kept_of Holds (value_at source k input) (value_at target k output) (value_at target k written) so_far.outcomes
-        (outcome ∷ []) k (omega arith)
+    (outcome ∷ []) k (omega arith)
     (earlier target k index output new h within) (so_far.each k) in
     let longer : length (so_far.outcomes ++ outcome ∷ []) ≡ index + 1 =
-        length_push so_far.outcomes outcome ∙ ap (λ n. n + 1) so_far.size in
+    length_push so_far.outcomes outcome ∙ ap (λ n. n + 1) so_far.size in
     record {
       outcomes = so_far.outcomes ++ outcome ∷ [];
       size = longer;
       each = λ k. ⊎_elim {C = Says k} (before_it k)
           (λ h. ⊎_elim {C = Says k} (λ e. subst Says (sym e) at_end)
-              (λ past. none_of Holds _ _ (so_far.outcomes ++ outcome ∷ []) k (omega arith)) (cases_eq k index))
+          (λ past. none_of Holds _ _ (so_far.outcomes ++ outcome ∷ []) k (omega arith)) (cases_eq k index))
           (cases_lt k index);
       counted = ap (λ c. with_outcome c outcome) so_far.counted ∙ counts_push so_far.outcomes outcome;
     }

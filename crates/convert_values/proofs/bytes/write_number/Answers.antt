@@ -8,9 +8,9 @@ loop-place-init c = write_none c.args.number c.args.bytes.now
 pub loop-place-preserved : goal.loop-place-preserved
 loop-place-preserved c =
     write_more c.args.number c.loop-place.rest c.loop-place.place c.loop-place.bytes (omega arith)
-        c.loop-place.invariant
+    c.loop-place.invariant
 
 pub returns : goal.returns
 returns c =
     write_to_end c.args.number c.loop-place.rest c.loop-place.place c.loop-place.bytes (omega arith)
-        (rw c.loop-place.auto.bytes c.requires) c.loop-place.invariant
+    (rw c.loop-place.auto.bytes c.requires) c.loop-place.invariant
