@@ -1,0 +1,7 @@
+-- Numbers as bytes.
+use Rattle.std.specs.Prelude.{ℕ, ◌+◌, ◌*◌, List, [], ◌∷◌}
+
+-- the number that bytes stand for, the lowest first
+abbrev pub number_of : List ℕ → ℕ
+number_of [] = 0
+number_of (byte ∷ bytes) = byte + 256 * number_of bytes

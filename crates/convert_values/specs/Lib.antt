@@ -1,0 +1,5 @@
+pub mod Bytes
+pub mod Outcomes
+pub mod Values
+pub mod Blocks
+pub mod Formats

@@ -1,0 +1,116 @@
+//! Runs the program, and says what became of it.
+
+use crate::counts::Counts;
+use crate::request::{Request, USAGE, requested};
+use crate::stream::{Failure, Summary, convert_stream};
+use std::alloc::Global;
+use std::io;
+use std::io::{ErrorKind, Read, Write};
+
+const ENDED_INSIDE: u8 = 1;
+
+const OTHER_WORDS: u8 = 2;
+
+const NO_MEMORY: u8 = 3;
+
+const FAILED: u8 = 4;
+
+/// Runs the words that the system gave the program: converts `input` to `output`, and says on `err` what came of it.
+///
+/// Answers the exit status.
+pub fn run<R: Read, W: Write, V: Write>(
+    alloc: Global,
+    given: io::Result<Vec<String>>,
+    input: &mut R,
+    output: &mut W,
+    err: &mut V,
+) -> u8 {
+    match given {
+        Ok(words) => answer(alloc, words.as_slice(), input, output, err).unwrap_or(FAILED),
+        Err(error) => refuse_words(error, err).unwrap_or(FAILED),
+    }
+}
+
+// The exit status, or the error of a write to `err` or of the help.
+fn answer<R: Read, W: Write, V: Write>(
+    alloc: Global,
+    words: &[String],
+    input: &mut R,
+    output: &mut W,
+    err: &mut V,
+) -> io::Result<u8> {
+    match requested(words) {
+        None => {
+            err.write_all(USAGE.as_bytes())?;
+            Ok(OTHER_WORDS)
+        }
+        Some(Request::Help) => {
+            output.write_all(USAGE.as_bytes())?;
+            output.flush()?;
+            Ok(0)
+        }
+        Some(Request::Convert(conversion)) => {
+            match convert_stream(alloc, conversion, input, output) {
+                Ok(summary) => tell(summary, err),
+                Err(failure) => tell_failure(failure, err),
+            }
+        }
+    }
+}
+
+// Says why there are no words.
+fn refuse_words<V: Write>(error: io::Error, err: &mut V) -> io::Result<u8> {
+    match error.kind() {
+        ErrorKind::OutOfMemory => {
+            writeln!(err, "convert_values: no memory for the words")?;
+            Ok(NO_MEMORY)
+        }
+        _ => {
+            err.write_all(USAGE.as_bytes())?;
+            Ok(OTHER_WORDS)
+        }
+    }
+}
+
+// Says what was counted, and whether the stream ended inside a value.
+fn tell<V: Write>(summary: Summary, err: &mut V) -> io::Result<u8> {
+    tell_counts(summary.counts, err)?;
+    let bytes = summary.left_over;
+    if bytes == 0 {
+        return Ok(0);
+    }
+    writeln!(
+        err,
+        "convert_values: the stream ended inside a value, {bytes} bytes behind the last one"
+    )?;
+    Ok(ENDED_INSIDE)
+}
+
+fn tell_counts<V: Write>(counts: Counts, err: &mut V) -> io::Result<()> {
+    let Counts {
+        values,
+        inexact,
+        underflow,
+        overflow,
+        invalid,
+        nans,
+    } = counts;
+    writeln!(
+        err,
+        "values {values}, inexact {inexact}, underflow {underflow}, overflow {overflow}, invalid {invalid}, NaNs {nans}"
+    )
+}
+
+// Says what failed.
+fn tell_failure<V: Write>(failure: Failure, err: &mut V) -> io::Result<u8> {
+    match failure {
+        Failure::Memory => {
+            writeln!(err, "convert_values: no memory for the buffers")?;
+            return Ok(NO_MEMORY);
+        }
+        Failure::Reading(error) => writeln!(err, "convert_values: reading failed: {error}")?,
+        Failure::Writing(error) => writeln!(err, "convert_values: writing failed: {error}")?,
+        Failure::TooLong => writeln!(err, "convert_values: the stream has too many values")?,
+    }
+    Ok(FAILED)
+}
