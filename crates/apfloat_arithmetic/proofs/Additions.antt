@@ -18,17 +18,21 @@ use Rattle.apfloat_unpacked.specs.Stored.{IsQuantaAt}
 
 -- ---- a finer count of quanta
 
-pub quanta_counted : (min xe tx base : ℤ) (k mx m : ℕ) → base ≤ℤ tx → (tx +ℤ min) ≡ ((xe +ℤ base) +ℤ pos k) → IsQuantaAt min mx xe m → mx * 2 ^ up (tx -ℤ base) ≡ m * 2 ^ k
+pub quanta_counted : (min xe tx base : ℤ) (k mx m : ℕ) → base ≤ℤ tx → (tx +ℤ min) ≡ ((xe +ℤ base) +ℤ pos k)
+    → IsQuantaAt min mx xe m → mx * 2 ^ up (tx -ℤ base) ≡ m * 2 ^ k
 quanta_counted min xe tx base k mx m l e i =
     let z : down (tx -ℤ base) ≡ 0 = no_down (tx -ℤ base) (omega (arith, ints)) in
     let v : up (tx -ℤ base) + down (xe -ℤ min) ≡ up (xe -ℤ min) + k = omega (arith, ints) in
     let a : 2 ^ up (tx -ℤ base) * 2 ^ down (xe -ℤ min) ≡ 2 ^ up (xe -ℤ min) * 2 ^ k =
     sym (pow-add 2 (up (tx -ℤ base)) (down (xe -ℤ min))) ∙ ap (λ (x : ℕ). 2 ^ x) v ∙ pow-add 2 (up (xe -ℤ min)) k in
-    let b : mx * (2 ^ up (tx -ℤ base) * 2 ^ down (xe -ℤ min)) ≡ mx * (2 ^ up (xe -ℤ min) * 2 ^ k) = ap (λ (x : ℕ). mx * x) a in
+    let b : mx * (2 ^ up (tx -ℤ base) * 2 ^ down (xe -ℤ min)) ≡ mx * (2 ^ up (xe -ℤ min) * 2 ^ k) =
+        ap (λ (x : ℕ). mx * x) a in
     let d : m * 2 ^ down (xe -ℤ min) * 2 ^ k ≡ mx * 2 ^ up (xe -ℤ min) * 2 ^ k = ap (λ (x : ℕ). x * 2 ^ k) i in
-    eq_of_mul-eq-mul_right (2 ^ down (xe -ℤ min)) (pow_pos (down (xe -ℤ min))) (mx * 2 ^ up (tx -ℤ base)) (m * 2 ^ k) (omega arith)
+    eq_of_mul-eq-mul_right (2 ^ down (xe -ℤ min)) (pow_pos (down (xe -ℤ min))) (mx * 2 ^ up (tx -ℤ base))
+        (m * 2 ^ k) (omega arith)
 
-pub scaled_sum : (s t : Bool) (m n w : ℕ) (y z : ℤ) → y ≡ (signed s (m * w) +ℤ signed t (n * w)) → z ≡ (signed s m +ℤ signed t n) → up y + down z * w ≡ down y + up z * w
+pub scaled_sum : (s t : Bool) (m n w : ℕ) (y z : ℤ) → y ≡ (signed s (m * w) +ℤ signed t (n * w))
+    → z ≡ (signed s m +ℤ signed t n) → up y + down z * w ≡ down y + up z * w
 scaled_sum true true m n w y z e d =
     let a : up z + (m + n) ≡ down z = omega (arith, ints) in
     let b : (up z + (m + n)) * w ≡ down z * w = ap (λ (x : ℕ). x * w) a in
@@ -47,13 +51,16 @@ scaled_sum false false m n w y z e d =
     omega (arith, ints)
 
 -- what a scaled number says of its sign and its magnitude
-pub read_amount : (negative : Bool) (amount w : ℕ) (z : ℤ) → 0 < w → up (signed negative amount) + down z * w ≡ down (signed negative amount) + up z * w → amount ≡ magnitude z * w
+pub read_amount : (negative : Bool) (amount w : ℕ) (z : ℤ) → 0 < w
+    → up (signed negative amount) + down z * w ≡ down (signed negative amount) + up z * w → amount ≡ magnitude z * w
 read_amount true amount w (pos n) p e = omega (arith, ints)
 read_amount true amount w (negsuc n) p e = omega (arith, ints)
 read_amount false amount w (pos n) p e = omega (arith, ints)
 read_amount false amount w (negsuc n) p e = omega (arith, ints)
 
-pub read_sign : (of_zero : Bool) (negative : Bool) (amount w : ℕ) (z : ℤ) → 0 < w → 0 < amount → up (signed negative amount) + down z * w ≡ down (signed negative amount) + up z * w → negative ≡ sign_of of_zero z
+pub read_sign : (of_zero : Bool) (negative : Bool) (amount w : ℕ) (z : ℤ) → 0 < w → 0 < amount
+    → up (signed negative amount) + down z * w ≡ down (signed negative amount) + up z * w
+    → negative ≡ sign_of of_zero z
 read_sign of_zero true amount w (pos zero) p q e = absurd (omega (arith, ints))
 read_sign of_zero true amount w (pos (suc n)) p q e = absurd (omega (arith, ints))
 read_sign of_zero true amount w (negsuc n) p q e = refl
@@ -61,63 +68,91 @@ read_sign of_zero false amount w (pos zero) p q e = absurd (omega (arith, ints))
 read_sign of_zero false amount w (pos (suc n)) p q e = refl
 read_sign of_zero false amount w (negsuc n) p q e = absurd (omega (arith, ints))
 
-pub read_zero : (of_zero : Bool) (negative : Bool) (amount w : ℕ) (z : ℤ) → 0 < w → amount ≡ 0 → amount ≡ magnitude z * w → of_zero ≡ sign_of of_zero z
+pub read_zero : (of_zero : Bool) (negative : Bool) (amount w : ℕ) (z : ℤ) → 0 < w → amount ≡ 0
+    → amount ≡ magnitude z * w → of_zero ≡ sign_of of_zero z
 read_zero of_zero negative amount w (pos zero) p q e = refl
 read_zero of_zero negative amount w (pos (suc n)) p q e = absurd (omega arith)
 read_zero of_zero negative amount w (negsuc n) p q e = absurd (omega arith)
 
 -- ---- the sum of the significands, as a count of quanta
 
-pub record IsRepresented (of_zero : Bool) (exact : ℤ) (negative : Bool) (unit : ℤ) (significand : ℕ) (loss : Loss) : Type 0 where
+pub record IsRepresented (of_zero : Bool) (exact : ℤ) (negative : Bool) (unit : ℤ) (significand : ℕ)
+    (loss : Loss) : Type 0 where
   pub stands : StandsFor significand loss (magnitude exact * 2 ^ down unit) (1 * 2 ^ up unit)
   pub zero_sign : significand ≡ 0 → loss ≡ ExactlyZero → of_zero ≡ sign_of of_zero exact
   pub other_sign : (significand ≡ 0 → loss ≡ ExactlyZero → ⊥) → negative ≡ sign_of of_zero exact
 
-read_stands : (base e unit : ℤ) (k amount whole q : ℕ) (loss : Loss) → base ≤ℤ e → e ≡ ((unit +ℤ base) +ℤ pos k) → amount ≡ whole * 2 ^ k → StandsFor q loss amount (2 ^ up (e -ℤ base)) → StandsFor q loss (whole * 2 ^ down unit) (1 * 2 ^ up unit)
+read_stands : (base e unit : ℤ) (k amount whole q : ℕ) (loss : Loss) → base ≤ℤ e → e ≡ ((unit +ℤ base) +ℤ pos k)
+    → amount ≡ whole * 2 ^ k → StandsFor q loss amount (2 ^ up (e -ℤ base))
+    → StandsFor q loss (whole * 2 ^ down unit) (1 * 2 ^ up unit)
 read_stands base e unit k amount whole q loss l d a h =
     let z : down (e -ℤ base) ≡ 0 = no_down (e -ℤ base) (omega (arith, ints)) in
     let v : up (e -ℤ base) + down unit ≡ up unit + k = omega (arith, ints) in
-    let p : 2 ^ up (e -ℤ base) * 2 ^ down unit ≡ 2 ^ up unit * 2 ^ k = sym (pow-add 2 (up (e -ℤ base)) (down unit)) ∙ ap (λ (x : ℕ). 2 ^ x) v ∙ pow-add 2 (up unit) k in
+    let p : 2 ^ up (e -ℤ base) * 2 ^ down unit ≡ 2 ^ up unit * 2 ^ k =
+        sym (pow-add 2 (up (e -ℤ base)) (down unit)) ∙ ap (λ (x : ℕ). 2 ^ x) v ∙ pow-add 2 (up unit) k in
     let p' : 2 ^ up (e -ℤ base) * 2 ^ down unit ≡ 1 * 2 ^ up unit * 2 ^ k = omega arith in
-    let w : amount * 2 ^ down unit ≡ whole * 2 ^ down unit * 2 ^ k = ap (λ (x : ℕ). x * 2 ^ down unit) a ∙ omega arith in
-    let t : StandsFor q loss (amount * 2 ^ down unit) (2 ^ up (e -ℤ base) * 2 ^ down unit) = stands_times q loss amount (2 ^ up (e -ℤ base)) (2 ^ down unit) (pow_pos (down unit)) h in
-    stands_cancel q loss (whole * 2 ^ down unit) (1 * 2 ^ up unit) (2 ^ k) (pow_pos k) (subst (λ (x : ℕ). StandsFor q loss x (1 * 2 ^ up unit * 2 ^ k)) w (subst (λ (x : ℕ). StandsFor q loss (amount * 2 ^ down unit) x) p' t))
+    let w : amount * 2 ^ down unit ≡ whole * 2 ^ down unit * 2 ^ k = ap (λ (x : ℕ). x * 2 ^ down unit) a ∙
+        omega arith in
+    let t : StandsFor q loss (amount * 2 ^ down unit) (2 ^ up (e -ℤ base) * 2 ^ down unit) =
+        stands_times q loss amount (2 ^ up (e -ℤ base)) (2 ^ down unit) (pow_pos (down unit)) h in
+    stands_cancel q loss (whole * 2 ^ down unit) (1 * 2 ^ up unit) (2 ^ k) (pow_pos k)
+        (subst (λ (x : ℕ). StandsFor q loss x (1 * 2 ^ up unit * 2 ^ k)) w
+            (subst (λ (x : ℕ). StandsFor q loss (amount * 2 ^ down unit) x) p' t))
 
-not_zero_amount : (q : ℕ) (loss : Loss) (amount unit : ℕ) → 0 < unit → (q ≡ 0 → loss ≡ ExactlyZero → ⊥) → StandsFor q loss amount unit → 0 < amount
+not_zero_amount : (q : ℕ) (loss : Loss) (amount unit : ℕ) → 0 < unit → (q ≡ 0 → loss ≡ ExactlyZero → ⊥)
+    → StandsFor q loss amount unit → 0 < amount
 not_zero_amount q loss zero unit p n h = let r = zero_stands loss unit q p h in absurd (n r.0 r.1)
 not_zero_amount q loss (suc a) unit p n h = omega arith
 
-zero_amount : (q : ℕ) (loss : Loss) (amount unit : ℕ) → q ≡ 0 → loss ≡ ExactlyZero → StandsFor q loss amount unit → amount ≡ 0
+zero_amount : (q : ℕ) (loss : Loss) (amount unit : ℕ) → q ≡ 0 → loss ≡ ExactlyZero → StandsFor q loss amount unit
+    → amount ≡ 0
 zero_amount q loss amount unit a b h =
-    let s : StandsFor 0 ExactlyZero amount unit = subst (λ (x : ℕ). StandsFor x ExactlyZero amount unit) a (subst (λ (x : Loss). StandsFor q x amount unit) b h) in
+    let s : StandsFor 0 ExactlyZero amount unit =
+        subst (λ (x : ℕ). StandsFor x ExactlyZero amount unit) a
+            (subst (λ (x : Loss). StandsFor q x amount unit) b h) in
     omega (arith, s)
 
-pub read_sum : (of_zero : Bool) (base e unit : ℤ) (k m n : ℕ) (s t negative : Bool) (q : ℕ) (loss : Loss) → e ≡ ((unit +ℤ base) +ℤ pos k)
-    → StandsForSigned base (signed s (m * 2 ^ k) +ℤ signed t (n * 2 ^ k)) negative e q loss → IsRepresented of_zero (signed s m +ℤ signed t n) negative unit q loss
+pub read_sum : (of_zero : Bool) (base e unit : ℤ) (k m n : ℕ) (s t negative : Bool) (q : ℕ) (loss : Loss)
+    → e ≡ ((unit +ℤ base) +ℤ pos k)
+    → StandsForSigned base (signed s (m * 2 ^ k) +ℤ signed t (n * 2 ^ k)) negative e q loss
+    → IsRepresented of_zero (signed s m +ℤ signed t n) negative unit q loss
 read_sum of_zero base e unit k m n s t negative q loss d h =
     let w : 0 < 2 ^ k = pow_pos k in
     let u : 0 < 2 ^ up (e -ℤ base) = pow_pos (up (e -ℤ base)) in
     let b = scaled_sum s t m n (2 ^ k) (signed negative h.amount) (signed s m +ℤ signed t n) h.is refl in
-    let a : h.amount ≡ magnitude (signed s m +ℤ signed t n) * 2 ^ k = read_amount negative h.amount (2 ^ k) (signed s m +ℤ signed t n) w b in
+    let a : h.amount ≡ magnitude (signed s m +ℤ signed t n) * 2 ^ k =
+        read_amount negative h.amount (2 ^ k) (signed s m +ℤ signed t n) w b in
     record {
       stands = read_stands base e unit k h.amount (magnitude (signed s m +ℤ signed t n)) q loss h.above d a h.stands;
-      zero_sign = λ x y. read_zero of_zero negative h.amount (2 ^ k) (signed s m +ℤ signed t n) w (zero_amount q loss h.amount (2 ^ up (e -ℤ base)) x y h.stands) a;
-      other_sign = λ x. read_sign of_zero negative h.amount (2 ^ k) (signed s m +ℤ signed t n) w (not_zero_amount q loss h.amount (2 ^ up (e -ℤ base)) u x h.stands) b;
+      zero_sign =
+          λ x y. read_zero of_zero negative h.amount (2 ^ k) (signed s m +ℤ signed t n) w
+              (zero_amount q loss h.amount (2 ^ up (e -ℤ base)) x y h.stands) a;
+      other_sign =
+          λ x. read_sign of_zero negative h.amount (2 ^ k) (signed s m +ℤ signed t n) w
+              (not_zero_amount q loss h.amount (2 ^ up (e -ℤ base)) u x h.stands) b;
     }
 
-pub read_negative : (of_zero : Bool) (exact unit : ℤ) (negative answer : Bool) (significand : ℕ) (loss : Loss) → IsRepresented of_zero exact negative unit significand loss → (significand ≡ 0 → loss ≡ ExactlyZero → answer ≡ of_zero) → ((significand ≡ 0 → loss ≡ ExactlyZero → ⊥) → answer ≡ negative) → answer ≡ sign_of of_zero exact
+pub read_negative : (of_zero : Bool) (exact unit : ℤ) (negative answer : Bool) (significand : ℕ) (loss : Loss)
+    → IsRepresented of_zero exact negative unit significand loss
+    → (significand ≡ 0 → loss ≡ ExactlyZero → answer ≡ of_zero)
+    → ((significand ≡ 0 → loss ≡ ExactlyZero → ⊥) → answer ≡ negative) → answer ≡ sign_of of_zero exact
 read_negative of_zero exact unit negative answer zero loss r f g =
     ⊎_elim
     (λ (e : loss ≡ ExactlyZero). f refl e ∙ r.zero_sign refl e)
     (λ (n : loss ≡ ExactlyZero → ⊥). let k : zero ≡ 0 → loss ≡ ExactlyZero → ⊥ = λ x y. n y in g k ∙ r.other_sign k)
     (loss_cases loss)
-read_negative of_zero exact unit negative answer (suc n) loss r f g = let k = λ (x : suc n ≡ 0) (y : loss ≡ ExactlyZero). absurd (omega arith) in g k ∙ r.other_sign k
+read_negative of_zero exact unit negative answer (suc n) loss r f g =
+    let k = λ (x : suc n ≡ 0) (y : loss ≡ ExactlyZero). absurd (omega arith) in g k ∙ r.other_sign k
 
 -- the two numbers and the sum of their terms
-pub sum_read : (of_zero : Bool) (precision scale : ℕ) (min xe ye tx ty e unit : ℤ) (s t negative : Bool) (mx my m n q : ℕ) (loss : Loss)
-    → ((min +ℤ pos 1) -ℤ pos precision) ≤ℤ xe → ((min +ℤ pos 1) -ℤ pos precision) ≤ℤ ye → (tx +ℤ pos precision) ≡ (xe +ℤ pos 1) → (ty +ℤ pos precision) ≡ (ye +ℤ pos 1)
-    → (pos scale +ℤ min) +ℤ pos 1 ≡ pos precision → unit ≡ (e +ℤ pos scale) → IsQuantaAt min mx xe m → IsQuantaAt min my ye n
-    → ((base : ℤ) → base ≤ℤ tx → base ≤ℤ ty → StandsForSigned base (counted base s tx mx +ℤ counted base t ty my) negative e q loss)
+pub sum_read : (of_zero : Bool) (precision scale : ℕ) (min xe ye tx ty e unit : ℤ) (s t negative : Bool)
+    (mx my m n q : ℕ) (loss : Loss)
+    → ((min +ℤ pos 1) -ℤ pos precision) ≤ℤ xe → ((min +ℤ pos 1) -ℤ pos precision) ≤ℤ ye
+    → (tx +ℤ pos precision) ≡ (xe +ℤ pos 1) → (ty +ℤ pos precision) ≡ (ye +ℤ pos 1)
+    → (pos scale +ℤ min) +ℤ pos 1 ≡ pos precision → unit ≡ (e +ℤ pos scale) → IsQuantaAt min mx xe m
+    → IsQuantaAt min my ye n
+    → ((base : ℤ) → base ≤ℤ tx → base ≤ℤ ty
+    → StandsForSigned base (counted base s tx mx +ℤ counted base t ty my) negative e q loss)
     → IsRepresented of_zero (signed s m +ℤ signed t n) negative unit q loss
 sum_read of_zero precision scale min xe ye tx ty e unit s t negative mx my m n q loss lx ly ax ay w u ix iy f =
     let base = (min -ℤ pos precision) -ℤ pos precision in
@@ -128,10 +163,12 @@ sum_read of_zero precision scale min xe ye tx ty e unit s t negative mx my m n q
     let y : my * 2 ^ up (ty -ℤ base) ≡ n * 2 ^ k = quanta_counted min ye ty base k my n by (omega (arith, ints)) iy in
     let h : StandsForSigned base (counted base s tx mx +ℤ counted base t ty my) negative e q loss = f base bx by in
     let h' : StandsForSigned base (signed s (m * 2 ^ k) +ℤ signed t (n * 2 ^ k)) negative e q loss =
-    subst (λ (z : ℕ). StandsForSigned base (signed s (m * 2 ^ k) +ℤ signed t z) negative e q loss) y (subst (λ (z : ℕ). StandsForSigned base (signed s z +ℤ counted base t ty my) negative e q loss) x h) in
+    subst (λ (z : ℕ). StandsForSigned base (signed s (m * 2 ^ k) +ℤ signed t z) negative e q loss) y
+        (subst (λ (z : ℕ). StandsForSigned base (signed s z +ℤ counted base t ty my) negative e q loss) x h) in
     read_sum of_zero base e unit k m n s t negative q loss (omega (arith, ints)) h'
 
-pub scale_is : (precision : ℕ) (min : ℤ) → 3 ≤ precision → min ≤ℤ negsuc 0 → ((pos (unsigned_abs (pos (precision - 1) -ℤ min)) +ℤ min) +ℤ pos 1) ≡ pos precision
+pub scale_is : (precision : ℕ) (min : ℤ) → 3 ≤ precision → min ≤ℤ negsuc 0
+    → ((pos (unsigned_abs (pos (precision - 1) -ℤ min)) +ℤ min) +ℤ pos 1) ≡ pos precision
 scale_is precision min p h = omega (arith, ints)
 
 -- ---- room, and all digits
@@ -143,8 +180,10 @@ roomy precision m s p e h =
     omega arith
 
 -- where a part of the sum of two numbers with all digits was lost, the sum has all digits
-pub sum_full : (precision mx my sx sy q : ℕ) (loss : Loss) → 3 ≤ precision → sx ≡ mx → sy ≡ my → 2 ^ (precision - 1) ≤ mx → mx < 2 ^ precision → 2 ^ (precision - 1) ≤ my → my < 2 ^ precision
-    → ((half : ℕ) → half ≤ sx → half ≤ sy → sx < 2 * half → sy < 2 * half → (loss ≡ ExactlyZero) ⊎ (half ≤ q)) → (loss ≡ ExactlyZero) ⊎ (2 ^ (precision - 1) ≤ q)
+pub sum_full : (precision mx my sx sy q : ℕ) (loss : Loss) → 3 ≤ precision → sx ≡ mx → sy ≡ my
+    → 2 ^ (precision - 1) ≤ mx → mx < 2 ^ precision → 2 ^ (precision - 1) ≤ my → my < 2 ^ precision
+    → ((half : ℕ) → half ≤ sx → half ≤ sy → sx < 2 * half → sy < 2 * half → (loss ≡ ExactlyZero) ⊎ (half ≤ q))
+    → (loss ≡ ExactlyZero) ⊎ (2 ^ (precision - 1) ≤ q)
 sum_full precision mx my sx sy q loss p ex ey lx hx ly hy f =
     let p' : 0 < precision = omega arith in
     let t : 2 * 2 ^ (precision - 1) ≡ 2 ^ precision = twice_half precision p' in

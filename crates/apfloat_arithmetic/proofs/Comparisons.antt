@@ -26,14 +26,16 @@ use Rattle.apfloat_arithmetic.specs.Sides.{number_side, side}
 
 -- ---- two numbers with all their digits: the exponents come first
 
-below_top : (precision s n u d t m v e : ℕ) → IsFull precision s n u d → IsFull precision t m v e → top_of precision u d < top_of precision v e → n < m
+below_top : (precision s n u d t m v e : ℕ) → IsFull precision s n u d → IsFull precision t m v e
+    → top_of precision u d < top_of precision v e → n < m
 below_top precision s n u d t m v e f g h =
     let a = full_high _ _ _ _ _ f in
     let b = full_low _ _ _ _ _ g in
     let c : 2 ^ suc (top_of precision u d) ≤ 2 ^ top_of precision v e = pow-le-pow_right two_pos h in
     omega (arith, a, b, c, two-pow-succ (top_of precision u d))
 
-below_exponent : (shape : Shape) (s : ℕ) (d : ℤ) (t : ℕ) (e : ℤ) → IsNormal shape s d → IsNormal shape t e → d <ℤ e → quanta_at shape.min_exp s d < quanta_at shape.min_exp t e
+below_exponent : (shape : Shape) (s : ℕ) (d : ℤ) (t : ℕ) (e : ℤ) → IsNormal shape s d → IsNormal shape t e → d <ℤ e
+    → quanta_at shape.min_exp s d < quanta_at shape.min_exp t e
 below_exponent shape s d t e m n h =
     let f = normal_full shape s d m in
     let g = normal_full shape t e n in
@@ -47,7 +49,8 @@ below_significand precision s n t m u d f g h =
     let l : n * 2 ^ d < m * 2 ^ d = omega arith in
     lt_of_mul-lt-mul_right (2 ^ d) l
 
-at_one_exponent : (shape : Shape) (s t : ℕ) (e : ℤ) → IsNormal shape s e → IsNormal shape t e → nat_cmp s t ≡ nat_cmp (quanta_at shape.min_exp s e) (quanta_at shape.min_exp t e)
+at_one_exponent : (shape : Shape) (s t : ℕ) (e : ℤ) → IsNormal shape s e → IsNormal shape t e
+    → nat_cmp s t ≡ nat_cmp (quanta_at shape.min_exp s e) (quanta_at shape.min_exp t e)
 at_one_exponent shape s t e m n =
     let f = normal_full shape s e m in
     let g = normal_full shape t e n in
@@ -63,7 +66,8 @@ exponents_first shape s d t e m n =
     (λ c h. ap (λ x. ordering_then x (nat_cmp s t)) c ∙ nat_cmp_is _ _ Less (below_exponent shape s d t e m n h))
     (λ c h.
     let k : IsNormal shape s e = rw h at m in
-    ap (λ x. ordering_then x (nat_cmp s t)) c ∙ at_one_exponent shape s t e k n ∙ ap (λ x. nat_cmp (quanta_at shape.min_exp s x) (quanta_at shape.min_exp t e)) (sym h))
+    ap (λ x. ordering_then x (nat_cmp s t)) c ∙ at_one_exponent shape s t e k n ∙
+        ap (λ x. nat_cmp (quanta_at shape.min_exp s x) (quanta_at shape.min_exp t e)) (sym h))
     (λ c h. ap (λ x. ordering_then x (nat_cmp s t)) c ∙ nat_cmp_is _ _ Greater (below_exponent shape t e s d n m h))
 
 -- ---- numbers of one sign
@@ -96,7 +100,8 @@ some_side : (b : Bool) (n : ℕ) → 0 < n → number_side b ≡ side (finite b 
 some_side b zero h = absurd (omega arith)
 some_side b (suc n) h = refl
 
-pub side_of_normal : (shape : Shape) (x : Unpacked) (b : Bool) → x.category ≡ Normal → x.negative ≡ b → IsStored shape x → number_side b ≡ side (datum_at shape x)
+pub side_of_normal : (shape : Shape) (x : Unpacked) (b : Bool) → x.category ≡ Normal → x.negative ≡ b
+    → IsStored shape x → number_side b ≡ side (datum_at shape x)
 side_of_normal shape x b e f h =
     let n : IsNormal shape x.significand x.exponent = rw e at h in
     rw (e, ← f) (some_side x.negative _ (quanta_some shape x.significand x.exponent n))
@@ -114,7 +119,8 @@ near_end false true e = cc
 near_end false false e = cc
 
 -- beside a number that is not zero stands only one of its sign
-number_beside : (k : Category) (shape : Shape) (y : Unpacked) (b : Bool) → IsStoredBy k shape y → number_side b ≡ side (datum_by k shape y) → (k ≡ Normal) × (y.negative ≡ b)
+number_beside : (k : Category) (shape : Shape) (y : Unpacked) (b : Bool) → IsStoredBy k shape y
+    → number_side b ≡ side (datum_by k shape y) → (k ≡ Normal) × (y.negative ≡ b)
 number_beside Normal shape y b h e =
     let q = some_side y.negative _ (quanta_some shape y.significand y.exponent h) in
     (refl, one_sign b y.negative (e ∙ sym q))
@@ -124,31 +130,43 @@ number_beside Infinity shape y b h e = absurd (near_end b y.negative e)
 number_beside NaN shape y true h e = cc
 number_beside NaN shape y false h e = cc
 
-pub beside_normal : (shape : Shape) (y : Unpacked) (b : Bool) → IsStored shape y → number_side b ≡ side (datum_at shape y) → (y.category ≡ Normal) × (y.negative ≡ b)
+pub beside_normal : (shape : Shape) (y : Unpacked) (b : Bool) → IsStored shape y
+    → number_side b ≡ side (datum_at shape y) → (y.category ≡ Normal) × (y.negative ≡ b)
 beside_normal shape y b h e = number_beside y.category shape y b h e
 
 -- two numbers of one sign
-pub beside_negative : (shape : Shape) (x y : Unpacked) → x.category ≡ Normal → x.negative ≡ true → IsStored shape x → IsStored shape y → side (datum_at shape x) ≡ side (datum_at shape y) → (r : Ordering)
-    → (IsNormal shape y.significand y.exponent → IsNormal shape x.significand x.exponent → r ≡ nat_cmp (quanta_at shape.min_exp y.significand y.exponent) (quanta_at shape.min_exp x.significand x.exponent))
+pub beside_negative : (shape : Shape) (x y : Unpacked) → x.category ≡ Normal → x.negative ≡ true → IsStored shape x
+    → IsStored shape y → side (datum_at shape x) ≡ side (datum_at shape y) → (r : Ordering)
+    → (IsNormal shape y.significand y.exponent → IsNormal shape x.significand x.exponent
+    → r ≡ nat_cmp (quanta_at shape.min_exp y.significand y.exponent)
+    (quanta_at shape.min_exp x.significand x.exponent))
     → r ≡ int_cmp (number (datum_at shape x)) (number (datum_at shape y))
 beside_negative shape x y e f h k s r g =
     let p = beside_normal shape y true k (side_of_normal shape x true e f h ∙ s) in
     let a : IsNormal shape x.significand x.exponent = rw e at h in
     let b : IsNormal shape y.significand y.exponent = rw p.0 at k in
-    rw (e, f, p.0, p.1) (g b a ∙ both_negative (quanta_at shape.min_exp x.significand x.exponent) (quanta_at shape.min_exp y.significand y.exponent))
+    rw (e, f, p.0, p.1)
+        (g b a ∙ both_negative (quanta_at shape.min_exp x.significand x.exponent)
+            (quanta_at shape.min_exp y.significand y.exponent))
 
-pub beside_positive : (shape : Shape) (x y : Unpacked) → x.category ≡ Normal → x.negative ≡ false → IsStored shape x → IsStored shape y → side (datum_at shape x) ≡ side (datum_at shape y) → (r : Ordering)
-    → (IsNormal shape x.significand x.exponent → IsNormal shape y.significand y.exponent → r ≡ nat_cmp (quanta_at shape.min_exp x.significand x.exponent) (quanta_at shape.min_exp y.significand y.exponent))
+pub beside_positive : (shape : Shape) (x y : Unpacked) → x.category ≡ Normal → x.negative ≡ false → IsStored shape x
+    → IsStored shape y → side (datum_at shape x) ≡ side (datum_at shape y) → (r : Ordering)
+    → (IsNormal shape x.significand x.exponent → IsNormal shape y.significand y.exponent
+    → r ≡ nat_cmp (quanta_at shape.min_exp x.significand x.exponent)
+    (quanta_at shape.min_exp y.significand y.exponent))
     → r ≡ int_cmp (number (datum_at shape x)) (number (datum_at shape y))
 beside_positive shape x y e f h k s r g =
     let p = beside_normal shape y false k (side_of_normal shape x false e f h ∙ s) in
     let a : IsNormal shape x.significand x.exponent = rw e at h in
     let b : IsNormal shape y.significand y.exponent = rw p.0 at k in
-    rw (e, f, p.0, p.1) (g a b ∙ both_positive (quanta_at shape.min_exp x.significand x.exponent) (quanta_at shape.min_exp y.significand y.exponent))
+    rw (e, f, p.0, p.1)
+        (g a b ∙ both_positive (quanta_at shape.min_exp x.significand x.exponent)
+            (quanta_at shape.min_exp y.significand y.exponent))
 
 -- ---- by the sides, and on one side by the numbers
 
-pub by_sides : (x y : Datum) (r : Ordering) → is_nan x ≡ false → is_nan y ≡ false → (side x ≡ side y → r ≡ int_cmp (number x) (number y))
+pub by_sides : (x y : Datum) (r : Ordering) → is_nan x ≡ false → is_nan y ≡ false
+    → (side x ≡ side y → r ≡ int_cmp (number x) (number y))
     → Some (ordering_then (nat_cmp (side x) (side y)) r) ≡ compared x y
 by_sides (nan a s) y r e f h = cc
 by_sides (infinite a) (nan b t) r e f h = cc
@@ -209,13 +227,17 @@ off_by : (r : Bool) → (r ≡ true → ⊥) → false ≡ r
 off_by true h = absurd (h refl)
 off_by false h = refl
 
-parts_same : (x y : Unpacked) → x.significand ≡ y.significand → x.exponent ≡ y.exponent → x.category ≡ y.category → x.negative ≡ y.negative → x ≡ y
+parts_same : (x y : Unpacked) → x.significand ≡ y.significand → x.exponent ≡ y.exponent → x.category ≡ y.category
+    → x.negative ≡ y.negative → x ≡ y
 parts_same x y a b c d = rw (sym a, sym b, sym c, sym d) refl
 
 -- what is stored is the same exactly where the data are
-stored_same : (shape : Shape) (x y : Unpacked) → IsStored shape x → IsStored shape y → same_datum (datum_at shape x) (datum_at shape y) ≡ true → x ≡ y
+stored_same : (shape : Shape) (x y : Unpacked) → IsStored shape x → IsStored shape y
+    → same_datum (datum_at shape x) (datum_at shape y) ≡ true → x ≡ y
 stored_same shape x y h k e =
-    sym (comes_back shape x h) ∙ ap (unpacked_of shape) {x = datum_at shape x} {y = datum_at shape y} (same_is (datum_at shape x) (datum_at shape y) e) ∙ comes_back shape y k
+    sym (comes_back shape x h) ∙
+        ap (unpacked_of shape) {x = datum_at shape x} {y = datum_at shape y}
+            (same_is (datum_at shape x) (datum_at shape y) e) ∙ comes_back shape y k
 
 abbrev pub IsSameClass : Unpacked → Unpacked → Type 0
 IsSameClass x y = (x.category ≡ y.category) × (x.negative ≡ y.negative)
@@ -223,17 +245,23 @@ IsSameClass x y = (x.category ≡ y.category) × (x.negative ≡ y.negative)
 abbrev pub IsSameNumber : Unpacked → Unpacked → Type 0
 IsSameNumber x y = (x.significand ≡ y.significand) × (x.exponent ≡ y.exponent)
 
-pub same_both : (shape : Shape) (x y : Unpacked) (a b : Bool) → IsStored shape x → IsStored shape y → Decides a (IsSameClass x y) → Decides b (IsSameNumber x y) → a ≡ true
+pub same_both : (shape : Shape) (x y : Unpacked) (a b : Bool) → IsStored shape x → IsStored shape y
+    → Decides a (IsSameClass x y) → Decides b (IsSameNumber x y) → a ≡ true
     → b ≡ same_datum (datum_at shape x) (datum_at shape y)
 same_both shape x y a true h k c n e =
     let p = c.0 e in
     let q = n.0 refl in
     rw (parts_same x y q.0 q.1 p.0 p.1) (sym (same_of (datum_at shape y)))
 same_both shape x y a false h k c n e = off_by _ (λ t.
-    let z : false ≡ true = n.1 (ap (λ u. u.significand) (stored_same shape x y h k t), ap (λ u. u.exponent) (stored_same shape x y h k t)) in
+    let z : false ≡ true =
+        n.1 (ap (λ u. u.significand) (stored_same shape x y h k t),
+            ap (λ u. u.exponent) (stored_same shape x y h k t)) in
     cc)
 
-pub other_class : (shape : Shape) (x y : Unpacked) (a : Bool) → IsStored shape x → IsStored shape y → Decides a (IsSameClass x y) → a ≡ false → a ≡ same_datum (datum_at shape x) (datum_at shape y)
+pub other_class : (shape : Shape) (x y : Unpacked) (a : Bool) → IsStored shape x → IsStored shape y
+    → Decides a (IsSameClass x y) → a ≡ false → a ≡ same_datum (datum_at shape x) (datum_at shape y)
 other_class shape x y a h k c e = e ∙ off_by _ (λ t.
-    let z : a ≡ true = c.1 (ap (λ u. u.category) (stored_same shape x y h k t), ap (λ u. u.negative) (stored_same shape x y h k t)) in
+    let z : a ≡ true =
+        c.1 (ap (λ u. u.category) (stored_same shape x y h k t),
+            ap (λ u. u.negative) (stored_same shape x y h k t)) in
     cc)

@@ -34,21 +34,30 @@ whole_from s m e l =
     let a = above_zero (e -ℤ s.min_exp) (steps_of s e) (omega (arith, ints)) in
     rw (a.0, a.1) (omega arith)
 
-pub power_within : (s : Shape) (e : ℤ) → IsShape s → s.min_exp ≤ℤ e → e ≤ℤ s.max_exp → 2 ^ (s.precision - 1) * 2 ^ steps_of s e ≤ largest (format_at s)
+pub power_within : (s : Shape) (e : ℤ) → IsShape s → s.min_exp ≤ℤ e → e ≤ℤ s.max_exp
+    → 2 ^ (s.precision - 1) * 2 ^ steps_of s e ≤ largest (format_at s)
 power_within s e law l h =
     let j : steps_of s e ≤ (format_at s).span = omega (arith, ints) in
     let a : 2 ^ steps_of s e ≤ 2 ^ (format_at s).span = pow-le-pow_right two_pos j in
-    let b : 2 ^ (s.precision - 1) * 2 ^ steps_of s e ≤ 2 ^ (s.precision - 1) * 2 ^ (format_at s).span = mul-le-mul_left (2 ^ (s.precision - 1)) a in
-    let c : 2 ^ (s.precision - 1) * 2 ^ (format_at s).span ≤ greatest_significand s.nonfinite s.precision * 2 ^ (format_at s).span = mul-le-mul_right (2 ^ (format_at s).span) (greatest_full s.nonfinite s.precision law.precision_low) in
+    let b : 2 ^ (s.precision - 1) * 2 ^ steps_of s e ≤ 2 ^ (s.precision - 1) * 2 ^ (format_at s).span =
+        mul-le-mul_left (2 ^ (s.precision - 1)) a in
+    let c : 2 ^ (s.precision - 1) * 2 ^ (format_at s).span
+        ≤ greatest_significand s.nonfinite s.precision * 2 ^ (format_at s).span =
+            mul-le-mul_right (2 ^ (format_at s).span) (greatest_full s.nonfinite s.precision law.precision_low) in
     omega arith
 
 -- the inverse of a power of two is a number of the format
-pub inverted_normal : (s : Shape) (m : ℕ) (e : ℤ) → IsShape s → IsNormal s m e → IsInvertible s m e → IsNormal s m (neg_ℤ e)
+pub inverted_normal : (s : Shape) (m : ℕ) (e : ℤ) → IsShape s → IsNormal s m e → IsInvertible s m e
+    → IsNormal s m (neg_ℤ e)
 inverted_normal s m e law n i =
-    let g : m * 2 ^ steps_of s (neg_ℤ e) ≤ largest (format_at s) = subst (λ (x : ℕ). x * 2 ^ steps_of s (neg_ℤ e) ≤ largest (format_at s)) (sym i.power) (power_within s (neg_ℤ e) law i.inverse_normal i.inverse_within) in
+    let g : m * 2 ^ steps_of s (neg_ℤ e) ≤ largest (format_at s) =
+        subst (λ (x : ℕ). x * 2 ^ steps_of s (neg_ℤ e) ≤ largest (format_at s)) (sym i.power)
+            (power_within s (neg_ℤ e) law i.inverse_normal i.inverse_within) in
     record {
-      operand = record { fits = n.operand.fits; full = n.operand.full; least = omega (arith, ints, i.inverse_normal, law.precision_low); greatest = i.inverse_within };
-      whole = whole_is s.min_exp m (neg_ℤ e) (m * 2 ^ steps_of s (neg_ℤ e)) (whole_from s m (neg_ℤ e) i.inverse_normal);
+      operand = record { fits = n.operand.fits; full = n.operand.full; least =
+          omega (arith, ints, i.inverse_normal, law.precision_low); greatest = i.inverse_within };
+      whole = whole_is s.min_exp m (neg_ℤ e) (m * 2 ^ steps_of s (neg_ℤ e))
+          (whole_from s m (neg_ℤ e) i.inverse_normal);
       within = rw (quanta_high_is s m (neg_ℤ e) i.inverse_normal) g;
     }
 
@@ -61,15 +70,19 @@ power_full half j =
 powers_product : (h j k w : ℕ) → (h + j) + (h + k) ≡ w + w → 2 ^ h * 2 ^ j * (2 ^ h * 2 ^ k) ≡ 2 ^ w * 2 ^ w
 powers_product h j k w e = sym (pow22 h j h k) ∙ ap (λ (x : ℕ). 2 ^ x) e ∙ pow-add 2 w w
 
-pub inverted_product : (s : Shape) (m : ℕ) (e : ℤ) → IsShape s → IsNormal s m e → IsInvertible s m e → AreInverse (format_at s) (quanta_at s.min_exp m e) (quanta_at s.min_exp m (neg_ℤ e))
+pub inverted_product : (s : Shape) (m : ℕ) (e : ℤ) → IsShape s → IsNormal s m e → IsInvertible s m e
+    → AreInverse (format_at s) (quanta_at s.min_exp m e) (quanta_at s.min_exp m (neg_ℤ e))
 inverted_product s m e law n i =
     let half = 2 ^ (s.precision - 1) in
     let j = steps_of s e in
     let k = steps_of s (neg_ℤ e) in
-    let a : quanta_at s.min_exp m e ≡ half * 2 ^ j = quanta_high_is s m e i.normal ∙ ap (λ (x : ℕ). x * 2 ^ j) i.power in
-    let b : quanta_at s.min_exp m (neg_ℤ e) ≡ half * 2 ^ k = quanta_high_is s m (neg_ℤ e) i.inverse_normal ∙ ap (λ (x : ℕ). x * 2 ^ k) i.power in
+    let a : quanta_at s.min_exp m e ≡ half * 2 ^ j = quanta_high_is s m e i.normal ∙
+        ap (λ (x : ℕ). x * 2 ^ j) i.power in
+    let b : quanta_at s.min_exp m (neg_ℤ e) ≡ half * 2 ^ k = quanta_high_is s m (neg_ℤ e) i.inverse_normal ∙
+        ap (λ (x : ℕ). x * 2 ^ k) i.power in
     let c = scale_is s law in
-    let d : ((s.precision - 1) + j) + ((s.precision - 1) + k) ≡ (format_at s).scale + (format_at s).scale = omega (arith, ints, i.normal, i.inverse_normal) in
+    let d : ((s.precision - 1) + j) + ((s.precision - 1) + k) ≡ (format_at s).scale + (format_at s).scale =
+        omega (arith, ints, i.normal, i.inverse_normal) in
     record {
       normal = rw a (power_full half j);
       inverse_normal = rw b (power_full half k);
@@ -105,7 +118,8 @@ power_factor q i m d u w h e =
     let c : 2 ^ (w + w + d) ≡ 2 ^ w * 2 ^ w * 2 ^ d = pow3 w w d in
     omega arith
 
-is_power : (s : Shape) (m i : ℕ) (e : ℤ) → IsShape s → IsNormal s m e → AreInverse (format_at s) (quanta_at s.min_exp m e) i → m ≡ 2 ^ (s.precision - 1)
+is_power : (s : Shape) (m i : ℕ) (e : ℤ) → IsShape s → IsNormal s m e
+    → AreInverse (format_at s) (quanta_at s.min_exp m e) i → m ≡ 2 ^ (s.precision - 1)
 is_power s m i e law n h =
     let l = law.precision_low in
     let d = down (e -ℤ s.min_exp) in
@@ -123,7 +137,8 @@ short_inverse h j w i l e =
     let k : 2 ^ (h + j + h) ≤ 2 ^ (w + w) = omega arith in
     lower_power (h + j + h) (w + w) k
 
-long_inverse : (h j w i p span : ℕ) → i < 2 ^ p * 2 ^ span → 2 ^ h * 2 ^ j * i ≡ 2 ^ w * 2 ^ w → w + w < h + j + (p + span)
+long_inverse : (h j w i p span : ℕ) → i < 2 ^ p * 2 ^ span → 2 ^ h * 2 ^ j * i ≡ 2 ^ w * 2 ^ w
+    → w + w < h + j + (p + span)
 long_inverse h j w i p span l e =
     let o : 0 < 2 ^ h * 2 ^ j = mul-pos (pow_pos h) (pow_pos j) in
     let a : i * (2 ^ h * 2 ^ j) < 2 ^ p * 2 ^ span * (2 ^ h * 2 ^ j) = mul-lt-mul_of_pos_right l o in
@@ -132,26 +147,34 @@ long_inverse h j w i p span l e =
     let k : 2 ^ (w + w) < 2 ^ (h + j + (p + span)) = omega arith in
     least_power (w + w) (h + j + (p + span)) k
 
-not_low : (s : Shape) (m i : ℕ) (e : ℤ) → IsShape s → IsNormal s m e → AreInverse (format_at s) (quanta_at s.min_exp m e) i → s.min_exp ≤ℤ e
+not_low : (s : Shape) (m i : ℕ) (e : ℤ) → IsShape s → IsNormal s m e
+    → AreInverse (format_at s) (quanta_at s.min_exp m e) i → s.min_exp ≤ℤ e
 not_low s m i e law n h =
     by_lt_z e s.min_exp
     (λ l. let k = quanta_low_is s m e n law.precision_low l in let g = h.normal in absurd (omega arith))
     (λ l. l)
 
-pub invertible_from : (s : Shape) (m i : ℕ) (e : ℤ) → IsShape s → IsNormal s m e → AreInverse (format_at s) (quanta_at s.min_exp m e) i → IsInvertible s m e
+pub invertible_from : (s : Shape) (m i : ℕ) (e : ℤ) → IsShape s → IsNormal s m e
+    → AreInverse (format_at s) (quanta_at s.min_exp m e) i → IsInvertible s m e
 invertible_from s m i e law n h =
     let high : ℕ = s.precision - 1 in
     let p : m ≡ 2 ^ (s.precision - 1) = is_power s m i e law n h in
     let l : s.min_exp ≤ℤ e = not_low s m i e law n h in
     let j : ℕ = steps_of s e in
     let w : ℕ = (format_at s).scale in
-    let q : quanta_at s.min_exp m e ≡ 2 ^ (s.precision - 1) * 2 ^ steps_of s e = quanta_high_is s m e l ∙ ap (λ (x : ℕ). x * 2 ^ steps_of s e) p in
-    let g : 2 ^ (s.precision - 1) * 2 ^ steps_of s e * i ≡ 2 ^ (format_at s).scale * 2 ^ (format_at s).scale = ap (λ (x : ℕ). x * i) (sym q) ∙ h.product in
+    let q : quanta_at s.min_exp m e ≡ 2 ^ (s.precision - 1) * 2 ^ steps_of s e = quanta_high_is s m e l ∙
+        ap (λ (x : ℕ). x * 2 ^ steps_of s e) p in
+    let g : 2 ^ (s.precision - 1) * 2 ^ steps_of s e * i ≡ 2 ^ (format_at s).scale * 2 ^ (format_at s).scale =
+        ap (λ (x : ℕ). x * i) (sym q) ∙ h.product in
     let c = scale_is s law in
     let short = short_inverse (s.precision - 1) (steps_of s e) (format_at s).scale i h.inverse_normal g in
-    let t : greatest_significand s.nonfinite s.precision * 2 ^ (format_at s).span < 2 ^ s.precision * 2 ^ (format_at s).span = mul-lt-mul_of_pos_right (greatest_fits s.nonfinite s.precision) (pow_pos (format_at s).span) in
+    let t : greatest_significand s.nonfinite s.precision * 2 ^ (format_at s).span
+        < 2 ^ s.precision * 2 ^ (format_at s).span =
+            mul-lt-mul_of_pos_right (greatest_fits s.nonfinite s.precision) (pow_pos (format_at s).span) in
     let b = h.within in
-    let long = long_inverse (s.precision - 1) (steps_of s e) (format_at s).scale i s.precision (format_at s).span (omega arith) g in
+    let long =
+        long_inverse (s.precision - 1) (steps_of s e) (format_at s).scale i s.precision (format_at s).span
+            (omega arith) g in
     record {
       power = p;
       normal = l;
@@ -159,7 +182,8 @@ invertible_from s m i e law n h =
       inverse_within = omega (arith, ints, long, c, l, law);
     }
 
-pub opposite_word : (s : Shape) (m : ℕ) (e : ℤ) → IsShape s → IsNormal s m e → to_z w32 (of_z w32 (pos 0 -ℤ e)) ≡ neg_ℤ e
+pub opposite_word : (s : Shape) (m : ℕ) (e : ℤ) → IsShape s → IsNormal s m e
+    → to_z w32 (of_z w32 (pos 0 -ℤ e)) ≡ neg_ℤ e
 opposite_word s m e law n =
     let x = normal_near s m e law n in
     let z : pos 0 -ℤ e ≡ neg_ℤ e = omega (arith, ints) in
@@ -167,7 +191,8 @@ opposite_word s m e law n =
 
 -- what is answered of a number
 pub inverse_answer : (s : Shape) (b : Bool) (m : ℕ) (e : ℤ) → IsShape s → IsNormal s m e → IsInvertible s m e
-    → IsExactInverse (format_at s) (finite b (quanta_at s.min_exp m e)) (Some (finite b (quanta_at s.min_exp m (neg_ℤ e))))
+    → IsExactInverse (format_at s) (finite b (quanta_at s.min_exp m e))
+    (Some (finite b (quanta_at s.min_exp m (neg_ℤ e))))
 inverse_answer s b m e law n i = (quanta_at s.min_exp m (neg_ℤ e), inverted_product s m e law n i, refl)
 
 pub no_inverse_answer : (s : Shape) (b : Bool) (m : ℕ) (e : ℤ) → IsShape s → IsNormal s m e → (IsInvertible s m e → ⊥)

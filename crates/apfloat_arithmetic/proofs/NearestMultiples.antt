@@ -32,11 +32,13 @@ upper_scaled r s w odd p =
     takes_more NearestTiesToEven false odd r s g ∙ sym (takes_more NearestTiesToEven false odd (r * w) (s * w) m))
     (λ (g : r ≤ s).
     let e : r ≡ s = omega arith in
-    takes_half NearestTiesToEven false odd r s e ∙ sym (takes_half NearestTiesToEven false odd (r * w) (s * w) (ap (λ (x : ℕ). x * w) e)))
+    takes_half NearestTiesToEven false odd r s e ∙
+        sym (takes_half NearestTiesToEven false odd (r * w) (s * w) (ap (λ (x : ℕ). x * w) e)))
     (cases_lt s r))
     (cases_lt r s)
 
-pub upper_level : (r d w s t : ℕ) (odd odd2 : Bool) → 0 < w → r * w ≡ s → d * w ≡ t → odd ≡ odd2 → upper r (d - r) odd ≡ upper s (t - s) odd2
+pub upper_level : (r d w s t : ℕ) (odd odd2 : Bool) → 0 < w → r * w ≡ s → d * w ≡ t → odd ≡ odd2
+    → upper r (d - r) odd ≡ upper s (t - s) odd2
 upper_level r d w s t odd odd2 p e f o =
     upper_scaled r (d - r) w odd p
     ∙ ap (λ (x : ℕ). upper (r * w) x odd) (less_scaled d r w)
@@ -48,7 +50,8 @@ pub lower_near : (r d : ℕ) (odd : Bool) → 2 * r < d → false ≡ upper r (d
 lower_near r d odd l = let m : r < d - r = omega arith in sym (takes_less NearestTiesToEven false odd r (d - r) m)
 
 -- two places and more below the divisor
-pub far_below : (precision r p t q : ℕ) → 0 < precision → r < 2 ^ precision → 2 ^ (precision - 1) ≤ t → p + 1 < q → 2 * (r * 2 ^ p) < t * 2 ^ q
+pub far_below : (precision r p t q : ℕ) → 0 < precision → r < 2 ^ precision → 2 ^ (precision - 1) ≤ t → p + 1 < q
+    → 2 * (r * 2 ^ p) < t * 2 ^ q
 far_below precision r p t q z f l g =
     let a : r * 2 ^ (p + 1) < t * 2 ^ q = below_divisor precision r (p + 1) t q z f l g in
     let e : r * 2 ^ (p + 1) ≡ r * (2 * 2 ^ p) = ap (λ (x : ℕ). r * x) (twice_power p) in
@@ -77,14 +80,17 @@ pub quotient_scaled : (a b w : ℕ) → 0 < w → a * w / (b * w) ≡ a / b
 quotient_scaled a b w p = mul-div-mul_right a b p
 
 -- an operand by its digits, 2 ^ low to the quantum
-pub operand_scaled : (place low n s t : ℕ) (e : ℤ) → t ≡ s → pos place ≡ (e +ℤ pos low) → n * 2 ^ down e ≡ s * 2 ^ up e → t * 2 ^ place ≡ n * 2 ^ low
+pub operand_scaled : (place low n s t : ℕ) (e : ℤ) → t ≡ s → pos place ≡ (e +ℤ pos low)
+    → n * 2 ^ down e ≡ s * 2 ^ up e → t * 2 ^ place ≡ n * 2 ^ low
 operand_scaled place low n s t e z h k =
     let g : place + down e ≡ up e + low = omega (arith, ints) in
-    let a : 2 ^ place * 2 ^ down e ≡ 2 ^ up e * 2 ^ low = sym (pow-add 2 place (down e)) ∙ ap (λ (x : ℕ). 2 ^ x) g ∙ pow-add 2 (up e) low in
+    let a : 2 ^ place * 2 ^ down e ≡ 2 ^ up e * 2 ^ low = sym (pow-add 2 place (down e)) ∙ ap (λ (x : ℕ). 2 ^ x) g ∙
+        pow-add 2 (up e) low in
     let b : s * (2 ^ place * 2 ^ down e) ≡ s * (2 ^ up e * 2 ^ low) = ap (λ (x : ℕ). s * x) a in
     let c : n * 2 ^ down e * 2 ^ low ≡ s * 2 ^ up e * 2 ^ low = ap (λ (x : ℕ). x * 2 ^ low) k in
     let d : s * 2 ^ place * 2 ^ down e ≡ n * 2 ^ low * 2 ^ down e = omega arith in
-    let f : s * 2 ^ place ≡ n * 2 ^ low = eq_of_mul-eq-mul_right (2 ^ down e) (pow_pos (down e)) (s * 2 ^ place) (n * 2 ^ low) d in
+    let f : s * 2 ^ place ≡ n * 2 ^ low =
+        eq_of_mul-eq-mul_right (2 ^ down e) (pow_pos (down e)) (s * 2 ^ place) (n * 2 ^ low) d in
     ap (λ (x : ℕ). x * 2 ^ place) z ∙ f
 
 -- the remainder of scaled operands
@@ -96,21 +102,30 @@ quotient_in x y a b w p e f = ap (λ (z : ℕ). z / y) e ∙ ap (λ (z : ℕ). a
 
 -- ---- what is left, with its sign
 
-pub rest_within : (kind : NonfiniteBehavior) (negative : Bool) (a taken n : ℕ) → taken ≤ a → a - taken ≡ n → signed_quanta kind negative n ≡ rest_of kind negative a taken
+pub rest_within : (kind : NonfiniteBehavior) (negative : Bool) (a taken n : ℕ) → taken ≤ a → a - taken ≡ n
+    → signed_quanta kind negative n ≡ rest_of kind negative a taken
 rest_within kind negative a taken n l e =
-    ap (λ (x : ℕ). signed_quanta kind negative x) (sym e) ∙ sym (ap (λ (x : Bool). cond x (signed_quanta kind (not negative) (taken - a)) (signed_quanta kind negative (a - taken))) (le-ltb a taken l))
+    ap (λ (x : ℕ). signed_quanta kind negative x) (sym e) ∙
+        sym (ap (λ (x : Bool). cond x (signed_quanta kind (not negative) (taken - a))
+            (signed_quanta kind negative (a - taken))) (le-ltb a taken l))
 
-pub rest_past : (kind : NonfiniteBehavior) (negative : Bool) (a taken n : ℕ) → a < taken → taken - a ≡ n → signed_quanta kind (not negative) n ≡ rest_of kind negative a taken
+pub rest_past : (kind : NonfiniteBehavior) (negative : Bool) (a taken n : ℕ) → a < taken → taken - a ≡ n
+    → signed_quanta kind (not negative) n ≡ rest_of kind negative a taken
 rest_past kind negative a taken n l e =
-    ap (λ (x : ℕ). signed_quanta kind (not negative) x) (sym e) ∙ sym (ap (λ (x : Bool). cond x (signed_quanta kind (not negative) (taken - a)) (signed_quanta kind negative (a - taken))) (lt-ltb a taken l))
+    ap (λ (x : ℕ). signed_quanta kind (not negative) x) (sym e) ∙
+        sym (ap (λ (x : Bool). cond x (signed_quanta kind (not negative) (taken - a))
+            (signed_quanta kind negative (a - taken))) (lt-ltb a taken l))
 
-pub truncated_value : (kind : NonfiniteBehavior) (negative : Bool) (a b n : ℕ) → n ≡ a % b → signed_quanta kind negative n ≡ rest_of kind negative a (b * (a / b))
+pub truncated_value : (kind : NonfiniteBehavior) (negative : Bool) (a b n : ℕ) → n ≡ a % b
+    → signed_quanta kind negative n ≡ rest_of kind negative a (b * (a / b))
 truncated_value kind negative a b n e =
     let m = mod-add-div' a b in
     let l : b * (a / b) ≤ a = omega arith in
     rest_within kind negative a (b * (a / b)) n l (omega arith)
 
-upper_is : (a b : ℕ) → upper (a - a / b * b) ((a / b + 1) * b - a) (eqb (a / b / (a / b + 1 - a / b) % 2) 1) ≡ upper (a % b) (b - a % b) (eqb (a / b % 2) 1)
+upper_is : (a b : ℕ)
+    → upper (a - a / b * b) ((a / b + 1) * b - a) (eqb (a / b / (a / b + 1 - a / b) % 2) 1)
+    ≡ upper (a % b) (b - a % b) (eqb (a / b % 2) 1)
 upper_is a b =
     let m = mod-add-div' a b in
     let e : a - a / b * b ≡ a % b = omega arith in
@@ -121,8 +136,10 @@ upper_is a b =
     ∙ ap (λ (x : ℕ). upper (a % b) x (eqb (a / b / (a / b + 1 - a / b) % 2) 1)) f
     ∙ ap (λ (x : ℕ). upper (a % b) (b - a % b) (eqb (x % 2) 1)) h
 
-nearest_is : (a b : ℕ) (past : Bool) → past ≡ upper (a % b) (b - a % b) (eqb (a / b % 2) 1) → nearest_quotient a b ≡ cond (eqb (a % b) 0) (a / b) (cond past (a / b + 1) (a / b))
-nearest_is a b past e = ap (λ (x : Bool). cond (eqb (a % b) 0) (a / b) (cond x (a / b + 1) (a / b))) (upper_is a b ∙ sym e)
+nearest_is : (a b : ℕ) (past : Bool) → past ≡ upper (a % b) (b - a % b) (eqb (a / b % 2) 1)
+    → nearest_quotient a b ≡ cond (eqb (a % b) 0) (a / b) (cond past (a / b + 1) (a / b))
+nearest_is a b past e =
+    ap (λ (x : Bool). cond (eqb (a % b) 0) (a / b) (cond x (a / b + 1) (a / b))) (upper_is a b ∙ sym e)
 
 pub upper_far : (r d : ℕ) (odd : Bool) → true ≡ upper r (d - r) odd → d - r ≤ r
 upper_far r d odd e =
@@ -131,37 +148,49 @@ upper_far r d odd e =
     (λ (l : d - r ≤ r). l)
     (cases_lt r (d - r))
 
-nearest_past : (kind : NonfiniteBehavior) (negative : Bool) (a b n : ℕ) → 0 < b → true ≡ upper (a % b) (b - a % b) (eqb (a / b % 2) 1) → n ≡ b - a % b → signed_quanta kind (not negative) n ≡ rest_of kind negative a (b * nearest_quotient a b)
+nearest_past : (kind : NonfiniteBehavior) (negative : Bool) (a b n : ℕ) → 0 < b
+    → true ≡ upper (a % b) (b - a % b) (eqb (a / b % 2) 1) → n ≡ b - a % b
+    → signed_quanta kind (not negative) n ≡ rest_of kind negative a (b * nearest_quotient a b)
 nearest_past kind negative a b n p t e =
     let m = mod-add-div' a b in
     let l : a % b < b = mod-lt a p in
     let f : b - a % b ≤ a % b = upper_far (a % b) b (eqb (a / b % 2) 1) t in
     let z : a % b ≡ 0 → ⊥ = omega arith in
-    let q : nearest_quotient a b ≡ a / b + 1 = nearest_is a b true t ∙ ap (λ (x : Bool). cond x (a / b) (a / b + 1)) (ne_eqb (a % b) 0 z) in
+    let q : nearest_quotient a b ≡ a / b + 1 = nearest_is a b true t ∙
+        ap (λ (x : Bool). cond x (a / b) (a / b + 1)) (ne_eqb (a % b) 0 z) in
     let g : b * nearest_quotient a b ≡ b * (a / b + 1) = ap (λ (x : ℕ). b * x) q in
     let h : a < b * (a / b + 1) = omega arith in
-    subst (λ (x : ℕ). signed_quanta kind (not negative) n ≡ rest_of kind negative a x) (sym g) (rest_past kind negative a (b * (a / b + 1)) n h (omega arith))
+    subst (λ (x : ℕ). signed_quanta kind (not negative) n ≡ rest_of kind negative a x) (sym g)
+        (rest_past kind negative a (b * (a / b + 1)) n h (omega arith))
 
-nearest_within : (kind : NonfiniteBehavior) (negative : Bool) (a b n : ℕ) → false ≡ upper (a % b) (b - a % b) (eqb (a / b % 2) 1) → n ≡ a % b → signed_quanta kind negative n ≡ rest_of kind negative a (b * nearest_quotient a b)
+nearest_within : (kind : NonfiniteBehavior) (negative : Bool) (a b n : ℕ)
+    → false ≡ upper (a % b) (b - a % b) (eqb (a / b % 2) 1) → n ≡ a % b
+    → signed_quanta kind negative n ≡ rest_of kind negative a (b * nearest_quotient a b)
 nearest_within kind negative a b n t e =
     let q : nearest_quotient a b ≡ a / b = nearest_is a b false t ∙ sym (cond_same (eqb (a % b) 0) (a / b)) in
     let g : b * nearest_quotient a b ≡ b * (a / b) = ap (λ (x : ℕ). b * x) q in
-    subst (λ (x : ℕ). signed_quanta kind negative n ≡ rest_of kind negative a x) (sym g) (truncated_value kind negative a b n e)
+    subst (λ (x : ℕ). signed_quanta kind negative n ≡ rest_of kind negative a x) (sym g)
+        (truncated_value kind negative a b n e)
 
-pub nearest_value : (kind : NonfiniteBehavior) (negative past : Bool) (a b n : ℕ) → 0 < b → past ≡ upper (a % b) (b - a % b) (eqb (a / b % 2) 1) → n ≡ cond past (b - a % b) (a % b) → signed_quanta kind (not (beq negative past)) n ≡ rest_of kind negative a (b * nearest_quotient a b)
+pub nearest_value : (kind : NonfiniteBehavior) (negative past : Bool) (a b n : ℕ) → 0 < b
+    → past ≡ upper (a % b) (b - a % b) (eqb (a / b % 2) 1) → n ≡ cond past (b - a % b) (a % b)
+    → signed_quanta kind (not (beq negative past)) n ≡ rest_of kind negative a (b * nearest_quotient a b)
 nearest_value kind true true a b n p t e = nearest_past kind true a b n p t e
 nearest_value kind false true a b n p t e = nearest_past kind false a b n p t e
 nearest_value kind true false a b n p t e = nearest_within kind true a b n t e
 nearest_value kind false false a b n p t e = nearest_within kind false a b n t e
 
 -- the same choice and distance in other units
-pub past_in : (past : Bool) (x y a b w : ℕ) → 0 < w → x ≡ a * w → y ≡ b * w → past ≡ upper (x % y) (y - x % y) (eqb (x / y % 2) 1) → past ≡ upper (a % b) (b - a % b) (eqb (a / b % 2) 1)
+pub past_in : (past : Bool) (x y a b w : ℕ) → 0 < w → x ≡ a * w → y ≡ b * w
+    → past ≡ upper (x % y) (y - x % y) (eqb (x / y % 2) 1) → past ≡ upper (a % b) (b - a % b) (eqb (a / b % 2) 1)
 past_in past x y a b w p e f h =
     let r : a % b * w ≡ x % y = sym (rest_in x y a b w (x % y) p e f refl) in
-    let o : eqb (a / b % 2) 1 ≡ eqb (x / y % 2) 1 = sym (ap (λ (z : ℕ). eqb (z % 2) 1) (quotient_in x y a b w p e f)) in
+    let o : eqb (a / b % 2) 1 ≡ eqb (x / y % 2) 1 =
+        sym (ap (λ (z : ℕ). eqb (z % 2) 1) (quotient_in x y a b w p e f)) in
     h ∙ sym (upper_level (a % b) b w (x % y) y (eqb (a / b % 2) 1) (eqb (x / y % 2) 1) p r (sym f) o)
 
-pub distance_in : (past : Bool) (x y a b w d : ℕ) → 0 < w → x ≡ a * w → y ≡ b * w → d ≡ cond past (y - x % y) (x % y) → d ≡ cond past (b - a % b) (a % b) * w
+pub distance_in : (past : Bool) (x y a b w d : ℕ) → 0 < w → x ≡ a * w → y ≡ b * w
+    → d ≡ cond past (y - x % y) (x % y) → d ≡ cond past (b - a % b) (a % b) * w
 distance_in true x y a b w d p e f h =
     let r : x % y ≡ a % b * w = rest_in x y a b w (x % y) p e f refl in
     let k : (b - a % b) * w ≡ b * w - a % b * w = less_scaled b (a % b) w in

@@ -49,13 +49,15 @@ factor_of_power (suc k) a b e =
     let r : a * (2 * y.half) ≡ 2 * 2 ^ k = ap (λ (n : ℕ). a * n) (sym q) ∙ u in
     factor_of_power k a y.half (omega arith))
     (λ (q : b ≡ 2 * y.half + 1).
-    let r : (2 * x.half + 1) * (2 * y.half + 1) ≡ 2 * 2 ^ k = ap (λ (n : ℕ). n * (2 * y.half + 1)) (sym p) ∙ ap (λ (n : ℕ). a * n) (sym q) ∙ u in
+    let r : (2 * x.half + 1) * (2 * y.half + 1) ≡ 2 * 2 ^ k = ap (λ (n : ℕ). n * (2 * y.half + 1)) (sym p) ∙
+        ap (λ (n : ℕ). a * n) (sym q) ∙ u in
     absurd (odd_product x.half y.half (2 ^ k) r))
     y.is)
     x.is
 
 -- a power of two with so many digits
-pub power_with_digits : (precision m : ℕ) → 0 < precision → 2 ^ (precision - 1) ≤ m → m < 2 ^ precision → IsPower m → m ≡ 2 ^ (precision - 1)
+pub power_with_digits : (precision m : ℕ) → 0 < precision → 2 ^ (precision - 1) ≤ m → m < 2 ^ precision → IsPower m
+    → m ≡ 2 ^ (precision - 1)
 power_with_digits precision m p l h i =
     let e : m ≡ 2 ^ i.place = i.is in
     ⊎_elim

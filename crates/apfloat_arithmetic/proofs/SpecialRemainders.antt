@@ -16,37 +16,52 @@ use Rattle.apfloat_unpacked.specs.Stored.{IsStoredBy, datum_by, quanta_at}
 use Rattle.apfloat_unpacked.specs.StoredBack.{quanta_some}
 
 abbrev pub Says : Shape → (ℕ → ℕ → ℕ) → Category → Category → Unpacked → Unpacked → Datum → ℕ → Type 0
-Says s quotient k l x y value status = IsRemainder (format_at s) quotient (datum_by k s x) (datum_by l s y) value status
+Says s quotient k l x y value status =
+    IsRemainder (format_at s) quotient (datum_by k s x) (datum_by l s y) value status
 
 -- a number other than zero on the right
-pub by_number : (s : Shape) (quotient : ℕ → ℕ → ℕ) (x y : Unpacked) (m : ℕ) (value : Datum) (status : ℕ) → IsStoredBy Normal s y
-    → IsAnswer (rest_of s.nonfinite x.negative m (quanta_at s.min_exp y.significand y.exponent * quotient m (quanta_at s.min_exp y.significand y.exponent))) ok_bits value status
+pub by_number : (s : Shape) (quotient : ℕ → ℕ → ℕ) (x y : Unpacked) (m : ℕ) (value : Datum) (status : ℕ)
+    → IsStoredBy Normal s y
+    → IsAnswer (rest_of s.nonfinite x.negative m
+    (quanta_at s.min_exp y.significand y.exponent * quotient m (quanta_at s.min_exp y.significand y.exponent)))
+        ok_bits value status
     → IsRemainder (format_at s) quotient (finite x.negative m) (datum_by Normal s y) value status
 by_number s quotient x y m value status t h =
     let p = quanta_some s y.significand y.exponent t in
     rw (ne_eqb (quanta_at s.min_exp y.significand y.exponent) 0 (λ z. omega (arith, z, p))) h
 
-zero_rest : (kind : NonfiniteBehavior) (b : Bool) (n q : ℕ) → q ≡ 0 → b ≡ zero_sign kind b → finite b 0 ≡ rest_of kind b 0 (n * q)
+zero_rest : (kind : NonfiniteBehavior) (b : Bool) (n q : ℕ) → q ≡ 0 → b ≡ zero_sign kind b
+    → finite b 0 ≡ rest_of kind b 0 (n * q)
 zero_rest kind b n q e z = let w : n * 0 ≡ 0 = omega arith in rw (e, w) (ap (λ (u : Bool). finite u 0) z)
 
-zero_by_number : (s : Shape) (quotient : ℕ → ℕ → ℕ) (x y : Unpacked) (value : Datum) (status : ℕ) → IsStoredBy Zero s x → IsStoredBy Normal s y
-    → ((n : ℕ) → 0 < n → quotient 0 n ≡ 0) → IsAnswer (finite x.negative 0) ok_bits value status → Says s quotient Zero Normal x y value status
+zero_by_number : (s : Shape) (quotient : ℕ → ℕ → ℕ) (x y : Unpacked) (value : Datum) (status : ℕ)
+    → IsStoredBy Zero s x → IsStoredBy Normal s y
+    → ((n : ℕ) → 0 < n → quotient 0 n ≡ 0) → IsAnswer (finite x.negative 0) ok_bits value status
+    → Says s quotient Zero Normal x y value status
 zero_by_number s quotient x y value status u t q h =
     let n : ℕ = quanta_at s.min_exp y.significand y.exponent in
-    let e = zero_rest s.nonfinite x.negative n (quotient 0 n) (q n (quanta_some s y.significand y.exponent t)) u.sign_is in
+    let e = zero_rest s.nonfinite x.negative n (quotient 0 n) (q n (quanta_some s y.significand y.exponent t))
+        u.sign_is in
     by_number s quotient x y 0 value status t (subst (λ (d : Datum). IsAnswer d ok_bits value status) e h)
 
-pub of_zero : (s : Shape) (quotient : ℕ → ℕ → ℕ) (k l : Category) (x y : Unpacked) (value : Datum) (status : ℕ) → (k ≡ Zero) ⊎ (k ≡ Normal) → (k ≡ Normal → ⊥) → l ≡ Normal
-    → IsStoredBy k s x → IsStoredBy l s y → ((n : ℕ) → 0 < n → quotient 0 n ≡ 0) → IsAnswer (datum_by k s x) ok_bits value status → Says s quotient k l x y value status
+pub of_zero : (s : Shape) (quotient : ℕ → ℕ → ℕ) (k l : Category) (x y : Unpacked) (value : Datum) (status : ℕ)
+    → (k ≡ Zero) ⊎ (k ≡ Normal) → (k ≡ Normal → ⊥) → l ≡ Normal
+    → IsStoredBy k s x → IsStoredBy l s y → ((n : ℕ) → 0 < n → quotient 0 n ≡ 0)
+    → IsAnswer (datum_by k s x) ok_bits value status → Says s quotient k l x y value status
 of_zero s quotient k l x y value status (inr z) n e t u q h = absurd (n z)
 of_zero s quotient k l x y value status (inl z) n e t u q h =
-    subst (λ (o : Category). IsStoredBy o s x → IsAnswer (datum_by o s x) ok_bits value status → Says s quotient o l x y value status) (sym z)
-    (λ t h. subst (λ (o : Category). IsStoredBy o s y → Says s quotient Zero o x y value status) (sym e) (λ u. zero_by_number s quotient x y value status t u q h) u) t h
+    subst (λ (o : Category). IsStoredBy o s x → IsAnswer (datum_by o s x) ok_bits value status
+        → Says s quotient o l x y value status) (sym z)
+    (λ t h. subst (λ (o : Category). IsStoredBy o s y → Says s quotient Zero o x y value status) (sym e)
+        (λ u. zero_by_number s quotient x y value status t u q h) u) t h
 
 -- ---- both numbers other than zero
 
-pub of_numbers : (s : Shape) (quotient : ℕ → ℕ → ℕ) (k l : Category) (x y : Unpacked) (value : Datum) (status : ℕ) → k ≡ Normal → l ≡ Normal → IsStoredBy l s y
-    → IsAnswer (rest_of s.nonfinite x.negative (quanta_at s.min_exp x.significand x.exponent) (quanta_at s.min_exp y.significand y.exponent * quotient (quanta_at s.min_exp x.significand x.exponent) (quanta_at s.min_exp y.significand y.exponent))) ok_bits value status
+pub of_numbers : (s : Shape) (quotient : ℕ → ℕ → ℕ) (k l : Category) (x y : Unpacked) (value : Datum) (status : ℕ)
+    → k ≡ Normal → l ≡ Normal → IsStoredBy l s y
+    → IsAnswer (rest_of s.nonfinite x.negative (quanta_at s.min_exp x.significand x.exponent)
+    (quanta_at s.min_exp y.significand y.exponent * quotient (quanta_at s.min_exp x.significand x.exponent)
+        (quanta_at s.min_exp y.significand y.exponent))) ok_bits value status
     → Says s quotient k l x y value status
 of_numbers s quotient k l x y value status e f u h =
     subst (λ (o : Category). Says s quotient o l x y value status) (sym e)
@@ -54,16 +69,22 @@ of_numbers s quotient k l x y value status e f u h =
     (λ u. by_number s quotient x y (quanta_at s.min_exp x.significand x.exponent) value status u h) u)
 
 number_ones : (s : Shape) (x y : Unpacked) (m : ℕ) → IsStoredBy Normal s y
-    → count_ones (m / quanta_at s.min_exp y.significand y.exponent) ≡ ones_of_quotient (finite x.negative m) (datum_by Normal s y)
+    → count_ones (m / quanta_at s.min_exp y.significand y.exponent)
+    ≡ ones_of_quotient (finite x.negative m) (datum_by Normal s y)
 number_ones s x y m t =
     let p = quanta_some s y.significand y.exponent t in
     rw (ne_eqb (quanta_at s.min_exp y.significand y.exponent) 0 (λ z. omega (arith, z, p))) refl
 
 pub ones_of_numbers : (s : Shape) (k l : Category) (x y : Unpacked) → k ≡ Normal → l ≡ Normal → IsStoredBy l s y
-    → count_ones (quanta_at s.min_exp x.significand x.exponent / quanta_at s.min_exp y.significand y.exponent) ≡ ones_of_quotient (datum_by k s x) (datum_by l s y)
+    → count_ones (quanta_at s.min_exp x.significand x.exponent / quanta_at s.min_exp y.significand y.exponent)
+    ≡ ones_of_quotient (datum_by k s x) (datum_by l s y)
 ones_of_numbers s k l x y e f u =
-    subst (λ (o : Category). count_ones (quanta_at s.min_exp x.significand x.exponent / quanta_at s.min_exp y.significand y.exponent) ≡ ones_of_quotient (datum_by o s x) (datum_by l s y)) (sym e)
-    (subst (λ (o : Category). IsStoredBy o s y → count_ones (quanta_at s.min_exp x.significand x.exponent / quanta_at s.min_exp y.significand y.exponent) ≡ ones_of_quotient (datum_by Normal s x) (datum_by o s y)) (sym f)
+    subst (λ (o : Category). count_ones
+        (quanta_at s.min_exp x.significand x.exponent / quanta_at s.min_exp y.significand y.exponent)
+            ≡ ones_of_quotient (datum_by o s x) (datum_by l s y)) (sym e)
+    (subst (λ (o : Category). IsStoredBy o s y
+        → count_ones (quanta_at s.min_exp x.significand x.exponent / quanta_at s.min_exp y.significand y.exponent)
+        ≡ ones_of_quotient (datum_by Normal s x) (datum_by o s y)) (sym f)
     (λ u. number_ones s x y (quanta_at s.min_exp x.significand x.exponent) u) u)
 
 -- ---- not both numbers other than zero
@@ -76,7 +97,8 @@ zero_ones : (n : ℕ) → 0 ≡ (if eqb n 0 then 0 else count_ones (0 / n))
 unfolding lib.Count.ones
 zero_ones n = zero_if (eqb n 0) (count_ones (0 / n)) (ap count_ones (zero-div n))
 
-pub no_ones : (s : Shape) (k l : Category) (x y : Unpacked) → (k ≡ Normal → l ≡ Normal → ⊥) → 0 ≡ ones_of_quotient (datum_by k s x) (datum_by l s y)
+pub no_ones : (s : Shape) (k l : Category) (x y : Unpacked) → (k ≡ Normal → l ≡ Normal → ⊥)
+    → 0 ≡ ones_of_quotient (datum_by k s x) (datum_by l s y)
 no_ones s Normal Normal x y h = absurd (h refl refl)
 no_ones s Normal Zero x y h = refl
 no_ones s Normal Infinity x y h = refl

@@ -24,7 +24,8 @@ few m n p q d f l g =
     let b : 2 ^ (p + 1 - q) * 2 ^ q ≤ 2 ^ (p + 1 - q) * n = mul-le-mul_left (2 ^ (p + 1 - q)) l in
     ones-le (p + 1 - q) (m / n) ((div-lt_iff_lt-mul d).1 (omega arith))
 
-of_numbers : (f : Format) (m n : ℕ) (a b : ℤ) → 0 < n → IsLogarithm f m a → IsLogarithm f n b → 0 < count_ones (m / n) → pos (count_ones (m / n)) ≤ℤ ((a -ℤ b) +ℤ pos 1)
+of_numbers : (f : Format) (m n : ℕ) (a b : ℤ) → 0 < n → IsLogarithm f m a → IsLogarithm f n b
+    → 0 < count_ones (m / n) → pos (count_ones (m / n)) ≤ℤ ((a -ℤ b) +ℤ pos 1)
 of_numbers f m n a b d h k p =
     ⊎_elim
     (λ (l : m < n). absurd (none m n l p))
@@ -44,7 +45,8 @@ of_numbers f m n a b d h k p =
     omega (arith, ints))
     (cases_lt m n)
 
-pub few_steps : (f : Format) (x y : Datum) (a b : ℤ) → IsIlogb f x a → IsIlogb f y b → 0 < ones_of_quotient x y → pos (ones_of_quotient x y) ≤ℤ ((a -ℤ b) +ℤ pos 1)
+pub few_steps : (f : Format) (x y : Datum) (a b : ℤ) → IsIlogb f x a → IsIlogb f y b → 0 < ones_of_quotient x y
+    → pos (ones_of_quotient x y) ≤ℤ ((a -ℤ b) +ℤ pos 1)
 few_steps f (finite s zero) (finite t zero) a b h k p = absurd (omega (arith, p))
 few_steps f (finite s zero) (finite t (suc n)) a b h k p =
     let e : eqb (suc n) 0 ≡ false = ne_eqb (suc n) 0 (λ z. absurd (omega (arith, z))) in

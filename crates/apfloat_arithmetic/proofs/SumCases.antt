@@ -18,21 +18,27 @@ use Rattle.apfloat_unpacked.specs.StoredBack.{quanta_some}
 use Rattle.apfloat_unpacked.proofs.StoredMembers.{member_is}
 use Rattle.apfloat_arithmetic.specs.Subtrahends.{added}
 
-pub number_stored : (s : Shape) (x : Unpacked) → x.category ≡ Normal → IsStored s x → IsFiniteOf (format_at s) x.negative (quanta_at s.min_exp x.significand x.exponent) × (0 < quanta_at s.min_exp x.significand x.exponent)
+pub number_stored : (s : Shape) (x : Unpacked) → x.category ≡ Normal → IsStored s x
+    → IsFiniteOf (format_at s) x.negative (quanta_at s.min_exp x.significand x.exponent)
+    × (0 < quanta_at s.min_exp x.significand x.exponent)
 number_stored s x e h =
     let n : IsNormal s x.significand x.exponent = subst (λ (k : Category). IsStoredBy k s x) e h in
-    (subst (λ (k : Category). IsMember (format_at s) (datum_by k s x)) e (member_is s x h), quanta_some s x.significand x.exponent n)
+    (subst (λ (k : Category). IsMember (format_at s) (datum_by k s x)) e (member_is s x h),
+        quanta_some s x.significand x.exponent n)
 
-pub same_sum : (f : Format) (mode : Round) (x y v a b d : Datum) (i j : ℕ) → x ≡ a → y ≡ b → v ≡ d → i ≡ j → IsSum f mode a b d j → IsSum f mode x y v i
+pub same_sum : (f : Format) (mode : Round) (x y v a b d : Datum) (i j : ℕ) → x ≡ a → y ≡ b → v ≡ d → i ≡ j
+    → IsSum f mode a b d j → IsSum f mode x y v i
 same_sum f mode x y v a b d i j p q r e h = rw (p, q, r, e) h
 
 pub datum_is : (k : Category) (s : Shape) (x : Unpacked) → x.category ≡ k → datum_at s x ≡ datum_by k s x
 datum_is k s x e = ap (λ (l : Category). datum_by l s x) e
 
-not_signaling : (f : Format) (kind : NonfiniteBehavior) (b : Bool) (n : ℕ) → is_signaling_nan f (negated kind (finite b n)) ≡ false
+not_signaling : (f : Format) (kind : NonfiniteBehavior) (b : Bool) (n : ℕ)
+    → is_signaling_nan f (negated kind (finite b n)) ≡ false
 not_signaling f kind b n = search rules
 
-pub difference_is : (f : Format) (mode : Round) (x y v : Datum) (i : ℕ) → IsSum f mode x (added f.nonfinite y) v i → IsDifference f mode x y v i
+pub difference_is : (f : Format) (mode : Round) (x y v : Datum) (i : ℕ) → IsSum f mode x (added f.nonfinite y) v i
+    → IsDifference f mode x y v i
 difference_is f mode (nan b s) (nan c t) v i h = h
 difference_is f mode (nan b s) (infinite c) v i h = h
 difference_is f mode (nan b s) (finite c n) v i h = rw (not_signaling f f.nonfinite c n) at h

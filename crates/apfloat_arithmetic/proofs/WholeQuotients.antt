@@ -43,7 +43,8 @@ turn_even d r s k p g t =
     ap (λ (x : ℕ). x % 2) f ∙ add-mul-mod_self_right (s / d) (2 ^ (k - 1)) 2
 
 -- one subtraction, by significands and places
-pub is_turn : (r p t q s b : ℕ) → (s + t) * 2 ^ b ≡ r * 2 ^ p → s < t → q ≤ b → IsTurn (t * 2 ^ q) (r * 2 ^ p) (s * 2 ^ b) (b - q)
+pub is_turn : (r p t q s b : ℕ) → (s + t) * 2 ^ b ≡ r * 2 ^ p → s < t → q ≤ b
+    → IsTurn (t * 2 ^ q) (r * 2 ^ p) (s * 2 ^ b) (b - q)
 is_turn r p t q s b e l g =
     let w : b ≡ (b - q) + q = omega arith in
     let a : 2 ^ b ≡ 2 ^ (b - q) * 2 ^ q = ap (λ (x : ℕ). 2 ^ x) w ∙ pow-add 2 (b - q) q in
@@ -52,21 +53,25 @@ is_turn r p t q s b e l g =
     record { taken = omega arith; below = omega arith }
 
 -- a significand at a place below the divisor's is less than it
-pub below_divisor : (precision r p t q : ℕ) → 0 < precision → r < 2 ^ precision → 2 ^ (precision - 1) ≤ t → p < q → r * 2 ^ p < t * 2 ^ q
+pub below_divisor : (precision r p t q : ℕ) → 0 < precision → r < 2 ^ precision → 2 ^ (precision - 1) ≤ t → p < q
+    → r * 2 ^ p < t * 2 ^ q
 below_divisor precision r p t q z f l g =
     let h : p + 1 ≤ q = omega arith in
     let a : r * 2 ^ p < 2 ^ precision * 2 ^ p = mul-lt-mul_of_pos_right f (pow_pos p) in
     let b : 2 ^ precision ≡ 2 * 2 ^ (precision - 1) = sym (twice_half precision z) in
     let b' : 2 ^ precision * 2 ^ p ≡ 2 * 2 ^ (precision - 1) * 2 ^ p = ap (λ (x : ℕ). x * 2 ^ p) b in
     let c : 2 ^ (p + 1) ≡ 2 * 2 ^ p = twice_power p in
-    let c' : 2 ^ (precision - 1) * 2 ^ (p + 1) ≡ 2 ^ (precision - 1) * (2 * 2 ^ p) = ap (λ (x : ℕ). 2 ^ (precision - 1) * x) c in
+    let c' : 2 ^ (precision - 1) * 2 ^ (p + 1) ≡ 2 ^ (precision - 1) * (2 * 2 ^ p) =
+        ap (λ (x : ℕ). 2 ^ (precision - 1) * x) c in
     let d : 2 ^ (p + 1) ≤ 2 ^ q = pow-le-pow_right two_pos h in
-    let e : 2 ^ (precision - 1) * 2 ^ (p + 1) ≤ 2 ^ (precision - 1) * 2 ^ q = mul-le-mul_left (2 ^ (precision - 1)) d in
+    let e : 2 ^ (precision - 1) * 2 ^ (p + 1) ≤ 2 ^ (precision - 1) * 2 ^ q =
+        mul-le-mul_left (2 ^ (precision - 1)) d in
     let k : 2 ^ (precision - 1) * 2 ^ q ≤ t * 2 ^ q = mul-le-mul_right (2 ^ q) l in
     omega arith
 
 -- the digits of the whole quotient
-pub few_digits : (precision r p t q : ℕ) → 0 < precision → r < 2 ^ precision → 2 ^ (precision - 1) ≤ t → q ≤ p → count_ones (r * 2 ^ p / (t * 2 ^ q)) ≤ p + 1 - q
+pub few_digits : (precision r p t q : ℕ) → 0 < precision → r < 2 ^ precision → 2 ^ (precision - 1) ≤ t → q ≤ p
+    → count_ones (r * 2 ^ p / (t * 2 ^ q)) ≤ p + 1 - q
 few_digits precision r p t q z f l g =
     let h : 0 < 2 ^ (precision - 1) = pow_pos (precision - 1) in
     let u : 0 < t = omega arith in

@@ -5,7 +5,8 @@ use Rattle.std.proofs.lemmas.Bool.{eq-eqb}
 pub eqb_self : (n : ℕ) → eqb n n ≡ true
 eqb_self n = eq-eqb n n refl
 
-pub first_holds : (b e l : Bool) (x : Option ℕ) → b ≡ true → (if b && e && l then x else None) ≡ (if e && l then x else None)
+pub first_holds : (b e l : Bool) (x : Option ℕ) → b ≡ true
+    → (if b && e && l then x else None) ≡ (if e && l then x else None)
 first_holds true e l x h = refl
 first_holds false e l x h = cc
 

@@ -22,29 +22,37 @@ four precision h =
     let k : 2 ^ 2 ≤ 2 ^ (precision - 1) = pow-le-pow_right two_pos l in
     k
 
-pub past_is : (f : Format) (top place p : ℕ) (b v : Bool) → top ≡ greatest_significand f.nonfinite f.precision → place ≡ f.span → b ≡ ltb (top * 2 ^ place) p → b ≡ v → ltb (largest f) p ≡ v
+pub past_is : (f : Format) (top place p : ℕ) (b v : Bool) → top ≡ greatest_significand f.nonfinite f.precision
+    → place ≡ f.span → b ≡ ltb (top * 2 ^ place) p → b ≡ v → ltb (largest f) p ≡ v
 past_is f top place p b v e d h k =
     ap (λ (x : ℕ). ltb (x * 2 ^ f.span) p) (sym e) ∙ ap (λ (x : ℕ). ltb (top * 2 ^ x) p) (sym d) ∙ sym h ∙ k
 
-pub signed_some : (kind : NonfiniteBehavior) (negative : Bool) (p : ℕ) → 0 < p → signed_quanta kind negative p ≡ finite negative p
+pub signed_some : (kind : NonfiniteBehavior) (negative : Bool) (p : ℕ) → 0 < p
+    → signed_quanta kind negative p ≡ finite negative p
 signed_some kind negative p h = let e : eqb p 0 ≡ false = ne_eqb p 0 (λ z. omega arith) in rw e refl
 
 -- a pick past the largest value
-pub delivered_past : (f : Format) (mode : Round) (negative : Bool) (amount parts p : ℕ) (v : Datum) (s : ℕ) → IsPick f.precision mode negative amount parts p → ltb (largest f) p ≡ true
-    → v ≡ cond (leads_out mode negative) (past_largest f.nonfinite (nan_base f) negative) (finite negative (largest f)) → s ≡ cond (leads_out mode negative) 20 16
+pub delivered_past : (f : Format) (mode : Round) (negative : Bool) (amount parts p : ℕ) (v : Datum) (s : ℕ)
+    → IsPick f.precision mode negative amount parts p → ltb (largest f) p ≡ true
+    → v ≡ cond (leads_out mode negative) (past_largest f.nonfinite (nan_base f) negative)
+    (finite negative (largest f)) → s ≡ cond (leads_out mode negative) 20 16
     → IsDelivered f mode negative amount parts v s
-delivered_past f mode negative amount parts p v s i a e d = record { pick = p; is_pick = i; value_is = rw a e; status_is = rw a d }
+delivered_past f mode negative amount parts p v s i a e d =
+    record { pick = p; is_pick = i; value_is = rw a e; status_is = rw a d }
 
 -- a pick within the format that is the magnitude
-pub delivered_exactly : (f : Format) (mode : Round) (negative : Bool) (amount parts p : ℕ) (v : Datum) (s : ℕ) → IsPick f.precision mode negative amount parts p → ltb (largest f) p ≡ false → p * parts ≡ amount
+pub delivered_exactly : (f : Format) (mode : Round) (negative : Bool) (amount parts p : ℕ) (v : Datum) (s : ℕ)
+    → IsPick f.precision mode negative amount parts p → ltb (largest f) p ≡ false → p * parts ≡ amount
     → v ≡ signed_quanta f.nonfinite negative p → s ≡ 0 → IsDelivered f mode negative amount parts v s
 delivered_exactly f mode negative amount parts p v s i a e w d =
     let b : eqb (p * parts) amount ≡ true = eq-eqb (p * parts) amount e in
     record { pick = p; is_pick = i; value_is = rw a w; status_is = rw (a, b) d }
 
 -- a pick within the format that is not the magnitude
-pub delivered_inexactly : (f : Format) (mode : Round) (negative : Bool) (amount parts p : ℕ) (v : Datum) (s : ℕ) → IsPick f.precision mode negative amount parts p → ltb (largest f) p ≡ false → (p * parts ≡ amount → ⊥)
-    → v ≡ signed_quanta f.nonfinite negative p → s ≡ cond (is_tiny f amount parts p) 24 16 → IsDelivered f mode negative amount parts v s
+pub delivered_inexactly : (f : Format) (mode : Round) (negative : Bool) (amount parts p : ℕ) (v : Datum) (s : ℕ)
+    → IsPick f.precision mode negative amount parts p → ltb (largest f) p ≡ false → (p * parts ≡ amount → ⊥)
+    → v ≡ signed_quanta f.nonfinite negative p → s ≡ cond (is_tiny f amount parts p) 24 16
+    → IsDelivered f mode negative amount parts v s
 delivered_inexactly f mode negative amount parts p v s i a n w d =
     let b : eqb (p * parts) amount ≡ false = ne_eqb (p * parts) amount n in
     record { pick = p; is_pick = i; value_is = rw a w; status_is = rw (a, b) d }
@@ -57,25 +65,39 @@ loss_cases LessThanHalf = inr (λ e. cc)
 loss_cases ExactlyHalf = inr (λ e. cc)
 loss_cases MoreThanHalf = inr (λ e. cc)
 
-pub exact_if : (precision : ℕ) (mode : Round) (negative : Bool) (half m c amount parts p : ℕ) (loss : Loss) → loss ≡ ExactlyZero → 0 < parts → IsEnclosed precision half m c amount parts → StandsFor m loss amount (2 ^ c * parts) → IsPick precision mode negative amount parts p → p * parts ≡ amount
+pub exact_if : (precision : ℕ) (mode : Round) (negative : Bool) (half m c amount parts p : ℕ) (loss : Loss)
+    → loss ≡ ExactlyZero → 0 < parts → IsEnclosed precision half m c amount parts
+    → StandsFor m loss amount (2 ^ c * parts) → IsPick precision mode negative amount parts p → p * parts ≡ amount
 exact_if precision mode negative half m c amount parts p loss z l i h x =
-    let h' : StandsFor m ExactlyZero amount (2 ^ c * parts) = subst (λ (y : Loss). StandsFor m y amount (2 ^ c * parts)) z h in
-    let e : p ≡ m * 2 ^ c = pick_unique precision mode negative amount parts p (m * 2 ^ c) x (pick_is precision mode negative half m c amount parts ExactlyZero l i h') in
+    let h' : StandsFor m ExactlyZero amount (2 ^ c * parts) =
+        subst (λ (y : Loss). StandsFor m y amount (2 ^ c * parts)) z h in
+    let e : p ≡ m * 2 ^ c =
+        pick_unique precision mode negative amount parts p (m * 2 ^ c) x
+            (pick_is precision mode negative half m c amount parts ExactlyZero l i h') in
     ap (λ (y : ℕ). y * parts) e ∙ omega (arith, h')
 
-off_if : (b : Bool) (m c amount parts : ℕ) → m * (2 ^ c * parts) < amount → amount < (m + 1) * (2 ^ c * parts) → cond b (m + 1) m * 2 ^ c * parts ≡ amount → ⊥
+off_if : (b : Bool) (m c amount parts : ℕ) → m * (2 ^ c * parts) < amount → amount < (m + 1) * (2 ^ c * parts)
+    → cond b (m + 1) m * 2 ^ c * parts ≡ amount → ⊥
 off_if true m c amount parts l k e = omega arith
 off_if false m c amount parts l k e = omega arith
 
-pub inexact_if : (precision : ℕ) (mode : Round) (negative : Bool) (half m c amount parts p : ℕ) (loss : Loss) → (loss ≡ ExactlyZero → ⊥) → 0 < parts → IsEnclosed precision half m c amount parts → StandsFor m loss amount (2 ^ c * parts) → IsPick precision mode negative amount parts p → p * parts ≡ amount → ⊥
+pub inexact_if : (precision : ℕ) (mode : Round) (negative : Bool) (half m c amount parts p : ℕ) (loss : Loss)
+    → (loss ≡ ExactlyZero → ⊥) → 0 < parts → IsEnclosed precision half m c amount parts
+    → StandsFor m loss amount (2 ^ c * parts) → IsPick precision mode negative amount parts p → p * parts ≡ amount
+    → ⊥
 inexact_if precision mode negative half m c amount parts p loss n l i h x q =
     let u : 0 < 2 ^ c * parts = mul-pos (pow_pos c) l in
-    let e : p ≡ kept mode negative loss m * 2 ^ c = pick_unique precision mode negative amount parts p (kept mode negative loss m * 2 ^ c) x (pick_is precision mode negative half m c amount parts loss l i h) in
-    off_if (rounds_up mode negative loss (eqb (m % 2) 1)) m c amount parts (stands_past m loss amount (2 ^ c * parts) u n h) (stands_to m loss amount (2 ^ c * parts) u h) (ap (λ (y : ℕ). y * parts) (sym e) ∙ q)
+    let e : p ≡ kept mode negative loss m * 2 ^ c =
+        pick_unique precision mode negative amount parts p (kept mode negative loss m * 2 ^ c) x
+            (pick_is precision mode negative half m c amount parts loss l i h) in
+    off_if (rounds_up mode negative loss (eqb (m % 2) 1)) m c amount parts
+        (stands_past m loss amount (2 ^ c * parts) u n h) (stands_to m loss amount (2 ^ c * parts) u h)
+            (ap (λ (y : ℕ). y * parts) (sym e) ∙ q)
 
 -- ---- tiny
 
-small_before : (precision half m c amount parts : ℕ) → 0 < parts → m < half → IsEnclosed precision half m c amount parts → amount < half * parts
+small_before : (precision half m c amount parts : ℕ) → 0 < parts → m < half
+    → IsEnclosed precision half m c amount parts → amount < half * parts
 small_before precision half m c amount parts p l i =
     ⊎_elim
     (λ (z : c ≡ 0).
@@ -86,7 +108,8 @@ small_before precision half m c amount parts p l i =
     (λ (f : half ≤ m). absurd (omega arith))
     i.full
 
-large_before : (precision half m c amount parts : ℕ) → half ≤ m → IsEnclosed precision half m c amount parts → half * parts ≤ amount
+large_before : (precision half m c amount parts : ℕ) → half ≤ m → IsEnclosed precision half m c amount parts
+    → half * parts ≤ amount
 large_before precision half m c amount parts l i =
     let w : 1 ≤ 2 ^ c = pow_pos c in
     let a : m * 1 ≤ m * 2 ^ c = mul-le-mul_left m w in
@@ -95,11 +118,14 @@ large_before precision half m c amount parts l i =
     let f : m * 2 ^ c * parts ≤ amount = i.from in
     omega arith
 
-tiny_before : (precision half m c amount parts : ℕ) → 0 < parts → IsEnclosed precision half m c amount parts → ltb m half ≡ ltb amount (half * parts)
+tiny_before : (precision half m c amount parts : ℕ) → 0 < parts → IsEnclosed precision half m c amount parts
+    → ltb m half ≡ ltb amount (half * parts)
 tiny_before precision half m c amount parts p i =
     ⊎_elim
-    (λ (l : m < half). lt-ltb m half l ∙ sym (lt-ltb amount (half * parts) (small_before precision half m c amount parts p l i)))
-    (λ (l : half ≤ m). le-ltb m half l ∙ sym (le-ltb amount (half * parts) (large_before precision half m c amount parts l i)))
+    (λ (l : m < half). lt-ltb m half l ∙
+        sym (lt-ltb amount (half * parts) (small_before precision half m c amount parts p l i)))
+    (λ (l : half ≤ m). le-ltb m half l ∙
+        sym (le-ltb amount (half * parts) (large_before precision half m c amount parts l i)))
     (cases_lt m half)
 
 small_after : (half s place : ℕ) → s < half → (place ≡ 0) ⊎ (half ≤ s) → s * 2 ^ place < half
@@ -119,9 +145,13 @@ tiny_after half s place f =
     (λ (l : half ≤ s). le-ltb s half l ∙ sym (le-ltb (s * 2 ^ place) half (large_after half s place l)))
     (cases_lt s half)
 
-pub tiny_is : (f : Format) (m c amount parts s place : ℕ) (b : Bool) → 0 < parts → IsEnclosed f.precision (2 ^ (f.precision - 1)) m c amount parts → (place ≡ 0) ⊎ (2 ^ (f.precision - 1) ≤ s)
-    → b ≡ cond f.tiny_before_rounding (ltb m (2 ^ (f.precision - 1))) (ltb s (2 ^ (f.precision - 1))) → is_tiny f amount parts (s * 2 ^ place) ≡ b
+pub tiny_is : (f : Format) (m c amount parts s place : ℕ) (b : Bool) → 0 < parts
+    → IsEnclosed f.precision (2 ^ (f.precision - 1)) m c amount parts → (place ≡ 0) ⊎ (2 ^ (f.precision - 1) ≤ s)
+    → b ≡ cond f.tiny_before_rounding (ltb m (2 ^ (f.precision - 1))) (ltb s (2 ^ (f.precision - 1)))
+    → is_tiny f amount parts (s * 2 ^ place) ≡ b
 tiny_is f m c amount parts s place b p i g e =
-    ap (λ (x : Bool). cond f.tiny_before_rounding x (ltb (s * 2 ^ place) (2 ^ (f.precision - 1)))) (sym (tiny_before f.precision (2 ^ (f.precision - 1)) m c amount parts p i))
-    ∙ ap (λ (x : Bool). cond f.tiny_before_rounding (ltb m (2 ^ (f.precision - 1))) x) (sym (tiny_after (2 ^ (f.precision - 1)) s place g))
+    ap (λ (x : Bool). cond f.tiny_before_rounding x (ltb (s * 2 ^ place) (2 ^ (f.precision - 1))))
+        (sym (tiny_before f.precision (2 ^ (f.precision - 1)) m c amount parts p i))
+    ∙ ap (λ (x : Bool). cond f.tiny_before_rounding (ltb m (2 ^ (f.precision - 1))) x)
+    (sym (tiny_after (2 ^ (f.precision - 1)) s place g))
     ∙ sym e

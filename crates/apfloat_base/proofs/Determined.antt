@@ -39,7 +39,8 @@ same_answer {A} r s e d =
     ap (λ (v : A). record { status = r.status; value = v }) e
     ∙ ap (λ (b : ℕ). record { status = record { 0 = b }; value = s.value }) d
 
-pub gives_once : {A : Type 0} (Says : A → ℕ → Type 0) → Once Says → Determines (λ (answer : StatusAnd A). Gives Says answer)
+pub gives_once : {A : Type 0} (Says : A → ℕ → Type 0) → Once Says
+    → Determines (λ (answer : StatusAnd A). Gives Says answer)
 gives_once {A} Says once r s h k =
     let e = once r.value s.value (bits_of r.status) (bits_of s.status) h k in
     same_answer r s e.0 e.1

@@ -18,7 +18,8 @@ use Rattle.apfloat_base.proofs.Losses.{twice_half}
 use Rattle.apfloat_base.proofs.Encodings.{fields_within, bits_back}
 
 abbrev pub fields_with : Bool → ℕ → ℕ → Fields
-fields_with negative biased_exponent trailing = record { negative = negative; biased_exponent = biased_exponent; trailing = trailing }
+fields_with negative biased_exponent trailing =
+    record { negative = negative; biased_exponent = biased_exponent; trailing = trailing }
 
 -- the part of a significand that is not written
 abbrev hidden : Format → ℕ
@@ -35,11 +36,13 @@ fields_by f layout (finite b n) =
     cond (leb (smallest_normalized f) n)
     (fields_with b (log2 n + 2 - f.precision) (n / 2 ^ (log2 n + 1 - f.precision) - hidden f))
     (fields_with b 0 n)
-fields_by f layout (infinite b) = fields_with b (all_ones layout.exponent_bits) (cond f.explicit_integer_bit (smallest_normalized f) 0)
+fields_by f layout (infinite b) =
+    fields_with b (all_ones layout.exponent_bits) (cond f.explicit_integer_bit (smallest_normalized f) 0)
 fields_by f layout (nan b s) = fields_of_nan f.nonfinite layout b s
 
 -- the integer bit is written only beside infinities
-pub explicit_kind : (kind : NonfiniteBehavior) (explicit : Bool) → MayBeExplicit kind explicit → explicit ≡ true → kind ≡ IEEE754
+pub explicit_kind : (kind : NonfiniteBehavior) (explicit : Bool) → MayBeExplicit kind explicit → explicit ≡ true
+    → kind ≡ IEEE754
 explicit_kind IEEE754 explicit may e = refl
 explicit_kind NanOnly explicit may e = absurd (true≢false (sym e ∙ may))
 explicit_kind NanNegativeZero explicit may e = absurd (true≢false (sym e ∙ may))
@@ -52,17 +55,20 @@ module _ (f : Format) (layout : Layout) (precise : 3 ≤ f.precision) where
   low_fields b n h = rw (lt-leb (smallest_normalized f) n h) refl
 
   -- a significand with its integer bit, at a place
-  high_fields : (b : Bool) (m j : ℕ) → smallest_normalized f ≤ m → m < 2 ^ f.precision → fields_by f layout (finite b (m * 2 ^ j)) ≡ fields_with b (j + 1) (m - hidden f)
+  high_fields : (b : Bool) (m j : ℕ) → smallest_normalized f ≤ m → m < 2 ^ f.precision
+      → fields_by f layout (finite b (m * 2 ^ j)) ≡ fields_with b (j + 1) (m - hidden f)
   high_fields b m j low high =
       let t : 2 * 2 ^ (f.precision - 1) ≡ 2 ^ f.precision = twice_half f.precision (omega arith) in
       let p : 2 ^ (f.precision - 1 + j) ≡ 2 ^ (f.precision - 1) * 2 ^ j = pow-add 2 (f.precision - 1) j in
       let a : 2 ^ (f.precision - 1) * 2 ^ j ≤ m * 2 ^ j = mul-le-mul_right (2 ^ j) low in
       let h : m < 2 * 2 ^ (f.precision - 1) = omega arith in
       let c : m * 2 ^ j < 2 * 2 ^ (f.precision - 1) * 2 ^ j = mul-lt-mul_of_pos_right h (pow_pos j) in
-      let g : log2 (m * 2 ^ j) ≡ f.precision - 1 + j = log2_is (m * 2 ^ j) (f.precision - 1 + j) (omega arith) (omega arith) in
+      let g : log2 (m * 2 ^ j) ≡ f.precision - 1 + j =
+          log2_is (m * 2 ^ j) (f.precision - 1 + j) (omega arith) (omega arith) in
       let o : 1 ≤ 2 ^ j = pow_pos j in
       let d : m * 1 ≤ m * 2 ^ j = mul-le-mul_left m o in
-      let l : leb (smallest_normalized f) (m * 2 ^ j) ≡ true = le-leb (smallest_normalized f) (m * 2 ^ j) (omega arith) in
+      let l : leb (smallest_normalized f) (m * 2 ^ j) ≡ true =
+          le-leb (smallest_normalized f) (m * 2 ^ j) (omega arith) in
       let c1 : f.precision - 1 + j + 2 - f.precision ≡ j + 1 = omega arith in
       let c2 : f.precision - 1 + j + 1 - f.precision ≡ j = omega arith in
       rw (l, g, c1, c2, shl-shr m j) refl
@@ -76,7 +82,8 @@ module _ (f : Format) (layout : Layout) (precise : 3 ≤ f.precision) where
     width_is : trailing_bits f ≡ f.precision - 1
     width_is = rw implied refl
 
-    number_fields : (b : Bool) (e t : ℕ) → t < smallest_normalized f → fields_by f layout (implied_number f (fields_with b e t)) ≡ fields_with b e t
+    number_fields : (b : Bool) (e t : ℕ) → t < smallest_normalized f
+        → fields_by f layout (implied_number f (fields_with b e t)) ≡ fields_with b e t
     number_fields b e t low =
         ⊎_elim
         (λ (z : e ≡ 0). rw (eq-eqb e 0 z) (low_fields b t low ∙ ap (λ (x : ℕ). fields_with b x t) (sym z)))
@@ -88,7 +95,9 @@ module _ (f : Format) (layout : Layout) (precise : 3 ≤ f.precision) where
         rw (ne_eqb e 0 n) (rw (c, d) at h))
         (cases_eq e 0)
 
-    implied_fields : (kind : NonfiniteBehavior) (b : Bool) (e t : ℕ) → f.nonfinite ≡ kind → t < smallest_normalized f → fields_by f layout (implied_datum kind f layout (fields_with b e t)) ≡ fields_with b e t
+    implied_fields : (kind : NonfiniteBehavior) (b : Bool) (e t : ℕ) → f.nonfinite ≡ kind
+        → t < smallest_normalized f
+        → fields_by f layout (implied_datum kind f layout (fields_with b e t)) ≡ fields_with b e t
     implied_fields IEEE754 b e t k low =
         ⊎_elim
         (λ (o : e ≡ all_ones layout.exponent_bits).
@@ -96,16 +105,21 @@ module _ (f : Format) (layout : Layout) (precise : 3 ≤ f.precision) where
         (λ (z : t ≡ 0). rw (eq-eqb e (all_ones layout.exponent_bits) o, eq-eqb t 0 z, implied, o, z) refl)
         (λ (n : t ≡ 0 → ⊥). rw (eq-eqb e (all_ones layout.exponent_bits) o, ne_eqb t 0 n, k, o) refl)
         (cases_eq t 0))
-        (λ (n : e ≡ all_ones layout.exponent_bits → ⊥). rw (ne_eqb e (all_ones layout.exponent_bits) n) (number_fields b e t low))
+        (λ (n : e ≡ all_ones layout.exponent_bits → ⊥).
+            rw (ne_eqb e (all_ones layout.exponent_bits) n) (number_fields b e t low))
         (cases_eq e (all_ones layout.exponent_bits))
     implied_fields NanOnly b e t k low =
         ⊎_elim
         (λ (o : e ≡ all_ones layout.exponent_bits).
         ⊎_elim
-        (λ (z : t ≡ all_ones (f.precision - 1)). rw (eq-eqb e (all_ones layout.exponent_bits) o, eq-eqb t (all_ones (f.precision - 1)) z, k, o, z) refl)
-        (λ (n : t ≡ all_ones (f.precision - 1) → ⊥). rw (eq-eqb e (all_ones layout.exponent_bits) o, ne_eqb t (all_ones (f.precision - 1)) n) (number_fields b e t low))
+        (λ (z : t ≡ all_ones (f.precision - 1)).
+            rw (eq-eqb e (all_ones layout.exponent_bits) o, eq-eqb t (all_ones (f.precision - 1)) z, k, o, z) refl)
+        (λ (n : t ≡ all_ones (f.precision - 1) → ⊥).
+            rw (eq-eqb e (all_ones layout.exponent_bits) o, ne_eqb t (all_ones (f.precision - 1)) n)
+                (number_fields b e t low))
         (cases_eq t (all_ones (f.precision - 1))))
-        (λ (n : e ≡ all_ones layout.exponent_bits → ⊥). rw (ne_eqb e (all_ones layout.exponent_bits) n) (number_fields b e t low))
+        (λ (n : e ≡ all_ones layout.exponent_bits → ⊥).
+            rw (ne_eqb e (all_ones layout.exponent_bits) n) (number_fields b e t low))
         (cases_eq e (all_ones layout.exponent_bits))
     implied_fields NanNegativeZero true e t k low =
         ⊎_elim
@@ -127,21 +141,29 @@ module _ (f : Format) (layout : Layout) (precise : 3 ≤ f.precision) where
     nan_fields : (b : Bool) (s : ℕ) → fields_by f layout (nan b s) ≡ fields_with b (all_ones layout.exponent_bits) s
     nan_fields b s = rw kind refl
 
-    written_fields : (b : Bool) (e t : ℕ) → t < 2 ^ f.precision → IsTrue (is_canonical_written f layout (fields_with b e t)) → fields_by f layout (written_datum f layout (fields_with b e t)) ≡ fields_with b e t
+    written_fields : (b : Bool) (e t : ℕ) → t < 2 ^ f.precision
+        → IsTrue (is_canonical_written f layout (fields_with b e t))
+        → fields_by f layout (written_datum f layout (fields_with b e t)) ≡ fields_with b e t
     written_fields b e t high canonical =
         ⊎_elim
         (λ (o : e ≡ all_ones layout.exponent_bits).
         ⊎_elim
-        (λ (z : t ≡ smallest_normalized f). rw (eq-eqb e (all_ones layout.exponent_bits) o, eq-eqb t (smallest_normalized f) z, written, o, z) refl)
-        (λ (n : t ≡ smallest_normalized f → ⊥). rw (eq-eqb e (all_ones layout.exponent_bits) o, ne_eqb t (smallest_normalized f) n) (nan_fields b t ∙ ap (λ (x : ℕ). fields_with b x t) (sym o)))
+        (λ (z : t ≡ smallest_normalized f).
+            rw (eq-eqb e (all_ones layout.exponent_bits) o, eq-eqb t (smallest_normalized f) z, written, o, z) refl)
+        (λ (n : t ≡ smallest_normalized f → ⊥).
+            rw (eq-eqb e (all_ones layout.exponent_bits) o, ne_eqb t (smallest_normalized f) n)
+                (nan_fields b t ∙ ap (λ (x : ℕ). fields_with b x t) (sym o)))
         (cases_eq t (smallest_normalized f)))
         (λ (n : e ≡ all_ones layout.exponent_bits → ⊥).
         let q : eqb e (all_ones layout.exponent_bits) ≡ false = ne_eqb e (all_ones layout.exponent_bits) n in
-        let c : IsTrue (cond (eqb e 0) (ltb t (smallest_normalized f)) (leb (smallest_normalized f) t)) = rw q at canonical in
+        let c : IsTrue (cond (eqb e 0) (ltb t (smallest_normalized f)) (leb (smallest_normalized f) t)) =
+            rw q at canonical in
         rw q (number_by b e t high c))
         (cases_eq e (all_ones layout.exponent_bits))
       where
-        number_by : (b : Bool) (e t : ℕ) → t < 2 ^ f.precision → IsTrue (cond (eqb e 0) (ltb t (smallest_normalized f)) (leb (smallest_normalized f) t)) → fields_by f layout (written_number f (fields_with b e t)) ≡ fields_with b e t
+        number_by : (b : Bool) (e t : ℕ) → t < 2 ^ f.precision
+            → IsTrue (cond (eqb e 0) (ltb t (smallest_normalized f)) (leb (smallest_normalized f) t))
+            → fields_by f layout (written_number f (fields_with b e t)) ≡ fields_with b e t
         number_by b e t high c =
             ⊎_elim
             (λ (z : e ≡ 0).
@@ -158,19 +180,24 @@ module _ (f : Format) (layout : Layout) (precise : 3 ≤ f.precision) where
 
 -- ---- any layout
 
-by_layout : (explicit : Bool) (f : Format) (layout : Layout) (b : Bool) (e t : ℕ) → f.explicit_integer_bit ≡ explicit → IsInterchange f layout → AreWithin f layout (fields_with b e t) → IsTrue (is_canonical f layout (fields_with b e t))
+by_layout : (explicit : Bool) (f : Format) (layout : Layout) (b : Bool) (e t : ℕ)
+    → f.explicit_integer_bit ≡ explicit → IsInterchange f layout → AreWithin f layout (fields_with b e t)
+    → IsTrue (is_canonical f layout (fields_with b e t))
     → fields_by f layout (datum_of_fields f layout (fields_with b e t)) ≡ fields_with b e t
 by_layout true f layout b e t x law within canonical =
     let k : f.nonfinite ≡ IEEE754 = explicit_kind f.nonfinite f.explicit_integer_bit law.explicit x in
     let w : t < 2 ^ f.precision = rw x at within.trailing in
     let c : IsTrue (is_canonical_written f layout (fields_with b e t)) = rw x at canonical in
-    ap (fields_by f layout) (cond-true f.explicit_integer_bit _ _ x) ∙ written_fields f layout law.precise x k b e t w c
+    ap (fields_by f layout) (cond-true f.explicit_integer_bit _ _ x) ∙
+        written_fields f layout law.precise x k b e t w c
 by_layout false f layout b e t x law within canonical =
     let w : t < 2 ^ (f.precision - 1) = rw x at within.trailing in
-    ap (fields_by f layout) (cond-false f.explicit_integer_bit _ _ x) ∙ implied_fields f layout law.precise x f.nonfinite b e t refl w
+    ap (fields_by f layout) (cond-false f.explicit_integer_bit _ _ x) ∙
+        implied_fields f layout law.precise x f.nonfinite b e t refl w
 
 -- the bits are determined by the datum
-pub encoded_once : (f : Format) (layout : Layout) (datum : Datum) (a b : ℕ) → IsInterchange f layout → IsEncodedBy f layout a datum → IsEncodedBy f layout b datum → a ≡ b
+pub encoded_once : (f : Format) (layout : Layout) (datum : Datum) (a b : ℕ) → IsInterchange f layout
+    → IsEncodedBy f layout a datum → IsEncodedBy f layout b datum → a ≡ b
 encoded_once f layout datum a b law x y =
     let p = by_layout f.explicit_integer_bit f layout _ _ _ refl law (fields_within f layout law a) x.canonical in
     let q = by_layout f.explicit_integer_bit f layout _ _ _ refl law (fields_within f layout law b) y.canonical in

@@ -16,11 +16,13 @@ use Rattle.apfloat_base.proofs.Losses.{twice_half}
 pub has_bits : (c : Constants) → IsLawful c → c.precision < c.bits → HasBits c
 has_bits c law wide = ⊎_elim (λ (n : HasNoBits c). absurd (omega (arith, n.bits))) (λ (h : HasBits c). h) law.layout
 
-trailing_by : (explicit : Bool) (precision : ℕ) → 1 ≤ precision → precision + cond explicit 1 0 ≡ cond explicit precision (precision - 1) + 1
+trailing_by : (explicit : Bool) (precision : ℕ) → 1 ≤ precision
+    → precision + cond explicit 1 0 ≡ cond explicit precision (precision - 1) + 1
 trailing_by true precision h = refl
 trailing_by false precision h = omega arith
 
-pub lawful_interchange : (c : Constants) → IsLawful c → c.precision < c.bits → IsInterchange (format_with c) (layout_with c)
+pub lawful_interchange : (c : Constants) → IsLawful c → c.precision < c.bits
+    → IsInterchange (format_with c) (layout_with c)
 lawful_interchange c law wide =
     let h = has_bits c law wide in
     let t = twice_half c.exp_bits h.exp_bits in
@@ -35,12 +37,17 @@ lawful_interchange c law wide =
       explicit = law.explicit;
     }
   where
-    span_by : (c : Constants) → IsLawful c → HasBits c → unsigned_abs (c.max_exp -ℤ c.min_exp) + 3 ≡ 2 ^ c.exp_bits + more_exponents c.nonfinite
+    span_by : (c : Constants) → IsLawful c → HasBits c
+        → unsigned_abs (c.max_exp -ℤ c.min_exp) + 3 ≡ 2 ^ c.exp_bits + more_exponents c.nonfinite
     span_by c law h =
         let t = twice_half c.exp_bits h.exp_bits in
-        let big : 3 ≤ 2 ^ c.exp_bits + more_exponents c.nonfinite = omega (arith, ints, law.precision_low, law.min_exp_high, law.max_exp_low, h.ieee_min_exp, h.ieee_max_exp, h.max_exp, t) in
-        let e : c.max_exp -ℤ c.min_exp ≡ pos (2 ^ c.exp_bits + more_exponents c.nonfinite - 3) = omega (arith, ints, h.ieee_min_exp, h.ieee_max_exp, h.max_exp, t) in
-        let a : unsigned_abs (c.max_exp -ℤ c.min_exp) ≡ 2 ^ c.exp_bits + more_exponents c.nonfinite - 3 = ap unsigned_abs e in
+        let big : 3 ≤ 2 ^ c.exp_bits + more_exponents c.nonfinite =
+            omega (arith, ints, law.precision_low, law.min_exp_high, law.max_exp_low, h.ieee_min_exp,
+                h.ieee_max_exp, h.max_exp, t) in
+        let e : c.max_exp -ℤ c.min_exp ≡ pos (2 ^ c.exp_bits + more_exponents c.nonfinite - 3) =
+            omega (arith, ints, h.ieee_min_exp, h.ieee_max_exp, h.max_exp, t) in
+        let a : unsigned_abs (c.max_exp -ℤ c.min_exp) ≡ 2 ^ c.exp_bits + more_exponents c.nonfinite - 3 =
+            ap unsigned_abs e in
         omega arith
 
 -- ---- fields of bits, and bits of fields
@@ -61,7 +68,8 @@ top_bit (suc (suc n)) h = absurd (omega arith)
 module _ (f : Format) (layout : Layout) (law : IsInterchange f layout) where
   pub fields_within : (bits : ℕ) → AreWithin f layout (fields_of f layout bits)
   fields_within bits = record {
-    biased_exponent = mod_below (bits / 2 ^ trailing_bits f) (2 ^ layout.exponent_bits) (pow_pos layout.exponent_bits);
+    biased_exponent =
+        mod_below (bits / 2 ^ trailing_bits f) (2 ^ layout.exponent_bits) (pow_pos layout.exponent_bits);
     trailing = mod_below bits (2 ^ trailing_bits f) (pow_pos (trailing_bits f));
   }
 
@@ -71,27 +79,37 @@ module _ (f : Format) (layout : Layout) (law : IsInterchange f layout) where
   -- the fields of the bits of fields
   pub fields_back : (x : Fields) → AreWithin f layout x → fields_of f layout (bits_of_fields f layout x) ≡ x
   fields_back x w =
-      let t = mod_low (cond x.negative 1 0 * 2 ^ layout.exponent_bits + x.biased_exponent) (trailing_bits f) x.trailing w.trailing in
-      let h = shr_high (cond x.negative 1 0 * 2 ^ layout.exponent_bits + x.biased_exponent) (trailing_bits f) x.trailing w.trailing in
+      let t = mod_low (cond x.negative 1 0 * 2 ^ layout.exponent_bits + x.biased_exponent) (trailing_bits f)
+          x.trailing w.trailing in
+      let h = shr_high (cond x.negative 1 0 * 2 ^ layout.exponent_bits + x.biased_exponent) (trailing_bits f)
+          x.trailing w.trailing in
       let b = mod_low (cond x.negative 1 0) layout.exponent_bits x.biased_exponent w.biased_exponent in
       let g = shr_high (cond x.negative 1 0) layout.exponent_bits x.biased_exponent w.biased_exponent in
-      rw (t, h, b, top, ← shr-shr (bits_of_fields f layout x) (trailing_bits f) layout.exponent_bits, h, g, one_bit x.negative) refl
+      rw (t, h, b, top, ← shr-shr (bits_of_fields f layout x) (trailing_bits f) layout.exponent_bits, h, g,
+          one_bit x.negative) refl
 
   pub bits_below : (x : Fields) → AreWithin f layout x → bits_of_fields f layout x < 2 ^ layout.bits
   bits_below x w =
-      let a : cond x.negative 1 0 * 2 ^ layout.exponent_bits + x.biased_exponent < 2 ^ layout.exponent_bits * 2 = mul-add-lt (cond x.negative 1 0) (2 ^ layout.exponent_bits) x.biased_exponent 2 (bit_low x.negative) w.biased_exponent in
-      let b = mul-add-lt (cond x.negative 1 0 * 2 ^ layout.exponent_bits + x.biased_exponent) (2 ^ trailing_bits f) x.trailing (2 ^ layout.exponent_bits * 2) a w.trailing in
+      let a : cond x.negative 1 0 * 2 ^ layout.exponent_bits + x.biased_exponent < 2 ^ layout.exponent_bits * 2 =
+          mul-add-lt (cond x.negative 1 0) (2 ^ layout.exponent_bits) x.biased_exponent 2 (bit_low x.negative)
+              w.biased_exponent in
+      let b = mul-add-lt (cond x.negative 1 0 * 2 ^ layout.exponent_bits + x.biased_exponent) (2 ^ trailing_bits f)
+          x.trailing (2 ^ layout.exponent_bits * 2) a w.trailing in
       let e : layout.bits ≡ trailing_bits f + suc layout.exponent_bits = omega (arith, law.bits) in
       rw (e, pow-add 2 (trailing_bits f) (suc layout.exponent_bits), two-pow-succ layout.exponent_bits)
-      (let z : 2 ^ layout.exponent_bits * 2 ≡ 2 ^ layout.exponent_bits + 2 ^ layout.exponent_bits = omega arith in rw z at b)
+      (let z : 2 ^ layout.exponent_bits * 2 ≡ 2 ^ layout.exponent_bits + 2 ^ layout.exponent_bits = omega arith in
+          rw z at b)
 
   -- the bits of the fields of bits
   pub bits_back : (bits : ℕ) → bits < 2 ^ layout.bits → bits_of_fields f layout (fields_of f layout bits) ≡ bits
   bits_back bits low =
       let w = trailing_bits f in
       let e : layout.bits ≡ suc (trailing_bits f + layout.exponent_bits) = omega (arith, law.bits) in
-      let k : 2 ^ layout.bits ≡ 2 * 2 ^ (w + layout.exponent_bits) = rw e (omega (arith, two-pow-succ (w + layout.exponent_bits))) in
-      let d : bits / 2 ^ (w + layout.exponent_bits) < 2 = div_below bits (2 ^ (w + layout.exponent_bits)) 2 (pow_pos (w + layout.exponent_bits)) (omega (arith, k)) in
+      let k : 2 ^ layout.bits ≡ 2 * 2 ^ (w + layout.exponent_bits) =
+          rw e (omega (arith, two-pow-succ (w + layout.exponent_bits))) in
+      let d : bits / 2 ^ (w + layout.exponent_bits) < 2 =
+          div_below bits (2 ^ (w + layout.exponent_bits)) 2 (pow_pos (w + layout.exponent_bits))
+              (omega (arith, k)) in
       let s : cond (eqb (bits / 2 ^ (layout.bits - 1) % 2) 1) 1 0 ≡ bits / 2 ^ w / 2 ^ layout.exponent_bits =
       rw (top, shr-shr bits w layout.exponent_bits) (top_bit (bits / 2 ^ (w + layout.exponent_bits)) d) in
       rw s (rw (shr_split (bits / 2 ^ w) layout.exponent_bits) (shr_split bits w))

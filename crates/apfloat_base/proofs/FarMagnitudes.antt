@@ -31,7 +31,8 @@ pub record IsFarBelow (amount parts : ℕ) : Type 0 where
 pub largest_below : (f : Format) → largest f < 2 ^ (f.precision + f.span)
 largest_below f =
     let e : 2 ^ (f.precision + f.span) ≡ 2 ^ f.precision * 2 ^ f.span = pow-add 2 f.precision f.span in
-    let a : greatest_significand f.nonfinite f.precision * 2 ^ f.span < 2 ^ f.precision * 2 ^ f.span = mul-lt-mul_of_pos_right (greatest_fits f.nonfinite f.precision) (pow_pos f.span) in
+    let a : greatest_significand f.nonfinite f.precision * 2 ^ f.span < 2 ^ f.precision * 2 ^ f.span =
+        mul-lt-mul_of_pos_right (greatest_fits f.nonfinite f.precision) (pow_pos f.span) in
     subst (λ (x : ℕ). greatest_significand f.nonfinite f.precision * 2 ^ f.span < x) (sym e) a
 
 power_on_grid : (precision k : ℕ) → 0 < precision → IsOnGrid precision (2 ^ k)
@@ -41,22 +42,30 @@ power_on_grid precision k h =
     record { significand = 1; place = k; fits = omega arith; is = omega arith }
 
 -- whatever is picked is past the largest value
-pub picks_past : (f : Format) (mode : Round) (negative : Bool) (amount parts p : ℕ) → 0 < f.precision → IsFarAbove f amount parts → IsPick f.precision mode negative amount parts p → ltb (largest f) p ≡ true
+pub picks_past : (f : Format) (mode : Round) (negative : Bool) (amount parts p : ℕ) → 0 < f.precision
+    → IsFarAbove f amount parts → IsPick f.precision mode negative amount parts p → ltb (largest f) p ≡ true
 picks_past f mode negative amount parts p h x i =
     let a : largest f < 2 ^ (f.precision + f.span) = largest_below f in
-    let b : 2 ^ (f.precision + f.span) ≤ i.below = i.is_below.greatest (2 ^ (f.precision + f.span)) (power_on_grid f.precision (f.precision + f.span) h) x.from in
+    let b : 2 ^ (f.precision + f.span) ≤ i.below =
+        i.is_below.greatest (2 ^ (f.precision + f.span)) (power_on_grid f.precision (f.precision + f.span) h)
+            x.from in
     let c = pick_within f.precision mode negative amount parts p x.some i in
     let d : i.below ≤ p = c.1 in
     lt-ltb (largest f) p (omega (arith, a, b, d))
 
-value_past : (f : Format) (mode : Round) (negative : Bool) (p q : ℕ) → ltb (largest f) p ≡ true → ltb (largest f) q ≡ true → delivered_value f mode negative p ≡ delivered_value f mode negative q
+value_past : (f : Format) (mode : Round) (negative : Bool) (p q : ℕ) → ltb (largest f) p ≡ true
+    → ltb (largest f) q ≡ true → delivered_value f mode negative p ≡ delivered_value f mode negative q
 value_past f mode negative p q a b = rw (a, b) refl
 
-status_past : (f : Format) (mode : Round) (negative : Bool) (amount parts p amount' parts' q : ℕ) → ltb (largest f) p ≡ true → ltb (largest f) q ≡ true → delivered_status f mode negative amount parts p ≡ delivered_status f mode negative amount' parts' q
+status_past : (f : Format) (mode : Round) (negative : Bool) (amount parts p amount' parts' q : ℕ)
+    → ltb (largest f) p ≡ true → ltb (largest f) q ≡ true
+    → delivered_status f mode negative amount parts p ≡ delivered_status f mode negative amount' parts' q
 status_past f mode negative amount parts p amount' parts' q a b = rw (a, b) refl
 
 -- one answer for all of them
-pub far_above : (f : Format) (mode : Round) (negative : Bool) (amount parts amount' parts' : ℕ) (v : Datum) (s : ℕ) → 0 < f.precision → IsFarAbove f amount parts → IsFarAbove f amount' parts' → IsDelivered f mode negative amount parts v s → IsDelivered f mode negative amount' parts' v s
+pub far_above : (f : Format) (mode : Round) (negative : Bool) (amount parts amount' parts' : ℕ) (v : Datum) (s : ℕ)
+    → 0 < f.precision → IsFarAbove f amount parts → IsFarAbove f amount' parts'
+    → IsDelivered f mode negative amount parts v s → IsDelivered f mode negative amount' parts' v s
 far_above f mode negative amount parts amount' parts' v s h x y d =
     let e = (delivered_exists f mode negative amount' parts' h y.some).1.1 in
     let a = picks_past f mode negative amount parts d.pick h x d.is_pick in
@@ -70,21 +79,25 @@ far_above f mode negative amount parts amount' parts' v s h x y d =
 
 -- ---- below
 
-little_enclosed : (precision amount parts : ℕ) → 0 < precision → IsFarBelow amount parts → IsEnclosed precision (2 ^ (precision - 1)) 0 0 amount parts
+little_enclosed : (precision amount parts : ℕ) → 0 < precision → IsFarBelow amount parts
+    → IsEnclosed precision (2 ^ (precision - 1)) 0 0 amount parts
 little_enclosed precision amount parts h x =
     let l = x.to in
-    record { double = sym (twice_half precision h); fits = pow_pos precision; full = inl refl; from = omega arith; to = omega (arith, l) }
+    record { double = sym (twice_half precision h); fits = pow_pos precision; full = inl refl; from = omega arith;
+        to = omega (arith, l) }
 
 -- 0 or one quantum, as the mode and the sign say
 pub little_pick : Round → Bool → ℕ
 little_pick mode negative = kept mode negative LessThanHalf 0 * 2 ^ 0
 
-pub picks_little : (precision : ℕ) (mode : Round) (negative : Bool) (amount parts : ℕ) → 0 < precision → IsFarBelow amount parts → IsPick precision mode negative amount parts (little_pick mode negative)
+pub picks_little : (precision : ℕ) (mode : Round) (negative : Bool) (amount parts : ℕ) → 0 < precision
+    → IsFarBelow amount parts → IsPick precision mode negative amount parts (little_pick mode negative)
 unfolding little_pick
 picks_little precision mode negative amount parts h x =
     let l = x.to in let k = x.some in
     let p : 0 < parts = omega (arith, l) in
-    pick_is precision mode negative (2 ^ (precision - 1)) 0 0 amount parts LessThanHalf p (little_enclosed precision amount parts h x) (omega (arith, k), omega (arith, l))
+    pick_is precision mode negative (2 ^ (precision - 1)) 0 0 amount parts LessThanHalf p
+        (little_enclosed precision amount parts h x) (omega (arith, k), omega (arith, l))
 
 cond_little : (b : Bool) → cond b 1 0 * 2 ^ 0 ≤ 1
 cond_little true = omega arith
@@ -102,20 +115,24 @@ off_little (suc (suc p)) amount parts h k l e = omega arith
 inexact_little : (amount parts p : ℕ) → IsFarBelow amount parts → p ≤ 1 → eqb (p * parts) amount ≡ false
 inexact_little amount parts p x h = ne_eqb (p * parts) amount (off_little p amount parts h x.some x.to)
 
-before_little : (f : Format) (amount parts : ℕ) → IsFarBelow amount parts → ltb amount (smallest_normalized f * parts) ≡ true
+before_little : (f : Format) (amount parts : ℕ) → IsFarBelow amount parts
+    → ltb amount (smallest_normalized f * parts) ≡ true
 before_little f amount parts x =
     let l = x.to in
     let w : 1 ≤ 2 ^ (f.precision - 1) = pow_pos (f.precision - 1) in
     let a : 1 * parts ≤ 2 ^ (f.precision - 1) * parts = mul-le-mul_right parts w in
     lt-ltb amount (smallest_normalized f * parts) (omega (arith, l, a))
 
-tiny_little : (f : Format) (amount parts amount' parts' p : ℕ) → IsFarBelow amount parts → IsFarBelow amount' parts' → is_tiny f amount parts p ≡ is_tiny f amount' parts' p
+tiny_little : (f : Format) (amount parts amount' parts' p : ℕ) → IsFarBelow amount parts → IsFarBelow amount' parts'
+    → is_tiny f amount parts p ≡ is_tiny f amount' parts' p
 tiny_little f amount parts amount' parts' p x y =
     let a = before_little f amount parts x in
     let b = before_little f amount' parts' y in
     ap (λ (z : Bool). cond f.tiny_before_rounding z (ltb p (smallest_normalized f))) (a ∙ sym b)
 
-status_little : (f : Format) (mode : Round) (negative : Bool) (amount parts amount' parts' p : ℕ) → p ≤ 1 → IsFarBelow amount parts → IsFarBelow amount' parts' → delivered_status f mode negative amount parts p ≡ delivered_status f mode negative amount' parts' p
+status_little : (f : Format) (mode : Round) (negative : Bool) (amount parts amount' parts' p : ℕ) → p ≤ 1
+    → IsFarBelow amount parts → IsFarBelow amount' parts'
+    → delivered_status f mode negative amount parts p ≡ delivered_status f mode negative amount' parts' p
 status_little f mode negative amount parts amount' parts' p h x y =
     let a = inexact_little amount parts p x h in
     let b = inexact_little amount' parts' p y h in
@@ -123,15 +140,20 @@ status_little f mode negative amount parts amount' parts' p h x y =
     rw (a, b, t) refl
 
 -- one answer for all of them
-pub far_below : (f : Format) (mode : Round) (negative : Bool) (amount parts amount' parts' : ℕ) (v : Datum) (s : ℕ) → 0 < f.precision → IsFarBelow amount parts → IsFarBelow amount' parts' → IsDelivered f mode negative amount parts v s → IsDelivered f mode negative amount' parts' v s
+pub far_below : (f : Format) (mode : Round) (negative : Bool) (amount parts amount' parts' : ℕ) (v : Datum) (s : ℕ)
+    → 0 < f.precision → IsFarBelow amount parts → IsFarBelow amount' parts'
+    → IsDelivered f mode negative amount parts v s → IsDelivered f mode negative amount' parts' v s
 far_below f mode negative amount parts amount' parts' v s h x y d =
     let p : ℕ = little_pick mode negative in
-    let e : d.pick ≡ little_pick mode negative = pick_unique f.precision mode negative amount parts d.pick (little_pick mode negative) d.is_pick (picks_little f.precision mode negative amount parts h x) in
+    let e : d.pick ≡ little_pick mode negative =
+        pick_unique f.precision mode negative amount parts d.pick (little_pick mode negative) d.is_pick
+            (picks_little f.precision mode negative amount parts h x) in
     record {
       pick = little_pick mode negative;
       is_pick = picks_little f.precision mode negative amount' parts' h y;
       value_is = d.value_is ∙ ap (λ (z : ℕ). delivered_value f mode negative z) e;
       status_is =
           d.status_is ∙ ap (λ (z : ℕ). delivered_status f mode negative amount parts z) e
-          ∙ status_little f mode negative amount parts amount' parts' (little_pick mode negative) (little_within mode negative) x y;
+          ∙ status_little f mode negative amount parts amount' parts' (little_pick mode negative)
+          (little_within mode negative) x y;
     }

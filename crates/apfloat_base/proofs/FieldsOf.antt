@@ -22,7 +22,8 @@ use Rattle.apfloat_base.proofs.Encodings.{fields_back, bits_below}
 use Rattle.apfloat_base.proofs.EncodedOnce.{fields_with}
 
 -- the bits of the fields of a datum encode it
-pub fields_encode : (f : Format) (layout : Layout) (x : Fields) (datum : Datum) → IsInterchange f layout → AreFieldsOf f layout x datum → IsEncodedBy f layout (bits_of_fields f layout x) datum
+pub fields_encode : (f : Format) (layout : Layout) (x : Fields) (datum : Datum) → IsInterchange f layout
+    → AreFieldsOf f layout x datum → IsEncodedBy f layout (bits_of_fields f layout x) datum
 fields_encode f layout x datum law h =
     let b = fields_back f layout law x h.within in
     record {
@@ -43,7 +44,8 @@ width_low : (explicit : Bool) (p n : ℕ) → n < 2 ^ (p - 1) → n < 2 ^ cond e
 width_low true p n h = let m : 2 ^ (p - 1) ≤ 2 ^ p = pow-le-pow_right two_pos (omega arith) in omega arith
 width_low false p n h = h
 
-width_high : (explicit : Bool) (p m : ℕ) → 1 ≤ p → m < 2 ^ p → m - cond explicit 0 (2 ^ (p - 1)) < 2 ^ cond explicit p (p - 1)
+width_high : (explicit : Bool) (p m : ℕ) → 1 ≤ p → m < 2 ^ p
+    → m - cond explicit 0 (2 ^ (p - 1)) < 2 ^ cond explicit p (p - 1)
 width_high true p m o h = omega arith
 width_high false p m o h = let t = twice_half p o in let q : 0 < 2 ^ (p - 1) = pow_pos (p - 1) in omega arith
 
@@ -53,8 +55,10 @@ width_high false p m o h = let t = twice_half p o in let q : 0 < 2 ^ (p - 1) = p
 abbrev pub MayHaveSign : NonfiniteBehavior → Bool → ℕ → Type 0
 MayHaveSign kind b n = n ≡ 0 → b ≡ zero_sign kind b
 
-low_is : (explicit : Bool) (kind : NonfiniteBehavior) (f : Format) (layout : Layout) (b : Bool) (n : ℕ) → eqb 0 (all_ones layout.exponent_bits) ≡ false → MayHaveSign kind b n
-    → cond explicit (written_datum f layout (fields_with b 0 n)) (implied_datum kind f layout (fields_with b 0 n)) ≡ finite b n
+low_is : (explicit : Bool) (kind : NonfiniteBehavior) (f : Format) (layout : Layout) (b : Bool) (n : ℕ)
+    → eqb 0 (all_ones layout.exponent_bits) ≡ false → MayHaveSign kind b n
+    → cond explicit (written_datum f layout (fields_with b 0 n)) (implied_datum kind f layout (fields_with b 0 n))
+    ≡ finite b n
 low_is true kind f layout b n e h = rw e refl
 low_is false IEEE754 f layout b n e h = rw e refl
 low_is false NanOnly f layout b n e h = rw e refl
@@ -62,16 +66,22 @@ low_is false NanNegativeZero f layout false n e h = refl
 low_is false NanNegativeZero f layout true n e h =
     ⊎_elim (λ (z : n ≡ 0). absurd (true≢false (h z))) (λ (k : n ≡ 0 → ⊥). rw (ne_eqb n 0 k) refl) (cases_eq n 0)
 
-low_canonical : (explicit : Bool) (f : Format) (layout : Layout) (b : Bool) (n : ℕ) → eqb 0 (all_ones layout.exponent_bits) ≡ false → n < smallest_normalized f → cond explicit (is_canonical_written f layout (fields_with b 0 n)) true ≡ true
+low_canonical : (explicit : Bool) (f : Format) (layout : Layout) (b : Bool) (n : ℕ)
+    → eqb 0 (all_ones layout.exponent_bits) ≡ false → n < smallest_normalized f
+    → cond explicit (is_canonical_written f layout (fields_with b 0 n)) true ≡ true
 low_canonical true f layout b n e h = rw (e, lt-ltb n (smallest_normalized f) h) refl
 low_canonical false f layout b n e h = refl
 
-pub low_fields_of : (f : Format) (layout : Layout) (b : Bool) (n : ℕ) → IsInterchange f layout → n < smallest_normalized f → MayHaveSign f.nonfinite b n → AreFieldsOf f layout (fields_with b 0 n) (finite b n)
+pub low_fields_of : (f : Format) (layout : Layout) (b : Bool) (n : ℕ) → IsInterchange f layout
+    → n < smallest_normalized f → MayHaveSign f.nonfinite b n
+    → AreFieldsOf f layout (fields_with b 0 n) (finite b n)
 low_fields_of f layout b n law h s =
     let o = ones_some layout.exponent_bits law.some in
-    let e : eqb 0 (all_ones layout.exponent_bits) ≡ false = ne_eqb 0 (all_ones layout.exponent_bits) (λ z. omega (arith, z, o)) in
+    let e : eqb 0 (all_ones layout.exponent_bits) ≡ false =
+        ne_eqb 0 (all_ones layout.exponent_bits) (λ z. omega (arith, z, o)) in
     record {
-      within = record { biased_exponent = pow_pos layout.exponent_bits; trailing = width_low f.explicit_integer_bit f.precision n h };
+      within = record { biased_exponent = pow_pos layout.exponent_bits; trailing =
+          width_low f.explicit_integer_bit f.precision n h };
       canonical = low_canonical f.explicit_integer_bit f layout b n e h;
       is = low_is f.explicit_integer_bit f.nonfinite f layout b n e s;
     }
@@ -81,14 +91,18 @@ low_fields_of f layout b n law h s =
 -- neither an infinity nor a NaN has the exponent and the significand
 abbrev IsNoSpecial : NonfiniteBehavior → Format → Layout → ℕ → ℕ → Type 0
 IsNoSpecial IEEE754 f layout e m = eqb e (all_ones layout.exponent_bits) ≡ false
-IsNoSpecial NanOnly f layout e m = (eqb e (all_ones layout.exponent_bits) && eqb (m - smallest_normalized f) (all_ones (f.precision - 1))) ≡ false
+IsNoSpecial NanOnly f layout e m =
+    (eqb e (all_ones layout.exponent_bits) && eqb (m - smallest_normalized f) (all_ones (f.precision - 1))) ≡ false
 IsNoSpecial NanNegativeZero f layout e m = eqb e 0 ≡ false
 
 significand_back : (half m : ℕ) → half ≤ m → half + (m - half) ≡ m
 significand_back half m h = omega arith
 
-high_is : (explicit : Bool) (kind : NonfiniteBehavior) (f : Format) (layout : Layout) (b : Bool) (j m : ℕ) → MayBeExplicit kind explicit → smallest_normalized f ≤ m → IsNoSpecial kind f layout (j + 1) m
-    → cond explicit (written_datum f layout (fields_with b (j + 1) (m - cond explicit 0 (smallest_normalized f)))) (implied_datum kind f layout (fields_with b (j + 1) (m - cond explicit 0 (smallest_normalized f)))) ≡ finite b (m * 2 ^ j)
+high_is : (explicit : Bool) (kind : NonfiniteBehavior) (f : Format) (layout : Layout) (b : Bool) (j m : ℕ)
+    → MayBeExplicit kind explicit → smallest_normalized f ≤ m → IsNoSpecial kind f layout (j + 1) m
+    → cond explicit (written_datum f layout (fields_with b (j + 1) (m - cond explicit 0 (smallest_normalized f))))
+    (implied_datum kind f layout (fields_with b (j + 1) (m - cond explicit 0 (smallest_normalized f))))
+        ≡ finite b (m * 2 ^ j)
 high_is true IEEE754 f layout b j m may low n =
     let z : m - 0 ≡ m = omega arith in
     let y : j + 1 - 1 ≡ j = omega arith in
@@ -108,8 +122,10 @@ high_is false NanNegativeZero f layout false j m may low n =
     let y : j + 1 - 1 ≡ j = omega arith in
     rw (n, significand_back (smallest_normalized f) m low, y) refl
 
-high_canonical : (explicit : Bool) (kind : NonfiniteBehavior) (f : Format) (layout : Layout) (b : Bool) (j m : ℕ) → MayBeExplicit kind explicit → smallest_normalized f ≤ m → IsNoSpecial kind f layout (j + 1) m
-    → cond explicit (is_canonical_written f layout (fields_with b (j + 1) (m - cond explicit 0 (smallest_normalized f)))) true ≡ true
+high_canonical : (explicit : Bool) (kind : NonfiniteBehavior) (f : Format) (layout : Layout) (b : Bool) (j m : ℕ)
+    → MayBeExplicit kind explicit → smallest_normalized f ≤ m → IsNoSpecial kind f layout (j + 1) m
+    → cond explicit (is_canonical_written f layout
+    (fields_with b (j + 1) (m - cond explicit 0 (smallest_normalized f)))) true ≡ true
 high_canonical true IEEE754 f layout b j m may low n =
     let z : m - 0 ≡ m = omega arith in
     rw (z, n, ne_eqb (j + 1) 0 (λ q. omega (arith, q)), le-leb (smallest_normalized f) m low) refl
@@ -128,19 +144,25 @@ module _ (f : Format) (layout : Layout) (law : IsInterchange f layout) where
       let a : 2 ^ (f.span + 1) ≤ 2 ^ j = pow-le-pow_right two_pos (omega arith) in
       let b : 2 ^ (f.span + 1) ≡ 2 ^ f.span * 2 = pow-add 2 f.span 1 in
       let c : smallest_normalized f * 2 ^ j ≤ m * 2 ^ j = mul-le-mul_right (2 ^ j) low in
-      let d : 2 ^ (f.precision - 1) * (2 ^ f.span * 2) ≤ 2 ^ (f.precision - 1) * 2 ^ j = mul-le-mul_left (2 ^ (f.precision - 1)) (omega arith) in
-      let e : greatest_significand f.nonfinite f.precision * 2 ^ f.span < 2 ^ f.precision * 2 ^ f.span = mul-lt-mul_of_pos_right g (pow_pos f.span) in
-      let k : 2 ^ f.precision * 2 ^ f.span ≡ 2 * 2 ^ (f.precision - 1) * 2 ^ f.span = ap (λ (x : ℕ). x * 2 ^ f.span) (sym t) in
+      let d : 2 ^ (f.precision - 1) * (2 ^ f.span * 2) ≤ 2 ^ (f.precision - 1) * 2 ^ j =
+          mul-le-mul_left (2 ^ (f.precision - 1)) (omega arith) in
+      let e : greatest_significand f.nonfinite f.precision * 2 ^ f.span < 2 ^ f.precision * 2 ^ f.span =
+          mul-lt-mul_of_pos_right g (pow_pos f.span) in
+      let k : 2 ^ f.precision * 2 ^ f.span ≡ 2 * 2 ^ (f.precision - 1) * 2 ^ f.span =
+          ap (λ (x : ℕ). x * 2 ^ f.span) (sym t) in
       absurd (omega arith))
       (λ (h : j ≤ f.span). h)
       (cases_lt f.span j)
 
-  exponent_fits : (kind : NonfiniteBehavior) (j : ℕ) → f.nonfinite ≡ kind → j ≤ f.span → j + 1 < 2 ^ layout.exponent_bits
+  exponent_fits : (kind : NonfiniteBehavior) (j : ℕ) → f.nonfinite ≡ kind → j ≤ f.span
+      → j + 1 < 2 ^ layout.exponent_bits
   exponent_fits IEEE754 j k h = let s : f.span + 3 ≡ 2 ^ layout.exponent_bits + 0 = rw k at law.span in omega arith
   exponent_fits NanOnly j k h = let s : f.span + 3 ≡ 2 ^ layout.exponent_bits + 1 = rw k at law.span in omega arith
-  exponent_fits NanNegativeZero j k h = let s : f.span + 3 ≡ 2 ^ layout.exponent_bits + 1 = rw k at law.span in omega arith
+  exponent_fits NanNegativeZero j k h = let s : f.span + 3 ≡ 2 ^ layout.exponent_bits + 1 = rw k at law.span in
+      omega arith
 
-  no_special : (kind : NonfiniteBehavior) (j m : ℕ) → f.nonfinite ≡ kind → smallest_normalized f ≤ m → m * 2 ^ j ≤ largest f → j ≤ f.span → IsNoSpecial kind f layout (j + 1) m
+  no_special : (kind : NonfiniteBehavior) (j m : ℕ) → f.nonfinite ≡ kind → smallest_normalized f ≤ m
+      → m * 2 ^ j ≤ largest f → j ≤ f.span → IsNoSpecial kind f layout (j + 1) m
   no_special IEEE754 j m k low top high =
       let s : f.span + 3 ≡ 2 ^ layout.exponent_bits + 0 = rw k at law.span in
       ne_eqb (j + 1) (all_ones layout.exponent_bits) (λ q. omega (arith, q, s))
@@ -153,18 +175,22 @@ module _ (f : Format) (layout : Layout) (law : IsInterchange f layout) where
       let u : m ≤ 2 ^ f.precision - 2 = le_of_mul-le-mul_right t (pow_pos f.span) in
       let w = twice_half f.precision (omega (arith, law.precise)) in
       let p = pow_pos (f.precision - 1) in
-      and_right _ _ (ne_eqb (m - smallest_normalized f) (all_ones (f.precision - 1)) (λ v. omega (arith, v, u, w, p))))
-      (λ (q : j + 1 ≡ all_ones layout.exponent_bits → ⊥). and_left _ _ (ne_eqb (j + 1) (all_ones layout.exponent_bits) q))
+      and_right _ _ (ne_eqb (m - smallest_normalized f) (all_ones (f.precision - 1))
+          (λ v. omega (arith, v, u, w, p))))
+      (λ (q : j + 1 ≡ all_ones layout.exponent_bits → ⊥).
+          and_left _ _ (ne_eqb (j + 1) (all_ones layout.exponent_bits) q))
       (cases_eq (j + 1) (all_ones layout.exponent_bits))
   no_special NanNegativeZero j m k low top high = ne_eqb (j + 1) 0 (λ q. omega (arith, q))
 
   pub high_fields_of : (b : Bool) (j m : ℕ) → smallest_normalized f ≤ m → m < 2 ^ f.precision → m * 2 ^ j ≤ largest f
-      → AreFieldsOf f layout (fields_with b (j + 1) (m - cond f.explicit_integer_bit 0 (smallest_normalized f))) (finite b (m * 2 ^ j))
+      → AreFieldsOf f layout (fields_with b (j + 1) (m - cond f.explicit_integer_bit 0 (smallest_normalized f)))
+      (finite b (m * 2 ^ j))
   high_fields_of b j m low high top =
       let h = place_within j m low top in
       let n = no_special f.nonfinite j m refl low top h in
       record {
-        within = record { biased_exponent = exponent_fits f.nonfinite j refl h; trailing = width_high f.explicit_integer_bit f.precision m (omega (arith, law.precise)) high };
+        within = record { biased_exponent = exponent_fits f.nonfinite j refl h; trailing =
+            width_high f.explicit_integer_bit f.precision m (omega (arith, law.precise)) high };
         canonical = high_canonical f.explicit_integer_bit f.nonfinite f layout b j m law.explicit low n;
         is = high_is f.explicit_integer_bit f.nonfinite f layout b j m law.explicit low n;
       }
@@ -172,15 +198,20 @@ module _ (f : Format) (layout : Layout) (law : IsInterchange f layout) where
 -- ---- infinities and NaNs
 
 infinity_is : (explicit : Bool) (kind : NonfiniteBehavior) (f : Format) (layout : Layout) (b : Bool) → kind ≡ IEEE754
-    → cond explicit (written_datum f layout (fields_with b (all_ones layout.exponent_bits) (cond explicit (smallest_normalized f) 0))) (implied_datum kind f layout (fields_with b (all_ones layout.exponent_bits) (cond explicit (smallest_normalized f) 0))) ≡ infinite b
-infinity_is true IEEE754 f layout b k = rw (eqb_self (all_ones layout.exponent_bits), eqb_self (smallest_normalized f)) refl
+    → cond explicit (written_datum f layout
+    (fields_with b (all_ones layout.exponent_bits) (cond explicit (smallest_normalized f) 0)))
+        (implied_datum kind f layout
+            (fields_with b (all_ones layout.exponent_bits) (cond explicit (smallest_normalized f) 0))) ≡ infinite b
+infinity_is true IEEE754 f layout b k =
+    rw (eqb_self (all_ones layout.exponent_bits), eqb_self (smallest_normalized f)) refl
 infinity_is false IEEE754 f layout b k = rw (eqb_self (all_ones layout.exponent_bits)) refl
 infinity_is true NanOnly f layout b k = cc
 infinity_is false NanOnly f layout b k = cc
 infinity_is true NanNegativeZero f layout b k = cc
 infinity_is false NanNegativeZero f layout b k = cc
 
-ones_canonical : (explicit : Bool) (f : Format) (layout : Layout) (b : Bool) (t : ℕ) → cond explicit (is_canonical_written f layout (fields_with b (all_ones layout.exponent_bits) t)) true ≡ true
+ones_canonical : (explicit : Bool) (f : Format) (layout : Layout) (b : Bool) (t : ℕ)
+    → cond explicit (is_canonical_written f layout (fields_with b (all_ones layout.exponent_bits) t)) true ≡ true
 ones_canonical true f layout b t = rw (eqb_self (all_ones layout.exponent_bits)) refl
 ones_canonical false f layout b t = refl
 
@@ -189,22 +220,31 @@ width_of_infinity true p h = let t = twice_half p h in let q : 0 < 2 ^ (p - 1) =
 width_of_infinity false p h = pow_pos (p - 1)
 
 pub infinity_fields_of : (f : Format) (layout : Layout) (b : Bool) → IsInterchange f layout → f.nonfinite ≡ IEEE754
-    → AreFieldsOf f layout (fields_with b (all_ones layout.exponent_bits) (cond f.explicit_integer_bit (smallest_normalized f) 0)) (infinite b)
+    → AreFieldsOf f layout (fields_with b (all_ones layout.exponent_bits)
+    (cond f.explicit_integer_bit (smallest_normalized f) 0)) (infinite b)
 infinity_fields_of f layout b law k = record {
-  within = record { biased_exponent = ones_fit layout.exponent_bits; trailing = width_of_infinity f.explicit_integer_bit f.precision (omega (arith, law.precise)) };
+  within = record { biased_exponent = ones_fit layout.exponent_bits; trailing =
+      width_of_infinity f.explicit_integer_bit f.precision (omega (arith, law.precise)) };
   canonical = ones_canonical f.explicit_integer_bit f layout b _;
   is = infinity_is f.explicit_integer_bit f.nonfinite f layout b k;
 }
 
-nan_is : (explicit : Bool) (kind : NonfiniteBehavior) (f : Format) (layout : Layout) (b : Bool) (s : ℕ) → f.nonfinite ≡ kind → (kind ≡ NanNegativeZero → ⊥) → MayBeExplicit kind explicit → IsNanSignificand kind explicit f.precision s
-    → cond explicit (written_datum f layout (fields_with b (all_ones layout.exponent_bits) s)) (implied_datum kind f layout (fields_with b (all_ones layout.exponent_bits) s)) ≡ nan b s
-nan_is true IEEE754 f layout b s k n may h = rw (eqb_self (all_ones layout.exponent_bits), ne_eqb s (smallest_normalized f) h.1) refl
-nan_is false IEEE754 f layout b s k n may h = rw (eqb_self (all_ones layout.exponent_bits), ne_eqb s 0 (λ z. omega (arith, z, h.0))) refl
+nan_is : (explicit : Bool) (kind : NonfiniteBehavior) (f : Format) (layout : Layout) (b : Bool) (s : ℕ)
+    → f.nonfinite ≡ kind → (kind ≡ NanNegativeZero → ⊥) → MayBeExplicit kind explicit
+    → IsNanSignificand kind explicit f.precision s
+    → cond explicit (written_datum f layout (fields_with b (all_ones layout.exponent_bits) s))
+    (implied_datum kind f layout (fields_with b (all_ones layout.exponent_bits) s)) ≡ nan b s
+nan_is true IEEE754 f layout b s k n may h =
+    rw (eqb_self (all_ones layout.exponent_bits), ne_eqb s (smallest_normalized f) h.1) refl
+nan_is false IEEE754 f layout b s k n may h =
+    rw (eqb_self (all_ones layout.exponent_bits), ne_eqb s 0 (λ z. omega (arith, z, h.0))) refl
 nan_is true NanOnly f layout b s k n may h = absurd (true≢false may)
-nan_is false NanOnly f layout b s k n may h = rw (eqb_self (all_ones layout.exponent_bits), eq-eqb s (all_ones (f.precision - 1)) h, k) (ap (nan b) (sym h))
+nan_is false NanOnly f layout b s k n may h =
+    rw (eqb_self (all_ones layout.exponent_bits), eq-eqb s (all_ones (f.precision - 1)) h, k) (ap (nan b) (sym h))
 nan_is explicit NanNegativeZero f layout b s k n may h = absurd (n refl)
 
-width_of_nan : (explicit : Bool) (kind : NonfiniteBehavior) (p s : ℕ) → (kind ≡ NanNegativeZero → ⊥) → MayBeExplicit kind explicit → IsNanSignificand kind explicit p s → s < 2 ^ cond explicit p (p - 1)
+width_of_nan : (explicit : Bool) (kind : NonfiniteBehavior) (p s : ℕ) → (kind ≡ NanNegativeZero → ⊥)
+    → MayBeExplicit kind explicit → IsNanSignificand kind explicit p s → s < 2 ^ cond explicit p (p - 1)
 width_of_nan true IEEE754 p s n may h = h.0
 width_of_nan false IEEE754 p s n may h = h.1
 width_of_nan true NanOnly p s n may h = absurd (true≢false may)
@@ -212,29 +252,35 @@ width_of_nan false NanOnly p s n may h = let q : 0 < 2 ^ (p - 1) = pow_pos (p - 
 width_of_nan explicit NanNegativeZero p s n may h = absurd (n refl)
 
 -- with the greatest exponent
-pub nan_fields_of : (f : Format) (layout : Layout) (b : Bool) (s : ℕ) → IsInterchange f layout → (f.nonfinite ≡ NanNegativeZero → ⊥) → IsNanSignificand f.nonfinite f.explicit_integer_bit f.precision s
+pub nan_fields_of : (f : Format) (layout : Layout) (b : Bool) (s : ℕ) → IsInterchange f layout
+    → (f.nonfinite ≡ NanNegativeZero → ⊥) → IsNanSignificand f.nonfinite f.explicit_integer_bit f.precision s
     → AreFieldsOf f layout (fields_with b (all_ones layout.exponent_bits) s) (nan b s)
 nan_fields_of f layout b s law n h = record {
-  within = record { biased_exponent = ones_fit layout.exponent_bits; trailing = width_of_nan f.explicit_integer_bit f.nonfinite f.precision s n law.explicit h };
+  within = record { biased_exponent = ones_fit layout.exponent_bits; trailing =
+      width_of_nan f.explicit_integer_bit f.nonfinite f.precision s n law.explicit h };
   canonical = ones_canonical f.explicit_integer_bit f layout b s;
   is = nan_is f.explicit_integer_bit f.nonfinite f layout b s refl n law.explicit h;
 }
 
-one_nan_is : (explicit : Bool) (kind : NonfiniteBehavior) (f : Format) (layout : Layout) → f.nonfinite ≡ kind → kind ≡ NanNegativeZero → MayBeExplicit kind explicit
-    → cond explicit (written_datum f layout (fields_with true 0 0)) (implied_datum kind f layout (fields_with true 0 0)) ≡ nan false 0
+one_nan_is : (explicit : Bool) (kind : NonfiniteBehavior) (f : Format) (layout : Layout) → f.nonfinite ≡ kind
+    → kind ≡ NanNegativeZero → MayBeExplicit kind explicit
+    → cond explicit (written_datum f layout (fields_with true 0 0))
+    (implied_datum kind f layout (fields_with true 0 0)) ≡ nan false 0
 one_nan_is explicit IEEE754 f layout k e may = cc
 one_nan_is explicit NanOnly f layout k e may = cc
 one_nan_is true NanNegativeZero f layout k e may = absurd (true≢false may)
 one_nan_is false NanNegativeZero f layout k e may = rw k refl
 
-one_canonical : (explicit : Bool) (kind : NonfiniteBehavior) (f : Format) (layout : Layout) → kind ≡ NanNegativeZero → MayBeExplicit kind explicit → cond explicit (is_canonical_written f layout (fields_with true 0 0)) true ≡ true
+one_canonical : (explicit : Bool) (kind : NonfiniteBehavior) (f : Format) (layout : Layout) → kind ≡ NanNegativeZero
+    → MayBeExplicit kind explicit → cond explicit (is_canonical_written f layout (fields_with true 0 0)) true ≡ true
 one_canonical explicit IEEE754 f layout e may = cc
 one_canonical explicit NanOnly f layout e may = cc
 one_canonical true NanNegativeZero f layout e may = absurd (true≢false may)
 one_canonical false NanNegativeZero f layout e may = refl
 
 -- in place of the negative zero
-pub one_nan_fields_of : (f : Format) (layout : Layout) → IsInterchange f layout → f.nonfinite ≡ NanNegativeZero → AreFieldsOf f layout (fields_with true 0 0) (nan false 0)
+pub one_nan_fields_of : (f : Format) (layout : Layout) → IsInterchange f layout → f.nonfinite ≡ NanNegativeZero
+    → AreFieldsOf f layout (fields_with true 0 0) (nan false 0)
 one_nan_fields_of f layout law k = record {
   within = record { biased_exponent = pow_pos layout.exponent_bits; trailing = pow_pos (trailing_bits f) };
   canonical = one_canonical f.explicit_integer_bit f.nonfinite f layout k law.explicit;

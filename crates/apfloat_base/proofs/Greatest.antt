@@ -13,24 +13,28 @@ greatest_fits IEEE754 precision = let p : 0 < 2 ^ precision = pow_pos precision 
 greatest_fits NanOnly precision = let p : 0 < 2 ^ precision = pow_pos precision in omega arith
 greatest_fits NanNegativeZero precision = let p : 0 < 2 ^ precision = pow_pos precision in omega arith
 
-pub greatest_low : (kind : NonfiniteBehavior) (precision : ℕ) → 2 ^ precision - 2 ≤ greatest_significand kind precision
+pub greatest_low : (kind : NonfiniteBehavior) (precision : ℕ)
+    → 2 ^ precision - 2 ≤ greatest_significand kind precision
 greatest_low IEEE754 precision = omega arith
 greatest_low NanOnly precision = omega arith
 greatest_low NanNegativeZero precision = omega arith
 
-pub greatest_half : (kind : NonfiniteBehavior) (precision : ℕ) → 3 ≤ precision → 2 ^ precision ≤ 2 * greatest_significand kind precision
+pub greatest_half : (kind : NonfiniteBehavior) (precision : ℕ) → 3 ≤ precision
+    → 2 ^ precision ≤ 2 * greatest_significand kind precision
 greatest_half kind precision h =
     let a : 2 ^ 3 ≤ 2 ^ precision = pow-le-pow_right two_pos h in
     let l = greatest_low kind precision in
     omega (arith, a, l)
 
-pub greatest_full : (kind : NonfiniteBehavior) (precision : ℕ) → 3 ≤ precision → 2 ^ (precision - 1) ≤ greatest_significand kind precision
+pub greatest_full : (kind : NonfiniteBehavior) (precision : ℕ) → 3 ≤ precision
+    → 2 ^ (precision - 1) ≤ greatest_significand kind precision
 greatest_full kind precision h =
     let t : 2 * 2 ^ (precision - 1) ≡ 2 ^ precision = twice_half precision (omega (arith, h)) in
     let a = greatest_half kind precision h in
     omega (arith, t, a)
 
-pub greatest_some : (kind : NonfiniteBehavior) (precision : ℕ) → 3 ≤ precision → 0 < greatest_significand kind precision
+pub greatest_some : (kind : NonfiniteBehavior) (precision : ℕ) → 3 ≤ precision
+    → 0 < greatest_significand kind precision
 greatest_some kind precision h =
     let p : 0 < 2 ^ (precision - 1) = pow_pos (precision - 1) in
     let a = greatest_full kind precision h in

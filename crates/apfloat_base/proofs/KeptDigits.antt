@@ -20,40 +20,48 @@ digits_below n h =
     let e : r.0 ≡ 128 - count_leading_zeros 128 n = omega (arith, e₀) in
     subst (λ (x : ℕ). n < 2 ^ x) e r.2
 
-pub digits_full : (n : ℕ) → n < 2 ^ 128 → 0 < 128 - count_leading_zeros 128 n → 2 ^ ((128 - count_leading_zeros 128 n) - 1) ≤ n
+pub digits_full : (n : ℕ) → n < 2 ^ 128 → 0 < 128 - count_leading_zeros 128 n
+    → 2 ^ ((128 - count_leading_zeros 128 n) - 1) ≤ n
 digits_full n h p =
     let r = leading_length 128 n h in
     let e₀ = r.1 in
     let e : r.0 ≡ 128 - count_leading_zeros 128 n = omega (arith, e₀) in
     let l : 2 ^ (128 - count_leading_zeros 128 n) ≤ 2 * n + 1 = subst (λ (x : ℕ). 2 ^ x ≤ 2 * n + 1) e r.3 in
-    let t : 2 * 2 ^ ((128 - count_leading_zeros 128 n) - 1) ≡ 2 ^ (128 - count_leading_zeros 128 n) = twice_half (128 - count_leading_zeros 128 n) p in
+    let t : 2 * 2 ^ ((128 - count_leading_zeros 128 n) - 1) ≡ 2 ^ (128 - count_leading_zeros 128 n) =
+        twice_half (128 - count_leading_zeros 128 n) p in
     omega arith
 
 -- ---- units
 
-pub stands_cancel : (s : ℕ) (loss : Loss) (amount unit w : ℕ) → 0 < w → StandsFor s loss (amount * w) (unit * w) → StandsFor s loss amount unit
+pub stands_cancel : (s : ℕ) (loss : Loss) (amount unit w : ℕ) → 0 < w → StandsFor s loss (amount * w) (unit * w)
+    → StandsFor s loss amount unit
 stands_cancel s ExactlyZero amount unit w p h = eq_of_mul-eq-mul_right w p amount (s * unit) (omega (arith, h))
 stands_cancel s LessThanHalf amount unit w p h =
     let a = h.0 in let b = h.1 in
     (lt_of_mul-lt-mul_right w (omega (arith, a)), lt_of_mul-lt-mul_right w (omega (arith, b)))
-stands_cancel s ExactlyHalf amount unit w p h = eq_of_mul-eq-mul_right w p (2 * amount) ((2 * s + 1) * unit) (omega (arith, h))
+stands_cancel s ExactlyHalf amount unit w p h =
+    eq_of_mul-eq-mul_right w p (2 * amount) ((2 * s + 1) * unit) (omega (arith, h))
 stands_cancel s MoreThanHalf amount unit w p h =
     let a = h.0 in let b = h.1 in
     (lt_of_mul-lt-mul_right w (omega (arith, a)), lt_of_mul-lt-mul_right w (omega (arith, b)))
 
-pub stands_times : (s : ℕ) (loss : Loss) (amount unit w : ℕ) → 0 < w → StandsFor s loss amount unit → StandsFor s loss (amount * w) (unit * w)
-stands_times s ExactlyZero amount unit w p h = let e : amount * w ≡ s * unit * w = ap (λ (x : ℕ). x * w) h in omega arith
+pub stands_times : (s : ℕ) (loss : Loss) (amount unit w : ℕ) → 0 < w → StandsFor s loss amount unit
+    → StandsFor s loss (amount * w) (unit * w)
+stands_times s ExactlyZero amount unit w p h = let e : amount * w ≡ s * unit * w = ap (λ (x : ℕ). x * w) h in
+    omega arith
 stands_times s LessThanHalf amount unit w p h =
     let a : s * unit * w < amount * w = mul-lt-mul_of_pos_right h.0 p in
     let b : 2 * amount * w < (2 * s + 1) * unit * w = mul-lt-mul_of_pos_right h.1 p in
     (omega arith, omega arith)
-stands_times s ExactlyHalf amount unit w p h = let e : 2 * amount * w ≡ (2 * s + 1) * unit * w = ap (λ (x : ℕ). x * w) h in omega arith
+stands_times s ExactlyHalf amount unit w p h =
+    let e : 2 * amount * w ≡ (2 * s + 1) * unit * w = ap (λ (x : ℕ). x * w) h in omega arith
 stands_times s MoreThanHalf amount unit w p h =
     let a : (2 * s + 1) * unit * w < 2 * amount * w = mul-lt-mul_of_pos_right h.0 p in
     let b : amount * w < (s + 1) * unit * w = mul-lt-mul_of_pos_right h.1 p in
     (omega arith, omega arith)
 
-pub same_unit : (parts k up down place : ℕ) → k + up ≡ place + down → 2 ^ k * (parts * 2 ^ up) ≡ 2 ^ place * parts * 2 ^ down
+pub same_unit : (parts k up down place : ℕ) → k + up ≡ place + down
+    → 2 ^ k * (parts * 2 ^ up) ≡ 2 ^ place * parts * 2 ^ down
 same_unit parts k up down place e =
     let a : 2 ^ (k + up) ≡ 2 ^ k * 2 ^ up = pow-add 2 k up in
     let b : 2 ^ (place + down) ≡ 2 ^ place * 2 ^ down = pow-add 2 place down in
@@ -62,18 +70,25 @@ same_unit parts k up down place e =
     let g : 2 ^ k * 2 ^ up * parts ≡ 2 ^ place * 2 ^ down * parts = ap (λ (x : ℕ). x * parts) f in
     omega arith
 
-pub kept_stands : (q : ℕ) (loss : Loss) (amount parts k up down place : ℕ) → k + up ≡ place + down → StandsFor q loss (amount * 2 ^ down) (2 ^ k * (parts * 2 ^ up)) → StandsFor q loss amount (2 ^ place * parts)
+pub kept_stands : (q : ℕ) (loss : Loss) (amount parts k up down place : ℕ) → k + up ≡ place + down
+    → StandsFor q loss (amount * 2 ^ down) (2 ^ k * (parts * 2 ^ up)) → StandsFor q loss amount (2 ^ place * parts)
 kept_stands q loss amount parts k up down place e h =
-    stands_cancel q loss amount (2 ^ place * parts) (2 ^ down) (pow_pos down) (subst (λ (x : ℕ). StandsFor q loss (amount * 2 ^ down) x) (same_unit parts k up down place e) h)
+    stands_cancel q loss amount (2 ^ place * parts) (2 ^ down) (pow_pos down)
+        (subst (λ (x : ℕ). StandsFor q loss (amount * 2 ^ down) x) (same_unit parts k up down place e) h)
 
-pub shifted_stands : (s : ℕ) (loss : Loss) (amount parts j up down place : ℕ) → loss ≡ ExactlyZero → place + down + j ≡ up → StandsFor s loss (amount * 2 ^ down) (parts * 2 ^ up) → StandsFor (s * 2 ^ j) loss amount (2 ^ place * parts)
+pub shifted_stands : (s : ℕ) (loss : Loss) (amount parts j up down place : ℕ) → loss ≡ ExactlyZero
+    → place + down + j ≡ up → StandsFor s loss (amount * 2 ^ down) (parts * 2 ^ up)
+    → StandsFor (s * 2 ^ j) loss amount (2 ^ place * parts)
 shifted_stands s loss amount parts j up down place z e h =
-    let h' : StandsFor s ExactlyZero (amount * 2 ^ down) (parts * 2 ^ up) = subst (λ (x : Loss). StandsFor s x (amount * 2 ^ down) (parts * 2 ^ up)) z h in
-    let a : 2 ^ (place + down + j) ≡ 2 ^ place * 2 ^ down * 2 ^ j = pow-add 2 (place + down) j ∙ ap (λ (x : ℕ). x * 2 ^ j) (pow-add 2 place down) in
+    let h' : StandsFor s ExactlyZero (amount * 2 ^ down) (parts * 2 ^ up) =
+        subst (λ (x : Loss). StandsFor s x (amount * 2 ^ down) (parts * 2 ^ up)) z h in
+    let a : 2 ^ (place + down + j) ≡ 2 ^ place * 2 ^ down * 2 ^ j = pow-add 2 (place + down) j ∙
+        ap (λ (x : ℕ). x * 2 ^ j) (pow-add 2 place down) in
     let b : 2 ^ up ≡ 2 ^ place * 2 ^ down * 2 ^ j = ap (λ (x : ℕ). 2 ^ x) (sym e) ∙ a in
     let d : s * (parts * 2 ^ up) ≡ s * (parts * (2 ^ place * 2 ^ down * 2 ^ j)) = ap (λ (x : ℕ). s * (parts * x)) b in
     let g : amount * 2 ^ down ≡ s * 2 ^ j * (2 ^ place * parts) * 2 ^ down = omega (arith, h') in
-    let r : StandsFor (s * 2 ^ j) ExactlyZero amount (2 ^ place * parts) = eq_of_mul-eq-mul_right (2 ^ down) (pow_pos down) amount (s * 2 ^ j * (2 ^ place * parts)) g in
+    let r : StandsFor (s * 2 ^ j) ExactlyZero amount (2 ^ place * parts) =
+        eq_of_mul-eq-mul_right (2 ^ down) (pow_pos down) amount (s * 2 ^ j * (2 ^ place * parts)) g in
     subst (λ (x : Loss). StandsFor (s * 2 ^ j) x amount (2 ^ place * parts)) (sym z) r
 
 -- ---- what is kept has at most the format's digits, and all of them above the last place
@@ -85,7 +100,8 @@ fits_cut s digits k precision h l =
     let d : s < 2 ^ precision * 2 ^ k = omega arith in
     (div-lt_iff_lt-mul (pow_pos k)).1 d
 
-pub full_cut : (s digits k precision : ℕ) → 0 < precision → (0 < digits → 2 ^ (digits - 1) ≤ s) → digits ≡ k + precision → 2 ^ (precision - 1) ≤ s / 2 ^ k
+pub full_cut : (s digits k precision : ℕ) → 0 < precision → (0 < digits → 2 ^ (digits - 1) ≤ s)
+    → digits ≡ k + precision → 2 ^ (precision - 1) ≤ s / 2 ^ k
 full_cut s digits k precision p h e =
     let d : 0 < digits = omega arith in
     let a : 2 ^ (digits - 1) ≤ s = h d in
@@ -100,15 +116,19 @@ fits_shifted s digits j precision h l =
     let d : 2 ^ (digits + j) ≤ 2 ^ precision = pow-le-pow_right two_pos l in
     omega arith
 
-pub full_shifted : (s digits j precision : ℕ) → 0 < digits → (0 < digits → 2 ^ (digits - 1) ≤ s) → digits + j ≡ precision → 2 ^ (precision - 1) ≤ s * 2 ^ j
+pub full_shifted : (s digits j precision : ℕ) → 0 < digits → (0 < digits → 2 ^ (digits - 1) ≤ s)
+    → digits + j ≡ precision → 2 ^ (precision - 1) ≤ s * 2 ^ j
 full_shifted s digits j precision p h e =
     let a : 2 ^ (digits - 1) ≤ s = h p in
     let k : 2 ^ (digits - 1) * 2 ^ j ≤ s * 2 ^ j = mul-le-mul_right (2 ^ j) a in
     let w : (digits - 1) + j ≡ precision - 1 = omega arith in
-    let b : 2 ^ (digits - 1) * 2 ^ j ≡ 2 ^ (precision - 1) = sym (pow-add 2 (digits - 1) j) ∙ ap (λ (x : ℕ). 2 ^ x) w in
+    let b : 2 ^ (digits - 1) * 2 ^ j ≡ 2 ^ (precision - 1) = sym (pow-add 2 (digits - 1) j) ∙
+        ap (λ (x : ℕ). 2 ^ x) w in
     omega arith
 
-pub enclosed_from : (precision q c : ℕ) (loss : Loss) (amount parts : ℕ) → 0 < precision → 0 < parts → q < 2 ^ precision → (c ≡ 0) ⊎ (2 ^ (precision - 1) ≤ q) → StandsFor q loss amount (2 ^ c * parts) → IsEnclosed precision (2 ^ (precision - 1)) q c amount parts
+pub enclosed_from : (precision q c : ℕ) (loss : Loss) (amount parts : ℕ) → 0 < precision → 0 < parts
+    → q < 2 ^ precision → (c ≡ 0) ⊎ (2 ^ (precision - 1) ≤ q) → StandsFor q loss amount (2 ^ c * parts)
+    → IsEnclosed precision (2 ^ (precision - 1)) q c amount parts
 enclosed_from precision q c loss amount parts p u l f h =
     let v : 0 < 2 ^ c * parts = mul-pos (pow_pos c) u in
     let a : q * (2 ^ c * parts) ≤ amount = stands_from q loss amount (2 ^ c * parts) h in
@@ -117,29 +137,40 @@ enclosed_from precision q c loss amount parts p u l f h =
 
 -- ---- the three ways to keep digits
 
-pub cut_kept : (precision s q digits k place up down : ℕ) (loss : Loss) (amount parts : ℕ) → 0 < precision → 0 < parts → s < 2 ^ digits → (0 < digits → 2 ^ (digits - 1) ≤ s)
-    → digits + up ≤ place + precision + down → (place ≡ 0) ⊎ (digits + up ≡ place + precision + down) → k + up ≡ place + down → q ≡ s / 2 ^ k
-    → StandsFor q loss (amount * 2 ^ down) (2 ^ k * (parts * 2 ^ up)) → IsEnclosed precision (2 ^ (precision - 1)) q place amount parts × StandsFor q loss amount (2 ^ place * parts)
+pub cut_kept : (precision s q digits k place up down : ℕ) (loss : Loss) (amount parts : ℕ) → 0 < precision
+    → 0 < parts → s < 2 ^ digits → (0 < digits → 2 ^ (digits - 1) ≤ s)
+    → digits + up ≤ place + precision + down → (place ≡ 0) ⊎ (digits + up ≡ place + precision + down)
+    → k + up ≡ place + down → q ≡ s / 2 ^ k
+    → StandsFor q loss (amount * 2 ^ down) (2 ^ k * (parts * 2 ^ up))
+    → IsEnclosed precision (2 ^ (precision - 1)) q place amount parts × StandsFor q loss amount (2 ^ place * parts)
 cut_kept precision s q digits k place up down loss amount parts p u b f c r e w h =
     let g : StandsFor q loss amount (2 ^ place * parts) = kept_stands q loss amount parts k up down place e h in
     let l₀ : digits ≤ k + precision = omega arith in
     let l : q < 2 ^ precision = subst (λ (x : ℕ). x < 2 ^ precision) (sym w) (fits_cut s digits k precision b l₀) in
     let full : (place ≡ 0) ⊎ (2 ^ (precision - 1) ≤ q) =
-    ⊎_elim (λ z. inl z) (λ z. inr (subst (λ (x : ℕ). 2 ^ (precision - 1) ≤ x) (sym w) (full_cut s digits k precision p f (omega (arith, z))))) r in
+    ⊎_elim (λ z. inl z)
+    (λ z. inr (subst (λ (x : ℕ). 2 ^ (precision - 1) ≤ x) (sym w)
+        (full_cut s digits k precision p f (omega (arith, z))))) r in
     (enclosed_from precision q place loss amount parts p u l full g, g)
 
-shift_kept_at : (precision s digits j place up down : ℕ) (loss : Loss) (amount parts : ℕ) → 0 < precision → 0 < parts → s < 2 ^ digits → (0 < digits → 2 ^ (digits - 1) ≤ s) → 0 < digits
-    → digits + up ≤ place + precision + down → (place ≡ 0) ⊎ (digits + up ≡ place + precision + down) → place + down + j ≡ up → loss ≡ ExactlyZero
-    → StandsFor s loss (amount * 2 ^ down) (parts * 2 ^ up) → IsEnclosed precision (2 ^ (precision - 1)) (s * 2 ^ j) place amount parts × StandsFor (s * 2 ^ j) loss amount (2 ^ place * parts)
+shift_kept_at : (precision s digits j place up down : ℕ) (loss : Loss) (amount parts : ℕ) → 0 < precision
+    → 0 < parts → s < 2 ^ digits → (0 < digits → 2 ^ (digits - 1) ≤ s) → 0 < digits
+    → digits + up ≤ place + precision + down → (place ≡ 0) ⊎ (digits + up ≡ place + precision + down)
+    → place + down + j ≡ up → loss ≡ ExactlyZero
+    → StandsFor s loss (amount * 2 ^ down) (parts * 2 ^ up)
+    → IsEnclosed precision (2 ^ (precision - 1)) (s * 2 ^ j) place amount parts
+    × StandsFor (s * 2 ^ j) loss amount (2 ^ place * parts)
 shift_kept_at precision s digits j place up down loss amount parts p u b f d c r e z h =
-    let g : StandsFor (s * 2 ^ j) loss amount (2 ^ place * parts) = shifted_stands s loss amount parts j up down place z e h in
+    let g : StandsFor (s * 2 ^ j) loss amount (2 ^ place * parts) =
+        shifted_stands s loss amount parts j up down place z e h in
     let l₀ : digits + j ≤ precision = omega arith in
     let l : s * 2 ^ j < 2 ^ precision = fits_shifted s digits j precision b l₀ in
     let full : (place ≡ 0) ⊎ (2 ^ (precision - 1) ≤ s * 2 ^ j) =
     ⊎_elim (λ y. inl y) (λ y. inr (full_shifted s digits j precision d f (omega (arith, y)))) r in
     (enclosed_from precision (s * 2 ^ j) place loss amount parts p u l full g, g)
 
-pub shift_whole : (precision s digits j place up down : ℕ) → precision ≤ 125 → s < 2 ^ digits → digits + up ≤ place + precision + down → place + down + j ≡ up → s * 2 ^ j ≡ s * 2 ^ j % 2 ^ 128
+pub shift_whole : (precision s digits j place up down : ℕ) → precision ≤ 125 → s < 2 ^ digits
+    → digits + up ≤ place + precision + down → place + down + j ≡ up → s * 2 ^ j ≡ s * 2 ^ j % 2 ^ 128
 shift_whole precision s digits j place up down p b c e =
     let l₀ : digits + j ≤ precision = omega arith in
     let l : s * 2 ^ j < 2 ^ precision = fits_shifted s digits j precision b l₀ in
@@ -152,37 +183,51 @@ pub some_digits : (s digits : ℕ) → s < 2 ^ digits → (s ≡ 0 → ⊥) → 
 some_digits s zero h n = absurd (n (omega arith))
 some_digits s (suc d) h n = omega arith
 
-pub shift_kept : (precision s digits j place up down : ℕ) (loss : Loss) (amount parts : ℕ) → 0 < precision → precision ≤ 125 → 0 < parts → s < 2 ^ digits → (0 < digits → 2 ^ (digits - 1) ≤ s) → (s ≡ 0 → ⊥)
-    → digits + up ≤ place + precision + down → (place ≡ 0) ⊎ (digits + up ≡ place + precision + down) → place + down + j ≡ up → loss ≡ ExactlyZero
-    → StandsFor s loss (amount * 2 ^ down) (parts * 2 ^ up) → IsEnclosed precision (2 ^ (precision - 1)) (s * 2 ^ j % 2 ^ 128) place amount parts × StandsFor (s * 2 ^ j % 2 ^ 128) loss amount (2 ^ place * parts)
+pub shift_kept : (precision s digits j place up down : ℕ) (loss : Loss) (amount parts : ℕ) → 0 < precision
+    → precision ≤ 125 → 0 < parts → s < 2 ^ digits → (0 < digits → 2 ^ (digits - 1) ≤ s) → (s ≡ 0 → ⊥)
+    → digits + up ≤ place + precision + down → (place ≡ 0) ⊎ (digits + up ≡ place + precision + down)
+    → place + down + j ≡ up → loss ≡ ExactlyZero
+    → StandsFor s loss (amount * 2 ^ down) (parts * 2 ^ up)
+    → IsEnclosed precision (2 ^ (precision - 1)) (s * 2 ^ j % 2 ^ 128) place amount parts
+    × StandsFor (s * 2 ^ j % 2 ^ 128) loss amount (2 ^ place * parts)
 shift_kept precision s digits j place up down loss amount parts p p' u b f n c r e z h =
-    subst (λ (x : ℕ). IsEnclosed precision (2 ^ (precision - 1)) x place amount parts × StandsFor x loss amount (2 ^ place * parts))
+    subst (λ (x : ℕ). IsEnclosed precision (2 ^ (precision - 1)) x place amount parts
+        × StandsFor x loss amount (2 ^ place * parts))
     (shift_whole precision s digits j place up down p' b c e)
     (shift_kept_at precision s digits j place up down loss amount parts p u b f (some_digits s digits b n) c r e z h)
 
-pub too_full : (s digits j precision : ℕ) → s < 2 ^ digits → 0 < j → digits + j ≤ precision → 2 ^ (precision - 1) ≤ s → ⊥
+pub too_full : (s digits j precision : ℕ) → s < 2 ^ digits → 0 < j → digits + j ≤ precision
+    → 2 ^ (precision - 1) ≤ s → ⊥
 too_full s digits j precision b p l h =
     let d : digits ≤ precision - 1 = omega arith in
     let k : 2 ^ digits ≤ 2 ^ (precision - 1) = pow-le-pow_right two_pos d in
     omega arith
 
-pub zero_kept : (precision s up down : ℕ) (loss : Loss) (amount parts : ℕ) → 0 < precision → 0 < parts → s ≡ 0 → loss ≡ ExactlyZero
-    → StandsFor s loss (amount * 2 ^ down) (parts * 2 ^ up) → IsEnclosed precision (2 ^ (precision - 1)) 0 0 amount parts × StandsFor 0 loss amount (2 ^ 0 * parts)
+pub zero_kept : (precision s up down : ℕ) (loss : Loss) (amount parts : ℕ) → 0 < precision → 0 < parts → s ≡ 0
+    → loss ≡ ExactlyZero
+    → StandsFor s loss (amount * 2 ^ down) (parts * 2 ^ up)
+    → IsEnclosed precision (2 ^ (precision - 1)) 0 0 amount parts × StandsFor 0 loss amount (2 ^ 0 * parts)
 zero_kept precision s up down loss amount parts p u z e h =
-    let h' : StandsFor 0 ExactlyZero (amount * 2 ^ down) (parts * 2 ^ up) = subst (λ (x : ℕ). StandsFor x ExactlyZero (amount * 2 ^ down) (parts * 2 ^ up)) z (subst (λ (x : Loss). StandsFor s x (amount * 2 ^ down) (parts * 2 ^ up)) e h) in
+    let h' : StandsFor 0 ExactlyZero (amount * 2 ^ down) (parts * 2 ^ up) =
+        subst (λ (x : ℕ). StandsFor x ExactlyZero (amount * 2 ^ down) (parts * 2 ^ up)) z
+            (subst (λ (x : Loss). StandsFor s x (amount * 2 ^ down) (parts * 2 ^ up)) e h) in
     let a : amount * 2 ^ down ≡ 0 * 2 ^ down = omega (arith, h') in
     let a' : amount ≡ 0 = eq_of_mul-eq-mul_right (2 ^ down) (pow_pos down) amount 0 a in
     let g : StandsFor 0 ExactlyZero amount (2 ^ 0 * parts) = omega (arith, a') in
-    let g' : StandsFor 0 loss amount (2 ^ 0 * parts) = subst (λ (x : Loss). StandsFor 0 x amount (2 ^ 0 * parts)) (sym e) g in
+    let g' : StandsFor 0 loss amount (2 ^ 0 * parts) =
+        subst (λ (x : Loss). StandsFor 0 x amount (2 ^ 0 * parts)) (sym e) g in
     (enclosed_from precision 0 0 loss amount parts p u (pow_pos precision) (inl refl) g', g')
 
 -- nothing was lost, where the unit lies above the place that is kept
-pub exact_zero : (s precision : ℕ) (loss : Loss) (A : Type 0) → s ≡ 0 → (loss ≡ ExactlyZero) ⊎ (A ⊎ (2 ^ (precision - 1) ≤ s)) → (A → ⊥) → loss ≡ ExactlyZero
+pub exact_zero : (s precision : ℕ) (loss : Loss) (A : Type 0) → s ≡ 0
+    → (loss ≡ ExactlyZero) ⊎ (A ⊎ (2 ^ (precision - 1) ≤ s)) → (A → ⊥) → loss ≡ ExactlyZero
 exact_zero s precision loss A z (inl e) n = e
 exact_zero s precision loss A z (inr (inl a)) n = absurd (n a)
-exact_zero s precision loss A z (inr (inr l)) n = let p : 0 < 2 ^ (precision - 1) = pow_pos (precision - 1) in absurd (omega arith)
+exact_zero s precision loss A z (inr (inr l)) n = let p : 0 < 2 ^ (precision - 1) = pow_pos (precision - 1) in
+    absurd (omega arith)
 
-pub exact_shift : (s digits j place up down precision : ℕ) (loss : Loss) (A : Type 0) → s < 2 ^ digits → 0 < j → digits + up ≤ place + precision + down → place + down + j ≡ up
+pub exact_shift : (s digits j place up down precision : ℕ) (loss : Loss) (A : Type 0) → s < 2 ^ digits → 0 < j
+    → digits + up ≤ place + precision + down → place + down + j ≡ up
     → (loss ≡ ExactlyZero) ⊎ (A ⊎ (2 ^ (precision - 1) ≤ s)) → (A → ⊥) → loss ≡ ExactlyZero
 exact_shift s digits j place up down precision loss A b p c e (inl z) n = z
 exact_shift s digits j place up down precision loss A b p c e (inr (inl a)) n = absurd (n a)
@@ -192,28 +237,40 @@ exact_shift s digits j place up down precision loss A b p c e (inr (inr l)) n =
 
 -- ---- the same, whatever is lost
 
-pub cut_fits : (precision s q digits k place up down : ℕ) → s < 2 ^ digits → digits + up ≤ place + precision + down → k + up ≡ place + down → q ≡ s / 2 ^ k → q < 2 ^ precision
+pub cut_fits : (precision s q digits k place up down : ℕ) → s < 2 ^ digits → digits + up ≤ place + precision + down
+    → k + up ≡ place + down → q ≡ s / 2 ^ k → q < 2 ^ precision
 cut_fits precision s q digits k place up down b c e w =
     let l₀ : digits ≤ k + precision = omega arith in
     subst (λ (x : ℕ). x < 2 ^ precision) (sym w) (fits_cut s digits k precision b l₀)
 
-pub cut_full : (precision s q digits k place up down : ℕ) → 0 < precision → (0 < digits → 2 ^ (digits - 1) ≤ s) → (place ≡ 0) ⊎ (digits + up ≡ place + precision + down) → k + up ≡ place + down → q ≡ s / 2 ^ k → (place ≡ 0) ⊎ (2 ^ (precision - 1) ≤ q)
+pub cut_full : (precision s q digits k place up down : ℕ) → 0 < precision → (0 < digits → 2 ^ (digits - 1) ≤ s)
+    → (place ≡ 0) ⊎ (digits + up ≡ place + precision + down) → k + up ≡ place + down → q ≡ s / 2 ^ k
+    → (place ≡ 0) ⊎ (2 ^ (precision - 1) ≤ q)
 cut_full precision s q digits k place up down p f r e w =
-    ⊎_elim (λ z. inl z) (λ z. inr (subst (λ (x : ℕ). 2 ^ (precision - 1) ≤ x) (sym w) (full_cut s digits k precision p f (omega (arith, z))))) r
+    ⊎_elim (λ z. inl z)
+    (λ z. inr (subst (λ (x : ℕ). 2 ^ (precision - 1) ≤ x) (sym w)
+        (full_cut s digits k precision p f (omega (arith, z))))) r
 
-pub shift_fits : (precision s digits j place up down : ℕ) → precision ≤ 125 → s < 2 ^ digits → digits + up ≤ place + precision + down → place + down + j ≡ up → s * 2 ^ j % 2 ^ 128 < 2 ^ precision
+pub shift_fits : (precision s digits j place up down : ℕ) → precision ≤ 125 → s < 2 ^ digits
+    → digits + up ≤ place + precision + down → place + down + j ≡ up → s * 2 ^ j % 2 ^ 128 < 2 ^ precision
 shift_fits precision s digits j place up down p' b c e =
     let l₀ : digits + j ≤ precision = omega arith in
-    subst (λ (x : ℕ). x < 2 ^ precision) (shift_whole precision s digits j place up down p' b c e) (fits_shifted s digits j precision b l₀)
+    subst (λ (x : ℕ). x < 2 ^ precision) (shift_whole precision s digits j place up down p' b c e)
+        (fits_shifted s digits j precision b l₀)
 
-pub shift_full : (precision s digits j place up down : ℕ) → precision ≤ 125 → s < 2 ^ digits → (0 < digits → 2 ^ (digits - 1) ≤ s) → (s ≡ 0 → ⊥) → digits + up ≤ place + precision + down → (place ≡ 0) ⊎ (digits + up ≡ place + precision + down) → place + down + j ≡ up
+pub shift_full : (precision s digits j place up down : ℕ) → precision ≤ 125 → s < 2 ^ digits
+    → (0 < digits → 2 ^ (digits - 1) ≤ s) → (s ≡ 0 → ⊥) → digits + up ≤ place + precision + down
+    → (place ≡ 0) ⊎ (digits + up ≡ place + precision + down) → place + down + j ≡ up
     → (place ≡ 0) ⊎ (2 ^ (precision - 1) ≤ s * 2 ^ j % 2 ^ 128)
 shift_full precision s digits j place up down p' b f n c r e =
-    ⊎_elim (λ y. inl y) (λ y. inr (subst (λ (x : ℕ). 2 ^ (precision - 1) ≤ x) (shift_whole precision s digits j place up down p' b c e) (full_shifted s digits j precision (some_digits s digits b n) f (omega (arith, y))))) r
+    ⊎_elim (λ y. inl y)
+    (λ y. inr (subst (λ (x : ℕ). 2 ^ (precision - 1) ≤ x) (shift_whole precision s digits j place up down p' b c e)
+        (full_shifted s digits j precision (some_digits s digits b n) f (omega (arith, y))))) r
 
 -- ---- all digits
 
-pub digits_le : (s digits precision : ℕ) → s < 2 ^ precision → (0 < digits → 2 ^ (digits - 1) ≤ s) → digits ≤ precision
+pub digits_le : (s digits precision : ℕ) → s < 2 ^ precision → (0 < digits → 2 ^ (digits - 1) ≤ s)
+    → digits ≤ precision
 digits_le s digits precision h f =
     ⊎_elim
     (λ (l : precision < digits).
@@ -225,7 +282,8 @@ digits_le s digits precision h f =
     (λ (l : digits ≤ precision). l)
     (cases_lt precision digits)
 
-pub same_quanta : (s j place up down whole : ℕ) → s * 2 ^ j ≡ whole → j + up ≡ place + down → whole * 2 ^ up ≡ s * 2 ^ place * 2 ^ down
+pub same_quanta : (s j place up down whole : ℕ) → s * 2 ^ j ≡ whole → j + up ≡ place + down
+    → whole * 2 ^ up ≡ s * 2 ^ place * 2 ^ down
 same_quanta s j place up down whole w e =
     let a : 2 ^ j * (s * 2 ^ up) ≡ 2 ^ place * s * 2 ^ down = same_unit s j up down place e in
     ap (λ (x : ℕ). x * 2 ^ up) (sym w) ∙ omega arith

@@ -14,12 +14,16 @@ by_parts body rest e x =
     let i : IsHexadecimal body x.h x.f x.e = x.is in
     rw (← m.h_is, ← m.f_is, ← m.e_is) i
 
-pub literal_meaning : (text : List ℕ) → begins_literal (behind_mark text) ≡ true → behind_prefix_fault (drop 2 (behind_mark text)) ≡ None
-    → Means text (hexadecimal (is_minus (mark_of text)) (digits_number (drop 2 (behind_mark text))) (places_behind_dot (drop 2 (behind_mark text))) (exponent_number (exponent_text (drop 2 (behind_mark text)))))
+pub literal_meaning : (text : List ℕ) → begins_literal (behind_mark text) ≡ true
+    → behind_prefix_fault (drop 2 (behind_mark text)) ≡ None
+    → Means text (hexadecimal (is_minus (mark_of text)) (digits_number (drop 2 (behind_mark text)))
+    (places_behind_dot (drop 2 (behind_mark text))) (exponent_number (exponent_text (drop 2 (behind_mark text)))))
 literal_meaning text b n =
     let body = behind_mark text in
     let rest = drop 2 body in
     ⊎_elim
-    (λ (p : body ≡ codes "0x" ++ rest). (refl, by_parts body rest refl (literal_from body (codes "0x") rest p (inl refl) n)))
-    (λ (p : body ≡ codes "0X" ++ rest). (refl, by_parts body rest refl (literal_from body (codes "0X") rest p (inr refl) n)))
+    (λ (p : body ≡ codes "0x" ++ rest).
+        (refl, by_parts body rest refl (literal_from body (codes "0x") rest p (inl refl) n)))
+    (λ (p : body ≡ codes "0X" ++ rest).
+        (refl, by_parts body rest refl (literal_from body (codes "0X") rest p (inr refl) n)))
     (begun_of body b)

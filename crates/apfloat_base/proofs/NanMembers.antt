@@ -18,11 +18,14 @@ true_false : true ≡ false → ⊥
 unfolding truth
 true_false e = subst truth e tt
 
-if_case : {A : Type 0} (P : A → Type 0) {x y : A} (b : Bool) → (b ≡ true → P x) → (b ≡ false → P y) → P (if b then x else y)
+if_case : {A : Type 0} (P : A → Type 0) {x y : A} (b : Bool) → (b ≡ true → P x) → (b ≡ false → P y)
+    → P (if b then x else y)
 if_case P true l r = l refl
 if_case P false l r = r refl
 
-twice : (p : ℕ) → 3 ≤ p → (2 ^ (p - 1) ≡ 2 * 2 ^ (p - 2)) × (2 ^ p ≡ 4 * 2 ^ (p - 2)) × (2 ^ (p - 2) ≡ 2 * 2 ^ (p - 3)) × (0 < 2 ^ (p - 3))
+twice : (p : ℕ) → 3 ≤ p
+    → (2 ^ (p - 1) ≡ 2 * 2 ^ (p - 2)) × (2 ^ p ≡ 4 * 2 ^ (p - 2)) × (2 ^ (p - 2) ≡ 2 * 2 ^ (p - 3))
+    × (0 < 2 ^ (p - 3))
 twice p h =
     let a : 2 ^ (p - 1) ≡ 2 ^ (1 + (p - 2)) = ap (λ (x : ℕ). 2 ^ x) (omega arith) in
     let b : 2 ^ p ≡ 2 ^ (2 + (p - 2)) = ap (λ (x : ℕ). 2 ^ x) (omega arith) in
@@ -36,7 +39,8 @@ or_no_power s i j apart e =
     let z : 0 < 2 ^ j = pow_pos j in
     omega (arith, a, pow_apart i j apart, z)
 
-pub or_member : (k : NonfiniteBehavior) (e : Bool) (p s : ℕ) → 3 ≤ p → IsNanSignificand k e p s → IsNanSignificand k e p (bit_or s (quiet_bit_of k p))
+pub or_member : (k : NonfiniteBehavior) (e : Bool) (p s : ℕ) → 3 ≤ p → IsNanSignificand k e p s
+    → IsNanSignificand k e p (bit_or s (quiet_bit_of k p))
 or_member IEEE754 false p s h (some, below) =
     let t = twice p h in let g = le_or_l s (2 ^ (p - 2)) in
     let l : 2 ^ (p - 2) < 2 ^ (p - 1) = omega (arith, t) in
@@ -48,7 +52,9 @@ or_member IEEE754 true p s h (below, other) =
 or_member NanOnly e p s h m = rw (or_zero_r s) m
 or_member NanNegativeZero e p s h m = rw (or_zero_r s) m
 
-quiet_kinds : (k : NonfiniteBehavior) (e : Bool) (p payload : ℕ) → 3 ≤ p → IsNanSignificand k e p (bit_or (bit_or (nan_base_of k p) (quiet_bits_of k e p)) (bit_and payload (payload_mask_of k p)))
+quiet_kinds : (k : NonfiniteBehavior) (e : Bool) (p payload : ℕ) → 3 ≤ p
+    → IsNanSignificand k e p (bit_or (bit_or (nan_base_of k p) (quiet_bits_of k e p))
+    (bit_and payload (payload_mask_of k p)))
 quiet_kinds IEEE754 false p payload h =
     let t = twice p h in
     let q : bit_or 0 (2 ^ (p - 2)) ≡ 2 ^ (p - 2) = or_zero_l (2 ^ (p - 2)) in
@@ -66,10 +72,12 @@ quiet_kinds IEEE754 true p payload h =
     let l : bit_or 0 (3 * 2 ^ (p - 2)) < 2 ^ p = omega (arith, t, q, z) in
     let r : bit_and payload (2 ^ (p - 1) - 1) < 2 ^ p = omega (arith, t, m, z) in
     (or_lt p (bit_or 0 (3 * 2 ^ (p - 2))) (bit_and payload (2 ^ (p - 1) - 1)) l r, λ e. omega (arith, t, q, g, e, z))
-quiet_kinds NanOnly e p payload h = let b = nan_base_of NanOnly p in rw (and_zero_r payload) rw (or_zero_r (bit_or b 0)) rw (or_zero_r b) refl
+quiet_kinds NanOnly e p payload h = let b = nan_base_of NanOnly p in
+    rw (and_zero_r payload) rw (or_zero_r (bit_or b 0)) rw (or_zero_r b) refl
 quiet_kinds NanNegativeZero e p payload h = rw (and_zero_r payload) refl
 
-pub quiet_member : (f : Format) (payload : ℕ) → 3 ≤ f.precision → IsNanSignificand f.nonfinite f.explicit_integer_bit f.precision (quiet_significand f payload)
+pub quiet_member : (f : Format) (payload : ℕ) → 3 ≤ f.precision
+    → IsNanSignificand f.nonfinite f.explicit_integer_bit f.precision (quiet_significand f payload)
 quiet_member f payload h = quiet_kinds f.nonfinite f.explicit_integer_bit f.precision payload h
 
 lit_apart : {A : Type 0} (n : ℕ) → n ≡ 0 → eqb n 0 ≡ false → A
@@ -82,7 +90,8 @@ or_nothing : (q : ℕ) → bit_or (q - bit_and q 0) (0 / 2) ≡ q
 or_nothing q = ap (λ (x : ℕ). bit_or x 0) (less_nothing q) ∙ or_zero_r q
 
 signaling_kinds : (k : NonfiniteBehavior) (e : Bool) (p q : ℕ) → 3 ≤ p → IsNanSignificand k e p q →
-    IsNanSignificand k e p (let c = q - bit_and q (quiet_bit_of k p) in if eqb (bit_and c (payload_mask_of k p)) 0 then bit_or c (quiet_bit_of k p / 2) else c)
+    IsNanSignificand k e p (let c = q - bit_and q (quiet_bit_of k p) in if eqb (bit_and c (payload_mask_of k p)) 0
+        then bit_or c (quiet_bit_of k p / 2) else c)
 signaling_kinds IEEE754 false p q h (some, below) =
     let t = twice p h in
     let c = q - bit_and q (2 ^ (p - 2)) in
@@ -92,7 +101,9 @@ signaling_kinds IEEE754 false p q h (some, below) =
     let g = le_or_r c (2 ^ (p - 2) / 2) in
     if_case (IsNanSignificand IEEE754 false p) (eqb (bit_and c (2 ^ (p - 1) - 1)) 0)
     (λ _. (omega (arith, t, half, g), or_lt (p - 1) c (2 ^ (p - 2) / 2) l m))
-    (λ n. (pos_of_ne-zero {n = c} (λ z. lit_apart (bit_and c (2 ^ (p - 1) - 1)) (ap (λ (x : ℕ). bit_and x (2 ^ (p - 1) - 1)) z ∙ and_zero_l (2 ^ (p - 1) - 1)) n), l))
+    (λ n. (pos_of_ne-zero {n = c}
+        (λ z. lit_apart (bit_and c (2 ^ (p - 1) - 1))
+            (ap (λ (x : ℕ). bit_and x (2 ^ (p - 1) - 1)) z ∙ and_zero_l (2 ^ (p - 1) - 1)) n), l))
 signaling_kinds IEEE754 true p q h (below, other) =
     let t = twice p h in
     let c = q - bit_and q (2 ^ (p - 2)) in
@@ -100,15 +111,22 @@ signaling_kinds IEEE754 true p q h (below, other) =
     let half : 2 ^ (p - 2) / 2 ≡ 2 ^ (p - 3) = omega (arith, t) in
     let m : 2 ^ (p - 2) / 2 < 2 ^ p = omega (arith, t, half) in
     if_case (IsNanSignificand IEEE754 true p) (eqb (bit_and c (2 ^ (p - 1) - 1)) 0)
-    (λ _. (or_lt p c (2 ^ (p - 2) / 2) l m, λ e. or_no_power c (p - 1) (p - 3) (λ x. omega arith) (ap (bit_or c) (sym half) ∙ e)))
-    (λ n. (l, λ e. lit_apart (bit_and c (2 ^ (p - 1) - 1)) (ap (λ (x : ℕ). bit_and x (2 ^ (p - 1) - 1)) e ∙ and_mask (2 ^ (p - 1)) (p - 1) ∙ mod_self (2 ^ (p - 1))) n))
+    (λ _. (or_lt p c (2 ^ (p - 2) / 2) l m,
+        λ e. or_no_power c (p - 1) (p - 3) (λ x. omega arith) (ap (bit_or c) (sym half) ∙ e)))
+    (λ n. (l, λ e. lit_apart (bit_and c (2 ^ (p - 1) - 1))
+        (ap (λ (x : ℕ). bit_and x (2 ^ (p - 1) - 1)) e ∙ and_mask (2 ^ (p - 1)) (p - 1) ∙ mod_self (2 ^ (p - 1)))
+            n))
 signaling_kinds NanOnly e p q h m =
     if_case (IsNanSignificand NanOnly e p) (eqb (bit_and (q - bit_and q 0) 0) 0)
-    (λ _. subst (λ (x : ℕ). IsNanSignificand NanOnly e p x) (sym (or_nothing q)) m) (λ _. subst (λ (x : ℕ). IsNanSignificand NanOnly e p x) (sym (less_nothing q)) m)
+    (λ _. subst (λ (x : ℕ). IsNanSignificand NanOnly e p x) (sym (or_nothing q)) m)
+        (λ _. subst (λ (x : ℕ). IsNanSignificand NanOnly e p x) (sym (less_nothing q)) m)
 signaling_kinds NanNegativeZero e p q h m =
     if_case (IsNanSignificand NanNegativeZero e p) (eqb (bit_and (q - bit_and q 0) 0) 0)
-    (λ _. subst (λ (x : ℕ). IsNanSignificand NanNegativeZero e p x) (sym (or_nothing q)) m) (λ _. subst (λ (x : ℕ). IsNanSignificand NanNegativeZero e p x) (sym (less_nothing q)) m)
+    (λ _. subst (λ (x : ℕ). IsNanSignificand NanNegativeZero e p x) (sym (or_nothing q)) m)
+        (λ _. subst (λ (x : ℕ). IsNanSignificand NanNegativeZero e p x) (sym (less_nothing q)) m)
 
-pub signaling_member : (f : Format) (payload : ℕ) → 3 ≤ f.precision → IsNanSignificand f.nonfinite f.explicit_integer_bit f.precision (signaling_significand f payload)
+pub signaling_member : (f : Format) (payload : ℕ) → 3 ≤ f.precision
+    → IsNanSignificand f.nonfinite f.explicit_integer_bit f.precision (signaling_significand f payload)
 signaling_member f payload h =
-    signaling_kinds f.nonfinite f.explicit_integer_bit f.precision (quiet_significand f payload) h (quiet_member f payload h)
+    signaling_kinds f.nonfinite f.explicit_integer_bit f.precision (quiet_significand f payload) h
+        (quiet_member f payload h)

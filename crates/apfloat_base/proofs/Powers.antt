@@ -6,7 +6,8 @@ pub pow3 : (a b c : ℕ) → 2 ^ (a + b + c) ≡ 2 ^ a * 2 ^ b * 2 ^ c
 pow3 a b c = pow-add 2 (a + b) c ∙ ap (λ (x : ℕ). x * 2 ^ c) (pow-add 2 a b)
 
 pub pow22 : (a b c d : ℕ) → 2 ^ (a + b + (c + d)) ≡ 2 ^ a * 2 ^ b * (2 ^ c * 2 ^ d)
-pow22 a b c d = pow-add 2 (a + b) (c + d) ∙ ap (λ (x : ℕ). x * 2 ^ (c + d)) (pow-add 2 a b) ∙ ap (λ (x : ℕ). 2 ^ a * 2 ^ b * x) (pow-add 2 c d)
+pow22 a b c d = pow-add 2 (a + b) (c + d) ∙ ap (λ (x : ℕ). x * 2 ^ (c + d)) (pow-add 2 a b) ∙
+    ap (λ (x : ℕ). 2 ^ a * 2 ^ b * x) (pow-add 2 c d)
 
 pub pow4 : (a b c d : ℕ) → 2 ^ (a + b + c + d) ≡ 2 ^ a * 2 ^ b * 2 ^ c * 2 ^ d
 pow4 a b c d = pow-add 2 (a + b + c) d ∙ ap (λ (x : ℕ). x * 2 ^ d) (pow3 a b c)

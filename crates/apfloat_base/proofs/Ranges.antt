@@ -12,8 +12,10 @@ use Rattle.apfloat_base.proofs.Losses.{twice_half}
 use Rattle.apfloat_base.proofs.Greatest.{greatest_low}
 
 -- a significand that is not greater at a place that is not higher
-pub at_top : (f : Format) (m k : ℕ) → m ≤ greatest_significand f.nonfinite f.precision → k ≤ f.span → m * 2 ^ k ≤ largest f
-at_top f m k a b = mul-le m (2 ^ k) (greatest_significand f.nonfinite f.precision) (2 ^ f.span) a (pow-le-pow_right two_pos b)
+pub at_top : (f : Format) (m k : ℕ) → m ≤ greatest_significand f.nonfinite f.precision → k ≤ f.span
+    → m * 2 ^ k ≤ largest f
+at_top f m k a b =
+    mul-le m (2 ^ k) (greatest_significand f.nonfinite f.precision) (2 ^ f.span) a (pow-le-pow_right two_pos b)
 
 -- any significand below the greatest place
 pub below_top : (f : Format) (m k : ℕ) → 3 ≤ f.precision → m < 2 ^ f.precision → k < f.span → m * 2 ^ k ≤ largest f
@@ -22,10 +24,14 @@ below_top f m k precise a b =
     let p : 2 ^ 3 ≤ 2 ^ f.precision = pow-le-pow_right two_pos precise in
     let l = greatest_low f.nonfinite f.precision in
     let t : m ≤ 2 * greatest_significand f.nonfinite f.precision = omega (arith, l, p) in
-    let x : m * 2 ^ k ≤ 2 * greatest_significand f.nonfinite f.precision * 2 ^ k = mul-le m (2 ^ k) (2 * greatest_significand f.nonfinite f.precision) (2 ^ k) t (omega arith) in
-    let y : greatest_significand f.nonfinite f.precision * 2 ^ (k + 1) ≤ largest f = mul-le g (2 ^ (k + 1)) g (2 ^ f.span) (omega arith) (pow-le-pow_right two_pos (omega arith)) in
+    let x : m * 2 ^ k ≤ 2 * greatest_significand f.nonfinite f.precision * 2 ^ k =
+        mul-le m (2 ^ k) (2 * greatest_significand f.nonfinite f.precision) (2 ^ k) t (omega arith) in
+    let y : greatest_significand f.nonfinite f.precision * 2 ^ (k + 1) ≤ largest f =
+        mul-le g (2 ^ (k + 1)) g (2 ^ f.span) (omega arith) (pow-le-pow_right two_pos (omega arith)) in
     let z : 2 ^ (k + 1) ≡ 2 ^ k * 2 = pow-add 2 k 1 in
-    let w : greatest_significand f.nonfinite f.precision * 2 ^ (k + 1) ≡ greatest_significand f.nonfinite f.precision * (2 ^ k * 2) = ap (λ (v : ℕ). greatest_significand f.nonfinite f.precision * v) z in
+    let w : greatest_significand f.nonfinite f.precision * 2 ^ (k + 1)
+        ≡ greatest_significand f.nonfinite f.precision * (2 ^ k * 2) =
+            ap (λ (v : ℕ). greatest_significand f.nonfinite f.precision * v) z in
     omega arith
 
 -- a significand without its integer bit, at the quantum
@@ -53,14 +59,17 @@ half_within f precise =
     at_top f (2 ^ (f.precision - 1)) 0 (omega (arith, l, p, t)) (omega arith)
 
 -- beside infinities any significand, at each exponent but the greatest
-pub ieee_within : (f : Format) (layout : Layout) (m e : ℕ) → IsInterchange f layout → f.nonfinite ≡ IEEE754 → m < 2 ^ f.precision → e < 2 ^ layout.exponent_bits → (e ≡ all_ones layout.exponent_bits → ⊥) → m * 2 ^ (e - 1) ≤ largest f
+pub ieee_within : (f : Format) (layout : Layout) (m e : ℕ) → IsInterchange f layout → f.nonfinite ≡ IEEE754
+    → m < 2 ^ f.precision → e < 2 ^ layout.exponent_bits → (e ≡ all_ones layout.exponent_bits → ⊥)
+    → m * 2 ^ (e - 1) ≤ largest f
 ieee_within f layout m e law k a b n =
     let s : f.span + 3 ≡ 2 ^ layout.exponent_bits + 0 = rw k at law.span in
     let t : m ≤ greatest_significand f.nonfinite f.precision = rw k (omega arith) in
     at_top f m (e - 1) t (omega arith)
 
 -- with one NaN of each sign any but the last significand at the greatest exponent
-pub nan_only_within : (f : Format) (layout : Layout) (m e : ℕ) → IsInterchange f layout → f.nonfinite ≡ NanOnly → 1 ≤ e → m < 2 ^ f.precision → e < 2 ^ layout.exponent_bits
+pub nan_only_within : (f : Format) (layout : Layout) (m e : ℕ) → IsInterchange f layout → f.nonfinite ≡ NanOnly
+    → 1 ≤ e → m < 2 ^ f.precision → e < 2 ^ layout.exponent_bits
     → ((e ≡ all_ones layout.exponent_bits) → (m ≡ 2 ^ f.precision - 1) → ⊥) → m * 2 ^ (e - 1) ≤ largest f
 nan_only_within f layout m e law k o a b n =
     let s : f.span + 3 ≡ 2 ^ layout.exponent_bits + 1 = rw k at law.span in
@@ -73,7 +82,9 @@ nan_only_within f layout m e law k o a b n =
     (cases_eq e (all_ones layout.exponent_bits))
 
 -- without negative zero any significand at each exponent
-pub negative_zero_within : (f : Format) (layout : Layout) (m e : ℕ) → IsInterchange f layout → f.nonfinite ≡ NanNegativeZero → m < 2 ^ f.precision → e < 2 ^ layout.exponent_bits → m * 2 ^ (e - 1) ≤ largest f
+pub negative_zero_within : (f : Format) (layout : Layout) (m e : ℕ) → IsInterchange f layout
+    → f.nonfinite ≡ NanNegativeZero → m < 2 ^ f.precision → e < 2 ^ layout.exponent_bits
+    → m * 2 ^ (e - 1) ≤ largest f
 negative_zero_within f layout m e law k a b =
     let s : f.span + 3 ≡ 2 ^ layout.exponent_bits + 1 = rw k at law.span in
     let t : m ≤ greatest_significand f.nonfinite f.precision = rw k (omega arith) in

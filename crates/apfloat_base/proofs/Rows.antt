@@ -21,8 +21,10 @@ half_of_464 : (mode : Round) → IsFromUnsigned half mode 464 (in_half 0x5f40) o
 half_of_464 mode = rounded 1856 22 refl refl refl
 
 -- no other value and no other status: this follows for each row below in the same way
-only_half_of_464 : (mode : Round) (value : Datum) (status : ℕ) → IsFromUnsigned half mode 464 value status → (value ≡ in_half 0x5f40) × (status ≡ ok_bits)
-only_half_of_464 mode value status is = from_unsigned_once half mode 464 value (in_half 0x5f40) status ok_bits is (half_of_464 mode)
+only_half_of_464 : (mode : Round) (value : Datum) (status : ℕ) → IsFromUnsigned half mode 464 value status
+    → (value ≡ in_half 0x5f40) × (status ≡ ok_bits)
+only_half_of_464 mode value status is =
+    from_unsigned_once half mode 464 value (in_half 0x5f40) status ok_bits is (half_of_464 mode)
 
 -- 2049 lies half way between 2048 and 2050
 tie_to_even_of_2049 : IsFromUnsigned half NearestTiesToEven 2049 (in_half 0x6800) inexact_bit
@@ -67,7 +69,8 @@ overflow_of_e4m3fnuz = rounded 15 14 refl refl refl
 -- ---- sums and differences
 
 -- 65504 + 16
-sum_past_the_largest : IsSum half NearestTiesToEven (in_half 0x7bff) (in_half 0x4c00) (in_half 0x7c00) (overflow_bit + inexact_bit)
+sum_past_the_largest : IsSum half NearestTiesToEven (in_half 0x7bff) (in_half 0x4c00) (in_half 0x7c00)
+    (overflow_bit + inexact_bit)
 sum_past_the_largest = rounded 2047 29 refl refl refl
 
 sum_kept_at_the_largest : IsSum half TowardZero (in_half 0x7bff) (in_half 0x4c00) (in_half 0x7bff) inexact_bit
@@ -87,7 +90,8 @@ zero_difference = rounded 0 0 refl refl refl
 zero_difference_downward : IsDifference half TowardNegative (in_half 0x3c00) (in_half 0x3c00) (in_half 0x8000) ok_bits
 zero_difference_downward = rounded 0 0 refl refl refl
 
-zero_difference_without_minus : IsDifference e4m3fnuz TowardNegative (in_e4m3fnuz 0x40) (in_e4m3fnuz 0x40) (in_e4m3fnuz 0x00) ok_bits
+zero_difference_without_minus : IsDifference e4m3fnuz TowardNegative (in_e4m3fnuz 0x40) (in_e4m3fnuz 0x40)
+    (in_e4m3fnuz 0x00) ok_bits
 zero_difference_without_minus = rounded 0 0 refl refl refl
 
 -- -0 + -0
@@ -97,17 +101,20 @@ sum_of_minus_zeros mode = rounded 0 0 refl refl refl
 -- ---- products, and what is tiny
 
 -- half of the least positive value
-underflow : IsProduct half NearestTiesToEven (in_half 0x0001) (in_half 0x3800) (in_half 0x0000) (underflow_bit + inexact_bit)
+underflow : IsProduct half NearestTiesToEven (in_half 0x0001) (in_half 0x3800) (in_half 0x0000)
+    (underflow_bit + inexact_bit)
 underflow = rounded 0 0 refl refl refl
 
-underflow_upward : IsProduct half TowardPositive (in_half 0x0001) (in_half 0x3800) (in_half 0x0001) (underflow_bit + inexact_bit)
+underflow_upward : IsProduct half TowardPositive (in_half 0x0001) (in_half 0x3800) (in_half 0x0001)
+    (underflow_bit + inexact_bit)
 underflow_upward = rounded 0 0 refl refl refl
 
 -- A product below the smallest normal value is rounded to it. After rounding it is not tiny, before rounding it is.
 tiny_after_rounding : IsProduct half NearestTiesToEven (in_half 0x0400) (in_half 0x3bff) (in_half 0x0400) inexact_bit
 tiny_after_rounding = rounded 1023 0 refl refl refl
 
-tiny_before_rounding : IsProduct half_tiny_before NearestTiesToEven (in_half 0x0400) (in_half 0x3bff) (in_half 0x0400) (underflow_bit + inexact_bit)
+tiny_before_rounding : IsProduct half_tiny_before NearestTiesToEven (in_half 0x0400) (in_half 0x3bff)
+    (in_half 0x0400) (underflow_bit + inexact_bit)
 tiny_before_rounding = rounded 1023 0 refl refl refl
 
 -- ---- quotients: 1 by 3
@@ -124,26 +131,32 @@ third_in_e4m3fn = rounded 10 4 refl refl refl
 -- ---- fused sums
 
 -- The product is a little above the least positive value, which is taken away. Rounded once, what is left is not lost.
-fused_rounded_once : IsFusedSum half TowardPositive (in_half 0x0d89) (in_half 0x09c8) (in_half 0x8001) (in_half 0x0001) (underflow_bit + inexact_bit)
+fused_rounded_once : IsFusedSum half TowardPositive (in_half 0x0d89) (in_half 0x09c8) (in_half 0x8001)
+    (in_half 0x0001) (underflow_bit + inexact_bit)
 fused_rounded_once = rounded 0 0 refl refl refl
 
-fused_rounded_once_to_zero : IsFusedSum half TowardNegative (in_half 0x0d89) (in_half 0x09c8) (in_half 0x8001) (in_half 0x0000) (underflow_bit + inexact_bit)
+fused_rounded_once_to_zero : IsFusedSum half TowardNegative (in_half 0x0d89) (in_half 0x09c8) (in_half 0x8001)
+    (in_half 0x0000) (underflow_bit + inexact_bit)
 fused_rounded_once_to_zero = rounded 0 0 refl refl refl
 
 -- the last digit of a square: (1 + u) * (1 + u) - (1 + 2 * u) is u * u
-fused_exactly : (mode : Round) → IsFusedSum half mode (in_half 0x3c01) (in_half 0x3c01) (in_half 0xbc02) (in_half 0x0010) ok_bits
+fused_exactly : (mode : Round)
+    → IsFusedSum half mode (in_half 0x3c01) (in_half 0x3c01) (in_half 0xbc02) (in_half 0x0010) ok_bits
 fused_exactly mode = rounded 16 0 refl refl refl
 
 -- ---- conversions: whether something was lost is told
 
 -- -480, past the greatest magnitude, 448
-conversion_kept_at_the_largest : IsConversion single e4m3fn TowardPositive (in_single 0xc3f00000) (in_e4m3fn 0xfe) inexact_bit true
+conversion_kept_at_the_largest : IsConversion single e4m3fn TowardPositive (in_single 0xc3f00000) (in_e4m3fn 0xfe)
+    inexact_bit true
 conversion_kept_at_the_largest = record { is_delivered = rounded 15 14 refl refl refl; loses_is = refl }
 
-conversion_past_the_largest : IsConversion single e4m3fn TowardNegative (in_single 0xc3f00000) (in_e4m3fn 0xff) (overflow_bit + inexact_bit) true
+conversion_past_the_largest : IsConversion single e4m3fn TowardNegative (in_single 0xc3f00000) (in_e4m3fn 0xff)
+    (overflow_bit + inexact_bit) true
 conversion_past_the_largest = record { is_delivered = rounded 15 14 refl refl refl; loses_is = refl }
 
-conversion_of_the_least : (mode : Round) → IsConversion half single mode (in_half 0x0001) (in_single 0x33800000) ok_bits false
+conversion_of_the_least : (mode : Round)
+    → IsConversion half single mode (in_half 0x0001) (in_single 0x33800000) ok_bits false
 conversion_of_the_least mode = record { is_delivered = rounded 0x800000 102 refl refl refl; loses_is = refl }
 
 -- ---- scaling: 3 quanta by half

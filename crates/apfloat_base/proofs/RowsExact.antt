@@ -29,14 +29,16 @@ signaling_made_quiet mode = answer
 left_of_two_nans : (mode : Round) → IsSum half mode (in_half 0x7e01) (in_half 0x7d00) (in_half 0x7e01) invalid_bit
 left_of_two_nans mode = answer
 
-infinities_of_one_sign : IsDifference half NearestTiesToEven (in_half 0x7c00) (in_half 0x7c00) (in_half 0x7e00) invalid_bit
+infinities_of_one_sign : IsDifference half NearestTiesToEven (in_half 0x7c00) (in_half 0x7c00) (in_half 0x7e00)
+    invalid_bit
 infinities_of_one_sign = answer
 
 infinity_times_zero : IsProduct half NearestTiesToEven (in_half 0x7c00) (in_half 0x0000) (in_half 0x7e00) invalid_bit
 infinity_times_zero = answer
 
 -- in a fused sum too, whose addend is a NaN
-invalid_product : IsFusedSum half NearestTiesToEven (in_half 0x7c00) (in_half 0x0000) (in_half 0x7e01) (in_half 0x7e00) invalid_bit
+invalid_product : IsFusedSum half NearestTiesToEven (in_half 0x7c00) (in_half 0x0000) (in_half 0x7e01)
+    (in_half 0x7e00) invalid_bit
 invalid_product = record { product = in_half 0x7e00; flags = invalid_bit; is_product = answer; is = answer }
 
 one_nan_is_not_negated : negated e4m3fnuz.nonfinite (in_e4m3fnuz 0x80) ≡ in_e4m3fnuz 0x80
@@ -51,7 +53,8 @@ nan_converted = converted
 nan_with_loss : IsConversion single half NearestTiesToEven (in_single 0x7fc00001) (in_half 0x7e00) ok_bits true
 nan_with_loss = converted
 
-infinity_with_loss : IsConversion single e4m3fn NearestTiesToEven (in_single 0x7f800000) (in_e4m3fn 0x7f) inexact_bit true
+infinity_with_loss : IsConversion single e4m3fn NearestTiesToEven (in_single 0x7f800000) (in_e4m3fn 0x7f)
+    inexact_bit true
 infinity_with_loss = converted
 
 zero_sign_lost : IsConversion half e4m3fnuz NearestTiesToEven (in_half 0x8000) (in_e4m3fnuz 0x00) inexact_bit true
@@ -59,13 +62,16 @@ zero_sign_lost = converted
 
 -- ---- division by zero, in each of the three kinds of formats
 
-one_by_minus_zero : IsQuotient half NearestTiesToEven (in_half 0x3c00) (in_half 0x8000) (in_half 0xfc00) div_by_zero_bit
+one_by_minus_zero : IsQuotient half NearestTiesToEven (in_half 0x3c00) (in_half 0x8000) (in_half 0xfc00)
+    div_by_zero_bit
 one_by_minus_zero = answer
 
-one_by_minus_zero_in_e4m3fn : (mode : Round) → IsQuotient e4m3fn mode (in_e4m3fn 0x38) (in_e4m3fn 0x80) (in_e4m3fn 0xff) div_by_zero_bit
+one_by_minus_zero_in_e4m3fn : (mode : Round)
+    → IsQuotient e4m3fn mode (in_e4m3fn 0x38) (in_e4m3fn 0x80) (in_e4m3fn 0xff) div_by_zero_bit
 one_by_minus_zero_in_e4m3fn mode = answer
 
-minus_one_by_zero_in_e4m3fnuz : IsQuotient e4m3fnuz NearestTiesToEven (in_e4m3fnuz 0xc0) (in_e4m3fnuz 0x00) (in_e4m3fnuz 0x80) div_by_zero_bit
+minus_one_by_zero_in_e4m3fnuz : IsQuotient e4m3fnuz NearestTiesToEven (in_e4m3fnuz 0xc0) (in_e4m3fnuz 0x00)
+    (in_e4m3fnuz 0x80) div_by_zero_bit
 minus_one_by_zero_in_e4m3fnuz = answer
 
 -- an infinity by zero is exact
@@ -164,7 +170,8 @@ fraction_of_the_least = record { fraction = 2 ^ 23; low = lit≤ tt; high = lit<
 
 -- the inverse of 2 ^ 14 is the smallest normal value
 inverse_of_a_power : IsExactInverse half (in_half 0x7400) (Some (in_half 0x0400))
-inverse_of_a_power = (1024, record { normal = lit≤ tt; inverse_normal = lit≤ tt; within = lit≤ tt; product = refl }, refl)
+inverse_of_a_power =
+    (1024, record { normal = lit≤ tt; inverse_normal = lit≤ tt; within = lit≤ tt; product = refl }, refl)
 
 -- that of 2 ^ 15 would be denormal
 no_inverse_of_a_power : IsExactInverse half (in_half 0x7800) None

@@ -80,10 +80,14 @@ encloses precision m c amount parts =
 
 abbrev pub picked : Round → Bool → ℕ → ℕ → ℕ → ℕ → ℕ
 picked mode negative m c amount parts =
-    if eqb amount (m * 2 ^ c * parts) then m * 2 ^ c else pick_between mode negative (m * 2 ^ c) ((m + 1) * 2 ^ c) amount parts
+    if eqb amount (m * 2 ^ c * parts) then m * 2 ^ c
+        else pick_between mode negative (m * 2 ^ c) ((m + 1) * 2 ^ c) amount parts
 
-module _ (precision : ℕ) (mode : Round) (negative : Bool) (m c amount parts : ℕ) (i : IsEnclosed precision (2 ^ (precision - 1)) m c amount parts) (p : 0 < parts) where
-  is_picked : (same : Bool) → eqb amount (m * 2 ^ c * parts) ≡ same → IsPick precision mode negative amount parts (if same then m * 2 ^ c else pick_between mode negative (m * 2 ^ c) ((m + 1) * 2 ^ c) amount parts)
+module _ (precision : ℕ) (mode : Round) (negative : Bool) (m c amount parts : ℕ)
+    (i : IsEnclosed precision (2 ^ (precision - 1)) m c amount parts) (p : 0 < parts) where
+  is_picked : (same : Bool) → eqb amount (m * 2 ^ c * parts) ≡ same
+      → IsPick precision mode negative amount parts
+      (if same then m * 2 ^ c else pick_between mode negative (m * 2 ^ c) ((m + 1) * 2 ^ c) amount parts)
   is_picked true e = record {
     below = m * 2 ^ c;
     above = m * 2 ^ c;
@@ -99,8 +103,11 @@ module _ (precision : ℕ) (mode : Round) (negative : Bool) (m c amount parts : 
     is = refl;
   }
 
-pub rounded : {f : Format} {mode : Round} {negative : Bool} {amount parts : ℕ} {value : Datum} {status : ℕ} (m c : ℕ) → encloses f.precision m c amount parts ≡ true
-    → value ≡ delivered_value f mode negative (picked mode negative m c amount parts) → status ≡ delivered_status f mode negative amount parts (picked mode negative m c amount parts) → IsDelivered f mode negative amount parts value status
+pub rounded : {f : Format} {mode : Round} {negative : Bool} {amount parts : ℕ} {value : Datum} {status : ℕ}
+    (m c : ℕ) → encloses f.precision m c amount parts ≡ true
+    → value ≡ delivered_value f mode negative (picked mode negative m c amount parts)
+    → status ≡ delivered_status f mode negative amount parts (picked mode negative m c amount parts)
+    → IsDelivered f mode negative amount parts value status
 rounded {f} {mode} {negative} {amount} {parts} m c e v s =
     let x = and_parts _ _ e in
     let y = and_parts _ _ x.1 in
@@ -117,7 +124,8 @@ rounded {f} {mode} {negative} {amount} {parts} m c e v s =
     } in
     record {
       pick = picked mode negative m c amount parts;
-      is_pick = is_picked f.precision mode negative m c amount parts i (ltb-true _ _ w.1) (eqb amount (m * 2 ^ c * parts)) refl;
+      is_pick = is_picked f.precision mode negative m c amount parts i (ltb-true _ _ w.1)
+          (eqb amount (m * 2 ^ c * parts)) refl;
       value_is = v;
       status_is = s;
     }

@@ -47,9 +47,12 @@ nan_of_e4m3fnuz = record { below = lit< tt; canonical = refl; is = refl }
 
 -- ---- hexadecimal texts, by their parts: digits, digits behind a dot, the exponent behind the p
 
-with_dot : {body : List ℕ} (whole fraction exponent : List ℕ) → body ≡ codes "0x" ++ (whole ++ (codes "." ++ (fraction ++ (codes "p" ++ exponent)))) → IsTrue (every is_hexadecimal (whole ++ fraction)) → 1 ≤ length (whole ++ fraction)
+with_dot : {body : List ℕ} (whole fraction exponent : List ℕ)
+    → body ≡ codes "0x" ++ (whole ++ (codes "." ++ (fraction ++ (codes "p" ++ exponent))))
+    → IsTrue (every is_hexadecimal (whole ++ fraction)) → 1 ≤ length (whole ++ fraction)
     → IsTrue (every is_decimal (behind_mark exponent)) → 1 ≤ length (behind_mark exponent)
-    → IsHexadecimal body (number 16 (whole ++ fraction)) (length fraction) (marked (mark_of exponent) (number 10 (behind_mark exponent)))
+    → IsHexadecimal body (number 16 (whole ++ fraction)) (length fraction)
+    (marked (mark_of exponent) (number 10 (behind_mark exponent)))
 with_dot whole fraction exponent spelled digits some exponent_digits some_exponent = record {
   prefix = codes "0x";
   whole = whole;
@@ -70,7 +73,9 @@ with_dot whole fraction exponent spelled digits some exponent_digits some_expone
   e_is = refl;
 }
 
-without_dot : {body : List ℕ} (whole exponent : List ℕ) → body ≡ codes "0x" ++ (whole ++ (codes "p" ++ exponent)) → IsTrue (every is_hexadecimal (whole ++ [])) → 1 ≤ length (whole ++ []) → IsTrue (every is_decimal (behind_mark exponent)) → 1 ≤ length (behind_mark exponent)
+without_dot : {body : List ℕ} (whole exponent : List ℕ) → body ≡ codes "0x" ++ (whole ++ (codes "p" ++ exponent))
+    → IsTrue (every is_hexadecimal (whole ++ [])) → 1 ≤ length (whole ++ [])
+    → IsTrue (every is_decimal (behind_mark exponent)) → 1 ≤ length (behind_mark exponent)
     → IsHexadecimal body (number 16 (whole ++ [])) 0 (marked (mark_of exponent) (number 10 (behind_mark exponent)))
 without_dot whole exponent spelled digits some exponent_digits some_exponent = record {
   prefix = codes "0x";
@@ -101,7 +106,8 @@ read_three_quarters mode = record {
 }
 
 -- 65520, half way from the largest value
-read_past_the_largest : IsReading half NearestTiesToEven (codes "0x1.ffep+15") (in_half 0x7c00) (overflow_bit + inexact_bit)
+read_past_the_largest : IsReading half NearestTiesToEven (codes "0x1.ffep+15") (in_half 0x7c00)
+    (overflow_bit + inexact_bit)
 read_past_the_largest = record {
   meaning = hexadecimal false 0x1ffe 3 (pos 15);
   means = (refl, with_dot (codes "1") (codes "ffe") (codes "+15") refl refl (lit≤ tt) refl (lit≤ tt));

@@ -19,11 +19,13 @@ swapped_back TowardNegative = refl
 swapped_back TowardZero = refl
 swapped_back NearestTiesToAway = refl
 
-pub signed_above : (f : Format) (mode : Round) (n : ℕ) (v : Datum) (s : ℕ) → IsFromUnsigned f mode n v s → IsFromSigned f mode (pos n) v s
+pub signed_above : (f : Format) (mode : Round) (n : ℕ) (v : Datum) (s : ℕ) → IsFromUnsigned f mode n v s
+    → IsFromSigned f mode (pos n) v s
 signed_above f mode zero v s h = h
 signed_above f mode (suc n) v s h = rw (magnitude_signed false (suc n)) h
 
-pub signed_below : (f : Format) (mode : Round) (n : ℕ) (v : Datum) (s : ℕ) → 0 < largest f → 0 < n → IsFromUnsigned f (swapped mode) n v s → IsFromSigned f mode (neg_ℤ (pos n)) (negated f.nonfinite v) s
+pub signed_below : (f : Format) (mode : Round) (n : ℕ) (v : Datum) (s : ℕ) → 0 < largest f → 0 < n
+    → IsFromUnsigned f (swapped mode) n v s → IsFromSigned f mode (neg_ℤ (pos n)) (negated f.nonfinite v) s
 signed_below f mode n v s l p h =
     let d = delivered_swapped f (swapped mode) false (n * 2 ^ f.scale) 1 v s l h in
     rw (sign_signed false true n p, magnitude_signed true n) (rw (swapped_back mode) at d)

@@ -12,9 +12,11 @@ use Rattle.apfloat_base.proofs.Existence.{two_pos}
 use Rattle.apfloat_base.proofs.Powers.{pow3}
 use Rattle.apfloat_base.proofs.FarMagnitudes.{IsFarAbove, IsFarBelow, far_above, far_below}
 
-pub scaled_stands : (s a di ui uj dj u d : ℕ) → a * 2 ^ di ≡ s * 2 ^ ui → ui + uj + d ≡ di + dj + u → a * 2 ^ uj * 2 ^ d ≡ s * (2 ^ dj * 2 ^ u)
+pub scaled_stands : (s a di ui uj dj u d : ℕ) → a * 2 ^ di ≡ s * 2 ^ ui → ui + uj + d ≡ di + dj + u
+    → a * 2 ^ uj * 2 ^ d ≡ s * (2 ^ dj * 2 ^ u)
 scaled_stands s a di ui uj dj u d h e =
-    let p : 2 ^ ui * 2 ^ uj * 2 ^ d ≡ 2 ^ di * 2 ^ dj * 2 ^ u = sym (pow3 ui uj d) ∙ ap (λ (x : ℕ). 2 ^ x) e ∙ pow3 di dj u in
+    let p : 2 ^ ui * 2 ^ uj * 2 ^ d ≡ 2 ^ di * 2 ^ dj * 2 ^ u = sym (pow3 ui uj d) ∙ ap (λ (x : ℕ). 2 ^ x) e ∙
+        pow3 di dj u in
     let l₁ : a * 2 ^ uj * 2 ^ d * 2 ^ di ≡ a * 2 ^ di * (2 ^ uj * 2 ^ d) = omega arith in
     let l₂ : a * 2 ^ di * (2 ^ uj * 2 ^ d) ≡ s * 2 ^ ui * (2 ^ uj * 2 ^ d) = ap (λ (x : ℕ). x * (2 ^ uj * 2 ^ d)) h in
     let l₃ : s * 2 ^ ui * (2 ^ uj * 2 ^ d) ≡ s * (2 ^ ui * 2 ^ uj * 2 ^ d) = omega arith in
@@ -24,25 +26,33 @@ scaled_stands s a di ui uj dj u d h e =
 
 -- ---- by a power of two, in a format whose quantum is 2 to the power of minus `scale`
 
-balanced_scaling : (digits scale : ℕ) (min_exp x j r : ℤ) → pos scale ≡ pos digits -ℤ min_exp → r ≡ ((x +ℤ j) -ℤ pos digits)
+balanced_scaling : (digits scale : ℕ) (min_exp x j r : ℤ) → pos scale ≡ pos digits -ℤ min_exp
+    → r ≡ ((x +ℤ j) -ℤ pos digits)
     → up (x -ℤ min_exp) + up j + down (r +ℤ pos scale) ≡ down (x -ℤ min_exp) + down j + up (r +ℤ pos scale)
 balanced_scaling digits scale min_exp x j r k e = omega (arith, ints)
 
-pub scaled_is : (digits scale : ℕ) (min_exp x j r : ℤ) (s a : ℕ) → pos scale ≡ pos digits -ℤ min_exp → r ≡ ((x +ℤ j) -ℤ pos digits)
-    → a * 2 ^ down (x -ℤ min_exp) ≡ s * 2 ^ up (x -ℤ min_exp) → a * 2 ^ up j * 2 ^ down (r +ℤ pos scale) ≡ s * (2 ^ down j * 2 ^ up (r +ℤ pos scale))
+pub scaled_is : (digits scale : ℕ) (min_exp x j r : ℤ) (s a : ℕ) → pos scale ≡ pos digits -ℤ min_exp
+    → r ≡ ((x +ℤ j) -ℤ pos digits)
+    → a * 2 ^ down (x -ℤ min_exp) ≡ s * 2 ^ up (x -ℤ min_exp)
+    → a * 2 ^ up j * 2 ^ down (r +ℤ pos scale) ≡ s * (2 ^ down j * 2 ^ up (r +ℤ pos scale))
 scaled_is digits scale min_exp x j r s a k e h =
-    scaled_stands s a (down (x -ℤ min_exp)) (up (x -ℤ min_exp)) (up j) (down j) (up (r +ℤ pos scale)) (down (r +ℤ pos scale)) h (balanced_scaling digits scale min_exp x j r k e)
+    scaled_stands s a (down (x -ℤ min_exp)) (up (x -ℤ min_exp)) (up j) (down j) (up (r +ℤ pos scale))
+        (down (r +ℤ pos scale)) h (balanced_scaling digits scale min_exp x j r k e)
 
 -- ---- from one format into another
 
-balanced_conversion : (digits scale digits' scale' : ℕ) (min min' x r : ℤ) → pos scale ≡ pos digits -ℤ min → pos scale' ≡ pos digits' -ℤ min' → r ≡ (x -ℤ pos digits)
+balanced_conversion : (digits scale digits' scale' : ℕ) (min min' x r : ℤ) → pos scale ≡ pos digits -ℤ min
+    → pos scale' ≡ pos digits' -ℤ min' → r ≡ (x -ℤ pos digits)
     → up (x -ℤ min) + scale' + down (r +ℤ pos scale') ≡ down (x -ℤ min) + scale + up (r +ℤ pos scale')
 balanced_conversion digits scale digits' scale' min min' x r k k' e = omega (arith, ints)
 
-pub converted_is : (digits scale digits' scale' : ℕ) (min min' x r : ℤ) (s a : ℕ) → pos scale ≡ pos digits -ℤ min → pos scale' ≡ pos digits' -ℤ min' → r ≡ (x -ℤ pos digits)
-    → a * 2 ^ down (x -ℤ min) ≡ s * 2 ^ up (x -ℤ min) → a * 2 ^ scale' * 2 ^ down (r +ℤ pos scale') ≡ s * (2 ^ scale * 2 ^ up (r +ℤ pos scale'))
+pub converted_is : (digits scale digits' scale' : ℕ) (min min' x r : ℤ) (s a : ℕ) → pos scale ≡ pos digits -ℤ min
+    → pos scale' ≡ pos digits' -ℤ min' → r ≡ (x -ℤ pos digits)
+    → a * 2 ^ down (x -ℤ min) ≡ s * 2 ^ up (x -ℤ min)
+    → a * 2 ^ scale' * 2 ^ down (r +ℤ pos scale') ≡ s * (2 ^ scale * 2 ^ up (r +ℤ pos scale'))
 converted_is digits scale digits' scale' min min' x r s a k k' e h =
-    scaled_stands s a (down (x -ℤ min)) (up (x -ℤ min)) scale' scale (up (r +ℤ pos scale')) (down (r +ℤ pos scale')) h (balanced_conversion digits scale digits' scale' min min' x r k k' e)
+    scaled_stands s a (down (x -ℤ min)) (up (x -ℤ min)) scale' scale (up (r +ℤ pos scale')) (down (r +ℤ pos scale'))
+        h (balanced_conversion digits scale digits' scale' min min' x r k k' e)
 
 -- ---- amounts that the clamp changes
 
@@ -50,18 +60,23 @@ converted_is digits scale digits' scale' min min' x r s a k k' e h =
 pub record IsClamped (bound : ℕ) (j near : ℤ) : Type 0 where
   pub low : neg_ℤ (pos bound) ≤ℤ near
   pub high : near ≤ℤ pos bound
-  pub is : (near ≡ j) ⊎ (((near ≡ pos bound) × (pos bound ≤ℤ j)) ⊎ ((near ≡ neg_ℤ (pos bound)) × (j ≤ℤ neg_ℤ (pos bound))))
+  pub is : (near ≡ j) ⊎ (((near ≡ pos bound) × (pos bound ≤ℤ j))
+      ⊎ ((near ≡ neg_ℤ (pos bound)) × (j ≤ℤ neg_ℤ (pos bound))))
 
 -- so many quanta have no more digits than the significand and the exponent say
-pub quanta_below : (precision : ℕ) (min_exp x : ℤ) (s a : ℕ) → s < 2 ^ precision → a * 2 ^ down (x -ℤ min_exp) ≡ s * 2 ^ up (x -ℤ min_exp) → a < 2 ^ (precision + up (x -ℤ min_exp))
+pub quanta_below : (precision : ℕ) (min_exp x : ℤ) (s a : ℕ) → s < 2 ^ precision
+    → a * 2 ^ down (x -ℤ min_exp) ≡ s * 2 ^ up (x -ℤ min_exp) → a < 2 ^ (precision + up (x -ℤ min_exp))
 quanta_below precision min_exp x s a f h =
-    let e : 2 ^ (precision + up (x -ℤ min_exp)) ≡ 2 ^ precision * 2 ^ up (x -ℤ min_exp) = pow-add 2 precision (up (x -ℤ min_exp)) in
-    let b : s * 2 ^ up (x -ℤ min_exp) < 2 ^ precision * 2 ^ up (x -ℤ min_exp) = mul-lt-mul_of_pos_right f (pow_pos (up (x -ℤ min_exp))) in
+    let e : 2 ^ (precision + up (x -ℤ min_exp)) ≡ 2 ^ precision * 2 ^ up (x -ℤ min_exp) =
+        pow-add 2 precision (up (x -ℤ min_exp)) in
+    let b : s * 2 ^ up (x -ℤ min_exp) < 2 ^ precision * 2 ^ up (x -ℤ min_exp) =
+        mul-lt-mul_of_pos_right f (pow_pos (up (x -ℤ min_exp))) in
     let w : 1 ≤ 2 ^ down (x -ℤ min_exp) = pow_pos (down (x -ℤ min_exp)) in
     let c : a * 1 ≤ a * 2 ^ down (x -ℤ min_exp) = mul-le-mul_left a w in
     omega (arith, e, b, c, h)
 
-far_up : (f : Format) (a bound u d : ℕ) → 0 < a → f.precision + f.span ≤ bound → bound ≤ u → d ≡ 0 → IsFarAbove f (a * 2 ^ u) (2 ^ d)
+far_up : (f : Format) (a bound u d : ℕ) → 0 < a → f.precision + f.span ≤ bound → bound ≤ u → d ≡ 0
+    → IsFarAbove f (a * 2 ^ u) (2 ^ d)
 far_up f a bound u d h l k z = record {
   some = pow_pos d;
   from =
@@ -72,7 +87,8 @@ far_up f a bound u d h l k z = record {
       rw e (omega (arith, p, q));
 }
 
-far_down : (a k bound u d : ℕ) → 0 < a → a < 2 ^ k → k + 1 ≤ bound → bound ≤ d → u ≡ 0 → IsFarBelow (a * 2 ^ u) (2 ^ d)
+far_down : (a k bound u d : ℕ) → 0 < a → a < 2 ^ k → k + 1 ≤ bound → bound ≤ d → u ≡ 0
+    → IsFarBelow (a * 2 ^ u) (2 ^ d)
 far_down a k bound u d h b l m z = record {
   some = mul-pos h (pow_pos u);
   to =
@@ -99,8 +115,10 @@ down_far (pos k) bound h =
 down_far (negsuc k) bound h = let l : bound ≤ k + 1 = omega (arith, ints) in (omega (arith, l), refl)
 
 -- no answer changes where the clamp changes the amount
-pub clamp_kept : (f : Format) (mode : Round) (negative : Bool) (a k bound : ℕ) (j near : ℤ) (v : Datum) (s : ℕ) → 0 < f.precision → 0 < a → a < 2 ^ k → f.precision + f.span ≤ bound → k + 1 ≤ bound → IsClamped bound j near
-    → IsDelivered f mode negative (a * 2 ^ up near) (2 ^ down near) v s → IsDelivered f mode negative (a * 2 ^ up j) (2 ^ down j) v s
+pub clamp_kept : (f : Format) (mode : Round) (negative : Bool) (a k bound : ℕ) (j near : ℤ) (v : Datum) (s : ℕ)
+    → 0 < f.precision → 0 < a → a < 2 ^ k → f.precision + f.span ≤ bound → k + 1 ≤ bound → IsClamped bound j near
+    → IsDelivered f mode negative (a * 2 ^ up near) (2 ^ down near) v s
+    → IsDelivered f mode negative (a * 2 ^ up j) (2 ^ down j) v s
 clamp_kept f mode negative a k bound j near v s p h b l m c d =
     ⊎_elim
     (λ (e : near ≡ j). subst (λ (x : ℤ). IsDelivered f mode negative (a * 2 ^ up x) (2 ^ down x) v s) e d)
@@ -111,12 +129,15 @@ clamp_kept f mode negative a k bound j near v s p h b l m c d =
     let l₀ : pos bound ≤ℤ near = omega (arith, ints, e₀) in
     let u = up_far near bound l₀ in
     let w = up_far j bound e.1 in
-    far_above f mode negative (a * 2 ^ up near) (2 ^ down near) (a * 2 ^ up j) (2 ^ down j) v s p (far_up f a bound (up near) (down near) h l u.0 u.1) (far_up f a bound (up j) (down j) h l w.0 w.1) d)
+    far_above f mode negative (a * 2 ^ up near) (2 ^ down near) (a * 2 ^ up j) (2 ^ down j) v s p
+        (far_up f a bound (up near) (down near) h l u.0 u.1) (far_up f a bound (up j) (down j) h l w.0 w.1) d)
     (λ (e : (near ≡ neg_ℤ (pos bound)) × (j ≤ℤ neg_ℤ (pos bound))).
     let e₀ = e.0 in
     let l₀ : near ≤ℤ neg_ℤ (pos bound) = omega (arith, ints, e₀) in
     let u = down_far near bound l₀ in
     let w = down_far j bound e.1 in
-    far_below f mode negative (a * 2 ^ up near) (2 ^ down near) (a * 2 ^ up j) (2 ^ down j) v s p (far_down a k bound (up near) (down near) h b m u.0 u.1) (far_down a k bound (up j) (down j) h b m w.0 w.1) d)
+    far_below f mode negative (a * 2 ^ up near) (2 ^ down near) (a * 2 ^ up j) (2 ^ down j) v s p
+        (far_down a k bound (up near) (down near) h b m u.0 u.1) (far_down a k bound (up j) (down j) h b m w.0 w.1)
+            d)
     r)
     c.is

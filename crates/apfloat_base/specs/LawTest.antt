@@ -12,7 +12,8 @@ use Rattle.apfloat_base.specs.Lawful.{Constants, HasNoBits, HasBits, MayBeExplic
 
 abbrev pub no_bits_test : Constants → Bool
 no_bits_test c =
-    eqb c.bits 0 && (eqb c.exp_bits 0 && (int_eq c.ieee_min_exp (pos 0) && (int_eq c.ieee_max_exp (pos 0) && not c.explicit_integer_bit)))
+    eqb c.bits 0 && (eqb c.exp_bits 0 &&
+        (int_eq c.ieee_min_exp (pos 0) && (int_eq c.ieee_max_exp (pos 0) && not c.explicit_integer_bit)))
 
 abbrev pub bits_test : Constants → Bool
 bits_test c =
@@ -79,7 +80,8 @@ bits_from_test c e =
       max_exp = (signed_Decides _ _).0 g.1;
     }
 
-explicit_from_test : (kind : NonfiniteBehavior) (explicit : Bool) → may_be_explicit kind explicit ≡ true → MayBeExplicit kind explicit
+explicit_from_test : (kind : NonfiniteBehavior) (explicit : Bool) → may_be_explicit kind explicit ≡ true
+    → MayBeExplicit kind explicit
 explicit_from_test IEEE754 explicit e = tt
 explicit_from_test NanOnly explicit e = not-true explicit e
 explicit_from_test NanNegativeZero explicit e = not-true explicit e

@@ -23,7 +23,8 @@ pub record Constants : Type 0 where
 
 -- in the order of a type of formats
 abbrev pub constants_with : ℕ → ℕ → ℕ → NonfiniteBehavior → ℤ → ℤ → ℤ → ℤ → ℕ → ℕ → ℕ → Bool → Bool → Constants
-constants_with bits exp_bits precision nonfinite max_exp ieee_max_exp min_exp ieee_min_exp base mask quiet explicit tiny =
+constants_with bits exp_bits precision nonfinite max_exp ieee_max_exp min_exp ieee_min_exp base mask quiet explicit
+    tiny =
     record {
       bits = bits;
       exp_bits = exp_bits;

@@ -32,7 +32,8 @@ by_rank (finite b m) (infinite c) = refl
 by_rank (infinite b) (finite c n) = refl
 by_rank (infinite b) (infinite c) = refl
 
-turned : (m n : Bool) (r s : Ordering) → r ≡ ordering_reverse s → unless m n r ≡ option_map ordering_reverse (unless n m s)
+turned : (m n : Bool) (r s : Ordering) → r ≡ ordering_reverse s
+    → unless m n r ≡ option_map ordering_reverse (unless n m s)
 turned true true r s e = refl
 turned true false r s e = refl
 turned false true r s e = refl
@@ -48,14 +49,17 @@ decides true n r = (λ e. cc, λ e. cc)
 decides false true r = (λ e. cc, λ e. cc)
 decides false false r = (λ e. ap Some ((Equal-is r).0 e), λ e. (Equal-is r).1 (cc))
 
-equal : (m n : Bool) (r : Ordering) → is_some_and is_eq (unless m n r) ≡ true → (m ≡ false) × (n ≡ false) × (r ≡ Equal)
+equal : (m n : Bool) (r : Ordering) → is_some_and is_eq (unless m n r) ≡ true
+    → (m ≡ false) × (n ≡ false) × (r ≡ Equal)
 equal true n r e = cc
 equal false true r e = cc
 equal false false r e = (refl, refl, (Equal-is r).0 e)
 
 pub compared_laws : IsPartialOrder is_equal compared
 compared_laws = record {
-  antisymm = λ x y. rw (by_rank x y, by_rank y x) (turned (is_nan x) (is_nan y) (rank x y) (rank y x) (rank_total.antisymm x y));
+  antisymm =
+      λ x y. rw (by_rank x y, by_rank y x)
+          (turned (is_nan x) (is_nan y) (rank x y) (rank y x) (rank_total.antisymm x y));
   trans = λ x y z p q.
       let a = less (is_nan x) (is_nan y) (rank x y) (rw (by_rank x y) at p) in
       let b = less (is_nan y) (is_nan z) (rank y z) (rw (by_rank y z) at q) in
@@ -66,7 +70,8 @@ compared_laws = record {
       rw (by_rank x z, by_rank y z, a.0, a.1, rank_total.congr x y z a.2) refl;
 }
 
-symmetric : (m n : Bool) (r s : Ordering) → r ≡ ordering_reverse s → is_some_and is_eq (unless m n r) ≡ is_some_and is_eq (unless n m s)
+symmetric : (m n : Bool) (r s : Ordering) → r ≡ ordering_reverse s
+    → is_some_and is_eq (unless m n r) ≡ is_some_and is_eq (unless n m s)
 symmetric true true r s e = refl
 symmetric true false r s e = refl
 symmetric false true r s e = refl
@@ -76,7 +81,8 @@ symmetric false false r Greater e = ap is_eq e
 
 pub equal_laws : IsPartialEquivalence is_equal
 equal_laws = record {
-  symm = λ x y. rw (by_rank x y, by_rank y x) (symmetric (is_nan x) (is_nan y) (rank x y) (rank y x) (rank_total.antisymm x y));
+  symm = λ x y. rw (by_rank x y, by_rank y x)
+      (symmetric (is_nan x) (is_nan y) (rank x y) (rank y x) (rank_total.antisymm x y));
   trans = λ x y z p q.
       let a = equal (is_nan x) (is_nan y) (rank x y) (rw (by_rank x y) at p) in
       let b = equal (is_nan y) (is_nan z) (rank y z) (rw (by_rank y z) at q) in

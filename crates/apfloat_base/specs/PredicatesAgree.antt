@@ -73,7 +73,8 @@ at_least n m h =
     (λ (l : m ≤ n). rw (lt-ltb 0 n (omega (arith, h, l)), le-ltb n m l, le-leb m n l) refl)
     (cases_lt n m)
 
-pub normal_agrees : (f : Format) (x : Datum) → (is_number_category (category_of x) && not (is_denormal f x)) ≡ is_normal f x
+pub normal_agrees : (f : Format) (x : Datum)
+    → (is_number_category (category_of x) && not (is_denormal f x)) ≡ is_normal f x
 normal_agrees f (finite b n) = rw (number_or_not n) (at_least n (smallest_normalized f) (pow_pos (f.precision - 1)))
 normal_agrees f (infinite b) = refl
 normal_agrees f (nan b s) = refl
@@ -92,7 +93,8 @@ same_sign_is true false e = cc
 same_sign_is false true e = cc
 same_sign_is false false e = refl
 
-one_zero : (x y : Datum) → is_zero x ≡ true → is_zero y ≡ true → same_sign (is_negative x) (is_negative y) ≡ true → x ≡ y
+one_zero : (x y : Datum) → is_zero x ≡ true → is_zero y ≡ true → same_sign (is_negative x) (is_negative y) ≡ true
+    → x ≡ y
 one_zero (finite a m) (finite b n) e f s = rw (same_sign_is a b s, eqb-true m 0 e, eqb-true n 0 f) refl
 one_zero (finite a m) (infinite b) e f s = cc
 one_zero (finite a m) (nan b t) e f s = cc
@@ -103,23 +105,27 @@ either : (b : Bool) (x y : Datum) → x ≡ y → (if b then x else y) ≡ x
 either true x y e = refl
 either false x y e = sym e
 
-chosen : (z w s : Bool) (p r : Datum) → (z ≡ true → w ≡ true → s ≡ true → p ≡ r) → (if z && (w && not s) then p else r) ≡ (if z && w then p else r)
+chosen : (z w s : Bool) (p r : Datum) → (z ≡ true → w ≡ true → s ≡ true → p ≡ r)
+    → (if z && (w && not s) then p else r) ≡ (if z && w then p else r)
 chosen false w s p r h = refl
 chosen true false s p r h = refl
 chosen true true false p r h = refl
 chosen true true true p r h = sym (h refl refl refl)
 
-lesser_zero : (x y : Datum) (below : Bool) → is_zero x ≡ true → is_zero y ≡ true → same_sign (is_negative x) (is_negative y) ≡ true → (if is_negative x then x else y) ≡ (if below then y else x)
+lesser_zero : (x y : Datum) (below : Bool) → is_zero x ≡ true → is_zero y ≡ true
+    → same_sign (is_negative x) (is_negative y) ≡ true → (if is_negative x then x else y) ≡ (if below then y else x)
 lesser_zero x y below e f s =
     let q = one_zero x y e f s in
     either (is_negative x) x y q ∙ q ∙ sym (either below y x (sym q))
 
-greater_zero : (x y : Datum) (below : Bool) → is_zero x ≡ true → is_zero y ≡ true → same_sign (is_negative x) (is_negative y) ≡ true → (if is_negative x then y else x) ≡ (if below then y else x)
+greater_zero : (x y : Datum) (below : Bool) → is_zero x ≡ true → is_zero y ≡ true
+    → same_sign (is_negative x) (is_negative y) ≡ true → (if is_negative x then y else x) ≡ (if below then y else x)
 greater_zero x y below e f s =
     let q = one_zero x y e f s in
     either (is_negative x) y x (sym q) ∙ sym (either below y x (sym q))
 
-no_nan : (n m : Bool) (x y p q : Datum) → (n ≡ false → m ≡ false → p ≡ q) → (if n then x else (if m then y else p)) ≡ (if n then x else (if m then y else q))
+no_nan : (n m : Bool) (x y p q : Datum) → (n ≡ false → m ≡ false → p ≡ q)
+    → (if n then x else (if m then y else p)) ≡ (if n then x else (if m then y else q))
 no_nan true m x y p q h = refl
 no_nan false true x y p q h = refl
 no_nan false false x y p q h = h refl refl
@@ -127,12 +133,14 @@ no_nan false false x y p q h = h refl refl
 pub minimum_agrees : (x y : Datum) → minimum_by category_of is_negative compared x y ≡ minimum x y
 minimum_agrees x y =
     rw (nan_agrees x, nan_agrees y, zero_agrees x, zero_agrees y) (no_nan (is_nan x) (is_nan y) x y _ _ (λ n m.
-    rw (n, m) (chosen (is_zero x) (is_zero y) (same_sign (is_negative x) (is_negative y)) _ _ (λ e f s. lesser_zero x y (partial_lt compared y x) e f s))))
+    rw (n, m) (chosen (is_zero x) (is_zero y) (same_sign (is_negative x) (is_negative y)) _ _
+        (λ e f s. lesser_zero x y (partial_lt compared y x) e f s))))
 
 pub maximum_agrees : (x y : Datum) → maximum_by category_of is_negative compared x y ≡ maximum x y
 maximum_agrees x y =
     rw (nan_agrees x, nan_agrees y, zero_agrees x, zero_agrees y) (no_nan (is_nan x) (is_nan y) x y _ _ (λ n m.
-    rw (n, m) (chosen (is_zero x) (is_zero y) (same_sign (is_negative x) (is_negative y)) _ _ (λ e f s. greater_zero x y (partial_lt compared x y) e f s))))
+    rw (n, m) (chosen (is_zero x) (is_zero y) (same_sign (is_negative x) (is_negative y)) _ _
+        (λ e f s. greater_zero x y (partial_lt compared x y) e f s))))
 
 -- a named magnitude that is not zero, with the sign of the value
 
@@ -140,29 +148,42 @@ pub same_sign_self : (b : Bool) → same_sign b b ≡ true
 same_sign_self true = refl
 same_sign_self false = refl
 
-turned_number : (kind : NonfiniteBehavior) (b : Bool) (m : ℕ) → 0 < m → signed_like is_negative (negated kind) (finite false m) (finite b m) ≡ finite b m
+turned_number : (kind : NonfiniteBehavior) (b : Bool) (m : ℕ) → 0 < m
+    → signed_like is_negative (negated kind) (finite false m) (finite b m) ≡ finite b m
 turned_number kind true m h = rw (ne_eqb m 0 (λ z. omega (arith, z, h))) refl
 turned_number kind false m h = refl
 
-sign_alone : (kind : NonfiniteBehavior) (m : ℕ) (x y : Datum) → is_negative x ≡ is_negative y → signed_like is_negative (negated kind) (finite false m) x ≡ signed_like is_negative (negated kind) (finite false m) y
+sign_alone : (kind : NonfiniteBehavior) (m : ℕ) (x y : Datum) → is_negative x ≡ is_negative y
+    → signed_like is_negative (negated kind) (finite false m) x
+    ≡ signed_like is_negative (negated kind) (finite false m) y
 sign_alone kind m x y e = rw e refl
 
-pub magnitude_agrees : (kind : NonfiniteBehavior) (m : ℕ) (x : Datum) → 0 < m → same_datum x (signed_like is_negative (negated kind) (finite false m) x) ≡ (is_finite x && eqb (quanta_of x) m)
-magnitude_agrees kind m (finite b n) h = rw (sign_alone kind m (finite b n) (finite b m) refl, turned_number kind b m h, same_sign_self b) refl
-magnitude_agrees kind m (infinite b) h = rw (sign_alone kind m (infinite b) (finite b m) refl, turned_number kind b m h) refl
-magnitude_agrees kind m (nan b s) h = rw (sign_alone kind m (nan b s) (finite b m) refl, turned_number kind b m h) refl
+pub magnitude_agrees : (kind : NonfiniteBehavior) (m : ℕ) (x : Datum) → 0 < m
+    → same_datum x (signed_like is_negative (negated kind) (finite false m) x)
+    ≡ (is_finite x && eqb (quanta_of x) m)
+magnitude_agrees kind m (finite b n) h =
+    rw (sign_alone kind m (finite b n) (finite b m) refl, turned_number kind b m h, same_sign_self b) refl
+magnitude_agrees kind m (infinite b) h =
+    rw (sign_alone kind m (infinite b) (finite b m) refl, turned_number kind b m h) refl
+magnitude_agrees kind m (nan b s) h =
+    rw (sign_alone kind m (nan b s) (finite b m) refl, turned_number kind b m h) refl
 
-pub smallest_agrees : (f : Format) (x : Datum) → same_datum x (signed_like is_negative (negated f.nonfinite) smallest_datum x) ≡ is_smallest x
+pub smallest_agrees : (f : Format) (x : Datum)
+    → same_datum x (signed_like is_negative (negated f.nonfinite) smallest_datum x) ≡ is_smallest x
 smallest_agrees f x = magnitude_agrees f.nonfinite 1 x (omega arith)
 
-pub smallest_normalized_agrees : (f : Format) (x : Datum) → same_datum x (signed_like is_negative (negated f.nonfinite) (smallest_normalized_datum f) x) ≡ is_smallest_normalized f x
+pub smallest_normalized_agrees : (f : Format) (x : Datum)
+    → same_datum x (signed_like is_negative (negated f.nonfinite) (smallest_normalized_datum f) x)
+    ≡ is_smallest_normalized f x
 smallest_normalized_agrees f x = magnitude_agrees f.nonfinite (smallest_normalized f) x (pow_pos (f.precision - 1))
 
-pub largest_agrees : (f : Format) (x : Datum) → 0 < largest f → same_datum x (signed_like is_negative (negated f.nonfinite) (largest_datum f) x) ≡ is_largest f x
+pub largest_agrees : (f : Format) (x : Datum) → 0 < largest f
+    → same_datum x (signed_like is_negative (negated f.nonfinite) (largest_datum f) x) ≡ is_largest f x
 largest_agrees f x h = magnitude_agrees f.nonfinite (largest f) x h
 
 pub abs_agrees : (f : Format) (x : Datum) → (if is_negative x then negated f.nonfinite x else x) ≡ abs f x
 abs_agrees f x = refl
 
-pub copy_sign_agrees : (f : Format) (x y : Datum) → signed_like is_negative (negated f.nonfinite) x y ≡ copy_sign f x y
+pub copy_sign_agrees : (f : Format) (x y : Datum)
+    → signed_like is_negative (negated f.nonfinite) x y ≡ copy_sign f x y
 copy_sign_agrees f x y = refl

@@ -8,6 +8,8 @@ use Rattle.apfloat_base.specs.declared.sig.loss.Loss.TheVariants.{ExactlyZero, L
 -- `amount` is `significand` units and a rest below one unit: zero, below, at or above half of a unit, as the loss says
 abbrev pub StandsFor : ℕ → Loss → ℕ → ℕ → Type 0
 StandsFor significand ExactlyZero amount unit = amount ≡ significand * unit
-StandsFor significand LessThanHalf amount unit = (significand * unit < amount) × (2 * amount < (2 * significand + 1) * unit)
+StandsFor significand LessThanHalf amount unit =
+    (significand * unit < amount) × (2 * amount < (2 * significand + 1) * unit)
 StandsFor significand ExactlyHalf amount unit = 2 * amount ≡ (2 * significand + 1) * unit
-StandsFor significand MoreThanHalf amount unit = ((2 * significand + 1) * unit < 2 * amount) × (amount < (significand + 1) * unit)
+StandsFor significand MoreThanHalf amount unit =
+    ((2 * significand + 1) * unit < 2 * amount) × (amount < (significand + 1) * unit)

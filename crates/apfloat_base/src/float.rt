@@ -269,7 +269,8 @@ pub trait Float: Copy
 
     /// The value with the sign of `rhs` (IEEE 754-2008 5.5.1, copySign), also of and for NaNs; none is signaled.
     fn copy_sign(self, rhs: Self) -> Self
-        ensures { result ≡ (if not (same_sign (sign_of self) (sign_of rhs)) then negated self else self) }
+        ensures { result
+            ≡ (if not (same_sign (sign_of self) (sign_of rhs)) then negated self else self) }
     {
         if self.is_negative() != rhs.is_negative() {
             -self
@@ -613,40 +614,6 @@ pub trait Float: Copy
         self.frexp_r(exp, Round::NearestTiesToEven)
     }
 
-    ghost can_mul_law: { IsTrue MULTIPLIES → (x y : Self) → Self.can_mul x y };
-
-    ghost mul_law: { (x y : Self) (r : StatusAnd Self) → Self.mul_gives x y r → multiplies x y NearestTiesToEven r };
-
-    ghost can_mul_assign_law: { IsTrue MULTIPLIES → (x y : Self) → Self.can_mul_assign x y };
-
-    ghost mul_assign_law: { (x y z : Self) → Self.mul_assign_gives x y z → (r : StatusAnd Self) × multiplies x y NearestTiesToEven r × (z ≡ r.value) };
-
-    ghost can_div_law: { (x y : Self) → Self.can_div x y };
-
-    ghost div_law: { (x y : Self) (r : StatusAnd Self) → Self.div_gives x y r → divides x y NearestTiesToEven r };
-
-    ghost can_div_assign_law: { (x y : Self) → Self.can_div_assign x y };
-
-    ghost div_assign_law: { (x y z : Self) → Self.div_assign_gives x y z → (r : StatusAnd Self) × divides x y NearestTiesToEven r × (z ≡ r.value) };
-
-    ghost can_rem_law: { (x y : Self) → Self.can_rem x y };
-
-    ghost rem_law: { (x y : Self) (r : StatusAnd Self) → Self.rem_gives x y r → leaves x y r };
-
-    ghost can_rem_assign_law: { (x y : Self) → Self.can_rem_assign x y };
-
-    ghost rem_assign_law: { (x y z : Self) → Self.rem_assign_gives x y z → (r : StatusAnd Self) × leaves x y r × (z ≡ r.value) };
-
-    ghost read_law: { (text : List ℕ) (r : Result Self ParseError) → Self.from_str_gives text r → (answer : Result (StatusAnd Self) ParseError) × reads text NearestTiesToEven answer × (r ≡ without_status answer) };
-
-    ghost steps_down_law: { (x : Self) (r : StatusAnd Self) → steps_up (negated x) r → steps_down x (record { status = r.status; value = negated r.value }) };
-
-    ghost to_signed_above_law: { (x : Self) (width : ℕ) (mode : Round) (number : StatusAnd ℕ) (exact : Bool) → sign_of x ≡ false → converts_to_unsigned x (width - 1) mode number exact → converts_to_signed x width mode (record { status = number.status; value = pos number.value }) exact };
-
-    ghost to_signed_below_law: { (x : Self) (width : ℕ) (mode : Round) (number : StatusAnd ℕ) (exact : Bool) (answer : StatusAnd ℤ) (is_exact : Bool) → sign_of x ≡ true → 2 ≤ width → converts_to_unsigned (negated x) width (swapped mode) number exact → IsNegatedWhole (is_zero_category (category_of x)) width number.value (bits_of number.status) exact answer.value (bits_of answer.status) is_exact → converts_to_signed x width mode answer is_exact };
-
-    ghost default_law: { (x : Self) → Self.is_default x → x ≡ the_zero };
-
     // The operators are the calls, rounded to the nearest value, a tie to the even one.
 
     ghost can_neg_law: { (x : Self) → Self.can_neg x };
@@ -655,25 +622,93 @@ pub trait Float: Copy
 
     ghost can_add_law: { (x y : Self) → Self.can_add x y };
 
-    ghost add_law: { (x y : Self) (r : StatusAnd Self) → Self.add_gives x y r → adds x y NearestTiesToEven r };
-
-    ghost can_add_assign_law: { (x y : Self) → Self.can_add_assign x y };
-
-    ghost add_assign_law: { (x y z : Self) → Self.add_assign_gives x y z → (r : StatusAnd Self) × adds x y NearestTiesToEven r × (z ≡ r.value) };
+    ghost add_law: { (x y : Self) (r : StatusAnd Self) → Self.add_gives x y r
+        → adds x y NearestTiesToEven r };
 
     ghost can_sub_law: { (x y : Self) → Self.can_sub x y };
 
-    ghost sub_law: { (x y : Self) (r : StatusAnd Self) → Self.sub_gives x y r → subtracts x y NearestTiesToEven r };
+    ghost sub_law: { (x y : Self) (r : StatusAnd Self) → Self.sub_gives x y r
+        → subtracts x y NearestTiesToEven r };
+
+    ghost can_mul_law: { IsTrue MULTIPLIES → (x y : Self) → Self.can_mul x y };
+
+    ghost mul_law: { (x y : Self) (r : StatusAnd Self) → Self.mul_gives x y r
+        → multiplies x y NearestTiesToEven r };
+
+    ghost can_div_law: { (x y : Self) → Self.can_div x y };
+
+    ghost div_law: { (x y : Self) (r : StatusAnd Self) → Self.div_gives x y r
+        → divides x y NearestTiesToEven r };
+
+    ghost can_rem_law: { (x y : Self) → Self.can_rem x y };
+
+    ghost rem_law: { (x y : Self) (r : StatusAnd Self) → Self.rem_gives x y r → leaves x y r };
+
+    // The assigning operators leave the value of such an answer, and drop its status.
+
+    ghost can_add_assign_law: { (x y : Self) → Self.can_add_assign x y };
+
+    ghost add_assign_law: { (x y z : Self) → Self.add_assign_gives x y z
+        → (r : StatusAnd Self) × adds x y NearestTiesToEven r × (z ≡ r.value) };
 
     ghost can_sub_assign_law: { (x y : Self) → Self.can_sub_assign x y };
 
-    ghost sub_assign_law: { (x y z : Self) → Self.sub_assign_gives x y z → (r : StatusAnd Self) × subtracts x y NearestTiesToEven r × (z ≡ r.value) };
+    ghost sub_assign_law: { (x y z : Self) → Self.sub_assign_gives x y z
+        → (r : StatusAnd Self) × subtracts x y NearestTiesToEven r × (z ≡ r.value) };
+
+    ghost can_mul_assign_law: { IsTrue MULTIPLIES → (x y : Self) → Self.can_mul_assign x y };
+
+    ghost mul_assign_law: { (x y z : Self) → Self.mul_assign_gives x y z
+        → (r : StatusAnd Self) × multiplies x y NearestTiesToEven r × (z ≡ r.value) };
+
+    ghost can_div_assign_law: { (x y : Self) → Self.can_div_assign x y };
+
+    ghost div_assign_law: { (x y z : Self) → Self.div_assign_gives x y z
+        → (r : StatusAnd Self) × divides x y NearestTiesToEven r × (z ≡ r.value) };
+
+    ghost can_rem_assign_law: { (x y : Self) → Self.can_rem_assign x y };
+
+    ghost rem_assign_law: { (x y z : Self) → Self.rem_assign_gives x y z
+        → (r : StatusAnd Self) × leaves x y r × (z ≡ r.value) };
+
+    // The default is +0.
+
+    ghost default_law: { (x : Self) → Self.is_default x → x ≡ the_zero };
+
+    // The step down is the step up of the negated value.
+
+    ghost steps_down_law: { (x : Self) (r : StatusAnd Self) → steps_up (negated x) r
+        → steps_down x (record { status = r.status; value = negated r.value }) };
 
     // A signed whole number is its magnitude, rounded under the negated mode where it is below zero.
 
-    ghost signed_above_law: { (n : ℕ) (mode : Round) (r : StatusAnd Self) → converts_unsigned n mode r → converts_signed (pos n) mode r };
+    ghost signed_above_law: { (n : ℕ) (mode : Round) (r : StatusAnd Self)
+        → converts_unsigned n mode r → converts_signed (pos n) mode r };
 
-    ghost signed_below_law: { (n : ℕ) (mode : Round) (r : StatusAnd Self) → 0 < n → converts_unsigned n (swapped mode) r → converts_signed (neg_ℤ (pos n)) mode (record { status = r.status; value = negated r.value }) };
+    ghost signed_below_law: { (n : ℕ) (mode : Round) (r : StatusAnd Self) → 0 < n
+        → converts_unsigned n (swapped mode) r
+        → converts_signed (neg_ℤ (pos n)) mode
+        (record { status = r.status; value = negated r.value }) };
+
+    // Reading by `FromStr` is reading to the nearest value, without the status.
+
+    ghost read_law: { (text : List ℕ) (r : Result Self ParseError) → Self.from_str_gives text r
+        → (answer : Result (StatusAnd Self) ParseError) × reads text NearestTiesToEven answer
+        × (r ≡ without_status answer) };
+
+    // The signed whole number of a value is the unsigned one of its magnitude.
+
+    ghost to_signed_above_law: { (x : Self) (width : ℕ) (mode : Round) (number : StatusAnd ℕ)
+        (exact : Bool) → sign_of x ≡ false → converts_to_unsigned x (width - 1) mode number exact
+        → converts_to_signed x width mode
+        (record { status = number.status; value = pos number.value }) exact };
+
+    ghost to_signed_below_law: { (x : Self) (width : ℕ) (mode : Round) (number : StatusAnd ℕ)
+        (exact : Bool) (answer : StatusAnd ℤ) (is_exact : Bool) → sign_of x ≡ true → 2 ≤ width
+        → converts_to_unsigned (negated x) width (swapped mode) number exact
+        → IsNegatedWhole (is_zero_category (category_of x)) width number.value
+        (bits_of number.status) exact answer.value (bits_of answer.status) is_exact
+        → converts_to_signed x width mode answer is_exact };
 
     // Each relation determines its answer, so that an operator and its call have one answer. The facts are given for a
     // mode: proofs that do not cite them are then not searched with all of them.
@@ -718,7 +753,8 @@ fn negated_whole(
 ) -> StatusAnd<i128>
     requires low { 2 ≤ width }
     requires high { width ≤ 128 }
-    ensures { IsNegatedWhole is_zero width magnitude.value (bits_of magnitude.status) is_exact.old result.value (bits_of result.status) is_exact.new }
+    ensures { IsNegatedWhole is_zero width magnitude.value (bits_of magnitude.status) is_exact.old
+        result.value (bits_of result.status) is_exact.new }
 {
     if is_zero {
         *is_exact = false;

@@ -32,7 +32,8 @@ impl Flags for Status {
 
     ghost exact = { ⊤ };
 
-    ghost table = { (codes "OK", 0x00) ∷ (codes "INVALID_OP", 0x01) ∷ (codes "DIV_BY_ZERO", 0x02) ∷ (codes "OVERFLOW", 0x04) ∷ (codes "UNDERFLOW", 0x08) ∷ (codes "INEXACT", 0x10) ∷ [] };
+    ghost table = { (codes "OK", 0x00) ∷ (codes "INVALID_OP", 0x01) ∷ (codes "DIV_BY_ZERO", 0x02)
+        ∷ (codes "OVERFLOW", 0x04) ∷ (codes "UNDERFLOW", 0x08) ∷ (codes "INEXACT", 0x10) ∷ [] };
 
     ghost set_of = { bits_of };
 

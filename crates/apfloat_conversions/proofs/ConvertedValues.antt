@@ -21,30 +21,39 @@ use Rattle.apfloat_unpacked.specs.Stored.{IsStoredBy, datum_by, quanta_at}
 use Rattle.apfloat_unpacked.specs.StoredBack.{quanta_some}
 
 abbrev Says : Shape → Shape → Round → Category → Unpacked → Datum → ℕ → Bool → Type 0
-Says from into mode k x value status loses_info = IsConversion (format_at from) (format_at into) mode (datum_by k from x) value status loses_info
+Says from into mode k x value status loses_info =
+    IsConversion (format_at from) (format_at into) mode (datum_by k from x) value status loses_info
 
-number_converted : (from into : Shape) (mode : Round) (x : Unpacked) (value : Datum) (status : ℕ) (loses_info : Bool) → IsStoredBy Normal from x
-    → IsConvertedNumber (format_at from) (format_at into) mode x.negative (quanta_at from.min_exp x.significand x.exponent) value status loses_info
+number_converted : (from into : Shape) (mode : Round) (x : Unpacked) (value : Datum) (status : ℕ)
+    (loses_info : Bool) → IsStoredBy Normal from x
+    → IsConvertedNumber (format_at from) (format_at into) mode x.negative
+    (quanta_at from.min_exp x.significand x.exponent) value status loses_info
     → Says from into mode Normal x value status loses_info
 number_converted from into mode x value status loses_info t h =
     let p = quanta_some from x.significand x.exponent t in
     rw (ne_eqb (quanta_at from.min_exp x.significand x.exponent) 0 (λ z. omega (arith, z, p))) h
 
-pub of_number : (from into : Shape) (mode : Round) (k : Category) (x : Unpacked) (value : Datum) (status : ℕ) (loses_info : Bool) → k ≡ Normal → IsStoredBy k from x
-    → IsConvertedNumber (format_at from) (format_at into) mode x.negative (quanta_at from.min_exp x.significand x.exponent) value status loses_info
+pub of_number : (from into : Shape) (mode : Round) (k : Category) (x : Unpacked) (value : Datum) (status : ℕ)
+    (loses_info : Bool) → k ≡ Normal → IsStoredBy k from x
+    → IsConvertedNumber (format_at from) (format_at into) mode x.negative
+    (quanta_at from.min_exp x.significand x.exponent) value status loses_info
     → Says from into mode k x value status loses_info
 of_number from into mode k x value status loses_info e t h =
     subst (λ (o : Category). IsStoredBy o from x → Says from into mode o x value status loses_info) (sym e)
     (λ t. number_converted from into mode x value status loses_info t h) t
 
-pub of_zero : (from into : Shape) (mode : Round) (k : Category) (x : Unpacked) (value : Datum) (status : ℕ) (loses_info : Bool) → k ≡ Zero
-    → IsKept (finite (zero_sign into.nonfinite x.negative) 0) (loses_zero_sign (format_at into) x.negative) value status loses_info
+pub of_zero : (from into : Shape) (mode : Round) (k : Category) (x : Unpacked) (value : Datum) (status : ℕ)
+    (loses_info : Bool) → k ≡ Zero
+    → IsKept (finite (zero_sign into.nonfinite x.negative) 0) (loses_zero_sign (format_at into) x.negative) value
+    status loses_info
     → Says from into mode k x value status loses_info
-of_zero from into mode k x value status loses_info e h = subst (λ (o : Category). Says from into mode o x value status loses_info) (sym e) h
+of_zero from into mode k x value status loses_info e h =
+    subst (λ (o : Category). Says from into mode o x value status loses_info) (sym e) h
 
 -- ---- NaNs
 
-pub nan_fits : (kind : NonfiniteBehavior) (explicit : Bool) (precision s : ℕ) → 3 ≤ precision → IsNanSignificand kind explicit precision s → s < 2 ^ precision
+pub nan_fits : (kind : NonfiniteBehavior) (explicit : Bool) (precision s : ℕ) → 3 ≤ precision
+    → IsNanSignificand kind explicit precision s → s < 2 ^ precision
 nan_fits IEEE754 false precision s l h =
     let t = twice_half precision (omega arith) in
     let a = h.1 in

@@ -18,7 +18,8 @@ greatest_is width h =
     let p : 0 < 2 ^ (128 - width) = pow_pos (128 - width) in
     let q : 0 < 2 ^ width = pow_pos width in
     let k : 2 ^ width ≡ 2 ^ width - 1 + 1 = omega arith in
-    let m : 2 ^ width * 2 ^ (128 - width) ≡ (2 ^ width - 1 + 1) * 2 ^ (128 - width) = ap (λ (x : ℕ). x * 2 ^ (128 - width)) k in
+    let m : 2 ^ width * 2 ^ (128 - width) ≡ (2 ^ width - 1 + 1) * 2 ^ (128 - width) =
+        ap (λ (x : ℕ). x * 2 ^ (128 - width)) k in
     div-eq_of_lt-le (2 ^ (128 - width)) (omega (arith, s, m, p)) (omega (arith, s, m, p))
 
 pub less_so : (a b : ℤ) → a <ℤ b → int_lt a b ≡ true
@@ -53,29 +54,38 @@ no_zero true false = refl
 no_zero false true = refl
 no_zero false false = refl
 
-pub ranged_in : (width : ℕ) (b : Bool) (mag : ℕ) (exact : Bool) → mag ≤ limit width b → ranged (pos 0) (pos (2 ^ width - 1)) (signed b mag) (exact_or_not (signed b mag) exact (b && false)) ≡ record { number = pos mag; status = inexact_unless exact; is_exact = exact }
+pub ranged_in : (width : ℕ) (b : Bool) (mag : ℕ) (exact : Bool) → mag ≤ limit width b
+    → ranged (pos 0) (pos (2 ^ width - 1)) (signed b mag) (exact_or_not (signed b mag) exact (b && false))
+    ≡ record { number = pos mag; status = inexact_unless exact; is_exact = exact }
 ranged_in width b mag exact h =
     let low : int_lt (pos mag) (pos 0) ≡ false = less_not (pos mag) (pos 0) (omega (arith, ints)) in
-    let high : int_lt (pos (2 ^ width - 1)) (pos mag) ≡ false = less_not (pos (2 ^ width - 1)) (pos mag) (limit_high b width mag h) in
+    let high : int_lt (pos (2 ^ width - 1)) (pos mag) ≡ false =
+        less_not (pos (2 ^ width - 1)) (pos mag) (limit_high b width mag h) in
     rw (signed_in b width mag h, low, high, no_zero b exact) refl
 
-pub in_range : (f : Format) (mode : Round) (width : ℕ) (b : Bool) (n mag st : ℕ) (exact : Bool) → 0 < n → mag ≡ whole_pick mode b n (2 ^ f.scale) → exact ≡ eqb (whole_quanta f mode b n) n → mag ≤ limit width b → st ≡ inexact_unless exact
+pub in_range : (f : Format) (mode : Round) (width : ℕ) (b : Bool) (n mag st : ℕ) (exact : Bool) → 0 < n
+    → mag ≡ whole_pick mode b n (2 ^ f.scale) → exact ≡ eqb (whole_quanta f mode b n) n → mag ≤ limit width b
+    → st ≡ inexact_unless exact
     → IsToUnsigned f mode width (finite b n) mag st exact
 in_range f mode width b n mag st exact p i x h t =
     let z : eqb n 0 ≡ false = ne_eqb n 0 (λ e. omega (arith, e, p)) in
     let r = ranged_in width b mag exact h in
     rw (z, ← x, ← i, r) (record { number_is = refl; status_is = t; is_exact_is = refl })
 
-pub ranged_out : (width : ℕ) (b : Bool) (mag : ℕ) (exact : Bool) → limit width b < mag → ranged (pos 0) (pos (2 ^ width - 1)) (signed b mag) (exact_or_not (signed b mag) exact (b && false)) ≡ record { number = pos (limit width b); status = 1; is_exact = false }
+pub ranged_out : (width : ℕ) (b : Bool) (mag : ℕ) (exact : Bool) → limit width b < mag
+    → ranged (pos 0) (pos (2 ^ width - 1)) (signed b mag) (exact_or_not (signed b mag) exact (b && false))
+    ≡ record { number = pos (limit width b); status = 1; is_exact = false }
 ranged_out width true mag exact h =
     let low : int_lt (neg_ℤ (pos mag)) (pos 0) ≡ true = less_so (neg_ℤ (pos mag)) (pos 0) (omega (arith, ints, h)) in
     rw low refl
 ranged_out width false mag exact h =
     let low : int_lt (pos mag) (pos 0) ≡ false = less_not (pos mag) (pos 0) (omega (arith, ints)) in
-    let high : int_lt (pos (2 ^ width - 1)) (pos mag) ≡ true = less_so (pos (2 ^ width - 1)) (pos mag) (omega (arith, ints, h)) in
+    let high : int_lt (pos (2 ^ width - 1)) (pos mag) ≡ true =
+        less_so (pos (2 ^ width - 1)) (pos mag) (omega (arith, ints, h)) in
     rw (low, high) refl
 
-pub out_of_range : (f : Format) (mode : Round) (width : ℕ) (b : Bool) (n number st : ℕ) (exact : Bool) → 0 < n → limit width b < whole_pick mode b n (2 ^ f.scale) → number ≡ limit width b → st ≡ 1 → exact ≡ false
+pub out_of_range : (f : Format) (mode : Round) (width : ℕ) (b : Bool) (n number st : ℕ) (exact : Bool) → 0 < n
+    → limit width b < whole_pick mode b n (2 ^ f.scale) → number ≡ limit width b → st ≡ 1 → exact ≡ false
     → IsToUnsigned f mode width (finite b n) number st exact
 out_of_range f mode width b n number st exact p h m t x =
     let z : eqb n 0 ≡ false = ne_eqb n 0 (λ e. omega (arith, e, p)) in

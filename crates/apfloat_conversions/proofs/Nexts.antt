@@ -31,7 +31,8 @@ stepped_down s a u d l h =
     let n : 2 ^ u ≤ a = le_of_mul-le-mul_right m (pow_pos d) in
     let a' : a ≡ (a - 2 ^ u) + 2 ^ u = omega arith in
     let s' : s ≡ (s - 2 ^ d) + 2 ^ d = omega arith in
-    let e : ((a - 2 ^ u) + 2 ^ u) * 2 ^ d ≡ ((s - 2 ^ d) + 2 ^ d) * 2 ^ u = ap (λ (x : ℕ). x * 2 ^ d) (sym a') ∙ h ∙ ap (λ (x : ℕ). x * 2 ^ u) s' in
+    let e : ((a - 2 ^ u) + 2 ^ u) * 2 ^ d ≡ ((s - 2 ^ d) + 2 ^ d) * 2 ^ u = ap (λ (x : ℕ). x * 2 ^ d) (sym a') ∙ h ∙
+        ap (λ (x : ℕ). x * 2 ^ u) s' in
     omega (arith, e)
 
 power_split : (p d : ℕ) → d ≤ p → 2 ^ p ≡ 2 ^ (p - d) * 2 ^ d
@@ -61,7 +62,8 @@ step_above p s a u d l (inl z) f h =
 
 -- ---- the neighbours
 
-above_at : (p half m c a : ℕ) → 2 ^ p ≡ 2 * half → m < 2 ^ p → (c ≡ 0) ⊎ (half ≤ m) → a ≡ m * 2 ^ c → IsAbove p (a + 2 ^ c) (a + 1) 1
+above_at : (p half m c a : ℕ) → 2 ^ p ≡ 2 * half → m < 2 ^ p → (c ≡ 0) ⊎ (half ≤ m) → a ≡ m * 2 ^ c
+    → IsAbove p (a + 2 ^ c) (a + 1) 1
 above_at p half m c a e f g h =
     let w : 1 ≤ 2 ^ c = pow_pos c in
     let n : (m + 1) * 2 ^ c ≡ a + 2 ^ c = omega arith in
@@ -74,7 +76,8 @@ above_at p half m c a e f g h =
           omega arith;
     }
 
-pub next_is : (p s a u d : ℕ) → 0 < p → (u ≡ 0) ⊎ (d ≡ 0) → s < 2 ^ p → 2 ^ (p - 1) ≤ s → a * 2 ^ d ≡ s * 2 ^ u → IsAbove p (a + 2 ^ u) (a + 1) 1
+pub next_is : (p s a u d : ℕ) → 0 < p → (u ≡ 0) ⊎ (d ≡ 0) → s < 2 ^ p → 2 ^ (p - 1) ≤ s → a * 2 ^ d ≡ s * 2 ^ u
+    → IsAbove p (a + 2 ^ u) (a + 1) 1
 next_is p s a u d q (inr z) f g h =
     let e : 2 ^ d ≡ 1 = ap (λ (x : ℕ). 2 ^ x) z in
     let h' : a ≡ s * 2 ^ u = sym (ap (λ (x : ℕ). a * x) e ∙ omega arith) ∙ h in
@@ -84,21 +87,26 @@ next_is p s a u d q (inl z) f g h =
     let h' : a * 2 ^ d ≡ s = h ∙ ap (λ (x : ℕ). s * x) e ∙ omega arith in
     let w : 1 ≤ 2 ^ d = pow_pos d in
     let k : a * 1 ≤ a * 2 ^ d = mul-le-mul_left a w in
-    above_at p (2 ^ (p - 1)) a u a (sym (twice_half p q)) (omega arith) (inl z) (let k₂ : a * 2 ^ u ≡ a * 1 = ap (λ (x : ℕ). a * x) e in omega (arith, k₂))
+    above_at p (2 ^ (p - 1)) a u a (sym (twice_half p q)) (omega arith) (inl z)
+        (let k₂ : a * 2 ^ u ≡ a * 1 = ap (λ (x : ℕ). a * x) e in omega (arith, k₂))
 
-below_at : (p half m c a : ℕ) → 2 ^ p ≡ 2 * half → m < 2 ^ p → (c ≡ 0) ⊎ (half ≤ m) → a ≡ (m + 1) * 2 ^ c → IsBelow p (a - 2 ^ c) (a - 1) 1
+below_at : (p half m c a : ℕ) → 2 ^ p ≡ 2 * half → m < 2 ^ p → (c ≡ 0) ⊎ (half ≤ m) → a ≡ (m + 1) * 2 ^ c
+    → IsBelow p (a - 2 ^ c) (a - 1) 1
 below_at p half m c a e f g h =
     let w : 1 ≤ 2 ^ c = pow_pos c in
     let n : m * 2 ^ c ≡ a - 2 ^ c = omega arith in
-    let i : IsEnclosed p half m c (a - 1) 1 = record { double = e; fits = f; full = g; from = omega arith; to = omega arith } in
+    let i : IsEnclosed p half m c (a - 1) 1 =
+        record { double = e; fits = f; full = g; from = omega arith; to = omega arith } in
     subst (λ (x : ℕ). IsBelow p x (a - 1) 1) n (below_is p half m c (a - 1) 1 i)
 
-pub less_is : (p s a u d : ℕ) → 0 < p → (u ≡ 0) ⊎ (d ≡ 0) → s ≤ 2 ^ p → 2 ^ (p - 1) < s → a * 2 ^ d ≡ s * 2 ^ u → IsBelow p (a - 2 ^ u) (a - 1) 1
+pub less_is : (p s a u d : ℕ) → 0 < p → (u ≡ 0) ⊎ (d ≡ 0) → s ≤ 2 ^ p → 2 ^ (p - 1) < s → a * 2 ^ d ≡ s * 2 ^ u
+    → IsBelow p (a - 2 ^ u) (a - 1) 1
 less_is p s a u d q (inr z) f g h =
     let e : 2 ^ d ≡ 1 = ap (λ (x : ℕ). 2 ^ x) z in
     let h' : a ≡ s * 2 ^ u = sym (ap (λ (x : ℕ). a * x) e ∙ omega arith) ∙ h in
     let t : s ≡ s - 1 + 1 = omega arith in
-    below_at p (2 ^ (p - 1)) (s - 1) u a (sym (twice_half p q)) (omega arith) (inr (omega arith)) (h' ∙ ap (λ (x : ℕ). x * 2 ^ u) t)
+    below_at p (2 ^ (p - 1)) (s - 1) u a (sym (twice_half p q)) (omega arith) (inr (omega arith))
+        (h' ∙ ap (λ (x : ℕ). x * 2 ^ u) t)
 less_is p s a u d q (inl z) f g h =
     let e : 2 ^ u ≡ 1 = ap (λ (x : ℕ). 2 ^ x) z in
     let h' : a * 2 ^ d ≡ s = h ∙ ap (λ (x : ℕ). s * x) e ∙ omega arith in
@@ -107,25 +115,33 @@ less_is p s a u d q (inl z) f g h =
     let y : 0 * 2 ^ d < a * 2 ^ d = omega (arith, h') in
     let y' : 0 < a = lt_of_mul-lt-mul_right (2 ^ d) y in
     let t : a ≡ a - 1 + 1 = omega arith in
-    below_at p (2 ^ (p - 1)) (a - 1) u a (sym (twice_half p q)) (omega arith) (inl z) (let k₂ : (a - 1 + 1) * 2 ^ u ≡ (a - 1 + 1) * 1 = ap (λ (x : ℕ). (a - 1 + 1) * x) e in omega (arith, k₂, t))
+    below_at p (2 ^ (p - 1)) (a - 1) u a (sym (twice_half p q)) (omega arith) (inl z)
+        (let k₂ : (a - 1 + 1) * 2 ^ u ≡ (a - 1 + 1) * 1 = ap (λ (x : ℕ). (a - 1 + 1) * x) e in omega (arith, k₂, t))
 
 -- ---- the same number by half or twice the significand
 
-pub quanta_halved : (min_exp x : ℤ) (s h n : ℕ) → s ≡ 2 * h → IsQuantaAt min_exp s x n → IsQuantaAt min_exp h (x +ℤ pos 1) n
+pub quanta_halved : (min_exp x : ℤ) (s h n : ℕ) → s ≡ 2 * h → IsQuantaAt min_exp s x n
+    → IsQuantaAt min_exp h (x +ℤ pos 1) n
 quanta_halved min_exp x s h n e q =
-    let g = scaled_stands s n (down (x -ℤ min_exp)) (up (x -ℤ min_exp)) 1 0 (up ((x +ℤ pos 1) -ℤ min_exp)) (down ((x +ℤ pos 1) -ℤ min_exp)) q (omega (arith, ints)) in
-    let k : s * (2 ^ 0 * 2 ^ up ((x +ℤ pos 1) -ℤ min_exp)) ≡ 2 * h * (2 ^ 0 * 2 ^ up ((x +ℤ pos 1) -ℤ min_exp)) = ap (λ (z : ℕ). z * (2 ^ 0 * 2 ^ up ((x +ℤ pos 1) -ℤ min_exp))) e in
+    let g = scaled_stands s n (down (x -ℤ min_exp)) (up (x -ℤ min_exp)) 1 0 (up ((x +ℤ pos 1) -ℤ min_exp))
+        (down ((x +ℤ pos 1) -ℤ min_exp)) q (omega (arith, ints)) in
+    let k : s * (2 ^ 0 * 2 ^ up ((x +ℤ pos 1) -ℤ min_exp)) ≡ 2 * h * (2 ^ 0 * 2 ^ up ((x +ℤ pos 1) -ℤ min_exp)) =
+        ap (λ (z : ℕ). z * (2 ^ 0 * 2 ^ up ((x +ℤ pos 1) -ℤ min_exp))) e in
     omega (arith, g, k)
 
-pub quanta_doubled : (min_exp x : ℤ) (s h n : ℕ) → s ≡ 2 * h → IsQuantaAt min_exp h x n → IsQuantaAt min_exp s (x -ℤ pos 1) n
+pub quanta_doubled : (min_exp x : ℤ) (s h n : ℕ) → s ≡ 2 * h → IsQuantaAt min_exp h x n
+    → IsQuantaAt min_exp s (x -ℤ pos 1) n
 quanta_doubled min_exp x s h n e q =
-    let g = scaled_stands h n (down (x -ℤ min_exp)) (up (x -ℤ min_exp)) 0 1 (up ((x -ℤ pos 1) -ℤ min_exp)) (down ((x -ℤ pos 1) -ℤ min_exp)) q (omega (arith, ints)) in
-    let k : s * 2 ^ up ((x -ℤ pos 1) -ℤ min_exp) ≡ 2 * h * 2 ^ up ((x -ℤ pos 1) -ℤ min_exp) = ap (λ (z : ℕ). z * 2 ^ up ((x -ℤ pos 1) -ℤ min_exp)) e in
+    let g = scaled_stands h n (down (x -ℤ min_exp)) (up (x -ℤ min_exp)) 0 1 (up ((x -ℤ pos 1) -ℤ min_exp))
+        (down ((x -ℤ pos 1) -ℤ min_exp)) q (omega (arith, ints)) in
+    let k : s * 2 ^ up ((x -ℤ pos 1) -ℤ min_exp) ≡ 2 * h * 2 ^ up ((x -ℤ pos 1) -ℤ min_exp) =
+        ap (λ (z : ℕ). z * 2 ^ up ((x -ℤ pos 1) -ℤ min_exp)) e in
     omega (arith, g, k)
 
 -- ---- below the largest value there is room
 
-greatest_before : (kind : NonfiniteBehavior) (precision s : ℕ) → 2 ^ precision ≤ s + 1 → greatest_significand kind precision ≤ s
+greatest_before : (kind : NonfiniteBehavior) (precision s : ℕ) → 2 ^ precision ≤ s + 1
+    → greatest_significand kind precision ≤ s
 greatest_before IEEE754 precision s h = omega arith
 greatest_before NanOnly precision s h = omega arith
 greatest_before NanNegativeZero precision s h = omega arith
@@ -134,7 +150,8 @@ pub down_le : (z : ℤ) (n : ℕ) → neg_ℤ (pos n) ≤ℤ z → down z ≤ n
 down_le (pos k) n h = let l : 0 ≤ n = omega arith in l
 down_le (negsuc k) n h = let l : k + 1 ≤ n = omega (arith, ints) in omega (arith, l)
 
-pub operand_down : (precision : ℕ) (min_exp max_exp x : ℤ) → 3 ≤ precision → ((min_exp +ℤ pos 1) -ℤ pos precision) ≤ℤ x → down (x -ℤ min_exp) ≤ precision - 1
+pub operand_down : (precision : ℕ) (min_exp max_exp x : ℤ) → 3 ≤ precision
+    → ((min_exp +ℤ pos 1) -ℤ pos precision) ≤ℤ x → down (x -ℤ min_exp) ≤ precision - 1
 operand_down precision min_exp max_exp x t l = down_le (x -ℤ min_exp) (precision - 1) (omega (arith, ints))
 
 pub room_cases : (x m z : ℤ) → z ≡ (m -ℤ x) → x ≤ℤ m → ((x +ℤ pos 1) ≤ℤ m) ⊎ (x ≡ m)
@@ -142,35 +159,45 @@ room_cases x m (pos zero) e l = inr (omega (arith, ints, e, l))
 room_cases x m (pos (suc k)) e l = inl (omega (arith, ints, e, l))
 room_cases x m (negsuc k) e l = absurd (omega (arith, ints, e, l))
 
-at_top : (f : Format) (precision : ℕ) (min_exp max_exp : ℤ) (s a : ℕ) → f.precision ≡ precision → pos f.span ≡ max_exp -ℤ min_exp → IsQuantaAt min_exp s max_exp a → 2 ^ precision ≤ s + 2 ^ down (max_exp -ℤ min_exp) → largest f ≤ a
+at_top : (f : Format) (precision : ℕ) (min_exp max_exp : ℤ) (s a : ℕ) → f.precision ≡ precision
+    → pos f.span ≡ max_exp -ℤ min_exp → IsQuantaAt min_exp s max_exp a
+    → 2 ^ precision ≤ s + 2 ^ down (max_exp -ℤ min_exp) → largest f ≤ a
 at_top f precision min_exp max_exp s a e g h c =
     let w = up_far (max_exp -ℤ min_exp) 0 (omega (arith, ints)) in
     let d : 2 ^ down (max_exp -ℤ min_exp) ≡ 1 = ap (λ (x : ℕ). 2 ^ x) w.1 in
     let i : 2 ^ precision ≤ s + 1 = omega (arith, c, d) in
     let k : greatest_significand f.nonfinite precision ≤ s = greatest_before f.nonfinite precision s i in
-    let k' : greatest_significand f.nonfinite f.precision ≤ s = subst (λ (x : ℕ). greatest_significand f.nonfinite x ≤ s) (sym e) k in
-    let m : greatest_significand f.nonfinite f.precision * 2 ^ f.span ≤ s * 2 ^ f.span = mul-le-mul_right (2 ^ f.span) k' in
+    let k' : greatest_significand f.nonfinite f.precision ≤ s =
+        subst (λ (x : ℕ). greatest_significand f.nonfinite x ≤ s) (sym e) k in
+    let m : greatest_significand f.nonfinite f.precision * 2 ^ f.span ≤ s * 2 ^ f.span =
+        mul-le-mul_right (2 ^ f.span) k' in
     let g' : f.span ≡ up (max_exp -ℤ min_exp) = ap up g in
     let n : s * 2 ^ f.span ≡ s * 2 ^ up (max_exp -ℤ min_exp) = ap (λ (x : ℕ). s * 2 ^ x) g' in
     let q : a * 2 ^ down (max_exp -ℤ min_exp) ≡ a * 1 = ap (λ (x : ℕ). a * x) d in
     omega (arith, m, n, q, h)
 
 -- a number below the largest that is a carry away from the next power of two
-pub room_above : (f : Format) (precision : ℕ) (min_exp max_exp x : ℤ) (s a : ℕ) → f.precision ≡ precision → pos f.span ≡ max_exp -ℤ min_exp → IsOperandAt precision min_exp max_exp s x → IsQuantaAt min_exp s x a
+pub room_above : (f : Format) (precision : ℕ) (min_exp max_exp x : ℤ) (s a : ℕ) → f.precision ≡ precision
+    → pos f.span ≡ max_exp -ℤ min_exp → IsOperandAt precision min_exp max_exp s x → IsQuantaAt min_exp s x a
     → a < largest f → 2 ^ precision ≤ s + 2 ^ down (x -ℤ min_exp) → (x +ℤ pos 1) ≤ℤ max_exp
 room_above f precision min_exp max_exp x s a e g o h b c =
     ⊎_elim (λ q. q)
     (λ (q : x ≡ max_exp).
-    let k : largest f ≤ a = at_top f precision min_exp max_exp s a e g (subst (λ (y : ℤ). IsQuantaAt min_exp s y a) q h) (subst (λ (y : ℤ). 2 ^ precision ≤ s + 2 ^ down (y -ℤ min_exp)) q c) in
+    let k : largest f ≤ a =
+        at_top f precision min_exp max_exp s a e g (subst (λ (y : ℤ). IsQuantaAt min_exp s y a) q h)
+            (subst (λ (y : ℤ). 2 ^ precision ≤ s + 2 ^ down (y -ℤ min_exp)) q c) in
     absurd (omega (arith, k, b)))
     (room_cases x max_exp (max_exp -ℤ x) refl o.greatest)
 
 -- ---- within the largest value
 
 pub largest_on_grid : (f : Format) → 0 < f.precision → IsOnGrid f.precision (largest f)
-largest_on_grid f h = record { significand = greatest_significand f.nonfinite f.precision; place = f.span; fits = greatest_fits f.nonfinite f.precision; is = refl }
+largest_on_grid f h =
+    record { significand = greatest_significand f.nonfinite f.precision; place = f.span; fits =
+        greatest_fits f.nonfinite f.precision; is = refl }
 
-pub next_within : (f : Format) (a next : ℕ) → 0 < f.precision → a < largest f → IsAbove f.precision next (a + 1) 1 → next ≤ largest f
+pub next_within : (f : Format) (a next : ℕ) → 0 < f.precision → a < largest f → IsAbove f.precision next (a + 1) 1
+    → next ≤ largest f
 next_within f a next h b i = i.least (largest f) (largest_on_grid f h) (omega arith)
 
 pub step_room : (p s d : ℕ) → p ≤ 125 → s < 2 ^ p → d ≤ p - 1 → s + 2 ^ d < 2 ^ 128
@@ -182,17 +209,21 @@ step_room p s d h f l =
 
 -- ---- the answers
 
-pub stays_operand : (p : ℕ) (min max x : ℤ) (s t : ℕ) → IsOperandAt p min max s x → t < 2 ^ p → 2 ^ (p - 1) ≤ t → IsOperandAt p min max t x
+pub stays_operand : (p : ℕ) (min max x : ℤ) (s t : ℕ) → IsOperandAt p min max s x → t < 2 ^ p → 2 ^ (p - 1) ≤ t
+    → IsOperandAt p min max t x
 stays_operand p min max x s t o f g = record { fits = f; full = g; least = o.least; greatest = o.greatest }
 
-pub carries_operand : (p : ℕ) (min max x y : ℤ) (s t : ℕ) → 0 < p → IsOperandAt p min max s x → t ≡ 2 ^ (p - 1) → y ≡ (x +ℤ pos 1) → (x +ℤ pos 1) ≤ℤ max → IsOperandAt p min max t y
+pub carries_operand : (p : ℕ) (min max x y : ℤ) (s t : ℕ) → 0 < p → IsOperandAt p min max s x → t ≡ 2 ^ (p - 1)
+    → y ≡ (x +ℤ pos 1) → (x +ℤ pos 1) ≤ℤ max → IsOperandAt p min max t y
 carries_operand p min max x y s t q o e i r =
     let h : 2 * 2 ^ (p - 1) ≡ 2 ^ p = twice_half p q in
     let w : 0 < 2 ^ (p - 1) = pow_pos (p - 1) in
     let l = o.least in
-    record { fits = omega (arith, e, h, w); full = omega (arith, e); least = omega (arith, ints, l, i); greatest = omega (arith, ints, r, i) }
+    record { fits = omega (arith, e, h, w); full = omega (arith, e); least = omega (arith, ints, l, i); greatest =
+        omega (arith, ints, r, i) }
 
-pub carried_quanta : (p : ℕ) (min x y : ℤ) (s t n : ℕ) → 0 < p → s ≡ 2 ^ p → t ≡ 2 ^ (p - 1) → y ≡ (x +ℤ pos 1) → IsQuantaAt min s x n → IsQuantaAt min t y n
+pub carried_quanta : (p : ℕ) (min x y : ℤ) (s t n : ℕ) → 0 < p → s ≡ 2 ^ p → t ≡ 2 ^ (p - 1) → y ≡ (x +ℤ pos 1)
+    → IsQuantaAt min s x n → IsQuantaAt min t y n
 carried_quanta p min x y s t n q e i j h =
     let w : 2 * 2 ^ (p - 1) ≡ 2 ^ p = twice_half p q in
     let k : IsQuantaAt min t (x +ℤ pos 1) n = quanta_halved min x s t n (omega (arith, e, i, w)) h in
@@ -201,13 +232,15 @@ carried_quanta p min x y s t n q e i j h =
 pub stepped_by : (s a u d t : ℕ) → t ≡ 2 ^ d → a * 2 ^ d ≡ s * 2 ^ u → (a + 2 ^ u) * 2 ^ d ≡ (s + t) * 2 ^ u
 stepped_by s a u d t e h = stepped s a u d h ∙ ap (λ (x : ℕ). (s + x) * 2 ^ u) (sym e)
 
-pub stepped_down_by : (s a u d t : ℕ) → t ≡ 2 ^ d → 2 ^ d ≤ s → a * 2 ^ d ≡ s * 2 ^ u → (a - 2 ^ u) * 2 ^ d ≡ (s - t) * 2 ^ u
+pub stepped_down_by : (s a u d t : ℕ) → t ≡ 2 ^ d → 2 ^ d ≤ s → a * 2 ^ d ≡ s * 2 ^ u
+    → (a - 2 ^ u) * 2 ^ d ≡ (s - t) * 2 ^ u
 stepped_down_by s a u d t e l h = stepped_down s a u d l h ∙ ap (λ (x : ℕ). (s - x) * 2 ^ u) (sym e)
 
 pub step_small : (p d : ℕ) → d ≤ p → 2 ^ d ≤ 2 ^ p
 step_small p d l = pow-le-pow_right two_pos l
 
-pub lowered_quanta : (p : ℕ) (min x y : ℤ) (s t n : ℕ) → 0 < p → s ≡ 2 ^ (p - 1) → t ≡ 2 ^ p → y ≡ (x -ℤ pos 1) → IsQuantaAt min s x n → IsQuantaAt min t y n
+pub lowered_quanta : (p : ℕ) (min x y : ℤ) (s t n : ℕ) → 0 < p → s ≡ 2 ^ (p - 1) → t ≡ 2 ^ p → y ≡ (x -ℤ pos 1)
+    → IsQuantaAt min s x n → IsQuantaAt min t y n
 lowered_quanta p min x y s t n q e i j h =
     let w : 2 * 2 ^ (p - 1) ≡ 2 ^ p = twice_half p q in
     let k : IsQuantaAt min t (x -ℤ pos 1) n = quanta_doubled min x t s n (omega (arith, e, i, w)) h in
@@ -217,26 +250,30 @@ zero_below : (p : ℕ) → IsBelow p 0 0 1
 zero_below p = exact_below p 0 0 1 (lit< tt) (zero_on_grid p) refl
 
 -- below one quantum there is 0
-pub least_less : (p : ℕ) (min x : ℤ) (s a : ℕ) → 3 ≤ p → s ≡ 2 ^ (p - 1) → x ≡ ((min +ℤ pos 1) -ℤ pos p) → IsQuantaAt min s x a → IsBelow p 0 (a - 1) 1
+pub least_less : (p : ℕ) (min x : ℤ) (s a : ℕ) → 3 ≤ p → s ≡ 2 ^ (p - 1) → x ≡ ((min +ℤ pos 1) -ℤ pos p)
+    → IsQuantaAt min s x a → IsBelow p 0 (a - 1) 1
 least_less p min x s a t e f h =
     let n : (x -ℤ min) ≤ℤ neg_ℤ (pos (p - 1)) = omega (arith, ints) in
     let m : neg_ℤ (pos (p - 1)) ≤ℤ (x -ℤ min) = omega (arith, ints) in
     let w = down_far (x -ℤ min) (p - 1) n in
     let v : down (x -ℤ min) ≤ p - 1 = down_le (x -ℤ min) (p - 1) m in
     let g : down (x -ℤ min) ≡ p - 1 = let w₀ = w.0 in omega (arith, v, w₀) in
-    let i : a * 2 ^ (p - 1) ≡ s * 2 ^ 0 = subst (λ (z : ℕ). a * 2 ^ z ≡ s * 2 ^ 0) g (subst (λ (z : ℕ). a * 2 ^ down (x -ℤ min) ≡ s * 2 ^ z) w.1 h) in
+    let i : a * 2 ^ (p - 1) ≡ s * 2 ^ 0 =
+        subst (λ (z : ℕ). a * 2 ^ z ≡ s * 2 ^ 0) g (subst (λ (z : ℕ). a * 2 ^ down (x -ℤ min) ≡ s * 2 ^ z) w.1 h) in
     let j : a * 2 ^ (p - 1) ≡ 1 * 2 ^ (p - 1) = omega (arith, i, e) in
     let k : a ≡ 1 = eq_of_mul-eq-mul_right (2 ^ (p - 1)) (pow_pos (p - 1)) a 1 j in
     let r : a - 1 ≡ 0 = omega (arith, k) in
     subst (λ (z : ℕ). IsBelow p 0 z 1) (sym r) (zero_below p)
 
-pub lowered_operand : (p : ℕ) (min max x y : ℤ) (s t w d : ℕ) → 0 < p → IsOperandAt p min max s x → t ≡ 2 ^ p → w ≡ 2 ^ d → d ≤ p - 1 → y ≡ (x -ℤ pos 1) → ((min +ℤ pos 1) -ℤ pos p) ≤ℤ y → IsOperandAt p min max (t - w) y
+pub lowered_operand : (p : ℕ) (min max x y : ℤ) (s t w d : ℕ) → 0 < p → IsOperandAt p min max s x → t ≡ 2 ^ p
+    → w ≡ 2 ^ d → d ≤ p - 1 → y ≡ (x -ℤ pos 1) → ((min +ℤ pos 1) -ℤ pos p) ≤ℤ y → IsOperandAt p min max (t - w) y
 lowered_operand p min max x y s t w d q o e i j r l =
     let k : 2 * 2 ^ (p - 1) ≡ 2 ^ p = twice_half p q in
     let a : 2 ^ d ≤ 2 ^ (p - 1) = step_small (p - 1) d j in
     let b : 0 < 2 ^ d = pow_pos d in
     let g = o.greatest in
-    record { fits = omega (arith, e, i, a, b, k); full = omega (arith, e, i, a, k); least = l; greatest = omega (arith, ints, g, r) }
+    record { fits = omega (arith, e, i, a, b, k); full = omega (arith, e, i, a, k); least = l; greatest =
+        omega (arith, ints, g, r) }
 
 -- ---- the logarithm and the fraction
 
@@ -254,7 +291,8 @@ logarithm_high p s a k u d e f h =
     let r : a * 2 ^ d < 2 ^ k * 2 ^ d = omega (arith, w, g, h) in
     lt_of_mul-lt-mul_right (2 ^ d) r
 
-pub logarithm_is : (f : Format) (p : ℕ) (min max x : ℤ) (s a : ℕ) → 3 ≤ p → pos f.scale ≡ pos (p - 1) -ℤ min → IsOperandAt p min max s x → IsQuantaAt min s x a → IsLogarithm f a x
+pub logarithm_is : (f : Format) (p : ℕ) (min max x : ℤ) (s a : ℕ) → 3 ≤ p → pos f.scale ≡ pos (p - 1) -ℤ min
+    → IsOperandAt p min max s x → IsQuantaAt min s x a → IsLogarithm f a x
 logarithm_is f p min max x s a t z o h =
     let lo = o.least in
     let n : pos 0 ≤ℤ (x +ℤ pos f.scale) = omega (arith, ints, z, lo, t) in
@@ -268,8 +306,10 @@ logarithm_is f p min max x s a t z o h =
       is = omega (arith, ints, q);
     }
 
-pub fraction_operand : (p : ℕ) (min max x : ℤ) (s : ℕ) → 3 ≤ p → min ≤ℤ negsuc 0 → pos p ≤ℤ max → IsOperandAt p min max s x → IsOperandAt p min max s (negsuc 0)
-fraction_operand p min max x s t b w o = record { fits = o.fits; full = o.full; least = omega (arith, ints, t, b); greatest = omega (arith, ints, t, w) }
+pub fraction_operand : (p : ℕ) (min max x : ℤ) (s : ℕ) → 3 ≤ p → min ≤ℤ negsuc 0 → pos p ≤ℤ max
+    → IsOperandAt p min max s x → IsOperandAt p min max s (negsuc 0)
+fraction_operand p min max x s t b w o =
+    record { fits = o.fits; full = o.full; least = omega (arith, ints, t, b); greatest = omega (arith, ints, t, w) }
 
 pub fraction_quanta : (min : ℤ) (s : ℕ) → min ≤ℤ negsuc 0 → IsQuantaAt min s (negsuc 0) (s * 2 ^ up (negsuc 0 -ℤ min))
 fraction_quanta min s b =
@@ -277,11 +317,13 @@ fraction_quanta min s b =
     let e : 2 ^ down (negsuc 0 -ℤ min) ≡ 1 = ap (λ (x : ℕ). 2 ^ x) w.1 in
     ap (λ (x : ℕ). s * 2 ^ up (negsuc 0 -ℤ min) * x) e ∙ omega arith
 
-pub fraction_same : (min x y : ℤ) (s a : ℕ) → min ≤ℤ negsuc 0 → y ≡ (x +ℤ pos 1) → IsQuantaAt min s x a → a * 2 ^ down y ≡ s * 2 ^ up (negsuc 0 -ℤ min) * 2 ^ up y
+pub fraction_same : (min x y : ℤ) (s a : ℕ) → min ≤ℤ negsuc 0 → y ≡ (x +ℤ pos 1) → IsQuantaAt min s x a
+    → a * 2 ^ down y ≡ s * 2 ^ up (negsuc 0 -ℤ min) * 2 ^ up y
 fraction_same min x y s a b e h =
     let w = up_far (negsuc 0 -ℤ min) 0 (omega (arith, ints, b)) in
     let w₁ = w.1 in
-    let g = scaled_stands s a (down (x -ℤ min)) (up (x -ℤ min)) 0 (up (negsuc 0 -ℤ min)) (up y) (down y) h (omega (arith, ints, e, w₁)) in
+    let g = scaled_stands s a (down (x -ℤ min)) (up (x -ℤ min)) 0 (up (negsuc 0 -ℤ min)) (up y) (down y) h
+        (omega (arith, ints, e, w₁)) in
     omega (arith, g)
 
 pub fraction_low : (f : Format) (a : ℕ) (i : IsLogarithm f a (negsuc 0)) → (2 ^ (f.scale - 1) ≤ a) × (a < 2 ^ f.scale)
@@ -293,4 +335,5 @@ fraction_low f a i =
 
 pub room_below : (low x : ℤ) → low ≤ℤ x → (x ≡ low → ⊥) → low ≤ℤ (x -ℤ pos 1)
 room_below low x l n =
-    ⊎_elim (λ (q : (low +ℤ pos 1) ≤ℤ x). let r : low ≤ℤ (x -ℤ pos 1) = omega (arith, ints, q) in r) (λ (q : low ≡ x). absurd (n (sym q))) (room_cases low x (x -ℤ low) refl l)
+    ⊎_elim (λ (q : (low +ℤ pos 1) ≤ℤ x). let r : low ≤ℤ (x -ℤ pos 1) = omega (arith, ints, q) in r)
+    (λ (q : low ≡ x). absurd (n (sym q))) (room_cases low x (x -ℤ low) refl l)

@@ -26,24 +26,35 @@ whole_odd q =
     let d : q + 1 - q ≡ 1 = omega arith in
     ap (λ (x : ℕ). eqb (q / x % 2) 1) d ∙ ap (λ (x : ℕ). eqb (x % 2) 1) (div-one q)
 
-takes_at : (mode : Round) (negative odd : Bool) (q amount parts : ℕ) (loss : Loss) → (loss ≡ ExactlyZero → ⊥) → StandsFor q loss amount parts → takes_above mode negative (amount - q * parts) ((q + 1) * parts - amount) odd ≡ rounds_up mode negative loss odd
+takes_at : (mode : Round) (negative odd : Bool) (q amount parts : ℕ) (loss : Loss) → (loss ≡ ExactlyZero → ⊥)
+    → StandsFor q loss amount parts
+    → takes_above mode negative (amount - q * parts) ((q + 1) * parts - amount) odd
+    ≡ rounds_up mode negative loss odd
 takes_at mode negative odd q amount parts ExactlyZero n h = absurd (n refl)
-takes_at mode negative odd q amount parts LessThanHalf n h = let a = h.0 in let b = h.1 in takes_less mode negative odd _ _ (omega (arith, a, b))
+takes_at mode negative odd q amount parts LessThanHalf n h = let a = h.0 in let b = h.1 in
+    takes_less mode negative odd _ _ (omega (arith, a, b))
 takes_at mode negative odd q amount parts ExactlyHalf n h = takes_half mode negative odd _ _ (omega (arith, h))
-takes_at mode negative odd q amount parts MoreThanHalf n h = let a = h.0 in let b = h.1 in takes_more mode negative odd _ _ (omega (arith, a, b))
+takes_at mode negative odd q amount parts MoreThanHalf n h = let a = h.0 in let b = h.1 in
+    takes_more mode negative odd _ _ (omega (arith, a, b))
 
-between_is : (mode : Round) (negative : Bool) (q amount parts : ℕ) (loss : Loss) → (loss ≡ ExactlyZero → ⊥) → StandsFor q loss amount parts → pick_between mode negative q (q + 1) amount parts ≡ kept mode negative loss q
+between_is : (mode : Round) (negative : Bool) (q amount parts : ℕ) (loss : Loss) → (loss ≡ ExactlyZero → ⊥)
+    → StandsFor q loss amount parts → pick_between mode negative q (q + 1) amount parts ≡ kept mode negative loss q
 between_is mode negative q amount parts loss n h =
-    ap (λ (b : Bool). cond (takes_above mode negative (amount - q * parts) ((q + 1) * parts - amount) b) (q + 1) q) (whole_odd q)
+    ap (λ (b : Bool). cond (takes_above mode negative (amount - q * parts) ((q + 1) * parts - amount) b) (q + 1) q)
+        (whole_odd q)
     ∙ ap (λ (b : Bool). cond b (q + 1) q) (takes_at mode negative (eqb (q % 2) 1) q amount parts loss n h)
 
-pub whole_exactly : (mode : Round) (negative : Bool) (q amount parts : ℕ) → 0 < parts → amount ≡ q * parts → whole_pick mode negative amount parts ≡ q
+pub whole_exactly : (mode : Round) (negative : Bool) (q amount parts : ℕ) → 0 < parts → amount ≡ q * parts
+    → whole_pick mode negative amount parts ≡ q
 whole_exactly mode negative q amount parts p e =
-    let z : eqb (amount % parts) 0 ≡ true = eq-eqb (amount % parts) 0 (ap (λ (x : ℕ). x % parts) e ∙ mul-mod_left q parts) in
+    let z : eqb (amount % parts) 0 ≡ true =
+        eq-eqb (amount % parts) 0 (ap (λ (x : ℕ). x % parts) e ∙ mul-mod_left q parts) in
     let d : amount / parts ≡ q = ap (λ (x : ℕ). x / parts) e ∙ mul-div_cancel q p in
     rw z d
 
-pub whole_inexactly : (mode : Round) (negative : Bool) (q amount parts : ℕ) (loss : Loss) → 0 < parts → (loss ≡ ExactlyZero → ⊥) → StandsFor q loss amount parts → whole_pick mode negative amount parts ≡ kept mode negative loss q
+pub whole_inexactly : (mode : Round) (negative : Bool) (q amount parts : ℕ) (loss : Loss) → 0 < parts
+    → (loss ≡ ExactlyZero → ⊥) → StandsFor q loss amount parts
+    → whole_pick mode negative amount parts ≡ kept mode negative loss q
 whole_inexactly mode negative q amount parts loss p n h =
     let a : q * parts < amount = stands_past q loss amount parts p n h in
     let b : amount < (q + 1) * parts = stands_to q loss amount parts p h in
@@ -53,56 +64,79 @@ whole_inexactly mode negative q amount parts loss p n h =
     let m : amount / parts * parts + amount % parts ≡ amount = div-add-mod' amount parts in
     let m' : amount / parts * parts ≡ q * parts = ap (λ (x : ℕ). x * parts) d in
     let z : eqb (amount % parts) 0 ≡ false = ne_eqb (amount % parts) 0 (λ e. omega arith) in
-    let w : pick_between mode negative (amount / parts) (amount / parts + 1) amount parts ≡ kept mode negative loss q =
-    ap (λ (x : ℕ). pick_between mode negative x (x + 1) amount parts) d ∙ between_is mode negative q amount parts loss n h in
+    let w : pick_between mode negative (amount / parts) (amount / parts + 1) amount parts
+        ≡ kept mode negative loss q =
+    ap (λ (x : ℕ). pick_between mode negative x (x + 1) amount parts) d ∙
+        between_is mode negative q amount parts loss n h in
     rw z w
 
-pub exactly_so : (mode : Round) (negative : Bool) (q amount parts : ℕ) → 0 < parts → amount ≡ q * parts → true ≡ eqb (whole_pick mode negative amount parts * parts) amount
+pub exactly_so : (mode : Round) (negative : Bool) (q amount parts : ℕ) → 0 < parts → amount ≡ q * parts
+    → true ≡ eqb (whole_pick mode negative amount parts * parts) amount
 exactly_so mode negative q amount parts p e =
     let w = whole_exactly mode negative q amount parts p e in
     sym (eq-eqb (whole_pick mode negative amount parts * parts) amount (ap (λ (x : ℕ). x * parts) w ∙ sym e))
 
-off_both : (b : Bool) (q amount parts : ℕ) → q * parts < amount → amount < (q + 1) * parts → cond b (q + 1) q * parts ≡ amount → ⊥
+off_both : (b : Bool) (q amount parts : ℕ) → q * parts < amount → amount < (q + 1) * parts
+    → cond b (q + 1) q * parts ≡ amount → ⊥
 off_both true q amount parts l k e = omega arith
 off_both false q amount parts l k e = omega arith
 
-pub inexactly_so : (mode : Round) (negative : Bool) (q amount parts : ℕ) (loss : Loss) → 0 < parts → (loss ≡ ExactlyZero → ⊥) → StandsFor q loss amount parts → false ≡ eqb (whole_pick mode negative amount parts * parts) amount
+pub inexactly_so : (mode : Round) (negative : Bool) (q amount parts : ℕ) (loss : Loss) → 0 < parts
+    → (loss ≡ ExactlyZero → ⊥) → StandsFor q loss amount parts
+    → false ≡ eqb (whole_pick mode negative amount parts * parts) amount
 inexactly_so mode negative q amount parts loss p n h =
     let w = whole_inexactly mode negative q amount parts loss p n h in
     sym (ne_eqb (whole_pick mode negative amount parts * parts) amount
-    (λ e. off_both (rounds_up mode negative loss (eqb (q % 2) 1)) q amount parts (stands_past q loss amount parts p n h) (stands_to q loss amount parts p h) (ap (λ (x : ℕ). x * parts) (sym w) ∙ e)))
+    (λ e. off_both (rounds_up mode negative loss (eqb (q % 2) 1)) q amount parts
+        (stands_past q loss amount parts p n h) (stands_to q loss amount parts p h)
+            (ap (λ (x : ℕ). x * parts) (sym w) ∙ e)))
 
 -- ---- by cases of what was lost
 
-pub whole_at : (mode : Round) (negative : Bool) (q amount parts : ℕ) (loss : Loss) → 0 < parts → StandsFor q loss amount parts → whole_pick mode negative amount parts ≡ kept mode negative loss q
+pub whole_at : (mode : Round) (negative : Bool) (q amount parts : ℕ) (loss : Loss) → 0 < parts
+    → StandsFor q loss amount parts → whole_pick mode negative amount parts ≡ kept mode negative loss q
 whole_at mode negative q amount parts ExactlyZero p h = whole_exactly mode negative q amount parts p h
-whole_at mode negative q amount parts LessThanHalf p h = whole_inexactly mode negative q amount parts LessThanHalf p (λ e. cc) h
-whole_at mode negative q amount parts ExactlyHalf p h = whole_inexactly mode negative q amount parts ExactlyHalf p (λ e. cc) h
-whole_at mode negative q amount parts MoreThanHalf p h = whole_inexactly mode negative q amount parts MoreThanHalf p (λ e. cc) h
+whole_at mode negative q amount parts LessThanHalf p h =
+    whole_inexactly mode negative q amount parts LessThanHalf p (λ e. cc) h
+whole_at mode negative q amount parts ExactlyHalf p h =
+    whole_inexactly mode negative q amount parts ExactlyHalf p (λ e. cc) h
+whole_at mode negative q amount parts MoreThanHalf p h =
+    whole_inexactly mode negative q amount parts MoreThanHalf p (λ e. cc) h
 
-pub exact_at : (mode : Round) (negative : Bool) (q amount parts : ℕ) (loss : Loss) (b : Bool) → 0 < parts → StandsFor q loss amount parts → (b ≡ true → loss ≡ ExactlyZero) → (b ≡ false → loss ≡ ExactlyZero → ⊥) → b ≡ eqb (whole_pick mode negative amount parts * parts) amount
-exact_at mode negative q amount parts loss true p h f g = exactly_so mode negative q amount parts p (subst (λ (x : Loss). StandsFor q x amount parts) (f refl) h)
+pub exact_at : (mode : Round) (negative : Bool) (q amount parts : ℕ) (loss : Loss) (b : Bool) → 0 < parts
+    → StandsFor q loss amount parts → (b ≡ true → loss ≡ ExactlyZero) → (b ≡ false → loss ≡ ExactlyZero → ⊥)
+    → b ≡ eqb (whole_pick mode negative amount parts * parts) amount
+exact_at mode negative q amount parts loss true p h f g =
+    exactly_so mode negative q amount parts p (subst (λ (x : Loss). StandsFor q x amount parts) (f refl) h)
 exact_at mode negative q amount parts loss false p h f g = inexactly_so mode negative q amount parts loss p (g refl) h
 
 -- ---- the number, by its significand
 
 -- what is left of a significand after a cut stands for the magnitude in wholes
-pub cut_whole_stands : (s q k amount parts : ℕ) (loss : Loss) → amount * 2 ^ k ≡ s * parts → StandsFor q loss (s * parts) (2 ^ k * parts) → StandsFor q loss amount parts
+pub cut_whole_stands : (s q k amount parts : ℕ) (loss : Loss) → amount * 2 ^ k ≡ s * parts
+    → StandsFor q loss (s * parts) (2 ^ k * parts) → StandsFor q loss amount parts
 cut_whole_stands s q k amount parts loss e h =
     let u : 2 ^ k * parts ≡ parts * 2 ^ k = omega arith in
     let t : StandsFor q loss (s * parts) (parts * 2 ^ k) = subst (λ (x : ℕ). StandsFor q loss (s * parts) x) u h in
-    let t' : StandsFor q loss (amount * 2 ^ k) (parts * 2 ^ k) = subst (λ (x : ℕ). StandsFor q loss x (parts * 2 ^ k)) (sym e) t in
+    let t' : StandsFor q loss (amount * 2 ^ k) (parts * 2 ^ k) =
+        subst (λ (x : ℕ). StandsFor q loss x (parts * 2 ^ k)) (sym e) t in
     stands_cancel q loss amount parts (2 ^ k) (pow_pos k) t'
 
 -- the last digit `k` places below one, and above
-pub places_down : (digits scale : ℕ) (min_exp x r : ℤ) (s a k : ℕ) → pos scale ≡ pos digits -ℤ min_exp → r ≡ (x -ℤ pos digits) → pos k ≡ (pos 0 -ℤ r) → a * 2 ^ down (x -ℤ min_exp) ≡ s * 2 ^ up (x -ℤ min_exp) → a * 2 ^ k ≡ s * 2 ^ scale
+pub places_down : (digits scale : ℕ) (min_exp x r : ℤ) (s a k : ℕ) → pos scale ≡ pos digits -ℤ min_exp
+    → r ≡ (x -ℤ pos digits) → pos k ≡ (pos 0 -ℤ r) → a * 2 ^ down (x -ℤ min_exp) ≡ s * 2 ^ up (x -ℤ min_exp)
+    → a * 2 ^ k ≡ s * 2 ^ scale
 places_down digits scale min_exp x r s a k z e f h =
-    let g = scaled_stands s a (down (x -ℤ min_exp)) (up (x -ℤ min_exp)) 0 scale 0 k h (omega (arith, ints, z, e, f)) in
+    let g = scaled_stands s a (down (x -ℤ min_exp)) (up (x -ℤ min_exp)) 0 scale 0 k h
+        (omega (arith, ints, z, e, f)) in
     omega (arith, g)
 
-pub places_up : (digits scale : ℕ) (min_exp x r : ℤ) (s a k : ℕ) → pos scale ≡ pos digits -ℤ min_exp → r ≡ (x -ℤ pos digits) → pos k ≡ (r -ℤ pos 0) → a * 2 ^ down (x -ℤ min_exp) ≡ s * 2 ^ up (x -ℤ min_exp) → a ≡ s * 2 ^ k * 2 ^ scale
+pub places_up : (digits scale : ℕ) (min_exp x r : ℤ) (s a k : ℕ) → pos scale ≡ pos digits -ℤ min_exp
+    → r ≡ (x -ℤ pos digits) → pos k ≡ (r -ℤ pos 0) → a * 2 ^ down (x -ℤ min_exp) ≡ s * 2 ^ up (x -ℤ min_exp)
+    → a ≡ s * 2 ^ k * 2 ^ scale
 places_up digits scale min_exp x r s a k z e f h =
-    let g = scaled_stands s a (down (x -ℤ min_exp)) (up (x -ℤ min_exp)) 0 scale k 0 h (omega (arith, ints, z, e, f)) in
+    let g = scaled_stands s a (down (x -ℤ min_exp)) (up (x -ℤ min_exp)) 0 scale k 0 h
+        (omega (arith, ints, z, e, f)) in
     omega (arith, g)
 
 pub up_of : (z : ℤ) → pos 0 ≤ℤ z → pos (up z) ≡ z
@@ -124,13 +158,16 @@ shifted_within precision s k f h =
     omega (arith, e, a, b)
 
 -- a number with an exponent of 128 or more is too large
-pub too_large : (mode : Round) (negative : Bool) (digits scale : ℕ) (min_exp x : ℤ) (s a : ℕ) → digits ≤ 127 → pos scale ≡ pos digits -ℤ min_exp → 2 ^ digits ≤ s → pos 128 ≤ℤ x → a * 2 ^ down (x -ℤ min_exp) ≡ s * 2 ^ up (x -ℤ min_exp)
+pub too_large : (mode : Round) (negative : Bool) (digits scale : ℕ) (min_exp x : ℤ) (s a : ℕ) → digits ≤ 127
+    → pos scale ≡ pos digits -ℤ min_exp → 2 ^ digits ≤ s → pos 128 ≤ℤ x
+    → a * 2 ^ down (x -ℤ min_exp) ≡ s * 2 ^ up (x -ℤ min_exp)
     → 2 ^ 128 ≤ whole_pick mode negative a (2 ^ scale)
 too_large mode negative digits scale min_exp x s a c z f g h =
     let n : pos 0 ≤ℤ (x -ℤ pos digits) = omega (arith, ints) in
     let k : ℕ = up (x -ℤ pos digits) in
     let q : pos (up (x -ℤ pos digits)) ≡ (x -ℤ pos digits) = up_of (x -ℤ pos digits) n in
-    let e = places_up digits scale min_exp x (x -ℤ pos digits) s a (up (x -ℤ pos digits)) z refl (omega (arith, ints, q)) h in
+    let e = places_up digits scale min_exp x (x -ℤ pos digits) s a (up (x -ℤ pos digits)) z refl
+        (omega (arith, ints, q)) h in
     let w = whole_exactly mode negative (s * 2 ^ up (x -ℤ pos digits)) a (2 ^ scale) (pow_pos scale) e in
     subst (λ (y : ℕ). 2 ^ 128 ≤ y) (sym w) (shifted_past digits s (up (x -ℤ pos digits)) f (omega (arith, ints, q)))
 
@@ -153,21 +190,27 @@ whole_fits p s k mag q f l h =
 
 -- ---- a number rounded to a whole number
 
-pub integral_picked : (f : Format) (mode : Round) (b : Bool) (n mag : ℕ) (exact : Bool) (v : Datum) (st : ℕ) → mag ≡ whole_pick mode b n (2 ^ f.scale) → exact ≡ eqb (whole_quanta f mode b n) n → v ≡ signed_quanta f.nonfinite b (mag * 2 ^ f.scale) → st ≡ inexact_unless exact
+pub integral_picked : (f : Format) (mode : Round) (b : Bool) (n mag : ℕ) (exact : Bool) (v : Datum) (st : ℕ)
+    → mag ≡ whole_pick mode b n (2 ^ f.scale) → exact ≡ eqb (whole_quanta f mode b n) n
+    → v ≡ signed_quanta f.nonfinite b (mag * 2 ^ f.scale) → st ≡ inexact_unless exact
     → IsRoundToIntegral f mode (finite b n) v st
 integral_picked f mode b n mag exact v st i x w t = record {
   value_is = w ∙ ap (λ (k : ℕ). signed_quanta f.nonfinite b (k * 2 ^ f.scale)) i;
   status_is = t ∙ ap (λ (k : Bool). inexact_unless k) x;
 }
 
-pub integral_stays : (f : Format) (mode : Round) (b : Bool) (n q : ℕ) → 0 < n → n ≡ q * 2 ^ f.scale → IsRoundToIntegral f mode (finite b n) (finite b n) 0
+pub integral_stays : (f : Format) (mode : Round) (b : Bool) (n q : ℕ) → 0 < n → n ≡ q * 2 ^ f.scale
+    → IsRoundToIntegral f mode (finite b n) (finite b n) 0
 integral_stays f mode b n q p e =
-    integral_picked f mode b n q true (finite b n) 0 (sym (whole_exactly mode b q n (2 ^ f.scale) (pow_pos f.scale) e)) (exactly_so mode b q n (2 ^ f.scale) (pow_pos f.scale) e)
+    integral_picked f mode b n q true (finite b n) 0
+        (sym (whole_exactly mode b q n (2 ^ f.scale) (pow_pos f.scale) e))
+            (exactly_so mode b q n (2 ^ f.scale) (pow_pos f.scale) e)
     (sym (signed_some f.nonfinite b n p) ∙ ap (λ (k : ℕ). signed_quanta f.nonfinite b k) e) refl
 
 -- ---- toward zero a whole number stays, and no other does
 
-pub whole_toward_zero : (negative : Bool) (amount parts : ℕ) → 0 < parts → eqb (whole_pick TowardZero negative amount parts * parts) amount ≡ eqb (amount % parts) 0
+pub whole_toward_zero : (negative : Bool) (amount parts : ℕ) → 0 < parts
+    → eqb (whole_pick TowardZero negative amount parts * parts) amount ≡ eqb (amount % parts) 0
 whole_toward_zero negative amount parts p =
     let m : amount / parts * parts + amount % parts ≡ amount = div-add-mod' amount parts in
     ⊎_elim

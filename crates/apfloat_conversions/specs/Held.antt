@@ -7,7 +7,8 @@ use Rattle.apfloat_unpacked.specs.Shapes.{format_at}
 -- at one greatest exponent the greatest significands decide
 pub record IsReachedLevel (from into : Shape) : Type 0 where
   pub exponents : from.max_exp ≡ into.max_exp
-  pub significands : greatest_significand from.nonfinite from.precision * 2 ^ (into.precision - from.precision) ≤ greatest_significand into.nonfinite into.precision
+  pub significands : greatest_significand from.nonfinite from.precision * 2 ^ (into.precision - from.precision)
+      ≤ greatest_significand into.nonfinite into.precision
 
 -- the largest value is no larger, where the precision is no higher
 abbrev pub IsReached : Shape → Shape → Type 0

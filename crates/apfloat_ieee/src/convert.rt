@@ -10,7 +10,8 @@ use apfloat_base::{FloatConvert, Round, StatusAnd};
 use apfloat_conversions::between_formats::convert;
 
 impl<S: Semantics, T: Semantics> FloatConvert<IeeeFloat<T>> for IeeeFloat<S> {
-    ghost converts = { λ x mode answer loses_info. IsConversion (format_of S.Semantics) (format_of T.Semantics) mode x answer.value (bits_of answer.status) loses_info };
+    ghost converts = { λ x mode answer loses_info. IsConversion (format_of S.Semantics)
+        (format_of T.Semantics) mode x answer.value (bits_of answer.status) loses_info };
 
     /// A finite value whose number the format `T` has, with its sign, comes through as it is, with OK and without loss.
     #[inline]

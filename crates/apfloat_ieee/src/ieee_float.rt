@@ -42,7 +42,8 @@ impl<S: Semantics> Model for IeeeFloat<S> {
 
     ghost invariant = { λ x. IsStored (shape_of S.Semantics) x.unpacked };
 
-    ghost inverse = { λ d. record { unpacked = unpacked_of (shape_of S.Semantics) d; marker = record {} } };
+    ghost inverse = { λ d.
+        record { unpacked = unpacked_of (shape_of S.Semantics) d; marker = record {} } };
 
     ghost inverse_ok = { λ x h. Prim.rw (comes_back (shape_of S.Semantics) x.unpacked h) };
 }

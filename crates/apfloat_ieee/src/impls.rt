@@ -93,7 +93,8 @@ impl<S: Semantics> Float for IeeeFloat<S> {
 
     ghost adds = { λ x y mode answer. Gives (IsSum (format_of S.Semantics) mode x y) answer };
 
-    ghost subtracts = { λ x y mode answer. Gives (IsDifference (format_of S.Semantics) mode x y) answer };
+    ghost subtracts = { λ x y mode answer. Gives (IsDifference (format_of S.Semantics) mode x y)
+        answer };
 
     ghost negated = { negated (format_of S.Semantics).nonfinite };
 
@@ -105,15 +106,19 @@ impl<S: Semantics> Float for IeeeFloat<S> {
 
     ghost denormal = { is_denormal (format_of S.Semantics) };
 
-    ghost multiplies = { λ x y mode answer. Gives (IsProduct (format_of S.Semantics) mode x y) answer };
+    ghost multiplies = { λ x y mode answer. Gives (IsProduct (format_of S.Semantics) mode x y)
+        answer };
 
-    ghost divides = { λ x y mode answer. Gives (IsQuotient (format_of S.Semantics) mode x y) answer };
+    ghost divides = { λ x y mode answer. Gives (IsQuotient (format_of S.Semantics) mode x y)
+        answer };
 
     ghost inverts = { IsExactInverse (format_of S.Semantics) };
 
-    ghost leaves = { λ x y answer. Gives (IsTruncatedRemainder (format_of S.Semantics) x y) answer };
+    ghost leaves = { λ x y answer. Gives (IsTruncatedRemainder (format_of S.Semantics) x y)
+        answer };
 
-    ghost leaves_nearest = { λ x y answer. Gives (IsNearestRemainder (format_of S.Semantics) x y) answer };
+    ghost leaves_nearest = { λ x y answer. Gives (IsNearestRemainder (format_of S.Semantics) x y)
+        answer };
 
     ghost same = { same_datum };
 
@@ -123,19 +128,25 @@ impl<S: Semantics> Float for IeeeFloat<S> {
 
     ghost value_of_bits = { datum_of (format_of S.Semantics) (layout_of S.Semantics) };
 
-    ghost writes_bits = { λ x bits. IsEncodedBy (format_of S.Semantics) (layout_of S.Semantics) bits x };
+    ghost writes_bits = { λ x bits. IsEncodedBy (format_of S.Semantics) (layout_of S.Semantics)
+        bits x };
 
-    ghost converts_unsigned = { λ number mode answer. Gives (IsFromUnsigned (format_of S.Semantics) mode number) answer };
+    ghost converts_unsigned = { λ number mode answer. Gives
+        (IsFromUnsigned (format_of S.Semantics) mode number) answer };
 
-    ghost converts_signed = { λ number mode answer. Gives (IsFromSigned (format_of S.Semantics) mode number) answer };
+    ghost converts_signed = { λ number mode answer. Gives
+        (IsFromSigned (format_of S.Semantics) mode number) answer };
 
-    ghost rounds_to_integral = { λ x mode answer. Gives (IsRoundToIntegral (format_of S.Semantics) mode x) answer };
+    ghost rounds_to_integral = { λ x mode answer. Gives
+        (IsRoundToIntegral (format_of S.Semantics) mode x) answer };
 
     ghost is_whole = { is_integer (format_of S.Semantics) };
 
-    ghost converts_to_unsigned = { λ x width mode answer exact. IsToUnsigned (format_of S.Semantics) mode width x answer.value (bits_of answer.status) exact };
+    ghost converts_to_unsigned = { λ x width mode answer exact. IsToUnsigned
+        (format_of S.Semantics) mode width x answer.value (bits_of answer.status) exact };
 
-    ghost converts_to_signed = { λ x width mode answer exact. IsToSigned (format_of S.Semantics) mode width x answer.value (bits_of answer.status) exact };
+    ghost converts_to_signed = { λ x width mode answer exact. IsToSigned (format_of S.Semantics)
+        mode width x answer.value (bits_of answer.status) exact };
 
     ghost steps_up = { λ x answer. Gives (IsNextUp (format_of S.Semantics) x) answer };
 
@@ -145,7 +156,8 @@ impl<S: Semantics> Float for IeeeFloat<S> {
 
     ghost has_exponent = { λ x exponent. IsIlogb (format_of S.Semantics) x exponent };
 
-    ghost has_fraction = { λ x mode value exponent. IsFrexp (format_of S.Semantics) x value exponent };
+    ghost has_fraction = { λ x mode value exponent. IsFrexp (format_of S.Semantics) x value
+        exponent };
 
     ghost reads = { λ text mode answer. IsRead (format_of S.Semantics) mode text answer };
 
@@ -341,40 +353,6 @@ impl<S: Semantics> Float for IeeeFloat<S> {
         IeeeFloat::packed(fraction.value)
     }
 
-    ghost can_mul_law = { λ m x y. leb-true S.PRECISION 64 m };
-
-    ghost mul_law = { λ x y r h. h };
-
-    ghost can_mul_assign_law = { λ m x y. leb-true S.PRECISION 64 m };
-
-    ghost mul_assign_law = { λ x y z h. (record { status = record { 0 = h.0 }; value = z }, h.1, refl) };
-
-    ghost can_div_law = { λ x y. tt };
-
-    ghost div_law = { λ x y r h. h };
-
-    ghost can_div_assign_law = { λ x y. tt };
-
-    ghost div_assign_law = { λ x y z h. (record { status = record { 0 = h.0 }; value = z }, h.1, refl) };
-
-    ghost can_rem_law = { λ x y. tt };
-
-    ghost rem_law = { λ x y r h. h };
-
-    ghost can_rem_assign_law = { λ x y. tt };
-
-    ghost rem_assign_law = { λ x y z h. (record { status = record { 0 = h.0 }; value = z }, h.1, refl) };
-
-    ghost read_law = { λ text r h. h };
-
-    ghost steps_down_law = { λ x r h. record { up_of_negated = r.value; is_next_up = h; is = refl } };
-
-    ghost to_signed_above_law = { λ x width mode number exact z h. to_signed_above (format_of S.Semantics) mode width x number.value (bits_of number.status) exact z h };
-
-    ghost to_signed_below_law = { λ x width mode number exact answer is_exact z w h g. to_signed_below (format_of S.Semantics) mode width x number.value (bits_of number.status) exact answer.value (bits_of answer.status) is_exact z w h g };
-
-    ghost default_law = { λ x h. h };
-
     ghost can_neg_law = { λ x. tt };
 
     ghost neg_law = { λ x r h. h };
@@ -383,21 +361,62 @@ impl<S: Semantics> Float for IeeeFloat<S> {
 
     ghost add_law = { λ x y r h. h };
 
-    ghost can_add_assign_law = { λ x y. tt };
-
-    ghost add_assign_law = { λ x y z h. h };
-
     ghost can_sub_law = { λ x y. tt };
 
     ghost sub_law = { λ x y r h. h };
+
+    ghost can_mul_law = { λ m x y. leb-true S.PRECISION 64 m };
+
+    ghost mul_law = { λ x y r h. h };
+
+    ghost can_div_law = { λ x y. tt };
+
+    ghost div_law = { λ x y r h. h };
+
+    ghost can_rem_law = { λ x y. tt };
+
+    ghost rem_law = { λ x y r h. h };
+
+    ghost can_add_assign_law = { λ x y. tt };
+
+    ghost add_assign_law = { λ x y z h. h };
 
     ghost can_sub_assign_law = { λ x y. tt };
 
     ghost sub_assign_law = { λ x y z h. h };
 
-    ghost signed_above_law = { λ n mode r h. signed_above (format_of S.Semantics) mode n r.value (bits_of r.status) h };
+    ghost can_mul_assign_law = { λ m x y. leb-true S.PRECISION 64 m };
 
-    ghost signed_below_law = { λ n mode r p h. signed_below (format_of S.Semantics) mode n r.value (bits_of r.status) (largest_some (format_of S.Semantics) S.lawful.precision_low) p h };
+    ghost mul_assign_law = { λ x y z h. h };
+
+    ghost can_div_assign_law = { λ x y. tt };
+
+    ghost div_assign_law = { λ x y z h. h };
+
+    ghost can_rem_assign_law = { λ x y. tt };
+
+    ghost rem_assign_law = { λ x y z h. h };
+
+    ghost default_law = { λ x h. h };
+
+    ghost steps_down_law = { λ x r h.
+        record { up_of_negated = r.value; is_next_up = h; is = refl } };
+
+    ghost signed_above_law = { λ n mode r h. signed_above (format_of S.Semantics) mode n r.value
+        (bits_of r.status) h };
+
+    ghost signed_below_law = { λ n mode r p h. signed_below (format_of S.Semantics) mode n r.value
+        (bits_of r.status) (largest_some (format_of S.Semantics) S.lawful.precision_low) p h };
+
+    ghost read_law = { λ text r h. h };
+
+    ghost to_signed_above_law = { λ x width mode number exact z h.
+        to_signed_above (format_of S.Semantics) mode width x number.value (bits_of number.status)
+        exact z h };
+
+    ghost to_signed_below_law = { λ x width mode number exact answer is_exact z w h g.
+        to_signed_below (format_of S.Semantics) mode width x number.value (bits_of number.status)
+        exact answer.value (bits_of answer.status) is_exact z w h g };
 
     ghost determined = { λ mode.
         determined (format_of S.Semantics) (layout_of S.Semantics) S.PRECISION S.BITS mode

@@ -1,6 +1,8 @@
 //! Products, quotients and exact inverses of values of one format, and the operators `*`, `/`, `*=` and `/=`.
 
 ghost use Rattle.std.specs.Prelude.{◌≡◌, ◌≤◌};
+ghost use Rattle.apfloat_base.specs.declared.kinds.Round.TheVariants.{NearestTiesToEven};
+ghost use Rattle.apfloat_base.specs.declared.status.StatusAnd.{StatusAnd};
 ghost use Rattle.apfloat_base.specs.Flags.{Gives};
 ghost use Rattle.apfloat_base.specs.Exponents.{IsExactInverse};
 ghost use Rattle.apfloat_base.specs.Products.{IsProduct, IsOpposite};
@@ -55,15 +57,10 @@ pub(crate) fn inverse<S: Semantics>(x: IeeeFloat<S>) -> Option<IeeeFloat<S>>
 impl<S: Semantics> Mul for IeeeFloat<S> {
     type Output = StatusAnd<IeeeFloat<S>>;
 
-    ghost use Rattle.std.specs.Prelude.{◌≤◌};
-    ghost use Rattle.apfloat_base.specs.declared.kinds.Round.TheVariants.{NearestTiesToEven};
-    ghost use Rattle.apfloat_base.specs.Flags.{Gives};
-    ghost use Rattle.apfloat_base.specs.Products.{IsProduct};
-    ghost use Rattle.apfloat_ieee.specs.Types.{format_of};
-
     ghost can_mul = { λ _ _. S.PRECISION ≤ 64 };
 
-    ghost mul_gives = { λ x y r. Gives (IsProduct (format_of S.Semantics) NearestTiesToEven x y) r };
+    ghost mul_gives = { λ x y r. Gives (IsProduct (format_of S.Semantics) NearestTiesToEven x y)
+        r };
 
     /// The product, rounded once to the nearest value, a tie to the even one.
     #[inline]
@@ -75,12 +72,8 @@ impl<S: Semantics> Mul for IeeeFloat<S> {
 impl<S: Semantics> Div for IeeeFloat<S> {
     type Output = StatusAnd<IeeeFloat<S>>;
 
-    ghost use Rattle.apfloat_base.specs.declared.kinds.Round.TheVariants.{NearestTiesToEven};
-    ghost use Rattle.apfloat_base.specs.Flags.{Gives};
-    ghost use Rattle.apfloat_base.specs.Quotients.{IsQuotient};
-    ghost use Rattle.apfloat_ieee.specs.Types.{format_of};
-
-    ghost div_gives = { λ x y r. Gives (IsQuotient (format_of S.Semantics) NearestTiesToEven x y) r };
+    ghost div_gives = { λ x y r. Gives (IsQuotient (format_of S.Semantics) NearestTiesToEven x y)
+        r };
 
     /// The quotient, rounded once to the nearest value, a tie to the even one.
     #[inline]
@@ -90,14 +83,10 @@ impl<S: Semantics> Div for IeeeFloat<S> {
 }
 
 impl<S: Semantics> MulAssign for IeeeFloat<S> {
-    ghost use Rattle.std.specs.Prelude.{ℕ, ◌≤◌};
-    ghost use Rattle.apfloat_base.specs.declared.kinds.Round.TheVariants.{NearestTiesToEven};
-    ghost use Rattle.apfloat_base.specs.Products.{IsProduct};
-    ghost use Rattle.apfloat_ieee.specs.Types.{format_of};
-
     ghost can_mul_assign = { λ _ _. S.PRECISION ≤ 64 };
 
-    ghost mul_assign_gives = { λ x y z. (status : ℕ) × IsProduct (format_of S.Semantics) NearestTiesToEven x y z status };
+    ghost mul_assign_gives = { λ x y z. (r : StatusAnd Self) ×
+        Gives (IsProduct (format_of S.Semantics) NearestTiesToEven x y) r × (z ≡ r.value) };
 
     /// The product by `*`; its status is dropped.
     #[inline]
@@ -107,12 +96,8 @@ impl<S: Semantics> MulAssign for IeeeFloat<S> {
 }
 
 impl<S: Semantics> DivAssign for IeeeFloat<S> {
-    ghost use Rattle.std.specs.Prelude.{ℕ};
-    ghost use Rattle.apfloat_base.specs.declared.kinds.Round.TheVariants.{NearestTiesToEven};
-    ghost use Rattle.apfloat_base.specs.Quotients.{IsQuotient};
-    ghost use Rattle.apfloat_ieee.specs.Types.{format_of};
-
-    ghost div_assign_gives = { λ x y z. (status : ℕ) × IsQuotient (format_of S.Semantics) NearestTiesToEven x y z status };
+    ghost div_assign_gives = { λ x y z. (r : StatusAnd Self) ×
+        Gives (IsQuotient (format_of S.Semantics) NearestTiesToEven x y) r × (z ≡ r.value) };
 
     /// The quotient by `/`; its status is dropped.
     #[inline]

@@ -1,6 +1,7 @@
 //! Remainders of values of one format, and the operators `%` and `%=`.
 
 ghost use Rattle.std.specs.Prelude.{◌≡◌, ℤ, ◌<◌, pos, ◌+ℤ◌, ◌-ℤ◌, ◌≤ℤ◌};
+ghost use Rattle.apfloat_base.specs.declared.status.StatusAnd.{StatusAnd};
 ghost use Rattle.apfloat_base.specs.Flags.{Gives};
 ghost use Rattle.apfloat_base.specs.Exponents.{IsIlogb};
 ghost use Rattle.apfloat_base.specs.Remainders.{IsTruncatedRemainder, IsNearestRemainder, ones_of_quotient};
@@ -50,10 +51,6 @@ impl<S: Semantics> IeeeFloat<S> {
 impl<S: Semantics> Rem for IeeeFloat<S> {
     type Output = StatusAnd<IeeeFloat<S>>;
 
-    ghost use Rattle.apfloat_base.specs.Flags.{Gives};
-    ghost use Rattle.apfloat_base.specs.Remainders.{IsTruncatedRemainder};
-    ghost use Rattle.apfloat_ieee.specs.Types.{format_of};
-
     ghost rem_gives = { λ x y r. Gives (IsTruncatedRemainder (format_of S.Semantics) x y) r };
 
     /// The remainder by the quotient cut toward zero, which is exact.
@@ -64,11 +61,8 @@ impl<S: Semantics> Rem for IeeeFloat<S> {
 }
 
 impl<S: Semantics> RemAssign for IeeeFloat<S> {
-    ghost use Rattle.std.specs.Prelude.{ℕ};
-    ghost use Rattle.apfloat_base.specs.Remainders.{IsTruncatedRemainder};
-    ghost use Rattle.apfloat_ieee.specs.Types.{format_of};
-
-    ghost rem_assign_gives = { λ x y z. (status : ℕ) × IsTruncatedRemainder (format_of S.Semantics) x y z status };
+    ghost rem_assign_gives = { λ x y z. (r : StatusAnd Self) ×
+        Gives (IsTruncatedRemainder (format_of S.Semantics) x y) r × (z ≡ r.value) };
 
     /// The remainder by `%`; its status is dropped.
     #[inline]

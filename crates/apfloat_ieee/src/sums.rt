@@ -77,7 +77,8 @@ impl<S: Semantics> Add for IeeeFloat<S> {
 impl<S: Semantics> Sub for IeeeFloat<S> {
     type Output = StatusAnd<IeeeFloat<S>>;
 
-    ghost sub_gives = { λ x y r. Gives (IsDifference (format_of S.Semantics) NearestTiesToEven x y) r };
+    ghost sub_gives = { λ x y r. Gives
+        (IsDifference (format_of S.Semantics) NearestTiesToEven x y) r };
 
     /// The difference, rounded once to the nearest value, a tie to the even one.
     #[inline]
@@ -87,7 +88,8 @@ impl<S: Semantics> Sub for IeeeFloat<S> {
 }
 
 impl<S: Semantics> AddAssign for IeeeFloat<S> {
-    ghost add_assign_gives = { λ x y z. (r : StatusAnd Self) × Gives (IsSum (format_of S.Semantics) NearestTiesToEven x y) r × (z ≡ r.value) };
+    ghost add_assign_gives = { λ x y z. (r : StatusAnd Self)
+        × Gives (IsSum (format_of S.Semantics) NearestTiesToEven x y) r × (z ≡ r.value) };
 
     /// The sum by `+`; its status is dropped.
     #[inline]
@@ -97,7 +99,8 @@ impl<S: Semantics> AddAssign for IeeeFloat<S> {
 }
 
 impl<S: Semantics> SubAssign for IeeeFloat<S> {
-    ghost sub_assign_gives = { λ x y z. (r : StatusAnd Self) × Gives (IsDifference (format_of S.Semantics) NearestTiesToEven x y) r × (z ≡ r.value) };
+    ghost sub_assign_gives = { λ x y z. (r : StatusAnd Self)
+        × Gives (IsDifference (format_of S.Semantics) NearestTiesToEven x y) r × (z ≡ r.value) };
 
     /// The difference by `-`; its status is dropped.
     #[inline]

@@ -31,7 +31,9 @@ pub(crate) fn read_text<S: Semantics>(
 impl<S: Semantics> FromStr for IeeeFloat<S> {
     type Err = ParseError;
 
-    ghost from_str_gives = { λ text r. (answer : Result (StatusAnd Datum) ParseError) × IsRead (format_of S.Semantics) NearestTiesToEven text answer × (r ≡ without_status answer) };
+    ghost from_str_gives = { λ text r. (answer : Result (StatusAnd Datum) ParseError)
+        × IsRead (format_of S.Semantics) NearestTiesToEven text answer
+        × (r ≡ without_status answer) };
 
     /// Reads a text as `from_str_r` does, to the nearest value, a tie to the even one, and drops the status.
     fn from_str(s: &str) -> Result<Self, ParseError> {

@@ -59,13 +59,15 @@ single_normalised x s r =
       nearest = n.nearest;
       status = n.status;
       is_nearest =
-          subst (λ (l : Datum). IsSum double NearestTiesToEven x.high l n.nearest n.status) (sym s.low_is) n.is_nearest;
+          subst (λ (l : Datum). IsSum double NearestTiesToEven x.high l n.nearest n.status) (sym s.low_is)
+              n.is_nearest;
       same_number = n.same_number;
     }
 
 -- z and w are the exact sum
 singles_open : (x y : Pair) (z q v r d e u w : ℤ) → IsDoubleAlone x → IsDoubleAlone y
-    → IsPairOpening x y z q v r d e u w → ((z +ℤ w) ≡ (number x.high +ℤ number y.high)) × IsShared double.precision z w
+    → IsPairOpening x y z q v r d e u w
+    → ((z +ℤ w) ≡ (number x.high +ℤ number y.high)) × IsShared double.precision z w
 singles_open x y z q v r d e u w s t k =
     exact_opening double.precision wide_enough (number x.high) (number x.low) (number y.high)
     (number y.low) z q v r d e u w

@@ -67,5 +67,6 @@ pair_to_signed_below mode width x number flags exact answer status is_exact e h 
       exact = exact;
       is_magnitude = h;
       is =
-          subst (λ (b : Bool). IsNegatedWhole b width number flags exact answer status is_exact) (zero_agrees x.high) w;
+          subst (λ (b : Bool). IsNegatedWhole b width number flags exact answer status is_exact)
+              (zero_agrees x.high) w;
     })

@@ -21,13 +21,19 @@ use Rattle.apfloat_texts.specs.LiteralParts.{IsLiteralRead}
 
 -- ---- the number behind the prefix
 
-fault_free : (rest tail : List ℕ) (significand : ℕ) (loss : Loss) (cut places : ℕ) (some : Bool) → is_empty rest ≡ false
-    → IsScanned rest tail significand loss cut places some → fault_behind some tail ≡ None → behind_prefix_fault rest ≡ None
+fault_free : (rest tail : List ℕ) (significand : ℕ) (loss : Loss) (cut places : ℕ) (some : Bool)
+    → is_empty rest ≡ false
+    → IsScanned rest tail significand loss cut places some → fault_behind some tail ≡ None
+    → behind_prefix_fault rest ≡ None
 fault_free rest tail significand loss cut places some n s f = rw (n, s.one_dot, s.empty_is, s.tail_is) f
 
-pub literal_read : (shape : Shape) (mode : Round) (negative : Bool) (rest tail : List ℕ) (significand : ℕ) (loss : Loss) (cut places : ℕ) (some : Bool) (answer : StatusAnd Unpacked)
-    → is_empty rest ≡ false → IsScanned rest tail significand loss cut places some → fault_behind some tail ≡ None → IsStored shape answer.value
-    → IsScaledDelivery (format_at shape) mode negative (digits_number rest) ((exponent_number (drop 1 tail) -ℤ pos (4 * places)) +ℤ pos (format_at shape).scale) (datum_at shape answer.value) (bits_of answer.status)
+pub literal_read : (shape : Shape) (mode : Round) (negative : Bool) (rest tail : List ℕ) (significand : ℕ)
+    (loss : Loss) (cut places : ℕ) (some : Bool) (answer : StatusAnd Unpacked)
+    → is_empty rest ≡ false → IsScanned rest tail significand loss cut places some → fault_behind some tail ≡ None
+    → IsStored shape answer.value
+    → IsScaledDelivery (format_at shape) mode negative (digits_number rest)
+    ((exponent_number (drop 1 tail) -ℤ pos (4 * places)) +ℤ pos (format_at shape).scale)
+        (datum_at shape answer.value) (bits_of answer.status)
     → IsLiteralRead shape mode negative rest answer
 literal_read shape mode negative rest tail significand loss cut places some answer n s f stored d =
     record {

@@ -7,12 +7,15 @@ use Rattle.apfloat_base.specs.Specials.{inside, in_parentheses, plain_payload, p
 use Rattle.apfloat_base.proofs.Choices.{eqb_self}
 
 -- with another last character it is the same only if it had that one
-last_same : (d : ℕ) (ys : List ℕ) → same (d ∷ ys) (take (length ys) (d ∷ ys) ++ (41 ∷ [])) ≡ eqb (get_or (d ∷ ys) (length ys) 0) 41
+last_same : (d : ℕ) (ys : List ℕ)
+    → same (d ∷ ys) (take (length ys) (d ∷ ys) ++ (41 ∷ [])) ≡ eqb (get_or (d ∷ ys) (length ys) 0) 41
 last_same d [] = and-true (eqb d 41)
 last_same d (e ∷ ys) = rw (eqb_self d) (last_same e ys)
 
 -- a text of two characters or more is in parentheses if its ends are
-by_ends : (c d : ℕ) (ys : List ℕ) → same (c ∷ d ∷ ys) (in_parentheses (inside (c ∷ d ∷ ys))) ≡ (eqb c 40 && eqb (get_or (d ∷ ys) (length ys) 0) 41)
+by_ends : (c d : ℕ) (ys : List ℕ)
+    → same (c ∷ d ∷ ys) (in_parentheses (inside (c ∷ d ∷ ys)))
+    ≡ (eqb c 40 && eqb (get_or (d ∷ ys) (length ys) 0) 41)
 by_ends c d ys =
     let e : length (c ∷ d ∷ ys) - 2 ≡ length ys = omega arith in
     rw e (ap (λ (b : Bool). eqb c 40 && b) (last_same d ys))
@@ -22,7 +25,8 @@ last_of c d ys =
     let e : length (c ∷ d ∷ ys) - 1 ≡ length (d ∷ ys) = omega arith in
     ap (λ (n : ℕ). get_or (c ∷ d ∷ ys) n 0) e
 
-pub within : (xs : List ℕ) → 2 ≤ length xs → get_or xs 0 0 ≡ 40 → get_or xs (length xs - 1) 0 ≡ 41 → payload_of xs ≡ plain_payload (inside xs)
+pub within : (xs : List ℕ) → 2 ≤ length xs → get_or xs 0 0 ≡ 40 → get_or xs (length xs - 1) 0 ≡ 41
+    → payload_of xs ≡ plain_payload (inside xs)
 within [] h p q = absurd (omega (arith, h))
 within (c ∷ []) h p q = absurd (omega (arith, h))
 within (c ∷ d ∷ ys) h p q =
@@ -32,13 +36,18 @@ within (c ∷ d ∷ ys) h p q =
 pub without_start : (xs : List ℕ) → 2 ≤ length xs → (get_or xs 0 0 ≡ 40 → ⊥) → payload_of xs ≡ plain_payload xs
 without_start [] h p = absurd (omega (arith, h))
 without_start (c ∷ []) h p = absurd (omega (arith, h))
-without_start (c ∷ d ∷ ys) h p = cond-false _ _ _ (by_ends c d ys ∙ ap (λ (b : Bool). b && eqb (get_or (d ∷ ys) (length ys) 0) 41) (ne_eqb c 40 p))
+without_start (c ∷ d ∷ ys) h p =
+    cond-false _ _ _
+        (by_ends c d ys ∙ ap (λ (b : Bool). b && eqb (get_or (d ∷ ys) (length ys) 0) 41) (ne_eqb c 40 p))
 
-pub without_end : (xs : List ℕ) → 2 ≤ length xs → (get_or xs (length xs - 1) 0 ≡ 41 → ⊥) → payload_of xs ≡ plain_payload xs
+pub without_end : (xs : List ℕ) → 2 ≤ length xs → (get_or xs (length xs - 1) 0 ≡ 41 → ⊥)
+    → payload_of xs ≡ plain_payload xs
 without_end [] h p = absurd (omega (arith, h))
 without_end (c ∷ []) h p = absurd (omega (arith, h))
 without_end (c ∷ d ∷ ys) h p =
-    cond-false _ _ _ (by_ends c d ys ∙ and_right (eqb c 40) _ (ne_eqb (get_or (d ∷ ys) (length ys) 0) 41 (λ e. p (last_of c d ys ∙ e))))
+    cond-false _ _ _
+        (by_ends c d ys ∙
+            and_right (eqb c 40) _ (ne_eqb (get_or (d ∷ ys) (length ys) 0) 41 (λ e. p (last_of c d ys ∙ e))))
 
 pub too_short : (xs : List ℕ) → 1 ≤ length xs → length xs < 2 → payload_of xs ≡ plain_payload xs
 too_short [] h l = absurd (omega (arith, h))

@@ -21,7 +21,8 @@ fold_grows radix n (c ∷ digits) =
     let one = grown radix n c in
     omega (arith, more, one)
 
-stops : (radix : Radix) (n c : ℕ) (digits : List ℕ) (b l : Bool) → is_digit_of radix c ≡ b → ltb (longer radix n c) (2 ^ 128) ≡ l
+stops : (radix : Radix) (n c : ℕ) (digits : List ℕ) (b l : Bool) → is_digit_of radix c ≡ b
+    → ltb (longer radix n c) (2 ^ 128) ≡ l
     → (if b && l then Some (longer radix n c) else None) ≡ None → read_on radix n (c ∷ digits) ≡ None
 stops radix n c digits false l p q e = first_fails (is_digit_of radix c) (every (is_digit_of radix) digits) _ _ p
 stops radix n c digits true false p q e =
@@ -31,21 +32,26 @@ stops radix n c digits true false p q e =
     ∙ last_fails (every (is_digit_of radix) digits) _ _ (le-ltb _ _ (omega (arith, g, f)))
 stops radix n c digits true true p q e = cc
 
-goes : (radix : Radix) (n c m : ℕ) (digits : List ℕ) (b l : Bool) → is_digit_of radix c ≡ b → ltb (longer radix n c) (2 ^ 128) ≡ l
-    → (if b && l then Some (longer radix n c) else None) ≡ Some m → (m < 2 ^ 128) × (read_on radix n (c ∷ digits) ≡ read_on radix m digits)
+goes : (radix : Radix) (n c m : ℕ) (digits : List ℕ) (b l : Bool) → is_digit_of radix c ≡ b
+    → ltb (longer radix n c) (2 ^ 128) ≡ l
+    → (if b && l then Some (longer radix n c) else None) ≡ Some m
+    → (m < 2 ^ 128) × (read_on radix n (c ∷ digits) ≡ read_on radix m digits)
 goes radix n c m digits false l p q e = cc
 goes radix n c m digits true false p q e = cc
 goes radix n c m digits true true p q e =
     let same : longer radix n c ≡ m = cc in
     let small = ltb-true (longer radix n c) (2 ^ 128) q in
-    (omega (arith, same, small), first_holds (is_digit_of radix c) (every (is_digit_of radix) digits) _ _ p ∙ ap (λ (k : ℕ). read_on radix k digits) same)
+    (omega (arith, same, small), first_holds (is_digit_of radix c) (every (is_digit_of radix) digits) _ _ p ∙
+        ap (λ (k : ℕ). read_on radix k digits) same)
 
 -- ---- all of them
 
-pub payload_stops : (radix : Radix) (digits left : List ℕ) (n c : ℕ) → IsPayloadRead radix digits (c ∷ left) n → next radix n c ≡ None → payload_of_digits radix digits ≡ None
+pub payload_stops : (radix : Radix) (digits left : List ℕ) (n c : ℕ) → IsPayloadRead radix digits (c ∷ left) n
+    → next radix n c ≡ None → payload_of_digits radix digits ≡ None
 payload_stops radix digits left n c i e = i.read ∙ stops radix n c left _ _ refl refl e
 
-pub payload_goes : (radix : Radix) (digits left : List ℕ) (n c m : ℕ) → IsPayloadRead radix digits (c ∷ left) n → next radix n c ≡ Some m → IsPayloadRead radix digits left m
+pub payload_goes : (radix : Radix) (digits left : List ℕ) (n c m : ℕ) → IsPayloadRead radix digits (c ∷ left) n
+    → next radix n c ≡ Some m → IsPayloadRead radix digits left m
 payload_goes radix digits left n c m i e =
     let g = goes radix n c m left _ _ refl refl e in
     record { small = g.0; read = i.read ∙ g.1 }

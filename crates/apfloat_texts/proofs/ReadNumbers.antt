@@ -25,7 +25,8 @@ use Rattle.apfloat_texts.specs.Saturation.{IsNear}
 
 -- ---- far magnitudes, by the place z of the lowest digit that is kept
 
-far_up : (f : Format) (number s k : ℕ) (z p : ℤ) → 0 < s → s * 2 ^ k ≤ number → p ≡ z -ℤ pos k → pos (f.precision + f.span) ≤ℤ z
+far_up : (f : Format) (number s k : ℕ) (z p : ℤ) → 0 < s → s * 2 ^ k ≤ number → p ≡ z -ℤ pos k
+    → pos (f.precision + f.span) ≤ℤ z
     → IsFarAbove f (number * 2 ^ up p) (2 ^ down p)
 far_up f number s k z p some from e far =
     let a : 1 * 2 ^ k ≤ s * 2 ^ k = mul-le-mul_right (2 ^ k) some in
@@ -33,11 +34,13 @@ far_up f number s k z p some from e far =
     let c : 2 ^ k * 2 ^ up p ≤ number * 2 ^ up p = mul-le-mul_right (2 ^ up p) b in
     let g : f.precision + f.span + down p ≤ k + up p = omega (arith, ints, e, far) in
     let h : 2 ^ (f.precision + f.span + down p) ≤ 2 ^ (k + up p) = pow-le-pow_right two_pos g in
-    let i : 2 ^ (f.precision + f.span + down p) ≡ 2 ^ (f.precision + f.span) * 2 ^ down p = pow-add 2 (f.precision + f.span) (down p) in
+    let i : 2 ^ (f.precision + f.span + down p) ≡ 2 ^ (f.precision + f.span) * 2 ^ down p =
+        pow-add 2 (f.precision + f.span) (down p) in
     let j : 2 ^ (k + up p) ≡ 2 ^ k * 2 ^ up p = pow-add 2 k (up p) in
     record { some = pow_pos (down p); from = omega (arith, c, h, i, j) }
 
-far_down : (number s k : ℕ) (z p : ℤ) → 0 < number → s < 2 ^ 128 → number < (s + 1) * 2 ^ k → p ≡ z -ℤ pos k → z ≤ℤ neg_ℤ (pos 129)
+far_down : (number s k : ℕ) (z p : ℤ) → 0 < number → s < 2 ^ 128 → number < (s + 1) * 2 ^ k → p ≡ z -ℤ pos k
+    → z ≤ℤ neg_ℤ (pos 129)
     → IsFarBelow (number * 2 ^ up p) (2 ^ down p)
 far_down number s k z p some small to e far =
     let l : s + 1 ≤ 2 ^ 128 = omega (arith, small) in
@@ -63,7 +66,8 @@ pub record IsBounded (f : Format) : Type 0 where
   pub above : f.precision + f.span ≤ 4000000
   pub below : f.scale ≤ 4000000
 
-moved : (f : Format) (mode : Round) (negative : Bool) (number s cut : ℕ) (loss : Loss) (exact unit : ℤ) (v : Datum) (status : ℕ)
+moved : (f : Format) (mode : Round) (negative : Bool) (number s cut : ℕ) (loss : Loss) (exact unit : ℤ) (v : Datum)
+    (status : ℕ)
     → IsBounded f → 0 < s → s < 2 ^ 128 → IsKept number s loss cut → IsNear 4194304 exact unit
     → IsScaledDelivery f mode negative number (power_at (4 * cut) f.scale unit) v status
     → IsScaledDelivery f mode negative number (power_at (4 * cut) f.scale exact) v status
@@ -91,30 +95,42 @@ moved f mode negative number s cut loss exact unit v status b some small k (inr 
 
 -- ---- the kept digits
 
-balanced : (k scale : ℕ) (unit : ℤ) → k + (up (power_at k scale unit) + down (unit +ℤ pos scale)) ≡ down (power_at k scale unit) + up (unit +ℤ pos scale)
+balanced : (k scale : ℕ) (unit : ℤ)
+    → k + (up (power_at k scale unit) + down (unit +ℤ pos scale))
+    ≡ down (power_at k scale unit) + up (unit +ℤ pos scale)
 balanced k scale unit = omega (arith, ints)
 
 stands_at : (number s k scale : ℕ) (loss : Loss) (unit : ℤ) → StandsFor s loss number (2 ^ k)
-    → StandsFor s loss (number * 2 ^ up (power_at k scale unit) * 2 ^ down (unit +ℤ pos scale)) (2 ^ down (power_at k scale unit) * 2 ^ up (unit +ℤ pos scale))
+    → StandsFor s loss (number * 2 ^ up (power_at k scale unit) * 2 ^ down (unit +ℤ pos scale))
+    (2 ^ down (power_at k scale unit) * 2 ^ up (unit +ℤ pos scale))
 stands_at number s k scale loss unit h =
     let p = power_at k scale unit in
     let u = unit +ℤ pos scale in
     let w : ℕ = 2 ^ (up p + down u) in
     let a = stands_times s loss number (2 ^ k) w (pow_pos (up p + down u)) h in
-    let b : number * w ≡ number * 2 ^ up p * 2 ^ down u = ap (λ (x : ℕ). number * x) (pow-add 2 (up p) (down u)) ∙ omega arith in
-    let c : 2 ^ k * w ≡ 2 ^ down p * 2 ^ up u = sym (pow-add 2 k (up p + down u)) ∙ ap (λ (x : ℕ). 2 ^ x) (balanced k scale unit) ∙ pow-add 2 (down p) (up u) in
+    let b : number * w ≡ number * 2 ^ up p * 2 ^ down u = ap (λ (x : ℕ). number * x) (pow-add 2 (up p) (down u)) ∙
+        omega arith in
+    let c : 2 ^ k * w ≡ 2 ^ down p * 2 ^ up u = sym (pow-add 2 k (up p + down u)) ∙
+        ap (λ (x : ℕ). 2 ^ x) (balanced k scale unit) ∙ pow-add 2 (down p) (up u) in
     rw (b, c) at a
 
-pub number_delivered : (f : Format) (mode : Round) (negative : Bool) (number s cut places : ℕ) (loss : Loss) (exact unit : ℤ) (v : Datum) (status : ℕ)
-    → IsBounded f → 0 < s → s < 2 ^ 128 → IsKept number s loss cut → IsNear 4194304 ((exact +ℤ pos (4 * cut)) -ℤ pos (4 * places)) unit
-    → ((amount parts : ℕ) → 0 < parts → StandsFor s loss (amount * 2 ^ down (unit +ℤ pos f.scale)) (parts * 2 ^ up (unit +ℤ pos f.scale)) → IsDelivered f mode negative amount parts v status)
+pub number_delivered : (f : Format) (mode : Round) (negative : Bool) (number s cut places : ℕ) (loss : Loss)
+    (exact unit : ℤ) (v : Datum) (status : ℕ)
+    → IsBounded f → 0 < s → s < 2 ^ 128 → IsKept number s loss cut
+    → IsNear 4194304 ((exact +ℤ pos (4 * cut)) -ℤ pos (4 * places)) unit
+    → ((amount parts : ℕ) → 0 < parts
+    → StandsFor s loss (amount * 2 ^ down (unit +ℤ pos f.scale)) (parts * 2 ^ up (unit +ℤ pos f.scale))
+    → IsDelivered f mode negative amount parts v status)
     → IsScaledDelivery f mode negative number ((exact -ℤ pos (4 * places)) +ℤ pos f.scale) v status
 number_delivered f mode negative number s cut places loss exact unit v status b some small k near step =
-    let d = step (number * 2 ^ up (power_at (4 * cut) f.scale unit)) (2 ^ down (power_at (4 * cut) f.scale unit)) (pow_pos (down (power_at (4 * cut) f.scale unit)))
+    let d = step (number * 2 ^ up (power_at (4 * cut) f.scale unit)) (2 ^ down (power_at (4 * cut) f.scale unit))
+        (pow_pos (down (power_at (4 * cut) f.scale unit)))
     (stands_at number s (4 * cut) f.scale loss unit k.stands) in
-    let e : power_at (4 * cut) f.scale ((exact +ℤ pos (4 * cut)) -ℤ pos (4 * places)) ≡ (exact -ℤ pos (4 * places)) +ℤ pos f.scale = omega (arith, ints) in
+    let e : power_at (4 * cut) f.scale ((exact +ℤ pos (4 * cut)) -ℤ pos (4 * places))
+        ≡ (exact -ℤ pos (4 * places)) +ℤ pos f.scale = omega (arith, ints) in
     subst (λ (z : ℤ). IsScaledDelivery f mode negative number z v status) e
-    (moved f mode negative number s cut loss ((exact +ℤ pos (4 * cut)) -ℤ pos (4 * places)) unit v status b some small k near d)
+    (moved f mode negative number s cut loss ((exact +ℤ pos (4 * cut)) -ℤ pos (4 * places)) unit v status b some
+        small k near d)
 
 -- ---- nothing
 
@@ -122,20 +138,24 @@ pub nothing_read : (number cut : ℕ) (loss : Loss) → IsKept number 0 loss cut
 nothing_read number cut loss k =
     ⊎_elim
     (λ (e : cut ≡ 0).
-    let h : number ≡ 0 * 2 ^ (4 * cut) = subst (λ (x : Loss). StandsFor 0 x number (2 ^ (4 * cut))) (k.exact e) k.stands in
+    let h : number ≡ 0 * 2 ^ (4 * cut) =
+        subst (λ (x : Loss). StandsFor 0 x number (2 ^ (4 * cut))) (k.exact e) k.stands in
     omega (arith, h))
     (λ (l : 2 ^ 124 ≤ 0). absurd (omega (arith, l)))
     k.full
 
-pub zero_delivered : (f : Format) (mode : Round) (negative : Bool) (number s cut : ℕ) (loss : Loss) (power : ℤ) (v : Datum) (status : ℕ) → s ≡ 0 → IsKept number s loss cut
-    → v ≡ finite (zero_sign f.nonfinite negative) 0 → status ≡ 0 → IsScaledDelivery f mode negative number power v status
+pub zero_delivered : (f : Format) (mode : Round) (negative : Bool) (number s cut : ℕ) (loss : Loss) (power : ℤ)
+    (v : Datum) (status : ℕ) → s ≡ 0 → IsKept number s loss cut
+    → v ≡ finite (zero_sign f.nonfinite negative) 0 → status ≡ 0
+    → IsScaledDelivery f mode negative number power v status
 zero_delivered f mode negative number s cut loss power v status z k e o =
     let n : number ≡ 0 = nothing_read number cut loss (subst (λ (x : ℕ). IsKept number x loss cut) z k) in
     rw (n, e, o) (zero_text f mode negative power)
 
 -- ---- for the kernel
 
-pub fine_digits : {A : Type 0} (precision number s cut : ℕ) (loss : Loss) → precision ≤ 125 → IsKept number s loss cut → (loss ≡ ExactlyZero) ⊎ (A ⊎ (2 ^ (precision - 1) ≤ s))
+pub fine_digits : {A : Type 0} (precision number s cut : ℕ) (loss : Loss) → precision ≤ 125
+    → IsKept number s loss cut → (loss ≡ ExactlyZero) ⊎ (A ⊎ (2 ^ (precision - 1) ≤ s))
 fine_digits precision number s cut loss p k =
     ⊎_elim
     (λ (e : cut ≡ 0). inl (k.exact e))

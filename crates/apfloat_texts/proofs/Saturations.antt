@@ -18,11 +18,14 @@ count_goes digits left c counted after d step fits i =
 
 -- a sum with what is far is far
 pub near_sum : (exact e r : ℤ) (cut places : ℕ) → cut < 2 ^ 64 → places < 2 ^ 64 → IsNear (2 ^ 96) exact e
-    → IsNear 4194304 ((e +ℤ pos (4 * cut)) -ℤ pos (4 * places)) r → IsNear 4194304 ((exact +ℤ pos (4 * cut)) -ℤ pos (4 * places)) r
+    → IsNear 4194304 ((e +ℤ pos (4 * cut)) -ℤ pos (4 * places)) r
+    → IsNear 4194304 ((exact +ℤ pos (4 * cut)) -ℤ pos (4 * places)) r
 near_sum exact e r cut places a b (inl x) y = rw x at y
-near_sum exact e r cut places a b (inr (inl x)) (inl y) = inr (inl (omega (arith, ints, x, y), omega (arith, ints, x, y)))
+near_sum exact e r cut places a b (inr (inl x)) (inl y) =
+    inr (inl (omega (arith, ints, x, y), omega (arith, ints, x, y)))
 near_sum exact e r cut places a b (inr (inl x)) (inr (inl y)) = inr (inl (y.0, omega (arith, ints, x, y)))
 near_sum exact e r cut places a b (inr (inl x)) (inr (inr y)) = absurd (omega (arith, ints, x, y))
-near_sum exact e r cut places a b (inr (inr x)) (inl y) = inr (inr (omega (arith, ints, x, y), omega (arith, ints, x, y)))
+near_sum exact e r cut places a b (inr (inr x)) (inl y) =
+    inr (inr (omega (arith, ints, x, y), omega (arith, ints, x, y)))
 near_sum exact e r cut places a b (inr (inr x)) (inr (inl y)) = absurd (omega (arith, ints, x, y))
 near_sum exact e r cut places a b (inr (inr x)) (inr (inr y)) = inr (inr (y.0, omega (arith, ints, x, y)))

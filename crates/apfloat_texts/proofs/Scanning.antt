@@ -11,25 +11,29 @@ use Rattle.apfloat_texts.specs.Scans.{IsKept, IsScan, IsScanned}
 -- ---- lists
 
 -- a list with a first item, as a pattern takes it apart
-pub parted : (P : List ℕ → Type 0) (xs : List ℕ) → 1 ≤ length xs → P xs → P (get_or xs 0 0 ∷ take (length xs - 1) (drop 1 xs))
+pub parted : (P : List ℕ → Type 0) (xs : List ℕ) → 1 ≤ length xs → P xs
+    → P (get_or xs 0 0 ∷ take (length xs - 1) (drop 1 xs))
 parted P [] h p = absurd (omega (arith, h))
 parted P (x ∷ xs) h p =
     let e : length (x ∷ xs) - 1 ≡ length xs = omega arith in
-    let t : take (length (x ∷ xs) - 1) xs ≡ xs = ap (λ (n : ℕ). take n xs) e ∙ take_all (length xs) xs (omega arith) in
+    let t : take (length (x ∷ xs) - 1) xs ≡ xs = ap (λ (n : ℕ). take n xs) e ∙
+        take_all (length xs) xs (omega arith) in
     subst (λ (l : List ℕ). P (x ∷ l)) (sym t) p
 
 pub begins_empty : (test : ℕ → Bool) (xs : List ℕ) → length xs < 1 → begins test xs ≡ false
 begins_empty test [] h = refl
 begins_empty test (x ∷ xs) h = absurd (omega (arith, h))
 
-pub begins_first : (test : ℕ → Bool) (xs : List ℕ) → 1 ≤ length xs → test (get_or xs 0 0) ≡ false → begins test xs ≡ false
+pub begins_first : (test : ℕ → Bool) (xs : List ℕ) → 1 ≤ length xs → test (get_or xs 0 0) ≡ false
+    → begins test xs ≡ false
 begins_first test [] h e = refl
 begins_first test (x ∷ xs) h e = e
 
 -- ---- results
 
 -- what the exit of a `?` returns
-pub refused_by : {T E : Type 0} (r : Result T E) (e : E) (P : T → Type 0) (Q : E → Type 0) → IsErrAnd r (λ y. y ≡ e) → Q e → MatchResult r P Q
+pub refused_by : {T E : Type 0} (r : Result T E) (e : E) (P : T → Type 0) (Q : E → Type 0) → IsErrAnd r (λ y. y ≡ e)
+    → Q e → MatchResult r P Q
 refused_by (Ok x) e P Q is q = absurd is
 refused_by (Err y) e P Q is q = subst Q (sym is) q
 
@@ -39,7 +43,8 @@ pub scan_remade : (rest left : List ℕ) (next made : Scan) → made ≡ next
     → IsScan rest left next.digits.significand next.digits.loss next.digits.cut next.places next.pointed next.some
     → IsScan rest left made.digits.significand made.digits.loss made.digits.cut made.places made.pointed made.some
 scan_remade rest left next made e s =
-    subst (λ (x : Scan). IsScan rest left x.digits.significand x.digits.loss x.digits.cut x.places x.pointed x.some) (sym e) s
+    subst (λ (x : Scan). IsScan rest left x.digits.significand x.digits.loss x.digits.cut x.places x.pointed x.some)
+        (sym e) s
 
 -- ---- the end of a significand
 
@@ -64,7 +69,8 @@ only_not true = refl
 only_not false = refl
 
 pub scan_ended : (rest left : List ℕ) (significand : ℕ) (loss : Loss) (cut places : ℕ) (pointed some : Bool)
-    → IsScan rest left significand loss cut places pointed some → begins is_digit_or_dot left ≡ false → IsScanned rest left significand loss cut places some
+    → IsScan rest left significand loss cut places pointed some → begins is_digit_or_dot left ≡ false
+    → IsScanned rest left significand loss cut places some
 scan_ended rest left significand loss cut places pointed some s h =
     let e = ended left h in
     record {

@@ -23,13 +23,16 @@ use Rattle.apfloat_texts.specs.LiteralParts.{IsLiteralRead}
 use Rattle.apfloat_texts.specs.Payloads.{meaning_of}
 use Rattle.apfloat_texts.specs.TextsRead.{IsTextRead}
 
-means_special : (text : List ℕ) (negative : Bool) (special : Special) → special_of text ≡ Some (meaning_of negative special) → Means text (meaning_of negative special)
+means_special : (text : List ℕ) (negative : Bool) (special : Special)
+    → special_of text ≡ Some (meaning_of negative special) → Means text (meaning_of negative special)
 means_special text negative Infinity e = e
 means_special text negative (Quiet payload) e = e
 means_special text negative (Signaling payload) e = e
 
-pub special_read : (shape : Shape) (mode : Round) (text : List ℕ) (negative : Bool) (special : Special) (value : Unpacked) (answer : StatusAnd Unpacked)
-    → special_of text ≡ Some (meaning_of negative special) → IsStored shape value → ((m : Round) → IsMeant (format_at shape) m (meaning_of negative special) (datum_at shape value) 0)
+pub special_read : (shape : Shape) (mode : Round) (text : List ℕ) (negative : Bool) (special : Special)
+    (value : Unpacked) (answer : StatusAnd Unpacked)
+    → special_of text ≡ Some (meaning_of negative special) → IsStored shape value
+    → ((m : Round) → IsMeant (format_at shape) m (meaning_of negative special) (datum_at shape value) 0)
     → answer.value ≡ value → bits_of answer.status ≡ 0 → IsTextRead shape mode text answer
 special_read shape mode text negative special value answer e stored meant v s =
     record {
@@ -38,8 +41,10 @@ special_read shape mode text negative special value answer e stored meant v s =
         meaning = meaning_of negative special;
         means = means_special text negative special e;
         is_meant =
-            subst (λ (b : ℕ). IsMeant (format_at shape) mode (meaning_of negative special) (datum_at shape answer.value) b) (sym s)
-            (subst (λ (x : Unpacked). IsMeant (format_at shape) mode (meaning_of negative special) (datum_at shape x) 0) (sym v) (meant mode));
+            subst (λ (b : ℕ). IsMeant (format_at shape) mode (meaning_of negative special)
+                (datum_at shape answer.value) b) (sym s)
+            (subst (λ (x : Unpacked). IsMeant (format_at shape) mode (meaning_of negative special)
+                (datum_at shape x) 0) (sym v) (meant mode));
       };
     }
 
@@ -65,27 +70,36 @@ no_special text b =
     (λ (p : body ≡ codes "0X" ++ rest). ap meaning p ∙ no_capital_special (mark_of text) rest)
     (begun_of body b)
 
-literal_fault_is : (text : List ℕ) → is_empty text ≡ false → is_empty (behind_mark text) ≡ false → special_of text ≡ None → begins_literal (behind_mark text) ≡ true
+literal_fault_is : (text : List ℕ) → is_empty text ≡ false → is_empty (behind_mark text) ≡ false
+    → special_of text ≡ None → begins_literal (behind_mark text) ≡ true
     → fault_of text ≡ behind_prefix_fault (drop 2 (behind_mark text))
 literal_fault_is text t b s l = rw (t, b, s, l) refl
 
-text_of_literal : (shape : Shape) (mode : Round) (text : List ℕ) (answer : StatusAnd Unpacked) → begins_literal (behind_mark text) ≡ true
-    → IsLiteralRead shape mode (is_minus (mark_of text)) (drop 2 (behind_mark text)) answer → IsTextRead shape mode text answer
+text_of_literal : (shape : Shape) (mode : Round) (text : List ℕ) (answer : StatusAnd Unpacked)
+    → begins_literal (behind_mark text) ≡ true
+    → IsLiteralRead shape mode (is_minus (mark_of text)) (drop 2 (behind_mark text)) answer
+    → IsTextRead shape mode text answer
 text_of_literal shape mode text answer l r =
     let rest = drop 2 (behind_mark text) in
     record {
       stored = r.stored;
       reading = record {
-        meaning = hexadecimal (is_minus (mark_of text)) (digits_number rest) (places_behind_dot rest) (exponent_number (exponent_text rest));
+        meaning = hexadecimal (is_minus (mark_of text)) (digits_number rest) (places_behind_dot rest)
+            (exponent_number (exponent_text rest));
         means = literal_meaning text l r.no_fault;
         is_meant = r.delivered;
       };
     }
 
-pub literal_text : (shape : Shape) (mode : Round) (text rest : List ℕ) (negative : Bool) (result : Result (StatusAnd Unpacked) Fault)
+pub literal_text : (shape : Shape) (mode : Round) (text rest : List ℕ) (negative : Bool)
+    (result : Result (StatusAnd Unpacked) Fault)
     → is_empty text ≡ false → is_empty (behind_mark text) ≡ false → begins_literal (behind_mark text) ≡ true
     → rest ≡ drop 2 (behind_mark text) → negative ≡ is_minus (mark_of text)
-    → MatchResult result (λ answer. IsLiteralRead shape mode negative rest answer) (λ fault. behind_prefix_fault rest ≡ Some (fault_at fault))
-    → MatchResult result (λ answer. IsTextRead shape mode text answer) (λ fault. fault_of text ≡ Some (fault_at fault))
-literal_text shape mode text rest negative (Ok answer) t b l r n h = text_of_literal shape mode text answer l (rw (r, n) at h)
-literal_text shape mode text rest negative (Err fault) t b l r n h = literal_fault_is text t b (no_special text l) l ∙ (rw r at h)
+    → MatchResult result (λ answer. IsLiteralRead shape mode negative rest answer)
+    (λ fault. behind_prefix_fault rest ≡ Some (fault_at fault))
+    → MatchResult result (λ answer. IsTextRead shape mode text answer)
+    (λ fault. fault_of text ≡ Some (fault_at fault))
+literal_text shape mode text rest negative (Ok answer) t b l r n h =
+    text_of_literal shape mode text answer l (rw (r, n) at h)
+literal_text shape mode text rest negative (Err fault) t b l r n h =
+    literal_fault_is text t b (no_special text l) l ∙ (rw r at h)

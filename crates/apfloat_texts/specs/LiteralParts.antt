@@ -12,8 +12,10 @@ use Rattle.apfloat_unpacked.specs.Shapes.{format_at}
 use Rattle.apfloat_unpacked.specs.Stored.{IsStored, datum_at}
 
 -- nothing is wrong with it, and it is rounded once
-pub record IsLiteralRead (shape : Shape) (mode : Round) (negative : Bool) (rest : List ℕ) (answer : StatusAnd Unpacked) : Type 0 where
+pub record IsLiteralRead (shape : Shape) (mode : Round) (negative : Bool) (rest : List ℕ)
+    (answer : StatusAnd Unpacked) : Type 0 where
   pub no_fault : behind_prefix_fault rest ≡ None
   pub stored : IsStored shape answer.value
   pub delivered : IsScaledDelivery (format_at shape) mode negative (digits_number rest)
-      ((exponent_number (exponent_text rest) -ℤ pos (4 * places_behind_dot rest)) +ℤ pos (format_at shape).scale) (datum_at shape answer.value) (bits_of answer.status)
+      ((exponent_number (exponent_text rest) -ℤ pos (4 * places_behind_dot rest)) +ℤ pos (format_at shape).scale)
+          (datum_at shape answer.value) (bits_of answer.status)

@@ -19,19 +19,24 @@ number_from n digits = fold (λ n c. n * 16 + digit_value c) n digits
 
 -- What is said of a significand by the digits that were read and by those that are left. `pointed` says that the dot was
 -- read, `some` that a digit was.
-pub record IsScan (rest left : List ℕ) (significand : ℕ) (loss : Loss) (cut places : ℕ) (pointed some : Bool) : Type 0 where
+pub record IsScan (rest left : List ℕ) (significand : ℕ) (loss : Loss) (cut places : ℕ) (pointed some : Bool) : Type
+    0 where
   pub read : ℕ
   pub kept : IsKept read significand loss cut
   pub number_is : digits_number rest ≡ number_from read (filter is_hexadecimal (significand_of left))
-  pub places_is : places_behind_dot rest ≡ places + (if pointed then length (significand_of left) else places_behind_dot left)
-  pub dots_are : length (filter is_dot (significand_of rest)) ≡ (if pointed then 1 else 0) + length (filter is_dot (significand_of left))
-  pub empty_is : is_empty (filter is_hexadecimal (significand_of rest)) ≡ (not some && is_empty (filter is_hexadecimal (significand_of left)))
+  pub places_is : places_behind_dot rest ≡ places
+      + (if pointed then length (significand_of left) else places_behind_dot left)
+  pub dots_are : length (filter is_dot (significand_of rest))
+      ≡ (if pointed then 1 else 0) + length (filter is_dot (significand_of left))
+  pub empty_is : is_empty (filter is_hexadecimal (significand_of rest))
+      ≡ (not some && is_empty (filter is_hexadecimal (significand_of left)))
   pub tail_is : behind_significand rest ≡ behind_significand left
   pub cut_fits : cut + length left ≤ length rest
   pub places_fit : places + length left ≤ length rest
 
 -- What is said of the significand that stands in front of `tail`.
-pub record IsScanned (rest tail : List ℕ) (significand : ℕ) (loss : Loss) (cut places : ℕ) (some : Bool) : Type 0 where
+pub record IsScanned (rest tail : List ℕ) (significand : ℕ) (loss : Loss) (cut places : ℕ) (some : Bool) : Type 0
+    where
   pub kept : IsKept (digits_number rest) significand loss cut
   pub places_are : places_behind_dot rest ≡ places
   pub one_dot : ltb 1 (length (filter is_dot (significand_of rest))) ≡ false

@@ -14,10 +14,12 @@ pub span_is : (s : Shape) → IsShape s → pos (format_at s).span ≡ s.max_exp
 span_is s law = omega (arith, ints, law)
 
 pub min_exp_word : (s : Shape) → IsShape s → to_z w32 (of_z w32 s.min_exp) ≡ s.min_exp
-min_exp_word s law = to_z-of_z w32 s.min_exp (fits_in w32 s.min_exp (omega (arith, ints, law.min_exp_low, law.min_exp_high)))
+min_exp_word s law =
+    to_z-of_z w32 s.min_exp (fits_in w32 s.min_exp (omega (arith, ints, law.min_exp_low, law.min_exp_high)))
 
 pub max_exp_word : (s : Shape) → IsShape s → to_z w32 (of_z w32 s.max_exp) ≡ s.max_exp
-max_exp_word s law = to_z-of_z w32 s.max_exp (fits_in w32 s.max_exp (omega (arith, ints, law.max_exp_low, law.max_exp_high)))
+max_exp_word s law =
+    to_z-of_z w32 s.max_exp (fits_in w32 s.max_exp (omega (arith, ints, law.max_exp_low, law.max_exp_high)))
 
 -- the exponent of a number
 pub exponent_word : (s : Shape) (m : ℕ) (e : ℤ) → IsShape s → IsNormal s m e → to_z w32 (of_z w32 e) ≡ e

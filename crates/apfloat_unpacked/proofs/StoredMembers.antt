@@ -17,7 +17,8 @@ use Rattle.apfloat_unpacked.specs.Stored.{IsStored, IsStoredBy, datum_at, datum_
 use Rattle.apfloat_unpacked.specs.StoredBack.{quanta_some}
 
 category_by : (k : Category) (s : Shape) (x : Unpacked) → IsStoredBy k s x → category_of (datum_by k s x) ≡ k
-category_by Normal s x h = let p = quanta_some s x.significand x.exponent h in rw (ne_eqb (quanta_at s.min_exp x.significand x.exponent) 0 (λ z. omega (arith, z, p))) refl
+category_by Normal s x h = let p = quanta_some s x.significand x.exponent h in
+    rw (ne_eqb (quanta_at s.min_exp x.significand x.exponent) 0 (λ z. omega (arith, z, p))) refl
 category_by Zero s x h = refl
 category_by Infinity s x h = refl
 category_by NaN s x h = refl
@@ -26,7 +27,8 @@ pub category_is : (s : Shape) (x : Unpacked) → IsStored s x → category_of (d
 category_is s x h = category_by x.category s x h
 
 -- a number that is stored is a point of the grid
-on_grid_at : (precision m n u d : ℕ) → m < 2 ^ precision → n * 2 ^ d ≡ m * 2 ^ u → (u ≡ 0) ⊎ (d ≡ 0) → IsOnGrid precision n
+on_grid_at : (precision m n u d : ℕ) → m < 2 ^ precision → n * 2 ^ d ≡ m * 2 ^ u → (u ≡ 0) ⊎ (d ≡ 0)
+    → IsOnGrid precision n
 on_grid_at precision m n u d h e (inl z) =
     let w : n * 2 ^ d ≡ m * 1 = e ∙ ap (λ (x : ℕ). m * 2 ^ x) z in
     let o : 1 ≤ 2 ^ d = pow_pos d in
@@ -40,7 +42,8 @@ member_by : (k : Category) (s : Shape) (x : Unpacked) → IsStoredBy k s x → I
 member_by Normal s x h =
     let p = quanta_some s x.significand x.exponent h in
     record {
-      on_grid = on_grid_at s.precision x.significand _ _ _ h.operand.fits h.whole (one_side (x.exponent -ℤ s.min_exp));
+      on_grid = on_grid_at s.precision x.significand _ _ _ h.operand.fits h.whole
+          (one_side (x.exponent -ℤ s.min_exp));
       within = h.within;
       zero_has = λ z. absurd (omega (arith, z, p));
     }

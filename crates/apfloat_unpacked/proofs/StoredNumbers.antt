@@ -20,38 +20,46 @@ pub quanta_is : (min_exp : ℤ) (s : ℕ) (e : ℤ) (n : ℕ) → IsQuantaAt min
 unfolding quanta_at
 quanta_is min_exp s e n h = rw (← h) (shl-shr n (down (e -ℤ min_exp)))
 
-pub whole_is : (min_exp : ℤ) (s : ℕ) (e : ℤ) (n : ℕ) → IsQuantaAt min_exp s e n → IsQuantaAt min_exp s e (quanta_at min_exp s e)
+pub whole_is : (min_exp : ℤ) (s : ℕ) (e : ℤ) (n : ℕ) → IsQuantaAt min_exp s e n
+    → IsQuantaAt min_exp s e (quanta_at min_exp s e)
 whole_is min_exp s e n h = rw (quanta_is min_exp s e n h) h
 
 -- a number within the largest value has its integer bit no higher than that one
-top_place : (half m place shift top span : ℕ) → half ≤ m * 2 ^ shift → top < 2 * half → m * 2 ^ place ≤ top * 2 ^ span → place ≤ span + shift
+top_place : (half m place shift top span : ℕ) → half ≤ m * 2 ^ shift → top < 2 * half
+    → m * 2 ^ place ≤ top * 2 ^ span → place ≤ span + shift
 top_place half m place shift top span full low within =
     ⊎_elim
     (λ (h : span + shift < place).
     let a : 2 ^ (span + shift + 1) ≤ 2 ^ place = pow-le-pow_right two_pos (omega arith) in
-    let b : 2 ^ (span + shift + 1) ≡ 2 ^ span * 2 ^ shift * 2 = pow-add 2 (span + shift) 1 ∙ ap (λ (x : ℕ). x * 2) (pow-add 2 span shift) in
+    let b : 2 ^ (span + shift + 1) ≡ 2 ^ span * 2 ^ shift * 2 = pow-add 2 (span + shift) 1 ∙
+        ap (λ (x : ℕ). x * 2) (pow-add 2 span shift) in
     let c : half * 2 ^ place ≤ m * 2 ^ shift * 2 ^ place = mul-le-mul_right (2 ^ place) full in
     let d : m * 2 ^ place * 2 ^ shift ≤ top * 2 ^ span * 2 ^ shift = mul-le-mul_right (2 ^ shift) within in
     let e : half * (2 ^ span * 2 ^ shift * 2) ≤ half * 2 ^ place = mul-le-mul_left half (omega arith) in
     let p : 1 ≤ 2 ^ span = pow_pos span in
     let q : 1 * 2 ^ shift ≤ 2 ^ span * 2 ^ shift = mul-le-mul_right (2 ^ shift) p in
     let r : 0 < 2 ^ shift = pow_pos shift in
-    let k : (top + 1) * (2 ^ span * 2 ^ shift) ≤ 2 * half * (2 ^ span * 2 ^ shift) = mul-le-mul_right (2 ^ span * 2 ^ shift) (omega arith) in
+    let k : (top + 1) * (2 ^ span * 2 ^ shift) ≤ 2 * half * (2 ^ span * 2 ^ shift) =
+        mul-le-mul_right (2 ^ span * 2 ^ shift) (omega arith) in
     absurd (omega arith))
     (λ (h : place ≤ span + shift). h)
     (cases_lt (span + shift) place)
 
 -- a significand moved up to its integer bit
-pub normal_at : (s : Shape) (m place shift : ℕ) (e : ℤ) → IsShape s → m * 2 ^ shift < 2 ^ s.precision → 2 ^ (s.precision - 1) ≤ m * 2 ^ shift → shift < s.precision
+pub normal_at : (s : Shape) (m place shift : ℕ) (e : ℤ) → IsShape s → m * 2 ^ shift < 2 ^ s.precision
+    → 2 ^ (s.precision - 1) ≤ m * 2 ^ shift → shift < s.precision
     → e ≡ (s.min_exp +ℤ pos place) -ℤ pos shift → IsQuantaAt s.min_exp (m * 2 ^ shift) e (m * 2 ^ place)
-    → m * 2 ^ place ≤ greatest_significand s.nonfinite s.precision * 2 ^ (format_at s).span → IsNormal s (m * 2 ^ shift) e
+    → m * 2 ^ place ≤ greatest_significand s.nonfinite s.precision * 2 ^ (format_at s).span
+    → IsNormal s (m * 2 ^ shift) e
 normal_at s m place shift e law fits full short is quanta within =
     let t : 2 * 2 ^ (s.precision - 1) ≡ 2 ^ s.precision = twice_half s.precision (omega (arith, law.precision_low)) in
     let g = greatest_fits s.nonfinite s.precision in
     let p : place ≤ (format_at s).span + shift =
-    top_place (2 ^ (s.precision - 1)) m place shift (greatest_significand s.nonfinite s.precision) (format_at s).span full (omega (arith, g, t)) within in
+    top_place (2 ^ (s.precision - 1)) m place shift (greatest_significand s.nonfinite s.precision)
+        (format_at s).span full (omega (arith, g, t)) within in
     record {
-      operand = record { fits = fits; full = full; least = omega (arith, ints); greatest = omega (arith, ints, law, p) };
+      operand = record { fits = fits; full = full; least = omega (arith, ints); greatest =
+          omega (arith, ints, law, p) };
       whole = whole_is s.min_exp (m * 2 ^ shift) e (m * 2 ^ place) quanta;
       within = rw (quanta_is s.min_exp (m * 2 ^ shift) e (m * 2 ^ place) quanta) within;
     }
@@ -67,19 +75,27 @@ pub record IsMovedUp (s : Shape) (m digits place w : ℕ) (e : ℤ) : Type 0 whe
   pub same : (s.precision - digits) + up (e -ℤ s.min_exp) ≡ place + down (e -ℤ s.min_exp)
   pub within : m * 2 ^ place ≤ greatest_significand s.nonfinite s.precision * 2 ^ (format_at s).span
 
-moved_quanta : (s : Shape) (m digits place w : ℕ) (e : ℤ) → IsMovedUp s m digits place w e → IsQuantaAt s.min_exp w e (m * 2 ^ place)
-moved_quanta s m digits place w e h = sym (same_quanta m (s.precision - digits) place (up (e -ℤ s.min_exp)) (down (e -ℤ s.min_exp)) w (sym h.moved) h.same)
+moved_quanta : (s : Shape) (m digits place w : ℕ) (e : ℤ) → IsMovedUp s m digits place w e
+    → IsQuantaAt s.min_exp w e (m * 2 ^ place)
+moved_quanta s m digits place w e h =
+    sym (same_quanta m (s.precision - digits) place (up (e -ℤ s.min_exp)) (down (e -ℤ s.min_exp)) w (sym h.moved)
+        h.same)
 
-pub moved_up_quanta : (s : Shape) (m digits place w : ℕ) (e : ℤ) → IsMovedUp s m digits place w e → quanta_at s.min_exp w e ≡ m * 2 ^ place
+pub moved_up_quanta : (s : Shape) (m digits place w : ℕ) (e : ℤ) → IsMovedUp s m digits place w e
+    → quanta_at s.min_exp w e ≡ m * 2 ^ place
 moved_up_quanta s m digits place w e h = quanta_is s.min_exp w e (m * 2 ^ place) (moved_quanta s m digits place w e h)
 
-pub moved_up_normal : (s : Shape) (m digits place w : ℕ) (e : ℤ) → IsShape s → IsMovedUp s m digits place w e → IsNormal s w e
+pub moved_up_normal : (s : Shape) (m digits place w : ℕ) (e : ℤ) → IsShape s → IsMovedUp s m digits place w e
+    → IsNormal s w e
 moved_up_normal s m digits place w e law h =
     let l : digits ≤ s.precision = digits_le m digits s.precision h.fits h.full in
     let d : 0 < digits = some_digits m digits h.below h.some in
-    let f : m * 2 ^ (s.precision - digits) < 2 ^ s.precision = fits_shifted m digits (s.precision - digits) s.precision h.below (omega arith) in
-    let g : 2 ^ (s.precision - 1) ≤ m * 2 ^ (s.precision - digits) = full_shifted m digits (s.precision - digits) s.precision d h.full (omega arith) in
-    let q : IsQuantaAt s.min_exp (m * 2 ^ (s.precision - digits)) e (m * 2 ^ place) = rw h.moved at (moved_quanta s m digits place w e h) in
+    let f : m * 2 ^ (s.precision - digits) < 2 ^ s.precision =
+        fits_shifted m digits (s.precision - digits) s.precision h.below (omega arith) in
+    let g : 2 ^ (s.precision - 1) ≤ m * 2 ^ (s.precision - digits) =
+        full_shifted m digits (s.precision - digits) s.precision d h.full (omega arith) in
+    let q : IsQuantaAt s.min_exp (m * 2 ^ (s.precision - digits)) e (m * 2 ^ place) =
+        rw h.moved at (moved_quanta s m digits place w e h) in
     rw h.moved (normal_at s m place (s.precision - digits) e law f g (omega arith) h.exponent q h.within)
 
 -- ---- numbers below the least normal exponent, and from it on
@@ -98,13 +114,15 @@ quanta_low s m e d p =
     let b : m * 1 ≡ m = omega arith in
     rw (a.0, a.1, b) refl
 
-pub quanta_low_below : (s : Shape) (m : ℕ) (e : ℤ) (d : ℕ) → IsNormal s m e → 3 ≤ s.precision → pos d ≡ s.min_exp -ℤ e → 1 ≤ d → quanta_at s.min_exp m e < 2 ^ (s.precision - 1)
+pub quanta_low_below : (s : Shape) (m : ℕ) (e : ℤ) (d : ℕ) → IsNormal s m e → 3 ≤ s.precision
+    → pos d ≡ s.min_exp -ℤ e → 1 ≤ d → quanta_at s.min_exp m e < 2 ^ (s.precision - 1)
 quanta_low_below s m e d n p k h =
     let q : ℕ = quanta_at s.min_exp m e in
     let a = below_zero (e -ℤ s.min_exp) d (omega (arith, ints)) in
     let t : 2 * 2 ^ (s.precision - 1) ≡ 2 ^ s.precision = twice_half s.precision (omega arith) in
     let w : quanta_at s.min_exp m e * 2 ^ down (e -ℤ s.min_exp) ≡ m * 2 ^ up (e -ℤ s.min_exp) = n.whole in
-    let v : quanta_at s.min_exp m e * 2 ^ d ≡ m * 2 ^ 0 = ap (λ (x : ℕ). quanta_at s.min_exp m e * 2 ^ x) (sym a.0) ∙ w ∙ ap (λ (x : ℕ). m * 2 ^ x) a.1 in
+    let v : quanta_at s.min_exp m e * 2 ^ d ≡ m * 2 ^ 0 =
+        ap (λ (x : ℕ). quanta_at s.min_exp m e * 2 ^ x) (sym a.0) ∙ w ∙ ap (λ (x : ℕ). m * 2 ^ x) a.1 in
     let b : 2 ^ 1 ≤ 2 ^ d = pow-le-pow_right two_pos h in
     let c : quanta_at s.min_exp m e * 2 ≤ quanta_at s.min_exp m e * 2 ^ d = mul-le-mul_left q b in
     let f = n.operand.fits in

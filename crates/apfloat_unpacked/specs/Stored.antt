@@ -24,7 +24,8 @@ pub record IsOperandAt (precision : ℕ) (min_exp max_exp : ℤ) (significand : 
 
 -- it is so many quanta
 abbrev pub IsQuantaAt : ℤ → ℕ → ℤ → ℕ → Type 0
-IsQuantaAt min_exp significand exponent quanta = quanta * 2 ^ down (exponent -ℤ min_exp) ≡ significand * 2 ^ up (exponent -ℤ min_exp)
+IsQuantaAt min_exp significand exponent quanta =
+    quanta * 2 ^ down (exponent -ℤ min_exp) ≡ significand * 2 ^ up (exponent -ℤ min_exp)
 
 unfoldable pub quanta_at : ℤ → ℕ → ℤ → ℕ
 quanta_at min_exp significand exponent = significand * 2 ^ up (exponent -ℤ min_exp) / 2 ^ down (exponent -ℤ min_exp)
@@ -79,7 +80,8 @@ abbrev pub exponent_at : Shape → ℕ → ℤ
 exponent_at s place = (s.min_exp +ℤ pos place) -ℤ pos (s.precision - 1)
 
 abbrev pub nothing_more : Category → Bool → Unpacked
-nothing_more category negative = record { significand = 0; exponent = pos 0; category = category; negative = negative }
+nothing_more category negative =
+    record { significand = 0; exponent = pos 0; category = category; negative = negative }
 
 abbrev pub unpacked_number : Shape → Bool → ℕ → Unpacked
 unpacked_number s negative quanta =

@@ -52,14 +52,17 @@ full_high precision s n u d h =
     let l : n * 2 ^ d < 2 * 2 ^ top_of precision u d * 2 ^ d = omega arith in
     lt_of_mul-lt-mul_right (2 ^ d) l
 
-pub full_back : (precision s n u d : ℕ) → IsFull precision s n u d → n * 2 ^ (precision - 1) / 2 ^ top_of precision u d ≡ s
+pub full_back : (precision s n u d : ℕ) → IsFull precision s n u d
+    → n * 2 ^ (precision - 1) / 2 ^ top_of precision u d ≡ s
 full_back precision s n u d h =
     let m = moved precision u d h.short in
     let e = h.same in
-    let a : n * 2 ^ d * 2 ^ (precision - 1) ≡ s * 2 ^ u * 2 ^ (precision - 1) = ap (λ (x : ℕ). x * 2 ^ (precision - 1)) e in
+    let a : n * 2 ^ d * 2 ^ (precision - 1) ≡ s * 2 ^ u * 2 ^ (precision - 1) =
+        ap (λ (x : ℕ). x * 2 ^ (precision - 1)) e in
     let b : s * (2 ^ (precision - 1) * 2 ^ u) ≡ s * (2 ^ top_of precision u d * 2 ^ d) = ap (λ (x : ℕ). s * x) m in
     let l : n * 2 ^ (precision - 1) * 2 ^ d ≡ s * 2 ^ top_of precision u d * 2 ^ d = omega arith in
-    let k : n * 2 ^ (precision - 1) ≡ s * 2 ^ top_of precision u d = eq_of_mul-eq-mul_right (2 ^ d) (pow_pos d) _ _ l in
+    let k : n * 2 ^ (precision - 1) ≡ s * 2 ^ top_of precision u d =
+        eq_of_mul-eq-mul_right (2 ^ d) (pow_pos d) _ _ l in
     rw k (shl-shr s (top_of precision u d))
 
 -- ---- a stored number
@@ -68,7 +71,8 @@ some_digit : (precision m : ℕ) → m < 2 ^ precision → 0 < m → 0 < precisi
 some_digit zero m h p = absurd (omega arith)
 some_digit (suc precision) m h p = omega arith
 
-pub normal_full : (s : Shape) (m : ℕ) (e : ℤ) → IsNormal s m e → IsFull s.precision m (quanta_at s.min_exp m e) (up (e -ℤ s.min_exp)) (down (e -ℤ s.min_exp))
+pub normal_full : (s : Shape) (m : ℕ) (e : ℤ) → IsNormal s m e
+    → IsFull s.precision m (quanta_at s.min_exp m e) (up (e -ℤ s.min_exp)) (down (e -ℤ s.min_exp))
 normal_full s m e h =
     let o = h.operand in
     let p : 0 < 2 ^ (s.precision - 1) = pow_pos (s.precision - 1) in
@@ -80,7 +84,8 @@ normal_full s m e h =
       same = h.whole;
     }
 
-pub top_is : (s : Shape) (m : ℕ) (e : ℤ) → IsNormal s m e → log2 (quanta_at s.min_exp m e) ≡ top_of s.precision (up (e -ℤ s.min_exp)) (down (e -ℤ s.min_exp))
+pub top_is : (s : Shape) (m : ℕ) (e : ℤ) → IsNormal s m e
+    → log2 (quanta_at s.min_exp m e) ≡ top_of s.precision (up (e -ℤ s.min_exp)) (down (e -ℤ s.min_exp))
 top_is s m e h =
     let f = normal_full s m e h in
     log2_is (quanta_at s.min_exp m e) _ (full_low _ _ _ _ _ f) (full_high _ _ _ _ _ f)
@@ -89,26 +94,32 @@ pub quanta_some : (s : Shape) (m : ℕ) (e : ℤ) → IsNormal s m e → 0 < qua
 quanta_some s m e h =
     let f = normal_full s m e h in
     let l = full_low _ _ _ _ _ f in
-    let p : 0 < 2 ^ top_of s.precision (up (e -ℤ s.min_exp)) (down (e -ℤ s.min_exp)) = pow_pos (top_of s.precision (up (e -ℤ s.min_exp)) (down (e -ℤ s.min_exp))) in
+    let p : 0 < 2 ^ top_of s.precision (up (e -ℤ s.min_exp)) (down (e -ℤ s.min_exp)) =
+        pow_pos (top_of s.precision (up (e -ℤ s.min_exp)) (down (e -ℤ s.min_exp))) in
     omega arith
 
 abbrev record_of : ℕ → ℤ → Category → Bool → Unpacked
 record_of m e k b = record { significand = m; exponent = e; category = k; negative = b }
 
-number_back : (s : Shape) (b : Bool) (m : ℕ) (e : ℤ) → IsNormal s m e → unpacked_number s b (quanta_at s.min_exp m e) ≡ record { significand = m; exponent = e; category = Normal; negative = b }
+number_back : (s : Shape) (b : Bool) (m : ℕ) (e : ℤ) → IsNormal s m e
+    → unpacked_number s b (quanta_at s.min_exp m e)
+    ≡ record { significand = m; exponent = e; category = Normal; negative = b }
 number_back s b m e h =
     let f = normal_full s m e h in
     let t = top_is s m e h in
-    let x : exponent_at s (top_of s.precision (up (e -ℤ s.min_exp)) (down (e -ℤ s.min_exp))) ≡ e = omega (arith, ints, h.operand.least, f.some) in
+    let x : exponent_at s (top_of s.precision (up (e -ℤ s.min_exp)) (down (e -ℤ s.min_exp))) ≡ e =
+        omega (arith, ints, h.operand.least, f.some) in
     rw (t, full_back _ _ _ _ _ f, x) refl
 
 same_parts : (m n : ℕ) (d e : ℤ) (k l : Category) (b : Bool) → m ≡ n → d ≡ e → k ≡ l
     → record_of m d k b ≡ record_of n e l b
 same_parts m n d e k l b p q r = rw (p, q, r) refl
 
-back_by : (k : Category) (s : Shape) (x : Unpacked) → k ≡ x.category → IsStoredBy k s x → unpacked_of s (datum_by k s x) ≡ x
+back_by : (k : Category) (s : Shape) (x : Unpacked) → k ≡ x.category → IsStoredBy k s x
+    → unpacked_of s (datum_by k s x) ≡ x
 back_by Normal s x k h =
-    let n : eqb (quanta_at s.min_exp x.significand x.exponent) 0 ≡ false = ne_eqb _ 0 (λ z. omega (arith, quanta_some s x.significand x.exponent h, z)) in
+    let n : eqb (quanta_at s.min_exp x.significand x.exponent) 0 ≡ false =
+        ne_eqb _ 0 (λ z. omega (arith, quanta_some s x.significand x.exponent h, z)) in
     rw n (number_back s x.negative x.significand x.exponent h ∙ same_parts _ _ _ _ _ _ x.negative refl refl k)
 back_by Zero s x k h = same_parts _ _ _ _ _ _ x.negative (sym h.significand_is) (sym h.exponent_is) k
 back_by Infinity s x k h = same_parts _ _ _ _ _ _ x.negative (sym h.significand_is) (sym h.exponent_is) k

@@ -28,16 +28,19 @@ refused : (b e : Bool) (x : Option ℕ) → b ≡ false → (if b && e then x el
 refused true e x h = cc
 refused false e x h = refl
 
-read_on-cons : (n c : ℕ) (digits : List ℕ) → is_hexadecimal c ≡ true → read_on n (c ∷ digits) ≡ read_on (longer n c) digits
+read_on-cons : (n c : ℕ) (digits : List ℕ) → is_hexadecimal c ≡ true
+    → read_on n (c ∷ digits) ≡ read_on (longer n c) digits
 unfolding read_on
 read_on-cons n c digits e = accepted (is_hexadecimal c) (every is_hexadecimal digits) _ e
 
-stops : (n c : ℕ) (digits : List ℕ) (b : Bool) → is_hexadecimal c ≡ b → (if b then Some (digit_value c) else None) ≡ None → read_on n (c ∷ digits) ≡ None
+stops : (n c : ℕ) (digits : List ℕ) (b : Bool) → is_hexadecimal c ≡ b
+    → (if b then Some (digit_value c) else None) ≡ None → read_on n (c ∷ digits) ≡ None
 unfolding read_on
 stops n c digits true p e = cc
 stops n c digits false p e = refused (is_hexadecimal c) (every is_hexadecimal digits) _ p
 
-goes : (n c d : ℕ) (digits : List ℕ) (b : Bool) → is_hexadecimal c ≡ b → (if b then Some (digit_value c) else None) ≡ Some d
+goes : (n c d : ℕ) (digits : List ℕ) (b : Bool) → is_hexadecimal c ≡ b
+    → (if b then Some (digit_value c) else None) ≡ Some d
     → read_on n (c ∷ digits) ≡ read_on (n * 16 + d) digits
 goes n c d digits true p e =
     let same : digit_value c ≡ d = cc in
@@ -61,17 +64,21 @@ pub read_none : (word : List ℕ) → IsReadTo word 0 0
 unfolding read_on
 read_none word = record { small = lit< tt; read = refl }
 
-pub read_stops : (word : List ℕ) (n place : ℕ) → place < length word → IsReadTo word n place → value_of (get_or word place 0) ≡ None → number_of word ≡ None
-read_stops word n place within so_far e = so_far.read ∙ at_drop_more (read_on n) word place 0 within ∙ stops n _ _ _ refl e
+pub read_stops : (word : List ℕ) (n place : ℕ) → place < length word → IsReadTo word n place
+    → value_of (get_or word place 0) ≡ None → number_of word ≡ None
+read_stops word n place within so_far e = so_far.read ∙ at_drop_more (read_on n) word place 0 within ∙
+    stops n _ _ _ refl e
 
-pub read_goes : (word : List ℕ) (n d place : ℕ) → place < length word → IsReadTo word n place → value_of (get_or word place 0) ≡ Some d → d < 16
+pub read_goes : (word : List ℕ) (n d place : ℕ) → place < length word → IsReadTo word n place
+    → value_of (get_or word place 0) ≡ Some d → d < 16
     → IsReadTo word (n * 16 + d) (place + 1)
 read_goes word n d place within so_far e digit = record {
   small = scaled n d place so_far.small digit;
   read = so_far.read ∙ at_drop_more (read_on n) word place 0 within ∙ goes n _ d _ _ refl e;
 }
 
-pub read_to_end : (word : List ℕ) (n place : ℕ) → length word ≤ place → IsReadTo word n place → number_of word ≡ Some n
+pub read_to_end : (word : List ℕ) (n place : ℕ) → length word ≤ place → IsReadTo word n place
+    → number_of word ≡ Some n
 unfolding read_on
 read_to_end word n place past so_far = so_far.read ∙ at_drop_all (read_on n) word place past
 

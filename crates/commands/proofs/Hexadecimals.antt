@@ -11,7 +11,9 @@ pub record IsWrittenTo (number rest place : ℕ) (text : List ℕ) : Type 0 wher
   pub rest_is : rest ≡ number / 16 ^ place
   pub digits : drop (32 - place) text ≡ hexadecimal_text number place
 
-text_more : (number place : ℕ) → hexadecimal_text number (place + 1) ≡ hexadecimal_digit (number / 16 ^ place % 16) ∷ hexadecimal_text number place
+text_more : (number place : ℕ)
+    → hexadecimal_text number (place + 1) ≡ hexadecimal_digit (number / 16 ^ place % 16) ∷ hexadecimal_text number
+    place
 unfolding hexadecimal_text
 text_more number place = rw (add-one place) refl
 
@@ -32,7 +34,8 @@ write_none number text size = record {
 }
 
 digits_more : (number rest place digit : ℕ) (text : List ℕ) → place < 32 → IsWrittenTo number rest place text
-    → digit ≡ hexadecimal_digit (rest % 16) → drop (32 - (place + 1)) (set text (31 - place) digit) ≡ hexadecimal_text number (place + 1)
+    → digit ≡ hexadecimal_digit (rest % 16)
+    → drop (32 - (place + 1)) (set text (31 - place) digit) ≡ hexadecimal_text number (place + 1)
 digits_more number rest place digit text within so_far digit_is =
     let here : 32 - (place + 1) ≡ 31 - place = omega arith in
     let behind : 31 - place + 1 ≡ 32 - place = omega arith in
@@ -53,7 +56,8 @@ write_more number rest place digit text within so_far digit_is = record {
   digits = digits_more number rest place digit text within so_far digit_is;
 }
 
-text_drop : (number digits more : ℕ) → drop more (hexadecimal_text number (digits + more)) ≡ hexadecimal_text number digits
+text_drop : (number digits more : ℕ)
+    → drop more (hexadecimal_text number (digits + more)) ≡ hexadecimal_text number digits
 unfolding hexadecimal_text
 text_drop number digits zero = rw (add-zero digits) refl
 text_drop number digits (suc more) = rw (add-suc digits more) (text_drop number digits more)
@@ -68,7 +72,8 @@ pub last_digits : (number digits : ℕ) (text : List ℕ) → digits ≤ 32 → 
     → take (32 - (32 - digits)) (drop (32 - digits) text) ≡ hexadecimal_text number digits
 last_digits number digits text within text_is =
     let all : 32 ≡ digits + (32 - digits) = omega arith in
-    let dropped = ap (drop (32 - digits)) (text_is ∙ ap (hexadecimal_text number) all) ∙ text_drop number digits (32 - digits) in
+    let dropped = ap (drop (32 - digits)) (text_is ∙ ap (hexadecimal_text number) all) ∙
+        text_drop number digits (32 - digits) in
     let size = length-text number digits in
     let whole : length (hexadecimal_text number digits) ≤ 32 - (32 - digits) = omega arith in
     ap (take (32 - (32 - digits))) dropped ∙ take_all _ (hexadecimal_text number digits) whole

@@ -16,7 +16,8 @@ next n c = if is_decimal c && nat_lt (longer n c) (2 ^ 128) then Some (longer n 
 
 -- the number whose first digits say n and whose other digits are these, if it is below 2 ^ 128
 unfoldable pub read_on : ℕ → List ℕ → Option ℕ
-read_on n digits = if every is_decimal digits && nat_lt (fold longer n digits) (2 ^ 128) then Some (fold longer n digits) else None
+read_on n digits = if every is_decimal digits && nat_lt (fold longer n digits) (2 ^ 128)
+    then Some (fold longer n digits) else None
 
 -- ---- one digit
 
@@ -28,7 +29,8 @@ fold_grows n (c ∷ digits) =
     let grown : n ≤ longer n c = omega arith in
     omega arith
 
-read_on-cons : (n c : ℕ) (digits : List ℕ) → is_decimal c ≡ true → read_on n (c ∷ digits) ≡ read_on (longer n c) digits
+read_on-cons : (n c : ℕ) (digits : List ℕ) → is_decimal c ≡ true
+    → read_on n (c ∷ digits) ≡ read_on (longer n c) digits
 unfolding read_on
 read_on-cons n c digits e = first_holds (is_decimal c) (every is_decimal digits) _ _ e
 
@@ -53,7 +55,8 @@ stops n c digits true false p q e = read_on-cons n c digits p ∙ read_on-too_la
 stops n c digits true true p q e = cc
 
 goes : (n c m : ℕ) (digits : List ℕ) (b l : Bool) → is_decimal c ≡ b → nat_lt (longer n c) (2 ^ 128) ≡ l
-    → (if b && l then Some (longer n c) else None) ≡ Some m → (m < 2 ^ 128) × (read_on n (c ∷ digits) ≡ read_on m digits)
+    → (if b && l then Some (longer n c) else None) ≡ Some m
+    → (m < 2 ^ 128) × (read_on n (c ∷ digits) ≡ read_on m digits)
 goes n c m digits false l p q e = cc
 goes n c m digits true false p q e = cc
 goes n c m digits true true p q e =
@@ -87,5 +90,7 @@ read_goes word n m place within so_far e =
     let step = goes n _ m _ _ _ refl refl e in
     record { small = step.0; read = so_far.read ∙ at_drop_more (read_on n) word place 0 within ∙ step.1 }
 
-pub read_to_end : (word : List ℕ) (n place : ℕ) → length word ≤ place → IsReadTo word n place → whole_number_of word ≡ Some n
-read_to_end word n place past so_far = so_far.read ∙ at_drop_all (read_on n) word place past ∙ read_on-nil n so_far.small
+pub read_to_end : (word : List ℕ) (n place : ℕ) → length word ≤ place → IsReadTo word n place
+    → whole_number_of word ≡ Some n
+read_to_end word n place past so_far = so_far.read ∙ at_drop_all (read_on n) word place past ∙
+    read_on-nil n so_far.small

@@ -18,7 +18,8 @@ use Rattle.commands.specs.Replies.{Reply, refused, IsAnswered, IsAnsweredIn, IsA
 
 -- ---- one answer
 
-of_two_once : (arithmetic : Arithmetic) (f : Format) (mode : Round) (x y : Datum) → Once (IsOfTwo arithmetic f mode x y)
+of_two_once : (arithmetic : Arithmetic) (f : Format) (mode : Round) (x y : Datum)
+    → Once (IsOfTwo arithmetic f mode x y)
 of_two_once Sum f mode x y = sum_once f mode x y
 of_two_once Difference f mode x y = difference_once f mode x y
 of_two_once Product f mode x y = product_once f mode x y
@@ -102,7 +103,8 @@ pub only_fused_sum : (c : Constants) (mode : Round) (left right addend : List �
     → a ≡ value_of c x → b ≡ value_of c y → d ≡ value_of c z
     → IsFusedSum (format_with c) mode a b d value status → IsOnly (IsLineOf c value status) reply
     → IsOnly (IsReplyTo (requested (of_format c) mode (with_three c.bits left right addend))) reply
-only_fused_sum c mode left right addend x y z a b d value status reply first second third a_is b_is d_is answers line =
+only_fused_sum c mode left right addend x y z a b d value status reply first second third a_is b_is d_is answers
+    line =
     let of_first = subst (λ e. IsFusedSum (format_with c) mode e b d value status) a_is answers in
     let of_second = subst (λ e. IsFusedSum (format_with c) mode (value_of c x) e d value status) b_is of_first in
     let of_all = subst (λ e. IsFusedSum (format_with c) mode (value_of c x) (value_of c y) e value status) d_is

@@ -32,7 +32,8 @@ power_below a n b l h =
     (cases_lt b a)
 
 -- n * 2 ^ d is a number of less than 2 ^ scale
-few_places : (n fraction scale d u : ℕ) → 0 < n → fraction < 2 ^ scale → u ≡ 0 → n * 2 ^ d ≡ fraction * 2 ^ u → d ≤ scale
+few_places : (n fraction scale d u : ℕ) → 0 < n → fraction < 2 ^ scale → u ≡ 0 → n * 2 ^ d ≡ fraction * 2 ^ u
+    → d ≤ scale
 few_places n fraction scale d u p h z e =
     let l : 1 * 2 ^ d ≤ n * 2 ^ d = mul-le-mul_right (2 ^ d) p in
     let k : fraction * 2 ^ u ≡ fraction * 2 ^ 0 = ap (λ (i : ℕ). fraction * 2 ^ i) z in
@@ -57,7 +58,8 @@ near : (f : Format) (negative : Bool) (n top : ℕ) (value : Datum) (exponent : 
 near f negative n top value exponent p h x =
     ⊎_elim
     (λ (z : up exponent ≡ 0).
-    let l : down exponent ≤ f.scale = few_places n x.fraction f.scale (down exponent) (up exponent) p x.high z x.same in
+    let l : down exponent ≤ f.scale =
+        few_places n x.fraction f.scale (down exponent) (up exponent) p x.high z x.same in
     record { low = omega (arith, ints, l, z); high = omega (arith, ints, l, z) })
     (λ (z : down exponent ≡ 0).
     let l : up exponent ≤ top = few_steps n x.fraction f.scale top (down exponent) (up exponent) h x.low z x.same in
@@ -104,7 +106,8 @@ fraction_turned x value exponent normal member h =
 
 -- ---- the pair
 
-pub fraction_by_parts : (mode : Round) (x : Pair) (high low : Datum) (exponent turned : ℤ) → category_of x.high ≡ Normal
+pub fraction_by_parts : (mode : Round) (x : Pair) (high low : Datum) (exponent turned : ℤ)
+    → category_of x.high ≡ Normal
     → IsFrexp double x.high high exponent → turned ≡ neg_ℤ exponent → IsScaling double mode x.low turned low
     → IsPairFraction mode x (record { high = high; low = low }) exponent
 fraction_by_parts mode x high low exponent turned normal h e s =

@@ -31,12 +31,14 @@ pub match_true : (b : Bool) (P Q : Type 0) → b ≡ true → P → MatchBool b 
 match_true true P Q e p = p
 match_true false P Q e p = cc
 
-pub product_by_steps : (mode : Round) (x y : Pair) (a c t tau : Datum) (t_flags tau_flags flags : ℕ) (is_number : Bool)
+pub product_by_steps : (mode : Round) (x y : Pair) (a c t tau : Datum) (t_flags tau_flags flags : ℕ)
+    (is_number : Bool)
     (answer : Pair) (status : ℕ) → a ≡ x.high → c ≡ y.high → IsProduct double mode a c t t_flags
     → is_number ≡ is_number_category (category_of t) → is_number ≡ true
     → IsLostOfProduct mode x.high x.low y.high y.low t tau tau_flags → flags ≡ t_flags ∪ tau_flags
     → IsClosed mode t tau flags answer status → IsProductOfNumbers mode x y answer status
-product_by_steps mode x y a c t tau t_flags tau_flags flags is_number answer status i j product e some lost joined closed =
+product_by_steps mode x y a c t tau t_flags tau_flags flags is_number answer status i j product e some lost joined
+    closed =
     record {
       t = t;
       t_flags = t_flags;
@@ -105,7 +107,8 @@ pub record IsOpenedAnew (mode : Round) (x y : Pair) (big small z : Datum) (flags
   pub flags_are : flags ≡ flags_with_lesser ∪ z_flags
 
 -- and what the sum leaves
-pub record IsClosedAnew (mode : Round) (x y : Pair) (big small z : Datum) (flags : ℕ) (low : Datum) (all_flags : ℕ) : Type 0 where
+pub record IsClosedAnew (mode : Round) (x y : Pair) (big small z : Datum) (flags : ℕ) (low : Datum)
+    (all_flags : ℕ) : Type 0 where
   pub zz : Datum
   pub left : Datum
   pub with_lesser : Datum
@@ -142,14 +145,18 @@ anew_beyond mode x y big small z flags is_within answer status o w e v s =
       z_flags = o.z_flags;
       is_lows = o.is_lows;
       is_with_lesser =
-          subst (λ (d : Datum). IsSum double mode o.lows d o.with_lesser o.with_lesser_flags) o.small_is o.is_with_lesser;
+          subst (λ (d : Datum). IsSum double mode o.lows d o.with_lesser o.with_lesser_flags) o.small_is
+              o.is_with_lesser;
       is_z = subst (λ (d : Datum). IsSum double mode o.with_lesser d z o.z_flags) o.big_is o.is_z;
       is_answer =
-          match_false (is_finite z) (IsSumAnewLow mode x y z all answer status) (IsPairAnswer (alone z) all answer status)
+          match_false (is_finite z) (IsSumAnewLow mode x y z all answer status)
+              (IsPairAnswer (alone z) all answer status)
           (sym (finite_agrees z) ∙ sym w ∙ e)
           (record {
             answer_is = v;
-            status_is = s ∙ two_joined o.lows_flags o.with_lesser_flags o.z_flags o.flags_with_lesser flags o.joined o.flags_are;
+            status_is = s ∙
+                two_joined o.lows_flags o.with_lesser_flags o.z_flags o.flags_with_lesser flags o.joined
+                    o.flags_are;
           });
     }
 
@@ -160,7 +167,8 @@ pub anew_within : (mode : Round) (x y : Pair) (big small z low : Datum) (flags a
     → status ≡ all_flags → IsSumAnew mode x y answer status
 anew_within mode x y big small z low flags all_flags is_within answer status o w e k v s =
     let all = o.lows_flags ∪ o.with_lesser_flags ∪ o.z_flags in
-    let opened = two_joined o.lows_flags o.with_lesser_flags o.z_flags o.flags_with_lesser flags o.joined o.flags_are in
+    let opened =
+        two_joined o.lows_flags o.with_lesser_flags o.z_flags o.flags_with_lesser flags o.joined o.flags_are in
     record {
       lows = o.lows;
       with_lesser = o.with_lesser;
@@ -170,10 +178,12 @@ anew_within mode x y big small z low flags all_flags is_within answer status o w
       z_flags = o.z_flags;
       is_lows = o.is_lows;
       is_with_lesser =
-          subst (λ (d : Datum). IsSum double mode o.lows d o.with_lesser o.with_lesser_flags) o.small_is o.is_with_lesser;
+          subst (λ (d : Datum). IsSum double mode o.lows d o.with_lesser o.with_lesser_flags) o.small_is
+              o.is_with_lesser;
       is_z = subst (λ (d : Datum). IsSum double mode o.with_lesser d z o.z_flags) o.big_is o.is_z;
       is_answer =
-          match_true (is_finite z) (IsSumAnewLow mode x y z all answer status) (IsPairAnswer (alone z) all answer status)
+          match_true (is_finite z) (IsSumAnewLow mode x y z all answer status)
+              (IsPairAnswer (alone z) all answer status)
           (sym (finite_agrees z) ∙ sym w ∙ e)
           (record {
             zz = k.zz;
@@ -187,7 +197,8 @@ anew_within mode x y big small z low flags all_flags is_within answer status o w
             is_zz = k.is_zz;
             is_left = subst (λ (d : Datum). IsDifference double mode d z k.left k.left_flags) o.big_is k.is_left;
             is_with_lesser =
-                subst (λ (d : Datum). IsSum double mode k.left d k.with_lesser k.with_lesser_flags) o.small_is k.is_with_lesser;
+                subst (λ (d : Datum). IsSum double mode k.left d k.with_lesser k.with_lesser_flags) o.small_is
+                    k.is_with_lesser;
             is_low = k.is_low;
             is_answer = record {
               answer_is = v;
@@ -287,12 +298,14 @@ sum_error_free mode x y answer status m n =
 pub sum_accurate : (mode : Round) (x y answer : Pair) (status : ℕ) → IsPairSum mode x y answer status
     → mode ≡ NearestTiesToEven → IsAccurateSum x y answer
 sum_accurate mode x y answer status =
-    at_nearest (λ (i : Round). IsPairSum i x y answer status) (IsAccurateSum x y answer) (accurate_sum x y answer status) mode
+    at_nearest (λ (i : Round). IsPairSum i x y answer status) (IsAccurateSum x y answer)
+        (accurate_sum x y answer status) mode
 
 pub sum_plain : (mode : Round) (x y answer : Pair) (status : ℕ) → IsPairSum mode x y answer status
     → mode ≡ NearestTiesToEven → HasPlainStatus x y status
 sum_plain mode x y answer status =
-    at_nearest (λ (i : Round). IsPairSum i x y answer status) (HasPlainStatus x y status) (plain_sum x y answer status) mode
+    at_nearest (λ (i : Round). IsPairSum i x y answer status) (HasPlainStatus x y status)
+        (plain_sum x y answer status) mode
 
 pub difference_error_free : (mode : Round) (x y answer : Pair) (status : ℕ) → IsMember double x.high
     → IsMember double y.high → IsPairDifference mode x y answer status → mode ≡ NearestTiesToEven

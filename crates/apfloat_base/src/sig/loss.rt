@@ -34,7 +34,9 @@ pub fn is_exact(loss: Loss) -> bool
 #[inline(always)]
 pub fn loss_of_rest(rest: u128, half: u128, loss: Loss) -> Loss
     requires { rest < 2 * half }
-    ensures { (quotient amount unit : ℕ) → 0 < unit → StandsFor (quotient * (2 * half) + rest) loss amount unit → StandsFor quotient result amount (2 * half * unit) }
+    ensures { (quotient amount unit : ℕ) → 0 < unit
+        → StandsFor (quotient * (2 * half) + rest) loss amount unit
+        → StandsFor quotient result amount (2 * half * unit) }
 {
     match loss {
         Loss::ExactlyZero => {

@@ -58,7 +58,8 @@ pub struct Shifted {
 #[inline(always)]
 pub fn shift_right(significand: u128, places: u32, loss: Loss) -> Shifted
     ensures quotient { result.significand ≡ significand / 2 ^ places }
-    ensures stands { (amount unit : ℕ) → 0 < unit → StandsFor significand loss amount unit → StandsFor result.significand result.loss amount (2 ^ places * unit) }
+    ensures stands { (amount unit : ℕ) → 0 < unit → StandsFor significand loss amount unit
+        → StandsFor result.significand result.loss amount (2 ^ places * unit) }
 {
     if places == 0 {
         return Shifted { significand, loss };
@@ -85,7 +86,8 @@ pub fn shift_right(significand: u128, places: u32, loss: Loss) -> Shifted
 /// What is lost where more than the whole length of a significand is cut off.
 #[inline(always)]
 fn loss_of_all(significand: u128, loss: Loss) -> Loss
-    ensures { (places amount unit : ℕ) → 128 < places → 0 < unit → StandsFor significand loss amount unit → StandsFor 0 result amount (2 ^ places * unit) }
+    ensures { (places amount unit : ℕ) → 128 < places → 0 < unit
+        → StandsFor significand loss amount unit → StandsFor 0 result amount (2 ^ places * unit) }
 {
     match loss {
         Loss::ExactlyZero => {

@@ -38,7 +38,8 @@ impl Default for DoubleFloat {
 impl FromStr for DoubleFloat {
     type Err = ParseError;
 
-    ghost from_str_gives = { λ text r. (answer : Result (StatusAnd Pair) ParseError) × IsPairRead NearestTiesToEven text answer × (r ≡ without_status answer) };
+    ghost from_str_gives = { λ text r. (answer : Result (StatusAnd Pair) ParseError)
+        × IsPairRead NearestTiesToEven text answer × (r ≡ without_status answer) };
 
     /// Reads a text as `from_str_r` does, to the nearest value, a tie to the even one, and drops the status.
     fn from_str(s: &str) -> Result<DoubleFloat, ParseError> {
@@ -118,7 +119,8 @@ impl Float for DoubleFloat {
 
     ghost writes_bits = { λ x bits. IsPairEncodedBy bits x };
 
-    ghost converts_unsigned = { λ number round answer. Gives (IsPairFromUnsigned round number) answer };
+    ghost converts_unsigned = { λ number round answer. Gives (IsPairFromUnsigned round number)
+        answer };
 
     ghost converts_signed = { λ number round answer. Gives (IsPairFromSigned round number) answer };
 
@@ -126,9 +128,11 @@ impl Float for DoubleFloat {
 
     ghost is_whole = { is_integer_pair };
 
-    ghost converts_to_unsigned = { λ x width round answer exact. IsPairToUnsigned round width x answer.value (bits_of answer.status) exact };
+    ghost converts_to_unsigned = { λ x width round answer exact.
+        IsPairToUnsigned round width x answer.value (bits_of answer.status) exact };
 
-    ghost converts_to_signed = { λ x width round answer exact. IsPairToSigned round width x answer.value (bits_of answer.status) exact };
+    ghost converts_to_signed = { λ x width round answer exact. IsPairToSigned round width x
+        answer.value (bits_of answer.status) exact };
 
     ghost steps_up = { λ x answer. Gives (IsPairNextUp x) answer };
 
@@ -346,40 +350,6 @@ impl Float for DoubleFloat {
         parts::fraction(self, exp, round)
     }
 
-    ghost can_mul_law = { λ m x y. tt };
-
-    ghost mul_law = { λ x y r h. h };
-
-    ghost can_mul_assign_law = { λ m x y. tt };
-
-    ghost mul_assign_law = { λ x y z h. h };
-
-    ghost can_div_law = { λ x y. tt };
-
-    ghost div_law = { λ x y r h. h };
-
-    ghost can_div_assign_law = { λ x y. tt };
-
-    ghost div_assign_law = { λ x y z h. h };
-
-    ghost can_rem_law = { λ x y. tt };
-
-    ghost rem_law = { λ x y r h. h };
-
-    ghost can_rem_assign_law = { λ x y. tt };
-
-    ghost rem_assign_law = { λ x y z h. h };
-
-    ghost read_law = { λ text r h. h };
-
-    ghost steps_down_law = { λ x r h. record { up_of_negated = r.value; is_next_up = h; is = refl } };
-
-    ghost to_signed_above_law = { λ x width mode number exact z h. pair_to_signed_above mode width x number.value (bits_of number.status) exact z h };
-
-    ghost to_signed_below_law = { λ x width mode number exact answer is_exact z w h g. pair_to_signed_below mode width x number.value (bits_of number.status) exact answer.value (bits_of answer.status) is_exact z h g };
-
-    ghost default_law = { λ x h. h };
-
     ghost can_neg_law = { λ x. tt };
 
     ghost neg_law = { λ x r h. h };
@@ -388,21 +358,61 @@ impl Float for DoubleFloat {
 
     ghost add_law = { λ x y r h. h };
 
-    ghost can_add_assign_law = { λ x y. tt };
-
-    ghost add_assign_law = { λ x y z h. h };
-
     ghost can_sub_law = { λ x y. tt };
 
     ghost sub_law = { λ x y r h. h };
+
+    ghost can_mul_law = { λ m x y. tt };
+
+    ghost mul_law = { λ x y r h. h };
+
+    ghost can_div_law = { λ x y. tt };
+
+    ghost div_law = { λ x y r h. h };
+
+    ghost can_rem_law = { λ x y. tt };
+
+    ghost rem_law = { λ x y r h. h };
+
+    ghost can_add_assign_law = { λ x y. tt };
+
+    ghost add_assign_law = { λ x y z h. h };
 
     ghost can_sub_assign_law = { λ x y. tt };
 
     ghost sub_assign_law = { λ x y z h. h };
 
-    ghost signed_above_law = { λ n mode r h. pair_signed_above mode n r.value (bits_of r.status) h };
+    ghost can_mul_assign_law = { λ m x y. tt };
 
-    ghost signed_below_law = { λ n mode r p h. pair_signed_below mode n r.value (bits_of r.status) p h };
+    ghost mul_assign_law = { λ x y z h. h };
+
+    ghost can_div_assign_law = { λ x y. tt };
+
+    ghost div_assign_law = { λ x y z h. h };
+
+    ghost can_rem_assign_law = { λ x y. tt };
+
+    ghost rem_assign_law = { λ x y z h. h };
+
+    ghost default_law = { λ x h. h };
+
+    ghost steps_down_law = { λ x r h.
+        record { up_of_negated = r.value; is_next_up = h; is = refl } };
+
+    ghost signed_above_law = { λ n mode r h. pair_signed_above mode n r.value (bits_of r.status)
+        h };
+
+    ghost signed_below_law = { λ n mode r p h. pair_signed_below mode n r.value (bits_of r.status)
+        p h };
+
+    ghost read_law = { λ text r h. h };
+
+    ghost to_signed_above_law = { λ x width mode number exact z h.
+        pair_to_signed_above mode width x number.value (bits_of number.status) exact z h };
+
+    ghost to_signed_below_law = { λ x width mode number exact answer is_exact z w h g.
+        pair_to_signed_below mode width x number.value (bits_of number.status) exact answer.value
+        (bits_of answer.status) is_exact z h g };
 
     ghost determined = { pairs_determined };
 }

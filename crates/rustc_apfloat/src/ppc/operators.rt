@@ -114,7 +114,8 @@ impl Rem for DoubleFloat {
 }
 
 impl AddAssign for DoubleFloat {
-    ghost add_assign_gives = { λ x y z. (r : StatusAnd Self) × Gives (IsPairSum NearestTiesToEven x y) r × (z ≡ r.value) };
+    ghost add_assign_gives = { λ x y z. (r : StatusAnd Self)
+        × Gives (IsPairSum NearestTiesToEven x y) r × (z ≡ r.value) };
 
     /// The sum by `+`; its status is dropped.
     #[inline]
@@ -124,7 +125,8 @@ impl AddAssign for DoubleFloat {
 }
 
 impl SubAssign for DoubleFloat {
-    ghost sub_assign_gives = { λ x y z. (r : StatusAnd Self) × Gives (IsPairDifference NearestTiesToEven x y) r × (z ≡ r.value) };
+    ghost sub_assign_gives = { λ x y z. (r : StatusAnd Self)
+        × Gives (IsPairDifference NearestTiesToEven x y) r × (z ≡ r.value) };
 
     /// The difference by `-`; its status is dropped.
     #[inline]
@@ -134,7 +136,8 @@ impl SubAssign for DoubleFloat {
 }
 
 impl MulAssign for DoubleFloat {
-    ghost mul_assign_gives = { λ x y z. (r : StatusAnd Self) × Gives (IsPairProduct NearestTiesToEven x y) r × (z ≡ r.value) };
+    ghost mul_assign_gives = { λ x y z. (r : StatusAnd Self)
+        × Gives (IsPairProduct NearestTiesToEven x y) r × (z ≡ r.value) };
 
     /// The product by `*`; its status is dropped.
     #[inline]
@@ -144,7 +147,8 @@ impl MulAssign for DoubleFloat {
 }
 
 impl DivAssign for DoubleFloat {
-    ghost div_assign_gives = { λ x y z. (r : StatusAnd Self) × Gives (IsPairQuotient NearestTiesToEven x y) r × (z ≡ r.value) };
+    ghost div_assign_gives = { λ x y z. (r : StatusAnd Self)
+        × Gives (IsPairQuotient NearestTiesToEven x y) r × (z ≡ r.value) };
 
     /// The quotient by `/`; its status is dropped.
     #[inline]
@@ -154,7 +158,8 @@ impl DivAssign for DoubleFloat {
 }
 
 impl RemAssign for DoubleFloat {
-    ghost rem_assign_gives = { λ x y z. (r : StatusAnd Self) × Gives (IsPairTruncatedRemainder x y) r × (z ≡ r.value) };
+    ghost rem_assign_gives = { λ x y z. (r : StatusAnd Self)
+        × Gives (IsPairTruncatedRemainder x y) r × (z ≡ r.value) };
 
     /// The remainder by `%`; its status is dropped.
     #[inline]

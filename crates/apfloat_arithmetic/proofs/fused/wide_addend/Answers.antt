@@ -10,4 +10,5 @@ returns-clause-fits c =
 
 pub returns-clause-full : goal.returns-clause-full
 returns-clause-full c =
-    subst (λ (x : ℕ). 2 ^ (2 * c.args.precision - 1) ≤ c.args.significand * x) (sym c.power_of_two.ensures) (addend_full c.args.precision c.args.significand c.requires.some c.requires.full)
+    subst (λ (x : ℕ). 2 ^ (2 * c.args.precision - 1) ≤ c.args.significand * x) (sym c.power_of_two.ensures)
+        (addend_full c.args.precision c.args.significand c.requires.some c.requires.full)

@@ -27,10 +27,12 @@ returns-then-x-integer_bit-clause-no c = λ _ i.
     ]
 
 pub overflow_sub-x : goal.overflow_sub-x
-overflow_sub-x c = omega (arith, ints, c.requires.lawful, c.requires.normal.operand.least, c.requires.normal.operand.greatest)
+overflow_sub-x c =
+    omega (arith, ints, c.requires.lawful, c.requires.normal.operand.least, c.requires.normal.operand.greatest)
 
 pub overflow_sub-result : goal.overflow_sub-result
-overflow_sub-result c = omega (arith, ints, c.requires.lawful, c.requires.normal.operand.least, c.requires.normal.operand.greatest)
+overflow_sub-result c =
+    omega (arith, ints, c.requires.lawful, c.requires.normal.operand.least, c.requires.normal.operand.greatest)
 
 pub returns-then-shape-x-clause-yes : goal.returns-then-shape-x-clause-yes
 returns-then-shape-x-clause-yes c = λ h.

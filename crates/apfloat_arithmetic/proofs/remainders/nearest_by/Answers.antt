@@ -19,7 +19,9 @@ returns-then-gap-gt1-clause-past c =
     let p : ℕ = c.rest_by-rest.result.point.place in
     let e : s * 2 ^ p ≡ x % y = c.rest_by-rest.ensures.rest in
     let low = c.rest_by-rest.ensures.low in
-    let f : 2 * (s * 2 ^ p) < y = far_below c.args.precision s p c.args.y.significand c.args.y.place c.requires.some c.rest_by-rest.ensures.fits c.requires.y_full (omega arith) in
+    let f : 2 * (s * 2 ^ p) < y =
+        far_below c.args.precision s p c.args.y.significand c.args.y.place c.requires.some
+            c.rest_by-rest.ensures.fits c.requires.y_full (omega arith) in
     lower_near (x % y) y (eqb (x / y % 2) 1) (subst (λ (z : ℕ). 2 * z < y) e f)
 
 pub overflow_mul-divisor : goal.overflow_mul-divisor
@@ -38,10 +40,13 @@ overflow_sub-other c =
     let low = c.rest_by-rest.ensures.low in
     let d : ℕ = c.if-gap-eq1.divisor in
     let f : d * 2 ^ p ≡ y = elim c.if-gap-eq1.branch [
-      | then-gap-eq1 w ↦ ap (λ (z : ℕ). z * 2 ^ p) w.divisor-is ∙ one_below c.args.y.significand c.rest_by-rest.result.point.place c.args.y.place (omega arith)
-      | else-gap-eq1 w ↦ ap (λ (z : ℕ). z * 2 ^ p) w.divisor-is ∙ level_places c.args.y.significand c.rest_by-rest.result.point.place c.args.y.place (omega arith)
+      | then-gap-eq1 w ↦ ap (λ (z : ℕ). z * 2 ^ p) w.divisor-is ∙
+          one_below c.args.y.significand c.rest_by-rest.result.point.place c.args.y.place (omega arith)
+      | else-gap-eq1 w ↦ ap (λ (z : ℕ). z * 2 ^ p) w.divisor-is ∙
+          level_places c.args.y.significand c.rest_by-rest.result.point.place c.args.y.place (omega arith)
     ] in
-    let l : x % y < y = mod-lt x (divisor_pos c.args.precision c.args.y.significand c.args.y.place c.requires.y_full) in
+    let l : x % y < y =
+        mod-lt x (divisor_pos c.args.precision c.args.y.significand c.args.y.place c.requires.y_full) in
     let k : s < d = digits_less s d (2 ^ p) (x % y) y e f l in
     omega arith
 
@@ -55,10 +60,14 @@ returns-then-is_upper_nearest-clause-past c =
     let low = c.rest_by-rest.ensures.low in
     let d : ℕ = c.if-gap-eq1.divisor in
     let f : d * 2 ^ p ≡ y = elim c.if-gap-eq1.branch [
-      | then-gap-eq1 w ↦ ap (λ (z : ℕ). z * 2 ^ p) w.divisor-is ∙ one_below c.args.y.significand c.rest_by-rest.result.point.place c.args.y.place (omega arith)
-      | else-gap-eq1 w ↦ ap (λ (z : ℕ). z * 2 ^ p) w.divisor-is ∙ level_places c.args.y.significand c.rest_by-rest.result.point.place c.args.y.place (omega arith)
+      | then-gap-eq1 w ↦ ap (λ (z : ℕ). z * 2 ^ p) w.divisor-is ∙
+          one_below c.args.y.significand c.rest_by-rest.result.point.place c.args.y.place (omega arith)
+      | else-gap-eq1 w ↦ ap (λ (z : ℕ). z * 2 ^ p) w.divisor-is ∙
+          level_places c.args.y.significand c.rest_by-rest.result.point.place c.args.y.place (omega arith)
     ] in
-    let u : upper s (d - s) c.rest_by-rest.result.odd ≡ upper (x % y) (y - x % y) (eqb (x / y % 2) 1) = upper_level s d (2 ^ p) (x % y) y c.rest_by-rest.result.odd (eqb (x / y % 2) 1) (pow_pos p) e f c.rest_by-rest.ensures.odd in
+    let u : upper s (d - s) c.rest_by-rest.result.odd ≡ upper (x % y) (y - x % y) (eqb (x / y % 2) 1) =
+        upper_level s d (2 ^ p) (x % y) y c.rest_by-rest.result.odd (eqb (x / y % 2) 1) (pow_pos p) e f
+            c.rest_by-rest.ensures.odd in
     sym c.if-is_upper_nearest.true ∙ c.is_upper_nearest.ensures ∙ u
 
 pub returns-then-is_upper_nearest-clause-distance : goal.returns-then-is_upper_nearest-clause-distance
@@ -71,8 +80,10 @@ returns-then-is_upper_nearest-clause-distance c =
     let low = c.rest_by-rest.ensures.low in
     let d : ℕ = c.if-gap-eq1.divisor in
     let f : d * 2 ^ p ≡ y = elim c.if-gap-eq1.branch [
-      | then-gap-eq1 w ↦ ap (λ (z : ℕ). z * 2 ^ p) w.divisor-is ∙ one_below c.args.y.significand c.rest_by-rest.result.point.place c.args.y.place (omega arith)
-      | else-gap-eq1 w ↦ ap (λ (z : ℕ). z * 2 ^ p) w.divisor-is ∙ level_places c.args.y.significand c.rest_by-rest.result.point.place c.args.y.place (omega arith)
+      | then-gap-eq1 w ↦ ap (λ (z : ℕ). z * 2 ^ p) w.divisor-is ∙
+          one_below c.args.y.significand c.rest_by-rest.result.point.place c.args.y.place (omega arith)
+      | else-gap-eq1 w ↦ ap (λ (z : ℕ). z * 2 ^ p) w.divisor-is ∙
+          level_places c.args.y.significand c.rest_by-rest.result.point.place c.args.y.place (omega arith)
     ] in
     less_scaled d s (2 ^ p) ∙ ap (λ (z : ℕ). d * 2 ^ p - z) e ∙ ap (λ (z : ℕ). z - x % y) f
 
@@ -86,8 +97,12 @@ returns-clause-past c =
     let low = c.rest_by-rest.ensures.low in
     let d : ℕ = c.if-gap-eq1.divisor in
     let f : d * 2 ^ p ≡ y = elim c.if-gap-eq1.branch [
-      | then-gap-eq1 w ↦ ap (λ (z : ℕ). z * 2 ^ p) w.divisor-is ∙ one_below c.args.y.significand c.rest_by-rest.result.point.place c.args.y.place (omega arith)
-      | else-gap-eq1 w ↦ ap (λ (z : ℕ). z * 2 ^ p) w.divisor-is ∙ level_places c.args.y.significand c.rest_by-rest.result.point.place c.args.y.place (omega arith)
+      | then-gap-eq1 w ↦ ap (λ (z : ℕ). z * 2 ^ p) w.divisor-is ∙
+          one_below c.args.y.significand c.rest_by-rest.result.point.place c.args.y.place (omega arith)
+      | else-gap-eq1 w ↦ ap (λ (z : ℕ). z * 2 ^ p) w.divisor-is ∙
+          level_places c.args.y.significand c.rest_by-rest.result.point.place c.args.y.place (omega arith)
     ] in
-    let u : upper s (d - s) c.rest_by-rest.result.odd ≡ upper (x % y) (y - x % y) (eqb (x / y % 2) 1) = upper_level s d (2 ^ p) (x % y) y c.rest_by-rest.result.odd (eqb (x / y % 2) 1) (pow_pos p) e f c.rest_by-rest.ensures.odd in
+    let u : upper s (d - s) c.rest_by-rest.result.odd ≡ upper (x % y) (y - x % y) (eqb (x / y % 2) 1) =
+        upper_level s d (2 ^ p) (x % y) y c.rest_by-rest.result.odd (eqb (x / y % 2) 1) (pow_pos p) e f
+            c.rest_by-rest.ensures.odd in
     sym c.if-is_upper_nearest.false ∙ c.is_upper_nearest.ensures ∙ u

@@ -15,7 +15,8 @@ pub overflow_add-result : goal.overflow_add-result
 overflow_add-result c = omega (arith, ints, c.requires.lawful, c.requires.operand.least, c.requires.operand.greatest)
 
 pub overflow_cast-result-2 : goal.overflow_cast-result-2
-overflow_cast-result-2 c = omega (arith, ints, c.requires.lawful, c.requires.operand.least, c.requires.operand.greatest)
+overflow_cast-result-2 c =
+    omega (arith, ints, c.requires.lawful, c.requires.operand.least, c.requires.operand.greatest)
 
 pub returns-clause-place : goal.returns-clause-place
 returns-clause-place c = omega (arith, ints, c.requires.lawful, c.requires.operand.least, c.requires.operand.greatest)

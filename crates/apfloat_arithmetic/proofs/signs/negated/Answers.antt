@@ -18,7 +18,8 @@ turned_datum Normal s x e h a b =
     ∙ number_swapped s.nonfinite x.negative (quanta_at s.min_exp x.significand x.exponent) n.1
     ∙ ap (negated s.nonfinite) (sym (datum_is Normal s x e))
 turned_datum Infinity s x e h a b =
-    datum_is Infinity s (record x { negative = not x.negative }) e ∙ ap (negated s.nonfinite) (sym (datum_is Infinity s x e))
+    datum_is Infinity s (record x { negative = not x.negative }) e ∙
+        ap (negated s.nonfinite) (sym (datum_is Infinity s x e))
 turned_datum Zero s x e h a b = absurd (a refl)
 turned_datum NaN s x e h a b = absurd (b refl)
 

@@ -12,4 +12,6 @@ pub last_exponent-requires-clause-far : goal.last_exponent-requires-clause-far
 last_exponent-requires-clause-far c = omega (arith, ints, c.requires.lawful, c.requires.normal.operand.least)
 
 pub returns-clause-exponent : goal.returns-clause-exponent
-returns-clause-exponent c = omega (arith, ints, c.requires.lawful, c.requires.normal.operand.least, c.requires.normal.operand.greatest, c.last_exponent.ensures.value)
+returns-clause-exponent c =
+    omega (arith, ints, c.requires.lawful, c.requires.normal.operand.least, c.requires.normal.operand.greatest,
+        c.last_exponent.ensures.value)

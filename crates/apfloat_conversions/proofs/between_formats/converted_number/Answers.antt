@@ -17,10 +17,12 @@ pub last_exponent-requires-clause-lawful : goal.last_exponent-requires-clause-la
 last_exponent-requires-clause-lawful c = c.requires.from
 
 pub last_exponent-requires-clause-near : goal.last_exponent-requires-clause-near
-last_exponent-requires-clause-near c = omega (arith, ints, c.requires.from.max_exp_high, c.requires.x.operand.greatest)
+last_exponent-requires-clause-near c =
+    omega (arith, ints, c.requires.from.max_exp_high, c.requires.x.operand.greatest)
 
 pub last_exponent-requires-clause-far : goal.last_exponent-requires-clause-far
-last_exponent-requires-clause-far c = omega (arith, ints, c.requires.from.min_exp_low, c.requires.from.precision_high, c.requires.x.operand.least)
+last_exponent-requires-clause-far c =
+    omega (arith, ints, c.requires.from.min_exp_low, c.requires.from.precision_high, c.requires.x.operand.least)
 
 pub deliver-answer-requires-clause-lawful : goal.deliver-answer-requires-clause-lawful
 deliver-answer-requires-clause-lawful c = c.requires.into
@@ -50,7 +52,8 @@ returns-clause-converted c =
     let a : ℕ = quanta_at s.min_exp c.args.x.significand c.args.x.exponent in
     record {
       is_delivered = g (a * 2 ^ (format_at t).scale) (2 ^ (format_at s).scale) (pow_pos (format_at s).scale)
-          (converted_is (s.precision - 1) (format_at s).scale (t.precision - 1) (format_at t).scale s.min_exp t.min_exp c.args.x.exponent c.last_exponent.result c.args.x.significand a k k' v c.requires.x.whole);
+          (converted_is (s.precision - 1) (format_at s).scale (t.precision - 1) (format_at t).scale s.min_exp
+              t.min_exp c.args.x.exponent c.last_exponent.result c.args.x.significand a k k' v c.requires.x.whole);
       loses_is = c.ne.ensures;
     }
 
@@ -60,6 +63,8 @@ returns-then-holds-clause-converted c =
     let t = c.args.into in
     let h = c.holds.ensures c.if-holds.true in
     let v = ap (datum_at t) c.and.ensures.value ∙ c.widened.ensures.datum in
-    let m = subst (λ (d : Datum). IsMember (format_at t) d) c.widened.ensures.datum (member_is t c.widened.result c.widened.ensures.stored) in
-    held_converted (format_at s) (format_at t) c.args.round c.args.x.negative (quanta_at s.min_exp c.args.x.significand c.args.x.exponent) _ _ h.fine
+    let m = subst (λ (d : Datum). IsMember (format_at t) d) c.widened.ensures.datum
+        (member_is t c.widened.result c.widened.ensures.stored) in
+    held_converted (format_at s) (format_at t) c.args.round c.args.x.negative
+        (quanta_at s.min_exp c.args.x.significand c.args.x.exponent) _ _ h.fine
     (quanta_some s c.args.x.significand c.args.x.exponent c.requires.x) v m (ap bits_of c.and.ensures.status)

@@ -25,4 +25,6 @@ in_units number scale =
     rw e (omega arith)
 
 pub returns-clause-delivered : goal.returns-clause-delivered
-returns-clause-delivered c = c.deliver.ensures.delivered (c.args.number * 2 ^ (format_at c.args.shape).scale) 1 (omega arith) (in_units c.args.number (format_at c.args.shape).scale)
+returns-clause-delivered c =
+    c.deliver.ensures.delivered (c.args.number * 2 ^ (format_at c.args.shape).scale) 1 (omega arith)
+        (in_units c.args.number (format_at c.args.shape).scale)

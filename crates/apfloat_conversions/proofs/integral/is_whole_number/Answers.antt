@@ -12,10 +12,13 @@ pub last_exponent-exponent-requires-clause-lawful : goal.last_exponent-exponent-
 last_exponent-exponent-requires-clause-lawful c = c.requires.lawful
 
 pub last_exponent-exponent-requires-clause-near : goal.last_exponent-exponent-requires-clause-near
-last_exponent-exponent-requires-clause-near c = omega (arith, ints, c.requires.lawful.max_exp_high, c.requires.normal.operand.greatest)
+last_exponent-exponent-requires-clause-near c =
+    omega (arith, ints, c.requires.lawful.max_exp_high, c.requires.normal.operand.greatest)
 
 pub last_exponent-exponent-requires-clause-far : goal.last_exponent-exponent-requires-clause-far
-last_exponent-exponent-requires-clause-far c = omega (arith, ints, c.requires.lawful.min_exp_low, c.requires.lawful.precision_high, c.requires.normal.operand.least)
+last_exponent-exponent-requires-clause-far c =
+    omega (arith, ints, c.requires.lawful.min_exp_low, c.requires.lawful.precision_high,
+        c.requires.normal.operand.least)
 
 pub steps_between-places-requires-clause-above : goal.steps_between-places-requires-clause-above
 steps_between-places-requires-clause-above c = omega (arith, ints)
@@ -34,13 +37,16 @@ returns-then-exponent-ge0 c =
     let n = c.requires.normal in
     let a = quanta_at s.min_exp m x in
     let r = c.last_exponent-exponent.result in
-    let w : to_z w32 (of_z w32 c.last_exponent-exponent.result) ≡ c.last_exponent-exponent.result = to_z-of_z w32 c.last_exponent-exponent.result (record { sfits = c.last_exponent-exponent.type_inv }) in
+    let w : to_z w32 (of_z w32 c.last_exponent-exponent.result) ≡ c.last_exponent-exponent.result =
+        to_z-of_z w32 c.last_exponent-exponent.result (record { sfits = c.last_exponent-exponent.type_inv }) in
     let g = c.if-exponent-ge0.true in
-    let e = whole_places s m x r c.requires.lawful n c.last_exponent-exponent.ensures.value (omega (arith, ints, g, w)) in
+    let e = whole_places s m x r c.requires.lawful n c.last_exponent-exponent.ensures.value
+        (omega (arith, ints, g, w)) in
     whole_multiple (m * 2 ^ up r) a (2 ^ (format_at s).scale) e
 
 pub round_fraction-requires : goal.round_fraction-requires
-round_fraction-requires c = significand_small c.args.shape c.args.x.significand c.requires.lawful c.requires.normal.operand.fits
+round_fraction-requires c =
+    significand_small c.args.shape c.args.x.significand c.requires.lawful c.requires.normal.operand.fits
 
 pub returns : goal.returns
 returns c =
@@ -50,9 +56,11 @@ returns c =
     let n = c.requires.normal in
     let a = quanta_at s.min_exp m x in
     let r = c.last_exponent-exponent.result in
-    let w : to_z w32 (of_z w32 c.last_exponent-exponent.result) ≡ c.last_exponent-exponent.result = to_z-of_z w32 c.last_exponent-exponent.result (record { sfits = c.last_exponent-exponent.type_inv }) in
+    let w : to_z w32 (of_z w32 c.last_exponent-exponent.result) ≡ c.last_exponent-exponent.result =
+        to_z-of_z w32 c.last_exponent-exponent.result (record { sfits = c.last_exponent-exponent.type_inv }) in
     let k = rw w at c.steps_between-places.ensures in
     let p = pow_pos (format_at s).scale in
     let i = c.round_fraction.ensures.picked a (2 ^ (format_at s).scale) p
-    (fraction_places s m c.steps_between-places.result x r c.requires.lawful n c.last_exponent-exponent.ensures.value k) in
+    (fraction_places s m c.steps_between-places.result x r c.requires.lawful n
+        c.last_exponent-exponent.ensures.value k) in
     i.exact_is ∙ whole_toward_zero c.args.x.negative a (2 ^ (format_at s).scale) p

@@ -26,7 +26,9 @@ pub returns-then-x-least_exponent-clause-stored : goal.returns-then-x-least_expo
 returns-then-x-least_exponent-clause-stored c = c.zero_of.ensures.stored
 
 pub lowered-exponent-requires : goal.lowered-exponent-requires
-lowered-exponent-requires c = omega (arith, ints, c.requires.lawful.min_exp_low, c.requires.lawful.precision_high, c.requires.normal.operand.least)
+lowered-exponent-requires c =
+    omega (arith, ints, c.requires.lawful.min_exp_low, c.requires.lawful.precision_high,
+        c.requires.normal.operand.least)
 
 pub power_of_two-requires : goal.power_of_two-requires
 power_of_two-requires c = omega (arith, c.requires.lawful.precision_high)
@@ -35,33 +37,40 @@ pub step-requires-2-clause-lawful : goal.step-requires-2-clause-lawful
 step-requires-2-clause-lawful c = c.requires.lawful
 
 pub step-requires-2-clause-greatest : goal.step-requires-2-clause-greatest
-step-requires-2-clause-greatest c = omega (arith, ints, c.requires.normal.operand.greatest, c.lowered-exponent.ensures)
+step-requires-2-clause-greatest c =
+    omega (arith, ints, c.requires.normal.operand.greatest, c.lowered-exponent.ensures)
 
 pub overflow_sub-result : goal.overflow_sub-result
 overflow_sub-result c =
     let s = c.args.shape in
     let ex = exponent_word s c.args.x.significand c.args.x.exponent c.requires.lawful c.requires.normal in
-    step_below s c.args.x.significand c.step.result c.args.x.exponent c.requires.lawful c.requires.normal.operand.least c.requires.normal.operand.full (rw ex at c.step.ensures)
+    step_below s c.args.x.significand c.step.result c.args.x.exponent c.requires.lawful
+        c.requires.normal.operand.least c.requires.normal.operand.full (rw ex at c.step.ensures)
 
-stays : (c : goal.After-struct_told-then-x-integer_bit-1) → IsBefore c.args.shape (quanta_at c.args.shape.min_exp c.args.x.significand c.args.x.exponent) (c.args.x.significand - c.step.result) c.args.x.exponent
+stays : (c : goal.After-struct_told-then-x-integer_bit-1)
+    → IsBefore c.args.shape (quanta_at c.args.shape.min_exp c.args.x.significand c.args.x.exponent)
+    (c.args.x.significand - c.step.result) c.args.x.exponent
 stays c =
     let s = c.args.shape in
     let ex = exponent_word s c.args.x.significand c.args.x.exponent c.requires.lawful c.requires.normal in
     let t = c.if-x-integer_bit.true in
     let e = c.integer_bit.ensures in
-    before_stays s c.args.x.significand c.step.result c.args.x.exponent c.requires.lawful c.requires.normal (rw ex at c.step.ensures) (omega (arith, t, e))
+    before_stays s c.args.x.significand c.step.result c.args.x.exponent c.requires.lawful c.requires.normal
+        (rw ex at c.step.ensures) (omega (arith, t, e))
 
 pub returns-then-x-integer_bit-clause-stored : goal.returns-then-x-integer_bit-clause-stored
 returns-then-x-integer_bit-clause-stored c =
     let s = c.args.shape in
     let ex = exponent_word s c.args.x.significand c.args.x.exponent c.requires.lawful c.requires.normal in
-    rw ex (before_stored s (quanta_at s.min_exp c.args.x.significand c.args.x.exponent) (c.args.x.significand - c.step.result) c.args.x.exponent c.requires.normal.within (stays c))
+    rw ex (before_stored s (quanta_at s.min_exp c.args.x.significand c.args.x.exponent)
+        (c.args.x.significand - c.step.result) c.args.x.exponent c.requires.normal.within (stays c))
 
 pub returns-then-x-integer_bit-clause-next : goal.returns-then-x-integer_bit-clause-next
 returns-then-x-integer_bit-clause-next c =
     let s = c.args.shape in
     let ex = exponent_word s c.args.x.significand c.args.x.exponent c.requires.lawful c.requires.normal in
-    rw ex (before_is s (quanta_at s.min_exp c.args.x.significand c.args.x.exponent) (c.args.x.significand - c.step.result) c.args.x.exponent c.requires.normal.within (stays c))
+    rw ex (before_is s (quanta_at s.min_exp c.args.x.significand c.args.x.exponent)
+        (c.args.x.significand - c.step.result) c.args.x.exponent c.requires.normal.within (stays c))
 
 -- a significand that is not above the integer bit is it
 is_half : (m bit half : ℕ) → m ≤ bit → bit ≡ half → half ≤ m → m ≡ half
@@ -71,43 +80,63 @@ pub returns-then-x-least_exponent-clause-next : goal.returns-then-x-least_expone
 returns-then-x-least_exponent-clause-next c =
     let s = c.args.shape in
     let ex = exponent_word s c.args.x.significand c.args.x.exponent c.requires.lawful c.requires.normal in
-    let el : to_z w32 (of_z w32 c.least_exponent.result) ≡ c.least_exponent.result = to_z-of_z w32 c.least_exponent.result (record { sfits = c.least_exponent.type_inv }) in
-    let i : c.args.x.exponent ≡ ((s.min_exp +ℤ pos 1) -ℤ pos s.precision) = sym ex ∙ ap (to_z w32) c.if-x-least_exponent.true ∙ el ∙ c.least_exponent.ensures in
-    rw c.zero_of.ensures.datum (before_least s c.args.x.significand c.args.x.exponent c.requires.lawful c.requires.normal (is_half c.args.x.significand c.integer_bit.result (2 ^ (s.precision - 1)) c.if-x-integer_bit.false c.integer_bit.ensures c.requires.normal.operand.full) i)
+    let el : to_z w32 (of_z w32 c.least_exponent.result) ≡ c.least_exponent.result =
+        to_z-of_z w32 c.least_exponent.result (record { sfits = c.least_exponent.type_inv }) in
+    let i : c.args.x.exponent ≡ ((s.min_exp +ℤ pos 1) -ℤ pos s.precision) = sym ex ∙
+        ap (to_z w32) c.if-x-least_exponent.true ∙ el ∙ c.least_exponent.ensures in
+    rw c.zero_of.ensures.datum (before_least s c.args.x.significand c.args.x.exponent c.requires.lawful
+        c.requires.normal (is_half c.args.x.significand c.integer_bit.result (2 ^ (s.precision - 1))
+            c.if-x-integer_bit.false c.integer_bit.ensures c.requires.normal.operand.full) i)
 
-low : (c : goal.After-step-2) → ((c.args.shape.min_exp +ℤ pos 1) -ℤ pos c.args.shape.precision) ≤ℤ c.lowered-exponent.result
+low : (c : goal.After-step-2)
+    → ((c.args.shape.min_exp +ℤ pos 1) -ℤ pos c.args.shape.precision) ≤ℤ c.lowered-exponent.result
 low c =
     let s = c.args.shape in
     let ex = exponent_word s c.args.x.significand c.args.x.exponent c.requires.lawful c.requires.normal in
     let r = rw ex at c.lowered-exponent.ensures in
     let f = c.if-x-least_exponent.false in
     let n = c.least_exponent.ensures in
-    subst (λ (z : ℤ). ((s.min_exp +ℤ pos 1) -ℤ pos s.precision) ≤ℤ z) (sym r) (room_below ((s.min_exp +ℤ pos 1) -ℤ pos s.precision) c.args.x.exponent c.requires.normal.operand.least (λ e. f (ap (of_z w32) (e ∙ sym n))))
+    subst (λ (z : ℤ). ((s.min_exp +ℤ pos 1) -ℤ pos s.precision) ≤ℤ z) (sym r)
+        (room_below ((s.min_exp +ℤ pos 1) -ℤ pos s.precision) c.args.x.exponent c.requires.normal.operand.least
+            (λ e. f (ap (of_z w32) (e ∙ sym n))))
 
 pub overflow_sub-result-2 : goal.overflow_sub-result-2
 overflow_sub-result-2 c =
     let s = c.args.shape in
     let three = c.requires.lawful.precision_low in
-    let ey : to_z w32 (of_z w32 c.lowered-exponent.result) ≡ c.lowered-exponent.result = to_z-of_z w32 c.lowered-exponent.result (record { sfits = c.lowered-exponent.type_inv }) in
+    let ey : to_z w32 (of_z w32 c.lowered-exponent.result) ≡ c.lowered-exponent.result =
+        to_z-of_z w32 c.lowered-exponent.result (record { sfits = c.lowered-exponent.type_inv }) in
     let p = c.power_of_two.ensures in
     let t = twice_half s.precision (omega (arith, three)) in
-    step_below s c.power_of_two.result c.step-2.result c.lowered-exponent.result c.requires.lawful (low c) (omega (arith, p, t)) (rw ey at c.step-2.ensures)
+    step_below s c.power_of_two.result c.step-2.result c.lowered-exponent.result c.requires.lawful (low c)
+        (omega (arith, p, t)) (rw ey at c.step-2.ensures)
 
-lowers : (c : goal.After-step-2) → IsBefore c.args.shape (quanta_at c.args.shape.min_exp c.args.x.significand c.args.x.exponent) (c.power_of_two.result - c.step-2.result) c.lowered-exponent.result
+lowers : (c : goal.After-step-2)
+    → IsBefore c.args.shape (quanta_at c.args.shape.min_exp c.args.x.significand c.args.x.exponent)
+    (c.power_of_two.result - c.step-2.result) c.lowered-exponent.result
 lowers c =
     let s = c.args.shape in
     let ex = exponent_word s c.args.x.significand c.args.x.exponent c.requires.lawful c.requires.normal in
-    let ey : to_z w32 (of_z w32 c.lowered-exponent.result) ≡ c.lowered-exponent.result = to_z-of_z w32 c.lowered-exponent.result (record { sfits = c.lowered-exponent.type_inv }) in
-    before_lowers s c.args.x.significand c.power_of_two.result c.step-2.result c.args.x.exponent c.lowered-exponent.result c.requires.lawful c.requires.normal (is_half c.args.x.significand c.integer_bit.result (2 ^ (s.precision - 1)) c.if-x-integer_bit.false c.integer_bit.ensures c.requires.normal.operand.full) c.power_of_two.ensures (rw ex at c.lowered-exponent.ensures) (low c) (rw ey at c.step-2.ensures)
+    let ey : to_z w32 (of_z w32 c.lowered-exponent.result) ≡ c.lowered-exponent.result =
+        to_z-of_z w32 c.lowered-exponent.result (record { sfits = c.lowered-exponent.type_inv }) in
+    before_lowers s c.args.x.significand c.power_of_two.result c.step-2.result c.args.x.exponent
+        c.lowered-exponent.result c.requires.lawful c.requires.normal
+            (is_half c.args.x.significand c.integer_bit.result (2 ^ (s.precision - 1)) c.if-x-integer_bit.false
+                c.integer_bit.ensures c.requires.normal.operand.full) c.power_of_two.ensures
+                    (rw ex at c.lowered-exponent.ensures) (low c) (rw ey at c.step-2.ensures)
 
 pub returns-clause-stored : goal.returns-clause-stored
 returns-clause-stored c =
     let s = c.args.shape in
-    let ey : to_z w32 (of_z w32 c.lowered-exponent.result) ≡ c.lowered-exponent.result = to_z-of_z w32 c.lowered-exponent.result (record { sfits = c.lowered-exponent.type_inv }) in
-    rw ey (before_stored s (quanta_at s.min_exp c.args.x.significand c.args.x.exponent) (c.power_of_two.result - c.step-2.result) c.lowered-exponent.result c.requires.normal.within (lowers c))
+    let ey : to_z w32 (of_z w32 c.lowered-exponent.result) ≡ c.lowered-exponent.result =
+        to_z-of_z w32 c.lowered-exponent.result (record { sfits = c.lowered-exponent.type_inv }) in
+    rw ey (before_stored s (quanta_at s.min_exp c.args.x.significand c.args.x.exponent)
+        (c.power_of_two.result - c.step-2.result) c.lowered-exponent.result c.requires.normal.within (lowers c))
 
 pub returns-clause-next : goal.returns-clause-next
 returns-clause-next c =
     let s = c.args.shape in
-    let ey : to_z w32 (of_z w32 c.lowered-exponent.result) ≡ c.lowered-exponent.result = to_z-of_z w32 c.lowered-exponent.result (record { sfits = c.lowered-exponent.type_inv }) in
-    rw ey (before_is s (quanta_at s.min_exp c.args.x.significand c.args.x.exponent) (c.power_of_two.result - c.step-2.result) c.lowered-exponent.result c.requires.normal.within (lowers c))
+    let ey : to_z w32 (of_z w32 c.lowered-exponent.result) ≡ c.lowered-exponent.result =
+        to_z-of_z w32 c.lowered-exponent.result (record { sfits = c.lowered-exponent.type_inv }) in
+    rw ey (before_is s (quanta_at s.min_exp c.args.x.significand c.args.x.exponent)
+        (c.power_of_two.result - c.step-2.result) c.lowered-exponent.result c.requires.normal.within (lowers c))

@@ -8,7 +8,8 @@ use Rattle.apfloat_unpacked.specs.Shapes.{format_at}
 use Rattle.apfloat_unpacked.specs.Encoded.{layout_at}
 use Rattle.apfloat_unpacked.proofs.bits.fields_of_nan.Goals as goal
 
-no_significand : (kind : NonfiniteBehavior) (explicit : Bool) (precision s : ℕ) → kind ≡ NanNegativeZero → IsNanSignificand kind explicit precision s → s ≡ 0
+no_significand : (kind : NonfiniteBehavior) (explicit : Bool) (precision s : ℕ) → kind ≡ NanNegativeZero
+    → IsNanSignificand kind explicit precision s → s ≡ 0
 no_significand kind explicit precision s e h = rw e at h
 
 no_sign : (kind : NonfiniteBehavior) (b : Bool) → kind ≡ NanNegativeZero → b ≡ nan_sign kind b → b ≡ false
@@ -18,8 +19,11 @@ pub returns-in-NanNegativeZero : goal.returns-in-NanNegativeZero
 returns-in-NanNegativeZero c =
     let s = no_significand _ _ _ _ c.in-NanNegativeZero.is c.requires.nan.member.significand_is in
     let b = no_sign _ _ c.in-NanNegativeZero.is c.requires.nan.member.sign_is in
-    rw (s, b) (one_nan_fields_of (format_at c.args.shape) (layout_at c.args.widths) c.requires.interchange c.in-NanNegativeZero.is)
+    rw (s, b) (one_nan_fields_of (format_at c.args.shape) (layout_at c.args.widths) c.requires.interchange
+        c.in-NanNegativeZero.is)
 
 pub returns-in_default : goal.returns-in_default
 returns-in_default c =
-    rw c.ones.ensures (nan_fields_of (format_at c.args.shape) (layout_at c.args.widths) c.args.x.negative c.args.x.significand c.requires.interchange c.in_default.not-NanNegativeZero c.requires.nan.member.significand_is)
+    rw c.ones.ensures (nan_fields_of (format_at c.args.shape) (layout_at c.args.widths) c.args.x.negative
+        c.args.x.significand c.requires.interchange c.in_default.not-NanNegativeZero
+            c.requires.nan.member.significand_is)

@@ -39,7 +39,8 @@ pub returns-else-fields-eq0-clause-stored : goal.returns-else-fields-eq0-clause-
 returns-else-fields-eq0-clause-stored c = c.quanta_of-else-fields-eq0.ensures.stored
 
 pub quanta_of-requires-clause-within : goal.quanta_of-requires-clause-within
-quanta_of-requires-clause-within c = low_within (format_at c.args.shape) c.args.fields.trailing c.requires.lawful.precision_low c.requires.trailing
+quanta_of-requires-clause-within c =
+    low_within (format_at c.args.shape) c.args.fields.trailing c.requires.lawful.precision_low c.requires.trailing
 
 pub overflow_add-integer_bit : goal.overflow_add-integer_bit
 overflow_add-integer_bit c =
@@ -52,5 +53,7 @@ returns-else-fields-eq0-clause-datum c =
     let f = format_at c.args.shape in
     let e = ne_eqb c.args.fields.biased_exponent 0 c.if-fields-eq0.false in
     let s : 0 < smallest_normalized f = pow_pos (c.args.shape.precision - 1) in
-    let p : 0 < (smallest_normalized f + c.args.fields.trailing) * 2 ^ (c.args.fields.biased_exponent - 1) = mul-pos (omega arith) (pow_pos (c.args.fields.biased_exponent - 1)) in
-    rw (e, c.quanta_of-else-fields-eq0.ensures.datum, c.integer_bit.ensures) (signed_some c.args.shape.nonfinite c.args.fields.negative _ p)
+    let p : 0 < (smallest_normalized f + c.args.fields.trailing) * 2 ^ (c.args.fields.biased_exponent - 1) =
+        mul-pos (omega arith) (pow_pos (c.args.fields.biased_exponent - 1)) in
+    rw (e, c.quanta_of-else-fields-eq0.ensures.datum, c.integer_bit.ensures)
+        (signed_some c.args.shape.nonfinite c.args.fields.negative _ p)

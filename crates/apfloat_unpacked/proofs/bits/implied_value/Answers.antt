@@ -19,22 +19,27 @@ implied_number-requires-clause-biased c = c.requires.within.biased_exponent
 pub implied_number-requires-clause-trailing : goal.implied_number-requires-clause-trailing
 implied_number-requires-clause-trailing c = rw c.requires.implied at c.requires.within.trailing
 
-pub implied_number-requires-else-is_greatest-clause-lawful : goal.implied_number-requires-else-is_greatest-clause-lawful
+pub implied_number-requires-else-is_greatest-clause-lawful :
+    goal.implied_number-requires-else-is_greatest-clause-lawful
 implied_number-requires-else-is_greatest-clause-lawful c = c.requires.lawful
 
-pub implied_number-requires-else-is_greatest-clause-interchange : goal.implied_number-requires-else-is_greatest-clause-interchange
+pub implied_number-requires-else-is_greatest-clause-interchange :
+    goal.implied_number-requires-else-is_greatest-clause-interchange
 implied_number-requires-else-is_greatest-clause-interchange c = c.requires.interchange
 
-pub implied_number-requires-else-is_greatest-clause-biased : goal.implied_number-requires-else-is_greatest-clause-biased
+pub implied_number-requires-else-is_greatest-clause-biased :
+    goal.implied_number-requires-else-is_greatest-clause-biased
 implied_number-requires-else-is_greatest-clause-biased c = c.requires.within.biased_exponent
 
-pub implied_number-requires-else-is_greatest-clause-trailing : goal.implied_number-requires-else-is_greatest-clause-trailing
+pub implied_number-requires-else-is_greatest-clause-trailing :
+    goal.implied_number-requires-else-is_greatest-clause-trailing
 implied_number-requires-else-is_greatest-clause-trailing c = rw c.requires.implied at c.requires.within.trailing
 
 pub implied_number-requires-else-fields-clause-lawful : goal.implied_number-requires-else-fields-clause-lawful
 implied_number-requires-else-fields-clause-lawful c = c.requires.lawful
 
-pub implied_number-requires-else-fields-clause-interchange : goal.implied_number-requires-else-fields-clause-interchange
+pub implied_number-requires-else-fields-clause-interchange :
+    goal.implied_number-requires-else-fields-clause-interchange
 implied_number-requires-else-fields-clause-interchange c = c.requires.interchange
 
 pub implied_number-requires-else-fields-clause-biased : goal.implied_number-requires-else-fields-clause-biased
@@ -58,25 +63,36 @@ returns-else-fields-clause-stored c = c.implied_number-else-fields.ensures.store
 pub implied_number-requires-clause-within : goal.implied_number-requires-clause-within
 implied_number-requires-clause-within c p =
     let f = format_at c.args.shape in
-    let l : c.args.fields.trailing < 2 ^ (c.args.shape.precision - 1) = rw c.requires.implied at c.requires.within.trailing in
+    let l : c.args.fields.trailing < 2 ^ (c.args.shape.precision - 1) =
+        rw c.requires.implied at c.requires.within.trailing in
     let t = twice_half c.args.shape.precision (omega (arith, c.requires.lawful.precision_low)) in
-    ieee_within f (layout_at c.args.widths) (smallest_normalized f + c.args.fields.trailing) c.args.fields.biased_exponent c.requires.interchange c.in-IEEE754.is (omega (arith, l, t)) c.requires.within.biased_exponent
+    ieee_within f (layout_at c.args.widths) (smallest_normalized f + c.args.fields.trailing)
+        c.args.fields.biased_exponent c.requires.interchange c.in-IEEE754.is (omega (arith, l, t))
+            c.requires.within.biased_exponent
     (λ e. c.if-not-is_greatest.true (e ∙ sym c.ones.ensures))
 
-pub implied_number-requires-else-is_greatest-clause-within : goal.implied_number-requires-else-is_greatest-clause-within
+pub implied_number-requires-else-is_greatest-clause-within :
+    goal.implied_number-requires-else-is_greatest-clause-within
 implied_number-requires-else-is_greatest-clause-within c p =
     let f = format_at c.args.shape in
-    let l : c.args.fields.trailing < 2 ^ (c.args.shape.precision - 1) = rw c.requires.implied at c.requires.within.trailing in
+    let l : c.args.fields.trailing < 2 ^ (c.args.shape.precision - 1) =
+        rw c.requires.implied at c.requires.within.trailing in
     let t = twice_half c.args.shape.precision (omega (arith, c.requires.lawful.precision_low)) in
-    nan_only_within f (layout_at c.args.widths) (smallest_normalized f + c.args.fields.trailing) c.args.fields.biased_exponent c.requires.interchange c.in-NanOnly.is p (omega (arith, l, t)) c.requires.within.biased_exponent
+    nan_only_within f (layout_at c.args.widths) (smallest_normalized f + c.args.fields.trailing)
+        c.args.fields.biased_exponent c.requires.interchange c.in-NanOnly.is p (omega (arith, l, t))
+            c.requires.within.biased_exponent
     (λ a b. elim c.else-is_greatest.branch [
-      | else-is_greatest-via-then-is_greatest+else-fields-ones w ↦ w.if-fields-ones.false (omega (arith, b, l, t, w.ones-then-is_greatest.ensures))
+      | else-is_greatest-via-then-is_greatest+else-fields-ones w ↦ w.if-fields-ones.false
+          (omega (arith, b, l, t, w.ones-then-is_greatest.ensures))
       | else-is_greatest-via-else-is_greatest w ↦ w.if-is_greatest.false (a ∙ sym c.ones.ensures)
     ])
 
 pub implied_number-requires-else-fields-clause-within : goal.implied_number-requires-else-fields-clause-within
 implied_number-requires-else-fields-clause-within c p =
     let f = format_at c.args.shape in
-    let l : c.args.fields.trailing < 2 ^ (c.args.shape.precision - 1) = rw c.requires.implied at c.requires.within.trailing in
+    let l : c.args.fields.trailing < 2 ^ (c.args.shape.precision - 1) =
+        rw c.requires.implied at c.requires.within.trailing in
     let t = twice_half c.args.shape.precision (omega (arith, c.requires.lawful.precision_low)) in
-    negative_zero_within f (layout_at c.args.widths) (smallest_normalized f + c.args.fields.trailing) c.args.fields.biased_exponent c.requires.interchange c.in-NanNegativeZero.is (omega (arith, l, t)) c.requires.within.biased_exponent
+    negative_zero_within f (layout_at c.args.widths) (smallest_normalized f + c.args.fields.trailing)
+        c.args.fields.biased_exponent c.requires.interchange c.in-NanNegativeZero.is (omega (arith, l, t))
+            c.requires.within.biased_exponent

@@ -14,13 +14,15 @@ quanta_of-requires-clause-near c = omega arith
 pub integer_bit-requires : goal.integer_bit-requires
 integer_bit-requires c = c.requires.lawful
 
-pub quanta_of-requires-then-integer_bit-fields-clause-lawful : goal.quanta_of-requires-then-integer_bit-fields-clause-lawful
+pub quanta_of-requires-then-integer_bit-fields-clause-lawful :
+    goal.quanta_of-requires-then-integer_bit-fields-clause-lawful
 quanta_of-requires-then-integer_bit-fields-clause-lawful c = c.requires.lawful
 
 pub quanta_of-requires-clause-fits : goal.quanta_of-requires-clause-fits
 quanta_of-requires-clause-fits c = rw c.requires.explicit at c.requires.within.trailing
 
-pub quanta_of-requires-then-integer_bit-fields-clause-fits : goal.quanta_of-requires-then-integer_bit-fields-clause-fits
+pub quanta_of-requires-then-integer_bit-fields-clause-fits :
+    goal.quanta_of-requires-then-integer_bit-fields-clause-fits
 quanta_of-requires-then-integer_bit-fields-clause-fits c = rw c.requires.explicit at c.requires.within.trailing
 
 pub returns-then-fields-eq0-clause-stored : goal.returns-then-fields-eq0-clause-stored
@@ -32,8 +34,12 @@ returns-then-integer_bit-fields-clause-stored c = c.quanta_of-then-integer_bit-f
 pub returns-else-integer_bit-fields-clause-stored : goal.returns-else-integer_bit-fields-clause-stored
 returns-else-integer_bit-fields-clause-stored c = c.nan_of.ensures.stored
 
-pub quanta_of-requires-then-integer_bit-fields-clause-within : goal.quanta_of-requires-then-integer_bit-fields-clause-within
+pub quanta_of-requires-then-integer_bit-fields-clause-within :
+    goal.quanta_of-requires-then-integer_bit-fields-clause-within
 quanta_of-requires-then-integer_bit-fields-clause-within c =
-    let k = explicit_kind c.args.shape.nonfinite c.args.shape.explicit_integer_bit c.requires.interchange.explicit c.requires.explicit in
-    let w : c.args.fields.trailing < 2 ^ c.args.shape.precision = rw c.requires.explicit at c.requires.within.trailing in
-    ieee_within (format_at c.args.shape) (layout_at c.args.widths) c.args.fields.trailing c.args.fields.biased_exponent c.requires.interchange k w c.requires.within.biased_exponent c.requires.number
+    let k = explicit_kind c.args.shape.nonfinite c.args.shape.explicit_integer_bit c.requires.interchange.explicit
+        c.requires.explicit in
+    let w : c.args.fields.trailing < 2 ^ c.args.shape.precision =
+        rw c.requires.explicit at c.requires.within.trailing in
+    ieee_within (format_at c.args.shape) (layout_at c.args.widths) c.args.fields.trailing
+        c.args.fields.biased_exponent c.requires.interchange k w c.requires.within.biased_exponent c.requires.number

@@ -12,4 +12,5 @@ quanta_of-requires-clause-fits c =
     rw c.integer_bit.ensures (omega (arith, t, p))
 
 pub quanta_of-requires-clause-within : goal.quanta_of-requires-clause-within
-quanta_of-requires-clause-within c = rw c.integer_bit.ensures (half_within (format_at c.args.shape) c.requires.precision_low)
+quanta_of-requires-clause-within c =
+    rw c.integer_bit.ensures (half_within (format_at c.args.shape) c.requires.precision_low)

@@ -5,7 +5,8 @@ use Rattle.commands.specs.Commands.{Request, arguments, provided, with_format, w
 use Rattle.commands.specs.Replies.{IsOnly, IsReply, IsReplyTo, refused}
 use Rattle.commands.proofs.reply.command.Goals as goal
 
-only_fault : (holds : Bool) (word : List ℕ) (request : Result Request (List ℕ)) → holds ≡ false → IsOnly (IsReplyTo (provided holds word request)) (refused word)
+only_fault : (holds : Bool) (word : List ℕ) (request : Result Request (List ℕ)) → holds ≡ false
+    → IsOnly (IsReplyTo (provided holds word request)) (refused word)
 only_fault true word request e = cc
 only_fault false word request e = record { holds = refl; only = λ other h. h }
 
@@ -13,7 +14,8 @@ few_or_many : (n : ℕ) → (n < 4) ⊎ ((4 ≤ n) × (6 < n)) → (nat_le 4 n &
 few_or_many n (inl few) = rw (lt-leb 4 n few) refl
 few_or_many n (inr many) = rw (le-leb 4 n many.0, lt-leb n 6 many.1) refl
 
-only_count : (command : List (List ℕ)) (n : ℕ) → length command ≡ n → (n < 4) ⊎ ((4 ≤ n) × (6 < n)) → IsOnly (IsReply command) (refused arguments)
+only_count : (command : List (List ℕ)) (n : ℕ) → length command ≡ n → (n < 4) ⊎ ((4 ≤ n) × (6 < n))
+    → IsOnly (IsReply command) (refused arguments)
 only_count command n count outside =
     let off : (nat_le 4 (length command) && nat_le (length command) 6) ≡ false = rw count (few_or_many n outside) in
     only_fault (nat_le 4 (length command) && nat_le (length command) 6) arguments
@@ -21,4 +23,5 @@ only_count command n count outside =
 
 pub returns-then-words-lt4-clause-reply : goal.returns-then-words-lt4-clause-reply
 returns-then-words-lt4-clause-reply c =
-    only_count (map string_bytes c.args.words.now) _ (length-map c.args.words.now string_bytes) c.then-words-lt4.either
+    only_count (map string_bytes c.args.words.now) _ (length-map c.args.words.now string_bytes)
+        c.then-words-lt4.either

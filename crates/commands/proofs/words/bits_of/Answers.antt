@@ -5,7 +5,9 @@ use Rattle.commands.specs.Commands.{behind_0x, bits_of_digits}
 use Rattle.commands.proofs.words.bits_of.Goals as goal
 
 without_prefix : (rest : Option (Bor (List ℕ))) (bytes : Bor (List ℕ))
-    → MatchOption rest (same (take 2 bytes.now) (codes "0x") ≡ false) (λ x. (same (take 2 bytes.now) (codes "0x") ≡ true) × (x.now ≡ drop 2 bytes.now) × (length x.now + 2 ≡ length bytes.now))
+    → MatchOption rest (same (take 2 bytes.now) (codes "0x") ≡ false)
+    (λ x. (same (take 2 bytes.now) (codes "0x") ≡ true) × (x.now ≡ drop 2 bytes.now)
+        × (length x.now + 2 ≡ length bytes.now))
     → (unwrap_or rest bytes).now ≡ behind_0x bytes.now
 without_prefix None bytes h = rw h refl
 without_prefix (Some x) bytes h = rw h.0 h.1
@@ -14,4 +16,5 @@ pub returns : goal.returns
 returns c =
     let digits = without_prefix c.strip_prefix.result c.as_bytes-bytes.result c.strip_prefix.ensures.cases in
     c.bits_of_digits.ensures
-    ∙ ap (bits_of_digits c.args.width) (ap (λ (b : Bor (List ℕ)). b.now) c.unwrap_or.ensures ∙ digits ∙ ap behind_0x c.as_bytes-bytes.ensures.value)
+    ∙ ap (bits_of_digits c.args.width)
+    (ap (λ (b : Bor (List ℕ)). b.now) c.unwrap_or.ensures ∙ digits ∙ ap behind_0x c.as_bytes-bytes.ensures.value)

@@ -7,7 +7,8 @@ some_digits : (digits : List ℕ) → (length digits == 0) ≡ false → is_empt
 some_digits [] some = cc
 some_digits (c ∷ digits) some = refl
 
-all_pass : (none few read : Bool) (m n : ℕ) (fits : ℕ → Bool) → none ≡ false → few ≡ true → Some n ≡ (if read then Some m else None) → fits n ≡ true
+all_pass : (none few read : Bool) (m n : ℕ) (fits : ℕ → Bool) → none ≡ false → few ≡ true
+    → Some n ≡ (if read then Some m else None) → fits n ≡ true
     → Some n ≡ (if not none && few && read && fits m then Some m else None)
 all_pass true few read m n fits p q r s = cc
 all_pass false false read m n fits p q r s = cc
@@ -24,5 +25,6 @@ returns-then-is_within c =
     let digits = c.args.digits.now in
     let few : length digits ≤ 32 = omega arith in
     let some : (length digits == 0) ≡ false = sym c.is_empty.ensures ∙ c.if-is_empty.false in
-    all_pass (is_empty digits) (nat_le (length digits) 32) (every is_hexadecimal digits) (number 16 digits) c.in_ok-bits.bits (λ n. nat_lt n (2 ^ c.args.width))
+    all_pass (is_empty digits) (nat_le (length digits) 32) (every is_hexadecimal digits) (number 16 digits)
+        c.in_ok-bits.bits (λ n. nat_lt n (2 ^ c.args.width))
     (some_digits digits some) (le-leb _ _ few) c.in_ok-bits.ensures (sym c.is_within.ensures ∙ c.if-is_within.true)

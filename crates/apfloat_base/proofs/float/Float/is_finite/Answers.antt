@@ -6,7 +6,8 @@ use Rattle.apfloat_base.specs.Classes.{is_nan_category}
 use Rattle.apfloat_base.specs.Predicates.{is_infinite_category, is_finite_category}
 use Rattle.apfloat_base.proofs.float.Float.is_finite.Goals as goal
 
-finite_is : (category : Category) → is_nan_category category ≡ false → not (is_infinite_category category) ≡ is_finite_category category
+finite_is : (category : Category) → is_nan_category category ≡ false
+    → not (is_infinite_category category) ≡ is_finite_category category
 finite_is Infinity h = refl
 finite_is NaN h = absurd (false≢true (sym h))
 finite_is Normal h = refl
@@ -14,4 +15,5 @@ finite_is Zero h = refl
 
 pub returns-then-not-is_nan : goal.returns-then-not-is_nan
 returns-then-not-is_nan g c =
-    ap not (assumption) ∙ finite_is (g.Self.Float.category_of c.args.self) (sym c.is_nan.ensures ∙ c.if-not-is_nan.true)
+    ap not (assumption) ∙
+        finite_is (g.Self.Float.category_of c.args.self) (sym c.is_nan.ensures ∙ c.if-not-is_nan.true)

@@ -1,5 +1,5 @@
-use Rattle.apfloat_base.specs.Flags.{bits_of}
+use Rattle.std.proofs.Common.{refl}
 use Rattle.apfloat_ieee.proofs.remainders.IeeeFloatRemAssign.rem_assign.Goals as goal
 
 pub returns : goal.returns
-returns g c = record { after = (bits_of c.truncated.result.status, c.truncated.ensures) }
+returns g c = record { after = (c.truncated.result, c.truncated.ensures, refl) }

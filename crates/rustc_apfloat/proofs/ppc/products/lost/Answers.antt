@@ -12,7 +12,8 @@ pub returns : goal.returns
 returns c =
     rw (← c.x.view_is)
     (rw (← c.y.view_is)
-    (answered (IsLostOfProduct c.args.round _ _ _ _ c.args.t) _ _ _ _ c.and.ensures.value (ap bits_of c.and.ensures.status)
+    (answered (IsLostOfProduct c.args.round _ _ _ _ c.args.t) _ _ _ _ c.and.ensures.value
+        (ap bits_of c.and.ensures.status)
     (record {
       lost = c.mul_add_r-answer.result.value;
       v = c.mul_r-answer.result.value;

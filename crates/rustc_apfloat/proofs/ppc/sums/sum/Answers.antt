@@ -9,7 +9,8 @@ returns-clause-sum c =
 
 pub returns-clause-error_free : goal.returns-clause-error_free
 returns-clause-error_free c =
-    sum_error_free c.args.round c.args.x c.args.y _ (bits_of c.sum_of_categories.result.status) c.category.ensures.high
+    sum_error_free c.args.round c.args.x c.args.y _ (bits_of c.sum_of_categories.result.status)
+        c.category.ensures.high
     c.category-2.ensures.high (returns-clause-sum c)
 
 pub returns-clause-accurate : goal.returns-clause-accurate
@@ -17,4 +18,5 @@ returns-clause-accurate c =
     sum_accurate c.args.round c.args.x c.args.y _ (bits_of c.sum_of_categories.result.status) (returns-clause-sum c)
 
 pub returns-clause-plain : goal.returns-clause-plain
-returns-clause-plain c = sum_plain c.args.round c.args.x c.args.y c.sum_of_categories.result.value _ (returns-clause-sum c)
+returns-clause-plain c =
+    sum_plain c.args.round c.args.x c.args.y c.sum_of_categories.result.value _ (returns-clause-sum c)
