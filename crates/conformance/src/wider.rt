@@ -156,10 +156,11 @@ fn check_small<S: Semantics, W: Semantics>(rt: &impl Abort, format: Small, wide:
             let mut loses_info = true;
             let x = S::from_bits(bits);
             let there: StatusAnd<IeeeFloat<W>> = x.convert_r(mode, &mut loses_info);
+            let wide_value = there.value;
             let expected = widened(format, wide, bits);
             assert_eq!(rt; answered(there), expected, "{bits:x} {mode:?}");
             assert!(rt; !loses_info, "{bits:x} {mode:?}");
-            let back: StatusAnd<IeeeFloat<S>> = there.value.convert_r(mode, &mut loses_info);
+            let back: StatusAnd<IeeeFloat<S>> = wide_value.convert_r(mode, &mut loses_info);
             let expected = exactly(quieted(format, bits));
             assert_eq!(rt; answered(back), expected, "{bits:x} {mode:?}");
             assert_eq!(rt;
