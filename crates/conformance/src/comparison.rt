@@ -7,19 +7,11 @@ ghost use Rattle.conformance.specs.Plain.{HasBounds};
 use crate::own_formats::{HalfTinyBeforeS, SevenS};
 use crate::plain::{Answer, Bounds, deliver};
 use crate::small::magnitude_bits;
+use crate::tables::MODES;
 use apfloat_base::sig::Loss;
-use rustc_apfloat::ieee::normalize;
-use rustc_apfloat::ieee::{Half, HalfS, NonfiniteBehavior, Semantics};
+use rustc_apfloat::ieee::{Half, HalfS, NonfiniteBehavior, Semantics, normalize};
 use rustc_apfloat::{ExpInt, Float, Round};
 use std::process::Abort;
-
-const MODES: [Round; 5] = [
-    Round::NearestTiesToEven,
-    Round::TowardPositive,
-    Round::TowardNegative,
-    Round::TowardZero,
-    Round::NearestTiesToAway,
-];
 
 /// A format with bits: its bounds, the exponent of an eighth of its quantum, and the bits of a minus sign and of the
 /// infinity.

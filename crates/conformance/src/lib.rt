@@ -13,24 +13,30 @@ mod comparison;
 mod constants;
 #[cfg(test)]
 mod example;
-pub mod own_formats;
+#[cfg(test)]
+mod fractions;
+#[cfg(test)]
+mod integral;
 pub mod laws;
+#[cfg(test)]
+mod laws_at_limits;
 #[cfg(test)]
 mod limits;
 #[cfg(test)]
 mod long_texts;
 #[cfg(test)]
+mod neighbours;
+#[cfg(test)]
 mod operations;
 #[cfg(test)]
 mod operators;
+pub mod own_formats;
 pub mod pairs;
 #[cfg(test)]
 mod patterns;
 pub mod plain;
 #[cfg(test)]
 mod small;
-#[cfg(test)]
-mod sweeps;
 #[cfg(test)]
 mod tables;
 #[cfg(test)]

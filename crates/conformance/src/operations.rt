@@ -2,12 +2,12 @@
 
 ghost use Rattle.std.specs.Prelude.{◌<◌, ◌≤◌};
 
-use crate::small::{Expected, Small, difference, product, quotient, sum};
+use crate::small::{Expected, Small, answered, difference, product, quotient, sum};
 use crate::tables::{AWAY, DOWN, EVEN, UP, ZERO};
 use rustc_apfloat::ieee::{
     Float8E4M3FNS, Float8E4M3FNUZS, Float8E5M2S, HalfS, IeeeFloat, Semantics,
 };
-use rustc_apfloat::{Flags, Float, Round, StatusAnd};
+use rustc_apfloat::{Float, Round, StatusAnd};
 use std::process::Abort;
 
 fn check<S: Semantics>(
@@ -20,11 +20,7 @@ fn check<S: Semantics>(
 )
     requires { S.PRECISION < S.BITS }
 {
-    let got = Expected {
-        bits: answer.value.to_bits(),
-        status: answer.status.bits(),
-    };
-    assert_eq!(rt; got, expected, "{x:x} {operation} {y:x}");
+    assert_eq!(rt; answered(answer), expected, "{x:x} {operation} {y:x}");
 }
 
 /// The four operations on two patterns.

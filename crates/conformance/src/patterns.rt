@@ -2,16 +2,19 @@
 
 ghost use Rattle.std.specs.Prelude.{◌<◌};
 
+use rustc_apfloat::Float;
 use rustc_apfloat::ieee::{BFloatS, Float8E4M3FNS, Float8E4M3FNUZS, Float8E5M2S, HalfS, Semantics};
 use std::process::Abort;
 
-/// The bits of a value are those it was read from.
+/// The bits of a value are those it was read from, and a value is the one that is read from its bits.
 fn check_bits<S: Semantics>(rt: &impl Abort, patterns: u64)
     requires { S.PRECISION < S.BITS }
 {
     for pattern in 0..patterns {
         let bits = u128::from(pattern);
-        assert_eq!(rt; S::to_bits(S::from_bits(bits)), bits, "{bits:x}");
+        let x = S::from_bits(bits);
+        assert_eq!(rt; S::to_bits(x), bits, "{bits:x}");
+        assert!(rt; S::from_bits(S::to_bits(x)).bitwise_eq(x), "{bits:x}");
     }
 }
 
@@ -36,6 +39,7 @@ fn check_signs<S: Semantics>(rt: &impl Abort, patterns: u64)
 
 #[test]
 fn bits_come_back(rt: HostRuntime) {
+    check_bits::<HalfS>(&rt, 1 << 16);
     check_bits::<BFloatS>(&rt, 1 << 16);
     check_bits::<Float8E5M2S>(&rt, 1 << 8);
     check_bits::<Float8E4M3FNS>(&rt, 1 << 8);

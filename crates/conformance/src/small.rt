@@ -5,8 +5,8 @@ ghost use Rattle.std.specs.Prelude.{◌*◌, ◌^◌, ◌<◌, ◌≤◌};
 
 use crate::plain::{Answer, Bounds, deliver, whole};
 use crate::tables::{DIV_BY_ZERO, INEXACT, INVALID_OP, OK};
-use rustc_apfloat::ieee::NonfiniteBehavior;
-use rustc_apfloat::{Flags, Round};
+use rustc_apfloat::ieee::{IeeeFloat, NonfiniteBehavior, Semantics};
+use rustc_apfloat::{Flags, Float, Round, StatusAnd};
 
 #[derive(Clone, Copy, Debug)]
 pub enum Small {
@@ -32,7 +32,7 @@ pub struct Layout {
 
 pub fn layout_of(format: Small) -> Layout
     ensures some_digits { 3 ≤ result.bounds.precision }
-    ensures few_digits { result.bounds.precision ≤ 60 }
+    ensures few_digits { result.bounds.precision ≤ 11 }
     ensures some_normalized { 0 < result.bounds.smallest_normalized }
     ensures few_normalized { result.bounds.smallest_normalized < 2 ^ 60 }
     ensures largest { result.bounds.largest < 2 ^ 40 }
@@ -94,6 +94,14 @@ pub fn layout_of(format: Small) -> Layout
             past: 0x80,
             quiet: 0,
         },
+    }
+}
+
+/// How many patterns a format has.
+pub fn patterns_of(format: Small) -> u64 {
+    match format {
+        Small::Half => 1 << 16,
+        Small::Float8E5M2 | Small::Float8E4M3FN | Small::Float8E4M3FNUZ => 1 << 8,
     }
 }
 
@@ -166,12 +174,12 @@ pub fn magnitude_bits(integer_bit: u128, quanta: u128) -> u128
 }
 
 /// The bits of that sign; a zero and a NaN of some formats have none.
-fn sign_bit(layout: Layout, negative: bool) -> u128 {
+pub fn sign_bit(layout: Layout, negative: bool) -> u128 {
     if negative { layout.minus } else { 0 }
 }
 
 /// The bits of what stands past the largest value.
-fn past_bits(layout: Layout, negative: bool) -> u128 {
+pub fn past_bits(layout: Layout, negative: bool) -> u128 {
     sign_bit(layout, negative) | layout.past
 }
 
@@ -195,7 +203,17 @@ pub struct Expected {
     pub status: u8,
 }
 
-fn exactly(bits: u128) -> Expected {
+/// The bits and the status of an answer.
+pub fn answered<S: Semantics>(answer: StatusAnd<IeeeFloat<S>>) -> Expected
+    requires { S.PRECISION < S.BITS }
+{
+    Expected {
+        bits: answer.value.to_bits(),
+        status: answer.status.bits(),
+    }
+}
+
+pub fn exactly(bits: u128) -> Expected {
     Expected { bits, status: OK }
 }
 
@@ -221,7 +239,7 @@ fn rounded(format: Small, mode: Round, negative: bool, amount: u128, parts: u128
     }
 }
 
-fn is_nan(format: Small, bits: u128) -> bool {
+pub fn is_nan(format: Small, bits: u128) -> bool {
     match decoded(format, bits).class {
         Class::NotANumber => true,
         Class::Number => false,
@@ -230,8 +248,29 @@ fn is_nan(format: Small, bits: u128) -> bool {
 }
 
 /// Whether the pattern is a NaN that signals.
-fn signals(format: Small, bits: u128) -> bool {
+pub fn signals(format: Small, bits: u128) -> bool {
     is_nan(format, bits) && bits | layout_of(format).quiet != bits
+}
+
+/// The bits after an operation that keeps the value: a NaN's are those of a quiet one.
+pub fn quieted(format: Small, bits: u128) -> u128 {
+    if is_nan(format, bits) {
+        bits | layout_of(format).quiet
+    } else {
+        bits
+    }
+}
+
+/// The answer of an operation that keeps the value.
+pub fn kept(format: Small, bits: u128) -> Expected {
+    Expected {
+        bits: quieted(format, bits),
+        status: if signals(format, bits) {
+            INVALID_OP
+        } else {
+            OK
+        },
+    }
 }
 
 /// The answer of an operation on patterns of which one at least is a NaN: the left one, made quiet.

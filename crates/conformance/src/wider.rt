@@ -1,9 +1,16 @@
 //! Every pattern of a small format in a wider one and back.
 
-ghost use Rattle.std.specs.Prelude.{◌<◌};
+ghost use Rattle.std.specs.Prelude.{◌<◌, ◌≤◌};
 
-use crate::tables::{EVEN, INVALID_OP, OK};
-use rustc_apfloat::ieee::{BFloatS, DoubleS, Float8E5M2S, HalfS, IeeeFloat, Semantics, SingleS};
+use crate::small::{
+    Class, Expected, Operand, Small, answered, decoded, exactly, is_nan, kept, layout_of,
+    patterns_of, quieted,
+};
+use crate::tables::{EVEN, INVALID_OP, MODES, OK};
+use rustc_apfloat::ieee::{
+    BFloatS, DoubleS, Float8E4M3FNS, Float8E4M3FNUZS, Float8E5M2S, HalfS, IeeeFloat,
+    NonfiniteBehavior, Semantics, SingleS,
+};
 use rustc_apfloat::{Flags, Float, FloatConvert, StatusAnd};
 use std::process::Abort;
 
@@ -30,10 +37,162 @@ fn check<S: Semantics, W: Semantics>(rt: &impl Abort, patterns: u64, quiet: u128
     }
 }
 
+/// A format with infinities and its bits.
+#[derive(Clone, Copy)]
+struct Wide {
+    /// How many digits stand below the integer bit.
+    fraction_digits: u32,
+    /// 1 is 2 to this power quanta.
+    scale: u32,
+    minus: u128,
+    infinity: u128,
+    quiet: u128,
+}
+
+const HALF: Wide = Wide {
+    fraction_digits: 10,
+    scale: 24,
+    minus: 1 << 15,
+    infinity: 0x1f << 10,
+    quiet: 1 << 9,
+};
+
+const SINGLE: Wide = Wide {
+    fraction_digits: 23,
+    scale: 149,
+    minus: 1 << 31,
+    infinity: 0xff << 23,
+    quiet: 1 << 22,
+};
+
+/// 1 is 2 to this power quanta.
+fn scale_of(format: Small) -> u32
+    ensures { result ≤ 24 }
+{
+    match format {
+        Small::Half => 24,
+        Small::Float8E5M2 => 16,
+        Small::Float8E4M3FN => 9,
+        Small::Float8E4M3FNUZ => 10,
+    }
+}
+
+/// The bits of so many quanta of 2^-`scale`: the highest digit is the integer bit, or one below it of a denormal.
+fn number_bits(wide: Wide, scale: u32, quanta: u128) -> u128
+    requires some { 0 < quanta }
+    requires finer { scale ≤ wide.scale }
+    requires few_places { wide.scale ≤ 149 }
+    requires few_digits { wide.fraction_digits ≤ 23 }
+{
+    let places = wide.scale - scale;
+    let place = quanta.ilog2();
+    let highest = place + places;
+    if highest < wide.fraction_digits {
+        return quanta << places;
+    }
+    let exponent = u128::from(highest - wide.fraction_digits + 1);
+    let fraction = (quanta << wide.fraction_digits >> place) ^ (1 << wide.fraction_digits);
+    exponent << wide.fraction_digits | fraction
+}
+
+/// The bits of a NaN, whose payload stays at the highest digits of its significand.
+fn nan_bits(format: Small, wide: Wide, bits: u128) -> u128
+    requires some_digits { 10 ≤ wide.fraction_digits }
+    requires few_digits { wide.fraction_digits ≤ 23 }
+{
+    let bounds = layout_of(format).bounds;
+    let significand = quieted(format, bits) % bounds.smallest_normalized;
+    let more_digits = wide.fraction_digits + 1 - bounds.precision;
+    wide.infinity | wide.quiet | significand << more_digits
+}
+
+/// The bits of that sign; the NaN of some formats has none.
+fn wide_sign(format: Small, wide: Wide, x: Operand) -> u128 {
+    match (x.class, layout_of(format).bounds.nonfinite) {
+        (Class::NotANumber, NonfiniteBehavior::NanNegativeZero) => 0,
+        (_, _) if x.negative => wide.minus,
+        (_, _) => 0,
+    }
+}
+
+/// What a pattern is in the wide format.
+fn widened(format: Small, wide: Wide, bits: u128) -> Expected
+    requires finer { 24 ≤ wide.scale }
+    requires few_places { wide.scale ≤ 149 }
+    requires some_digits { 10 ≤ wide.fraction_digits }
+    requires few_digits { wide.fraction_digits ≤ 23 }
+{
+    let x = decoded(format, bits);
+    let magnitude = match x.class {
+        Class::Number if x.quanta > 0 => number_bits(wide, scale_of(format), x.quanta),
+        Class::Number => 0,
+        Class::Infinity => wide.infinity,
+        Class::NotANumber => nan_bits(format, wide, bits),
+    };
+    Expected {
+        bits: wide_sign(format, wide, x) | magnitude,
+        status: kept(format, bits).status,
+    }
+}
+
+/// Whether the way back loses the payload of a NaN as a whole.
+fn loses_payload(format: Small, bits: u128) -> bool {
+    let has_payloads = layout_of(format).bounds.nonfinite == NonfiniteBehavior::IEEE754;
+    is_nan(format, bits) && !has_payloads
+}
+
+/// Every pattern of a small format in a wider one, by its digits, and back.
+fn check_small<S: Semantics, W: Semantics>(rt: &impl Abort, format: Small, wide: Wide)
+    requires narrow_written { S.PRECISION < S.BITS }
+    requires wide_written { W.PRECISION < W.BITS }
+    requires finer { 24 ≤ wide.scale }
+    requires few_places { wide.scale ≤ 149 }
+    requires some_digits { 10 ≤ wide.fraction_digits }
+    requires few_digits { wide.fraction_digits ≤ 23 }
+{
+    for pattern in 0..patterns_of(format) {
+        let bits = u128::from(pattern);
+        for mode in MODES {
+            let mut loses_info = true;
+            let x = S::from_bits(bits);
+            let there: StatusAnd<IeeeFloat<W>> = x.convert_r(mode, &mut loses_info);
+            let wide_value = there.value;
+            let expected = widened(format, wide, bits);
+            assert_eq!(rt; answered(there), expected, "{bits:x} {mode:?}");
+            assert!(rt; !loses_info, "{bits:x} {mode:?}");
+            let back: StatusAnd<IeeeFloat<S>> = wide_value.convert_r(mode, &mut loses_info);
+            let expected = exactly(quieted(format, bits));
+            assert_eq!(rt; answered(back), expected, "{bits:x} {mode:?}");
+            assert_eq!(rt;
+                loses_info,
+                loses_payload(format, bits),
+                "{bits:x} {mode:?}"
+            );
+        }
+    }
+}
+
 #[test]
 fn wider_and_back(rt: HostRuntime) {
-    check::<HalfS, SingleS>(&rt, 1 << 16, 1 << 9);
     check::<BFloatS, SingleS>(&rt, 1 << 16, 1 << 6);
     check::<HalfS, DoubleS>(&rt, 1 << 16, 1 << 9);
-    check::<Float8E5M2S, HalfS>(&rt, 1 << 8, 1 << 1);
+}
+
+#[test]
+fn half_to_single(rt: HostRuntime) {
+    check_small::<HalfS, SingleS>(&rt, Small::Half, SINGLE);
+}
+
+#[test]
+fn eight_bits_to_half(rt: HostRuntime) {
+    check_small::<Float8E5M2S, HalfS>(&rt, Small::Float8E5M2, HALF);
+    check_small::<Float8E4M3FNS, HalfS>(&rt, Small::Float8E4M3FN, HALF);
+    check_small::<Float8E4M3FNUZS, HalfS>(&rt, Small::Float8E4M3FNUZ, HALF);
+}
+
+#[test]
+fn eight_bits_to_single(rt: HostRuntime) {
+    check_small::<Float8E5M2S, SingleS>(&rt, Small::Float8E5M2, SINGLE);
+    check_small::<Float8E4M3FNS, SingleS>(&rt, Small::Float8E4M3FN, SINGLE);
+    check_small::<Float8E4M3FNUZS, SingleS>(&rt, Small::Float8E4M3FNUZ, SINGLE);
 }

@@ -1,0 +1,101 @@
+//! The fraction and the exponent of every pattern of the small formats, against the digits of its quanta, and both put
+//! together again.
+
+ghost use Rattle.std.specs.Prelude.{◌^◌, ◌<◌};
+
+use crate::small::{
+    Class, Small, decoded, layout_of, magnitude_bits, patterns_of, quieted, sign_bit,
+};
+use crate::tables::MODES;
+use rustc_apfloat::ieee::{
+    Float8E4M3FNS, Float8E4M3FNUZS, Float8E5M2S, HalfS, IeeeFloat, Semantics,
+};
+use rustc_apfloat::{ExpInt, Float, IEK_INF, IEK_NAN, IEK_ZERO, Round};
+use std::process::Abort;
+
+/// The bits of a fraction and the exponent beside it.
+#[derive(Clone, Copy, Debug, PartialEq, Eq)]
+struct Fraction {
+    bits: u128,
+    exponent: ExpInt,
+}
+
+/// So many quanta as a fraction from one half to below 1: their highest digit becomes that of one half.
+fn fraction_of(format: Small, negative: bool, quanta: u128) -> Fraction
+    requires some { 0 < quanta }
+    requires few { quanta < 2 ^ 40 }
+{
+    let layout = layout_of(format);
+    let place = quanta.ilog2();
+    let fraction = quanta * (layout.one / 2) / 2u128.pow(place);
+    Fraction {
+        bits: sign_bit(layout, negative)
+            | magnitude_bits(layout.bounds.smallest_normalized, fraction),
+        exponent: place as ExpInt - layout.one.ilog2() as ExpInt + 1,
+    }
+}
+
+fn expected(format: Small, bits: u128) -> Fraction {
+    let x = decoded(format, bits);
+    match x.class {
+        Class::Number if x.quanta > 0 => fraction_of(format, x.negative, x.quanta),
+        Class::Number => Fraction { bits, exponent: 0 },
+        Class::Infinity => Fraction {
+            bits,
+            exponent: IEK_INF,
+        },
+        Class::NotANumber => Fraction {
+            bits: quieted(format, bits),
+            exponent: IEK_NAN,
+        },
+    }
+}
+
+/// The exponent of the value itself, from 1 to below 2 times a power of two.
+fn logarithm(format: Small, bits: u128, exponent: ExpInt) -> ExpInt {
+    let x = decoded(format, bits);
+    match x.class {
+        Class::Number if x.quanta > 0 => exponent.saturating_sub(1),
+        Class::Number => IEK_ZERO,
+        Class::Infinity | Class::NotANumber => exponent,
+    }
+}
+
+/// The fraction of a value, which scaled by the exponent is the value again, but for a NaN that signaled.
+fn check<S: Semantics>(rt: &impl Abort, format: Small, mode: Round, bits: u128)
+    requires { S.PRECISION < S.BITS }
+{
+    let x: IeeeFloat<S> = S::from_bits(bits);
+    let mut exponent = 0;
+    let fraction = x.frexp_r(&mut exponent, mode);
+    let got = Fraction {
+        bits: fraction.to_bits(),
+        exponent,
+    };
+    assert_eq!(rt; got, expected(format, bits), "{bits:x} {mode:?}");
+    assert_eq!(rt; x.ilogb(), logarithm(format, bits, exponent), "{bits:x}");
+    let whole = fraction.scalbn_r(exponent, mode);
+    assert_eq!(rt; whole.to_bits(), quieted(format, bits), "{bits:x} {mode:?}");
+}
+
+fn check_all<S: Semantics>(rt: &impl Abort, format: Small)
+    requires { S.PRECISION < S.BITS }
+{
+    for pattern in 0..patterns_of(format) {
+        for mode in MODES {
+            check::<S>(rt, format, mode, u128::from(pattern));
+        }
+    }
+}
+
+#[test]
+fn half(rt: HostRuntime) {
+    check_all::<HalfS>(&rt, Small::Half);
+}
+
+#[test]
+fn eight_bits(rt: HostRuntime) {
+    check_all::<Float8E5M2S>(&rt, Small::Float8E5M2);
+    check_all::<Float8E4M3FNS>(&rt, Small::Float8E4M3FN);
+    check_all::<Float8E4M3FNUZS>(&rt, Small::Float8E4M3FNUZ);
+}

@@ -1,0 +1,35 @@
+//! Every pattern of the small formats rounded to a whole number, in each mode: value and status against the quotient and
+//! the remainder of its quanta by those of 1.
+
+ghost use Rattle.std.specs.Prelude.{◌<◌};
+
+use crate::small::{Small, answered, integral, patterns_of};
+use crate::tables::MODES;
+use rustc_apfloat::Float;
+use rustc_apfloat::ieee::{Float8E4M3FNS, Float8E4M3FNUZS, Float8E5M2S, HalfS, Semantics};
+use std::process::Abort;
+
+fn check_all<S: Semantics>(rt: &impl Abort, format: Small)
+    requires { S.PRECISION < S.BITS }
+{
+    for pattern in 0..patterns_of(format) {
+        let bits = u128::from(pattern);
+        let x = S::from_bits(bits);
+        for mode in MODES {
+            let answer = answered(x.round_to_integral(mode));
+            assert_eq!(rt; answer, integral(format, mode, bits), "{bits:x} {mode:?}");
+        }
+    }
+}
+
+#[test]
+fn half(rt: HostRuntime) {
+    check_all::<HalfS>(&rt, Small::Half);
+}
+
+#[test]
+fn eight_bits(rt: HostRuntime) {
+    check_all::<Float8E5M2S>(&rt, Small::Float8E5M2);
+    check_all::<Float8E4M3FNS>(&rt, Small::Float8E4M3FN);
+    check_all::<Float8E4M3FNUZS>(&rt, Small::Float8E4M3FNUZ);
+}

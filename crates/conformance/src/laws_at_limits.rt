@@ -1,0 +1,243 @@
+//! The laws of the calls at formats of a user's own, with values at their limits. The callers of `laws` ask nothing of a
+//! format but its law.
+
+ghost use Rattle.std.specs.Prelude.{◌<◌, ◌≤◌};
+
+use crate::laws::{
+    near_difference, opposite_products, sums_in_order, there_and_back, through_bits, through_value,
+    up_and_down,
+};
+use crate::own_formats::{
+    BroadS, DeepS, HalfTinyBeforeS, LeastFiniteS, LeastS, PreciseS, SevenS, TenS, VastS,
+    WrittenBitS,
+};
+use crate::tables::MODES;
+use crate::widest::{WidestFusedSumsS, WidestProductsS};
+use rustc_apfloat::ieee::{IeeeFloat, NonfiniteBehavior, Semantics};
+use rustc_apfloat::{Float, Status};
+use std::process::Abort;
+
+/// A value at a limit of a format, or beside one.
+#[derive(Clone, Copy)]
+enum Limit {
+    Zero,
+    Quantum,
+    TwoQuanta,
+    LargestDenormal,
+    SmallestNormalized,
+    AboveSmallestNormalized,
+    One,
+    BelowLargest,
+    Largest,
+    Infinity,
+    QuietNan,
+    SignalingNan,
+}
+
+const LIMITS: [Limit; 12] = [
+    Limit::Zero,
+    Limit::Quantum,
+    Limit::TwoQuanta,
+    Limit::LargestDenormal,
+    Limit::SmallestNormalized,
+    Limit::AboveSmallestNormalized,
+    Limit::One,
+    Limit::BelowLargest,
+    Limit::Largest,
+    Limit::Infinity,
+    Limit::QuietNan,
+    Limit::SignalingNan,
+];
+
+const SIGNS: [bool; 2] = [false, true];
+
+/// The value of a limit with that sign.
+fn value_at<S: Semantics>(limit: Limit, negative: bool) -> IeeeFloat<S> {
+    let x = match limit {
+        Limit::Zero => IeeeFloat::<S>::zero(),
+        Limit::Quantum => IeeeFloat::smallest(),
+        Limit::TwoQuanta => IeeeFloat::smallest().next_up().value,
+        Limit::LargestDenormal => IeeeFloat::smallest_normalized().next_down().value,
+        Limit::SmallestNormalized => IeeeFloat::smallest_normalized(),
+        Limit::AboveSmallestNormalized => IeeeFloat::smallest_normalized().next_up().value,
+        Limit::One => IeeeFloat::from_u128(1).value,
+        Limit::BelowLargest => IeeeFloat::largest().next_down().value,
+        Limit::Largest => IeeeFloat::largest(),
+        Limit::Infinity => IeeeFloat::infinity(),
+        Limit::QuietNan => IeeeFloat::nan(),
+        Limit::SignalingNan => IeeeFloat::snan(None),
+    };
+    if negative { -x } else { x }
+}
+
+/// Whether both are positive numbers, neither of which is more than twice the other.
+fn are_near<S: Semantics>(x: IeeeFloat<S>, y: IeeeFloat<S>) -> bool {
+    let zero = IeeeFloat::zero();
+    let are_positive = x.is_finite() && y.is_finite() && x > zero && y > zero;
+    are_positive && !(x > y.scalbn(1)) && !(y > x.scalbn(1))
+}
+
+/// The difference of near numbers is exact, and added to the right one the left one.
+fn check_difference<S: Semantics>(rt: &impl Abort, x: IeeeFloat<S>, y: IeeeFloat<S>) {
+    for mode in MODES {
+        let difference = near_difference(x, y, mode);
+        if are_near(x, y) {
+            assert_eq!(rt; difference.status, Status::OK, "{x:?} {y:?} {mode:?}");
+            let sum = difference.value.add_r(y, mode);
+            assert_eq!(rt; sum.status, Status::OK, "{x:?} {y:?} {mode:?}");
+            assert!(rt; sum.value == x, "{x:?} {y:?} {mode:?}");
+        }
+    }
+}
+
+/// Sums of numbers in order with a third one are in order.
+fn check_sums<S: Semantics>(rt: &impl Abort, x: IeeeFloat<S>, y: IeeeFloat<S>, z: IeeeFloat<S>) {
+    let has_infinities = S::NONFINITE_BEHAVIOR == NonfiniteBehavior::IEEE754;
+    let are_finite = x.is_finite() && y.is_finite() && z.is_finite();
+    for mode in MODES {
+        let (left, right) = sums_in_order(x, y, z, mode);
+        if has_infinities && are_finite && x <= y {
+            assert!(rt; left <= right, "{x:?} {y:?} {z:?} {mode:?}");
+        }
+    }
+}
+
+/// A product with the turned left factor in the opposite mode is the turned product.
+fn check_product<S: Semantics>(rt: &impl Abort, x: IeeeFloat<S>, y: IeeeFloat<S>)
+    requires { S.PRECISION ≤ 64 }
+{
+    for mode in MODES {
+        let (product, opposite) = opposite_products(x, y, mode);
+        if x.is_finite_non_zero() && y.is_finite_non_zero() {
+            assert!(rt;
+                opposite.value.bitwise_eq(-product.value),
+                "{x:?} {y:?} {mode:?}"
+            );
+            assert_eq!(rt; opposite.status, product.status, "{x:?} {y:?} {mode:?}");
+        }
+    }
+}
+
+/// A number comes back from the format of the most digits and the widest exponents, and from one of three digits if it
+/// gets there.
+fn check_conversions<S: Semantics>(rt: &impl Abort, x: IeeeFloat<S>) {
+    for mode in MODES {
+        let (from_vast, lost) = there_and_back::<S, VastS>(x, mode);
+        if x.is_finite() {
+            assert!(rt; from_vast.bitwise_eq(x) && !lost, "{x:?} {mode:?}");
+        }
+        let (from_least, lost) = there_and_back::<S, LeastS>(x, mode);
+        if x.is_finite() && !lost {
+            assert!(rt; from_least.bitwise_eq(x), "{x:?} {mode:?}");
+        }
+    }
+}
+
+/// A step up and a step down.
+fn check_steps<S: Semantics>(rt: &impl Abort, x: IeeeFloat<S>) {
+    let back = up_and_down(x);
+    if S::NONFINITE_BEHAVIOR == NonfiniteBehavior::IEEE754 && x.is_finite_non_zero() {
+        assert!(rt; back.bitwise_eq(x), "{x:?}");
+    }
+}
+
+/// A value through bits, and its bits through a value.
+fn check_bits<S: Semantics>(rt: &impl Abort, x: IeeeFloat<S>)
+    requires { S.PRECISION < S.BITS }
+{
+    assert!(rt; through_bits(x).bitwise_eq(x), "{x:?}");
+    let bits = x.to_bits();
+    assert_eq!(rt; through_value::<S>(bits), bits, "{x:?}");
+}
+
+/// The laws of one, two and three values that every format has.
+fn check_laws<S: Semantics>(rt: &impl Abort) {
+    for left in LIMITS {
+        for left_sign in SIGNS {
+            let x = value_at::<S>(left, left_sign);
+            check_steps(rt, x);
+            check_conversions(rt, x);
+            check_laws_beside(rt, x);
+        }
+    }
+}
+
+fn check_laws_beside<S: Semantics>(rt: &impl Abort, x: IeeeFloat<S>) {
+    for right in LIMITS {
+        for right_sign in SIGNS {
+            let y = value_at::<S>(right, right_sign);
+            check_difference(rt, x, y);
+            for third in LIMITS {
+                check_sums(rt, x, y, value_at::<S>(third, false));
+                check_sums(rt, x, y, value_at::<S>(third, true));
+            }
+        }
+    }
+}
+
+fn check_products<S: Semantics>(rt: &impl Abort)
+    requires { S.PRECISION ≤ 64 }
+{
+    for left in LIMITS {
+        for right in LIMITS {
+            for negative in SIGNS {
+                let x = value_at::<S>(left, negative);
+                check_product(rt, x, value_at::<S>(right, false));
+                check_product(rt, x, value_at::<S>(right, true));
+            }
+        }
+    }
+}
+
+fn check_values_and_bits<S: Semantics>(rt: &impl Abort)
+    requires { S.PRECISION < S.BITS }
+{
+    for limit in LIMITS {
+        for negative in SIGNS {
+            check_bits(rt, value_at::<S>(limit, negative));
+        }
+    }
+}
+
+#[test]
+fn formats_without_bits(rt: HostRuntime) {
+    check_laws::<LeastS>(&rt);
+    check_laws::<LeastFiniteS>(&rt);
+    check_laws::<DeepS>(&rt);
+    check_laws::<PreciseS>(&rt);
+    check_laws::<VastS>(&rt);
+    check_laws::<WidestProductsS>(&rt);
+    check_laws::<WidestFusedSumsS>(&rt);
+}
+
+#[test]
+fn formats_with_bits(rt: HostRuntime) {
+    check_laws::<SevenS>(&rt);
+    check_laws::<HalfTinyBeforeS>(&rt);
+    check_laws::<TenS>(&rt);
+    check_laws::<WrittenBitS>(&rt);
+    check_laws::<BroadS>(&rt);
+}
+
+/// Formats of at most 64 digits.
+#[test]
+fn products(rt: HostRuntime) {
+    check_products::<LeastS>(&rt);
+    check_products::<LeastFiniteS>(&rt);
+    check_products::<DeepS>(&rt);
+    check_products::<WidestProductsS>(&rt);
+    check_products::<WidestFusedSumsS>(&rt);
+    check_products::<SevenS>(&rt);
+    check_products::<HalfTinyBeforeS>(&rt);
+    check_products::<TenS>(&rt);
+    check_products::<WrittenBitS>(&rt);
+}
+
+#[test]
+fn values_through_bits(rt: HostRuntime) {
+    check_values_and_bits::<SevenS>(&rt);
+    check_values_and_bits::<HalfTinyBeforeS>(&rt);
+    check_values_and_bits::<TenS>(&rt);
+    check_values_and_bits::<WrittenBitS>(&rt);
+    check_values_and_bits::<BroadS>(&rt);
+}

@@ -1,0 +1,102 @@
+//! The next value up and down from every pattern of the small formats, value and status, by the order of patterns: those
+//! of positive values rise with them from zero to what stands past the largest.
+
+ghost use Rattle.std.specs.Prelude.{◌<◌};
+
+use crate::laws::up_and_down;
+use crate::small::{
+    Class, Expected, Layout, Small, answered, decoded, exactly, is_nan, layout_of, past_bits,
+    patterns_of, signals,
+};
+use crate::tables::INVALID_OP;
+use rustc_apfloat::Float;
+use rustc_apfloat::ieee::{
+    Float8E4M3FNS, Float8E4M3FNUZS, Float8E5M2S, HalfS, NonfiniteBehavior, Semantics,
+};
+use std::process::Abort;
+
+/// The bits of that sign and magnitude; a zero has none in some formats.
+fn signed(layout: Layout, negative: bool, magnitude: u128) -> u128 {
+    let unsigned_zero = magnitude == 0
+        && layout.bounds.nonfinite == NonfiniteBehavior::NanNegativeZero;
+    if negative && !unsigned_zero {
+        layout.minus | magnitude
+    } else {
+        magnitude
+    }
+}
+
+/// The answer of a step from a NaN: of one that signals only the sign is kept.
+fn step_from_nan(format: Small, bits: u128, negative: bool) -> Expected {
+    if signals(format, bits) {
+        let layout = layout_of(format);
+        Expected {
+            bits: past_bits(layout, negative) | layout.quiet,
+            status: INVALID_OP,
+        }
+    } else {
+        exactly(bits)
+    }
+}
+
+/// The answer of a step up, or else of one down: from a zero to the least value of that direction, toward zero one
+/// pattern back, and away from it one pattern on, but from an infinity no further.
+fn step(format: Small, bits: u128, upward: bool) -> Expected {
+    let layout = layout_of(format);
+    let x = decoded(format, bits);
+    let magnitude = bits % layout.minus;
+    match x.class {
+        Class::NotANumber => step_from_nan(format, bits, x.negative),
+        _ if magnitude == 0 => exactly(signed(layout, !upward, 1)),
+        _ if x.negative == upward => exactly(signed(layout, x.negative, magnitude - 1)),
+        Class::Infinity => exactly(bits),
+        Class::Number => exactly(signed(layout, x.negative, magnitude + 1)),
+    }
+}
+
+fn check_all<S: Semantics>(rt: &impl Abort, format: Small)
+    requires { S.PRECISION < S.BITS }
+{
+    for pattern in 0..patterns_of(format) {
+        let bits = u128::from(pattern);
+        let x = S::from_bits(bits);
+        assert_eq!(rt; answered(x.next_up()), step(format, bits, true), "{bits:x}");
+        assert_eq!(rt;
+            answered(x.next_down()),
+            step(format, bits, false),
+            "{bits:x}"
+        );
+    }
+}
+
+/// A step up and a step down from a number that is not zero; past the largest value the way back leads to it only from
+/// an infinity.
+fn check_back<S: Semantics>(rt: &impl Abort, format: Small)
+    requires { S.PRECISION < S.BITS }
+{
+    for pattern in 0..patterns_of(format) {
+        let bits = u128::from(pattern);
+        let x = S::from_bits(bits);
+        if x.is_finite_non_zero() {
+            assert_eq!(rt; up_and_down(x).to_bits(), bits, "{bits:x}");
+        }
+    }
+}
+
+#[test]
+fn half(rt: HostRuntime) {
+    check_all::<HalfS>(&rt, Small::Half);
+}
+
+#[test]
+fn eight_bits(rt: HostRuntime) {
+    check_all::<Float8E5M2S>(&rt, Small::Float8E5M2);
+    check_all::<Float8E4M3FNS>(&rt, Small::Float8E4M3FN);
+    check_all::<Float8E4M3FNUZS>(&rt, Small::Float8E4M3FNUZ);
+}
+
+#[test]
+fn up_and_back(rt: HostRuntime) {
+    check_back::<HalfS>(&rt, Small::Half);
+    check_back::<Float8E5M2S>(&rt, Small::Float8E5M2);
+}
