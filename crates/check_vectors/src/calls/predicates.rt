@@ -1,7 +1,7 @@
 //! Calls that ask one value something.
 
-use crate::row::{Row, truth_of};
-use crate::values::value_of;
+use crate::calls::row::{Row, truth_of};
+use crate::calls::values::value_of;
 use rustc_apfloat::Float;
 
 /// Whether the answer of a row's call is the one that the row has, if it is a call of this module.

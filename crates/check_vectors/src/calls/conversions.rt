@@ -1,7 +1,7 @@
 //! Conversions between two formats.
 
-use crate::row::Row;
-use crate::values::{is_value, value_of};
+use crate::calls::row::Row;
+use crate::calls::values::{is_value, value_of};
 use commands::mode_named;
 use rustc_apfloat::ieee::{IeeeFloat, Semantics};
 use rustc_apfloat::{FloatConvert, StatusAnd};

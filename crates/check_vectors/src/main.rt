@@ -12,31 +12,17 @@
 //!   `ParseError` says that the text is refused, with the words of the value's column;
 //! - what else the call answers, as `exponent=-3`, or `-`.
 //!
-//! A value is written by its bits, as hexadecimal digits, or in a format without bits by its quanta, as `+3q`; `src/quanta.rt`
+//! A value is written by its bits, as hexadecimal digits, or in a format without bits by its quanta, as `+3q`; `src/calls/quanta.rt`
 //! says what such words mean and by which calls they are told.
 //!
 //! The program writes the rows that differ or are not understood, and how many agree. Its exit status is 0 where all do,
 //! and else 1.
 #![tactic(auto)]
 
-mod arithmetic;
-mod constants;
-mod conversions;
-mod formats;
-mod ieee;
-mod operators;
-mod order;
-mod pairs;
-mod parts;
-mod predicates;
-mod quanta;
-mod row;
-mod texts;
-mod values;
-mod whole_numbers;
+mod calls;
 
-use crate::formats::agrees_in_each_mode;
-use crate::row::row_of;
+use crate::calls::formats::agrees_in_each_mode;
+use crate::calls::row::row_of;
 use std::io;
 use std::io::{BufRead, BufReader};
 use std::process::ExitCode;

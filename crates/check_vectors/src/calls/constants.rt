@@ -1,7 +1,7 @@
 //! What a format has once: its named values, and its numbers.
 
-use crate::row::{Row, truth_of};
-use crate::values::is_value;
+use crate::calls::row::{Row, truth_of};
+use crate::calls::values::is_value;
 use rustc_apfloat::{ExpInt, Float};
 
 /// Whether the constant of this name is the one that a row has, if it is a constant.

@@ -1,7 +1,7 @@
 //! Calls that compare two values.
 
-use crate::row::{Operands, Row, truth_of};
-use crate::values::value_of;
+use crate::calls::row::{Operands, Row, truth_of};
+use crate::calls::values::value_of;
 use rustc_apfloat::Float;
 use std::cmp::Ordering;
 

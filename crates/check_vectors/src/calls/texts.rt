@@ -1,8 +1,8 @@
 //! Calls with texts.
 
-use crate::arithmetic::is_answer;
-use crate::row::Row;
-use crate::values::{is_value, value_of};
+use crate::calls::arithmetic::is_answer;
+use crate::calls::row::Row;
+use crate::calls::values::{is_value, value_of};
 use commands::mode_named;
 use rustc_apfloat::{Category, Float, ParseError};
 use std::fmt;

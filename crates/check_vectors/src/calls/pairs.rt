@@ -3,9 +3,9 @@
 ghost use Rattle.std.specs.Prelude.{◌≡◌, true};
 ghost use Rattle.rustc_apfloat.specs.PairParts.{CanComparePairMagnitudes};
 
-use crate::order::is_order;
-use crate::row::{Operands, Row};
-use crate::values::{is_value, value_of};
+use crate::calls::order::is_order;
+use crate::calls::row::{Operands, Row};
+use crate::calls::values::{is_value, value_of};
 use rustc_apfloat::ieee::{Double, FallbackS, IeeeFloat};
 use rustc_apfloat::ppc::DoubleDouble;
 use rustc_apfloat::{Category, Float};

@@ -1,7 +1,7 @@
 //! Calls whose operands are values, and whose answer is a value with a status.
 
-use crate::row::{Operands, Row};
-use crate::values::{is_value, value_of};
+use crate::calls::row::{Operands, Row};
+use crate::calls::values::{is_value, value_of};
 use commands::mode_named;
 use rustc_apfloat::{Float, Round, StatusAnd};
 

@@ -1,6 +1,6 @@
 //! Values, as rows write them.
 
-use crate::quanta;
+use crate::calls::quanta;
 use commands::bits_of;
 use rustc_apfloat::Float;
 

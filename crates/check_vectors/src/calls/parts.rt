@@ -1,7 +1,7 @@
 //! Calls whose answer is a value without a status.
 
-use crate::row::{Operands, Row};
-use crate::values::{is_value, value_of};
+use crate::calls::row::{Operands, Row};
+use crate::calls::values::{is_value, value_of};
 use commands::{bits_of, mode_named};
 use rustc_apfloat::{ExpInt, Float};
 

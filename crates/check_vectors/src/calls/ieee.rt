@@ -1,9 +1,9 @@
 //! Calls that `IeeeFloat` has of its own, and the one that its type decides when to make.
 
-use crate::arithmetic::is_answer;
-use crate::order::is_order;
-use crate::row::{Operands, Row};
-use crate::values::{is_value, value_of};
+use crate::calls::arithmetic::is_answer;
+use crate::calls::order::is_order;
+use crate::calls::row::{Operands, Row};
+use crate::calls::values::{is_value, value_of};
 use commands::mode_named;
 use rustc_apfloat::ieee::{IeeeFloat, Semantics};
 use rustc_apfloat::{Category, ExpInt, Float, StatusAnd};

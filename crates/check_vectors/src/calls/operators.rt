@@ -1,7 +1,7 @@
 //! Operators that change their left operand.
 
-use crate::row::{Operands, Row};
-use crate::values::{is_value, value_of};
+use crate::calls::row::{Operands, Row};
+use crate::calls::values::{is_value, value_of};
 use rustc_apfloat::Float;
 
 /// Whether the changed value is the one that the row has, if it is a call of this module.

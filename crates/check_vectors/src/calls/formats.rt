@@ -1,11 +1,11 @@
 //! The formats of the rows by name, and the calls in them.
 
-use crate::conversions::converts;
-use crate::parts::{is_fraction, is_scaled};
-use crate::row::Row;
-use crate::texts::{is_parsed, is_read, is_shown};
-use crate::whole_numbers::is_exponent;
-use crate::{
+use crate::calls::conversions::converts;
+use crate::calls::parts::{is_fraction, is_scaled};
+use crate::calls::row::Row;
+use crate::calls::texts::{is_parsed, is_read, is_shown};
+use crate::calls::whole_numbers::is_exponent;
+use crate::calls::{
     arithmetic, constants, ieee, operators, order, pairs, parts, predicates, whole_numbers,
 };
 use conformance::own_formats::{

@@ -2,9 +2,9 @@
 
 ghost use Rattle.std.specs.Prelude.{◌≤◌};
 
-use crate::arithmetic::is_answer;
-use crate::row::{Operands, Row};
-use crate::values::value_of;
+use crate::calls::arithmetic::is_answer;
+use crate::calls::row::{Operands, Row};
+use crate::calls::values::value_of;
 use commands::{mode_named, number_of};
 use rustc_apfloat::{ExpInt, Float, StatusAnd};
 
