@@ -1,58 +1,40 @@
-//! Makes the calls that rows of outside values name, and compares the answers with those of the rows.
+//! Checks files of test vectors: rows of commands with their replies, and of calls with their answers.
 //!
-//! Standard input has the rows, a line for each. The columns, which tabs part, are
+//! Rows come from the file that is named, or from standard input. `--help` says what they are, what is written and what
+//! the exit status tells; `docs/VECTORS.md` has more on the columns.
 //!
-//! - the call, or an operator; `through_i128` is a whole number of 128 digits out and in again;
-//! - the format, `dd` for pairs of doubles, or `SOURCE>TARGET` for a conversion;
-//! - the mode, as `vectors` names it, `any` for each mode, or `-` for a call that has none;
-//! - the operands, which single spaces part; those of `from_str_r` and `from_str` are a text as it stands, and that of a
-//!   constant is `-`;
-//! - the value;
-//! - the names of the flags, which bars join in the order of their bits, `OK` for none, or `-` for a call without a status;
-//!   `ParseError` says that the text is refused, with the words of the value's column;
-//! - what else the call answers, as `exponent=-3`, or `-`.
-//!
-//! A value is written by its bits, as hexadecimal digits, or in a format without bits by its quanta, as `+3q`; `src/calls/quanta.rt`
-//! says what such words mean and by which calls they are told.
-//!
-//! The program writes the rows that differ or are not understood, and how many agree. Its exit status is 0 where all do,
-//! and else 1.
+//! Of the functions here only safety is proved, and that a row's columns are those of its line.
 #![tactic(auto)]
 
 mod calls;
+mod check;
+mod command_row;
+mod failure;
+mod fault;
+mod help;
+mod progress;
+mod run;
+mod tally;
+#[cfg(test)]
+mod tests;
 
-use crate::calls::formats::agrees_in_each_mode;
-use crate::calls::row::row_of;
-use std::io;
-use std::io::{BufRead, BufReader};
+use crate::run::run;
+use std::alloc::Alloc;
+use std::env::Env;
 use std::process::ExitCode;
+use std::{env, io};
 
 fn main(rt: HostRuntime) -> ExitCode {
-    match compare_rows(&rt) {
-        Ok(true) => ExitCode::from(0),
-        Ok(false) => ExitCode::from(1),
-        Err(_) => ExitCode::from(1),
-    }
+    ExitCode::from(run(
+        &rt,
+        words_of_system(&rt),
+        &mut rt.stdout(),
+        &mut rt.stderr(),
+    ))
 }
 
-// Whether all rows agree.
-fn compare_rows(rt: &(impl Input + Print + AllocGlobal)) -> io::Result<bool> {
-    let mut agreeing = 0u64;
-    let mut all_agree = true;
-    for line in BufReader::new(rt.alloc(), rt.reader())?.lines(rt.alloc()) {
-        let line = line?;
-        match row_of(line.as_str()).and_then(|row| agrees_in_each_mode(row)) {
-            Some(true) => agreeing = agreeing.saturating_add(1),
-            Some(false) => {
-                all_agree = false;
-                println!(rt; "differs: {line}")?;
-            }
-            None => {
-                all_agree = false;
-                println!(rt; "not understood: {line}")?;
-            }
-        }
-    }
-    println!(rt; "{agreeing} rows agree")?;
-    Ok(all_agree)
+// The words without the program's own name.
+fn words_of_system<R: Env + Alloc>(rt: &R) -> io::Result<Vec<String<R::A>, R::A>> {
+    let words = env::args(rt)?.skip(1).collect(rt.alloc())?;
+    Ok(words)
 }

@@ -1,70 +1,114 @@
-//! Calls whose operands are values, and whose answer is a value with a status.
+//! Calls whose operands are values, and whose answer is a value, by itself or with a status.
 
-use crate::calls::row::{Operands, Row};
-use crate::calls::values::{is_value, value_of};
-use commands::mode_named;
+use crate::calls::answer::{Answer, Extra};
+use crate::calls::call::Operator;
+use crate::calls::row::Row;
+use crate::calls::values::{value_of, word_of};
+use crate::fault::Fault;
 use rustc_apfloat::{Float, Round, StatusAnd};
+use std::fmt::Debug;
 
-/// Whether the answer of a row's call is the one that the row has, if it is a call of this module.
-pub fn agrees<F: Float>(row: Row<'_>) -> Option<bool> {
-    match row.parted_operands()? {
-        Operands::One(x) => is_answer(row, of_one(row, value_of::<F>(x)?)?),
-        Operands::Two(x, y) => is_answer(row, of_two::<F>(row, value_of(x)?, value_of(y)?)?),
-        Operands::Three(_, _, _) => None,
+/// The answer that a value with a status is.
+pub fn valued<F: Float + Debug>(answer: StatusAnd<F>, row: Row<'_>) -> Answer {
+    let extra = Extra::Truth("is_signaling", answer.value.is_signaling());
+    Answer::raised(word_of(answer.value, row), answer.status, extra)
+}
+
+/// The answer of an operator, or of its call with a mode.
+pub fn operated<F: Float + Debug>(
+    operator: Operator,
+    round: Option<Round>,
+    row: Row<'_>,
+) -> Result<Answer, Fault<'_>> {
+    let (first, second) = row.two_operands()?;
+    let (x, y) = (value_of::<F>(first)?, value_of::<F>(second)?);
+    let answer = match round {
+        Some(round) => rounded(operator, round, x, y),
+        None => by_operator(operator, x, y),
+    };
+    match answer {
+        Some(answer) => Ok(valued(answer, row)),
+        None => Err(row.support_fault()),
     }
 }
 
-/// Whether an answer is the one that a row has.
-pub fn is_answer<F: Float>(row: Row<'_>, answer: StatusAnd<F>) -> Option<bool> {
-    Some(
-        is_value(answer.value, row.value)?
-            && row.has_status(answer.status)?
-            && row.has_property("is_signaling=", answer.value.is_signaling())?,
-    )
-}
-
-fn of_one<F: Float>(row: Row<'_>, x: F) -> Option<StatusAnd<F>> {
-    match (row.call, row.mode) {
-        ("round_to_integral", mode) => Some(x.round_to_integral(mode_named(mode)?)),
-        ("next_up", "-") => Some(x.next_up()),
-        ("next_down", "-") => Some(x.next_down()),
+fn rounded<F: Float>(operator: Operator, round: Round, x: F, y: F) -> Option<StatusAnd<F>> {
+    match operator {
+        Operator::Sum => Some(x.add_r(y, round)),
+        Operator::Difference => Some(x.sub_r(y, round)),
+        Operator::Product if F::MULTIPLIES => Some(x.mul_r(y, round)),
+        Operator::Quotient => Some(x.div_r(y, round)),
         _ => None,
     }
 }
 
-fn of_two<F: Float>(row: Row<'_>, x: F, y: F) -> Option<StatusAnd<F>> {
-    if row.mode == "-" {
-        remainder(row.call, x, y).or_else(|| by_operator(row.call, x, y))
-    } else {
-        rounded(row.call, mode_named(row.mode)?, x, y)
+fn by_operator<F: Float>(operator: Operator, x: F, y: F) -> Option<StatusAnd<F>> {
+    match operator {
+        Operator::Sum => Some(x + y),
+        Operator::Difference => Some(x - y),
+        Operator::Product if F::MULTIPLIES => Some(x * y),
+        Operator::Product => None,
+        Operator::Quotient => Some(x / y),
+        Operator::Remainder => Some(x % y),
     }
 }
 
-fn rounded<F: Float>(call: &str, mode: Round, x: F, y: F) -> Option<StatusAnd<F>> {
-    match call {
-        "add_r" => Some(x.add_r(y, mode)),
-        "sub_r" => Some(x.sub_r(y, mode)),
-        "mul_r" if F::MULTIPLIES => Some(x.mul_r(y, mode)),
-        "div_r" => Some(x.div_r(y, mode)),
-        _ => None,
+/// The answer of an operator that changes its left operand.
+pub fn assigned<F: Float + Debug>(operator: Operator, row: Row<'_>) -> Result<Answer, Fault<'_>> {
+    let (first, second) = row.two_operands()?;
+    match changed::<F>(operator, value_of(first)?, value_of(second)?) {
+        Some(value) => Ok(Answer::silent(word_of(value, row))),
+        None => Err(row.support_fault()),
     }
 }
 
-fn remainder<F: Float>(call: &str, x: F, y: F) -> Option<StatusAnd<F>> {
-    match call {
-        "ieee_rem" => Some(x.ieee_rem(y)),
-        "c_fmod" => Some(x.c_fmod(y)),
-        _ => None,
+fn changed<F: Float>(operator: Operator, x: F, y: F) -> Option<F> {
+    let mut value = x;
+    match operator {
+        Operator::Sum => value += y,
+        Operator::Difference => value -= y,
+        Operator::Product if F::MULTIPLIES => value *= y,
+        Operator::Product => return None,
+        Operator::Quotient => value /= y,
+        Operator::Remainder => value %= y,
+    }
+    Some(value)
+}
+
+/// The answer of the remainder by the nearest quotient.
+pub fn nearest_remainder<F: Float + Debug>(row: Row<'_>) -> Result<Answer, Fault<'_>> {
+    let (first, second) = row.two_operands()?;
+    let (x, y) = (value_of::<F>(first)?, value_of::<F>(second)?);
+    Ok(valued(x.ieee_rem(y), row))
+}
+
+/// The answer of the remainder by the quotient cut toward zero.
+pub fn truncated_remainder<F: Float + Debug>(row: Row<'_>) -> Result<Answer, Fault<'_>> {
+    let (first, second) = row.two_operands()?;
+    let (x, y) = (value_of::<F>(first)?, value_of::<F>(second)?);
+    Ok(valued(x.c_fmod(y), row))
+}
+
+/// The answer of rounding to a whole number.
+pub fn to_integral<F: Float + Debug>(
+    round: Option<Round>,
+    row: Row<'_>,
+) -> Result<Answer, Fault<'_>> {
+    let x = value_of::<F>(row.one_operand()?)?;
+    match round {
+        Some(round) => Ok(valued(x.round_to_integral(round), row)),
+        None => Err(Fault::Mode(row.mode)),
     }
 }
 
-fn by_operator<F: Float>(call: &str, x: F, y: F) -> Option<StatusAnd<F>> {
-    match call {
-        "+" => Some(x + y),
-        "-" => Some(x - y),
-        "*" if F::MULTIPLIES => Some(x * y),
-        "/" => Some(x / y),
-        "%" => Some(x % y),
-        _ => None,
-    }
+/// The answer of the next value upward.
+pub fn next_up<F: Float + Debug>(row: Row<'_>) -> Result<Answer, Fault<'_>> {
+    let x = value_of::<F>(row.one_operand()?)?;
+    Ok(valued(x.next_up(), row))
+}
+
+/// The answer of the next value downward.
+pub fn next_down<F: Float + Debug>(row: Row<'_>) -> Result<Answer, Fault<'_>> {
+    let x = value_of::<F>(row.one_operand()?)?;
+    Ok(valued(x.next_down(), row))
 }

@@ -1,23 +1,28 @@
 //! Conversions between two formats.
 
+use crate::calls::answer::{Answer, Extra};
+use crate::calls::call::Call;
 use crate::calls::row::Row;
-use crate::calls::values::{is_value, value_of};
-use commands::mode_named;
+use crate::calls::values::{value_of, word_of};
+use crate::fault::Fault;
 use rustc_apfloat::ieee::{IeeeFloat, Semantics};
-use rustc_apfloat::{FloatConvert, StatusAnd};
+use rustc_apfloat::{FloatConvert, Round, StatusAnd};
 
-/// Whether the answer of a conversion, and whether it loses information, are as the row has them.
-pub fn converts<S: Semantics, T: Semantics>(row: Row<'_>) -> Option<bool> {
-    let x = value_of::<IeeeFloat<S>>(row.operands)?;
+/// The answer of a conversion, and whether it loses information.
+pub fn converted<S: Semantics, T: Semantics>(
+    call: Call,
+    round: Option<Round>,
+    row: Row<'_>,
+) -> Result<Answer, Fault<'_>> {
+    if !matches!(call, Call::Converted) {
+        return Err(row.support_fault());
+    }
+    let x = value_of::<IeeeFloat<S>>(row.one_operand()?)?;
     let mut loses_info = false;
-    let answer: StatusAnd<IeeeFloat<T>> = match (row.call, row.mode) {
-        ("convert_r", mode) => x.convert_r(mode_named(mode)?, &mut loses_info),
-        ("convert", "-") => x.convert(&mut loses_info),
-        _ => return None,
+    let answer: StatusAnd<IeeeFloat<T>> = match round {
+        Some(round) => x.convert_r(round, &mut loses_info),
+        None => x.convert(&mut loses_info),
     };
-    Some(
-        is_value(answer.value, row.value)?
-            && row.has_status(answer.status)?
-            && row.has_property("loses_info=", loses_info)?,
-    )
+    let extra = Extra::Truth("loses_info", loses_info);
+    Ok(Answer::raised(word_of(answer.value, row), answer.status, extra))
 }

@@ -1,28 +1,28 @@
 //! The formats of the rows by name, and the calls in them.
 
-use crate::calls::conversions::converts;
-use crate::calls::parts::{is_fraction, is_scaled};
+use crate::calls::answer::Answer;
+use crate::calls::call::Call;
+use crate::calls::conversions::converted;
 use crate::calls::row::Row;
-use crate::calls::texts::{is_parsed, is_read, is_shown};
-use crate::calls::whole_numbers::is_exponent;
 use crate::calls::{
-    arithmetic, constants, ieee, operators, order, pairs, parts, predicates, whole_numbers,
+    arithmetic, constants, ieee, order, pairs, parts, predicates, texts, whole_numbers,
 };
+use crate::fault::Fault;
 use conformance::own_formats::{
     BroadS, DeepS, HalfTinyBeforeS, LeastFiniteS, LeastS, PreciseS, SevenS, TenS, VastS,
     WrittenBitS,
 };
-use rustc_apfloat::Float;
 use rustc_apfloat::ieee::{
     BFloatS, DoubleS, FallbackExtendedS, FallbackS, Float8E4M3FNS, Float8E4M3FNUZS, Float8E5M2S,
     HalfS, IeeeFloat, QuadS, Semantics, SingleS, X87DoubleExtendedS,
 };
 use rustc_apfloat::ppc::DoubleDouble;
+use rustc_apfloat::{Float, Round};
 use std::fmt::Debug;
 
-// Calls a function with the format of a name as its last type argument; `None` for an unknown name.
+// Calls a function with the format of a name as its last type argument; a fault for an unknown name.
 macro_rules! in_format {
-    ($name:expr, $function:ident, [$($source:ident)?], $($argument:expr),+) => {
+    ($name:expr, $row:ident, $function:ident, [$($source:ident)?], $($argument:expr),+) => {
         match $name {
             "half" => $function::<$($source,)? HalfS>($($argument),+),
             "single" => $function::<$($source,)? SingleS>($($argument),+),
@@ -45,71 +45,100 @@ macro_rules! in_format {
             "expl14" => $function::<$($source,)? WrittenBitS>($($argument),+),
             "nan10" => $function::<$($source,)? TenS>($($argument),+),
             "halftbr" => $function::<$($source,)? HalfTinyBeforeS>($($argument),+),
-            _ => None,
+            _ => Err(Fault::Format($row.format)),
         }
     };
 }
 
-const MODES: [&str; 5] = ["even", "up", "down", "zero", "away"];
-
-/// Whether a row agrees, in each mode that it names, if it is understood.
-pub fn agrees_in_each_mode(row: Row<'_>) -> Option<bool> {
-    if row.mode != "any" {
-        return agrees(row);
-    }
-    let mut all_agree = true;
-    for mode in MODES {
-        all_agree &= agrees(Row { mode, ..row })?;
-    }
-    Some(all_agree)
-}
-
-fn agrees(row: Row<'_>) -> Option<bool> {
+/// The answer of a call in the format of a row, with this mode.
+pub fn answer(call: Call, round: Option<Round>, row: Row<'_>) -> Result<Answer, Fault<'_>> {
     match row.format.split_once('>') {
-        Some(("dd", "fallback")) => pairs::is_joined(row),
-        Some(("fallback", "dd")) => pairs::is_split(row),
-        Some((source, target)) => in_format!(source, converts_from, [], row, target),
-        None if row.format == "dd" => {
-            pairs::agrees(row).or_else(|| agrees_in::<DoubleDouble>(row))
+        Some(("dd", "fallback")) => pairs::joined(call, row),
+        Some(("fallback", "dd")) => pairs::split(call, row),
+        Some((source, target)) => {
+            in_format!(source, row, converted_from, [], call, round, row, target)
         }
-        None => in_format!(row.format, agrees_in_ieee, [], row),
+        None if row.format == "dd" => of_pairs(call, round, row),
+        None => in_format!(row.format, row, of_format, [], call, round, row),
     }
 }
 
-fn converts_from<S: Semantics>(row: Row<'_>, target: &str) -> Option<bool> {
-    in_format!(target, converts, [S], row)
+fn converted_from<'a, S: Semantics>(
+    call: Call,
+    round: Option<Round>,
+    row: Row<'a>,
+    target: &'a str,
+) -> Result<Answer, Fault<'a>> {
+    in_format!(target, row, converted, [S], call, round, row)
 }
 
-fn agrees_in_ieee<S: Semantics>(row: Row<'_>) -> Option<bool> {
-    ieee::agrees::<S>(row).or_else(|| agrees_in::<IeeeFloat<S>>(row))
-}
-
-fn agrees_in<F: Float + Debug>(row: Row<'_>) -> Option<bool> {
-    if row.call == "from_str" {
-        is_parsed::<F>(row)
-    } else if row.status != "-" {
-        with_status::<F>(row)
-    } else if row.extra != "-" {
-        is_fraction::<F>(row)
-    } else if row.mode != "-" || row.call == "scalbn" {
-        is_scaled::<F>(row)
-    } else {
-        without_status::<F>(row)
+fn of_pairs(call: Call, round: Option<Round>, row: Row<'_>) -> Result<Answer, Fault<'_>> {
+    match call {
+        Call::MagnitudesCompared => pairs::order_of_magnitudes(row),
+        _ => of_type::<DoubleDouble>(call, round, row),
     }
 }
 
-fn with_status<F: Float>(row: Row<'_>) -> Option<bool> {
-    arithmetic::agrees::<F>(row)
-        .or_else(|| whole_numbers::agrees::<F>(row))
-        .or_else(|| is_read::<F>(row))
+fn of_format<S: Semantics>(
+    call: Call,
+    round: Option<Round>,
+    row: Row<'_>,
+) -> Result<Answer, Fault<'_>> {
+    match call {
+        Call::MagnitudesCompared => ieee::order_of_magnitudes::<S>(row),
+        Call::CountedRemainder => ieee::counted_remainder::<S>(row),
+        Call::FusedSum => ieee::fused_sum::<S>(round, row),
+        _ => of_type::<IeeeFloat<S>>(call, round, row),
+    }
 }
 
-fn without_status<F: Float + Debug>(row: Row<'_>) -> Option<bool> {
-    constants::agrees::<F>(row)
-        .or_else(|| parts::agrees::<F>(row))
-        .or_else(|| predicates::agrees::<F>(row))
-        .or_else(|| order::agrees::<F>(row))
-        .or_else(|| operators::agrees::<F>(row))
-        .or_else(|| is_exponent::<F>(row))
-        .or_else(|| is_shown::<F>(row))
+// The answer of a call that each type has.
+fn of_type<F: Float + Debug>(
+    call: Call,
+    round: Option<Round>,
+    row: Row<'_>,
+) -> Result<Answer, Fault<'_>> {
+    match call {
+        Call::Constant(constant) => constants::answer::<F>(constant, row),
+        Call::Arithmetic(operator) => arithmetic::operated::<F>(operator, round, row),
+        Call::NearestRemainder => arithmetic::nearest_remainder::<F>(row),
+        Call::TruncatedRemainder => arithmetic::truncated_remainder::<F>(row),
+        Call::RoundToIntegral => arithmetic::to_integral::<F>(round, row),
+        Call::NextUp => arithmetic::next_up::<F>(row),
+        Call::NextDown => arithmetic::next_down::<F>(row),
+        Call::Assigned(operator) => arithmetic::assigned::<F>(operator, row),
+        Call::FromUnsigned => whole_numbers::from_unsigned::<F>(round, row),
+        Call::FromSigned => whole_numbers::from_signed::<F>(round, row),
+        Call::ToUnsigned => whole_numbers::to_unsigned::<F>(round, row),
+        Call::ToSigned => whole_numbers::to_signed::<F>(round, row),
+        Call::Exponent => whole_numbers::exponent::<F>(row),
+        Call::Read => texts::read::<F>(round, row),
+        Call::Parsed => texts::parsed::<F>(row),
+        Call::Shown => texts::text::<F>(row),
+        Call::Category => texts::category::<F>(row),
+        _ => part_of_type::<F>(call, round, row),
+    }
+}
+
+// The answer of a call that each type has, where it is a value without a status, or less.
+fn part_of_type<F: Float + Debug>(
+    call: Call,
+    round: Option<Round>,
+    row: Row<'_>,
+) -> Result<Answer, Fault<'_>> {
+    match call {
+        Call::Scaled => parts::scaled::<F>(round, row),
+        Call::Fraction => parts::fraction::<F>(round, row),
+        Call::Inverse => parts::inverse::<F>(row),
+        Call::Bits => parts::bits::<F>(row),
+        Call::QuietNaN => parts::quiet_nan::<F>(row),
+        Call::SignalingNaN => parts::signaling_nan::<F>(row),
+        Call::Negated => parts::negated::<F>(row),
+        Call::Absolute => parts::absolute::<F>(row),
+        Call::ThroughInteger => parts::through_integer::<F>(row),
+        Call::Chosen(choice) => parts::chosen::<F>(choice, row),
+        Call::Predicate(predicate) => predicates::answer::<F>(predicate, row),
+        Call::Compared(comparison) => order::answer::<F>(comparison, row),
+        _ => Err(row.support_fault()),
+    }
 }

@@ -1,53 +1,23 @@
 //! Calls that `IeeeFloat` has of its own, and the one that its type decides when to make.
 
-use crate::calls::arithmetic::is_answer;
-use crate::calls::order::is_order;
-use crate::calls::row::{Operands, Row};
-use crate::calls::values::{is_value, value_of};
-use commands::mode_named;
+use crate::calls::answer::{Answer, Extra, Word};
+use crate::calls::arithmetic::valued;
+use crate::calls::row::Row;
+use crate::calls::values::{value_of, word_of};
+use crate::fault::Fault;
 use rustc_apfloat::ieee::{IeeeFloat, Semantics};
-use rustc_apfloat::{Category, ExpInt, Float, StatusAnd};
-use std::cmp::Ordering;
+use rustc_apfloat::{Category, ExpInt, Float, Round};
 
-/// Whether the answer of a row's call is the one that the row has, if it is a call of this module.
-pub fn agrees<S: Semantics>(row: Row<'_>) -> Option<bool> {
-    match row.parted_operands()? {
-        Operands::One(_) => None,
-        Operands::Two(x, y) => agrees_of_two::<S>(row, value_of(x)?, value_of(y)?),
-        Operands::Three(x, y, z) => {
-            is_answer(
-                row,
-                of_three::<S>(row, value_of(x)?, value_of(y)?, value_of(z)?)?,
-            )
-        }
-    }
-}
-
-fn agrees_of_two<S: Semantics>(row: Row<'_>, x: IeeeFloat<S>, y: IeeeFloat<S>) -> Option<bool> {
-    match row.call {
-        "c_fmod_steps" => has_steps(row, x, y),
-        "cmp_abs_normal" => is_order(row, Some(order_of_magnitudes(x, y)?)),
-        _ => None,
-    }
-}
-
-// Whether a remainder takes as many steps as a row has, and they are within the bound that it may have.
-fn has_steps<S: Semantics>(row: Row<'_>, x: IeeeFloat<S>, y: IeeeFloat<S>) -> Option<bool> {
+/// A remainder, with how many steps it takes and the most that it can take.
+pub fn counted_remainder<S: Semantics>(row: Row<'_>) -> Result<Answer, Fault<'_>> {
+    let (first, second) = row.two_operands()?;
+    let (x, y) = (
+        value_of::<IeeeFloat<S>>(first)?,
+        value_of::<IeeeFloat<S>>(second)?,
+    );
     let (answer, taken) = x.c_fmod_steps(y);
-    let counted = row.extra.strip_prefix("steps=")?;
-    let (steps, is_bounded) = match counted.split_once(" bound=") {
-        None => (counted, true),
-        Some((steps, bound)) => {
-            let bound = bound.parse::<i32>().ok()?;
-            (
-                steps,
-                bound == step_bound(x, y) && i64::from(taken) <= i64::from(bound),
-            )
-        }
-    };
-    let is_counted = taken == steps.parse::<u32>().ok()?;
-    let is_remainder = is_value(answer.value, row.value)? && row.has_status(answer.status)?;
-    Some(is_remainder && is_counted && is_bounded)
+    let extra = Extra::Steps(taken, step_bound(x, y));
+    Ok(Answer::raised(word_of(answer.value, row), answer.status, extra))
 }
 
 // The most steps that a remainder of two numbers can take.
@@ -55,26 +25,35 @@ fn step_bound<S: Semantics>(x: IeeeFloat<S>, y: IeeeFloat<S>) -> ExpInt {
     x.ilogb().saturating_sub(y.ilogb()).saturating_add(1).max(0)
 }
 
-// The order of the magnitudes of two numbers that are not zero.
-fn order_of_magnitudes<S: Semantics>(x: IeeeFloat<S>, y: IeeeFloat<S>) -> Option<Ordering> {
+/// The order of the magnitudes of two numbers that are not zero.
+pub fn order_of_magnitudes<S: Semantics>(row: Row<'_>) -> Result<Answer, Fault<'_>> {
+    let (first, second) = row.two_operands()?;
+    let (x, y) = (
+        value_of::<IeeeFloat<S>>(first)?,
+        value_of::<IeeeFloat<S>>(second)?,
+    );
     match (x.category(), y.category()) {
-        (Category::Normal, Category::Normal) => Some(x.cmp_abs_normal(y)),
-        _ => None,
+        (Category::Normal, Category::Normal) => {
+            Ok(Answer::silent(Word::Order(Some(x.cmp_abs_normal(y)))))
+        }
+        _ => Err(row.support_fault()),
     }
 }
 
-fn of_three<S: Semantics>(
-    row: Row<'_>,
-    x: IeeeFloat<S>,
-    y: IeeeFloat<S>,
-    z: IeeeFloat<S>,
-) -> Option<StatusAnd<IeeeFloat<S>>> {
+/// A product plus a third value, rounded once.
+pub fn fused_sum<S: Semantics>(round: Option<Round>, row: Row<'_>) -> Result<Answer, Fault<'_>> {
+    let (first, second, third) = row.three_operands()?;
+    let (x, y) = (
+        value_of::<IeeeFloat<S>>(first)?,
+        value_of::<IeeeFloat<S>>(second)?,
+    );
+    let z = value_of::<IeeeFloat<S>>(third)?;
     if S::PRECISION > 63 {
-        return None;
+        return Err(row.support_fault());
     }
-    match (row.call, row.mode) {
-        ("mul_add_r", mode) => Some(x.mul_add_r(y, z, mode_named(mode)?)),
-        ("mul_add", "-") => Some(x.mul_add(y, z)),
-        _ => None,
-    }
+    let answer = match round {
+        Some(round) => x.mul_add_r(y, z, round),
+        None => x.mul_add(y, z),
+    };
+    Ok(valued(answer, row))
 }

@@ -1,37 +1,64 @@
 //! Calls that compare two values.
 
-use crate::calls::row::{Operands, Row, truth_of};
+use crate::calls::answer::{Answer, Word};
+use crate::calls::row::Row;
 use crate::calls::values::value_of;
+use crate::fault::Fault;
 use rustc_apfloat::Float;
 use std::cmp::Ordering;
 
-/// Whether the answer of a row's call is the one that the row has, if it is a call of this module.
-pub fn agrees<F: Float>(row: Row<'_>) -> Option<bool> {
-    let Operands::Two(first, second) = row.parted_operands()? else {
-        return None;
-    };
-    let x = value_of::<F>(first)?;
-    let y = value_of::<F>(second)?;
-    match row.call {
-        "eq" => Some((x == y) == truth_of(row.value)?),
-        "bitwise_eq" => Some(x.bitwise_eq(y) == truth_of(row.value)?),
-        "partial_cmp" => is_order(row, x.partial_cmp(&y)),
-        _ => None,
+/// How two values are compared.
+#[derive(Clone, Copy)]
+pub enum Comparison {
+    Equal,
+    BitwiseEqual,
+    Order,
+}
+
+impl Comparison {
+    /// How the call of this name compares.
+    pub fn named(name: &str) -> Option<Comparison> {
+        match name {
+            "eq" => Some(Comparison::Equal),
+            "bitwise_eq" => Some(Comparison::BitwiseEqual),
+            "partial_cmp" => Some(Comparison::Order),
+            _ => None,
+        }
     }
 }
 
-/// Whether an order, which may be none, is the one that a row has.
-pub fn is_order(row: Row<'_>, order: Option<Ordering>) -> Option<bool> {
-    Some(order == order_named(row.value)?)
+/// The answer of a comparison.
+pub fn answer<F: Float>(comparison: Comparison, row: Row<'_>) -> Result<Answer, Fault<'_>> {
+    let (first, second) = row.two_operands()?;
+    let word = compared::<F>(comparison, value_of(first)?, value_of(second)?);
+    Ok(Answer::silent(word))
 }
 
-// The order of this name, which may be none.
-fn order_named(word: &str) -> Option<Option<Ordering>> {
+fn compared<F: Float>(comparison: Comparison, x: F, y: F) -> Word {
+    match comparison {
+        Comparison::Equal => Word::Truth(x == y),
+        Comparison::BitwiseEqual => Word::Truth(x.bitwise_eq(y)),
+        Comparison::Order => Word::Order(x.partial_cmp(&y)),
+    }
+}
+
+/// The order of this name, which may be none.
+pub fn order_named(word: &str) -> Option<Option<Ordering>> {
     match word {
         "None" => Some(None),
         "Less" => Some(Some(Ordering::Less)),
         "Equal" => Some(Some(Ordering::Equal)),
         "Greater" => Some(Some(Ordering::Greater)),
         _ => None,
+    }
+}
+
+/// The name of an order, which may be none.
+pub fn order_name(order: Option<Ordering>) -> &'static str {
+    match order {
+        None => "None",
+        Some(Ordering::Less) => "Less",
+        Some(Ordering::Equal) => "Equal",
+        Some(Ordering::Greater) => "Greater",
     }
 }

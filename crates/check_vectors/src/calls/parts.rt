@@ -1,103 +1,140 @@
 //! Calls whose answer is a value without a status.
 
-use crate::calls::row::{Operands, Row};
-use crate::calls::values::{is_value, value_of};
-use commands::{bits_of, mode_named};
-use rustc_apfloat::{ExpInt, Float};
+use crate::calls::answer::{Answer, Extra, Word};
+use crate::calls::row::Row;
+use crate::calls::values::{value_of, word_of};
+use crate::fault::Fault;
+use commands::bits_of;
+use rustc_apfloat::{ExpInt, Float, Round};
+use std::fmt::Debug;
 
-/// Whether the answer of a row's call is the one that the row has, if it is a call of this module.
-pub fn agrees<F: Float>(row: Row<'_>) -> Option<bool> {
-    match row.call {
-        "get_exact_inverse" => is_inverse::<F>(row),
-        "to_bits" => has_bits::<F>(row),
-        _ => is_value(answer_of::<F>(row)?, row.value),
-    }
+/// A call of two values that answers one of them, with a sign of its own or not.
+#[derive(Clone, Copy)]
+pub enum Choice {
+    Signed,
+    Min,
+    Max,
+    Minimum,
+    Maximum,
 }
 
-/// Whether the fraction and the exponent of a value are those that a row has.
-pub fn is_fraction<F: Float>(row: Row<'_>) -> Option<bool> {
-    let x = value_of::<F>(row.operands)?;
-    let mut exponent = 0;
-    let fraction = match (row.call, row.mode) {
-        ("frexp_r", mode) => x.frexp_r(&mut exponent, mode_named(mode)?),
-        ("frexp", "-") => x.frexp(&mut exponent),
-        _ => return None,
-    };
-    let wanted = row.extra.strip_prefix("exponent=")?.parse::<ExpInt>().ok()?;
-    Some(is_value(fraction, row.value)? && exponent == wanted)
-}
-
-/// Whether a value times a power of two is the value that a row has.
-pub fn is_scaled<F: Float>(row: Row<'_>) -> Option<bool> {
-    let Operands::Two(value, power) = row.parted_operands()? else {
-        return None;
-    };
-    let x = value_of::<F>(value)?;
-    let power = power.parse::<ExpInt>().ok()?;
-    match (row.call, row.mode) {
-        ("scalbn_r", mode) => is_value(x.scalbn_r(power, mode_named(mode)?), row.value),
-        ("scalbn", "-") => is_value(x.scalbn(power), row.value),
-        _ => None,
-    }
-}
-
-// Whether a value has the exact inverse of a row, or none.
-fn is_inverse<F: Float>(row: Row<'_>) -> Option<bool> {
-    match (value_of::<F>(row.operands)?.get_exact_inverse(), row.value) {
-        (None, wanted) => Some(wanted == "None"),
-        (Some(_), "None") => Some(false),
-        (Some(inverse), wanted) => is_value(inverse, wanted),
-    }
-}
-
-// Whether the value of bits has the bits of a row, the canonical ones.
-fn has_bits<F: Float>(row: Row<'_>) -> Option<bool> {
-    if F::PRECISION < F::BITS {
-        let x = F::from_bits(bits_of(row.operands, F::BITS)?);
-        Some(x.to_bits() == bits_of(row.value, F::BITS)?)
-    } else {
-        None
-    }
-}
-
-fn answer_of<F: Float>(row: Row<'_>) -> Option<F> {
-    match row.parted_operands()? {
-        Operands::One(operand) => match row.call {
-            "qnan" => Some(F::qnan(payload_of(operand)?)),
-            "snan" => Some(F::snan(payload_of(operand)?)),
-            call => of_one(call, value_of::<F>(operand)?),
-        },
-        Operands::Two(first, second) => {
-            of_two(row.call, value_of::<F>(first)?, value_of::<F>(second)?)
+impl Choice {
+    /// The call of this name.
+    pub fn named(name: &str) -> Option<Choice> {
+        match name {
+            "copy_sign" => Some(Choice::Signed),
+            "min" => Some(Choice::Min),
+            "max" => Some(Choice::Max),
+            "minimum" => Some(Choice::Minimum),
+            "maximum" => Some(Choice::Maximum),
+            _ => None,
         }
-        Operands::Three(_, _, _) => None,
     }
 }
 
-// The payload of a word, which may be none.
-fn payload_of(word: &str) -> Option<Option<u128>> {
-    if word == "None" {
-        return Some(None);
-    }
-    Some(Some(bits_of(word, 128)?))
+/// The answer of a choice.
+pub fn chosen<F: Float + Debug>(choice: Choice, row: Row<'_>) -> Result<Answer, Fault<'_>> {
+    let (first, second) = row.two_operands()?;
+    let value = choice_of::<F>(choice, value_of(first)?, value_of(second)?);
+    Ok(Answer::silent(word_of(value, row)))
 }
 
-fn of_one<F: Float>(call: &str, x: F) -> Option<F> {
-    match call {
-        "neg" => Some(-x),
-        "abs" => Some(x.abs()),
-        "through_i128" => Some(F::from_i128(x.to_i128(128).value).value),
-        _ => None,
+fn choice_of<F: Float>(choice: Choice, x: F, y: F) -> F {
+    match choice {
+        Choice::Signed => x.copy_sign(y),
+        Choice::Min => x.min(y),
+        Choice::Max => x.max(y),
+        Choice::Minimum => x.minimum(y),
+        Choice::Maximum => x.maximum(y),
     }
 }
 
-fn of_two<F: Float>(call: &str, x: F, y: F) -> Option<F> {
-    match call {
-        "copy_sign" => Some(x.copy_sign(y)),
-        "min" => Some(x.min(y)),
-        "max" => Some(x.max(y)),
-        "minimum" => Some(x.minimum(y)),
-        "maximum" => Some(x.maximum(y)),
-        _ => None,
+/// The fraction and the exponent of a value.
+pub fn fraction<F: Float + Debug>(round: Option<Round>, row: Row<'_>) -> Result<Answer, Fault<'_>> {
+    let x = value_of::<F>(row.one_operand()?)?;
+    let mut exponent = 0;
+    let fraction = match round {
+        Some(round) => x.frexp_r(&mut exponent, round),
+        None => x.frexp(&mut exponent),
+    };
+    let answer = Answer::silent(word_of(fraction, row));
+    Ok(Answer {
+        extra: Extra::Exponent(exponent),
+        ..answer
+    })
+}
+
+/// A value times a power of two.
+pub fn scaled<F: Float + Debug>(round: Option<Round>, row: Row<'_>) -> Result<Answer, Fault<'_>> {
+    let (first, power) = row.two_operands()?;
+    let x = value_of::<F>(first)?;
+    let Ok(power) = power.parse::<ExpInt>() else {
+        return Err(row.operand_fault());
+    };
+    let value = match round {
+        Some(round) => x.scalbn_r(power, round),
+        None => x.scalbn(power),
+    };
+    Ok(Answer::silent(word_of(value, row)))
+}
+
+/// The exact inverse of a value, or none.
+pub fn inverse<F: Float + Debug>(row: Row<'_>) -> Result<Answer, Fault<'_>> {
+    let x = value_of::<F>(row.one_operand()?)?;
+    Ok(Answer::silent(match x.get_exact_inverse() {
+        Some(inverse) => word_of(inverse, row),
+        None => Word::Nothing,
+    }))
+}
+
+/// The canonical bits of the value of bits.
+pub fn bits<F: Float>(row: Row<'_>) -> Result<Answer, Fault<'_>> {
+    if F::PRECISION < F::BITS {
+        let x = value_of::<F>(row.one_operand()?)?;
+        Ok(Answer::silent(Word::Bits(x.to_bits(), F::BITS)))
+    } else {
+        Err(row.support_fault())
     }
+}
+
+/// The quiet NaN of a payload, which may be none.
+pub fn quiet_nan<F: Float + Debug>(row: Row<'_>) -> Result<Answer, Fault<'_>> {
+    let value = F::qnan(payload_of(row)?);
+    Ok(Answer::silent(word_of(value, row)))
+}
+
+/// The signaling NaN of a payload, which may be none.
+pub fn signaling_nan<F: Float + Debug>(row: Row<'_>) -> Result<Answer, Fault<'_>> {
+    let value = F::snan(payload_of(row)?);
+    Ok(Answer::silent(word_of(value, row)))
+}
+
+// The payload that a row has as its operand, which may be none.
+fn payload_of(row: Row<'_>) -> Result<Option<u128>, Fault<'_>> {
+    if row.operands == "None" {
+        return Ok(None);
+    }
+    match bits_of(row.operands, 128) {
+        Some(payload) => Ok(Some(payload)),
+        None => Err(row.operand_fault()),
+    }
+}
+
+/// A value with the other sign.
+pub fn negated<F: Float + Debug>(row: Row<'_>) -> Result<Answer, Fault<'_>> {
+    let x = value_of::<F>(row.one_operand()?)?;
+    Ok(Answer::silent(word_of(-x, row)))
+}
+
+/// A value without its sign.
+pub fn absolute<F: Float + Debug>(row: Row<'_>) -> Result<Answer, Fault<'_>> {
+    let x = value_of::<F>(row.one_operand()?)?;
+    Ok(Answer::silent(word_of(x.abs(), row)))
+}
+
+/// A value to a whole number of 128 digits and back.
+pub fn through_integer<F: Float + Debug>(row: Row<'_>) -> Result<Answer, Fault<'_>> {
+    let x = value_of::<F>(row.one_operand()?)?;
+    let value = F::from_i128(x.to_i128(128).value).value;
+    Ok(Answer::silent(word_of(value, row)))
 }

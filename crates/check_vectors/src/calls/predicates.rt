@@ -1,35 +1,124 @@
 //! Calls that ask one value something.
 
-use crate::calls::row::{Row, truth_of};
+use crate::calls::answer::{Answer, Word};
+use crate::calls::row::Row;
 use crate::calls::values::value_of;
+use crate::fault::Fault;
 use rustc_apfloat::Float;
 
-/// Whether the answer of a row's call is the one that the row has, if it is a call of this module.
-pub fn agrees<F: Float>(row: Row<'_>) -> Option<bool> {
-    let x = value_of::<F>(row.operands)?;
-    Some(holds(row.call, x)? == truth_of(row.value)?)
+/// What is asked.
+#[derive(Clone, Copy)]
+pub enum Predicate {
+    Class(Class),
+    Signed(Signed),
 }
 
-fn holds<F: Float>(call: &str, x: F) -> Option<bool> {
-    match call {
-        "is_normal" => Some(x.is_normal()),
-        "is_finite" => Some(x.is_finite()),
-        "is_zero" => Some(x.is_zero()),
-        "is_infinite" => Some(x.is_infinite()),
-        "is_nan" => Some(x.is_nan()),
-        "is_non_zero" => Some(x.is_non_zero()),
-        "is_finite_non_zero" => Some(x.is_finite_non_zero()),
-        "is_pos_zero" => Some(x.is_pos_zero()),
-        "is_neg_zero" => Some(x.is_neg_zero()),
-        "is_pos_infinity" => Some(x.is_pos_infinity()),
-        "is_neg_infinity" => Some(x.is_neg_infinity()),
-        "is_smallest" => Some(x.is_smallest()),
-        "is_smallest_normalized" => Some(x.is_smallest_normalized()),
-        "is_largest" => Some(x.is_largest()),
-        "is_integer" => Some(x.is_integer()),
-        "is_negative" => Some(x.is_negative()),
-        "is_denormal" => Some(x.is_denormal()),
-        "is_signaling" => Some(x.is_signaling()),
-        _ => None,
+/// What is asked of a value, whatever its sign.
+#[derive(Clone, Copy)]
+pub enum Class {
+    Normal,
+    Finite,
+    Zero,
+    Infinite,
+    NaN,
+    NonZero,
+    FiniteNonZero,
+    Integer,
+    Denormal,
+    Signaling,
+}
+
+/// What is asked of a value and its sign.
+#[derive(Clone, Copy)]
+pub enum Signed {
+    PositiveZero,
+    NegativeZero,
+    PositiveInfinity,
+    NegativeInfinity,
+    Smallest,
+    SmallestNormalized,
+    Largest,
+    Negative,
+}
+
+impl Predicate {
+    /// What the call of this name asks.
+    pub fn named(name: &str) -> Option<Predicate> {
+        match Class::named(name) {
+            Some(class) => Some(Predicate::Class(class)),
+            None => Some(Predicate::Signed(Signed::named(name)?)),
+        }
+    }
+}
+
+impl Class {
+    fn named(name: &str) -> Option<Class> {
+        match name {
+            "is_normal" => Some(Class::Normal),
+            "is_finite" => Some(Class::Finite),
+            "is_zero" => Some(Class::Zero),
+            "is_infinite" => Some(Class::Infinite),
+            "is_nan" => Some(Class::NaN),
+            "is_non_zero" => Some(Class::NonZero),
+            "is_finite_non_zero" => Some(Class::FiniteNonZero),
+            "is_integer" => Some(Class::Integer),
+            "is_denormal" => Some(Class::Denormal),
+            "is_signaling" => Some(Class::Signaling),
+            _ => None,
+        }
+    }
+}
+
+impl Signed {
+    fn named(name: &str) -> Option<Signed> {
+        match name {
+            "is_pos_zero" => Some(Signed::PositiveZero),
+            "is_neg_zero" => Some(Signed::NegativeZero),
+            "is_pos_infinity" => Some(Signed::PositiveInfinity),
+            "is_neg_infinity" => Some(Signed::NegativeInfinity),
+            "is_smallest" => Some(Signed::Smallest),
+            "is_smallest_normalized" => Some(Signed::SmallestNormalized),
+            "is_largest" => Some(Signed::Largest),
+            "is_negative" => Some(Signed::Negative),
+            _ => None,
+        }
+    }
+}
+
+/// The answer of a predicate.
+pub fn answer<F: Float>(predicate: Predicate, row: Row<'_>) -> Result<Answer, Fault<'_>> {
+    let x = value_of::<F>(row.one_operand()?)?;
+    let holds = match predicate {
+        Predicate::Class(class) => is_of(class, x),
+        Predicate::Signed(signed) => is_signed(signed, x),
+    };
+    Ok(Answer::silent(Word::Truth(holds)))
+}
+
+fn is_of<F: Float>(class: Class, x: F) -> bool {
+    match class {
+        Class::Normal => x.is_normal(),
+        Class::Finite => x.is_finite(),
+        Class::Zero => x.is_zero(),
+        Class::Infinite => x.is_infinite(),
+        Class::NaN => x.is_nan(),
+        Class::NonZero => x.is_non_zero(),
+        Class::FiniteNonZero => x.is_finite_non_zero(),
+        Class::Integer => x.is_integer(),
+        Class::Denormal => x.is_denormal(),
+        Class::Signaling => x.is_signaling(),
+    }
+}
+
+fn is_signed<F: Float>(signed: Signed, x: F) -> bool {
+    match signed {
+        Signed::PositiveZero => x.is_pos_zero(),
+        Signed::NegativeZero => x.is_neg_zero(),
+        Signed::PositiveInfinity => x.is_pos_infinity(),
+        Signed::NegativeInfinity => x.is_neg_infinity(),
+        Signed::Smallest => x.is_smallest(),
+        Signed::SmallestNormalized => x.is_smallest_normalized(),
+        Signed::Largest => x.is_largest(),
+        Signed::Negative => x.is_negative(),
     }
 }

@@ -3,7 +3,10 @@
 ghost use Rattle.std.specs.Prelude.{◌≡◌, ◌++◌, ◌∷◌};
 ghost use Rattle.std.specs.Option.{IfSome};
 
-use rustc_apfloat::{Flags, Status};
+use crate::calls::call::{Call, call_with_mode, call_without_mode};
+use crate::fault::Fault;
+use commands::mode_named;
+use rustc_apfloat::Round;
 
 /// The columns of a row.
 #[derive(Clone, Copy)]
@@ -57,73 +60,63 @@ fn cut_column(text: &str) -> Option<(&str, &str)>
     text.split_once('\t')
 }
 
-/// The operands of a call.
-#[derive(Clone, Copy)]
-pub enum Operands<'a> {
-    One(&'a str),
-    Two(&'a str, &'a str),
-    Three(&'a str, &'a str, &'a str),
-}
-
 impl<'a> Row<'a> {
-    /// The operands, if there are one to three.
-    pub fn parted_operands(self) -> Option<Operands<'a>> {
+    /// The call of the row, in the form that its column of modes tells.
+    pub fn asked(self) -> Result<Call, Fault<'a>> {
+        let (with, without) = (call_with_mode(self.call), call_without_mode(self.call));
+        match (self.mode, with, without) {
+            ("-", _, Some(call)) => Ok(call),
+            ("-", Some(_), None) => Err(Fault::Mode(self.mode)),
+            (_, Some(call), _) => Ok(call),
+            (_, None, Some(_)) => Err(Fault::Mode(self.mode)),
+            (_, None, None) => Err(Fault::Call(self.call)),
+        }
+    }
+
+    /// The mode of the row, if it has one.
+    pub fn round(self) -> Result<Option<Round>, Fault<'a>> {
+        if self.mode == "-" {
+            return Ok(None);
+        }
+        match mode_named(self.mode) {
+            Some(round) => Ok(Some(round)),
+            None => Err(Fault::Mode(self.mode)),
+        }
+    }
+
+    /// The fault of operands that the call does not have.
+    pub fn operand_fault(self) -> Fault<'a> {
+        Fault::Operands(self.operands)
+    }
+
+    /// The fault of a call that the format does not have.
+    pub fn support_fault(self) -> Fault<'a> {
+        Fault::Unsupported(self.call)
+    }
+
+    /// The only operand.
+    pub fn one_operand(self) -> Result<&'a str, Fault<'a>> {
+        if self.operands.contains(' ') {
+            Err(self.operand_fault())
+        } else {
+            Ok(self.operands)
+        }
+    }
+
+    /// The two operands.
+    pub fn two_operands(self) -> Result<(&'a str, &'a str), Fault<'a>> {
         match self.operands.split_once(' ') {
-            None => Some(Operands::One(self.operands)),
-            Some((first, others)) => match others.split_once(' ') {
-                None => Some(Operands::Two(first, others)),
-                Some((second, third)) => Some(Operands::Three(first, second, third)),
-            },
+            Some((first, second)) => Ok((first, second)),
+            None => Err(self.operand_fault()),
         }
     }
 
-    /// Whether a status is the one of the row, if that is known.
-    pub fn has_status(self, status: Status) -> Option<bool> {
-        Some(status.bits() == status_named(self.status)?.bits())
-    }
-
-    /// Whether something holds as the last column states it, behind a name; a `-` states nothing.
-    pub fn has_property(self, name: &str, holds: bool) -> Option<bool> {
-        if self.extra == "-" {
-            return Some(true);
+    /// The three operands.
+    pub fn three_operands(self) -> Result<(&'a str, &'a str, &'a str), Fault<'a>> {
+        let (first, others) = self.two_operands()?;
+        match others.split_once(' ') {
+            Some((second, third)) => Ok((first, second, third)),
+            None => Err(self.operand_fault()),
         }
-        Some(truth_of(self.extra.strip_prefix(name)?)? == holds)
-    }
-}
-
-// The status of the names of flags, which bars join in the order of their bits, or of `OK`.
-fn status_named(word: &str) -> Option<Status> {
-    let mut status = Status::OK;
-    if word == "OK" {
-        return Some(status);
-    }
-    for name in word.split('|') {
-        let flag = flag_named(name)?;
-        if flag.bits() <= status.bits() {
-            return None;
-        }
-        status = status.union(flag);
-    }
-    Some(status)
-}
-
-// The flag of this name.
-fn flag_named(name: &str) -> Option<Status> {
-    match name {
-        "INVALID_OP" => Some(Status::INVALID_OP),
-        "DIV_BY_ZERO" => Some(Status::DIV_BY_ZERO),
-        "OVERFLOW" => Some(Status::OVERFLOW),
-        "UNDERFLOW" => Some(Status::UNDERFLOW),
-        "INEXACT" => Some(Status::INEXACT),
-        _ => None,
-    }
-}
-
-/// The truth value of this name.
-pub fn truth_of(word: &str) -> Option<bool> {
-    match word {
-        "true" => Some(true),
-        "false" => Some(false),
-        _ => None,
     }
 }
