@@ -13,6 +13,7 @@ mod parts;
 mod predicates;
 mod quanta;
 mod row;
+mod text;
 mod texts;
 mod values;
 mod whole_numbers;

@@ -19,7 +19,8 @@ enum Asked<'a> {
     Unknown,
 }
 
-/// Runs the program with the words that the system gave it, without its own name. Answers the exit status.
+/// Runs the program with the words that the system gave it, without its own name. Answers the exit
+/// status.
 pub fn run<R: Files + Clock + Input + AllocGlobal, W: Write, V: Write>(
     rt: &R,
     given: io::Result<Vec<String>>,
@@ -146,7 +147,8 @@ fn refuse_empty<V: Write>(name: &str, err: &mut V) -> u8 {
     }
 }
 
-// Says what ended the program. Answers the exit status, that of a failure to write where it cannot be said.
+// Says what ended the program. Answers the exit status, that of a failure to write where it cannot be
+// said.
 fn say<V: Write>(name: &str, failure: &Failure, err: &mut V) -> u8 {
     match writeln!(err, "check_vectors: {name}: {failure}") {
         Ok(()) => failure.status(),

@@ -66,7 +66,8 @@ impl fmt::Display for Tally {
         } = *self;
         write!(
             f,
-            "{agreeing} rows agree, {differing} differ, {malformed} malformed; {skipped} lines skipped"
+            "{agreeing} rows agree, {differing} differ, {malformed} malformed; \
+            {skipped} lines skipped"
         )
     }
 }

@@ -33,24 +33,31 @@ fn expect<R: Abort + Clock + AllocGlobal>(
 fn shows_what_differs(rt: HostRuntime) {
     expect(
         &rt,
-        b"half int even 464\t5f40 OK\n# a comment\n\nhalf int even 464\t5f41 OK\r\nhalf int odd 1\t3c00 OK\nhalf int even 1\trefused: odd",
+        "half int even 464\t5f40 OK\n# a comment\n\nhalf int even 464\t5f41 OK\r\n\
+        half int odd 1\t3c00 OK\nhalf int even 1\trefused: odd"
+            .as_bytes(),
         (
             1,
             "line 4 differs: half int even 464\t5f41 OK\n  expected: 5f41 OK\n  given: 5f40 OK\n\
             line 5 differs: half int odd 1\t3c00 OK\n  expected: 3c00 OK\n  given: refused: odd\n\
-            line 6 differs: half int even 1\trefused: odd\n  expected: refused: odd\n  given: 3c00 OK\n\
+            line 6 differs: half int even 1\trefused: odd\n  expected: refused: odd\n\
+            \x20 given: 3c00 OK\n\
             1 rows agree, 3 differ, 0 malformed; 2 lines skipped\n",
             "",
         ),
     );
     expect(
         &rt,
-        b"add_r\thalf\tany\t3c00 3c00\t4000\tOK\t-\nadd_r\thalf\tany\t3c00 1000\t3c00\tINEXACT\t-\nto_u128_r\thalf\tup\t3e00 8\t2\tOK\tis_exact=true\n",
+        "add_r\thalf\tany\t3c00 3c00\t4000\tOK\t-\nadd_r\thalf\tany\t3c00 1000\t3c00\tINEXACT\t-\n\
+        to_u128_r\thalf\tup\t3e00 8\t2\tOK\tis_exact=true\n"
+            .as_bytes(),
         (
             1,
-            "line 2 differs: add_r\thalf\tany\t3c00 1000\t3c00\tINEXACT\t-\n  expected: 3c00\tINEXACT\t-\n\
+            "line 2 differs: add_r\thalf\tany\t3c00 1000\t3c00\tINEXACT\t-\n\
+            \x20 expected: 3c00\tINEXACT\t-\n\
             \x20 given in up: 3c01\tINEXACT\t-\n  given in away: 3c01\tINEXACT\t-\n\
-            line 3 differs: to_u128_r\thalf\tup\t3e00 8\t2\tOK\tis_exact=true\n  expected: 2\tOK\tis_exact=true\n\
+            line 3 differs: to_u128_r\thalf\tup\t3e00 8\t2\tOK\tis_exact=true\n\
+            \x20 expected: 2\tOK\tis_exact=true\n\
             \x20 given: 2\tINEXACT\tis_exact=false\n\
             1 rows agree, 2 differ, 0 malformed; 0 lines skipped\n",
             "",
@@ -58,7 +65,8 @@ fn shows_what_differs(rt: HostRuntime) {
     );
 }
 
-// Formats without bits write their values as counts of quanta, and NaNs that are not those of a row as `Debug` shows them.
+// Formats without bits write their values as counts of quanta, and a NaN that is not that of the row as
+// `Debug` shows it.
 #[test]
 fn shows_each_kind_of_answer(rt: HostRuntime) {
     for (row, expected, given) in [
@@ -134,8 +142,9 @@ fn shows_each_kind_of_answer(rt: HostRuntime) {
 // Asserts that the one row of an input differs, and is shown with its answers.
 fn expect_one<R: Abort + Clock + AllocGlobal>(rt: &R, row: &str, expected: &str, given: &str) {
     let input = format!(in rt.alloc(); "{row}\t{expected}");
+    let tally = "0 rows agree, 1 differ, 0 malformed; 0 lines skipped";
     let text = format!(in rt.alloc();
-        "line 1 differs: {row}\t{expected}\n  expected: {expected}\n  given: {given}\n0 rows agree, 1 differ, 0 malformed; 0 lines skipped\n"
+        "line 1 differs: {row}\t{expected}\n  expected: {expected}\n  given: {given}\n{tally}\n"
     );
     match (input, text) {
         (Ok(input), Ok(text)) => expect(rt, input.as_bytes(), (1, text.as_str(), "")),
@@ -230,7 +239,8 @@ fn goes_on_behind_bytes_that_are_no_text(rt: HostRuntime) {
         (
             2,
             "line 1 malformed: it is not UTF-8\nline 2 differs: half int even 464\t5f41 OK\n\
-            \x20 expected: 5f41 OK\n  given: 5f40 OK\n0 rows agree, 1 differ, 1 malformed; 0 lines skipped\n",
+            \x20 expected: 5f41 OK\n  given: 5f40 OK\n\
+            0 rows agree, 1 differ, 1 malformed; 0 lines skipped\n",
             "",
         ),
     );
@@ -478,8 +488,8 @@ impl Env for System {
     }
 }
 
-// An arena with so many bytes left, and no more to come. A second chunk is begun, since only the blocks of a first one are used
-// again: so each growth of memory takes bytes of its own.
+// An arena with so many bytes left, and no more to come. A second chunk is begun, since only the blocks
+// of a first one are used again: so each growth of memory takes bytes of its own.
 fn arena_with(alloc: Global, bytes: usize) -> Result<Bump, AllocError> {
     let arena = Bump::try_with_capacity(alloc, 4000)?;
     arena.try_alloc_slice_fill_clone(arena.chunk_capacity(), 0u8)?;

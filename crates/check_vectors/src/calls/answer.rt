@@ -3,16 +3,13 @@
 use crate::calls::order::{order_name, order_named};
 use crate::calls::quanta::{Quanta, is_word};
 use crate::calls::row::Row;
+use crate::calls::text::Text;
 use crate::fault::Fault;
-use arrayvec::ArrayString;
 use commands::{bits_of, number_of, write_status};
 use rustc_apfloat::{Category, ExpInt, Flags, Status};
 use std::cmp::Ordering;
 use std::io;
 use std::io::Write;
-
-/// A text that shows a value: no type has longer ones.
-pub type Text = ArrayString<128>;
 
 /// What stands for the answer of a call in a row's column of values.
 #[derive(Clone, Copy)]
@@ -30,10 +27,8 @@ pub enum Word {
     Category(Category),
     /// No value, of a call that may have none.
     Nothing,
-    /// What `Debug` shows.
+    /// What `Debug` shows, or why a text is refused.
     Text(Text),
-    /// Why a text is refused.
-    Refusal(&'static str),
 }
 
 /// What stands in a row's column of flags.
@@ -51,8 +46,9 @@ pub enum Outcome {
 #[derive(Clone, Copy)]
 pub enum Extra {
     Nothing,
-    /// Whether something holds, behind a name.
-    Truth(&'static str, bool),
+    IsSignaling(bool),
+    IsExact(bool),
+    LosesInfo(bool),
     Exponent(ExpInt),
     /// How many steps a remainder takes, and the most that it can take.
     Steps(u32, ExpInt),
@@ -86,9 +82,9 @@ impl Answer {
     }
 
     /// A refusal of a text.
-    pub fn refused(reason: &'static str) -> Answer {
+    pub fn refused(reason: Text) -> Answer {
         Answer {
-            value: Word::Refusal(reason),
+            value: Word::Text(reason),
             outcome: Outcome::Refused,
             extra: Extra::Nothing,
         }
@@ -135,8 +131,7 @@ impl Word {
             Word::Order(order) => Some(order == order_named(word)?),
             Word::Category(category) => Some(word == category_name(category)),
             Word::Nothing => Some(word == "None"),
-            Word::Text(text) => Some(word == text.as_str()),
-            Word::Refusal(reason) => Some(word == reason),
+            Word::Text(text) => Some(word.as_bytes() == text.as_bytes()),
         }
     }
 
@@ -152,8 +147,7 @@ impl Word {
             Word::Order(order) => out.write_all(order_name(order).as_bytes()),
             Word::Category(category) => out.write_all(category_name(category).as_bytes()),
             Word::Nothing => out.write_all(b"None"),
-            Word::Text(text) => out.write_all(text.as_str().as_bytes()),
-            Word::Refusal(reason) => out.write_all(reason.as_bytes()),
+            Word::Text(text) => out.write_all(text.as_bytes()),
         }
     }
 }
@@ -191,10 +185,9 @@ impl Extra {
         }
         match self {
             Extra::Nothing => None,
-            Extra::Truth(name, holds) => {
-                let stated = word.strip_prefix(name)?.strip_prefix('=')?;
-                Some(holds == truth_of(stated)?)
-            }
+            Extra::IsSignaling(holds) => Some(holds == truth_behind("is_signaling=", word)?),
+            Extra::IsExact(holds) => Some(holds == truth_behind("is_exact=", word)?),
+            Extra::LosesInfo(holds) => Some(holds == truth_behind("loses_info=", word)?),
             Extra::Exponent(exponent) => {
                 let stated = word.strip_prefix("exponent=")?;
                 Some(exponent == stated.parse::<ExpInt>().ok()?)
@@ -210,7 +203,9 @@ impl Extra {
         }
         match self {
             Extra::Nothing => out.write_all(b"-"),
-            Extra::Truth(name, holds) => write!(out, "{name}={holds}"),
+            Extra::IsSignaling(holds) => write!(out, "is_signaling={holds}"),
+            Extra::IsExact(holds) => write!(out, "is_exact={holds}"),
+            Extra::LosesInfo(holds) => write!(out, "loses_info={holds}"),
             Extra::Exponent(exponent) => write!(out, "exponent={exponent}"),
             Extra::Steps(taken, bound) => {
                 write!(out, "steps={taken}")?;
@@ -274,6 +269,11 @@ fn flag_named(name: &str) -> Option<Status> {
         "INEXACT" => Some(Status::INEXACT),
         _ => None,
     }
+}
+
+// The truth value that stands behind a name.
+fn truth_behind(name: &str, word: &str) -> Option<bool> {
+    truth_of(word.strip_prefix(name)?)
 }
 
 // The truth value of this name.

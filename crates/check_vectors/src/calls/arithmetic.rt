@@ -10,8 +10,9 @@ use std::fmt::Debug;
 
 /// The answer that a value with a status is.
 pub fn valued<F: Float + Debug>(answer: StatusAnd<F>, row: Row<'_>) -> Answer {
-    let extra = Extra::Truth("is_signaling", answer.value.is_signaling());
-    Answer::raised(word_of(answer.value, row), answer.status, extra)
+    let StatusAnd { status, value } = answer;
+    let extra = Extra::IsSignaling(value.is_signaling());
+    Answer::raised(word_of(value, row), status, extra)
 }
 
 /// The answer of an operator, or of its call with a mode.

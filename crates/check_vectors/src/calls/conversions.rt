@@ -23,6 +23,6 @@ pub fn converted<S: Semantics, T: Semantics>(
         Some(round) => x.convert_r(round, &mut loses_info),
         None => x.convert(&mut loses_info),
     };
-    let extra = Extra::Truth("loses_info", loses_info);
+    let extra = Extra::LosesInfo(loses_info);
     Ok(Answer::raised(word_of(answer.value, row), answer.status, extra))
 }

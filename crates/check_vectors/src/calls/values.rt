@@ -1,8 +1,9 @@
 //! Values, as rows write them.
 
-use crate::calls::answer::{Text, Word};
+use crate::calls::answer::Word;
 use crate::calls::quanta;
 use crate::calls::row::Row;
+use crate::calls::text::Text;
 use crate::fault::Fault;
 use commands::bits_of;
 use rustc_apfloat::Float;

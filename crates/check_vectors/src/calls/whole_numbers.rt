@@ -65,7 +65,7 @@ fn unsigned<F: Float>(x: F, width: usize, round: Option<Round>) -> Answer
     match round {
         Some(round) => {
             let StatusAnd { status, value } = x.to_u128_r(width, round, &mut is_exact);
-            let extra = Extra::Truth("is_exact", is_exact);
+            let extra = Extra::IsExact(is_exact);
             Answer::raised(Word::Unsigned(value), status, extra)
         }
         None => {
@@ -93,7 +93,7 @@ fn signed<F: Float>(x: F, width: usize, round: Option<Round>) -> Answer
     match round {
         Some(round) => {
             let StatusAnd { status, value } = x.to_i128_r(width, round, &mut is_exact);
-            let extra = Extra::Truth("is_exact", is_exact);
+            let extra = Extra::IsExact(is_exact);
             Answer::raised(Word::Signed(value), status, extra)
         }
         None => {
