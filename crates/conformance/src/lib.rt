@@ -1,7 +1,7 @@
 //! What tests across crates need: formats of a user's own, and a plain slow program of one rounding, with which the
 //! kernel is compared.
 //!
-//! The programs `command_rows` and `call_rows` check files of outside values.
+//! The program `check_vectors` checks files of outside values.
 #![tactic(auto)]
 
 pub mod agreements;

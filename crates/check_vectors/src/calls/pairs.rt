@@ -3,51 +3,48 @@
 ghost use Rattle.std.specs.Prelude.{◌≡◌, true};
 ghost use Rattle.rustc_apfloat.specs.PairParts.{CanComparePairMagnitudes};
 
-use crate::order::is_order;
-use crate::row::{Operands, Row};
-use crate::values::{is_value, value_of};
+use crate::calls::answer::{Answer, Word};
+use crate::calls::call::Call;
+use crate::calls::row::Row;
+use crate::calls::values::{value_of, word_of};
+use crate::fault::Fault;
+use rustc_apfloat::Float;
 use rustc_apfloat::ieee::{Double, FallbackS, IeeeFloat};
 use rustc_apfloat::ppc::DoubleDouble;
-use rustc_apfloat::{Category, Float};
 use std::cmp::Ordering;
 
 /// The wide format, of the exact sums of the parts.
 type Fallback = IeeeFloat<FallbackS>;
 
-/// Whether the answer of a row's call is the one that the row has, if it is a call of this module.
-pub fn agrees(row: Row<'_>) -> Option<bool> {
-    let Operands::Two(first, second) = row.parted_operands()? else {
-        return None;
-    };
-    if row.call != "cmp_abs_normal" {
-        return None;
+/// The wide value of a pair.
+pub fn joined(call: Call, row: Row<'_>) -> Result<Answer, Fault<'_>> {
+    if !matches!(call, Call::Joined) {
+        return Err(row.support_fault());
     }
-    is_order(
-        row,
-        Some(order_of_magnitudes(value_of(first)?, value_of(second)?)?),
-    )
+    let x = value_of::<DoubleDouble>(row.one_operand()?)?;
+    Ok(Answer::silent(word_of(Fallback::from(x), row)))
 }
 
-/// Whether the wide value of a pair is the one that the row has, if that is its call.
-pub fn is_joined(row: Row<'_>) -> Option<bool> {
-    if row.call != "from" {
-        return None;
+/// The pair of a wide value.
+pub fn split(call: Call, row: Row<'_>) -> Result<Answer, Fault<'_>> {
+    if !matches!(call, Call::Joined) {
+        return Err(row.support_fault());
     }
-    let x = value_of::<DoubleDouble>(row.operands)?;
-    is_value(Fallback::from(x), row.value)
+    let x = value_of::<Fallback>(row.one_operand()?)?;
+    Ok(Answer::silent(word_of(DoubleDouble::from(x), row)))
 }
 
-/// Whether the pair of a wide value is the one that the row has, if that is its call.
-pub fn is_split(row: Row<'_>) -> Option<bool> {
-    if row.call != "from" {
-        return None;
+/// The order of the magnitudes of two pairs that can be compared.
+pub fn order_of_magnitudes(row: Row<'_>) -> Result<Answer, Fault<'_>> {
+    let (first, second) = row.two_operands()?;
+    match order_of(value_of(first)?, value_of(second)?) {
+        Some(order) => Ok(Answer::silent(Word::Order(Some(order)))),
+        None => Err(row.support_fault()),
     }
-    let x = value_of::<Fallback>(row.operands)?;
-    is_value(DoubleDouble::from(x), row.value)
 }
 
 // The order of the magnitudes of two pairs that can be compared.
-fn order_of_magnitudes(x: DoubleDouble, y: DoubleDouble) -> Option<Ordering> {
+fn order_of(x: DoubleDouble, y: DoubleDouble) -> Option<Ordering> {
     if can_compare_magnitudes(x, y) {
         Some(x.cmp_abs_normal(y))
     } else {

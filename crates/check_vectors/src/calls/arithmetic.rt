@@ -1,0 +1,115 @@
+//! Calls whose operands are values, and whose answer is a value, by itself or with a status.
+
+use crate::calls::answer::{Answer, Extra};
+use crate::calls::call::Operator;
+use crate::calls::row::Row;
+use crate::calls::values::{value_of, word_of};
+use crate::fault::Fault;
+use rustc_apfloat::{Float, Round, StatusAnd};
+use std::fmt::Debug;
+
+/// The answer that a value with a status is.
+pub fn valued<F: Float + Debug>(answer: StatusAnd<F>, row: Row<'_>) -> Answer {
+    let StatusAnd { status, value } = answer;
+    let extra = Extra::IsSignaling(value.is_signaling());
+    Answer::raised(word_of(value, row), status, extra)
+}
+
+/// The answer of an operator, or of its call with a mode.
+pub fn operated<F: Float + Debug>(
+    operator: Operator,
+    round: Option<Round>,
+    row: Row<'_>,
+) -> Result<Answer, Fault<'_>> {
+    let (first, second) = row.two_operands()?;
+    let (x, y) = (value_of::<F>(first)?, value_of::<F>(second)?);
+    let answer = match round {
+        Some(round) => rounded(operator, round, x, y),
+        None => by_operator(operator, x, y),
+    };
+    match answer {
+        Some(answer) => Ok(valued(answer, row)),
+        None => Err(row.support_fault()),
+    }
+}
+
+fn rounded<F: Float>(operator: Operator, round: Round, x: F, y: F) -> Option<StatusAnd<F>> {
+    match operator {
+        Operator::Sum => Some(x.add_r(y, round)),
+        Operator::Difference => Some(x.sub_r(y, round)),
+        Operator::Product if F::MULTIPLIES => Some(x.mul_r(y, round)),
+        Operator::Quotient => Some(x.div_r(y, round)),
+        _ => None,
+    }
+}
+
+fn by_operator<F: Float>(operator: Operator, x: F, y: F) -> Option<StatusAnd<F>> {
+    match operator {
+        Operator::Sum => Some(x + y),
+        Operator::Difference => Some(x - y),
+        Operator::Product if F::MULTIPLIES => Some(x * y),
+        Operator::Product => None,
+        Operator::Quotient => Some(x / y),
+        Operator::Remainder => Some(x % y),
+    }
+}
+
+/// The answer of an operator that changes its left operand.
+pub fn assigned<F: Float + Debug>(operator: Operator, row: Row<'_>) -> Result<Answer, Fault<'_>> {
+    let (first, second) = row.two_operands()?;
+    match changed::<F>(operator, value_of(first)?, value_of(second)?) {
+        Some(value) => Ok(Answer::silent(word_of(value, row))),
+        None => Err(row.support_fault()),
+    }
+}
+
+fn changed<F: Float>(operator: Operator, x: F, y: F) -> Option<F> {
+    let mut value = x;
+    match operator {
+        Operator::Sum => value += y,
+        Operator::Difference => value -= y,
+        Operator::Product if F::MULTIPLIES => value *= y,
+        Operator::Product => return None,
+        Operator::Quotient => value /= y,
+        Operator::Remainder => value %= y,
+    }
+    Some(value)
+}
+
+/// The answer of the remainder by the nearest quotient.
+pub fn nearest_remainder<F: Float + Debug>(row: Row<'_>) -> Result<Answer, Fault<'_>> {
+    let (first, second) = row.two_operands()?;
+    let (x, y) = (value_of::<F>(first)?, value_of::<F>(second)?);
+    Ok(valued(x.ieee_rem(y), row))
+}
+
+/// The answer of the remainder by the quotient cut toward zero.
+pub fn truncated_remainder<F: Float + Debug>(row: Row<'_>) -> Result<Answer, Fault<'_>> {
+    let (first, second) = row.two_operands()?;
+    let (x, y) = (value_of::<F>(first)?, value_of::<F>(second)?);
+    Ok(valued(x.c_fmod(y), row))
+}
+
+/// The answer of rounding to a whole number.
+pub fn to_integral<F: Float + Debug>(
+    round: Option<Round>,
+    row: Row<'_>,
+) -> Result<Answer, Fault<'_>> {
+    let x = value_of::<F>(row.one_operand()?)?;
+    match round {
+        Some(round) => Ok(valued(x.round_to_integral(round), row)),
+        None => Err(Fault::Mode(row.mode)),
+    }
+}
+
+/// The answer of the next value upward.
+pub fn next_up<F: Float + Debug>(row: Row<'_>) -> Result<Answer, Fault<'_>> {
+    let x = value_of::<F>(row.one_operand()?)?;
+    Ok(valued(x.next_up(), row))
+}
+
+/// The answer of the next value downward.
+pub fn next_down<F: Float + Debug>(row: Row<'_>) -> Result<Answer, Fault<'_>> {
+    let x = value_of::<F>(row.one_operand()?)?;
+    Ok(valued(x.next_down(), row))
+}

@@ -1,0 +1,28 @@
+//! Conversions between two formats.
+
+use crate::calls::answer::{Answer, Extra};
+use crate::calls::call::Call;
+use crate::calls::row::Row;
+use crate::calls::values::{value_of, word_of};
+use crate::fault::Fault;
+use rustc_apfloat::ieee::{IeeeFloat, Semantics};
+use rustc_apfloat::{FloatConvert, Round, StatusAnd};
+
+/// The answer of a conversion, and whether it loses information.
+pub fn converted<S: Semantics, T: Semantics>(
+    call: Call,
+    round: Option<Round>,
+    row: Row<'_>,
+) -> Result<Answer, Fault<'_>> {
+    if !matches!(call, Call::Converted) {
+        return Err(row.support_fault());
+    }
+    let x = value_of::<IeeeFloat<S>>(row.one_operand()?)?;
+    let mut loses_info = false;
+    let answer: StatusAnd<IeeeFloat<T>> = match round {
+        Some(round) => x.convert_r(round, &mut loses_info),
+        None => x.convert(&mut loses_info),
+    };
+    let extra = Extra::LosesInfo(loses_info);
+    Ok(Answer::raised(word_of(answer.value, row), answer.status, extra))
+}

@@ -1,0 +1,64 @@
+//! Calls that compare two values.
+
+use crate::calls::answer::{Answer, Word};
+use crate::calls::row::Row;
+use crate::calls::values::value_of;
+use crate::fault::Fault;
+use rustc_apfloat::Float;
+use std::cmp::Ordering;
+
+/// How two values are compared.
+#[derive(Clone, Copy)]
+pub enum Comparison {
+    Equal,
+    BitwiseEqual,
+    Order,
+}
+
+impl Comparison {
+    /// How the call of this name compares.
+    pub fn named(name: &str) -> Option<Comparison> {
+        match name {
+            "eq" => Some(Comparison::Equal),
+            "bitwise_eq" => Some(Comparison::BitwiseEqual),
+            "partial_cmp" => Some(Comparison::Order),
+            _ => None,
+        }
+    }
+}
+
+/// The answer of a comparison.
+pub fn answer<F: Float>(comparison: Comparison, row: Row<'_>) -> Result<Answer, Fault<'_>> {
+    let (first, second) = row.two_operands()?;
+    let word = compared::<F>(comparison, value_of(first)?, value_of(second)?);
+    Ok(Answer::silent(word))
+}
+
+fn compared<F: Float>(comparison: Comparison, x: F, y: F) -> Word {
+    match comparison {
+        Comparison::Equal => Word::Truth(x == y),
+        Comparison::BitwiseEqual => Word::Truth(x.bitwise_eq(y)),
+        Comparison::Order => Word::Order(x.partial_cmp(&y)),
+    }
+}
+
+/// The order of this name, which may be none.
+pub fn order_named(word: &str) -> Option<Option<Ordering>> {
+    match word {
+        "None" => Some(None),
+        "Less" => Some(Some(Ordering::Less)),
+        "Equal" => Some(Some(Ordering::Equal)),
+        "Greater" => Some(Some(Ordering::Greater)),
+        _ => None,
+    }
+}
+
+/// The name of an order, which may be none.
+pub fn order_name(order: Option<Ordering>) -> &'static str {
+    match order {
+        None => "None",
+        Some(Ordering::Less) => "Less",
+        Some(Ordering::Equal) => "Equal",
+        Some(Ordering::Greater) => "Greater",
+    }
+}

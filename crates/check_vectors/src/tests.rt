@@ -1,0 +1,550 @@
+//! Checks of short inputs, also where reading, writing or memory ends.
+
+use crate::check::Check;
+use crate::failure::Failure;
+use crate::run::{check_input, run};
+use crate::words_of_system;
+use bumpalo::Bump;
+use std::alloc::{AllocError, Global};
+use std::env::{Env, FillError};
+use std::io::{BufRead, BufReader, ErrorKind, Read, Write};
+use std::process::Abort;
+use std::rt::Clock;
+use std::test::Fail;
+use std::time::Duration;
+use std::{fs, io};
+
+// Asserts what a check of an input writes, and its exit status.
+fn expect<R: Abort + Clock + AllocGlobal>(
+    rt: &R,
+    mut input: &[u8],
+    (status, on_out, on_err): (u8, &str, &str),
+) {
+    let mut out = Vec::new(rt.alloc());
+    let mut err = Vec::new(rt.alloc());
+    let answered = check_input(rt, "rows", &mut input, &mut out, &mut err);
+    assert_eq!(rt; out.as_slice(), on_out.as_bytes(), "{on_out}");
+    assert_eq!(rt; err.as_slice(), on_err.as_bytes(), "{on_out}");
+    assert_eq!(rt; answered, status, "{on_out}");
+}
+
+// 1 + 2^-11 lies in the middle between 1 and the next value of binary16.
+#[test]
+fn shows_what_differs(rt: HostRuntime) {
+    expect(
+        &rt,
+        "half int even 464\t5f40 OK\n# a comment\n\nhalf int even 464\t5f41 OK\r\n\
+        half int odd 1\t3c00 OK\nhalf int even 1\trefused: odd"
+            .as_bytes(),
+        (
+            1,
+            "line 4 differs: half int even 464\t5f41 OK\n  expected: 5f41 OK\n  given: 5f40 OK\n\
+            line 5 differs: half int odd 1\t3c00 OK\n  expected: 3c00 OK\n  given: refused: odd\n\
+            line 6 differs: half int even 1\trefused: odd\n  expected: refused: odd\n\
+            \x20 given: 3c00 OK\n\
+            1 rows agree, 3 differ, 0 malformed; 2 lines skipped\n",
+            "",
+        ),
+    );
+    expect(
+        &rt,
+        "add_r\thalf\tany\t3c00 3c00\t4000\tOK\t-\nadd_r\thalf\tany\t3c00 1000\t3c00\tINEXACT\t-\n\
+        to_u128_r\thalf\tup\t3e00 8\t2\tOK\tis_exact=true\n"
+            .as_bytes(),
+        (
+            1,
+            "line 2 differs: add_r\thalf\tany\t3c00 1000\t3c00\tINEXACT\t-\n\
+            \x20 expected: 3c00\tINEXACT\t-\n\
+            \x20 given in up: 3c01\tINEXACT\t-\n  given in away: 3c01\tINEXACT\t-\n\
+            line 3 differs: to_u128_r\thalf\tup\t3e00 8\t2\tOK\tis_exact=true\n\
+            \x20 expected: 2\tOK\tis_exact=true\n\
+            \x20 given: 2\tINEXACT\tis_exact=false\n\
+            1 rows agree, 2 differ, 0 malformed; 0 lines skipped\n",
+            "",
+        ),
+    );
+}
+
+// Formats without bits write their values as counts of quanta, and a NaN that is not that of the row as
+// `Debug` shows it.
+#[test]
+fn shows_each_kind_of_answer(rt: HostRuntime) {
+    for (row, expected, given) in [
+        ("abs\tlim3\t-\t-8q", "+3q\t-\t-", "+8q\t-\t-"),
+        ("infinity\tlim3\t-\t-", "+0q\t-\t-", "+inf\t-\t-"),
+        ("neg\tlim3\t-\t+0q", "+0q\t-\t-", "-0q\t-\t-"),
+        (
+            "abs\tlim125deep\t-\t-5*2^70q",
+            "+5*2^71q\t-\t-",
+            "+5*2^70q\t-\t-",
+        ),
+        ("nan\tlim3\t-\t-", "-nan:0\t-\t-", "(NaN | +2 * 2^4)\t-\t-"),
+        ("is_nan\thalf\t-\t7e00", "false\t-\t-", "true\t-\t-"),
+        (
+            "partial_cmp\thalf\t-\t3c00 4000",
+            "None\t-\t-",
+            "Less\t-\t-",
+        ),
+        (
+            "get_exact_inverse\thalf\t-\t4200",
+            "3555\t-\t-",
+            "None\t-\t-",
+        ),
+        (
+            "get_exact_inverse\thalf\t-\t4000",
+            "None\t-\t-",
+            "3800\t-\t-",
+        ),
+        ("category\thalf\t-\t7c00", "NaN\t-\t-", "Infinity\t-\t-"),
+        (
+            "debug\thalf\t-\t3c00",
+            "1\t-\t-",
+            "(Normal | +1024 * 2^0)\t-\t-",
+        ),
+        ("ilogb\thalf\t-\t3800", "1\t-\t-", "-1\t-\t-"),
+        ("PRECISION\thalf\t-\t-", "10\t-\t-", "11\t-\t-"),
+        (
+            "frexp\thalf\t-\t4000",
+            "3800\t-\texponent=1",
+            "3800\t-\texponent=2",
+        ),
+        (
+            "c_fmod_steps\thalf\t-\t4200 3c00",
+            "0000\tOK\tsteps=1 bound=2",
+            "0000\tOK\tsteps=2 bound=2",
+        ),
+        (
+            "convert_r\tdouble>half\teven\t3ff0000000000001",
+            "3c00\tOK\tloses_info=false",
+            "3c00\tINEXACT\tloses_info=true",
+        ),
+        (
+            "from_str_r\thalf\teven\t1.0",
+            "3c00\tOK\t-",
+            "Not a special or hexadecimal literal\tParseError\t-",
+        ),
+        ("from_str\thalf\t-\t0x1p0", "-\tParseError\t-", "3c00\t-\t-"),
+        (
+            "/\tsingle\t-\t3f800000 00000000",
+            "7f800000\tOK\t-",
+            "7f800000\tDIV_BY_ZERO\t-",
+        ),
+        (
+            "from\tdd>fallback\t-\t00000000000000003ff0000000000000",
+            "+0q\t-\t-",
+            "+1*2^1074q\t-\t-",
+        ),
+    ] {
+        expect_one(&rt, row, expected, given);
+    }
+}
+
+// Asserts that the one row of an input differs, and is shown with its answers.
+fn expect_one<R: Abort + Clock + AllocGlobal>(rt: &R, row: &str, expected: &str, given: &str) {
+    let input = format!(in rt.alloc(); "{row}\t{expected}");
+    let tally = "0 rows agree, 1 differ, 0 malformed; 0 lines skipped";
+    let text = format!(in rt.alloc();
+        "line 1 differs: {row}\t{expected}\n  expected: {expected}\n  given: {given}\n{tally}\n"
+    );
+    match (input, text) {
+        (Ok(input), Ok(text)) => expect(rt, input.as_bytes(), (1, text.as_str(), "")),
+        _ => assert!(rt; false, "no memory"),
+    }
+}
+
+#[test]
+fn tells_what_is_malformed(rt: HostRuntime) {
+    for (line, fault) in [
+        (
+            "half int even 464",
+            "columns: 1, and a command has 2, a call 7",
+        ),
+        ("abs\thalf\t-", "columns: 3, and a command has 2, a call 7"),
+        (
+            "abs\thalf\t-\t3c00\t3c00\t-\t-\t-",
+            "columns: 8, and a command has 2, a call 7",
+        ),
+        ("half int even 464\t5f40", "no reply: `5f40`"),
+        ("half int even 464\t5F40 OK", "no reply: `5F40 OK`"),
+        ("half int even 464\t5f40 FINE", "no reply: `5f40 FINE`"),
+        ("sqrt\thalf\teven\t3c00\t3c00\tOK\t-", "no call: `sqrt`"),
+        ("abs\tthird\t-\t3c00\t3c00\t-\t-", "no format: `third`"),
+        (
+            "convert\thalf>third\t-\t3c00\t3c00\tOK\t-",
+            "no format: `half>third`",
+        ),
+        (
+            "abs\thalf\teven\t3c00\t3c00\t-\t-",
+            "no mode of the call: `even`",
+        ),
+        (
+            "add_r\thalf\t-\t3c00 3c00\t4000\tOK\t-",
+            "no mode of the call: `-`",
+        ),
+        (
+            "add_r\thalf\todd\t3c00 3c00\t4000\tOK\t-",
+            "no mode of the call: `odd`",
+        ),
+        (
+            "abs\thalf\t-\t13c00\t3c00\t-\t-",
+            "no operands of the call: `13c00`",
+        ),
+        (
+            "abs\thalf\t-\t3c00 3c00\t3c00\t-\t-",
+            "no operands of the call: `3c00 3c00`",
+        ),
+        (
+            "abs\thalf\t-\t3c00\t3g00\t-\t-",
+            "no value of the call: `3g00`",
+        ),
+        (
+            "abs\thalf\t-\t3c00\t3c00\tOK\t-",
+            "no flags of the call: `OK`",
+        ),
+        (
+            "add_r\thalf\tany\t3c00 3c00\t4000\tINEXACT|OVERFLOW\t-",
+            "no flags of the call: `INEXACT|OVERFLOW`",
+        ),
+        (
+            "abs\thalf\t-\t3c00\t3c00\t-\texponent=1",
+            "nothing that the call answers: `exponent=1`",
+        ),
+        (
+            "mul_r\tquad\teven\t0 0\t0\tOK\t-",
+            "no such call here: `mul_r`",
+        ),
+    ] {
+        expect_fault(&rt, line, fault);
+    }
+}
+
+// Asserts that the first of two lines is malformed, and that the second one is checked.
+fn expect_fault<R: Abort + Clock + AllocGlobal>(rt: &R, line: &str, fault: &str) {
+    let input = format!(in rt.alloc(); "{line}\nhalf int even 464\t5f40 OK\n");
+    let text = format!(in rt.alloc();
+        "line 1 malformed: {fault}\n1 rows agree, 0 differ, 1 malformed; 0 lines skipped\n"
+    );
+    match (input, text) {
+        (Ok(input), Ok(text)) => expect(rt, input.as_bytes(), (2, text.as_str(), "")),
+        _ => assert!(rt; false, "no memory"),
+    }
+}
+
+// A malformed line wins over one that differs.
+#[test]
+fn goes_on_behind_bytes_that_are_no_text(rt: HostRuntime) {
+    expect(
+        &rt,
+        b"\xff\nhalf int even 464\t5f41 OK\n",
+        (
+            2,
+            "line 1 malformed: it is not UTF-8\nline 2 differs: half int even 464\t5f41 OK\n\
+            \x20 expected: 5f41 OK\n  given: 5f40 OK\n\
+            0 rows agree, 1 differ, 1 malformed; 0 lines skipped\n",
+            "",
+        ),
+    );
+}
+
+#[test]
+fn wants_a_row(rt: HostRuntime) {
+    let no_rows = "check_vectors: rows: no rows\n";
+    for (input, count) in [("", 0), ("\n", 1), ("# nothing\n \t\n#", 3)] {
+        let mut out = Vec::new(rt.alloc());
+        let mut err = Vec::new(rt.alloc());
+        let status = check_input(&rt, "rows", &mut input.as_bytes(), &mut out, &mut err);
+        let text = format!(in rt.alloc();
+            "0 rows agree, 0 differ, 0 malformed; {count} lines skipped\n"
+        );
+        assert_eq!(rt; status, 2);
+        assert_eq!(rt; err.as_slice(), no_rows.as_bytes());
+        match text {
+            Ok(text) => assert_eq!(rt; out.as_slice(), text.as_bytes()),
+            Err(_) => assert!(rt; false, "no memory"),
+        }
+    }
+}
+
+// A reader that gives so many bytes of a text, one at a time, and then an error.
+#[derive(Drop)]
+struct Broken<'a> {
+    rest: &'a [u8],
+    kind: ErrorKind,
+}
+
+impl Read for Broken<'_> {
+    fn read(&mut self, buf: &mut [u8]) -> io::Result<usize> {
+        let Some((byte, rest)) = self.rest.split_first() else {
+            return Err(io::Error::from(self.kind));
+        };
+        let Some(place) = buf.first_mut() else {
+            return Ok(0);
+        };
+        *place = *byte;
+        self.rest = rest;
+        Ok(1)
+    }
+}
+
+const ROWS: &str = "half int even 464\t5f40 OK\nhalf int even 464\t5f41 OK\n";
+
+// What is checked before an error stays said. A line that is not whole is no row.
+#[test]
+fn names_a_read_that_fails(rt: HostRuntime) -> Result<(), Fail> {
+    let mut reasons = Vec::new(rt.alloc());
+    for (kind, status) in [(ErrorKind::BrokenPipe, 4), (ErrorKind::OutOfMemory, 3)] {
+        let cause = io::Error::from(kind);
+        let text = if status == 3 {
+            format!(in rt.alloc(); "check_vectors: rows: no memory\n")?
+        } else {
+            format!(in rt.alloc(); "check_vectors: rows: cannot read: {cause}\n")?
+        };
+        reasons.push((kind, status, text))?;
+    }
+    for (kind, status, reason) in reasons.iter() {
+        for count in 0..=ROWS.len() {
+            let rest = &ROWS.as_bytes()[..count];
+            let mut input = BufReader::new(rt.alloc(), Broken { rest, kind: *kind })?;
+            let mut out = Vec::new(rt.alloc());
+            let mut err = Vec::new(rt.alloc());
+            let answered = check_input(&rt, "rows", &mut input, &mut out, &mut err);
+            assert_eq!(rt; answered, *status, "{count}");
+            assert_eq!(rt; err.as_slice(), reason.as_bytes(), "{count}");
+            let tally = if count == ROWS.len() {
+                "1 rows agree, 1 differ, 0 malformed; 0 lines skipped\n"
+            } else if count >= 26 {
+                "1 rows agree, 0 differ, 0 malformed; 0 lines skipped\n"
+            } else {
+                "0 rows agree, 0 differ, 0 malformed; 0 lines skipped\n"
+            };
+            assert!(rt; out.as_slice().ends_with(tally.as_bytes()), "{count}");
+        }
+    }
+    Ok(())
+}
+
+// A writer with room for so many bytes, which takes one at each write.
+#[derive(Drop)]
+struct Failing {
+    room: usize,
+    taken: Vec<u8>,
+}
+
+impl Failing {
+    fn new(alloc: Global, room: usize) -> Failing {
+        Failing {
+            room,
+            taken: Vec::new(alloc),
+        }
+    }
+}
+
+impl Write for Failing {
+    fn write(&mut self, buf: &[u8]) -> io::Result<usize> {
+        if self.taken.len() >= self.room {
+            return Err(io::Error::from(ErrorKind::BrokenPipe));
+        }
+        self.taken.write(&buf[..buf.len().min(1)])
+    }
+
+    fn flush(&mut self) -> io::Result<()> {
+        Ok(())
+    }
+}
+
+#[test]
+fn answers_4_where_a_write_fails(rt: HostRuntime) {
+    let whole =
+        "line 2 differs: half int even 464\t5f41 OK\n  expected: 5f41 OK\n  given: 5f40 OK\n\
+        1 rows agree, 1 differ, 0 malformed; 0 lines skipped\n";
+    for room in 0..=whole.len() {
+        let mut out = Failing::new(rt.alloc(), room);
+        let mut err = Vec::new(rt.alloc());
+        let status = check_input(&rt, "rows", &mut ROWS.as_bytes(), &mut out, &mut err);
+        assert_eq!(rt; status, if room == whole.len() { 1 } else { 4 }, "{room}");
+        assert_eq!(rt; out.taken.as_slice(), &whole.as_bytes()[..room], "{room}");
+        assert_eq!(rt; err.is_empty(), room == whole.len(), "{room}");
+    }
+    let said = "check_vectors: rows: no rows\n";
+    for room in 0..=said.len() {
+        let mut out = Vec::new(rt.alloc());
+        let mut err = Failing::new(rt.alloc(), room);
+        let status = check_input(&rt, "rows", &mut "".as_bytes(), &mut out, &mut err);
+        assert_eq!(rt; status, if room == said.len() { 2 } else { 4 }, "{room}");
+        assert_eq!(rt; err.taken.as_slice(), &said.as_bytes()[..room], "{room}");
+    }
+}
+
+// A clock that goes on by a second each time that it is asked.
+#[derive(Drop)]
+struct Ticking {
+    seconds: std::cell::Cell<u64>,
+}
+
+impl Clock for Ticking {
+    fn monotonic(&self) -> io::Result<Duration> {
+        let seconds = self.seconds.get().saturating_add(1);
+        self.seconds.set(seconds);
+        Ok(Duration::from_secs(seconds))
+    }
+
+    fn since_1970(&self) -> io::Result<Duration> {
+        Err(io::Error::from(ErrorKind::Unsupported))
+    }
+}
+
+#[test]
+fn tells_how_far_it_is(rt: HostRuntime) -> Result<(), Fail> {
+    let mut input = String::new(rt.alloc());
+    for _ in 0..7000 {
+        input.push_str("#\n")?;
+    }
+    let clock = Ticking {
+        seconds: std::cell::Cell::new(0),
+    };
+    let mut out = Vec::new(rt.alloc());
+    let mut err = Vec::new(rt.alloc());
+    let mut check = Check::new(rt.alloc());
+    let ended = check.take(
+        &mut input.as_bytes(),
+        rt.alloc(),
+        &clock,
+        &mut out,
+        &mut err,
+    );
+    assert!(rt; ended.is_ok());
+    let said =
+        "check_vectors: 3072 lines after 3 seconds\ncheck_vectors: 6144 lines after 6 seconds\n";
+    assert_eq!(rt; err.as_slice(), said.as_bytes());
+    Ok(())
+}
+
+// Asserts what the program answers to words, and how what it writes begins.
+fn expect_run<R: Abort + std::rt::Files + Clock + Input + AllocGlobal>(
+    rt: &R,
+    words: &[&str],
+    (status, on_out, on_err): (u8, &str, &str),
+) -> Result<(), AllocError> {
+    let mut given = Vec::new(rt.alloc());
+    for word in words {
+        given.push(String::from_str(rt.alloc(), word)?)?;
+    }
+    let mut out = Vec::new(rt.alloc());
+    let mut err = Vec::new(rt.alloc());
+    let answered = run(rt, Ok(given), &mut out, &mut err);
+    assert_eq!(rt; answered, status, "{on_out} {on_err}");
+    assert!(rt; out.as_slice().starts_with(on_out.as_bytes()), "{on_out}");
+    assert!(rt; err.as_slice().starts_with(on_err.as_bytes()), "{on_err}");
+    Ok(())
+}
+
+#[test]
+fn does_what_its_words_say(rt: HostRuntime) -> Result<(), Fail> {
+    let usage = "usage: check_vectors [FILE | --help]\n";
+    expect_run(&rt, &["--help"], (0, usage, ""))?;
+    expect_run(&rt, &["--halp"], (2, "", usage))?;
+    expect_run(&rt, &["rows", "more"], (2, "", usage))?;
+    expect_run(
+        &rt,
+        &["none/such"],
+        (4, "", "check_vectors: none/such: cannot open: "),
+    )?;
+    expect_run(
+        &rt,
+        &["--", "-none"],
+        (4, "", "check_vectors: -none: cannot open: "),
+    )?;
+    fs::write(&rt, "rows", ROWS)?;
+    let whole =
+        "line 2 differs: half int even 464\t5f41 OK\n  expected: 5f41 OK\n  given: 5f40 OK\n\
+        1 rows agree, 1 differ, 0 malformed; 0 lines skipped\n";
+    expect_run(&rt, &["rows"], (1, whole, ""))?;
+    expect_run(&rt, &["--", "rows"], (1, whole, ""))?;
+    Ok(())
+}
+
+// A system that gives these arguments.
+#[derive(Drop)]
+struct System;
+
+impl Env for System {
+    fn arg(&self, i: usize, buf: &mut [u8]) -> Result<usize, FillError> {
+        let Some(argument) = ["check_vectors", "rows"].get(i) else {
+            return Err(FillError::NotPresent);
+        };
+        let Some(front) = buf.get_mut(..argument.len()) else {
+            return Err(FillError::TooLong);
+        };
+        front.copy_from_slice(argument.as_bytes());
+        Ok(argument.len())
+    }
+
+    fn var(&self, _name: &str, _buf: &mut [u8]) -> Result<usize, FillError> {
+        Err(FillError::NotPresent)
+    }
+
+    fn var_at(&self, _i: usize, _buf: &mut [u8]) -> Result<usize, FillError> {
+        Err(FillError::NotPresent)
+    }
+}
+
+// An arena with so many bytes left, and no more to come. A second chunk is begun, since only the blocks
+// of a first one are used again: so each growth of memory takes bytes of its own.
+fn arena_with(alloc: Global, bytes: usize) -> Result<Bump, AllocError> {
+    let arena = Bump::try_with_capacity(alloc, 4000)?;
+    arena.try_alloc_slice_fill_clone(arena.chunk_capacity(), 0u8)?;
+    arena.try_alloc_slice_fill_clone(1, 0u8)?;
+    arena.set_allocation_limit(Some(arena.allocated_bytes()));
+    let unused = arena.chunk_capacity().saturating_sub(bytes);
+    arena.try_alloc_slice_fill_clone(unused, 0u8)?;
+    Ok(arena)
+}
+
+// There is a growth for each argument, for the one that is not there, and for each list of them.
+#[test]
+fn wants_memory_for_its_words(rt: HostRuntime) -> Result<(), Fail> {
+    for eighths in 0..100usize {
+        let arena = arena_with(rt.alloc(), 8 * eighths)?;
+        let Err(error) = words_of_system(&(System, &arena)) else {
+            assert!(rt; eighths >= 96, "{eighths}");
+            break;
+        };
+        let mut out = Vec::new(rt.alloc());
+        let mut err = Vec::new(rt.alloc());
+        assert_eq!(rt; run(&rt, Err(error), &mut out, &mut err), 3, "{eighths}");
+        assert!(rt; out.is_empty());
+        assert_eq!(rt;
+            err.as_slice(),
+            b"check_vectors: arguments: no memory\n".as_slice()
+        );
+    }
+    Ok(())
+}
+
+// The memory for lines is that of the longest one.
+#[test]
+fn wants_memory_for_a_line(rt: HostRuntime) -> Result<(), Fail> {
+    let mut rows = String::new(rt.alloc());
+    for _ in 0..100 {
+        rows.push_str("half int even 464\t5f40 OK\n")?;
+    }
+    let mut is_enough = false;
+    for bytes in 0..64usize {
+        let arena = arena_with(rt.alloc(), bytes)?;
+        let mut out = Vec::new(rt.alloc());
+        let mut err = Vec::new(rt.alloc());
+        let mut check = Check::new(rt.alloc());
+        match check.take(&mut rows.as_bytes(), &arena, &rt, &mut out, &mut err) {
+            Ok(()) => {
+                is_enough = true;
+                assert_eq!(rt; check.tally().agreeing, 100, "{bytes}");
+            }
+            Err(failure) => {
+                assert!(rt; matches!(failure, Failure::Memory), "{bytes}");
+                assert!(rt; !is_enough && check.tally().agreeing == 0, "{bytes}");
+            }
+        }
+    }
+    assert!(rt; is_enough);
+    Ok(())
+}
