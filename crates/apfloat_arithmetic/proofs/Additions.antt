@@ -26,10 +26,10 @@ quanta_counted min xe tx base k mx m l e i =
     let a : 2 ^ up (tx -ℤ base) * 2 ^ down (xe -ℤ min) ≡ 2 ^ up (xe -ℤ min) * 2 ^ k =
     sym (pow-add 2 (up (tx -ℤ base)) (down (xe -ℤ min))) ∙ ap (λ (x : ℕ). 2 ^ x) v ∙ pow-add 2 (up (xe -ℤ min)) k in
     let b : mx * (2 ^ up (tx -ℤ base) * 2 ^ down (xe -ℤ min)) ≡ mx * (2 ^ up (xe -ℤ min) * 2 ^ k) =
-        ap (λ (x : ℕ). mx * x) a in
+    ap (λ (x : ℕ). mx * x) a in
     let d : m * 2 ^ down (xe -ℤ min) * 2 ^ k ≡ mx * 2 ^ up (xe -ℤ min) * 2 ^ k = ap (λ (x : ℕ). x * 2 ^ k) i in
     eq_of_mul-eq-mul_right (2 ^ down (xe -ℤ min)) (pow_pos (down (xe -ℤ min))) (mx * 2 ^ up (tx -ℤ base))
-        (m * 2 ^ k) (omega arith)
+    (m * 2 ^ k) (omega arith)
 
 pub scaled_sum : (s t : Bool) (m n w : ℕ) (y z : ℤ) → y ≡ (signed s (m * w) +ℤ signed t (n * w))
     → z ≡ (signed s m +ℤ signed t n) → up y + down z * w ≡ down y + up z * w
@@ -89,15 +89,15 @@ read_stands base e unit k amount whole q loss l d a h =
     let z : down (e -ℤ base) ≡ 0 = no_down (e -ℤ base) (omega (arith, ints)) in
     let v : up (e -ℤ base) + down unit ≡ up unit + k = omega (arith, ints) in
     let p : 2 ^ up (e -ℤ base) * 2 ^ down unit ≡ 2 ^ up unit * 2 ^ k =
-        sym (pow-add 2 (up (e -ℤ base)) (down unit)) ∙ ap (λ (x : ℕ). 2 ^ x) v ∙ pow-add 2 (up unit) k in
+    sym (pow-add 2 (up (e -ℤ base)) (down unit)) ∙ ap (λ (x : ℕ). 2 ^ x) v ∙ pow-add 2 (up unit) k in
     let p' : 2 ^ up (e -ℤ base) * 2 ^ down unit ≡ 1 * 2 ^ up unit * 2 ^ k = omega arith in
     let w : amount * 2 ^ down unit ≡ whole * 2 ^ down unit * 2 ^ k = ap (λ (x : ℕ). x * 2 ^ down unit) a ∙
-        omega arith in
+    omega arith in
     let t : StandsFor q loss (amount * 2 ^ down unit) (2 ^ up (e -ℤ base) * 2 ^ down unit) =
-        stands_times q loss amount (2 ^ up (e -ℤ base)) (2 ^ down unit) (pow_pos (down unit)) h in
+    stands_times q loss amount (2 ^ up (e -ℤ base)) (2 ^ down unit) (pow_pos (down unit)) h in
     stands_cancel q loss (whole * 2 ^ down unit) (1 * 2 ^ up unit) (2 ^ k) (pow_pos k)
-        (subst (λ (x : ℕ). StandsFor q loss x (1 * 2 ^ up unit * 2 ^ k)) w
-            (subst (λ (x : ℕ). StandsFor q loss (amount * 2 ^ down unit) x) p' t))
+    (subst (λ (x : ℕ). StandsFor q loss x (1 * 2 ^ up unit * 2 ^ k)) w
+    (subst (λ (x : ℕ). StandsFor q loss (amount * 2 ^ down unit) x) p' t))
 
 not_zero_amount : (q : ℕ) (loss : Loss) (amount unit : ℕ) → 0 < unit → (q ≡ 0 → loss ≡ ExactlyZero → ⊥)
     → StandsFor q loss amount unit → 0 < amount
@@ -108,8 +108,8 @@ zero_amount : (q : ℕ) (loss : Loss) (amount unit : ℕ) → q ≡ 0 → loss �
     → amount ≡ 0
 zero_amount q loss amount unit a b h =
     let s : StandsFor 0 ExactlyZero amount unit =
-        subst (λ (x : ℕ). StandsFor x ExactlyZero amount unit) a
-            (subst (λ (x : Loss). StandsFor q x amount unit) b h) in
+    subst (λ (x : ℕ). StandsFor x ExactlyZero amount unit) a
+    (subst (λ (x : Loss). StandsFor q x amount unit) b h) in
     omega (arith, s)
 
 pub read_sum : (of_zero : Bool) (base e unit : ℤ) (k m n : ℕ) (s t negative : Bool) (q : ℕ) (loss : Loss)
@@ -121,15 +121,15 @@ read_sum of_zero base e unit k m n s t negative q loss d h =
     let u : 0 < 2 ^ up (e -ℤ base) = pow_pos (up (e -ℤ base)) in
     let b = scaled_sum s t m n (2 ^ k) (signed negative h.amount) (signed s m +ℤ signed t n) h.is refl in
     let a : h.amount ≡ magnitude (signed s m +ℤ signed t n) * 2 ^ k =
-        read_amount negative h.amount (2 ^ k) (signed s m +ℤ signed t n) w b in
+    read_amount negative h.amount (2 ^ k) (signed s m +ℤ signed t n) w b in
     record {
       stands = read_stands base e unit k h.amount (magnitude (signed s m +ℤ signed t n)) q loss h.above d a h.stands;
       zero_sign =
           λ x y. read_zero of_zero negative h.amount (2 ^ k) (signed s m +ℤ signed t n) w
-              (zero_amount q loss h.amount (2 ^ up (e -ℤ base)) x y h.stands) a;
+          (zero_amount q loss h.amount (2 ^ up (e -ℤ base)) x y h.stands) a;
       other_sign =
           λ x. read_sign of_zero negative h.amount (2 ^ k) (signed s m +ℤ signed t n) w
-              (not_zero_amount q loss h.amount (2 ^ up (e -ℤ base)) u x h.stands) b;
+          (not_zero_amount q loss h.amount (2 ^ up (e -ℤ base)) u x h.stands) b;
     }
 
 pub read_negative : (of_zero : Bool) (exact unit : ℤ) (negative answer : Bool) (significand : ℕ) (loss : Loss)
@@ -164,7 +164,7 @@ sum_read of_zero precision scale min xe ye tx ty e unit s t negative mx my m n q
     let h : StandsForSigned base (counted base s tx mx +ℤ counted base t ty my) negative e q loss = f base bx by in
     let h' : StandsForSigned base (signed s (m * 2 ^ k) +ℤ signed t (n * 2 ^ k)) negative e q loss =
     subst (λ (z : ℕ). StandsForSigned base (signed s (m * 2 ^ k) +ℤ signed t z) negative e q loss) y
-        (subst (λ (z : ℕ). StandsForSigned base (signed s z +ℤ counted base t ty my) negative e q loss) x h) in
+    (subst (λ (z : ℕ). StandsForSigned base (signed s z +ℤ counted base t ty my) negative e q loss) x h) in
     read_sum of_zero base e unit k m n s t negative q loss (omega (arith, ints)) h'
 
 pub scale_is : (precision : ℕ) (min : ℤ) → 3 ≤ precision → min ≤ℤ negsuc 0

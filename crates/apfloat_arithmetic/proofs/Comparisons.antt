@@ -67,7 +67,7 @@ exponents_first shape s d t e m n =
     (λ c h.
     let k : IsNormal shape s e = rw h at m in
     ap (λ x. ordering_then x (nat_cmp s t)) c ∙ at_one_exponent shape s t e k n ∙
-        ap (λ x. nat_cmp (quanta_at shape.min_exp s x) (quanta_at shape.min_exp t e)) (sym h))
+    ap (λ x. nat_cmp (quanta_at shape.min_exp s x) (quanta_at shape.min_exp t e)) (sym h))
     (λ c h. ap (λ x. ordering_then x (nat_cmp s t)) c ∙ nat_cmp_is _ _ Greater (below_exponent shape t e s d n m h))
 
 -- ---- numbers of one sign
@@ -146,8 +146,8 @@ beside_negative shape x y e f h k s r g =
     let a : IsNormal shape x.significand x.exponent = rw e at h in
     let b : IsNormal shape y.significand y.exponent = rw p.0 at k in
     rw (e, f, p.0, p.1)
-        (g b a ∙ both_negative (quanta_at shape.min_exp x.significand x.exponent)
-            (quanta_at shape.min_exp y.significand y.exponent))
+    (g b a ∙ both_negative (quanta_at shape.min_exp x.significand x.exponent)
+    (quanta_at shape.min_exp y.significand y.exponent))
 
 pub beside_positive : (shape : Shape) (x y : Unpacked) → x.category ≡ Normal → x.negative ≡ false → IsStored shape x
     → IsStored shape y → side (datum_at shape x) ≡ side (datum_at shape y) → (r : Ordering)
@@ -160,8 +160,8 @@ beside_positive shape x y e f h k s r g =
     let a : IsNormal shape x.significand x.exponent = rw e at h in
     let b : IsNormal shape y.significand y.exponent = rw p.0 at k in
     rw (e, f, p.0, p.1)
-        (g a b ∙ both_positive (quanta_at shape.min_exp x.significand x.exponent)
-            (quanta_at shape.min_exp y.significand y.exponent))
+    (g a b ∙ both_positive (quanta_at shape.min_exp x.significand x.exponent)
+    (quanta_at shape.min_exp y.significand y.exponent))
 
 -- ---- by the sides, and on one side by the numbers
 
@@ -236,8 +236,8 @@ stored_same : (shape : Shape) (x y : Unpacked) → IsStored shape x → IsStored
     → same_datum (datum_at shape x) (datum_at shape y) ≡ true → x ≡ y
 stored_same shape x y h k e =
     sym (comes_back shape x h) ∙
-        ap (unpacked_of shape) {x = datum_at shape x} {y = datum_at shape y}
-            (same_is (datum_at shape x) (datum_at shape y) e) ∙ comes_back shape y k
+    ap (unpacked_of shape) {x = datum_at shape x} {y = datum_at shape y}
+    (same_is (datum_at shape x) (datum_at shape y) e) ∙ comes_back shape y k
 
 abbrev pub IsSameClass : Unpacked → Unpacked → Type 0
 IsSameClass x y = (x.category ≡ y.category) × (x.negative ≡ y.negative)
@@ -254,14 +254,18 @@ same_both shape x y a true h k c n e =
     rw (parts_same x y q.0 q.1 p.0 p.1) (sym (same_of (datum_at shape y)))
 same_both shape x y a false h k c n e = off_by _ (λ t.
     let z : false ≡ true =
-        n.1 (ap (λ u. u.significand) (stored_same shape x y h k t),
-            ap (λ u. u.exponent) (stored_same shape x y h k t)) in
+    n.1 (
+      ap (λ u. u.significand) (stored_same shape x y h k t),
+      ap (λ u. u.exponent) (stored_same shape x y h k t),
+    ) in
     cc)
 
 pub other_class : (shape : Shape) (x y : Unpacked) (a : Bool) → IsStored shape x → IsStored shape y
     → Decides a (IsSameClass x y) → a ≡ false → a ≡ same_datum (datum_at shape x) (datum_at shape y)
 other_class shape x y a h k c e = e ∙ off_by _ (λ t.
     let z : a ≡ true =
-        c.1 (ap (λ u. u.category) (stored_same shape x y h k t),
-            ap (λ u. u.negative) (stored_same shape x y h k t)) in
+    c.1 (
+      ap (λ u. u.category) (stored_same shape x y h k t),
+      ap (λ u. u.negative) (stored_same shape x y h k t),
+    ) in
     cc)

@@ -40,10 +40,10 @@ power_within s e law l h =
     let j : steps_of s e ≤ (format_at s).span = omega (arith, ints) in
     let a : 2 ^ steps_of s e ≤ 2 ^ (format_at s).span = pow-le-pow_right two_pos j in
     let b : 2 ^ (s.precision - 1) * 2 ^ steps_of s e ≤ 2 ^ (s.precision - 1) * 2 ^ (format_at s).span =
-        mul-le-mul_left (2 ^ (s.precision - 1)) a in
+    mul-le-mul_left (2 ^ (s.precision - 1)) a in
     let c : 2 ^ (s.precision - 1) * 2 ^ (format_at s).span
-        ≤ greatest_significand s.nonfinite s.precision * 2 ^ (format_at s).span =
-            mul-le-mul_right (2 ^ (format_at s).span) (greatest_full s.nonfinite s.precision law.precision_low) in
+    ≤ greatest_significand s.nonfinite s.precision * 2 ^ (format_at s).span =
+    mul-le-mul_right (2 ^ (format_at s).span) (greatest_full s.nonfinite s.precision law.precision_low) in
     omega arith
 
 -- the inverse of a power of two is a number of the format
@@ -51,11 +51,16 @@ pub inverted_normal : (s : Shape) (m : ℕ) (e : ℤ) → IsShape s → IsNormal
     → IsNormal s m (neg_ℤ e)
 inverted_normal s m e law n i =
     let g : m * 2 ^ steps_of s (neg_ℤ e) ≤ largest (format_at s) =
-        subst (λ (x : ℕ). x * 2 ^ steps_of s (neg_ℤ e) ≤ largest (format_at s)) (sym i.power)
-            (power_within s (neg_ℤ e) law i.inverse_normal i.inverse_within) in
+    subst (λ (x : ℕ). x * 2 ^ steps_of s (neg_ℤ e) ≤ largest (format_at s)) (sym i.power)
+    (power_within s (neg_ℤ e) law i.inverse_normal i.inverse_within) in
     record {
-      operand = record { fits = n.operand.fits; full = n.operand.full; least =
-          omega (arith, ints, i.inverse_normal, law.precision_low); greatest = i.inverse_within };
+      operand = record {
+        fits = n.operand.fits;
+        full = n.operand.full;
+        least =
+            omega (arith, ints, i.inverse_normal, law.precision_low);
+        greatest = i.inverse_within;
+      };
       whole = whole_is s.min_exp m (neg_ℤ e) (m * 2 ^ steps_of s (neg_ℤ e))
           (whole_from s m (neg_ℤ e) i.inverse_normal);
       within = rw (quanta_high_is s m (neg_ℤ e) i.inverse_normal) g;
@@ -77,12 +82,12 @@ inverted_product s m e law n i =
     let j = steps_of s e in
     let k = steps_of s (neg_ℤ e) in
     let a : quanta_at s.min_exp m e ≡ half * 2 ^ j = quanta_high_is s m e i.normal ∙
-        ap (λ (x : ℕ). x * 2 ^ j) i.power in
+    ap (λ (x : ℕ). x * 2 ^ j) i.power in
     let b : quanta_at s.min_exp m (neg_ℤ e) ≡ half * 2 ^ k = quanta_high_is s m (neg_ℤ e) i.inverse_normal ∙
-        ap (λ (x : ℕ). x * 2 ^ k) i.power in
+    ap (λ (x : ℕ). x * 2 ^ k) i.power in
     let c = scale_is s law in
     let d : ((s.precision - 1) + j) + ((s.precision - 1) + k) ≡ (format_at s).scale + (format_at s).scale =
-        omega (arith, ints, i.normal, i.inverse_normal) in
+    omega (arith, ints, i.normal, i.inverse_normal) in
     record {
       normal = rw a (power_full half j);
       inverse_normal = rw b (power_full half k);
@@ -163,18 +168,18 @@ invertible_from s m i e law n h =
     let j : ℕ = steps_of s e in
     let w : ℕ = (format_at s).scale in
     let q : quanta_at s.min_exp m e ≡ 2 ^ (s.precision - 1) * 2 ^ steps_of s e = quanta_high_is s m e l ∙
-        ap (λ (x : ℕ). x * 2 ^ steps_of s e) p in
+    ap (λ (x : ℕ). x * 2 ^ steps_of s e) p in
     let g : 2 ^ (s.precision - 1) * 2 ^ steps_of s e * i ≡ 2 ^ (format_at s).scale * 2 ^ (format_at s).scale =
-        ap (λ (x : ℕ). x * i) (sym q) ∙ h.product in
+    ap (λ (x : ℕ). x * i) (sym q) ∙ h.product in
     let c = scale_is s law in
     let short = short_inverse (s.precision - 1) (steps_of s e) (format_at s).scale i h.inverse_normal g in
     let t : greatest_significand s.nonfinite s.precision * 2 ^ (format_at s).span
-        < 2 ^ s.precision * 2 ^ (format_at s).span =
-            mul-lt-mul_of_pos_right (greatest_fits s.nonfinite s.precision) (pow_pos (format_at s).span) in
+    < 2 ^ s.precision * 2 ^ (format_at s).span =
+    mul-lt-mul_of_pos_right (greatest_fits s.nonfinite s.precision) (pow_pos (format_at s).span) in
     let b = h.within in
     let long =
-        long_inverse (s.precision - 1) (steps_of s e) (format_at s).scale i s.precision (format_at s).span
-            (omega arith) g in
+    long_inverse (s.precision - 1) (steps_of s e) (format_at s).scale i s.precision (format_at s).span
+    (omega arith) g in
     record {
       power = p;
       normal = l;

@@ -25,7 +25,7 @@ pub product_rounded : (f : Format) (mode : Round) (b c d : Bool) (l m : ℕ) (va
     → IsFusedSum f mode (finite b l) (finite c m) (finite d 0) value status
 product_rounded f mode b c d l m value status p q h =
     rounded_signed f mode (zero_sum_sign mode (product_sign b c) d) (product_sign b c) (l * m) (2 ^ f.scale)
-        (signed (product_sign b c) (l * m) +ℤ signed d (0 * 2 ^ f.scale)) value status
+    (signed (product_sign b c) (l * m) +ℤ signed d (0 * 2 ^ f.scale)) value status
     (product_alone (product_sign b c) d (l * m) (0 * 2 ^ f.scale) (omega arith)) (mul-pos p q) h
 
 -- an exact zero
@@ -36,9 +36,9 @@ pub zeros_rounded : (f : Format) (mode : Round) (b c d sign : Bool) (l m : ℕ) 
 zeros_rounded f mode b c d sign l m value status z e h =
     let n : 0 * 2 ^ f.scale ≡ 0 = omega arith in
     let w : (signed (product_sign b c) (l * m) +ℤ signed d (0 * 2 ^ f.scale)) ≡ pos 0 =
-        addend_alone (product_sign b c) d (l * m) (0 * 2 ^ f.scale) z ∙ ap (signed d) n ∙ no_sign d in
+    addend_alone (product_sign b c) d (l * m) (0 * 2 ^ f.scale) z ∙ ap (signed d) n ∙ no_sign d in
     rw w (subst (λ (x : Bool). IsDelivered f mode x 0 (2 ^ f.scale) value status) e
-        (h (2 ^ f.scale) (pow_pos f.scale)))
+    (h (2 ^ f.scale) (pow_pos f.scale)))
 
 pub same_fused : (f : Format) (mode : Round) (x y z v d w : Datum) (i j : ℕ) → z ≡ d → v ≡ w → i ≡ j
     → IsFusedSum f mode x y d w j → IsFusedSum f mode x y z v i

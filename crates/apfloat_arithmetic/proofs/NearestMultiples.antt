@@ -33,7 +33,7 @@ upper_scaled r s w odd p =
     (λ (g : r ≤ s).
     let e : r ≡ s = omega arith in
     takes_half NearestTiesToEven false odd r s e ∙
-        sym (takes_half NearestTiesToEven false odd (r * w) (s * w) (ap (λ (x : ℕ). x * w) e)))
+    sym (takes_half NearestTiesToEven false odd (r * w) (s * w) (ap (λ (x : ℕ). x * w) e)))
     (cases_lt s r))
     (cases_lt r s)
 
@@ -85,12 +85,12 @@ pub operand_scaled : (place low n s t : ℕ) (e : ℤ) → t ≡ s → pos place
 operand_scaled place low n s t e z h k =
     let g : place + down e ≡ up e + low = omega (arith, ints) in
     let a : 2 ^ place * 2 ^ down e ≡ 2 ^ up e * 2 ^ low = sym (pow-add 2 place (down e)) ∙ ap (λ (x : ℕ). 2 ^ x) g ∙
-        pow-add 2 (up e) low in
+    pow-add 2 (up e) low in
     let b : s * (2 ^ place * 2 ^ down e) ≡ s * (2 ^ up e * 2 ^ low) = ap (λ (x : ℕ). s * x) a in
     let c : n * 2 ^ down e * 2 ^ low ≡ s * 2 ^ up e * 2 ^ low = ap (λ (x : ℕ). x * 2 ^ low) k in
     let d : s * 2 ^ place * 2 ^ down e ≡ n * 2 ^ low * 2 ^ down e = omega arith in
     let f : s * 2 ^ place ≡ n * 2 ^ low =
-        eq_of_mul-eq-mul_right (2 ^ down e) (pow_pos (down e)) (s * 2 ^ place) (n * 2 ^ low) d in
+    eq_of_mul-eq-mul_right (2 ^ down e) (pow_pos (down e)) (s * 2 ^ place) (n * 2 ^ low) d in
     ap (λ (x : ℕ). x * 2 ^ place) z ∙ f
 
 -- the remainder of scaled operands
@@ -106,15 +106,15 @@ pub rest_within : (kind : NonfiniteBehavior) (negative : Bool) (a taken n : ℕ)
     → signed_quanta kind negative n ≡ rest_of kind negative a taken
 rest_within kind negative a taken n l e =
     ap (λ (x : ℕ). signed_quanta kind negative x) (sym e) ∙
-        sym (ap (λ (x : Bool). cond x (signed_quanta kind (not negative) (taken - a))
-            (signed_quanta kind negative (a - taken))) (le-ltb a taken l))
+    sym (ap (λ (x : Bool). cond x (signed_quanta kind (not negative) (taken - a))
+    (signed_quanta kind negative (a - taken))) (le-ltb a taken l))
 
 pub rest_past : (kind : NonfiniteBehavior) (negative : Bool) (a taken n : ℕ) → a < taken → taken - a ≡ n
     → signed_quanta kind (not negative) n ≡ rest_of kind negative a taken
 rest_past kind negative a taken n l e =
     ap (λ (x : ℕ). signed_quanta kind (not negative) x) (sym e) ∙
-        sym (ap (λ (x : Bool). cond x (signed_quanta kind (not negative) (taken - a))
-            (signed_quanta kind negative (a - taken))) (lt-ltb a taken l))
+    sym (ap (λ (x : Bool). cond x (signed_quanta kind (not negative) (taken - a))
+    (signed_quanta kind negative (a - taken))) (lt-ltb a taken l))
 
 pub truncated_value : (kind : NonfiniteBehavior) (negative : Bool) (a b n : ℕ) → n ≡ a % b
     → signed_quanta kind negative n ≡ rest_of kind negative a (b * (a / b))
@@ -157,11 +157,11 @@ nearest_past kind negative a b n p t e =
     let f : b - a % b ≤ a % b = upper_far (a % b) b (eqb (a / b % 2) 1) t in
     let z : a % b ≡ 0 → ⊥ = omega arith in
     let q : nearest_quotient a b ≡ a / b + 1 = nearest_is a b true t ∙
-        ap (λ (x : Bool). cond x (a / b) (a / b + 1)) (ne_eqb (a % b) 0 z) in
+    ap (λ (x : Bool). cond x (a / b) (a / b + 1)) (ne_eqb (a % b) 0 z) in
     let g : b * nearest_quotient a b ≡ b * (a / b + 1) = ap (λ (x : ℕ). b * x) q in
     let h : a < b * (a / b + 1) = omega arith in
     subst (λ (x : ℕ). signed_quanta kind (not negative) n ≡ rest_of kind negative a x) (sym g)
-        (rest_past kind negative a (b * (a / b + 1)) n h (omega arith))
+    (rest_past kind negative a (b * (a / b + 1)) n h (omega arith))
 
 nearest_within : (kind : NonfiniteBehavior) (negative : Bool) (a b n : ℕ)
     → false ≡ upper (a % b) (b - a % b) (eqb (a / b % 2) 1) → n ≡ a % b
@@ -170,7 +170,7 @@ nearest_within kind negative a b n t e =
     let q : nearest_quotient a b ≡ a / b = nearest_is a b false t ∙ sym (cond_same (eqb (a % b) 0) (a / b)) in
     let g : b * nearest_quotient a b ≡ b * (a / b) = ap (λ (x : ℕ). b * x) q in
     subst (λ (x : ℕ). signed_quanta kind negative n ≡ rest_of kind negative a x) (sym g)
-        (truncated_value kind negative a b n e)
+    (truncated_value kind negative a b n e)
 
 pub nearest_value : (kind : NonfiniteBehavior) (negative past : Bool) (a b n : ℕ) → 0 < b
     → past ≡ upper (a % b) (b - a % b) (eqb (a / b % 2) 1) → n ≡ cond past (b - a % b) (a % b)
@@ -186,7 +186,7 @@ pub past_in : (past : Bool) (x y a b w : ℕ) → 0 < w → x ≡ a * w → y �
 past_in past x y a b w p e f h =
     let r : a % b * w ≡ x % y = sym (rest_in x y a b w (x % y) p e f refl) in
     let o : eqb (a / b % 2) 1 ≡ eqb (x / y % 2) 1 =
-        sym (ap (λ (z : ℕ). eqb (z % 2) 1) (quotient_in x y a b w p e f)) in
+    sym (ap (λ (z : ℕ). eqb (z % 2) 1) (quotient_in x y a b w p e f)) in
     h ∙ sym (upper_level (a % b) b w (x % y) y (eqb (a / b % 2) 1) (eqb (x / y % 2) 1) p r (sym f) o)
 
 pub distance_in : (past : Bool) (x y a b w d : ℕ) → 0 < w → x ≡ a * w → y ≡ b * w

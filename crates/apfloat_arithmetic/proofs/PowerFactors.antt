@@ -50,7 +50,7 @@ factor_of_power (suc k) a b e =
     factor_of_power k a y.half (omega arith))
     (λ (q : b ≡ 2 * y.half + 1).
     let r : (2 * x.half + 1) * (2 * y.half + 1) ≡ 2 * 2 ^ k = ap (λ (n : ℕ). n * (2 * y.half + 1)) (sym p) ∙
-        ap (λ (n : ℕ). a * n) (sym q) ∙ u in
+    ap (λ (n : ℕ). a * n) (sym q) ∙ u in
     absurd (odd_product x.half y.half (2 ^ k) r))
     y.is)
     x.is

@@ -44,10 +44,10 @@ pub product_is : (s : Shape) (x y r : ℤ) (m n p : ℕ) → IsShape s → IsNor
 product_is s x y r m n p l hx hy v e =
     let unit : ℤ = r +ℤ pos (format_at s).scale in
     product_stands m n (quanta_at s.min_exp m x) (quanta_at s.min_exp n y) (up (x -ℤ s.min_exp))
-        (up (y -ℤ s.min_exp)) (down (x -ℤ s.min_exp)) (down (y -ℤ s.min_exp)) (format_at s).scale (up unit)
-            (down unit)
+    (up (y -ℤ s.min_exp)) (down (x -ℤ s.min_exp)) (down (y -ℤ s.min_exp)) (format_at s).scale (up unit)
+    (down unit)
     hx.whole hy.whole (balanced_product s.precision (format_at s).scale s.min_exp x y r l.precision_low
-        (scale_is s l) e)
+    (scale_is s l) e)
     ∙ ap (λ (z : ℕ). z * (2 ^ (format_at s).scale * 2 ^ up unit)) (sym v)
 
 -- the quotient of the significands stands for the quotient of the numbers
@@ -58,10 +58,10 @@ pub quotient_is : (s : Shape) (x y r : ℤ) (places q : ℕ) (loss : Loss) (m n 
 quotient_is s x y r places q loss m n l hx hy e h =
     let unit : ℤ = r +ℤ pos (format_at s).scale in
     quotient_stands q loss m n (quanta_at s.min_exp m x) (quanta_at s.min_exp n y) places (up (x -ℤ s.min_exp))
-        (up (y -ℤ s.min_exp)) (down (x -ℤ s.min_exp)) (down (y -ℤ s.min_exp)) (format_at s).scale (up unit)
-            (down unit)
+    (up (y -ℤ s.min_exp)) (down (x -ℤ s.min_exp)) (down (y -ℤ s.min_exp)) (format_at s).scale (up unit)
+    (down unit)
     hx.whole hy.whole (balanced_quotient s.precision places (format_at s).scale s.min_exp x y r l.precision_low
-        (scale_is s l) e) h
+    (scale_is s l) e) h
 
 pub normal_some : (s : Shape) (m : ℕ) (e : ℤ) → IsNormal s m e → 0 < m
 normal_some s m e n = let p : 0 < 2 ^ (s.precision - 1) = pow_pos (s.precision - 1) in let f = n.operand.full in

@@ -24,7 +24,7 @@ pub by_number : (s : Shape) (quotient : ℕ → ℕ → ℕ) (x y : Unpacked) (m
     → IsStoredBy Normal s y
     → IsAnswer (rest_of s.nonfinite x.negative m
     (quanta_at s.min_exp y.significand y.exponent * quotient m (quanta_at s.min_exp y.significand y.exponent)))
-        ok_bits value status
+    ok_bits value status
     → IsRemainder (format_at s) quotient (finite x.negative m) (datum_by Normal s y) value status
 by_number s quotient x y m value status t h =
     let p = quanta_some s y.significand y.exponent t in
@@ -41,7 +41,7 @@ zero_by_number : (s : Shape) (quotient : ℕ → ℕ → ℕ) (x y : Unpacked) (
 zero_by_number s quotient x y value status u t q h =
     let n : ℕ = quanta_at s.min_exp y.significand y.exponent in
     let e = zero_rest s.nonfinite x.negative n (quotient 0 n) (q n (quanta_some s y.significand y.exponent t))
-        u.sign_is in
+    u.sign_is in
     by_number s quotient x y 0 value status t (subst (λ (d : Datum). IsAnswer d ok_bits value status) e h)
 
 pub of_zero : (s : Shape) (quotient : ℕ → ℕ → ℕ) (k l : Category) (x y : Unpacked) (value : Datum) (status : ℕ)
@@ -51,9 +51,9 @@ pub of_zero : (s : Shape) (quotient : ℕ → ℕ → ℕ) (k l : Category) (x y
 of_zero s quotient k l x y value status (inr z) n e t u q h = absurd (n z)
 of_zero s quotient k l x y value status (inl z) n e t u q h =
     subst (λ (o : Category). IsStoredBy o s x → IsAnswer (datum_by o s x) ok_bits value status
-        → Says s quotient o l x y value status) (sym z)
+    → Says s quotient o l x y value status) (sym z)
     (λ t h. subst (λ (o : Category). IsStoredBy o s y → Says s quotient Zero o x y value status) (sym e)
-        (λ u. zero_by_number s quotient x y value status t u q h) u) t h
+    (λ u. zero_by_number s quotient x y value status t u q h) u) t h
 
 -- ---- both numbers other than zero
 
@@ -61,7 +61,7 @@ pub of_numbers : (s : Shape) (quotient : ℕ → ℕ → ℕ) (k l : Category) (
     → k ≡ Normal → l ≡ Normal → IsStoredBy l s y
     → IsAnswer (rest_of s.nonfinite x.negative (quanta_at s.min_exp x.significand x.exponent)
     (quanta_at s.min_exp y.significand y.exponent * quotient (quanta_at s.min_exp x.significand x.exponent)
-        (quanta_at s.min_exp y.significand y.exponent))) ok_bits value status
+    (quanta_at s.min_exp y.significand y.exponent))) ok_bits value status
     → Says s quotient k l x y value status
 of_numbers s quotient k l x y value status e f u h =
     subst (λ (o : Category). Says s quotient o l x y value status) (sym e)
@@ -80,11 +80,11 @@ pub ones_of_numbers : (s : Shape) (k l : Category) (x y : Unpacked) → k ≡ No
     ≡ ones_of_quotient (datum_by k s x) (datum_by l s y)
 ones_of_numbers s k l x y e f u =
     subst (λ (o : Category). count_ones
-        (quanta_at s.min_exp x.significand x.exponent / quanta_at s.min_exp y.significand y.exponent)
-            ≡ ones_of_quotient (datum_by o s x) (datum_by l s y)) (sym e)
+    (quanta_at s.min_exp x.significand x.exponent / quanta_at s.min_exp y.significand y.exponent)
+    ≡ ones_of_quotient (datum_by o s x) (datum_by l s y)) (sym e)
     (subst (λ (o : Category). IsStoredBy o s y
-        → count_ones (quanta_at s.min_exp x.significand x.exponent / quanta_at s.min_exp y.significand y.exponent)
-        ≡ ones_of_quotient (datum_by Normal s x) (datum_by o s y)) (sym f)
+    → count_ones (quanta_at s.min_exp x.significand x.exponent / quanta_at s.min_exp y.significand y.exponent)
+    ≡ ones_of_quotient (datum_by Normal s x) (datum_by o s y)) (sym f)
     (λ u. number_ones s x y (quanta_at s.min_exp x.significand x.exponent) u) u)
 
 -- ---- not both numbers other than zero

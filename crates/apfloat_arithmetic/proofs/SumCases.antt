@@ -22,9 +22,10 @@ pub number_stored : (s : Shape) (x : Unpacked) → x.category ≡ Normal → IsS
     → IsFiniteOf (format_at s) x.negative (quanta_at s.min_exp x.significand x.exponent)
     × (0 < quanta_at s.min_exp x.significand x.exponent)
 number_stored s x e h =
-    let n : IsNormal s x.significand x.exponent = subst (λ (k : Category). IsStoredBy k s x) e h in
-    (subst (λ (k : Category). IsMember (format_at s) (datum_by k s x)) e (member_is s x h),
-        quanta_some s x.significand x.exponent n)
+    let n : IsNormal s x.significand x.exponent = subst (λ (k : Category). IsStoredBy k s x) e h in (
+      subst (λ (k : Category). IsMember (format_at s) (datum_by k s x)) e (member_is s x h),
+      quanta_some s x.significand x.exponent n,
+    )
 
 pub same_sum : (f : Format) (mode : Round) (x y v a b d : Datum) (i j : ℕ) → x ≡ a → y ≡ b → v ≡ d → i ≡ j
     → IsSum f mode a b d j → IsSum f mode x y v i

@@ -62,10 +62,10 @@ below_divisor precision r p t q z f l g =
     let b' : 2 ^ precision * 2 ^ p ≡ 2 * 2 ^ (precision - 1) * 2 ^ p = ap (λ (x : ℕ). x * 2 ^ p) b in
     let c : 2 ^ (p + 1) ≡ 2 * 2 ^ p = twice_power p in
     let c' : 2 ^ (precision - 1) * 2 ^ (p + 1) ≡ 2 ^ (precision - 1) * (2 * 2 ^ p) =
-        ap (λ (x : ℕ). 2 ^ (precision - 1) * x) c in
+    ap (λ (x : ℕ). 2 ^ (precision - 1) * x) c in
     let d : 2 ^ (p + 1) ≤ 2 ^ q = pow-le-pow_right two_pos h in
     let e : 2 ^ (precision - 1) * 2 ^ (p + 1) ≤ 2 ^ (precision - 1) * 2 ^ q =
-        mul-le-mul_left (2 ^ (precision - 1)) d in
+    mul-le-mul_left (2 ^ (precision - 1)) d in
     let k : 2 ^ (precision - 1) * 2 ^ q ≤ t * 2 ^ q = mul-le-mul_right (2 ^ q) l in
     omega arith
 

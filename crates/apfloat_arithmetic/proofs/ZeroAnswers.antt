@@ -21,7 +21,7 @@ pub by_categories : (P : Datum → Datum → Type 0) (s : Shape) (x y : Unpacked
     → y.category ≡ l → P (datum_by k s x) (datum_by l s y) → P (datum_at s x) (datum_at s y)
 by_categories P s x y k l d e h =
     subst (λ (a : Category). P (datum_by a s x) (datum_at s y)) (sym d)
-        (subst (λ (b : Category). P (datum_by k s x) (datum_by b s y)) (sym e) h)
+    (subst (λ (b : Category). P (datum_by k s x) (datum_by b s y)) (sym e) h)
 
 pub zero_product : (f : Format) (mode : Round) (b c sign : Bool) (m n : ℕ) (value : Datum) (status : ℕ)
     → sign ≡ product_sign b c → m * n ≡ 0
@@ -29,8 +29,8 @@ pub zero_product : (f : Format) (mode : Round) (b c sign : Bool) (m n : ℕ) (va
     → IsProduct f mode (finite b m) (finite c n) value status
 zero_product f mode b c sign m n value status e z h =
     let d : IsDelivered f mode sign (m * n) (2 ^ f.scale) value status =
-        subst (λ (x : ℕ). IsDelivered f mode sign x (2 ^ f.scale) value status) (sym z)
-            (h (2 ^ f.scale) (pow_pos f.scale)) in
+    subst (λ (x : ℕ). IsDelivered f mode sign x (2 ^ f.scale) value status) (sym z)
+    (h (2 ^ f.scale) (pow_pos f.scale)) in
     subst (λ (x : Bool). IsDelivered f mode x (m * n) (2 ^ f.scale) value status) e d
 
 pub number_by_infinity : (f : Format) (mode : Round) (b c sign : Bool) (m : ℕ) (value : Datum) (status : ℕ) → 0 < m
@@ -51,7 +51,7 @@ pub number_by_zero : (f : Format) (mode : Round) (b c sign : Bool) (m : ℕ) (va
     → IsQuotient f mode (finite b m) (finite c 0) value status
 number_by_zero f mode b c sign m value status p e h =
     rw (ne_eqb m 0 (λ z. omega (arith, z, p)))
-        (subst (λ (x : Bool). IsAnswer (infinity_of f x) div_by_zero_bit value status) e h)
+    (subst (λ (x : Bool). IsAnswer (infinity_of f x) div_by_zero_bit value status) e h)
 
 pub some_quotient : (f : Format) (mode : Round) (b c : Bool) (m n : ℕ) (value : Datum) (status : ℕ) → 0 < n
     → IsDelivered f mode (product_sign b c) (m * 2 ^ f.scale) n value status
@@ -65,6 +65,6 @@ pub zero_quotient : (f : Format) (mode : Round) (b c sign : Bool) (n : ℕ) (val
 zero_quotient f mode b c sign n value status p e h =
     let z : 0 ≡ 0 * 2 ^ f.scale = omega arith in
     let d : IsDelivered f mode sign (0 * 2 ^ f.scale) n value status =
-        subst (λ (x : ℕ). IsDelivered f mode sign x n value status) z (h n p) in
+    subst (λ (x : ℕ). IsDelivered f mode sign x n value status) z (h n p) in
     some_quotient f mode b c 0 n value status p
-        (subst (λ (x : Bool). IsDelivered f mode x (0 * 2 ^ f.scale) n value status) e d)
+    (subst (λ (x : Bool). IsDelivered f mode x (0 * 2 ^ f.scale) n value status) e d)

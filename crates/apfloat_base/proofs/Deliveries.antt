@@ -70,10 +70,10 @@ pub exact_if : (precision : ℕ) (mode : Round) (negative : Bool) (half m c amou
     → StandsFor m loss amount (2 ^ c * parts) → IsPick precision mode negative amount parts p → p * parts ≡ amount
 exact_if precision mode negative half m c amount parts p loss z l i h x =
     let h' : StandsFor m ExactlyZero amount (2 ^ c * parts) =
-        subst (λ (y : Loss). StandsFor m y amount (2 ^ c * parts)) z h in
+    subst (λ (y : Loss). StandsFor m y amount (2 ^ c * parts)) z h in
     let e : p ≡ m * 2 ^ c =
-        pick_unique precision mode negative amount parts p (m * 2 ^ c) x
-            (pick_is precision mode negative half m c amount parts ExactlyZero l i h') in
+    pick_unique precision mode negative amount parts p (m * 2 ^ c) x
+    (pick_is precision mode negative half m c amount parts ExactlyZero l i h') in
     ap (λ (y : ℕ). y * parts) e ∙ omega (arith, h')
 
 off_if : (b : Bool) (m c amount parts : ℕ) → m * (2 ^ c * parts) < amount → amount < (m + 1) * (2 ^ c * parts)
@@ -88,11 +88,11 @@ pub inexact_if : (precision : ℕ) (mode : Round) (negative : Bool) (half m c am
 inexact_if precision mode negative half m c amount parts p loss n l i h x q =
     let u : 0 < 2 ^ c * parts = mul-pos (pow_pos c) l in
     let e : p ≡ kept mode negative loss m * 2 ^ c =
-        pick_unique precision mode negative amount parts p (kept mode negative loss m * 2 ^ c) x
-            (pick_is precision mode negative half m c amount parts loss l i h) in
+    pick_unique precision mode negative amount parts p (kept mode negative loss m * 2 ^ c) x
+    (pick_is precision mode negative half m c amount parts loss l i h) in
     off_if (rounds_up mode negative loss (eqb (m % 2) 1)) m c amount parts
-        (stands_past m loss amount (2 ^ c * parts) u n h) (stands_to m loss amount (2 ^ c * parts) u h)
-            (ap (λ (y : ℕ). y * parts) (sym e) ∙ q)
+    (stands_past m loss amount (2 ^ c * parts) u n h) (stands_to m loss amount (2 ^ c * parts) u h)
+    (ap (λ (y : ℕ). y * parts) (sym e) ∙ q)
 
 -- ---- tiny
 
@@ -123,9 +123,9 @@ tiny_before : (precision half m c amount parts : ℕ) → 0 < parts → IsEnclos
 tiny_before precision half m c amount parts p i =
     ⊎_elim
     (λ (l : m < half). lt-ltb m half l ∙
-        sym (lt-ltb amount (half * parts) (small_before precision half m c amount parts p l i)))
+    sym (lt-ltb amount (half * parts) (small_before precision half m c amount parts p l i)))
     (λ (l : half ≤ m). le-ltb m half l ∙
-        sym (le-ltb amount (half * parts) (large_before precision half m c amount parts l i)))
+    sym (le-ltb amount (half * parts) (large_before precision half m c amount parts l i)))
     (cases_lt m half)
 
 small_after : (half s place : ℕ) → s < half → (place ≡ 0) ⊎ (half ≤ s) → s * 2 ^ place < half
@@ -151,7 +151,7 @@ pub tiny_is : (f : Format) (m c amount parts s place : ℕ) (b : Bool) → 0 < p
     → is_tiny f amount parts (s * 2 ^ place) ≡ b
 tiny_is f m c amount parts s place b p i g e =
     ap (λ (x : Bool). cond f.tiny_before_rounding x (ltb (s * 2 ^ place) (2 ^ (f.precision - 1))))
-        (sym (tiny_before f.precision (2 ^ (f.precision - 1)) m c amount parts p i))
+    (sym (tiny_before f.precision (2 ^ (f.precision - 1)) m c amount parts p i))
     ∙ ap (λ (x : Bool). cond f.tiny_before_rounding (ltb m (2 ^ (f.precision - 1))) x)
     (sym (tiny_after (2 ^ (f.precision - 1)) s place g))
     ∙ sym e

@@ -64,11 +64,11 @@ module _ (f : Format) (layout : Layout) (precise : 3 ≤ f.precision) where
       let h : m < 2 * 2 ^ (f.precision - 1) = omega arith in
       let c : m * 2 ^ j < 2 * 2 ^ (f.precision - 1) * 2 ^ j = mul-lt-mul_of_pos_right h (pow_pos j) in
       let g : log2 (m * 2 ^ j) ≡ f.precision - 1 + j =
-          log2_is (m * 2 ^ j) (f.precision - 1 + j) (omega arith) (omega arith) in
+      log2_is (m * 2 ^ j) (f.precision - 1 + j) (omega arith) (omega arith) in
       let o : 1 ≤ 2 ^ j = pow_pos j in
       let d : m * 1 ≤ m * 2 ^ j = mul-le-mul_left m o in
       let l : leb (smallest_normalized f) (m * 2 ^ j) ≡ true =
-          le-leb (smallest_normalized f) (m * 2 ^ j) (omega arith) in
+      le-leb (smallest_normalized f) (m * 2 ^ j) (omega arith) in
       let c1 : f.precision - 1 + j + 2 - f.precision ≡ j + 1 = omega arith in
       let c2 : f.precision - 1 + j + 1 - f.precision ≡ j = omega arith in
       rw (l, g, c1, c2, shl-shr m j) refl
@@ -106,20 +106,20 @@ module _ (f : Format) (layout : Layout) (precise : 3 ≤ f.precision) where
         (λ (n : t ≡ 0 → ⊥). rw (eq-eqb e (all_ones layout.exponent_bits) o, ne_eqb t 0 n, k, o) refl)
         (cases_eq t 0))
         (λ (n : e ≡ all_ones layout.exponent_bits → ⊥).
-            rw (ne_eqb e (all_ones layout.exponent_bits) n) (number_fields b e t low))
+        rw (ne_eqb e (all_ones layout.exponent_bits) n) (number_fields b e t low))
         (cases_eq e (all_ones layout.exponent_bits))
     implied_fields NanOnly b e t k low =
         ⊎_elim
         (λ (o : e ≡ all_ones layout.exponent_bits).
         ⊎_elim
         (λ (z : t ≡ all_ones (f.precision - 1)).
-            rw (eq-eqb e (all_ones layout.exponent_bits) o, eq-eqb t (all_ones (f.precision - 1)) z, k, o, z) refl)
+        rw (eq-eqb e (all_ones layout.exponent_bits) o, eq-eqb t (all_ones (f.precision - 1)) z, k, o, z) refl)
         (λ (n : t ≡ all_ones (f.precision - 1) → ⊥).
-            rw (eq-eqb e (all_ones layout.exponent_bits) o, ne_eqb t (all_ones (f.precision - 1)) n)
-                (number_fields b e t low))
+        rw (eq-eqb e (all_ones layout.exponent_bits) o, ne_eqb t (all_ones (f.precision - 1)) n)
+        (number_fields b e t low))
         (cases_eq t (all_ones (f.precision - 1))))
         (λ (n : e ≡ all_ones layout.exponent_bits → ⊥).
-            rw (ne_eqb e (all_ones layout.exponent_bits) n) (number_fields b e t low))
+        rw (ne_eqb e (all_ones layout.exponent_bits) n) (number_fields b e t low))
         (cases_eq e (all_ones layout.exponent_bits))
     implied_fields NanNegativeZero true e t k low =
         ⊎_elim
@@ -149,15 +149,15 @@ module _ (f : Format) (layout : Layout) (precise : 3 ≤ f.precision) where
         (λ (o : e ≡ all_ones layout.exponent_bits).
         ⊎_elim
         (λ (z : t ≡ smallest_normalized f).
-            rw (eq-eqb e (all_ones layout.exponent_bits) o, eq-eqb t (smallest_normalized f) z, written, o, z) refl)
+        rw (eq-eqb e (all_ones layout.exponent_bits) o, eq-eqb t (smallest_normalized f) z, written, o, z) refl)
         (λ (n : t ≡ smallest_normalized f → ⊥).
-            rw (eq-eqb e (all_ones layout.exponent_bits) o, ne_eqb t (smallest_normalized f) n)
-                (nan_fields b t ∙ ap (λ (x : ℕ). fields_with b x t) (sym o)))
+        rw (eq-eqb e (all_ones layout.exponent_bits) o, ne_eqb t (smallest_normalized f) n)
+        (nan_fields b t ∙ ap (λ (x : ℕ). fields_with b x t) (sym o)))
         (cases_eq t (smallest_normalized f)))
         (λ (n : e ≡ all_ones layout.exponent_bits → ⊥).
         let q : eqb e (all_ones layout.exponent_bits) ≡ false = ne_eqb e (all_ones layout.exponent_bits) n in
         let c : IsTrue (cond (eqb e 0) (ltb t (smallest_normalized f)) (leb (smallest_normalized f) t)) =
-            rw q at canonical in
+        rw q at canonical in
         rw q (number_by b e t high c))
         (cases_eq e (all_ones layout.exponent_bits))
       where
@@ -189,11 +189,11 @@ by_layout true f layout b e t x law within canonical =
     let w : t < 2 ^ f.precision = rw x at within.trailing in
     let c : IsTrue (is_canonical_written f layout (fields_with b e t)) = rw x at canonical in
     ap (fields_by f layout) (cond-true f.explicit_integer_bit _ _ x) ∙
-        written_fields f layout law.precise x k b e t w c
+    written_fields f layout law.precise x k b e t w c
 by_layout false f layout b e t x law within canonical =
     let w : t < 2 ^ (f.precision - 1) = rw x at within.trailing in
     ap (fields_by f layout) (cond-false f.explicit_integer_bit _ _ x) ∙
-        implied_fields f layout law.precise x f.nonfinite b e t refl w
+    implied_fields f layout law.precise x f.nonfinite b e t refl w
 
 -- the bits are determined by the datum
 pub encoded_once : (f : Format) (layout : Layout) (datum : Datum) (a b : ℕ) → IsInterchange f layout

@@ -42,12 +42,21 @@ lawful_interchange c law wide =
     span_by c law h =
         let t = twice_half c.exp_bits h.exp_bits in
         let big : 3 ≤ 2 ^ c.exp_bits + more_exponents c.nonfinite =
-            omega (arith, ints, law.precision_low, law.min_exp_high, law.max_exp_low, h.ieee_min_exp,
-                h.ieee_max_exp, h.max_exp, t) in
+        omega (
+          arith,
+          ints,
+          law.precision_low,
+          law.min_exp_high,
+          law.max_exp_low,
+          h.ieee_min_exp,
+          h.ieee_max_exp,
+          h.max_exp,
+          t,
+        ) in
         let e : c.max_exp -ℤ c.min_exp ≡ pos (2 ^ c.exp_bits + more_exponents c.nonfinite - 3) =
-            omega (arith, ints, h.ieee_min_exp, h.ieee_max_exp, h.max_exp, t) in
+        omega (arith, ints, h.ieee_min_exp, h.ieee_max_exp, h.max_exp, t) in
         let a : unsigned_abs (c.max_exp -ℤ c.min_exp) ≡ 2 ^ c.exp_bits + more_exponents c.nonfinite - 3 =
-            ap unsigned_abs e in
+        ap unsigned_abs e in
         omega arith
 
 -- ---- fields of bits, and bits of fields
@@ -80,25 +89,33 @@ module _ (f : Format) (layout : Layout) (law : IsInterchange f layout) where
   pub fields_back : (x : Fields) → AreWithin f layout x → fields_of f layout (bits_of_fields f layout x) ≡ x
   fields_back x w =
       let t = mod_low (cond x.negative 1 0 * 2 ^ layout.exponent_bits + x.biased_exponent) (trailing_bits f)
-          x.trailing w.trailing in
+      x.trailing w.trailing in
       let h = shr_high (cond x.negative 1 0 * 2 ^ layout.exponent_bits + x.biased_exponent) (trailing_bits f)
-          x.trailing w.trailing in
+      x.trailing w.trailing in
       let b = mod_low (cond x.negative 1 0) layout.exponent_bits x.biased_exponent w.biased_exponent in
       let g = shr_high (cond x.negative 1 0) layout.exponent_bits x.biased_exponent w.biased_exponent in
-      rw (t, h, b, top, ← shr-shr (bits_of_fields f layout x) (trailing_bits f) layout.exponent_bits, h, g,
-          one_bit x.negative) refl
+      rw (
+        t,
+        h,
+        b,
+        top,
+        ← shr-shr (bits_of_fields f layout x) (trailing_bits f) layout.exponent_bits,
+        h,
+        g,
+        one_bit x.negative,
+      ) refl
 
   pub bits_below : (x : Fields) → AreWithin f layout x → bits_of_fields f layout x < 2 ^ layout.bits
   bits_below x w =
       let a : cond x.negative 1 0 * 2 ^ layout.exponent_bits + x.biased_exponent < 2 ^ layout.exponent_bits * 2 =
-          mul-add-lt (cond x.negative 1 0) (2 ^ layout.exponent_bits) x.biased_exponent 2 (bit_low x.negative)
-              w.biased_exponent in
+      mul-add-lt (cond x.negative 1 0) (2 ^ layout.exponent_bits) x.biased_exponent 2 (bit_low x.negative)
+      w.biased_exponent in
       let b = mul-add-lt (cond x.negative 1 0 * 2 ^ layout.exponent_bits + x.biased_exponent) (2 ^ trailing_bits f)
-          x.trailing (2 ^ layout.exponent_bits * 2) a w.trailing in
+      x.trailing (2 ^ layout.exponent_bits * 2) a w.trailing in
       let e : layout.bits ≡ trailing_bits f + suc layout.exponent_bits = omega (arith, law.bits) in
       rw (e, pow-add 2 (trailing_bits f) (suc layout.exponent_bits), two-pow-succ layout.exponent_bits)
       (let z : 2 ^ layout.exponent_bits * 2 ≡ 2 ^ layout.exponent_bits + 2 ^ layout.exponent_bits = omega arith in
-          rw z at b)
+      rw z at b)
 
   -- the bits of the fields of bits
   pub bits_back : (bits : ℕ) → bits < 2 ^ layout.bits → bits_of_fields f layout (fields_of f layout bits) ≡ bits
@@ -106,10 +123,10 @@ module _ (f : Format) (layout : Layout) (law : IsInterchange f layout) where
       let w = trailing_bits f in
       let e : layout.bits ≡ suc (trailing_bits f + layout.exponent_bits) = omega (arith, law.bits) in
       let k : 2 ^ layout.bits ≡ 2 * 2 ^ (w + layout.exponent_bits) =
-          rw e (omega (arith, two-pow-succ (w + layout.exponent_bits))) in
+      rw e (omega (arith, two-pow-succ (w + layout.exponent_bits))) in
       let d : bits / 2 ^ (w + layout.exponent_bits) < 2 =
-          div_below bits (2 ^ (w + layout.exponent_bits)) 2 (pow_pos (w + layout.exponent_bits))
-              (omega (arith, k)) in
+      div_below bits (2 ^ (w + layout.exponent_bits)) 2 (pow_pos (w + layout.exponent_bits))
+      (omega (arith, k)) in
       let s : cond (eqb (bits / 2 ^ (layout.bits - 1) % 2) 1) 1 0 ≡ bits / 2 ^ w / 2 ^ layout.exponent_bits =
       rw (top, shr-shr bits w layout.exponent_bits) (top_bit (bits / 2 ^ (w + layout.exponent_bits)) d) in
       rw s (rw (shr_split (bits / 2 ^ w) layout.exponent_bits) (shr_split bits w))

@@ -27,7 +27,7 @@ number_exactly : (f g : Format) (mode : Round) (b : Bool) (m n : ℕ) (value : D
 number_exactly f g mode b m n value status loses_info l e t h =
     let d = exact_delivered g mode b n (m * 2 ^ g.scale) (2 ^ f.scale) (pow_pos f.scale) t.on_grid t.within (sym e) in
     let o = delivered_once g mode b (m * 2 ^ g.scale) (2 ^ f.scale) value (signed_quanta g.nonfinite b n) status
-        ok_bits h.is_delivered d in
+    ok_bits h.is_delivered d in
     let p : 0 < n = both_some m n f.scale g.scale e l in
     record {
       value_is = o.0 ∙ signed_some g.nonfinite b n p;
@@ -41,8 +41,12 @@ zero_exactly : (g : Format) (b : Bool) (value : Datum) (status : ℕ) (loses_inf
 zero_exactly g b value status loses_info z h =
     let k : loses_zero_sign g b ≡ false = rw (← z) (ap not (same_sign_self b)) in
     let r = rw k at h in
-    record { value_is = r.value_is ∙ ap (λ (s : Bool). finite s 0) (sym z); status_is = r.status_is; loses_is =
-        r.loses_is }
+    record {
+      value_is = r.value_is ∙ ap (λ (s : Bool). finite s 0) (sym z);
+      status_is = r.status_is;
+      loses_is =
+          r.loses_is;
+    }
 
 no_quanta : (n p q : ℕ) → n * 2 ^ p ≡ 0 * 2 ^ q → n ≡ 0
 no_quanta zero p q e = refl

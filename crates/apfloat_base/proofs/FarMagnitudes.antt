@@ -32,7 +32,7 @@ pub largest_below : (f : Format) → largest f < 2 ^ (f.precision + f.span)
 largest_below f =
     let e : 2 ^ (f.precision + f.span) ≡ 2 ^ f.precision * 2 ^ f.span = pow-add 2 f.precision f.span in
     let a : greatest_significand f.nonfinite f.precision * 2 ^ f.span < 2 ^ f.precision * 2 ^ f.span =
-        mul-lt-mul_of_pos_right (greatest_fits f.nonfinite f.precision) (pow_pos f.span) in
+    mul-lt-mul_of_pos_right (greatest_fits f.nonfinite f.precision) (pow_pos f.span) in
     subst (λ (x : ℕ). greatest_significand f.nonfinite f.precision * 2 ^ f.span < x) (sym e) a
 
 power_on_grid : (precision k : ℕ) → 0 < precision → IsOnGrid precision (2 ^ k)
@@ -47,8 +47,8 @@ pub picks_past : (f : Format) (mode : Round) (negative : Bool) (amount parts p :
 picks_past f mode negative amount parts p h x i =
     let a : largest f < 2 ^ (f.precision + f.span) = largest_below f in
     let b : 2 ^ (f.precision + f.span) ≤ i.below =
-        i.is_below.greatest (2 ^ (f.precision + f.span)) (power_on_grid f.precision (f.precision + f.span) h)
-            x.from in
+    i.is_below.greatest (2 ^ (f.precision + f.span)) (power_on_grid f.precision (f.precision + f.span) h)
+    x.from in
     let c = pick_within f.precision mode negative amount parts p x.some i in
     let d : i.below ≤ p = c.1 in
     lt-ltb (largest f) p (omega (arith, a, b, d))
@@ -83,8 +83,13 @@ little_enclosed : (precision amount parts : ℕ) → 0 < precision → IsFarBelo
     → IsEnclosed precision (2 ^ (precision - 1)) 0 0 amount parts
 little_enclosed precision amount parts h x =
     let l = x.to in
-    record { double = sym (twice_half precision h); fits = pow_pos precision; full = inl refl; from = omega arith;
-        to = omega (arith, l) }
+    record {
+      double = sym (twice_half precision h);
+      fits = pow_pos precision;
+      full = inl refl;
+      from = omega arith;
+      to = omega (arith, l);
+    }
 
 -- 0 or one quantum, as the mode and the sign say
 pub little_pick : Round → Bool → ℕ
@@ -97,7 +102,7 @@ picks_little precision mode negative amount parts h x =
     let l = x.to in let k = x.some in
     let p : 0 < parts = omega (arith, l) in
     pick_is precision mode negative (2 ^ (precision - 1)) 0 0 amount parts LessThanHalf p
-        (little_enclosed precision amount parts h x) (omega (arith, k), omega (arith, l))
+    (little_enclosed precision amount parts h x) (omega (arith, k), omega (arith, l))
 
 cond_little : (b : Bool) → cond b 1 0 * 2 ^ 0 ≤ 1
 cond_little true = omega arith
@@ -146,8 +151,8 @@ pub far_below : (f : Format) (mode : Round) (negative : Bool) (amount parts amou
 far_below f mode negative amount parts amount' parts' v s h x y d =
     let p : ℕ = little_pick mode negative in
     let e : d.pick ≡ little_pick mode negative =
-        pick_unique f.precision mode negative amount parts d.pick (little_pick mode negative) d.is_pick
-            (picks_little f.precision mode negative amount parts h x) in
+    pick_unique f.precision mode negative amount parts d.pick (little_pick mode negative) d.is_pick
+    (picks_little f.precision mode negative amount parts h x) in
     record {
       pick = little_pick mode negative;
       is_pick = picks_little f.precision mode negative amount' parts' h y;

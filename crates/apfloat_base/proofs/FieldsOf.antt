@@ -78,10 +78,13 @@ pub low_fields_of : (f : Format) (layout : Layout) (b : Bool) (n : ℕ) → IsIn
 low_fields_of f layout b n law h s =
     let o = ones_some layout.exponent_bits law.some in
     let e : eqb 0 (all_ones layout.exponent_bits) ≡ false =
-        ne_eqb 0 (all_ones layout.exponent_bits) (λ z. omega (arith, z, o)) in
+    ne_eqb 0 (all_ones layout.exponent_bits) (λ z. omega (arith, z, o)) in
     record {
-      within = record { biased_exponent = pow_pos layout.exponent_bits; trailing =
-          width_low f.explicit_integer_bit f.precision n h };
+      within = record {
+        biased_exponent = pow_pos layout.exponent_bits;
+        trailing =
+            width_low f.explicit_integer_bit f.precision n h;
+      };
       canonical = low_canonical f.explicit_integer_bit f layout b n e h;
       is = low_is f.explicit_integer_bit f.nonfinite f layout b n e s;
     }
@@ -102,7 +105,7 @@ high_is : (explicit : Bool) (kind : NonfiniteBehavior) (f : Format) (layout : La
     → MayBeExplicit kind explicit → smallest_normalized f ≤ m → IsNoSpecial kind f layout (j + 1) m
     → cond explicit (written_datum f layout (fields_with b (j + 1) (m - cond explicit 0 (smallest_normalized f))))
     (implied_datum kind f layout (fields_with b (j + 1) (m - cond explicit 0 (smallest_normalized f))))
-        ≡ finite b (m * 2 ^ j)
+    ≡ finite b (m * 2 ^ j)
 high_is true IEEE754 f layout b j m may low n =
     let z : m - 0 ≡ m = omega arith in
     let y : j + 1 - 1 ≡ j = omega arith in
@@ -145,11 +148,11 @@ module _ (f : Format) (layout : Layout) (law : IsInterchange f layout) where
       let b : 2 ^ (f.span + 1) ≡ 2 ^ f.span * 2 = pow-add 2 f.span 1 in
       let c : smallest_normalized f * 2 ^ j ≤ m * 2 ^ j = mul-le-mul_right (2 ^ j) low in
       let d : 2 ^ (f.precision - 1) * (2 ^ f.span * 2) ≤ 2 ^ (f.precision - 1) * 2 ^ j =
-          mul-le-mul_left (2 ^ (f.precision - 1)) (omega arith) in
+      mul-le-mul_left (2 ^ (f.precision - 1)) (omega arith) in
       let e : greatest_significand f.nonfinite f.precision * 2 ^ f.span < 2 ^ f.precision * 2 ^ f.span =
-          mul-lt-mul_of_pos_right g (pow_pos f.span) in
+      mul-lt-mul_of_pos_right g (pow_pos f.span) in
       let k : 2 ^ f.precision * 2 ^ f.span ≡ 2 * 2 ^ (f.precision - 1) * 2 ^ f.span =
-          ap (λ (x : ℕ). x * 2 ^ f.span) (sym t) in
+      ap (λ (x : ℕ). x * 2 ^ f.span) (sym t) in
       absurd (omega arith))
       (λ (h : j ≤ f.span). h)
       (cases_lt f.span j)
@@ -176,9 +179,9 @@ module _ (f : Format) (layout : Layout) (law : IsInterchange f layout) where
       let w = twice_half f.precision (omega (arith, law.precise)) in
       let p = pow_pos (f.precision - 1) in
       and_right _ _ (ne_eqb (m - smallest_normalized f) (all_ones (f.precision - 1))
-          (λ v. omega (arith, v, u, w, p))))
+      (λ v. omega (arith, v, u, w, p))))
       (λ (q : j + 1 ≡ all_ones layout.exponent_bits → ⊥).
-          and_left _ _ (ne_eqb (j + 1) (all_ones layout.exponent_bits) q))
+      and_left _ _ (ne_eqb (j + 1) (all_ones layout.exponent_bits) q))
       (cases_eq (j + 1) (all_ones layout.exponent_bits))
   no_special NanNegativeZero j m k low top high = ne_eqb (j + 1) 0 (λ q. omega (arith, q))
 
@@ -189,8 +192,11 @@ module _ (f : Format) (layout : Layout) (law : IsInterchange f layout) where
       let h = place_within j m low top in
       let n = no_special f.nonfinite j m refl low top h in
       record {
-        within = record { biased_exponent = exponent_fits f.nonfinite j refl h; trailing =
-            width_high f.explicit_integer_bit f.precision m (omega (arith, law.precise)) high };
+        within = record {
+          biased_exponent = exponent_fits f.nonfinite j refl h;
+          trailing =
+              width_high f.explicit_integer_bit f.precision m (omega (arith, law.precise)) high;
+        };
         canonical = high_canonical f.explicit_integer_bit f.nonfinite f layout b j m law.explicit low n;
         is = high_is f.explicit_integer_bit f.nonfinite f layout b j m law.explicit low n;
       }
@@ -200,8 +206,8 @@ module _ (f : Format) (layout : Layout) (law : IsInterchange f layout) where
 infinity_is : (explicit : Bool) (kind : NonfiniteBehavior) (f : Format) (layout : Layout) (b : Bool) → kind ≡ IEEE754
     → cond explicit (written_datum f layout
     (fields_with b (all_ones layout.exponent_bits) (cond explicit (smallest_normalized f) 0)))
-        (implied_datum kind f layout
-            (fields_with b (all_ones layout.exponent_bits) (cond explicit (smallest_normalized f) 0))) ≡ infinite b
+    (implied_datum kind f layout
+    (fields_with b (all_ones layout.exponent_bits) (cond explicit (smallest_normalized f) 0))) ≡ infinite b
 infinity_is true IEEE754 f layout b k =
     rw (eqb_self (all_ones layout.exponent_bits), eqb_self (smallest_normalized f)) refl
 infinity_is false IEEE754 f layout b k = rw (eqb_self (all_ones layout.exponent_bits)) refl
@@ -223,8 +229,11 @@ pub infinity_fields_of : (f : Format) (layout : Layout) (b : Bool) → IsInterch
     → AreFieldsOf f layout (fields_with b (all_ones layout.exponent_bits)
     (cond f.explicit_integer_bit (smallest_normalized f) 0)) (infinite b)
 infinity_fields_of f layout b law k = record {
-  within = record { biased_exponent = ones_fit layout.exponent_bits; trailing =
-      width_of_infinity f.explicit_integer_bit f.precision (omega (arith, law.precise)) };
+  within = record {
+    biased_exponent = ones_fit layout.exponent_bits;
+    trailing =
+        width_of_infinity f.explicit_integer_bit f.precision (omega (arith, law.precise));
+  };
   canonical = ones_canonical f.explicit_integer_bit f layout b _;
   is = infinity_is f.explicit_integer_bit f.nonfinite f layout b k;
 }
@@ -256,8 +265,11 @@ pub nan_fields_of : (f : Format) (layout : Layout) (b : Bool) (s : ℕ) → IsIn
     → (f.nonfinite ≡ NanNegativeZero → ⊥) → IsNanSignificand f.nonfinite f.explicit_integer_bit f.precision s
     → AreFieldsOf f layout (fields_with b (all_ones layout.exponent_bits) s) (nan b s)
 nan_fields_of f layout b s law n h = record {
-  within = record { biased_exponent = ones_fit layout.exponent_bits; trailing =
-      width_of_nan f.explicit_integer_bit f.nonfinite f.precision s n law.explicit h };
+  within = record {
+    biased_exponent = ones_fit layout.exponent_bits;
+    trailing =
+        width_of_nan f.explicit_integer_bit f.nonfinite f.precision s n law.explicit h;
+  };
   canonical = ones_canonical f.explicit_integer_bit f layout b s;
   is = nan_is f.explicit_integer_bit f.nonfinite f layout b s refl n law.explicit h;
 }

@@ -28,7 +28,7 @@ digits_full n h p =
     let e : r.0 ≡ 128 - count_leading_zeros 128 n = omega (arith, e₀) in
     let l : 2 ^ (128 - count_leading_zeros 128 n) ≤ 2 * n + 1 = subst (λ (x : ℕ). 2 ^ x ≤ 2 * n + 1) e r.3 in
     let t : 2 * 2 ^ ((128 - count_leading_zeros 128 n) - 1) ≡ 2 ^ (128 - count_leading_zeros 128 n) =
-        twice_half (128 - count_leading_zeros 128 n) p in
+    twice_half (128 - count_leading_zeros 128 n) p in
     omega arith
 
 -- ---- units
@@ -74,21 +74,21 @@ pub kept_stands : (q : ℕ) (loss : Loss) (amount parts k up down place : ℕ) �
     → StandsFor q loss (amount * 2 ^ down) (2 ^ k * (parts * 2 ^ up)) → StandsFor q loss amount (2 ^ place * parts)
 kept_stands q loss amount parts k up down place e h =
     stands_cancel q loss amount (2 ^ place * parts) (2 ^ down) (pow_pos down)
-        (subst (λ (x : ℕ). StandsFor q loss (amount * 2 ^ down) x) (same_unit parts k up down place e) h)
+    (subst (λ (x : ℕ). StandsFor q loss (amount * 2 ^ down) x) (same_unit parts k up down place e) h)
 
 pub shifted_stands : (s : ℕ) (loss : Loss) (amount parts j up down place : ℕ) → loss ≡ ExactlyZero
     → place + down + j ≡ up → StandsFor s loss (amount * 2 ^ down) (parts * 2 ^ up)
     → StandsFor (s * 2 ^ j) loss amount (2 ^ place * parts)
 shifted_stands s loss amount parts j up down place z e h =
     let h' : StandsFor s ExactlyZero (amount * 2 ^ down) (parts * 2 ^ up) =
-        subst (λ (x : Loss). StandsFor s x (amount * 2 ^ down) (parts * 2 ^ up)) z h in
+    subst (λ (x : Loss). StandsFor s x (amount * 2 ^ down) (parts * 2 ^ up)) z h in
     let a : 2 ^ (place + down + j) ≡ 2 ^ place * 2 ^ down * 2 ^ j = pow-add 2 (place + down) j ∙
-        ap (λ (x : ℕ). x * 2 ^ j) (pow-add 2 place down) in
+    ap (λ (x : ℕ). x * 2 ^ j) (pow-add 2 place down) in
     let b : 2 ^ up ≡ 2 ^ place * 2 ^ down * 2 ^ j = ap (λ (x : ℕ). 2 ^ x) (sym e) ∙ a in
     let d : s * (parts * 2 ^ up) ≡ s * (parts * (2 ^ place * 2 ^ down * 2 ^ j)) = ap (λ (x : ℕ). s * (parts * x)) b in
     let g : amount * 2 ^ down ≡ s * 2 ^ j * (2 ^ place * parts) * 2 ^ down = omega (arith, h') in
     let r : StandsFor (s * 2 ^ j) ExactlyZero amount (2 ^ place * parts) =
-        eq_of_mul-eq-mul_right (2 ^ down) (pow_pos down) amount (s * 2 ^ j * (2 ^ place * parts)) g in
+    eq_of_mul-eq-mul_right (2 ^ down) (pow_pos down) amount (s * 2 ^ j * (2 ^ place * parts)) g in
     subst (λ (x : Loss). StandsFor (s * 2 ^ j) x amount (2 ^ place * parts)) (sym z) r
 
 -- ---- what is kept has at most the format's digits, and all of them above the last place
@@ -123,7 +123,7 @@ full_shifted s digits j precision p h e =
     let k : 2 ^ (digits - 1) * 2 ^ j ≤ s * 2 ^ j = mul-le-mul_right (2 ^ j) a in
     let w : (digits - 1) + j ≡ precision - 1 = omega arith in
     let b : 2 ^ (digits - 1) * 2 ^ j ≡ 2 ^ (precision - 1) = sym (pow-add 2 (digits - 1) j) ∙
-        ap (λ (x : ℕ). 2 ^ x) w in
+    ap (λ (x : ℕ). 2 ^ x) w in
     omega arith
 
 pub enclosed_from : (precision q c : ℕ) (loss : Loss) (amount parts : ℕ) → 0 < precision → 0 < parts
@@ -150,7 +150,7 @@ cut_kept precision s q digits k place up down loss amount parts p u b f c r e w 
     let full : (place ≡ 0) ⊎ (2 ^ (precision - 1) ≤ q) =
     ⊎_elim (λ z. inl z)
     (λ z. inr (subst (λ (x : ℕ). 2 ^ (precision - 1) ≤ x) (sym w)
-        (full_cut s digits k precision p f (omega (arith, z))))) r in
+    (full_cut s digits k precision p f (omega (arith, z))))) r in
     (enclosed_from precision q place loss amount parts p u l full g, g)
 
 shift_kept_at : (precision s digits j place up down : ℕ) (loss : Loss) (amount parts : ℕ) → 0 < precision
@@ -162,7 +162,7 @@ shift_kept_at : (precision s digits j place up down : ℕ) (loss : Loss) (amount
     × StandsFor (s * 2 ^ j) loss amount (2 ^ place * parts)
 shift_kept_at precision s digits j place up down loss amount parts p u b f d c r e z h =
     let g : StandsFor (s * 2 ^ j) loss amount (2 ^ place * parts) =
-        shifted_stands s loss amount parts j up down place z e h in
+    shifted_stands s loss amount parts j up down place z e h in
     let l₀ : digits + j ≤ precision = omega arith in
     let l : s * 2 ^ j < 2 ^ precision = fits_shifted s digits j precision b l₀ in
     let full : (place ≡ 0) ⊎ (2 ^ (precision - 1) ≤ s * 2 ^ j) =
@@ -192,7 +192,7 @@ pub shift_kept : (precision s digits j place up down : ℕ) (loss : Loss) (amoun
     × StandsFor (s * 2 ^ j % 2 ^ 128) loss amount (2 ^ place * parts)
 shift_kept precision s digits j place up down loss amount parts p p' u b f n c r e z h =
     subst (λ (x : ℕ). IsEnclosed precision (2 ^ (precision - 1)) x place amount parts
-        × StandsFor x loss amount (2 ^ place * parts))
+    × StandsFor x loss amount (2 ^ place * parts))
     (shift_whole precision s digits j place up down p' b c e)
     (shift_kept_at precision s digits j place up down loss amount parts p u b f (some_digits s digits b n) c r e z h)
 
@@ -209,13 +209,13 @@ pub zero_kept : (precision s up down : ℕ) (loss : Loss) (amount parts : ℕ) �
     → IsEnclosed precision (2 ^ (precision - 1)) 0 0 amount parts × StandsFor 0 loss amount (2 ^ 0 * parts)
 zero_kept precision s up down loss amount parts p u z e h =
     let h' : StandsFor 0 ExactlyZero (amount * 2 ^ down) (parts * 2 ^ up) =
-        subst (λ (x : ℕ). StandsFor x ExactlyZero (amount * 2 ^ down) (parts * 2 ^ up)) z
-            (subst (λ (x : Loss). StandsFor s x (amount * 2 ^ down) (parts * 2 ^ up)) e h) in
+    subst (λ (x : ℕ). StandsFor x ExactlyZero (amount * 2 ^ down) (parts * 2 ^ up)) z
+    (subst (λ (x : Loss). StandsFor s x (amount * 2 ^ down) (parts * 2 ^ up)) e h) in
     let a : amount * 2 ^ down ≡ 0 * 2 ^ down = omega (arith, h') in
     let a' : amount ≡ 0 = eq_of_mul-eq-mul_right (2 ^ down) (pow_pos down) amount 0 a in
     let g : StandsFor 0 ExactlyZero amount (2 ^ 0 * parts) = omega (arith, a') in
     let g' : StandsFor 0 loss amount (2 ^ 0 * parts) =
-        subst (λ (x : Loss). StandsFor 0 x amount (2 ^ 0 * parts)) (sym e) g in
+    subst (λ (x : Loss). StandsFor 0 x amount (2 ^ 0 * parts)) (sym e) g in
     (enclosed_from precision 0 0 loss amount parts p u (pow_pos precision) (inl refl) g', g')
 
 -- nothing was lost, where the unit lies above the place that is kept
@@ -249,14 +249,14 @@ pub cut_full : (precision s q digits k place up down : ℕ) → 0 < precision �
 cut_full precision s q digits k place up down p f r e w =
     ⊎_elim (λ z. inl z)
     (λ z. inr (subst (λ (x : ℕ). 2 ^ (precision - 1) ≤ x) (sym w)
-        (full_cut s digits k precision p f (omega (arith, z))))) r
+    (full_cut s digits k precision p f (omega (arith, z))))) r
 
 pub shift_fits : (precision s digits j place up down : ℕ) → precision ≤ 125 → s < 2 ^ digits
     → digits + up ≤ place + precision + down → place + down + j ≡ up → s * 2 ^ j % 2 ^ 128 < 2 ^ precision
 shift_fits precision s digits j place up down p' b c e =
     let l₀ : digits + j ≤ precision = omega arith in
     subst (λ (x : ℕ). x < 2 ^ precision) (shift_whole precision s digits j place up down p' b c e)
-        (fits_shifted s digits j precision b l₀)
+    (fits_shifted s digits j precision b l₀)
 
 pub shift_full : (precision s digits j place up down : ℕ) → precision ≤ 125 → s < 2 ^ digits
     → (0 < digits → 2 ^ (digits - 1) ≤ s) → (s ≡ 0 → ⊥) → digits + up ≤ place + precision + down
@@ -265,7 +265,7 @@ pub shift_full : (precision s digits j place up down : ℕ) → precision ≤ 12
 shift_full precision s digits j place up down p' b f n c r e =
     ⊎_elim (λ y. inl y)
     (λ y. inr (subst (λ (x : ℕ). 2 ^ (precision - 1) ≤ x) (shift_whole precision s digits j place up down p' b c e)
-        (full_shifted s digits j precision (some_digits s digits b n) f (omega (arith, y))))) r
+    (full_shifted s digits j precision (some_digits s digits b n) f (omega (arith, y))))) r
 
 -- ---- all digits
 

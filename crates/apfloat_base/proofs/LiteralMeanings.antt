@@ -23,7 +23,7 @@ literal_meaning text b n =
     let rest = drop 2 body in
     ⊎_elim
     (λ (p : body ≡ codes "0x" ++ rest).
-        (refl, by_parts body rest refl (literal_from body (codes "0x") rest p (inl refl) n)))
+    (refl, by_parts body rest refl (literal_from body (codes "0x") rest p (inl refl) n)))
     (λ (p : body ≡ codes "0X" ++ rest).
-        (refl, by_parts body rest refl (literal_from body (codes "0X") rest p (inr refl) n)))
+    (refl, by_parts body rest refl (literal_from body (codes "0X") rest p (inr refl) n)))
     (begun_of body b)

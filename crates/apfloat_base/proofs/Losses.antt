@@ -92,9 +92,9 @@ cut_at s places half rest loss answer p hw rest_is f amount unit u h =
     let e : 2 * half ≡ 2 ^ places = omega arith in
     let d : s / 2 ^ places * 2 ^ places + s % 2 ^ places ≡ s = div-add-mod' s (2 ^ places) in
     let v : s / 2 ^ places * (2 * half) + rest ≡ s / 2 ^ places * 2 ^ places + s % 2 ^ places =
-        ap (λ (x : ℕ). s / 2 ^ places * x + rest) e ∙ ap (λ (x : ℕ). s / 2 ^ places * 2 ^ places + x) rest_is in
+    ap (λ (x : ℕ). s / 2 ^ places * x + rest) e ∙ ap (λ (x : ℕ). s / 2 ^ places * 2 ^ places + x) rest_is in
     let g : StandsFor (s / 2 ^ places * (2 * half) + rest) loss amount unit =
-        subst (λ (x : ℕ). StandsFor x loss amount unit) (sym (v ∙ d)) h in
+    subst (λ (x : ℕ). StandsFor x loss amount unit) (sym (v ∙ d)) h in
     subst (λ (x : ℕ). StandsFor (s / 2 ^ places) answer amount (x * unit)) e (f (s / 2 ^ places) amount unit u g)
 
 -- a cut of the whole length of 128 digits
@@ -107,7 +107,7 @@ cut_whole s places half loss answer p b hw f amount unit u h =
     let t : 2 * 2 ^ (places - 1) ≡ 2 ^ places = twice_half places l in
     let e : 2 * half ≡ 2 ^ places = omega arith in
     let g : StandsFor (0 * (2 * half) + s) loss amount unit =
-        subst (λ (x : ℕ). StandsFor x loss amount unit) (whole_rest s (2 * half)) h in
+    subst (λ (x : ℕ). StandsFor x loss amount unit) (whole_rest s (2 * half)) h in
     subst (λ (x : ℕ). StandsFor 0 answer amount (x * unit)) e (f 0 amount unit u g)
 
 -- a cut of more than the whole length
@@ -121,9 +121,9 @@ cut_all s places loss amount unit l b u n h =
     let s' : s < 2 ^ (places - 1) = omega arith in
     let z : s ≡ 0 * (2 * 2 ^ (places - 1)) + s = omega arith in
     let g : StandsFor (0 * (2 * 2 ^ (places - 1)) + s) loss amount unit =
-        subst (λ (x : ℕ). StandsFor x loss amount unit) z h in
+    subst (λ (x : ℕ). StandsFor x loss amount unit) z h in
     let r : StandsFor 0 LessThanHalf amount (2 * 2 ^ (places - 1) * unit) =
-        cut_less 0 (2 ^ (places - 1)) s loss amount unit u s' n g in
+    cut_less 0 (2 ^ (places - 1)) s loss amount unit u s' n g in
     subst (λ (x : ℕ). StandsFor 0 LessThanHalf amount (x * unit)) (twice_half places p) r
 
 pub zero_beyond : (s places : ℕ) → 128 < places → s < 2 ^ 128 → 0 ≡ s / 2 ^ places

@@ -91,7 +91,7 @@ or_nothing q = ap (λ (x : ℕ). bit_or x 0) (less_nothing q) ∙ or_zero_r q
 
 signaling_kinds : (k : NonfiniteBehavior) (e : Bool) (p q : ℕ) → 3 ≤ p → IsNanSignificand k e p q →
     IsNanSignificand k e p (let c = q - bit_and q (quiet_bit_of k p) in if eqb (bit_and c (payload_mask_of k p)) 0
-        then bit_or c (quiet_bit_of k p / 2) else c)
+    then bit_or c (quiet_bit_of k p / 2) else c)
 signaling_kinds IEEE754 false p q h (some, below) =
     let t = twice p h in
     let c = q - bit_and q (2 ^ (p - 2)) in
@@ -101,9 +101,12 @@ signaling_kinds IEEE754 false p q h (some, below) =
     let g = le_or_r c (2 ^ (p - 2) / 2) in
     if_case (IsNanSignificand IEEE754 false p) (eqb (bit_and c (2 ^ (p - 1) - 1)) 0)
     (λ _. (omega (arith, t, half, g), or_lt (p - 1) c (2 ^ (p - 2) / 2) l m))
-    (λ n. (pos_of_ne-zero {n = c}
-        (λ z. lit_apart (bit_and c (2 ^ (p - 1) - 1))
-            (ap (λ (x : ℕ). bit_and x (2 ^ (p - 1) - 1)) z ∙ and_zero_l (2 ^ (p - 1) - 1)) n), l))
+    (λ n. (
+      pos_of_ne-zero {n = c}
+          (λ z. lit_apart (bit_and c (2 ^ (p - 1) - 1))
+          (ap (λ (x : ℕ). bit_and x (2 ^ (p - 1) - 1)) z ∙ and_zero_l (2 ^ (p - 1) - 1)) n),
+      l,
+    ))
 signaling_kinds IEEE754 true p q h (below, other) =
     let t = twice p h in
     let c = q - bit_and q (2 ^ (p - 2)) in
@@ -111,22 +114,27 @@ signaling_kinds IEEE754 true p q h (below, other) =
     let half : 2 ^ (p - 2) / 2 ≡ 2 ^ (p - 3) = omega (arith, t) in
     let m : 2 ^ (p - 2) / 2 < 2 ^ p = omega (arith, t, half) in
     if_case (IsNanSignificand IEEE754 true p) (eqb (bit_and c (2 ^ (p - 1) - 1)) 0)
-    (λ _. (or_lt p c (2 ^ (p - 2) / 2) l m,
-        λ e. or_no_power c (p - 1) (p - 3) (λ x. omega arith) (ap (bit_or c) (sym half) ∙ e)))
-    (λ n. (l, λ e. lit_apart (bit_and c (2 ^ (p - 1) - 1))
-        (ap (λ (x : ℕ). bit_and x (2 ^ (p - 1) - 1)) e ∙ and_mask (2 ^ (p - 1)) (p - 1) ∙ mod_self (2 ^ (p - 1)))
-            n))
+    (λ _. (
+      or_lt p c (2 ^ (p - 2) / 2) l m,
+      λ e. or_no_power c (p - 1) (p - 3) (λ x. omega arith) (ap (bit_or c) (sym half) ∙ e),
+    ))
+    (λ n. (
+      l,
+      λ e. lit_apart (bit_and c (2 ^ (p - 1) - 1))
+          (ap (λ (x : ℕ). bit_and x (2 ^ (p - 1) - 1)) e ∙ and_mask (2 ^ (p - 1)) (p - 1) ∙ mod_self (2 ^ (p - 1)))
+          n,
+    ))
 signaling_kinds NanOnly e p q h m =
     if_case (IsNanSignificand NanOnly e p) (eqb (bit_and (q - bit_and q 0) 0) 0)
     (λ _. subst (λ (x : ℕ). IsNanSignificand NanOnly e p x) (sym (or_nothing q)) m)
-        (λ _. subst (λ (x : ℕ). IsNanSignificand NanOnly e p x) (sym (less_nothing q)) m)
+    (λ _. subst (λ (x : ℕ). IsNanSignificand NanOnly e p x) (sym (less_nothing q)) m)
 signaling_kinds NanNegativeZero e p q h m =
     if_case (IsNanSignificand NanNegativeZero e p) (eqb (bit_and (q - bit_and q 0) 0) 0)
     (λ _. subst (λ (x : ℕ). IsNanSignificand NanNegativeZero e p x) (sym (or_nothing q)) m)
-        (λ _. subst (λ (x : ℕ). IsNanSignificand NanNegativeZero e p x) (sym (less_nothing q)) m)
+    (λ _. subst (λ (x : ℕ). IsNanSignificand NanNegativeZero e p x) (sym (less_nothing q)) m)
 
 pub signaling_member : (f : Format) (payload : ℕ) → 3 ≤ f.precision
     → IsNanSignificand f.nonfinite f.explicit_integer_bit f.precision (signaling_significand f payload)
 signaling_member f payload h =
     signaling_kinds f.nonfinite f.explicit_integer_bit f.precision (quiet_significand f payload) h
-        (quiet_member f payload h)
+    (quiet_member f payload h)

@@ -54,9 +54,13 @@ next_down_infinite : (f : Format) (n : ℕ) (v : Datum) → 0 < n → n ≡ larg
     → IsNextDown f v (finite false n) 0
 next_down_infinite f n v p e w =
     subst (λ (z : Datum). IsNextDown f z (finite false n) 0) (sym w)
-    (record { up_of_negated = finite true n; is_next_up =
-        record { value_is = ap (λ (k : ℕ). finite true k) e; status_is = refl }; is =
-            sym (negated_number f.nonfinite true n p) })
+    (record {
+      up_of_negated = finite true n;
+      is_next_up =
+          record { value_is = ap (λ (k : ℕ). finite true k) e; status_is = refl };
+      is =
+          sym (negated_number f.nonfinite true n p);
+    })
 
 next_down_greater : (f : Format) (n next : ℕ) (v : Datum) → 0 < n → IsOnGrid f.precision n
     → IsAbove f.precision next (n + 1) 1 → v ≡ finite false next → IsNextDown f v (finite false n) 0
@@ -64,8 +68,12 @@ next_down_greater f n next v p g a w =
     let l = a.not_below in
     let q : 0 < next = omega (arith, l) in
     let less : IsNextLess f next (finite true n) 0 =
-        record { next = n; is_below = below_above f.precision n next g a; is =
-            record { value_is = sym (signed_some f.nonfinite true n p); status_is = refl } } in
+    record {
+      next = n;
+      is_below = below_above f.precision n next g a;
+      is =
+          record { value_is = sym (signed_some f.nonfinite true n p); status_is = refl };
+    } in
     let up : IsNextUp f (finite true next) (finite true n) 0 = rw (no_zero next q) less in
     subst (λ (z : Datum). IsNextDown f z (finite false n) 0) (sym w)
     (record {
@@ -85,7 +93,7 @@ next_down_zero : (f : Format) (n : ℕ) (v : Datum) → f.nonfinite ≡ IEEE754 
 next_down_zero f n v k e w =
     let p : 0 < n = omega (arith, e) in
     let up : IsNextUp f (finite false 0) (finite false n) 0 =
-        record { value_is = ap (λ (j : ℕ). finite false j) e; status_is = refl } in
+    record { value_is = ap (λ (j : ℕ). finite false j) e; status_is = refl } in
     subst (λ (z : Datum). IsNextDown f z (finite true n) 0) (sym w)
     (record {
       up_of_negated = finite false n;
@@ -99,8 +107,12 @@ next_down_less f n next v p q m g b w =
     let l = b.not_above in
     let z : eqb next (largest f) ≡ false = ne_eqb next (largest f) (λ e. omega (arith, e, l, m, p)) in
     let greater : IsNextGreater f next (finite false n) 0 =
-        record { next = n; is_above = above_below f.precision n next p g b; is =
-            record { value_is = refl; status_is = refl } } in
+    record {
+      next = n;
+      is_above = above_below f.precision n next p g b;
+      is =
+          record { value_is = refl; status_is = refl };
+    } in
     let number : IsNextOfNumber f false next (finite false n) 0 = rw z greater in
     let up : IsNextUp f (finite false next) (finite false n) 0 = rw (no_zero next q) number in
     subst (λ (z : Datum). IsNextDown f z (finite true n) 0) (sym w)
@@ -119,13 +131,13 @@ negative_back : (f : Format) (n : ℕ) (v : Datum) (st : ℕ) → f.nonfinite �
 negative_back f n v st k s p m u =
     ⊎_elim
     (λ (q : 0 < u.next). next_down_less f n u.next v p q m.within m.on_grid u.is_below
-        (u.is.value_is ∙ signed_some f.nonfinite true u.next q))
+    (u.is.value_is ∙ signed_some f.nonfinite true u.next q))
     (λ (q : u.next ≤ 0).
     let e : u.next ≡ 0 = omega (arith, q) in
     let o : n ≡ 1 =
     ⊎_elim (λ (h : 1 < n). let t : 1 ≤ u.next =
     u.is_below.greatest 1 (one_on_grid f.precision s) (omega (arith, h)) in absurd (omega (arith, t, q)))
-        (λ (h : n ≤ 1). omega (arith, h, p)) (cases_lt 1 n) in
+    (λ (h : n ≤ 1). omega (arith, h, p)) (cases_lt 1 n) in
     next_down_zero f n v k o (u.is.value_is ∙ ap (λ (j : ℕ). signed_quanta f.nonfinite true j) e))
     (cases_lt 0 u.next)
 

@@ -59,7 +59,7 @@ pub compared_laws : IsPartialOrder is_equal compared
 compared_laws = record {
   antisymm =
       λ x y. rw (by_rank x y, by_rank y x)
-          (turned (is_nan x) (is_nan y) (rank x y) (rank y x) (rank_total.antisymm x y));
+      (turned (is_nan x) (is_nan y) (rank x y) (rank y x) (rank_total.antisymm x y));
   trans = λ x y z p q.
       let a = less (is_nan x) (is_nan y) (rank x y) (rw (by_rank x y) at p) in
       let b = less (is_nan y) (is_nan z) (rank y z) (rw (by_rank y z) at q) in

@@ -63,9 +63,9 @@ inexact_pick precision mode negative half m c amount parts up i h e = record {
   is_above = above_is_next precision half m c amount parts i h;
   is =
       let e' : takes_above mode negative (amount - m * 2 ^ c * parts) ((m + 1) * 2 ^ c * parts - amount)
-          (eqb (m * 2 ^ c / ((m + 1) * 2 ^ c - m * 2 ^ c) % 2) 1) ≡ up =
+      (eqb (m * 2 ^ c / ((m + 1) * 2 ^ c - m * 2 ^ c) % 2) 1) ≡ up =
       ap (λ (b : Bool). takes_above mode negative (amount - m * 2 ^ c * parts) ((m + 1) * 2 ^ c * parts - amount) b)
-          (odd_is m c) ∙ e in
+      (odd_is m c) ∙ e in
       cond_times up (m + 1) m (2 ^ c) ∙ ap (λ (b : Bool). cond b ((m + 1) * 2 ^ c) (m * 2 ^ c)) (sym e');
 }
 
@@ -89,15 +89,15 @@ pick_is precision mode negative half m c amount parts ExactlyZero p i s =
 pick_is precision mode negative half m c amount parts LessThanHalf p i s =
     let a = s.0 in let b = s.1 in
     inexact_pick precision mode negative half m c amount parts (takes_above mode negative 1 2 (eqb (m % 2) 1)) i
-        (omega (arith, a)) (takes_less mode negative (eqb (m % 2) 1) _ _ (omega (arith, a, b)))
+    (omega (arith, a)) (takes_less mode negative (eqb (m % 2) 1) _ _ (omega (arith, a, b)))
 pick_is precision mode negative half m c amount parts ExactlyHalf p i s =
     inexact_pick precision mode negative half m c amount parts (takes_above mode negative 1 1 (eqb (m % 2) 1)) i
-        (let u : 0 < 2 ^ c * parts = mul-pos (pow_pos c) p in omega (arith, s))
-            (takes_half mode negative (eqb (m % 2) 1) _ _ (omega (arith, s)))
+    (let u : 0 < 2 ^ c * parts = mul-pos (pow_pos c) p in omega (arith, s))
+    (takes_half mode negative (eqb (m % 2) 1) _ _ (omega (arith, s)))
 pick_is precision mode negative half m c amount parts MoreThanHalf p i s =
     let a = s.0 in let b = s.1 in
     inexact_pick precision mode negative half m c amount parts (takes_above mode negative 2 1 (eqb (m % 2) 1)) i
-        (omega (arith, a)) (takes_more mode negative (eqb (m % 2) 1) _ _ (omega (arith, a, b)))
+    (omega (arith, a)) (takes_more mode negative (eqb (m % 2) 1) _ _ (omega (arith, a, b)))
 
 pub pick_unique : (precision : ℕ) (mode : Round) (negative : Bool) (amount parts p q : ℕ)
     → IsPick precision mode negative amount parts p → IsPick precision mode negative amount parts q → p ≡ q
@@ -105,4 +105,4 @@ pick_unique precision mode negative amount parts p q x y =
     let b : x.below ≡ y.below = below_unique precision x.below y.below amount parts x.is_below y.is_below in
     let a : x.above ≡ y.above = above_unique precision x.above y.above amount parts x.is_above y.is_above in
     x.is ∙ ap (λ (z : ℕ). pick_between mode negative z x.above amount parts) b ∙
-        ap (λ (z : ℕ). pick_between mode negative y.below z amount parts) a ∙ sym y.is
+    ap (λ (z : ℕ). pick_between mode negative y.below z amount parts) a ∙ sym y.is

@@ -31,11 +31,11 @@ pub pick_stays : (precision : ℕ) (mode : Round) (negative : Bool) (half m c am
     → StandsFor m loss amount (2 ^ c * parts) → IsPick precision mode negative amount parts (s * 2 ^ c)
 pick_stays precision mode negative half m c amount parts loss s e p i h =
     subst (λ (x : ℕ). IsPick precision mode negative amount parts (x * 2 ^ c)) (sym e)
-        (pick_is precision mode negative half m c amount parts loss p i h)
+    (pick_is precision mode negative half m c amount parts loss p i h)
 
 pub pick_carries : (precision : ℕ) (mode : Round) (negative : Bool) (m c amount parts : ℕ) (loss : Loss)
     (s whole half : ℕ) → 0 < precision → s ≡ kept mode negative loss m → s ≡ whole → whole ≡ 2 ^ precision
-        → half ≡ 2 ^ (precision - 1) → 0 < parts
+    → half ≡ 2 ^ (precision - 1) → 0 < parts
     → IsEnclosed precision (2 ^ (precision - 1)) m c amount parts → StandsFor m loss amount (2 ^ c * parts)
     → IsPick precision mode negative amount parts (half * 2 ^ (c + 1))
 pick_carries precision mode negative m c amount parts loss s whole half l e w v k p i h =
@@ -43,7 +43,7 @@ pick_carries precision mode negative m c amount parts loss s whole half l e w v 
     let d : s ≡ 2 * half = omega arith in
     let g : s * 2 ^ c ≡ half * 2 ^ (c + 1) = ap (λ (x : ℕ). x * 2 ^ c) d ∙ carried half c in
     subst (λ (x : ℕ). IsPick precision mode negative amount parts x) g
-        (pick_stays precision mode negative (2 ^ (precision - 1)) m c amount parts loss s e p i h)
+    (pick_stays precision mode negative (2 ^ (precision - 1)) m c amount parts loss s e p i h)
 
 -- ---- past the largest
 
@@ -77,11 +77,11 @@ past_other precision s place greatest span p h f g k n =
     let h' : s ≤ 2 * 2 ^ (precision - 1) = omega arith in
     ⊎_elim
     (λ (l : span < place). lt-ltb span place l ∙
-        sym (lt-ltb (greatest * 2 ^ span) (s * 2 ^ place)
-            (past_above (2 ^ (precision - 1)) s place greatest span g' f l)))
+    sym (lt-ltb (greatest * 2 ^ span) (s * 2 ^ place)
+    (past_above (2 ^ (precision - 1)) s place greatest span g' f l)))
     (λ (l : place ≤ span).
     let l' : place < span = omega arith in
     le-ltb span place l ∙
-        sym (le-ltb (greatest * 2 ^ span) (s * 2 ^ place)
-            (fine_point_at (2 ^ (precision - 1)) greatest place span s l' h' k)))
+    sym (le-ltb (greatest * 2 ^ span) (s * 2 ^ place)
+    (fine_point_at (2 ^ (precision - 1)) greatest place span s l' h' k)))
     (cases_lt span place)

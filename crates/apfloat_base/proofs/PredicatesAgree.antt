@@ -134,13 +134,13 @@ pub minimum_agrees : (x y : Datum) → minimum_by category_of is_negative compar
 minimum_agrees x y =
     rw (nan_agrees x, nan_agrees y, zero_agrees x, zero_agrees y) (no_nan (is_nan x) (is_nan y) x y _ _ (λ n m.
     rw (n, m) (chosen (is_zero x) (is_zero y) (same_sign (is_negative x) (is_negative y)) _ _
-        (λ e f s. lesser_zero x y (partial_lt compared y x) e f s))))
+    (λ e f s. lesser_zero x y (partial_lt compared y x) e f s))))
 
 pub maximum_agrees : (x y : Datum) → maximum_by category_of is_negative compared x y ≡ maximum x y
 maximum_agrees x y =
     rw (nan_agrees x, nan_agrees y, zero_agrees x, zero_agrees y) (no_nan (is_nan x) (is_nan y) x y _ _ (λ n m.
     rw (n, m) (chosen (is_zero x) (is_zero y) (same_sign (is_negative x) (is_negative y)) _ _
-        (λ e f s. greater_zero x y (partial_lt compared x y) e f s))))
+    (λ e f s. greater_zero x y (partial_lt compared x y) e f s))))
 
 -- a named magnitude that is not zero, with the sign of the value
 

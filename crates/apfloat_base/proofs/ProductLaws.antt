@@ -27,12 +27,12 @@ opposite_numbers : (f : Format) (mode : Round) (b c : Bool) (m n : ℕ) (value :
 opposite_numbers f mode b c zero n value status l h x y = absurd (false≢true x)
 opposite_numbers f mode b c (suc m) n value status l h x y =
     let d : IsDelivered f (swapped mode) (product_sign (not b) c) (suc m * n) (2 ^ f.scale)
-        (negated f.nonfinite value) status =
+    (negated f.nonfinite value) status =
     subst (λ (sign : Bool). IsDelivered f (swapped mode) sign (suc m * n) (2 ^ f.scale) (negated f.nonfinite value)
-        status) (other_sign b c)
+    status) (other_sign b c)
     (delivered_swapped f mode (product_sign b c) (suc m * n) (2 ^ f.scale) value status l h) in
     subst (λ (left : Datum). IsProduct f (swapped mode) left (finite c n) (negated f.nonfinite value) status)
-        (sym (negated_some f.nonfinite b m)) d
+    (sym (negated_some f.nonfinite b m)) d
 
 pub opposite_product : (f : Format) (mode : Round) (x y value : Datum) (status : ℕ) → 0 < largest f
     → IsProduct f mode x y value status → IsOpposite f mode x y value status

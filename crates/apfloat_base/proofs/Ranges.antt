@@ -25,13 +25,13 @@ below_top f m k precise a b =
     let l = greatest_low f.nonfinite f.precision in
     let t : m ≤ 2 * greatest_significand f.nonfinite f.precision = omega (arith, l, p) in
     let x : m * 2 ^ k ≤ 2 * greatest_significand f.nonfinite f.precision * 2 ^ k =
-        mul-le m (2 ^ k) (2 * greatest_significand f.nonfinite f.precision) (2 ^ k) t (omega arith) in
+    mul-le m (2 ^ k) (2 * greatest_significand f.nonfinite f.precision) (2 ^ k) t (omega arith) in
     let y : greatest_significand f.nonfinite f.precision * 2 ^ (k + 1) ≤ largest f =
-        mul-le g (2 ^ (k + 1)) g (2 ^ f.span) (omega arith) (pow-le-pow_right two_pos (omega arith)) in
+    mul-le g (2 ^ (k + 1)) g (2 ^ f.span) (omega arith) (pow-le-pow_right two_pos (omega arith)) in
     let z : 2 ^ (k + 1) ≡ 2 ^ k * 2 = pow-add 2 k 1 in
     let w : greatest_significand f.nonfinite f.precision * 2 ^ (k + 1)
-        ≡ greatest_significand f.nonfinite f.precision * (2 ^ k * 2) =
-            ap (λ (v : ℕ). greatest_significand f.nonfinite f.precision * v) z in
+    ≡ greatest_significand f.nonfinite f.precision * (2 ^ k * 2) =
+    ap (λ (v : ℕ). greatest_significand f.nonfinite f.precision * v) z in
     omega arith
 
 -- a significand without its integer bit, at the quantum

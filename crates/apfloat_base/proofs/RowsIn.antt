@@ -81,7 +81,7 @@ encloses precision m c amount parts =
 abbrev pub picked : Round → Bool → ℕ → ℕ → ℕ → ℕ → ℕ
 picked mode negative m c amount parts =
     if eqb amount (m * 2 ^ c * parts) then m * 2 ^ c
-        else pick_between mode negative (m * 2 ^ c) ((m + 1) * 2 ^ c) amount parts
+    else pick_between mode negative (m * 2 ^ c) ((m + 1) * 2 ^ c) amount parts
 
 module _ (precision : ℕ) (mode : Round) (negative : Bool) (m c amount parts : ℕ)
     (i : IsEnclosed precision (2 ^ (precision - 1)) m c amount parts) (p : 0 < parts) where

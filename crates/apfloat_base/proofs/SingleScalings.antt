@@ -16,7 +16,7 @@ pub scaled_stands : (s a di ui uj dj u d : ℕ) → a * 2 ^ di ≡ s * 2 ^ ui �
     → a * 2 ^ uj * 2 ^ d ≡ s * (2 ^ dj * 2 ^ u)
 scaled_stands s a di ui uj dj u d h e =
     let p : 2 ^ ui * 2 ^ uj * 2 ^ d ≡ 2 ^ di * 2 ^ dj * 2 ^ u = sym (pow3 ui uj d) ∙ ap (λ (x : ℕ). 2 ^ x) e ∙
-        pow3 di dj u in
+    pow3 di dj u in
     let l₁ : a * 2 ^ uj * 2 ^ d * 2 ^ di ≡ a * 2 ^ di * (2 ^ uj * 2 ^ d) = omega arith in
     let l₂ : a * 2 ^ di * (2 ^ uj * 2 ^ d) ≡ s * 2 ^ ui * (2 ^ uj * 2 ^ d) = ap (λ (x : ℕ). x * (2 ^ uj * 2 ^ d)) h in
     let l₃ : s * 2 ^ ui * (2 ^ uj * 2 ^ d) ≡ s * (2 ^ ui * 2 ^ uj * 2 ^ d) = omega arith in
@@ -37,7 +37,7 @@ pub scaled_is : (digits scale : ℕ) (min_exp x j r : ℤ) (s a : ℕ) → pos s
     → a * 2 ^ up j * 2 ^ down (r +ℤ pos scale) ≡ s * (2 ^ down j * 2 ^ up (r +ℤ pos scale))
 scaled_is digits scale min_exp x j r s a k e h =
     scaled_stands s a (down (x -ℤ min_exp)) (up (x -ℤ min_exp)) (up j) (down j) (up (r +ℤ pos scale))
-        (down (r +ℤ pos scale)) h (balanced_scaling digits scale min_exp x j r k e)
+    (down (r +ℤ pos scale)) h (balanced_scaling digits scale min_exp x j r k e)
 
 -- ---- from one format into another
 
@@ -52,7 +52,7 @@ pub converted_is : (digits scale digits' scale' : ℕ) (min min' x r : ℤ) (s a
     → a * 2 ^ scale' * 2 ^ down (r +ℤ pos scale') ≡ s * (2 ^ scale * 2 ^ up (r +ℤ pos scale'))
 converted_is digits scale digits' scale' min min' x r s a k k' e h =
     scaled_stands s a (down (x -ℤ min)) (up (x -ℤ min)) scale' scale (up (r +ℤ pos scale')) (down (r +ℤ pos scale'))
-        h (balanced_conversion digits scale digits' scale' min min' x r k k' e)
+    h (balanced_conversion digits scale digits' scale' min min' x r k k' e)
 
 -- ---- amounts that the clamp changes
 
@@ -68,9 +68,9 @@ pub quanta_below : (precision : ℕ) (min_exp x : ℤ) (s a : ℕ) → s < 2 ^ p
     → a * 2 ^ down (x -ℤ min_exp) ≡ s * 2 ^ up (x -ℤ min_exp) → a < 2 ^ (precision + up (x -ℤ min_exp))
 quanta_below precision min_exp x s a f h =
     let e : 2 ^ (precision + up (x -ℤ min_exp)) ≡ 2 ^ precision * 2 ^ up (x -ℤ min_exp) =
-        pow-add 2 precision (up (x -ℤ min_exp)) in
+    pow-add 2 precision (up (x -ℤ min_exp)) in
     let b : s * 2 ^ up (x -ℤ min_exp) < 2 ^ precision * 2 ^ up (x -ℤ min_exp) =
-        mul-lt-mul_of_pos_right f (pow_pos (up (x -ℤ min_exp))) in
+    mul-lt-mul_of_pos_right f (pow_pos (up (x -ℤ min_exp))) in
     let w : 1 ≤ 2 ^ down (x -ℤ min_exp) = pow_pos (down (x -ℤ min_exp)) in
     let c : a * 1 ≤ a * 2 ^ down (x -ℤ min_exp) = mul-le-mul_left a w in
     omega (arith, e, b, c, h)
@@ -130,14 +130,14 @@ clamp_kept f mode negative a k bound j near v s p h b l m c d =
     let u = up_far near bound l₀ in
     let w = up_far j bound e.1 in
     far_above f mode negative (a * 2 ^ up near) (2 ^ down near) (a * 2 ^ up j) (2 ^ down j) v s p
-        (far_up f a bound (up near) (down near) h l u.0 u.1) (far_up f a bound (up j) (down j) h l w.0 w.1) d)
+    (far_up f a bound (up near) (down near) h l u.0 u.1) (far_up f a bound (up j) (down j) h l w.0 w.1) d)
     (λ (e : (near ≡ neg_ℤ (pos bound)) × (j ≤ℤ neg_ℤ (pos bound))).
     let e₀ = e.0 in
     let l₀ : near ≤ℤ neg_ℤ (pos bound) = omega (arith, ints, e₀) in
     let u = down_far near bound l₀ in
     let w = down_far j bound e.1 in
     far_below f mode negative (a * 2 ^ up near) (2 ^ down near) (a * 2 ^ up j) (2 ^ down j) v s p
-        (far_down a k bound (up near) (down near) h b m u.0 u.1) (far_down a k bound (up j) (down j) h b m w.0 w.1)
-            d)
+    (far_down a k bound (up near) (down near) h b m u.0 u.1) (far_down a k bound (up j) (down j) h b m w.0 w.1)
+    d)
     r)
     c.is

@@ -50,11 +50,11 @@ close_low : (precision s p t j d : ℕ) → s < 2 ^ precision → p ≤ j
 close_low precision s p t j d h l (inl e) q =
     let r : t * 2 ^ j ≡ t * 2 ^ (j - p) * 2 ^ p = raised_place t p j l in
     close_at precision d s p (t * 2 ^ (j - p) - s) h
-        (left_over (t * 2 ^ (j - p)) s (2 ^ p) d (pow_pos p) (sym r ∙ e)) q
+    (left_over (t * 2 ^ (j - p)) s (2 ^ p) d (pow_pos p) (sym r ∙ e)) q
 close_low precision s p t j d h l (inr e) q =
     let r : t * 2 ^ j ≡ t * 2 ^ (j - p) * 2 ^ p = raised_place t p j l in
     close_at precision d s p (s - t * 2 ^ (j - p)) h
-        (left_over s (t * 2 ^ (j - p)) (2 ^ p) d (pow_pos p) (e ∙ ap (λ (x : ℕ). x + d) r)) q
+    (left_over s (t * 2 ^ (j - p)) (2 ^ p) d (pow_pos p) (e ∙ ap (λ (x : ℕ). x + d) r)) q
 
 swap_sides : (A B : Type 0) → A ⊎ B → B ⊎ A
 swap_sides A B (inl a) = inr a
@@ -64,17 +64,17 @@ pub close_on_grid : (precision m n d : ℕ) → IsOnGrid precision m → IsOnGri
     → m ≤ 2 * n → n ≤ 2 * m → IsOnGrid precision d
 close_on_grid precision m n d x y e a b =
     let e' : (x.significand * 2 ^ x.place ≡ y.significand * 2 ^ y.place + d)
-        ⊎ (y.significand * 2 ^ y.place ≡ x.significand * 2 ^ x.place + d) =
+    ⊎ (y.significand * 2 ^ y.place ≡ x.significand * 2 ^ x.place + d) =
     subst (λ (z : ℕ). (x.significand * 2 ^ x.place ≡ z + d) ⊎ (z ≡ x.significand * 2 ^ x.place + d)) y.is
-        (subst (λ (z : ℕ). (z ≡ n + d) ⊎ (n ≡ z + d)) x.is e) in
+    (subst (λ (z : ℕ). (z ≡ n + d) ⊎ (n ≡ z + d)) x.is e) in
     let f : (d ≤ m) × (d ≤ n) =
-        ⊎_elim (λ (z : m ≡ n + d). (omega arith, omega arith)) (λ (z : n ≡ m + d). (omega arith, omega arith)) e in
+    ⊎_elim (λ (z : m ≡ n + d). (omega arith, omega arith)) (λ (z : n ≡ m + d). (omega arith, omega arith)) e in
     let f₀ = f.0 in let f₁ = f.1 in
     let dx : d ≤ x.significand * 2 ^ x.place = subst (λ (z : ℕ). d ≤ z) x.is f₀ in
     let dy : d ≤ y.significand * 2 ^ y.place = subst (λ (z : ℕ). d ≤ z) y.is f₁ in
     ⊎_elim
     (λ (l : x.place < y.place). let l' : x.place ≤ y.place = omega arith in
-        close_low precision x.significand x.place y.significand y.place d x.fits l' (swap_sides _ _ e') dx)
+    close_low precision x.significand x.place y.significand y.place d x.fits l' (swap_sides _ _ e') dx)
     (λ (l : y.place ≤ x.place). close_low precision y.significand y.place x.significand x.place d y.fits l e' dy)
     (cases_lt x.place y.place)
 
@@ -93,16 +93,34 @@ far_below m n d top (inr e) a b = omega arith
 exactly : (kind : NonfiniteBehavior) (of_zero : Bool) (z : ℤ) (v : Datum) (s : ℕ)
     → v ≡ signed_quanta kind (sign_of of_zero z) (magnitude z) → s ≡ ok_bits → IsExactly z v s
 exactly kind of_zero (pos zero) v s h e =
-    record { negative = zero_sign kind of_zero; quanta = 0; value_is = h; number_is =
-        no_sign (zero_sign kind of_zero); status_is = e }
+    record {
+      negative = zero_sign kind of_zero;
+      quanta = 0;
+      value_is = h;
+      number_is =
+          no_sign (zero_sign kind of_zero);
+      status_is = e;
+    }
 exactly kind of_zero (pos (suc n)) v s h e =
-    record { negative = false; quanta = suc n; value_is = h ∙
-        ap (λ (x : ℕ). signed_quanta kind false x) (magnitude_signed false (suc n)) ∙
-            signed_some kind false (suc n) (omega arith); number_is = refl; status_is = e }
+    record {
+      negative = false;
+      quanta = suc n;
+      value_is = h ∙
+          ap (λ (x : ℕ). signed_quanta kind false x) (magnitude_signed false (suc n)) ∙
+          signed_some kind false (suc n) (omega arith);
+      number_is = refl;
+      status_is = e;
+    }
 exactly kind of_zero (negsuc n) v s h e =
-    record { negative = true; quanta = suc n; value_is = h ∙
-        ap (λ (x : ℕ). signed_quanta kind true x) (magnitude_signed true (suc n)) ∙
-            signed_some kind true (suc n) (omega arith); number_is = refl; status_is = e }
+    record {
+      negative = true;
+      quanta = suc n;
+      value_is = h ∙
+          ap (λ (x : ℕ). signed_quanta kind true x) (magnitude_signed true (suc n)) ∙
+          signed_some kind true (suc n) (omega arith);
+      number_is = refl;
+      status_is = e;
+    }
 
 pub nearby_numbers : (f : Format) (mode : Round) (of_zero : Bool) (m n : ℕ) (v : Datum) (s : ℕ)
     → IsFiniteOf f false m → IsFiniteOf f false n → m ≤ 2 * n → n ≤ 2 * m
@@ -112,9 +130,9 @@ nearby_numbers f mode of_zero m n v s x y a b h =
     let e = far_apart m n in
     let g : IsOnGrid f.precision d = close_on_grid f.precision m n d x.on_grid y.on_grid e a b in
     let r = delivered_once f mode (sign_of of_zero (pos m -ℤ pos n)) d 1 v
-        (signed_quanta f.nonfinite (sign_of of_zero (pos m -ℤ pos n)) d) s ok_bits h
+    (signed_quanta f.nonfinite (sign_of of_zero (pos m -ℤ pos n)) d) s ok_bits h
     (exact_delivered f mode (sign_of of_zero (pos m -ℤ pos n)) d d 1 (omega arith) g
-        (far_below m n d (largest f) e x.within y.within) (omega arith)) in
+    (far_below m n d (largest f) e x.within y.within) (omega arith)) in
     exactly f.nonfinite of_zero (pos m -ℤ pos n) v s r.0 r.1
 
 minus_is : (m n : ℕ) → (signed false m +ℤ signed true n) ≡ (pos m -ℤ pos n)
@@ -145,8 +163,8 @@ value_is : (f : Format) (mode : Round) (negative : Bool) (p : ℕ) → f.nonfini
     → delivered_value f mode negative p ≡ at (ltb (largest f) p) (leads_out mode negative) negative (largest f) p
 value_is f mode negative p e =
     ap (λ (k : NonfiniteBehavior). cond (ltb (largest f) p)
-        (cond (leads_out mode negative) (past_largest k (nan_base f) negative) (finite negative (largest f)))
-            (signed_quanta k negative p)) e
+    (cond (leads_out mode negative) (past_largest k (nan_base f) negative) (finite negative (largest f)))
+    (signed_quanta k negative p)) e
     ∙ ap (λ (v : Datum). cond (ltb (largest f) p)
     (cond (leads_out mode negative) (infinite negative) (finite negative (largest f))) v) (signed_is negative p)
 
@@ -217,7 +235,7 @@ zero_is : (f : Format) (mode : Round) (s : Bool) (v : Datum) (i : ℕ) → f.non
     → IsDelivered f mode s 0 1 v i → v ≡ finite s 0
 zero_is f mode s v i e d =
     let x = delivered_once f mode s 0 1 v (signed_quanta f.nonfinite s 0) i ok_bits d
-        (zero_delivered f mode s 1 0 (omega arith) refl) in
+    (zero_delivered f mode s 1 0 (omega arith) refl) in
     x.0 ∙ ap (λ (k : NonfiniteBehavior). signed_quanta k s 0) e
 
 grows_at : (f : Format) (mode : Round) (s t : Bool) (x y : ℕ) (v w : Datum) (i j : ℕ) → f.nonfinite ≡ IEEE754
@@ -225,23 +243,23 @@ grows_at : (f : Format) (mode : Round) (s t : Bool) (x y : ℕ) (v w : Datum) (i
 grows_at f mode s t x y v w i j e (both_up a b l) d g =
     let k : d.pick ≤ g.pick = pick_grows f.precision mode false a b 1 d.pick g.pick (lit< tt) l d.is_pick g.is_pick in
     let h = up_grows (ltb (largest f) d.pick) (ltb (largest f) g.pick) (leads_out mode false) (largest f) d.pick
-        g.pick refl refl k in
+    g.pick refl refl k in
     subst (λ (z : Datum). AtMost z w) (sym (d.value_is ∙ value_is f mode false d.pick e))
-        (subst (λ (z : Datum). AtMost (at (ltb (largest f) d.pick) (leads_out mode false) false (largest f) d.pick)
-            z) (sym (g.value_is ∙ value_is f mode false g.pick e)) h)
+    (subst (λ (z : Datum). AtMost (at (ltb (largest f) d.pick) (leads_out mode false) false (largest f) d.pick)
+    z) (sym (g.value_is ∙ value_is f mode false g.pick e)) h)
 grows_at f mode s t x y v w i j e (both_down a b l) d g =
     let k : g.pick ≤ d.pick = pick_grows f.precision mode true b a 1 g.pick d.pick (lit< tt) l g.is_pick d.is_pick in
     let h = down_grows (ltb (largest f) d.pick) (ltb (largest f) g.pick) (leads_out mode true) (largest f) d.pick
-        g.pick refl refl k in
+    g.pick refl refl k in
     subst (λ (z : Datum). AtMost z w) (sym (d.value_is ∙ value_is f mode true d.pick e))
-        (subst (λ (z : Datum). AtMost (at (ltb (largest f) d.pick) (leads_out mode true) true (largest f) d.pick) z)
-            (sym (g.value_is ∙ value_is f mode true g.pick e)) h)
+    (subst (λ (z : Datum). AtMost (at (ltb (largest f) d.pick) (leads_out mode true) true (largest f) d.pick) z)
+    (sym (g.value_is ∙ value_is f mode true g.pick e)) h)
 grows_at f mode s t x y v w i j e (apart a b) d g =
     let h = across (ltb (largest f) d.pick) (ltb (largest f) g.pick) (leads_out mode true) (leads_out mode false)
-        (largest f) d.pick g.pick in
+    (largest f) d.pick g.pick in
     subst (λ (z : Datum). AtMost z w) (sym (d.value_is ∙ value_is f mode true d.pick e))
-        (subst (λ (z : Datum). AtMost (at (ltb (largest f) d.pick) (leads_out mode true) true (largest f) d.pick) z)
-            (sym (g.value_is ∙ value_is f mode false g.pick e)) h)
+    (subst (λ (z : Datum). AtMost (at (ltb (largest f) d.pick) (leads_out mode true) true (largest f) d.pick) z)
+    (sym (g.value_is ∙ value_is f mode false g.pick e)) h)
 grows_at f mode s t x y v w i j e (zeros b c) d g =
     let p = zero_is f mode b v i e d in
     let q = zero_is f mode c w j e g in
@@ -252,7 +270,7 @@ pub sum_grows : (f : Format) (mode : Round) (of_zero of_other : Bool) (a b : ℤ
     → AtMost v w
 sum_grows f mode of_zero of_other a b v w i j e l d g =
     grows_at f mode (sign_of of_zero a) (sign_of of_other b) (magnitude a) (magnitude b) v w i j e
-        (ordered of_zero of_other a b l) d g
+    (ordered of_zero of_other a b l) d g
 
 more_together : (a b z : ℤ) → a ≤ℤ b → (a +ℤ z) ≤ℤ (b +ℤ z)
 more_together a b z l = omega (arith, ints)
@@ -263,7 +281,7 @@ grows_to : (f : Format) (mode : Round) (b d : Bool) (m n : ℕ) (v : Datum) (s :
     → IsSum f mode y (finite d n) greater status → AtMost v greater
 grows_to f mode b d m n v s h e (finite c k) w i p l g =
     sum_grows f mode (zero_sum_sign mode b d) (zero_sum_sign mode c d) (signed b m +ℤ signed d n)
-        (signed c k +ℤ signed d n) v w s i e (more_together (signed b m) (signed c k) (signed d n) l) h g
+    (signed c k +ℤ signed d n) v w s i e (more_together (signed b m) (signed c k) (signed d n) l) h g
 grows_to f mode b d m n v s h e (infinite c) w i p l g = absurd (false≢true p)
 grows_to f mode b d m n v s h e (nan c t) w i p l g = absurd (false≢true p)
 

@@ -128,14 +128,14 @@ apart_stands base eh el er s t flipped mh ml gap q loss l e d n i =
     let r₁ : 2 ^ up (eh -ℤ base) ≡ 2 ^ gap * 2 ^ up (el -ℤ base) = r.1 in
     let v = raised base el er (gap - 1) l d in
     let k : mh * 2 ^ gap * 2 ^ up (el -ℤ base) ≡ mh * 2 ^ up (eh -ℤ base) =
-        let k : mh * 2 ^ up (eh -ℤ base) ≡ mh * (2 ^ gap * 2 ^ up (el -ℤ base)) = ap (λ (x : ℕ). mh * x) r₁ in
-        omega arith in
+    let k : mh * 2 ^ up (eh -ℤ base) ≡ mh * (2 ^ gap * 2 ^ up (el -ℤ base)) = ap (λ (x : ℕ). mh * x) r₁ in
+    omega arith in
     let b : Balances flipped (i.amount * 2 ^ up (el -ℤ base)) (mh * 2 ^ gap * 2 ^ up (el -ℤ base))
-        (ml * 2 ^ up (el -ℤ base)) =
-            balances_times flipped i.amount (mh * 2 ^ gap) ml (2 ^ up (el -ℤ base)) i.balances in
+    (ml * 2 ^ up (el -ℤ base)) =
+    balances_times flipped i.amount (mh * 2 ^ gap) ml (2 ^ up (el -ℤ base)) i.balances in
     let b' : Balances flipped (i.amount * 2 ^ up (el -ℤ base)) (mh * 2 ^ up (eh -ℤ base))
-        (ml * 2 ^ up (el -ℤ base)) =
-            subst (λ (x : ℕ). Balances flipped (i.amount * 2 ^ up (el -ℤ base)) x (ml * 2 ^ up (el -ℤ base))) k b in
+    (ml * 2 ^ up (el -ℤ base)) =
+    subst (λ (x : ℕ). Balances flipped (i.amount * 2 ^ up (el -ℤ base)) x (ml * 2 ^ up (el -ℤ base))) k b in
     record {
       above = v.0;
       amount = i.amount * 2 ^ up (el -ℤ base);
@@ -163,7 +163,7 @@ pub level_difference : (flipped : Bool) (n high low gap : ℕ) (loss : Loss) →
     → Balances flipped n high low → IsApart (high * 2 ^ gap) low flipped n loss (2 ^ (gap - 1))
 level_difference flipped n high low gap loss z e h =
     subst (λ (g : ℕ). IsApart (high * 2 ^ g) low flipped n loss (2 ^ (g - 1))) (sym z)
-        (exact_difference flipped n (high * 1) low 1 loss e (balances_one flipped n high low h))
+    (exact_difference flipped n (high * 1) low 1 loss e (balances_one flipped n high low h))
 
 doubled : (high gap : ℕ) → 0 < gap → high * 2 * 2 ^ (gap - 1) ≡ high * 2 ^ gap
 doubled high gap p =
@@ -186,11 +186,11 @@ pub even_difference : (flipped : Bool) (n q high low gap : ℕ) (lost loss : Los
 even_difference flipped n q high low gap lost loss p z e h b =
     let h' : low ≡ q * 2 ^ (gap - 1) = subst (λ (x : Loss). StandsFor q x low (2 ^ (gap - 1))) z h in
     let b' : Balances flipped (n * 2 ^ (gap - 1)) (high * 2 * 2 ^ (gap - 1)) (q * 2 ^ (gap - 1)) =
-        balances_times flipped n (high * 2) q (2 ^ (gap - 1)) b in
+    balances_times flipped n (high * 2) q (2 ^ (gap - 1)) b in
     let b₁ : Balances flipped (n * 2 ^ (gap - 1)) (high * 2 ^ gap) (q * 2 ^ (gap - 1)) =
-        subst (λ (x : ℕ). Balances flipped (n * 2 ^ (gap - 1)) x (q * 2 ^ (gap - 1))) (doubled high gap p) b' in
+    subst (λ (x : ℕ). Balances flipped (n * 2 ^ (gap - 1)) x (q * 2 ^ (gap - 1))) (doubled high gap p) b' in
     exact_difference flipped n (high * 2 ^ gap) low (2 ^ (gap - 1)) loss e
-        (subst (λ (x : ℕ). Balances flipped (n * 2 ^ (gap - 1)) (high * 2 ^ gap) x) (sym h') b₁)
+    (subst (λ (x : ℕ). Balances flipped (n * 2 ^ (gap - 1)) (high * 2 ^ gap) x) (sym h') b₁)
 
 pub borrowed_difference : (q high low gap : ℕ) (lost loss : Loss) → 0 < gap → (lost ≡ ExactlyZero → ⊥)
     → q < high * 2 → StandsFor q lost low (2 ^ (gap - 1))
@@ -205,7 +205,7 @@ borrowed_difference q high low gap lost loss p n l h f =
     let d : high * 2 * 2 ^ (gap - 1) ≡ high * 2 ^ gap = doubled high gap p in
     let w : q + (high * 2 - q - 1) + 1 ≡ high * 2 = omega arith in
     let w' : (q + (high * 2 - q - 1) + 1) * 2 ^ (gap - 1) ≡ high * 2 ^ gap = ap (λ (x : ℕ). x * 2 ^ (gap - 1)) w ∙
-        d in
+    d in
     let g : low ≤ high * 2 ^ gap = omega arith in
     let r : low + (high * 2 ^ gap - low) ≡ high * 2 ^ gap = omega arith in
     record {
@@ -222,7 +222,7 @@ reversed_difference q high low gap lost p l h =
     let d : high * 2 * 2 ^ (gap - 1) ≡ high * 2 ^ gap = doubled high gap p in
     let r : low ≡ high * 2 ^ gap + (low - high * 2 ^ gap) = omega arith in
     let r' : low ≡ high * 2 * 2 ^ (gap - 1) + (low - high * 2 ^ gap) = r ∙
-        ap (λ (x : ℕ). x + (low - high * 2 ^ gap)) (sym d) in
+    ap (λ (x : ℕ). x + (low - high * 2 ^ gap)) (sym d) in
     record {
       amount = low - high * 2 ^ gap;
       balances = r;
@@ -262,8 +262,8 @@ resigned base a b n t e q loss (inl d) h = record {
 }
 resigned base a b n t e q loss (inr d) h =
     let s : StandsFor 0 ExactlyZero h.amount (2 ^ up (e -ℤ base)) =
-        subst (λ (x : ℕ). StandsFor x ExactlyZero h.amount (2 ^ up (e -ℤ base))) d.0
-            (subst (λ (x : Loss). StandsFor q x h.amount (2 ^ up (e -ℤ base))) d.1 h.stands) in
+    subst (λ (x : ℕ). StandsFor x ExactlyZero h.amount (2 ^ up (e -ℤ base))) d.0
+    (subst (λ (x : Loss). StandsFor q x h.amount (2 ^ up (e -ℤ base))) d.1 h.stands) in
     let z : h.amount ≡ 0 = omega (arith, s) in
     record {
       above = h.above;

@@ -59,12 +59,12 @@ held_within s t a from into h l =
     let p = h.precise in
     ⊎_elim
     (λ o. higher a (greatest_significand s.nonfinite s.precision) (greatest_significand t.nonfinite t.precision)
-        (format_at s).span (format_at t).span (finer s t) s.precision (t.precision - 1)
+    (format_at s).span (format_at t).span (finer s t) s.precision (t.precision - 1)
     l (greatest_fits s.nonfinite s.precision) (greatest_full t.nonfinite t.precision into.precision_low)
-        (omega (arith, ints, into.precision_low)))
+    (omega (arith, ints, into.precision_low)))
     (λ (o : IsReachedLevel s t). level a (greatest_significand s.nonfinite s.precision)
-        (greatest_significand t.nonfinite t.precision) (format_at s).span (format_at t).span (finer s t)
-            (t.precision - s.precision)
+    (greatest_significand t.nonfinite t.precision) (format_at s).span (format_at t).span (finer s t)
+    (t.precision - s.precision)
     l o.significands (let e = o.exponents in omega (arith, ints)))
     h.reached
 
@@ -78,10 +78,10 @@ held_quanta s t m e from into h n =
     let f = h.fine in
     let p = h.precise in
     let b : up (e -ℤ s.min_exp) + finer s t + down (e -ℤ t.min_exp)
-        ≡ down (e -ℤ s.min_exp) + (t.precision - s.precision) + up (e -ℤ t.min_exp) =
-            omega (arith, ints, from.precision_low) in
+    ≡ down (e -ℤ s.min_exp) + (t.precision - s.precision) + up (e -ℤ t.min_exp) =
+    omega (arith, ints, from.precision_low) in
     let q = scaled_stands m (quanta_at s.min_exp m e) (down (e -ℤ s.min_exp)) (up (e -ℤ s.min_exp)) (finer s t)
-        (t.precision - s.precision) (up (e -ℤ t.min_exp)) (down (e -ℤ t.min_exp)) n.whole b in
+    (t.precision - s.precision) (up (e -ℤ t.min_exp)) (down (e -ℤ t.min_exp)) n.whole b in
     omega (arith, q)
 
 pub held_normal : (s t : Shape) (m : ℕ) (e : ℤ) → IsShape s → IsShape t → IsHeld s t → IsNormal s m e
@@ -134,6 +134,6 @@ held_converted f g mode b a v status l p d t s =
     record {
       is_delivered = rw (d, s, ← signed_some g.nonfinite b (a * 2 ^ (g.scale - f.scale)) o)
           (exact_delivered g mode b (a * 2 ^ (g.scale - f.scale)) (a * 2 ^ g.scale) (2 ^ f.scale) (pow_pos f.scale)
-              t.on_grid t.within (quantum_finer a (g.scale - f.scale) f.scale g.scale l refl));
+          t.on_grid t.within (quantum_finer a (g.scale - f.scale) f.scale g.scale l refl));
       loses_is = rw s refl;
     }

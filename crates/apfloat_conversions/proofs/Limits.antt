@@ -19,7 +19,7 @@ greatest_is width h =
     let q : 0 < 2 ^ width = pow_pos width in
     let k : 2 ^ width ≡ 2 ^ width - 1 + 1 = omega arith in
     let m : 2 ^ width * 2 ^ (128 - width) ≡ (2 ^ width - 1 + 1) * 2 ^ (128 - width) =
-        ap (λ (x : ℕ). x * 2 ^ (128 - width)) k in
+    ap (λ (x : ℕ). x * 2 ^ (128 - width)) k in
     div-eq_of_lt-le (2 ^ (128 - width)) (omega (arith, s, m, p)) (omega (arith, s, m, p))
 
 pub less_so : (a b : ℤ) → a <ℤ b → int_lt a b ≡ true
@@ -60,7 +60,7 @@ pub ranged_in : (width : ℕ) (b : Bool) (mag : ℕ) (exact : Bool) → mag ≤ 
 ranged_in width b mag exact h =
     let low : int_lt (pos mag) (pos 0) ≡ false = less_not (pos mag) (pos 0) (omega (arith, ints)) in
     let high : int_lt (pos (2 ^ width - 1)) (pos mag) ≡ false =
-        less_not (pos (2 ^ width - 1)) (pos mag) (limit_high b width mag h) in
+    less_not (pos (2 ^ width - 1)) (pos mag) (limit_high b width mag h) in
     rw (signed_in b width mag h, low, high, no_zero b exact) refl
 
 pub in_range : (f : Format) (mode : Round) (width : ℕ) (b : Bool) (n mag st : ℕ) (exact : Bool) → 0 < n
@@ -81,7 +81,7 @@ ranged_out width true mag exact h =
 ranged_out width false mag exact h =
     let low : int_lt (pos mag) (pos 0) ≡ false = less_not (pos mag) (pos 0) (omega (arith, ints)) in
     let high : int_lt (pos (2 ^ width - 1)) (pos mag) ≡ true =
-        less_so (pos (2 ^ width - 1)) (pos mag) (omega (arith, ints, h)) in
+    less_so (pos (2 ^ width - 1)) (pos mag) (omega (arith, ints, h)) in
     rw (low, high) refl
 
 pub out_of_range : (f : Format) (mode : Round) (width : ℕ) (b : Bool) (n number st : ℕ) (exact : Bool) → 0 < n

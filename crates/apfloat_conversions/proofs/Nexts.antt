@@ -32,7 +32,7 @@ stepped_down s a u d l h =
     let a' : a ≡ (a - 2 ^ u) + 2 ^ u = omega arith in
     let s' : s ≡ (s - 2 ^ d) + 2 ^ d = omega arith in
     let e : ((a - 2 ^ u) + 2 ^ u) * 2 ^ d ≡ ((s - 2 ^ d) + 2 ^ d) * 2 ^ u = ap (λ (x : ℕ). x * 2 ^ d) (sym a') ∙ h ∙
-        ap (λ (x : ℕ). x * 2 ^ u) s' in
+    ap (λ (x : ℕ). x * 2 ^ u) s' in
     omega (arith, e)
 
 power_split : (p d : ℕ) → d ≤ p → 2 ^ p ≡ 2 ^ (p - d) * 2 ^ d
@@ -88,7 +88,7 @@ next_is p s a u d q (inl z) f g h =
     let w : 1 ≤ 2 ^ d = pow_pos d in
     let k : a * 1 ≤ a * 2 ^ d = mul-le-mul_left a w in
     above_at p (2 ^ (p - 1)) a u a (sym (twice_half p q)) (omega arith) (inl z)
-        (let k₂ : a * 2 ^ u ≡ a * 1 = ap (λ (x : ℕ). a * x) e in omega (arith, k₂))
+    (let k₂ : a * 2 ^ u ≡ a * 1 = ap (λ (x : ℕ). a * x) e in omega (arith, k₂))
 
 below_at : (p half m c a : ℕ) → 2 ^ p ≡ 2 * half → m < 2 ^ p → (c ≡ 0) ⊎ (half ≤ m) → a ≡ (m + 1) * 2 ^ c
     → IsBelow p (a - 2 ^ c) (a - 1) 1
@@ -96,7 +96,7 @@ below_at p half m c a e f g h =
     let w : 1 ≤ 2 ^ c = pow_pos c in
     let n : m * 2 ^ c ≡ a - 2 ^ c = omega arith in
     let i : IsEnclosed p half m c (a - 1) 1 =
-        record { double = e; fits = f; full = g; from = omega arith; to = omega arith } in
+    record { double = e; fits = f; full = g; from = omega arith; to = omega arith } in
     subst (λ (x : ℕ). IsBelow p x (a - 1) 1) n (below_is p half m c (a - 1) 1 i)
 
 pub less_is : (p s a u d : ℕ) → 0 < p → (u ≡ 0) ⊎ (d ≡ 0) → s ≤ 2 ^ p → 2 ^ (p - 1) < s → a * 2 ^ d ≡ s * 2 ^ u
@@ -106,7 +106,7 @@ less_is p s a u d q (inr z) f g h =
     let h' : a ≡ s * 2 ^ u = sym (ap (λ (x : ℕ). a * x) e ∙ omega arith) ∙ h in
     let t : s ≡ s - 1 + 1 = omega arith in
     below_at p (2 ^ (p - 1)) (s - 1) u a (sym (twice_half p q)) (omega arith) (inr (omega arith))
-        (h' ∙ ap (λ (x : ℕ). x * 2 ^ u) t)
+    (h' ∙ ap (λ (x : ℕ). x * 2 ^ u) t)
 less_is p s a u d q (inl z) f g h =
     let e : 2 ^ u ≡ 1 = ap (λ (x : ℕ). 2 ^ x) z in
     let h' : a * 2 ^ d ≡ s = h ∙ ap (λ (x : ℕ). s * x) e ∙ omega arith in
@@ -116,7 +116,7 @@ less_is p s a u d q (inl z) f g h =
     let y' : 0 < a = lt_of_mul-lt-mul_right (2 ^ d) y in
     let t : a ≡ a - 1 + 1 = omega arith in
     below_at p (2 ^ (p - 1)) (a - 1) u a (sym (twice_half p q)) (omega arith) (inl z)
-        (let k₂ : (a - 1 + 1) * 2 ^ u ≡ (a - 1 + 1) * 1 = ap (λ (x : ℕ). (a - 1 + 1) * x) e in omega (arith, k₂, t))
+    (let k₂ : (a - 1 + 1) * 2 ^ u ≡ (a - 1 + 1) * 1 = ap (λ (x : ℕ). (a - 1 + 1) * x) e in omega (arith, k₂, t))
 
 -- ---- the same number by half or twice the significand
 
@@ -124,18 +124,18 @@ pub quanta_halved : (min_exp x : ℤ) (s h n : ℕ) → s ≡ 2 * h → IsQuanta
     → IsQuantaAt min_exp h (x +ℤ pos 1) n
 quanta_halved min_exp x s h n e q =
     let g = scaled_stands s n (down (x -ℤ min_exp)) (up (x -ℤ min_exp)) 1 0 (up ((x +ℤ pos 1) -ℤ min_exp))
-        (down ((x +ℤ pos 1) -ℤ min_exp)) q (omega (arith, ints)) in
+    (down ((x +ℤ pos 1) -ℤ min_exp)) q (omega (arith, ints)) in
     let k : s * (2 ^ 0 * 2 ^ up ((x +ℤ pos 1) -ℤ min_exp)) ≡ 2 * h * (2 ^ 0 * 2 ^ up ((x +ℤ pos 1) -ℤ min_exp)) =
-        ap (λ (z : ℕ). z * (2 ^ 0 * 2 ^ up ((x +ℤ pos 1) -ℤ min_exp))) e in
+    ap (λ (z : ℕ). z * (2 ^ 0 * 2 ^ up ((x +ℤ pos 1) -ℤ min_exp))) e in
     omega (arith, g, k)
 
 pub quanta_doubled : (min_exp x : ℤ) (s h n : ℕ) → s ≡ 2 * h → IsQuantaAt min_exp h x n
     → IsQuantaAt min_exp s (x -ℤ pos 1) n
 quanta_doubled min_exp x s h n e q =
     let g = scaled_stands h n (down (x -ℤ min_exp)) (up (x -ℤ min_exp)) 0 1 (up ((x -ℤ pos 1) -ℤ min_exp))
-        (down ((x -ℤ pos 1) -ℤ min_exp)) q (omega (arith, ints)) in
+    (down ((x -ℤ pos 1) -ℤ min_exp)) q (omega (arith, ints)) in
     let k : s * 2 ^ up ((x -ℤ pos 1) -ℤ min_exp) ≡ 2 * h * 2 ^ up ((x -ℤ pos 1) -ℤ min_exp) =
-        ap (λ (z : ℕ). z * 2 ^ up ((x -ℤ pos 1) -ℤ min_exp)) e in
+    ap (λ (z : ℕ). z * 2 ^ up ((x -ℤ pos 1) -ℤ min_exp)) e in
     omega (arith, g, k)
 
 -- ---- below the largest value there is room
@@ -168,9 +168,9 @@ at_top f precision min_exp max_exp s a e g h c =
     let i : 2 ^ precision ≤ s + 1 = omega (arith, c, d) in
     let k : greatest_significand f.nonfinite precision ≤ s = greatest_before f.nonfinite precision s i in
     let k' : greatest_significand f.nonfinite f.precision ≤ s =
-        subst (λ (x : ℕ). greatest_significand f.nonfinite x ≤ s) (sym e) k in
+    subst (λ (x : ℕ). greatest_significand f.nonfinite x ≤ s) (sym e) k in
     let m : greatest_significand f.nonfinite f.precision * 2 ^ f.span ≤ s * 2 ^ f.span =
-        mul-le-mul_right (2 ^ f.span) k' in
+    mul-le-mul_right (2 ^ f.span) k' in
     let g' : f.span ≡ up (max_exp -ℤ min_exp) = ap up g in
     let n : s * 2 ^ f.span ≡ s * 2 ^ up (max_exp -ℤ min_exp) = ap (λ (x : ℕ). s * 2 ^ x) g' in
     let q : a * 2 ^ down (max_exp -ℤ min_exp) ≡ a * 1 = ap (λ (x : ℕ). a * x) d in
@@ -184,8 +184,8 @@ room_above f precision min_exp max_exp x s a e g o h b c =
     ⊎_elim (λ q. q)
     (λ (q : x ≡ max_exp).
     let k : largest f ≤ a =
-        at_top f precision min_exp max_exp s a e g (subst (λ (y : ℤ). IsQuantaAt min_exp s y a) q h)
-            (subst (λ (y : ℤ). 2 ^ precision ≤ s + 2 ^ down (y -ℤ min_exp)) q c) in
+    at_top f precision min_exp max_exp s a e g (subst (λ (y : ℤ). IsQuantaAt min_exp s y a) q h)
+    (subst (λ (y : ℤ). 2 ^ precision ≤ s + 2 ^ down (y -ℤ min_exp)) q c) in
     absurd (omega (arith, k, b)))
     (room_cases x max_exp (max_exp -ℤ x) refl o.greatest)
 
@@ -193,8 +193,13 @@ room_above f precision min_exp max_exp x s a e g o h b c =
 
 pub largest_on_grid : (f : Format) → 0 < f.precision → IsOnGrid f.precision (largest f)
 largest_on_grid f h =
-    record { significand = greatest_significand f.nonfinite f.precision; place = f.span; fits =
-        greatest_fits f.nonfinite f.precision; is = refl }
+    record {
+      significand = greatest_significand f.nonfinite f.precision;
+      place = f.span;
+      fits =
+          greatest_fits f.nonfinite f.precision;
+      is = refl;
+    }
 
 pub next_within : (f : Format) (a next : ℕ) → 0 < f.precision → a < largest f → IsAbove f.precision next (a + 1) 1
     → next ≤ largest f
@@ -219,8 +224,13 @@ carries_operand p min max x y s t q o e i r =
     let h : 2 * 2 ^ (p - 1) ≡ 2 ^ p = twice_half p q in
     let w : 0 < 2 ^ (p - 1) = pow_pos (p - 1) in
     let l = o.least in
-    record { fits = omega (arith, e, h, w); full = omega (arith, e); least = omega (arith, ints, l, i); greatest =
-        omega (arith, ints, r, i) }
+    record {
+      fits = omega (arith, e, h, w);
+      full = omega (arith, e);
+      least = omega (arith, ints, l, i);
+      greatest =
+          omega (arith, ints, r, i);
+    }
 
 pub carried_quanta : (p : ℕ) (min x y : ℤ) (s t n : ℕ) → 0 < p → s ≡ 2 ^ p → t ≡ 2 ^ (p - 1) → y ≡ (x +ℤ pos 1)
     → IsQuantaAt min s x n → IsQuantaAt min t y n
@@ -259,7 +269,7 @@ least_less p min x s a t e f h =
     let v : down (x -ℤ min) ≤ p - 1 = down_le (x -ℤ min) (p - 1) m in
     let g : down (x -ℤ min) ≡ p - 1 = let w₀ = w.0 in omega (arith, v, w₀) in
     let i : a * 2 ^ (p - 1) ≡ s * 2 ^ 0 =
-        subst (λ (z : ℕ). a * 2 ^ z ≡ s * 2 ^ 0) g (subst (λ (z : ℕ). a * 2 ^ down (x -ℤ min) ≡ s * 2 ^ z) w.1 h) in
+    subst (λ (z : ℕ). a * 2 ^ z ≡ s * 2 ^ 0) g (subst (λ (z : ℕ). a * 2 ^ down (x -ℤ min) ≡ s * 2 ^ z) w.1 h) in
     let j : a * 2 ^ (p - 1) ≡ 1 * 2 ^ (p - 1) = omega (arith, i, e) in
     let k : a ≡ 1 = eq_of_mul-eq-mul_right (2 ^ (p - 1)) (pow_pos (p - 1)) a 1 j in
     let r : a - 1 ≡ 0 = omega (arith, k) in
@@ -272,8 +282,13 @@ lowered_operand p min max x y s t w d q o e i j r l =
     let a : 2 ^ d ≤ 2 ^ (p - 1) = step_small (p - 1) d j in
     let b : 0 < 2 ^ d = pow_pos d in
     let g = o.greatest in
-    record { fits = omega (arith, e, i, a, b, k); full = omega (arith, e, i, a, k); least = l; greatest =
-        omega (arith, ints, g, r) }
+    record {
+      fits = omega (arith, e, i, a, b, k);
+      full = omega (arith, e, i, a, k);
+      least = l;
+      greatest =
+          omega (arith, ints, g, r);
+    }
 
 -- ---- the logarithm and the fraction
 
@@ -323,7 +338,7 @@ fraction_same min x y s a b e h =
     let w = up_far (negsuc 0 -ℤ min) 0 (omega (arith, ints, b)) in
     let w₁ = w.1 in
     let g = scaled_stands s a (down (x -ℤ min)) (up (x -ℤ min)) 0 (up (negsuc 0 -ℤ min)) (up y) (down y) h
-        (omega (arith, ints, e, w₁)) in
+    (omega (arith, ints, e, w₁)) in
     omega (arith, g)
 
 pub fraction_low : (f : Format) (a : ℕ) (i : IsLogarithm f a (negsuc 0)) → (2 ^ (f.scale - 1) ≤ a) × (a < 2 ^ f.scale)

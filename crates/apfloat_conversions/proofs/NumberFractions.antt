@@ -18,20 +18,20 @@ pub fraction_size : (s : Shape) (m : ℕ) (e : ℤ) → IsShape s → IsNormal s
     → (2 ^ ((format_at s).scale - 1) ≤ fraction_at s m) × (fraction_at s m < 2 ^ (format_at s).scale)
 fraction_size s m e law n =
     let o = fraction_operand s.precision s.min_exp s.max_exp e m law.precision_low law.min_exp_high law.max_exp_low
-        n.operand in
+    n.operand in
     let q = fraction_quanta s.min_exp m law.min_exp_high in
     fraction_low (format_at s) (fraction_at s m)
-        (logarithm_is (format_at s) s.precision s.min_exp s.max_exp (negsuc 0) m (fraction_at s m) law.precision_low
-            (scale_is s law) o q)
+    (logarithm_is (format_at s) s.precision s.min_exp s.max_exp (negsuc 0) m (fraction_at s m) law.precision_low
+    (scale_is s law) o q)
 
 pub fraction_number : (s : Shape) (m : ℕ) (e : ℤ) → IsShape s → IsNormal s m e → IsNormal s m (negsuc 0)
 fraction_number s m e law n =
     let o = fraction_operand s.precision s.min_exp s.max_exp e m law.precision_low law.min_exp_high law.max_exp_low
-        n.operand in
+    n.operand in
     let q = fraction_quanta s.min_exp m law.min_exp_high in
     let b = fraction_size s m e law n in
     let b₁ = b.1 in
     let r = scale_in_span s law in
     let w : 1 * 2 ^ (format_at s).scale ≤ largest (format_at s) =
-        half_within s 1 (format_at s).scale law (pow_pos (s.precision - 1)) (omega (arith, r)) in
+    half_within s 1 (format_at s).scale law (pow_pos (s.precision - 1)) (omega (arith, r)) in
     number_of s m (negsuc 0) (fraction_at s m) o q (omega (arith, w, b₁))

@@ -32,7 +32,7 @@ pub step_fits : (s : Shape) (m t : ℕ) (e : ℤ) → IsShape s → IsNormal s m
 step_fits s m t e law n i =
     let l = operand_down s.precision s.min_exp s.max_exp e law.precision_low n.operand.least in
     subst (λ (x : ℕ). m + x < 2 ^ 128) (sym i)
-        (step_room s.precision m (down (e -ℤ s.min_exp)) law.precision_high n.operand.fits l)
+    (step_room s.precision m (down (e -ℤ s.min_exp)) law.precision_high n.operand.fits l)
 
 pub step_below : (s : Shape) (m t : ℕ) (e : ℤ) → IsShape s → ((s.min_exp +ℤ pos 1) -ℤ pos s.precision) ≤ℤ e
     → 2 ^ (s.precision - 1) ≤ m → t ≡ 2 ^ down (e -ℤ s.min_exp) → t ≤ m
@@ -54,7 +54,7 @@ above_of : (s : Shape) (m : ℕ) (e : ℤ) → IsShape s → IsNormal s m e
     → IsAbove s.precision (quanta_at s.min_exp m e + 2 ^ up (e -ℤ s.min_exp)) (quanta_at s.min_exp m e + 1) 1
 above_of s m e law n =
     next_is s.precision m (quanta_at s.min_exp m e) (up (e -ℤ s.min_exp)) (down (e -ℤ s.min_exp)) (some s law)
-        (one_side (e -ℤ s.min_exp)) n.operand.fits n.operand.full n.whole
+    (one_side (e -ℤ s.min_exp)) n.operand.fits n.operand.full n.whole
 
 pub after_stays : (s : Shape) (m t : ℕ) (e : ℤ) → IsShape s → IsNormal s m e → t ≡ 2 ^ down (e -ℤ s.min_exp)
     → m + t < 2 ^ s.precision → IsAfter s (quanta_at s.min_exp m e) (m + t) e
@@ -76,7 +76,7 @@ after_carries s m t w e r law n b i h j k =
     let l = operand_down s.precision s.min_exp s.max_exp e law.precision_low n.operand.least in
     let z : m + 2 ^ down (e -ℤ s.min_exp) ≤ 2 ^ s.precision =
     step_within s.precision m a (up (e -ℤ s.min_exp)) (down (e -ℤ s.min_exp)) (omega (arith, l))
-        (one_side (e -ℤ s.min_exp)) n.operand.fits n.whole in
+    (one_side (e -ℤ s.min_exp)) n.operand.fits n.whole in
     let y : m + t ≡ 2 ^ s.precision = omega (arith, i, h, z) in
     let x : 2 ^ s.precision ≤ m + 2 ^ down (e -ℤ s.min_exp) = omega (arith, i, h) in
     let q = stepped_by m a (up (e -ℤ s.min_exp)) (down (e -ℤ s.min_exp)) t i n.whole in
@@ -98,7 +98,7 @@ pub after_is : (s : Shape) (n m : ℕ) (e : ℤ) → IsAfter s n m e
     → IsNextGreater (format_at s) n (finite false (quanta_at s.min_exp m e)) 0
 after_is s n m e h =
     rw (quanta_is s.min_exp m e h.next h.quanta)
-        (record { next = h.next; is_above = h.is_above; is = record { value_is = refl; status_is = refl } })
+    (record { next = h.next; is_above = h.is_above; is = record { value_is = refl; status_is = refl } })
 
 -- ---- down
 
@@ -116,13 +116,13 @@ before_stays s m t e law n i h =
     let f = n.operand.fits in
     let l = operand_down s.precision s.min_exp s.max_exp e law.precision_low n.operand.least in
     let k : 2 ^ (s.precision - 1) + 2 ^ down (e -ℤ s.min_exp) ≤ m =
-        step_above (s.precision - 1) m a (up (e -ℤ s.min_exp)) (down (e -ℤ s.min_exp)) l (one_side (e -ℤ s.min_exp))
-            h n.whole in
+    step_above (s.precision - 1) m a (up (e -ℤ s.min_exp)) (down (e -ℤ s.min_exp)) l (one_side (e -ℤ s.min_exp))
+    h n.whole in
     record {
       next = a - 2 ^ up (e -ℤ s.min_exp);
       is_below =
           less_is s.precision m a (up (e -ℤ s.min_exp)) (down (e -ℤ s.min_exp)) (some s law)
-              (one_side (e -ℤ s.min_exp)) (omega (arith, f)) h n.whole;
+          (one_side (e -ℤ s.min_exp)) (omega (arith, f)) h n.whole;
       operand = stays_operand s.precision s.min_exp s.max_exp e m (m - t) n.operand (omega (arith, f))
           (omega (arith, k, i));
       quanta = stepped_down_by m a (up (e -ℤ s.min_exp)) (down (e -ℤ s.min_exp)) t i (omega (arith, k)) n.whole;
@@ -143,7 +143,7 @@ before_lowers s m w t e r law n i j k low h =
       next = a - 2 ^ up (r -ℤ s.min_exp);
       is_below =
           less_is s.precision w a (up (r -ℤ s.min_exp)) (down (r -ℤ s.min_exp)) p (one_side (r -ℤ s.min_exp))
-              (omega (arith, j)) (omega (arith, j, z, o)) q;
+          (omega (arith, j)) (omega (arith, j, z, o)) q;
       operand = lowered_operand s.precision s.min_exp s.max_exp e r m w t (down (r -ℤ s.min_exp)) p n.operand j h l
           k low;
       quanta = stepped_down_by w a (up (r -ℤ s.min_exp)) (down (r -ℤ s.min_exp)) t h (omega (arith, y, j, z, o)) q;
@@ -160,16 +160,24 @@ before_is s n m e b h =
     let q = quanta_is s.min_exp m e h.next h.quanta in
     let g = quanta_some s m e (before_stored s n m e b h) in
     let p : 0 < h.next = omega (arith, q, g) in
-    rw q (record { next = h.next; is_below = h.is_below; is =
-        record { value_is = sym (signed_some s.nonfinite true h.next p); status_is = refl } })
+    rw q (record {
+      next = h.next;
+      is_below = h.is_below;
+      is =
+          record { value_is = sym (signed_some s.nonfinite true h.next p); status_is = refl };
+    })
 
 pub before_least : (s : Shape) (m : ℕ) (e : ℤ) → IsShape s → IsNormal s m e → m ≡ 2 ^ (s.precision - 1)
     → e ≡ ((s.min_exp +ℤ pos 1) -ℤ pos s.precision)
     → IsNextLess (format_at s) (quanta_at s.min_exp m e) (finite (zero_sign s.nonfinite true) 0) 0
 before_least s m e law n i k =
-    record { next = 0; is_below =
-        least_less s.precision s.min_exp e m (quanta_at s.min_exp m e) law.precision_low i k n.whole; is =
-            record { value_is = refl; status_is = refl } }
+    record {
+      next = 0;
+      is_below =
+          least_less s.precision s.min_exp e m (quanta_at s.min_exp m e) law.precision_low i k n.whole;
+      is =
+          record { value_is = refl; status_is = refl };
+    }
 
 -- ---- the largest
 
@@ -192,10 +200,10 @@ largest_at_top s m g e law n i k =
     ap (λ (z : ℕ). m * 2 ^ (format_at s).span * z) x ∙ omega arith ∙ ap (λ (z : ℕ). m * 2 ^ z) (sym c) in
     let d = same_multiple m g (2 ^ (format_at s).span) (pow_pos (format_at s).span) in
     let f : eqb (m * 2 ^ (format_at s).span) (g * 2 ^ (format_at s).span)
-        ≡ eqb (m * 2 ^ (format_at s).span) (largest (format_at s)) =
-            ap (λ (z : ℕ). eqb (m * 2 ^ (format_at s).span) (z * 2 ^ (format_at s).span)) k in
+    ≡ eqb (m * 2 ^ (format_at s).span) (largest (format_at s)) =
+    ap (λ (z : ℕ). eqb (m * 2 ^ (format_at s).span) (z * 2 ^ (format_at s).span)) k in
     d ∙ f ∙ ap (λ (z : ℕ). eqb z (largest (format_at s)))
-        (sym (quanta_is s.min_exp m e (m * 2 ^ (format_at s).span) q))
+    (sym (quanta_is s.min_exp m e (m * 2 ^ (format_at s).span) q))
 
 pub below_top : (s : Shape) (m : ℕ) (e : ℤ) → IsShape s → IsNormal s m e → (e ≡ s.max_exp → ⊥)
     → false ≡ eqb (quanta_at s.min_exp m e) (largest (format_at s))
@@ -203,22 +211,22 @@ below_top s m e law n h =
     let b = span_is s law in
     let lo = law.min_exp_high in let hi = law.max_exp_low in
     let r : (e +ℤ pos 1) ≤ℤ s.max_exp =
-        ⊎_elim (λ (q : (e +ℤ pos 1) ≤ℤ s.max_exp). q) (λ (q : e ≡ s.max_exp). absurd (h q))
-        (room_cases e s.max_exp (s.max_exp -ℤ e) refl n.operand.greatest) in
+    ⊎_elim (λ (q : (e +ℤ pos 1) ≤ℤ s.max_exp). q) (λ (q : e ≡ s.max_exp). absurd (h q))
+    (room_cases e s.max_exp (s.max_exp -ℤ e) refl n.operand.greatest) in
     let j : 1 ≤ (format_at s).span = omega (arith, ints, b, lo, hi) in
     let i : (e -ℤ s.min_exp) ≤ℤ pos ((format_at s).span - 1) = omega (arith, ints, r, b, j) in
     let i' = up_le (e -ℤ s.min_exp) ((format_at s).span - 1) i in
     let u : up (e -ℤ s.min_exp) + 1 ≤ (format_at s).span = omega (arith, i', j) in
     let t = twice_half s.precision (some s law) in
     let k : 2 ^ (s.precision + up (e -ℤ s.min_exp)) ≡ 2 ^ s.precision * 2 ^ up (e -ℤ s.min_exp) =
-        pow-add 2 s.precision (up (e -ℤ s.min_exp)) in
+    pow-add 2 s.precision (up (e -ℤ s.min_exp)) in
     let l : 2 ^ (up (e -ℤ s.min_exp) + 1) ≡ 2 ^ up (e -ℤ s.min_exp) * 2 = pow-add 2 (up (e -ℤ s.min_exp)) 1 in
     let w : 2 ^ (s.precision - 1) * 2 ^ (up (e -ℤ s.min_exp) + 1) ≤ largest (format_at s) =
-        half_within s (2 ^ (s.precision - 1)) (up (e -ℤ s.min_exp) + 1) law (omega arith) u in
+    half_within s (2 ^ (s.precision - 1)) (up (e -ℤ s.min_exp) + 1) law (omega arith) u in
     let x : 2 ^ (s.precision - 1) * 2 ^ (up (e -ℤ s.min_exp) + 1)
-        ≡ 2 ^ (s.precision - 1) * (2 ^ up (e -ℤ s.min_exp) * 2) = ap (λ (z : ℕ). 2 ^ (s.precision - 1) * z) l in
+    ≡ 2 ^ (s.precision - 1) * (2 ^ up (e -ℤ s.min_exp) * 2) = ap (λ (z : ℕ). 2 ^ (s.precision - 1) * z) l in
     let y : 2 * 2 ^ (s.precision - 1) * 2 ^ up (e -ℤ s.min_exp) ≡ 2 ^ s.precision * 2 ^ up (e -ℤ s.min_exp) =
-        ap (λ (z : ℕ). z * 2 ^ up (e -ℤ s.min_exp)) t in
+    ap (λ (z : ℕ). z * 2 ^ up (e -ℤ s.min_exp)) t in
     let q = quanta_below s.precision s.min_exp e m (quanta_at s.min_exp m e) n.operand.fits n.whole in
     let v : quanta_at s.min_exp m e < largest (format_at s) = omega (arith, q, k, w, x, y) in
     sym (ne_eqb (quanta_at s.min_exp m e) (largest (format_at s)) (λ z. omega (arith, v, z)))

@@ -31,7 +31,7 @@ whole_places s m e r law n v l =
     let v' = rw (exponent_word s m e law n) at v in
     let k : pos (up r) ≡ r = up_of r l in
     places_up (s.precision - 1) (format_at s).scale s.min_exp e r m (quanta_at s.min_exp m e) (up r)
-        (scale_is s law) v' (omega (arith, ints, k)) n.whole
+    (scale_is s law) v' (omega (arith, ints, k)) n.whole
 
 pub fraction_places : (s : Shape) (m k : ℕ) (e r : ℤ) → IsShape s → IsNormal s m e
     → r ≡ (to_z w32 (of_z w32 e) -ℤ pos (s.precision - 1)) → pos k ≡ (pos 0 -ℤ r)
@@ -39,15 +39,15 @@ pub fraction_places : (s : Shape) (m k : ℕ) (e r : ℤ) → IsShape s → IsNo
 fraction_places s m k e r law n v h =
     let v' = rw (exponent_word s m e law n) at v in
     places_down (s.precision - 1) (format_at s).scale s.min_exp e r m (quanta_at s.min_exp m e) k (scale_is s law)
-        v' h n.whole
+    v' h n.whole
 
 -- ---- times a power of two
 
 abbrev pub DeliversOf : Shape → Round → Bool → ℕ → ℤ → Datum → ℕ → Type 0
 DeliversOf s mode negative m r v st =
     (amount parts : ℕ) → 0 < parts
-        → StandsFor m ExactlyZero (amount * 2 ^ down (r +ℤ pos (format_at s).scale))
-        (parts * 2 ^ up (r +ℤ pos (format_at s).scale)) → IsDelivered (format_at s) mode negative amount parts v st
+    → StandsFor m ExactlyZero (amount * 2 ^ down (r +ℤ pos (format_at s).scale))
+    (parts * 2 ^ up (r +ℤ pos (format_at s).scale)) → IsDelivered (format_at s) mode negative amount parts v st
 
 pub scale_delivered : (s : Shape) (m : ℕ) (e j near r : ℤ) (mode : Round) (negative : Bool) (v : Datum) (st : ℕ)
     → IsShape s → IsNormal s m e → IsClamped 6000000 j near → r ≡ ((e +ℤ near) -ℤ pos (s.precision - 1))
@@ -62,12 +62,12 @@ scale_delivered s m e j near r mode negative v st law n c i d =
     let g' = up_le (e -ℤ s.min_exp) 2097152 g in
     let f : (format_at s).span ≤ 2097152 = omega (arith, ints, law, w) in
     clamp_kept (format_at s) mode negative (quanta_at s.min_exp m e) (s.precision + up (e -ℤ s.min_exp)) 6000000 j
-        near v st (omega (arith, law)) (quanta_some s m e n)
-            (quanta_below s.precision s.min_exp e m (quanta_at s.min_exp m e) o.fits n.whole)
+    near v st (omega (arith, law)) (quanta_some s m e n)
+    (quanta_below s.precision s.min_exp e m (quanta_at s.min_exp m e) o.fits n.whole)
     (omega (arith, f, law)) (omega (arith, g', law)) c
     (d (quanta_at s.min_exp m e * 2 ^ up near) (2 ^ down near) (pow_pos (down near))
-        (scaled_is (s.precision - 1) (format_at s).scale s.min_exp e near r m (quanta_at s.min_exp m e) k i
-            n.whole))
+    (scaled_is (s.precision - 1) (format_at s).scale s.min_exp e near r m (quanta_at s.min_exp m e) k i
+    n.whole))
 
 -- ---- sizes within the format
 
@@ -76,12 +76,12 @@ pub half_within : (s : Shape) (m k : ℕ) → IsShape s → m ≤ 2 ^ (s.precisi
     → m * 2 ^ k ≤ largest (format_at s)
 half_within s m k law h l =
     let g : m ≤ greatest_significand s.nonfinite s.precision =
-        let f = greatest_full s.nonfinite s.precision law.precision_low in omega (arith, h, f) in
+    let f = greatest_full s.nonfinite s.precision law.precision_low in omega (arith, h, f) in
     let a : m * 2 ^ k ≤ greatest_significand s.nonfinite s.precision * 2 ^ k = mul-le-mul_right (2 ^ k) g in
     let b : 2 ^ k ≤ 2 ^ (format_at s).span = pow-le-pow_right two_pos l in
     let c : greatest_significand s.nonfinite s.precision * 2 ^ k
-        ≤ greatest_significand s.nonfinite s.precision * 2 ^ (format_at s).span =
-            mul-le-mul_left (greatest_significand s.nonfinite s.precision) b in
+    ≤ greatest_significand s.nonfinite s.precision * 2 ^ (format_at s).span =
+    mul-le-mul_left (greatest_significand s.nonfinite s.precision) b in
     omega (arith, a, c)
 
 pub scale_in_span : (s : Shape) → IsShape s → (format_at s).scale + 1 ≤ (format_at s).span
@@ -108,4 +108,4 @@ pub zero_scaled : (f : Format) (mode : Round) (negative : Bool) (j : ℤ) → ne
     → IsScaling f mode (finite negative 0) j (finite negative 0)
 zero_scaled f mode negative j z =
     subst (λ (b : Bool). IsScaling f mode (finite negative 0) j (finite b 0)) (sym z)
-        (scaling_zero f mode negative j)
+    (scaling_zero f mode negative j)

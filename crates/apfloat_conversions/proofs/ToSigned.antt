@@ -36,10 +36,10 @@ to_signed_above f mode width (finite true n) number st exact z h = absurd (false
 to_signed_above f mode width (finite false n) number st exact z h =
     let k : ℕ = whole_pick mode false n (2 ^ f.scale) in
     let a : int_lt (pos (whole_pick mode false n (2 ^ f.scale))) (pos 0) ≡ false =
-        less_not (pos (whole_pick mode false n (2 ^ f.scale))) (pos 0) (omega (arith, ints)) in
+    less_not (pos (whole_pick mode false n (2 ^ f.scale))) (pos 0) (omega (arith, ints)) in
     let b : int_lt (pos (whole_pick mode false n (2 ^ f.scale))) (neg_ℤ (pos (2 ^ (width - 1)))) ≡ false =
-        less_not (pos (whole_pick mode false n (2 ^ f.scale))) (neg_ℤ (pos (2 ^ (width - 1))))
-            (omega (arith, ints)) in
+    less_not (pos (whole_pick mode false n (2 ^ f.scale))) (neg_ℤ (pos (2 ^ (width - 1))))
+    (omega (arith, ints)) in
     rw b (rw a at h)
 
 -- ---- of a value with a minus sign: the magnitude, in the swapped mode
@@ -75,9 +75,13 @@ zero_ranged low high answer l h = rw (less_not (pos 0) low l, less_not high (pos
 zero_unsigned_of : (f : Format) (mode : Round) (width number st : ℕ) (b exact : Bool)
     → IsToUnsigned f mode width (finite b 0) number st exact → (number ≡ 0) × (st ≡ 0)
 zero_unsigned_of f mode width number st b exact h =
-    let h' = rw (no_whole mode b f.scale, no_sign b, no_quanta f.scale,
-        zero_ranged (pos 0) (pos (2 ^ width - 1)) (exact_or_not (pos 0) true (b && true)) (omega (arith, ints))
-            (omega (arith, ints))) at h in
+    let h' = rw (
+      no_whole mode b f.scale,
+      no_sign b,
+      no_quanta f.scale,
+      zero_ranged (pos 0) (pos (2 ^ width - 1)) (exact_or_not (pos 0) true (b && true)) (omega (arith, ints))
+          (omega (arith, ints)),
+    ) at h in
     let n = h'.number_is in
     (omega (arith, ints, n), h'.status_is)
 
@@ -90,9 +94,12 @@ zero_unsigned NanNegativeZero f mode width number st exact h = zero_unsigned_of 
 minus_zero : (f : Format) (mode : Round) (width : ℕ) (value : ℤ) (status : ℕ) (is_exact : Bool) → value ≡ pos 0
     → status ≡ 0 → is_exact ≡ false → IsToSigned f mode width (finite true 0) value status is_exact
 minus_zero f mode width value status is_exact v t e =
-    rw (no_whole mode true f.scale, no_quanta f.scale,
-        zero_ranged (neg_ℤ (pos (2 ^ (width - 1)))) (pos (2 ^ (width - 1) - 1)) (exact_or_not (pos 0) true true)
-            (omega (arith, ints)) (omega (arith, ints)))
+    rw (
+      no_whole mode true f.scale,
+      no_quanta f.scale,
+      zero_ranged (neg_ℤ (pos (2 ^ (width - 1)))) (pos (2 ^ (width - 1) - 1)) (exact_or_not (pos 0) true true)
+          (omega (arith, ints)) (omega (arith, ints)),
+    )
     (record { number_is = v; status_is = t; is_exact_is = e })
 
 -- a number that is not zero: within the range, and past its lower end
@@ -104,11 +111,11 @@ minus_within : (f : Format) (mode : Round) (width n : ℕ) (value : ℤ) (status
 minus_within f mode width n value status is_exact z l v t e =
     let k : ℕ = whole_pick mode true n (2 ^ f.scale) in
     let a : int_lt (neg_ℤ (pos (whole_pick mode true n (2 ^ f.scale)))) (neg_ℤ (pos (2 ^ (width - 1)))) ≡ false =
-        less_not (neg_ℤ (pos (whole_pick mode true n (2 ^ f.scale)))) (neg_ℤ (pos (2 ^ (width - 1))))
-            (omega (arith, ints, l)) in
+    less_not (neg_ℤ (pos (whole_pick mode true n (2 ^ f.scale)))) (neg_ℤ (pos (2 ^ (width - 1))))
+    (omega (arith, ints, l)) in
     let b : int_lt (pos (2 ^ (width - 1) - 1)) (neg_ℤ (pos (whole_pick mode true n (2 ^ f.scale)))) ≡ false =
-        less_not (pos (2 ^ (width - 1) - 1)) (neg_ℤ (pos (whole_pick mode true n (2 ^ f.scale))))
-            (omega (arith, ints)) in
+    less_not (pos (2 ^ (width - 1) - 1)) (neg_ℤ (pos (whole_pick mode true n (2 ^ f.scale))))
+    (omega (arith, ints)) in
     rw (z, a, b) (record { number_is = v; status_is = t; is_exact_is = e ∙ sym (and-true _) })
 
 minus_past : (f : Format) (mode : Round) (width n : ℕ) (value : ℤ) (status : ℕ) (is_exact : Bool)
@@ -116,8 +123,8 @@ minus_past : (f : Format) (mode : Round) (width n : ℕ) (value : ℤ) (status :
     → is_exact ≡ false → IsToSigned f mode width (finite true n) value status is_exact
 minus_past f mode width n value status is_exact l v t e =
     let a : int_lt (neg_ℤ (pos (whole_pick mode true n (2 ^ f.scale)))) (neg_ℤ (pos (2 ^ (width - 1)))) ≡ true =
-        less_so (neg_ℤ (pos (whole_pick mode true n (2 ^ f.scale)))) (neg_ℤ (pos (2 ^ (width - 1))))
-            (omega (arith, ints, l)) in
+    less_so (neg_ℤ (pos (whole_pick mode true n (2 ^ f.scale)))) (neg_ℤ (pos (2 ^ (width - 1))))
+    (omega (arith, ints, l)) in
     rw a (record { number_is = v; status_is = t; is_exact_is = e })
 
 wider : (width : ℕ) → 2 ≤ width → 2 ^ (width - 1) < 2 ^ width - 1
@@ -129,9 +136,9 @@ wider width h =
 
 minus_number : (f : Format) (mode : Round) (width n number st : ℕ) (exact : Bool) (value : ℤ) (status : ℕ)
     (is_exact : Bool) → eqb n 0 ≡ false → 2 ≤ width
-        → IsToUnsigned f (swapped mode) width (finite false n) number st exact
-        → IsNegatedWhole false width number st exact value status is_exact
-        → IsToSigned f mode width (finite true n) value status is_exact
+    → IsToUnsigned f (swapped mode) width (finite false n) number st exact
+    → IsNegatedWhole false width number st exact value status is_exact
+    → IsToSigned f mode width (finite true n) value status is_exact
 minus_number f mode width n number st exact value status is_exact z w h g =
     let p = pick_swapped mode n (2 ^ f.scale) in
     let h' = rw p at h in
@@ -143,12 +150,12 @@ minus_number f mode width n number st exact value status is_exact z w h g =
     ⊎_elim
     (λ (m : 2 ^ width - 1 < whole_pick mode true n (2 ^ f.scale)).
     let i = rw (ranged_out width false (whole_pick mode true n (2 ^ f.scale)) (eqb (whole_quanta f mode true n) n)
-        m) at h' in
+    m) at h' in
     let q = i.number_is in
     omega (arith, ints, q, big))
     (λ (m : whole_pick mode true n (2 ^ f.scale) ≤ 2 ^ width - 1).
     let i = rw (ranged_in width false (whole_pick mode true n (2 ^ f.scale)) (eqb (whole_quanta f mode true n) n)
-        m) at h' in
+    m) at h' in
     let q = i.number_is in
     omega (arith, ints, q, l))
     (cases_lt (2 ^ width - 1) (whole_pick mode true n (2 ^ f.scale))) in
@@ -157,17 +164,17 @@ minus_number f mode width n number st exact value status is_exact z w h g =
     (λ (l : whole_pick mode true n (2 ^ f.scale) ≤ 2 ^ (width - 1)).
     let m : whole_pick mode true n (2 ^ f.scale) ≤ 2 ^ width - 1 = omega (arith, l, big) in
     let i = rw (ranged_in width false (whole_pick mode true n (2 ^ f.scale)) (eqb (whole_quanta f mode true n) n)
-        m) at h' in
+    m) at h' in
     let q = i.number_is in
     let q' : number ≡ whole_pick mode true n (2 ^ f.scale) = omega (arith, ints, q) in
     let r = g.within (omega (arith, q', l)) in
     minus_within f mode width n value status is_exact z l (r.1.0 ∙ ap (λ (j : ℕ). neg_ℤ (pos j)) q')
-        (r.0 ∙ i.status_is) (r.1.1 ∙ and-true exact ∙ i.is_exact_is))
+    (r.0 ∙ i.status_is) (r.1.1 ∙ and-true exact ∙ i.is_exact_is))
     (cases_lt (2 ^ (width - 1)) (whole_pick mode true n (2 ^ f.scale)))
 
 pub to_signed_below : (f : Format) (mode : Round) (width : ℕ) (x : Datum) (number st : ℕ) (exact : Bool) (value : ℤ)
     (status : ℕ) (is_exact : Bool) → is_negative x ≡ true → 2 ≤ width
-        → IsToUnsigned f (swapped mode) width (negated f.nonfinite x) number st exact
+    → IsToUnsigned f (swapped mode) width (negated f.nonfinite x) number st exact
     → IsNegatedWhole (is_zero_category (category_of x)) width number st exact value status is_exact
     → IsToSigned f mode width x value status is_exact
 to_signed_below f mode width (nan false s) number st exact value status is_exact y w h g = absurd (false≢true y)
@@ -176,8 +183,12 @@ to_signed_below f mode width (nan true s) number st exact value status is_exact 
     let q = i.number_is in
     let e : number ≡ 0 = omega (arith, ints, q) in
     let r = g.within (omega (arith, e)) in
-    record { number_is = r.1.0 ∙ ap (λ (j : ℕ). neg_ℤ (pos j)) e; status_is = r.0 ∙ i.status_is; is_exact_is =
-        r.1.1 ∙ and-true exact ∙ i.is_exact_is }
+    record {
+      number_is = r.1.0 ∙ ap (λ (j : ℕ). neg_ℤ (pos j)) e;
+      status_is = r.0 ∙ i.status_is;
+      is_exact_is =
+          r.1.1 ∙ and-true exact ∙ i.is_exact_is;
+    }
 to_signed_below f mode width (infinite false) number st exact value status is_exact y w h g = absurd (false≢true y)
 to_signed_below f mode width (infinite true) number st exact value status is_exact y w h g =
     let q = h.number_is in
@@ -196,7 +207,7 @@ to_signed_below f mode width (finite true n) number st exact value status is_exa
     let r = g'.within (omega (arith, i₀)) in
     subst (λ (j : ℕ). IsToSigned f mode width (finite true j) value status is_exact) (sym e)
     (minus_zero f mode width value status is_exact (r.1.0 ∙ ap (λ (j : ℕ). neg_ℤ (pos j)) i.0) (r.0 ∙ i.1)
-        (r.1.1 ∙ and-false exact)))
+    (r.1.1 ∙ and-false exact)))
     (λ (e : n ≡ 0 → ⊥).
     let z : eqb n 0 ≡ false = ne_eqb n 0 e in
     minus_number f mode width n number st exact value status is_exact z w (rw z at h) (rw z at g))

@@ -41,14 +41,14 @@ between_is : (mode : Round) (negative : Bool) (q amount parts : ℕ) (loss : Los
     → StandsFor q loss amount parts → pick_between mode negative q (q + 1) amount parts ≡ kept mode negative loss q
 between_is mode negative q amount parts loss n h =
     ap (λ (b : Bool). cond (takes_above mode negative (amount - q * parts) ((q + 1) * parts - amount) b) (q + 1) q)
-        (whole_odd q)
+    (whole_odd q)
     ∙ ap (λ (b : Bool). cond b (q + 1) q) (takes_at mode negative (eqb (q % 2) 1) q amount parts loss n h)
 
 pub whole_exactly : (mode : Round) (negative : Bool) (q amount parts : ℕ) → 0 < parts → amount ≡ q * parts
     → whole_pick mode negative amount parts ≡ q
 whole_exactly mode negative q amount parts p e =
     let z : eqb (amount % parts) 0 ≡ true =
-        eq-eqb (amount % parts) 0 (ap (λ (x : ℕ). x % parts) e ∙ mul-mod_left q parts) in
+    eq-eqb (amount % parts) 0 (ap (λ (x : ℕ). x % parts) e ∙ mul-mod_left q parts) in
     let d : amount / parts ≡ q = ap (λ (x : ℕ). x / parts) e ∙ mul-div_cancel q p in
     rw z d
 
@@ -65,9 +65,9 @@ whole_inexactly mode negative q amount parts loss p n h =
     let m' : amount / parts * parts ≡ q * parts = ap (λ (x : ℕ). x * parts) d in
     let z : eqb (amount % parts) 0 ≡ false = ne_eqb (amount % parts) 0 (λ e. omega arith) in
     let w : pick_between mode negative (amount / parts) (amount / parts + 1) amount parts
-        ≡ kept mode negative loss q =
+    ≡ kept mode negative loss q =
     ap (λ (x : ℕ). pick_between mode negative x (x + 1) amount parts) d ∙
-        between_is mode negative q amount parts loss n h in
+    between_is mode negative q amount parts loss n h in
     rw z w
 
 pub exactly_so : (mode : Round) (negative : Bool) (q amount parts : ℕ) → 0 < parts → amount ≡ q * parts
@@ -88,8 +88,8 @@ inexactly_so mode negative q amount parts loss p n h =
     let w = whole_inexactly mode negative q amount parts loss p n h in
     sym (ne_eqb (whole_pick mode negative amount parts * parts) amount
     (λ e. off_both (rounds_up mode negative loss (eqb (q % 2) 1)) q amount parts
-        (stands_past q loss amount parts p n h) (stands_to q loss amount parts p h)
-            (ap (λ (x : ℕ). x * parts) (sym w) ∙ e)))
+    (stands_past q loss amount parts p n h) (stands_to q loss amount parts p h)
+    (ap (λ (x : ℕ). x * parts) (sym w) ∙ e)))
 
 -- ---- by cases of what was lost
 
@@ -119,7 +119,7 @@ cut_whole_stands s q k amount parts loss e h =
     let u : 2 ^ k * parts ≡ parts * 2 ^ k = omega arith in
     let t : StandsFor q loss (s * parts) (parts * 2 ^ k) = subst (λ (x : ℕ). StandsFor q loss (s * parts) x) u h in
     let t' : StandsFor q loss (amount * 2 ^ k) (parts * 2 ^ k) =
-        subst (λ (x : ℕ). StandsFor q loss x (parts * 2 ^ k)) (sym e) t in
+    subst (λ (x : ℕ). StandsFor q loss x (parts * 2 ^ k)) (sym e) t in
     stands_cancel q loss amount parts (2 ^ k) (pow_pos k) t'
 
 -- the last digit `k` places below one, and above
@@ -128,7 +128,7 @@ pub places_down : (digits scale : ℕ) (min_exp x r : ℤ) (s a k : ℕ) → pos
     → a * 2 ^ k ≡ s * 2 ^ scale
 places_down digits scale min_exp x r s a k z e f h =
     let g = scaled_stands s a (down (x -ℤ min_exp)) (up (x -ℤ min_exp)) 0 scale 0 k h
-        (omega (arith, ints, z, e, f)) in
+    (omega (arith, ints, z, e, f)) in
     omega (arith, g)
 
 pub places_up : (digits scale : ℕ) (min_exp x r : ℤ) (s a k : ℕ) → pos scale ≡ pos digits -ℤ min_exp
@@ -136,7 +136,7 @@ pub places_up : (digits scale : ℕ) (min_exp x r : ℤ) (s a k : ℕ) → pos s
     → a ≡ s * 2 ^ k * 2 ^ scale
 places_up digits scale min_exp x r s a k z e f h =
     let g = scaled_stands s a (down (x -ℤ min_exp)) (up (x -ℤ min_exp)) 0 scale k 0 h
-        (omega (arith, ints, z, e, f)) in
+    (omega (arith, ints, z, e, f)) in
     omega (arith, g)
 
 pub up_of : (z : ℤ) → pos 0 ≤ℤ z → pos (up z) ≡ z
@@ -167,7 +167,7 @@ too_large mode negative digits scale min_exp x s a c z f g h =
     let k : ℕ = up (x -ℤ pos digits) in
     let q : pos (up (x -ℤ pos digits)) ≡ (x -ℤ pos digits) = up_of (x -ℤ pos digits) n in
     let e = places_up digits scale min_exp x (x -ℤ pos digits) s a (up (x -ℤ pos digits)) z refl
-        (omega (arith, ints, q)) h in
+    (omega (arith, ints, q)) h in
     let w = whole_exactly mode negative (s * 2 ^ up (x -ℤ pos digits)) a (2 ^ scale) (pow_pos scale) e in
     subst (λ (y : ℕ). 2 ^ 128 ≤ y) (sym w) (shifted_past digits s (up (x -ℤ pos digits)) f (omega (arith, ints, q)))
 
@@ -203,8 +203,8 @@ pub integral_stays : (f : Format) (mode : Round) (b : Bool) (n q : ℕ) → 0 < 
     → IsRoundToIntegral f mode (finite b n) (finite b n) 0
 integral_stays f mode b n q p e =
     integral_picked f mode b n q true (finite b n) 0
-        (sym (whole_exactly mode b q n (2 ^ f.scale) (pow_pos f.scale) e))
-            (exactly_so mode b q n (2 ^ f.scale) (pow_pos f.scale) e)
+    (sym (whole_exactly mode b q n (2 ^ f.scale) (pow_pos f.scale) e))
+    (exactly_so mode b q n (2 ^ f.scale) (pow_pos f.scale) e)
     (sym (signed_some f.nonfinite b n p) ∙ ap (λ (k : ℕ). signed_quanta f.nonfinite b k) e) refl
 
 -- ---- toward zero a whole number stays, and no other does

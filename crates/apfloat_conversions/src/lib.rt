@@ -4,8 +4,8 @@
 //! `apfloat_ieee` brings the constants of a type to it.
 #![tactic(auto)]
 
-pub mod exponents;
 pub mod between_formats;
+pub mod exponents;
 mod held;
 pub mod integers;
 pub mod integral;

@@ -8,7 +8,7 @@ use Rattle.apfloat_unpacked.specs.declared.shape.Shape.{Shape}
 abbrev pub constants_of : {X : Type 0} → Ghosts X → Constants
 constants_of s =
     constants_with s.BITS s.EXP_BITS s.PRECISION s.NONFINITE_BEHAVIOR s.MAX_EXP s.IEEE_MAX_EXP s.MIN_EXP
-        s.IEEE_MIN_EXP
+    s.IEEE_MIN_EXP
     s.NAN_SIGNIFICAND_BASE s.NAN_PAYLOAD_MASK s.QNAN_SIGNIFICAND s.EXPLICIT_INTEGER_BIT s.TINY_BEFORE_ROUNDING
 
 abbrev pub format_of : {X : Type 0} → Ghosts X → Format

@@ -60,7 +60,7 @@ halves_joined k n = let e : n / 2 ^ k * 2 ^ k + n % 2 ^ k ≡ n = shr_split n k 
 or_halves : (k h l : ℕ) → h < 2 ^ k → l < 2 ^ k → bit_or h (l * 2 ^ k % 2 ^ (k + k)) ≡ h + 2 ^ k * l
 or_halves k h l a b =
     ap (λ (i : ℕ). bit_or h i) (shl_whole l k k (k + k) b (omega arith)) ∙ or_comm h (l * 2 ^ k) ∙
-        or_shifted l k h a ∙
+    or_shifted l k h a ∙
     omega arith
 
 -- the bits as the code joins them

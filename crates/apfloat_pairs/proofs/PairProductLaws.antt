@@ -59,7 +59,7 @@ exact_steps precision wide scale a c x ad bc t tau w za zb nt l =
     let ew = zero_close precision (2 ^ scale) bc l.w (pow_pos scale) zb l.w_close in
     let sum : (l.v +ℤ l.w) ≡ pos 0 = omega (arith, ints, ev, ew) in
     let ec = nearest_exact precision (l.v +ℤ l.w) l.cross
-        (on_grid_as (sym (ap magnitude sum)) (zero_on_grid precision))
+    (on_grid_as (sym (ap magnitude sum)) (zero_on_grid precision))
     l.cross_is in
     let q : ((x -ℤ t) +ℤ l.cross) ≡ (x -ℤ t) = omega (arith, ints, ec, sum) in
     let o : IsGridNumber precision (x -ℤ t) =
@@ -98,7 +98,7 @@ alone_product x y answer status k s t e =
     let ga = member_on_grid x.high s.is_finite s.is_double in
     let gc = member_on_grid y.high t.is_finite t.is_double in
     let r = in_range (number x.high) (number y.high) ga gc
-        (lengths_of x y 970 1021 1178 3169 e (lit≤ tt) (lit≤ tt)) in
+    (lengths_of x y 970 1021 1178 3169 e (lit≤ tt) (lit≤ tt)) in
     let n = product_numbers x y answer status r.0 (single_factor x s e.first_is_number)
     (single_factor y t e.second_is_number) r.1 k in
     let zx = single_low x s in
@@ -106,7 +106,7 @@ alone_product x y answer status k s t e =
     let v : (n.t +ℤ n.tau) ≡ r.0 =
     exact_steps double.precision wide_enough double.scale (number x.high) (number y.high) r.0 _ _ n.t n.tau r.1.whole
     (no_product (number x.high) (number y.low) zy) (no_product_first (number x.low) (number y.high) zx) n.t_is
-        n.lost in
+    n.lost in
     record {
       normalised = n.normalised;
       number_is =

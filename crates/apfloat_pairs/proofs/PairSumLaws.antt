@@ -60,7 +60,7 @@ single_normalised x s r =
       status = n.status;
       is_nearest =
           subst (λ (l : Datum). IsSum double NearestTiesToEven x.high l n.nearest n.status) (sym s.low_is)
-              n.is_nearest;
+          n.is_nearest;
       same_number = n.same_number;
     }
 

@@ -68,5 +68,5 @@ pair_to_signed_below mode width x number flags exact answer status is_exact e h 
       is_magnitude = h;
       is =
           subst (λ (b : Bool). IsNegatedWhole b width number flags exact answer status is_exact)
-              (zero_agrees x.high) w;
+          (zero_agrees x.high) w;
     })

@@ -62,7 +62,7 @@ widened_same b n value m w =
       zero_has = λ z. refl;
     } in
     let c = exactly_converted double wide NearestTiesToEven (finite b n) value w.status w.loses_info
-        w.is_conversion in
+    w.is_conversion in
     (c n refl t).value_is
 
 -- ---- the difference
@@ -82,7 +82,7 @@ difference_rounded b m n value status d =
     let s : IsSum wide NearestTiesToEven (finite b m) (finite (not b) n) value status =
     subst (λ (i : Datum). IsSum wide NearestTiesToEven (finite b m) i value status) (negated_is b n) d in
     subst (λ (z : Bool). IsRounded wide NearestTiesToEven z (signed b m -ℤ signed b n) 1 value status)
-        (no_zero_sign b)
+    (no_zero_sign b)
     (subst (λ (e : ℤ). IsRounded wide NearestTiesToEven (zero_sum_sign NearestTiesToEven b (not b)) e 1 value status)
     (plus_negated b m n) s)
 

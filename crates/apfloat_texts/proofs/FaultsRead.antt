@@ -33,7 +33,7 @@ pub literal_read : (shape : Shape) (mode : Round) (negative : Bool) (rest tail :
     → IsStored shape answer.value
     → IsScaledDelivery (format_at shape) mode negative (digits_number rest)
     ((exponent_number (drop 1 tail) -ℤ pos (4 * places)) +ℤ pos (format_at shape).scale)
-        (datum_at shape answer.value) (bits_of answer.status)
+    (datum_at shape answer.value) (bits_of answer.status)
     → IsLiteralRead shape mode negative rest answer
 literal_read shape mode negative rest tail significand loss cut places some answer n s f stored d =
     record {

@@ -23,9 +23,9 @@ pub with_next_cut : (number significand digit cut : ℕ) (loss after : Loss) →
     → IsKept (number * 16 + digit) significand after (cut + 1)
 with_next_cut number significand digit cut loss after p full k step =
     let before : StandsFor significand loss number (2 * 2 ^ (4 * cut - 1)) =
-        subst (λ (u : ℕ). StandsFor significand loss number u) (even cut p) k.stands in
+    subst (λ (u : ℕ). StandsFor significand loss number u) (even cut p) k.stands in
     let u : 16 * (2 * 2 ^ (4 * cut - 1)) ≡ 2 ^ (4 * (cut + 1)) = ap (λ (x : ℕ). 16 * x) (sym (even cut p)) ∙
-        sym (sixteenfold cut) in
+    sym (sixteenfold cut) in
     record {
       stands = subst (λ (x : ℕ). StandsFor significand after (number * 16 + digit) x) u
           (step (2 ^ (4 * cut - 1)) (pow_pos (4 * cut - 1)) before);
@@ -42,7 +42,7 @@ with_first_cut number significand digit cut loss after none full k step =
     let l : loss ≡ ExactlyZero = k.exact none in
     let one : 2 ^ (4 * cut) ≡ 1 = ap (λ (n : ℕ). 2 ^ (4 * n)) none in
     let s : number ≡ significand * 2 ^ (4 * cut) =
-        subst (λ (x : Loss). StandsFor significand x number (2 ^ (4 * cut))) l k.stands in
+    subst (λ (x : Loss). StandsFor significand x number (2 ^ (4 * cut))) l k.stands in
     let t : number ≡ significand * 1 = s ∙ ap (λ (n : ℕ). significand * n) one in
     let u : 2 * 8 * 1 ≡ 2 ^ (4 * (cut + 1)) = ap (λ (n : ℕ). 16 * n) (sym one) ∙ sym (sixteenfold cut) in
     record {

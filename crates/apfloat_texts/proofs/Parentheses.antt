@@ -38,7 +38,7 @@ without_start [] h p = absurd (omega (arith, h))
 without_start (c ∷ []) h p = absurd (omega (arith, h))
 without_start (c ∷ d ∷ ys) h p =
     cond-false _ _ _
-        (by_ends c d ys ∙ ap (λ (b : Bool). b && eqb (get_or (d ∷ ys) (length ys) 0) 41) (ne_eqb c 40 p))
+    (by_ends c d ys ∙ ap (λ (b : Bool). b && eqb (get_or (d ∷ ys) (length ys) 0) 41) (ne_eqb c 40 p))
 
 pub without_end : (xs : List ℕ) → 2 ≤ length xs → (get_or xs (length xs - 1) 0 ≡ 41 → ⊥)
     → payload_of xs ≡ plain_payload xs
@@ -46,8 +46,8 @@ without_end [] h p = absurd (omega (arith, h))
 without_end (c ∷ []) h p = absurd (omega (arith, h))
 without_end (c ∷ d ∷ ys) h p =
     cond-false _ _ _
-        (by_ends c d ys ∙
-            and_right (eqb c 40) _ (ne_eqb (get_or (d ∷ ys) (length ys) 0) 41 (λ e. p (last_of c d ys ∙ e))))
+    (by_ends c d ys ∙
+    and_right (eqb c 40) _ (ne_eqb (get_or (d ∷ ys) (length ys) 0) 41 (λ e. p (last_of c d ys ∙ e))))
 
 pub too_short : (xs : List ℕ) → 1 ≤ length xs → length xs < 2 → payload_of xs ≡ plain_payload xs
 too_short [] h l = absurd (omega (arith, h))

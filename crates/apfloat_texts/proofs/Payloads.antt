@@ -40,9 +40,11 @@ goes radix n c m digits false l p q e = cc
 goes radix n c m digits true false p q e = cc
 goes radix n c m digits true true p q e =
     let same : longer radix n c ≡ m = cc in
-    let small = ltb-true (longer radix n c) (2 ^ 128) q in
-    (omega (arith, same, small), first_holds (is_digit_of radix c) (every (is_digit_of radix) digits) _ _ p ∙
-        ap (λ (k : ℕ). read_on radix k digits) same)
+    let small = ltb-true (longer radix n c) (2 ^ 128) q in (
+      omega (arith, same, small),
+      first_holds (is_digit_of radix c) (every (is_digit_of radix) digits) _ _ p ∙
+          ap (λ (k : ℕ). read_on radix k digits) same,
+    )
 
 -- ---- all of them
 

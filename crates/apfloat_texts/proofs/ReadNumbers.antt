@@ -35,7 +35,7 @@ far_up f number s k z p some from e far =
     let g : f.precision + f.span + down p ≤ k + up p = omega (arith, ints, e, far) in
     let h : 2 ^ (f.precision + f.span + down p) ≤ 2 ^ (k + up p) = pow-le-pow_right two_pos g in
     let i : 2 ^ (f.precision + f.span + down p) ≡ 2 ^ (f.precision + f.span) * 2 ^ down p =
-        pow-add 2 (f.precision + f.span) (down p) in
+    pow-add 2 (f.precision + f.span) (down p) in
     let j : 2 ^ (k + up p) ≡ 2 ^ k * 2 ^ up p = pow-add 2 k (up p) in
     record { some = pow_pos (down p); from = omega (arith, c, h, i, j) }
 
@@ -109,9 +109,9 @@ stands_at number s k scale loss unit h =
     let w : ℕ = 2 ^ (up p + down u) in
     let a = stands_times s loss number (2 ^ k) w (pow_pos (up p + down u)) h in
     let b : number * w ≡ number * 2 ^ up p * 2 ^ down u = ap (λ (x : ℕ). number * x) (pow-add 2 (up p) (down u)) ∙
-        omega arith in
+    omega arith in
     let c : 2 ^ k * w ≡ 2 ^ down p * 2 ^ up u = sym (pow-add 2 k (up p + down u)) ∙
-        ap (λ (x : ℕ). 2 ^ x) (balanced k scale unit) ∙ pow-add 2 (down p) (up u) in
+    ap (λ (x : ℕ). 2 ^ x) (balanced k scale unit) ∙ pow-add 2 (down p) (up u) in
     rw (b, c) at a
 
 pub number_delivered : (f : Format) (mode : Round) (negative : Bool) (number s cut places : ℕ) (loss : Loss)
@@ -124,13 +124,13 @@ pub number_delivered : (f : Format) (mode : Round) (negative : Bool) (number s c
     → IsScaledDelivery f mode negative number ((exact -ℤ pos (4 * places)) +ℤ pos f.scale) v status
 number_delivered f mode negative number s cut places loss exact unit v status b some small k near step =
     let d = step (number * 2 ^ up (power_at (4 * cut) f.scale unit)) (2 ^ down (power_at (4 * cut) f.scale unit))
-        (pow_pos (down (power_at (4 * cut) f.scale unit)))
+    (pow_pos (down (power_at (4 * cut) f.scale unit)))
     (stands_at number s (4 * cut) f.scale loss unit k.stands) in
     let e : power_at (4 * cut) f.scale ((exact +ℤ pos (4 * cut)) -ℤ pos (4 * places))
-        ≡ (exact -ℤ pos (4 * places)) +ℤ pos f.scale = omega (arith, ints) in
+    ≡ (exact -ℤ pos (4 * places)) +ℤ pos f.scale = omega (arith, ints) in
     subst (λ (z : ℤ). IsScaledDelivery f mode negative number z v status) e
     (moved f mode negative number s cut loss ((exact +ℤ pos (4 * cut)) -ℤ pos (4 * places)) unit v status b some
-        small k near d)
+    small k near d)
 
 -- ---- nothing
 
@@ -139,7 +139,7 @@ nothing_read number cut loss k =
     ⊎_elim
     (λ (e : cut ≡ 0).
     let h : number ≡ 0 * 2 ^ (4 * cut) =
-        subst (λ (x : Loss). StandsFor 0 x number (2 ^ (4 * cut))) (k.exact e) k.stands in
+    subst (λ (x : Loss). StandsFor 0 x number (2 ^ (4 * cut))) (k.exact e) k.stands in
     omega (arith, h))
     (λ (l : 2 ^ 124 ≤ 0). absurd (omega (arith, l)))
     k.full

@@ -17,7 +17,7 @@ parted P [] h p = absurd (omega (arith, h))
 parted P (x ∷ xs) h p =
     let e : length (x ∷ xs) - 1 ≡ length xs = omega arith in
     let t : take (length (x ∷ xs) - 1) xs ≡ xs = ap (λ (n : ℕ). take n xs) e ∙
-        take_all (length xs) xs (omega arith) in
+    take_all (length xs) xs (omega arith) in
     subst (λ (l : List ℕ). P (x ∷ l)) (sym t) p
 
 pub begins_empty : (test : ℕ → Bool) (xs : List ℕ) → length xs < 1 → begins test xs ≡ false
@@ -44,7 +44,7 @@ pub scan_remade : (rest left : List ℕ) (next made : Scan) → made ≡ next
     → IsScan rest left made.digits.significand made.digits.loss made.digits.cut made.places made.pointed made.some
 scan_remade rest left next made e s =
     subst (λ (x : Scan). IsScan rest left x.digits.significand x.digits.loss x.digits.cut x.places x.pointed x.some)
-        (sym e) s
+    (sym e) s
 
 -- ---- the end of a significand
 

@@ -42,9 +42,9 @@ special_read shape mode text negative special value answer e stored meant v s =
         means = means_special text negative special e;
         is_meant =
             subst (λ (b : ℕ). IsMeant (format_at shape) mode (meaning_of negative special)
-                (datum_at shape answer.value) b) (sym s)
+            (datum_at shape answer.value) b) (sym s)
             (subst (λ (x : Unpacked). IsMeant (format_at shape) mode (meaning_of negative special)
-                (datum_at shape x) 0) (sym v) (meant mode));
+            (datum_at shape x) 0) (sym v) (meant mode));
       };
     }
 

@@ -18,4 +18,4 @@ pub record IsLiteralRead (shape : Shape) (mode : Round) (negative : Bool) (rest 
   pub stored : IsStored shape answer.value
   pub delivered : IsScaledDelivery (format_at shape) mode negative (digits_number rest)
       ((exponent_number (exponent_text rest) -ℤ pos (4 * places_behind_dot rest)) +ℤ pos (format_at shape).scale)
-          (datum_at shape answer.value) (bits_of answer.status)
+      (datum_at shape answer.value) (bits_of answer.status)

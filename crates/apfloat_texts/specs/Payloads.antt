@@ -24,7 +24,7 @@ next radix n c = if model.is_digit_of radix c && ltb (longer radix n c) (2 ^ 128
 abbrev pub read_on : model.Radix → ℕ → List ℕ → Option ℕ
 read_on radix n digits =
     if every (model.is_digit_of radix) digits && ltb (fold (longer radix) n digits) (2 ^ 128)
-        then Some (fold (longer radix) n digits) else None
+    then Some (fold (longer radix) n digits) else None
 
 -- what is said of a payload by the digits that were read and by those that are left
 pub record IsPayloadRead (radix : model.Radix) (digits left : List ℕ) (number : ℕ) : Type 0 where

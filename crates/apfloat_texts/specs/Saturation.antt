@@ -11,7 +11,7 @@ IsSaturated exact counted = (counted ≡ exact) ⊎ ((2 ^ 96 ≤ counted) × (2 
 abbrev pub IsNear : ℕ → ℤ → ℤ → Type 0
 IsNear bound exact near =
     (near ≡ exact) ⊎ (((pos bound ≤ℤ near) × (pos bound ≤ℤ exact))
-        ⊎ ((near ≤ℤ neg_ℤ (pos bound)) × (exact ≤ℤ neg_ℤ (pos bound))))
+    ⊎ ((near ≤ℤ neg_ℤ (pos bound)) × (exact ≤ℤ neg_ℤ (pos bound))))
 
 -- the number whose first decimal digits say n and whose other digits are these
 abbrev pub decimal_from : ℕ → List ℕ → ℕ

@@ -36,11 +36,11 @@ pub record IsScan (rest left : List ℕ) (significand : ℕ) (loss : Loss) (cut 
 
 -- What is said of the significand that stands in front of `tail`.
 pub record IsScanned (rest tail : List ℕ) (significand : ℕ) (loss : Loss) (cut places : ℕ) (some : Bool) : Type 0
-    where
-  pub kept : IsKept (digits_number rest) significand loss cut
-  pub places_are : places_behind_dot rest ≡ places
-  pub one_dot : ltb 1 (length (filter is_dot (significand_of rest))) ≡ false
-  pub empty_is : is_empty (filter is_hexadecimal (significand_of rest)) ≡ not some
-  pub tail_is : behind_significand rest ≡ tail
-  pub cut_fits : cut ≤ length rest
-  pub places_fit : places ≤ length rest
+  where
+    pub kept : IsKept (digits_number rest) significand loss cut
+    pub places_are : places_behind_dot rest ≡ places
+    pub one_dot : ltb 1 (length (filter is_dot (significand_of rest))) ≡ false
+    pub empty_is : is_empty (filter is_hexadecimal (significand_of rest)) ≡ not some
+    pub tail_is : behind_significand rest ≡ tail
+    pub cut_fits : cut ≤ length rest
+    pub places_fit : places ≤ length rest

@@ -32,7 +32,7 @@ top_place half m place shift top span full low within =
     (λ (h : span + shift < place).
     let a : 2 ^ (span + shift + 1) ≤ 2 ^ place = pow-le-pow_right two_pos (omega arith) in
     let b : 2 ^ (span + shift + 1) ≡ 2 ^ span * 2 ^ shift * 2 = pow-add 2 (span + shift) 1 ∙
-        ap (λ (x : ℕ). x * 2) (pow-add 2 span shift) in
+    ap (λ (x : ℕ). x * 2) (pow-add 2 span shift) in
     let c : half * 2 ^ place ≤ m * 2 ^ shift * 2 ^ place = mul-le-mul_right (2 ^ place) full in
     let d : m * 2 ^ place * 2 ^ shift ≤ top * 2 ^ span * 2 ^ shift = mul-le-mul_right (2 ^ shift) within in
     let e : half * (2 ^ span * 2 ^ shift * 2) ≤ half * 2 ^ place = mul-le-mul_left half (omega arith) in
@@ -40,7 +40,7 @@ top_place half m place shift top span full low within =
     let q : 1 * 2 ^ shift ≤ 2 ^ span * 2 ^ shift = mul-le-mul_right (2 ^ shift) p in
     let r : 0 < 2 ^ shift = pow_pos shift in
     let k : (top + 1) * (2 ^ span * 2 ^ shift) ≤ 2 * half * (2 ^ span * 2 ^ shift) =
-        mul-le-mul_right (2 ^ span * 2 ^ shift) (omega arith) in
+    mul-le-mul_right (2 ^ span * 2 ^ shift) (omega arith) in
     absurd (omega arith))
     (λ (h : place ≤ span + shift). h)
     (cases_lt (span + shift) place)
@@ -56,10 +56,15 @@ normal_at s m place shift e law fits full short is quanta within =
     let g = greatest_fits s.nonfinite s.precision in
     let p : place ≤ (format_at s).span + shift =
     top_place (2 ^ (s.precision - 1)) m place shift (greatest_significand s.nonfinite s.precision)
-        (format_at s).span full (omega (arith, g, t)) within in
+    (format_at s).span full (omega (arith, g, t)) within in
     record {
-      operand = record { fits = fits; full = full; least = omega (arith, ints); greatest =
-          omega (arith, ints, law, p) };
+      operand = record {
+        fits = fits;
+        full = full;
+        least = omega (arith, ints);
+        greatest =
+            omega (arith, ints, law, p);
+      };
       whole = whole_is s.min_exp (m * 2 ^ shift) e (m * 2 ^ place) quanta;
       within = rw (quanta_is s.min_exp (m * 2 ^ shift) e (m * 2 ^ place) quanta) within;
     }
@@ -79,7 +84,7 @@ moved_quanta : (s : Shape) (m digits place w : ℕ) (e : ℤ) → IsMovedUp s m 
     → IsQuantaAt s.min_exp w e (m * 2 ^ place)
 moved_quanta s m digits place w e h =
     sym (same_quanta m (s.precision - digits) place (up (e -ℤ s.min_exp)) (down (e -ℤ s.min_exp)) w (sym h.moved)
-        h.same)
+    h.same)
 
 pub moved_up_quanta : (s : Shape) (m digits place w : ℕ) (e : ℤ) → IsMovedUp s m digits place w e
     → quanta_at s.min_exp w e ≡ m * 2 ^ place
@@ -91,11 +96,11 @@ moved_up_normal s m digits place w e law h =
     let l : digits ≤ s.precision = digits_le m digits s.precision h.fits h.full in
     let d : 0 < digits = some_digits m digits h.below h.some in
     let f : m * 2 ^ (s.precision - digits) < 2 ^ s.precision =
-        fits_shifted m digits (s.precision - digits) s.precision h.below (omega arith) in
+    fits_shifted m digits (s.precision - digits) s.precision h.below (omega arith) in
     let g : 2 ^ (s.precision - 1) ≤ m * 2 ^ (s.precision - digits) =
-        full_shifted m digits (s.precision - digits) s.precision d h.full (omega arith) in
+    full_shifted m digits (s.precision - digits) s.precision d h.full (omega arith) in
     let q : IsQuantaAt s.min_exp (m * 2 ^ (s.precision - digits)) e (m * 2 ^ place) =
-        rw h.moved at (moved_quanta s m digits place w e h) in
+    rw h.moved at (moved_quanta s m digits place w e h) in
     rw h.moved (normal_at s m place (s.precision - digits) e law f g (omega arith) h.exponent q h.within)
 
 -- ---- numbers below the least normal exponent, and from it on
@@ -122,7 +127,7 @@ quanta_low_below s m e d n p k h =
     let t : 2 * 2 ^ (s.precision - 1) ≡ 2 ^ s.precision = twice_half s.precision (omega arith) in
     let w : quanta_at s.min_exp m e * 2 ^ down (e -ℤ s.min_exp) ≡ m * 2 ^ up (e -ℤ s.min_exp) = n.whole in
     let v : quanta_at s.min_exp m e * 2 ^ d ≡ m * 2 ^ 0 =
-        ap (λ (x : ℕ). quanta_at s.min_exp m e * 2 ^ x) (sym a.0) ∙ w ∙ ap (λ (x : ℕ). m * 2 ^ x) a.1 in
+    ap (λ (x : ℕ). quanta_at s.min_exp m e * 2 ^ x) (sym a.0) ∙ w ∙ ap (λ (x : ℕ). m * 2 ^ x) a.1 in
     let b : 2 ^ 1 ≤ 2 ^ d = pow-le-pow_right two_pos h in
     let c : quanta_at s.min_exp m e * 2 ≤ quanta_at s.min_exp m e * 2 ^ d = mul-le-mul_left q b in
     let f = n.operand.fits in

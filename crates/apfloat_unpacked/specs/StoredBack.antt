@@ -58,11 +58,11 @@ full_back precision s n u d h =
     let m = moved precision u d h.short in
     let e = h.same in
     let a : n * 2 ^ d * 2 ^ (precision - 1) ≡ s * 2 ^ u * 2 ^ (precision - 1) =
-        ap (λ (x : ℕ). x * 2 ^ (precision - 1)) e in
+    ap (λ (x : ℕ). x * 2 ^ (precision - 1)) e in
     let b : s * (2 ^ (precision - 1) * 2 ^ u) ≡ s * (2 ^ top_of precision u d * 2 ^ d) = ap (λ (x : ℕ). s * x) m in
     let l : n * 2 ^ (precision - 1) * 2 ^ d ≡ s * 2 ^ top_of precision u d * 2 ^ d = omega arith in
     let k : n * 2 ^ (precision - 1) ≡ s * 2 ^ top_of precision u d =
-        eq_of_mul-eq-mul_right (2 ^ d) (pow_pos d) _ _ l in
+    eq_of_mul-eq-mul_right (2 ^ d) (pow_pos d) _ _ l in
     rw k (shl-shr s (top_of precision u d))
 
 -- ---- a stored number
@@ -95,7 +95,7 @@ quanta_some s m e h =
     let f = normal_full s m e h in
     let l = full_low _ _ _ _ _ f in
     let p : 0 < 2 ^ top_of s.precision (up (e -ℤ s.min_exp)) (down (e -ℤ s.min_exp)) =
-        pow_pos (top_of s.precision (up (e -ℤ s.min_exp)) (down (e -ℤ s.min_exp))) in
+    pow_pos (top_of s.precision (up (e -ℤ s.min_exp)) (down (e -ℤ s.min_exp))) in
     omega arith
 
 abbrev record_of : ℕ → ℤ → Category → Bool → Unpacked
@@ -108,7 +108,7 @@ number_back s b m e h =
     let f = normal_full s m e h in
     let t = top_is s m e h in
     let x : exponent_at s (top_of s.precision (up (e -ℤ s.min_exp)) (down (e -ℤ s.min_exp))) ≡ e =
-        omega (arith, ints, h.operand.least, f.some) in
+    omega (arith, ints, h.operand.least, f.some) in
     rw (t, full_back _ _ _ _ _ f, x) refl
 
 same_parts : (m n : ℕ) (d e : ℤ) (k l : Category) (b : Bool) → m ≡ n → d ≡ e → k ≡ l
@@ -119,7 +119,7 @@ back_by : (k : Category) (s : Shape) (x : Unpacked) → k ≡ x.category → IsS
     → unpacked_of s (datum_by k s x) ≡ x
 back_by Normal s x k h =
     let n : eqb (quanta_at s.min_exp x.significand x.exponent) 0 ≡ false =
-        ne_eqb _ 0 (λ z. omega (arith, quanta_some s x.significand x.exponent h, z)) in
+    ne_eqb _ 0 (λ z. omega (arith, quanta_some s x.significand x.exponent h, z)) in
     rw n (number_back s x.negative x.significand x.exponent h ∙ same_parts _ _ _ _ _ _ x.negative refl refl k)
 back_by Zero s x k h = same_parts _ _ _ _ _ _ x.negative (sym h.significand_is) (sym h.exponent_is) k
 back_by Infinity s x k h = same_parts _ _ _ _ _ _ x.negative (sym h.significand_is) (sym h.exponent_is) k

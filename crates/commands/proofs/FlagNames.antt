@@ -42,7 +42,7 @@ names_more : (status place : ℕ) (table : List (List ℕ × ℕ)) (flag d : Lis
     ≡ raised_names status (take place table) ++ map (λ (x : List ℕ × ℕ). x.0) (cond b (flag ∷ []) [])
 names_more status place table flag d b within e raised =
     let one : List ℕ × ℕ → List (List ℕ × ℕ) =
-        λ x. filter (is_raised status) (take place table) ++ cond (is_raised status x) (x ∷ []) [] in
+    λ x. filter (is_raised status) (take place table) ++ cond (is_raised status x) (x ∷ []) [] in
     ap (map (λ (x : List ℕ × ℕ). x.0))
     (filter_more (is_raised status) table place d within
     ∙ ap one e
@@ -58,9 +58,9 @@ named status place table flag d separator old now new within e raised so_far mor
     let more = names_more status place table flag d true within e raised in
     let names = raised_names status (take place table) in
     let text : join_with_byte bar (raised_names status (take (place + 1) table))
-        ≡ join_with_byte bar names ++ (separator ++ flag.0) =
+    ≡ join_with_byte bar names ++ (separator ++ flag.0) =
     ap (join_with_byte bar) more ∙ join-push names flag.0 ∙
-        ap (λ l. join_with_byte bar names ++ (l ++ flag.0)) (sym so_far.separator_is) in
+    ap (λ l. join_with_byte bar names ++ (l ++ flag.0)) (sym so_far.separator_is) in
     record {
       separator_is = sym (ap bar_after more ∙ bar-push names flag.0);
       written = subst (Appends old new) (sym text) (Appends-trans old now new _ _ so_far.written more_is);
@@ -92,7 +92,7 @@ pub name_more : {A : Type 0} (row : A → List ℕ × ℕ) (items : List A) (d :
 name_more row items d status place separator name old now new within raised name_is so_far more_is =
     let inside : place < length (map row items) = rw (length-map items row) within in
     named status place (map row items) (row (get_or items place d)) (row d) separator old now new inside
-        (at_place row items place d within) raised so_far
+    (at_place row items place d within) raised so_far
     (subst (λ l. Appends now new (separator ++ l)) name_is more_is)
 
 pub name_same : {A : Type 0} (row : A → List ℕ × ℕ) (items : List A) (d : A) (status place : ℕ) (separator : List ℕ)
@@ -103,13 +103,13 @@ pub name_same : {A : Type 0} (row : A → List ℕ × ℕ) (items : List A) (d :
 name_same row items d status place separator old now within raised so_far =
     let inside : place < length (map row items) = rw (length-map items row) within in
     passed status place (map row items) (row (get_or items place d)) (row d) separator old now inside
-        (at_place row items place d within) raised so_far
+    (at_place row items place d within) raised so_far
 
 not_ok : (status : ℕ) → raised_names status ((codes "OK", 0) ∷ flags) ≡ raised_names status flags
 not_ok status =
     let none : is_raised status (codes "OK", 0) ≡ false = ap (λ n. not (n == 0)) (and_zero_r status) in
     ap (λ b. map (λ (x : List ℕ × ℕ). x.0)
-        (cond b ((codes "OK", 0) ∷ filter (is_raised status) flags) (filter (is_raised status) flags))) none
+    (cond b ((codes "OK", 0) ∷ filter (is_raised status) flags) (filter (is_raised status) flags))) none
 
 -- all names; the row of the empty status has none
 pub name_all : {A : Type 0} (row : A → List ℕ × ℕ) (items : List A) (status place : ℕ) (separator : List ℕ)
@@ -121,5 +121,5 @@ name_all row items status place separator old new past table_is some so_far =
     let names = ap (raised_names status) (take_all place (map row items) past_table ∙ table_is) ∙ not_ok status in
     let text : status_text status ≡ join_with_byte bar (raised_names status (take place (map row items))) =
     ap (λ b. cond b (codes "OK") (join_with_byte bar (raised_names status flags))) some ∙
-        ap (join_with_byte bar) (sym names) in
+    ap (join_with_byte bar) (sym names) in
     subst (Appends old new) (sym text) so_far.written

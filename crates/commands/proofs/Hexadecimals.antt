@@ -73,7 +73,7 @@ pub last_digits : (number digits : ℕ) (text : List ℕ) → digits ≤ 32 → 
 last_digits number digits text within text_is =
     let all : 32 ≡ digits + (32 - digits) = omega arith in
     let dropped = ap (drop (32 - digits)) (text_is ∙ ap (hexadecimal_text number) all) ∙
-        text_drop number digits (32 - digits) in
+    text_drop number digits (32 - digits) in
     let size = length-text number digits in
     let whole : length (hexadecimal_text number digits) ≤ 32 - (32 - digits) = omega arith in
     ap (take (32 - (32 - digits))) dropped ∙ take_all _ (hexadecimal_text number digits) whole

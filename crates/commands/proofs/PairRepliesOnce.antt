@@ -45,7 +45,7 @@ only_pair_line value status bits width encoded width_is =
 line_of : (v w : Pair) (s t : ℕ) (reply : Reply) → v ≡ w → s ≡ t → IsPairLineOf v s reply → IsPairLineOf w t reply
 line_of v w s t reply value_is status_is is_line =
     subst (λ (x : ℕ). IsPairLineOf w x reply) status_is
-        (subst (λ (x : Pair). IsPairLineOf x s reply) value_is is_line)
+    (subst (λ (x : Pair). IsPairLineOf x s reply) value_is is_line)
 
 -- ---- one reply
 

@@ -108,7 +108,7 @@ behind_0x word = if same (take 2 word) (codes "0x") then drop 2 word else word
 abbrev pub are_bits : ℕ → List ℕ → Bool
 are_bits width digits =
     not (is_empty digits) && nat_le (length digits) 32 && every is_hexadecimal digits && nat_lt (number 16 digits)
-        (2 ^ width)
+    (2 ^ width)
 
 abbrev pub bits_of_digits : ℕ → List ℕ → Option ℕ
 bits_of_digits width digits = if are_bits width digits then Some (number 16 digits) else None

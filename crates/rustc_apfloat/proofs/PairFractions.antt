@@ -59,7 +59,7 @@ near f negative n top value exponent p h x =
     ⊎_elim
     (λ (z : up exponent ≡ 0).
     let l : down exponent ≤ f.scale =
-        few_places n x.fraction f.scale (down exponent) (up exponent) p x.high z x.same in
+    few_places n x.fraction f.scale (down exponent) (up exponent) p x.high z x.same in
     record { low = omega (arith, ints, l, z); high = omega (arith, ints, l, z) })
     (λ (z : down exponent ≡ 0).
     let l : up exponent ≤ top = few_steps n x.fraction f.scale top (down exponent) (up exponent) h x.low z x.same in

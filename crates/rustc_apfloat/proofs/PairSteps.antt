@@ -146,17 +146,17 @@ anew_beyond mode x y big small z flags is_within answer status o w e v s =
       is_lows = o.is_lows;
       is_with_lesser =
           subst (λ (d : Datum). IsSum double mode o.lows d o.with_lesser o.with_lesser_flags) o.small_is
-              o.is_with_lesser;
+          o.is_with_lesser;
       is_z = subst (λ (d : Datum). IsSum double mode o.with_lesser d z o.z_flags) o.big_is o.is_z;
       is_answer =
           match_false (is_finite z) (IsSumAnewLow mode x y z all answer status)
-              (IsPairAnswer (alone z) all answer status)
+          (IsPairAnswer (alone z) all answer status)
           (sym (finite_agrees z) ∙ sym w ∙ e)
           (record {
             answer_is = v;
             status_is = s ∙
                 two_joined o.lows_flags o.with_lesser_flags o.z_flags o.flags_with_lesser flags o.joined
-                    o.flags_are;
+                o.flags_are;
           });
     }
 
@@ -168,7 +168,7 @@ pub anew_within : (mode : Round) (x y : Pair) (big small z low : Datum) (flags a
 anew_within mode x y big small z low flags all_flags is_within answer status o w e k v s =
     let all = o.lows_flags ∪ o.with_lesser_flags ∪ o.z_flags in
     let opened =
-        two_joined o.lows_flags o.with_lesser_flags o.z_flags o.flags_with_lesser flags o.joined o.flags_are in
+    two_joined o.lows_flags o.with_lesser_flags o.z_flags o.flags_with_lesser flags o.joined o.flags_are in
     record {
       lows = o.lows;
       with_lesser = o.with_lesser;
@@ -179,11 +179,11 @@ anew_within mode x y big small z low flags all_flags is_within answer status o w
       is_lows = o.is_lows;
       is_with_lesser =
           subst (λ (d : Datum). IsSum double mode o.lows d o.with_lesser o.with_lesser_flags) o.small_is
-              o.is_with_lesser;
+          o.is_with_lesser;
       is_z = subst (λ (d : Datum). IsSum double mode o.with_lesser d z o.z_flags) o.big_is o.is_z;
       is_answer =
           match_true (is_finite z) (IsSumAnewLow mode x y z all answer status)
-              (IsPairAnswer (alone z) all answer status)
+          (IsPairAnswer (alone z) all answer status)
           (sym (finite_agrees z) ∙ sym w ∙ e)
           (record {
             zz = k.zz;
@@ -198,7 +198,7 @@ anew_within mode x y big small z low flags all_flags is_within answer status o w
             is_left = subst (λ (d : Datum). IsDifference double mode d z k.left k.left_flags) o.big_is k.is_left;
             is_with_lesser =
                 subst (λ (d : Datum). IsSum double mode k.left d k.with_lesser k.with_lesser_flags) o.small_is
-                    k.is_with_lesser;
+                k.is_with_lesser;
             is_low = k.is_low;
             is_answer = record {
               answer_is = v;
@@ -299,13 +299,13 @@ pub sum_accurate : (mode : Round) (x y answer : Pair) (status : ℕ) → IsPairS
     → mode ≡ NearestTiesToEven → IsAccurateSum x y answer
 sum_accurate mode x y answer status =
     at_nearest (λ (i : Round). IsPairSum i x y answer status) (IsAccurateSum x y answer)
-        (accurate_sum x y answer status) mode
+    (accurate_sum x y answer status) mode
 
 pub sum_plain : (mode : Round) (x y answer : Pair) (status : ℕ) → IsPairSum mode x y answer status
     → mode ≡ NearestTiesToEven → HasPlainStatus x y status
 sum_plain mode x y answer status =
     at_nearest (λ (i : Round). IsPairSum i x y answer status) (HasPlainStatus x y status)
-        (plain_sum x y answer status) mode
+    (plain_sum x y answer status) mode
 
 pub difference_error_free : (mode : Round) (x y answer : Pair) (status : ℕ) → IsMember double x.high
     → IsMember double y.high → IsPairDifference mode x y answer status → mode ≡ NearestTiesToEven

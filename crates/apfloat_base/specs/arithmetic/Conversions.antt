@@ -21,7 +21,7 @@ places_out f g = if eqb (payload_mask f) 0 then 0 else f.precision - g.precision
 abbrev pub converted_nan : Format → Format → Bool → ℕ → Datum
 converted_nan f g negative significand =
     nan (nan_sign g.nonfinite negative)
-        (quiet_significand g (quieted f significand * 2 ^ (g.precision - f.precision) / 2 ^ places_out f g))
+    (quiet_significand g (quieted f significand * 2 ^ (g.precision - f.precision) / 2 ^ places_out f g))
 
 -- a bit was cut off, or the integer bit of a signaling NaN, or the whole payload
 abbrev pub nan_loses : Format → Format → ℕ → Bool
@@ -75,5 +75,5 @@ IsConversion f g mode (finite b n) value status loses_info =
 abbrev pub IsExactlyConverted : Format → Format → Datum → Datum → ℕ → Bool → Type 0
 IsExactlyConverted f g (finite b m) value status loses_info =
     (n : ℕ) → n * 2 ^ f.scale ≡ m * 2 ^ g.scale → IsFiniteOf g b n
-        → IsConverted (finite b n) ok_bits false value status loses_info
+    → IsConverted (finite b n) ok_bits false value status loses_info
 IsExactlyConverted f g x value status loses_info = ⊤

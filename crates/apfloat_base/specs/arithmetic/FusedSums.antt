@@ -20,6 +20,6 @@ pub record IsSumWithProduct (f : Format) (mode : Round) (x y z value : Datum) (s
 abbrev pub IsFusedSum : Format → Round → Datum → Datum → Datum → Datum → ℕ → Type 0
 IsFusedSum f mode (finite b l) (finite c m) (finite d n) value status =
     IsRounded f mode (zero_sum_sign mode (product_sign b c) d)
-        (signed (product_sign b c) (l * m) +ℤ signed d (n * 2 ^ f.scale)) (2 ^ f.scale) value status
+    (signed (product_sign b c) (l * m) +ℤ signed d (n * 2 ^ f.scale)) (2 ^ f.scale) value status
 IsFusedSum f mode (finite b l) (finite c m) z value status = IsSum f mode (finite b l) z value status
 IsFusedSum f mode x y z value status = IsSumWithProduct f mode x y z value status

@@ -26,15 +26,15 @@ abbrev pub IsNextOfNumber : Format → Bool → ℕ → Datum → ℕ → Type 0
 IsNextOfNumber f true quanta value status = IsNextLess f quanta value status
 IsNextOfNumber f false quanta value status =
     MatchBool (eqb quanta (largest f)) (IsAnswer (infinity_datum f) ok_bits value status)
-        (IsNextGreater f quanta value status)
+    (IsNextGreater f quanta value status)
 
 abbrev pub IsNextUp : Format → Datum → Datum → ℕ → Type 0
 IsNextUp f (nan b s) value status =
     MatchBool (is_signaling f s) (IsAnswer (nan b (quiet_significand f 0)) invalid_bit value status)
-        (IsAnswer (nan b s) ok_bits value status)
+    (IsAnswer (nan b s) ok_bits value status)
 IsNextUp f (infinite b) value status =
     MatchBool b (IsAnswer (finite true (largest f)) ok_bits value status)
-        (IsAnswer (infinite false) ok_bits value status)
+    (IsAnswer (infinite false) ok_bits value status)
 IsNextUp f (finite b n) value status =
     MatchBool (eqb n 0) (IsAnswer smallest_datum ok_bits value status) (IsNextOfNumber f b n value status)
 

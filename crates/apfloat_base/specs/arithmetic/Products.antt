@@ -27,4 +27,4 @@ IsProduct f mode (finite b m) (finite c n) value status =
 abbrev pub IsOpposite : Format → Round → Datum → Datum → Datum → ℕ → Type 0
 IsOpposite f mode x y value status =
     IsTrue (is_finite_non_zero x) → IsTrue (is_finite_non_zero y)
-        → IsProduct f (swapped mode) (negated f.nonfinite x) y (negated f.nonfinite value) status
+    → IsProduct f (swapped mode) (negated f.nonfinite x) y (negated f.nonfinite value) status

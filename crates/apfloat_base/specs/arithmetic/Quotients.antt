@@ -24,5 +24,5 @@ IsQuotient f mode (finite b m) (infinite c) value status =
 IsQuotient f mode (finite b m) (finite c n) value status =
     MatchBool (eqb n 0)
     (MatchBool (eqb m 0) (IsInvalid f value status)
-        (IsAnswer (infinity_of f (product_sign b c)) div_by_zero_bit value status))
+    (IsAnswer (infinity_of f (product_sign b c)) div_by_zero_bit value status))
     (IsDelivered f mode (product_sign b c) (m * 2 ^ f.scale) n value status)

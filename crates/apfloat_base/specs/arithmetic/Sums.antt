@@ -55,12 +55,12 @@ pub record IsExactly (exact : ℤ) (value : Datum) (status : ℕ) : Type 0 where
 abbrev pub IsNearby : Datum → Datum → Datum → ℕ → Type 0
 IsNearby x y value status =
     (m n : ℕ) → x ≡ finite false m → y ≡ finite false n → 0 < m → 0 < n → m ≤ 2 * n → n ≤ 2 * m
-        → IsExactly (pos m -ℤ pos n) value status
+    → IsExactly (pos m -ℤ pos n) value status
 
 -- The sum of numbers does not fall as one of them grows, in a format with infinities: the value of x + z is at most that
 -- of y + z, for each number y that is at least x.
 abbrev pub IsMonotone : Format → Round → Datum → Datum → Datum → Type 0
 IsMonotone f mode x z value =
     f.nonfinite ≡ IEEE754 → IsTrue (is_finite x) → IsTrue (is_finite z) → (y greater : Datum) (status : ℕ)
-        → IsTrue (is_finite y) → number x ≤ℤ number y
+    → IsTrue (is_finite y) → number x ≤ℤ number y
     → IsSum f mode y z greater status → AtMost value greater

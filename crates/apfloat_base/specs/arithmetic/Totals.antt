@@ -11,11 +11,11 @@ counted low negative exponent significand = signed negative (significand * 2 ^ u
 -- The number `exact`, counted in 2 ^ low, has that sign, and its magnitude is so many times 2 ^ exponent and a rest as
 -- the loss says.
 pub record StandsForSigned (low exact : ℤ) (negative : Bool) (exponent : ℤ) (significand : ℕ) (loss : Loss) : Type 0
-    where
-  pub above : low ≤ℤ exponent
-  pub amount : ℕ
-  pub is : signed negative amount ≡ exact
-  pub stands : StandsFor significand loss amount (2 ^ up (exponent -ℤ low))
+  where
+    pub above : low ≤ℤ exponent
+    pub amount : ℕ
+    pub is : signed negative amount ≡ exact
+    pub stands : StandsFor significand loss amount (2 ^ up (exponent -ℤ low))
 
 -- the greater of two integers
 pub record IsGreater (z a b : ℤ) : Type 0 where

@@ -46,11 +46,11 @@ abbrev pub implied_datum : NonfiniteBehavior → Format → Layout → Fields �
 -- the greatest exponent is that of the infinities and the NaNs
 implied_datum IEEE754 f layout x =
     if has_all_ones layout x then (if eqb x.trailing 0 then infinite x.negative else nan x.negative x.trailing)
-        else implied_number f x
+    else implied_number f x
 -- all ones is the NaN of the sign
 implied_datum NanOnly f layout x =
     if has_all_ones layout x && eqb x.trailing (all_ones (f.precision - 1)) then nan x.negative (nan_base f)
-        else implied_number f x
+    else implied_number f x
 -- what would be the negative zero is the NaN
 implied_datum NanNegativeZero f layout x =
     if x.negative && eqb x.biased_exponent 0 && eqb x.trailing 0 then nan false (nan_base f) else implied_number f x
@@ -84,7 +84,7 @@ abbrev pub is_canonical_written : Format → Layout → Fields → Bool
 is_canonical_written f layout x =
     if has_all_ones layout x then true
     else (if eqb x.biased_exponent 0 then ltb x.trailing (smallest_normalized f)
-        else leb (smallest_normalized f) x.trailing)
+    else leb (smallest_normalized f) x.trailing)
 
 abbrev pub is_canonical : Format → Layout → Fields → Bool
 is_canonical f layout x = if f.explicit_integer_bit then is_canonical_written f layout x else true

@@ -13,7 +13,7 @@ use Rattle.apfloat_base.specs.formats.Lawful.{Constants, HasNoBits, HasBits, May
 abbrev pub no_bits_test : Constants → Bool
 no_bits_test c =
     eqb c.bits 0 && (eqb c.exp_bits 0 &&
-        (int_eq c.ieee_min_exp (pos 0) && (int_eq c.ieee_max_exp (pos 0) && not c.explicit_integer_bit)))
+    (int_eq c.ieee_min_exp (pos 0) && (int_eq c.ieee_max_exp (pos 0) && not c.explicit_integer_bit)))
 
 abbrev pub bits_test : Constants → Bool
 bits_test c =

@@ -75,7 +75,7 @@ is_signaling_nan f (nan negative significand) = is_signaling f significand
 abbrev pub IsOfNans : Format → Bool → ℕ → Datum → Datum → ℕ → Type 0
 IsOfNans f negative significand right value status =
     IsAnswer (nan negative (quieted f significand))
-        (invalid_if (is_signaling f significand || is_signaling_nan f right)) value status
+    (invalid_if (is_signaling f significand || is_signaling_nan f right)) value status
 
 -- of an invalid operation on operands that are no NaNs (7.2)
 abbrev pub IsInvalid : Format → Datum → ℕ → Type 0

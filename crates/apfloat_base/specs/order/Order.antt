@@ -62,9 +62,9 @@ are_zeros x y = is_zero x && is_zero y
 abbrev pub minimum : Datum → Datum → Datum
 minimum x y =
     if is_nan x then x
-        else (if is_nan y then y else (if are_zeros x y then (if is_negative x then x else y) else min_num x y))
+    else (if is_nan y then y else (if are_zeros x y then (if is_negative x then x else y) else min_num x y))
 
 abbrev pub maximum : Datum → Datum → Datum
 maximum x y =
     if is_nan x then x
-        else (if is_nan y then y else (if are_zeros x y then (if is_negative x then y else x) else max_num x y))
+    else (if is_nan y then y else (if are_zeros x y then (if is_negative x then y else x) else max_num x y))

@@ -48,14 +48,14 @@ minimum_by category_of sign_of partial_cmp x y =
     if is_nan_category (category_of x) then x
     else (if is_nan_category (category_of y) then y
     else (if are_opposite_zeros category_of sign_of x y then (if sign_of x then x else y)
-        else min_by category_of partial_cmp x y))
+    else min_by category_of partial_cmp x y))
 
 abbrev pub maximum_by : {X : Type 0} → (X → Category) → (X → Bool) → (X → X → Option Ordering) → X → X → X
 maximum_by category_of sign_of partial_cmp x y =
     if is_nan_category (category_of x) then x
     else (if is_nan_category (category_of y) then y
     else (if are_opposite_zeros category_of sign_of x y then (if sign_of x then y else x)
-        else max_by category_of partial_cmp x y))
+    else max_by category_of partial_cmp x y))
 
 -- x with the sign of y
 abbrev pub signed_like : {X : Type 0} → (X → Bool) → (X → X) → X → X → X

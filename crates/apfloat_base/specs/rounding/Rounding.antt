@@ -20,7 +20,7 @@ takes_above NearestTiesToAway negative below_by above_by odd = leb above_by belo
 abbrev pub pick_between : Round → Bool → ℕ → ℕ → ℕ → ℕ → ℕ
 pick_between mode negative below above amount parts =
     if takes_above mode negative (amount - below * parts) (above * parts - amount)
-        (eqb (below / (above - below) % 2) 1) then above else below
+    (eqb (below / (above - below) % 2) 1) then above else below
 
 pub record IsPick (precision : ℕ) (mode : Round) (negative : Bool) (amount parts pick : ℕ) : Type 0 where
   pub below : ℕ
@@ -75,7 +75,7 @@ abbrev pub delivered_value : Format → Round → Bool → ℕ → Datum
 delivered_value f mode negative pick =
     if ltb (largest f) pick
     then (if leads_out mode negative then past_largest f.nonfinite (nan_base f) negative
-        else finite negative (largest f))
+    else finite negative (largest f))
     else signed_quanta f.nonfinite negative pick
 
 abbrev pub delivered_status : Format → Round → Bool → ℕ → ℕ → ℕ → ℕ
@@ -83,7 +83,7 @@ delivered_status f mode negative amount parts pick =
     if ltb (largest f) pick
     then (if leads_out mode negative then overflow_bit + inexact_bit else inexact_bit)
     else (if eqb (pick * parts) amount then ok_bits
-        else (if is_tiny f amount parts pick then underflow_bit + inexact_bit else inexact_bit))
+    else (if is_tiny f amount parts pick then underflow_bit + inexact_bit else inexact_bit))
 
 -- the magnitude amount / parts quanta with that sign, rounded once
 pub record IsDelivered (f : Format) (mode : Round) (negative : Bool) (amount parts : ℕ) (value : Datum)

@@ -14,7 +14,7 @@ use Rattle.apfloat_base.specs.texts.Texts.{Means, Fault, words, fault_of}
 abbrev pub read_nan : Format → Bool → Bool → ℕ → Datum
 read_nan f negative signaling payload =
     nan (nan_sign f.nonfinite negative)
-        (if signaling then signaling_significand f payload else quiet_significand f payload)
+    (if signaling then signaling_significand f payload else quiet_significand f payload)
 
 -- n * 2 ^ power quanta with that sign, rounded once
 abbrev pub IsScaledDelivery : Format → Round → Bool → ℕ → ℤ → Datum → ℕ → Type 0

@@ -84,7 +84,7 @@ abbrev pub payload_of : List ℕ → Option ℕ
 payload_of [] = Some 0
 payload_of (c ∷ text) =
     if same (c ∷ text) (in_parentheses (inside (c ∷ text))) then plain_payload (inside (c ∷ text))
-        else plain_payload (c ∷ text)
+    else plain_payload (c ∷ text)
 
 abbrev pub with_payload : Bool → Bool → Option ℕ → Option Meaning
 with_payload negative signaling None = None

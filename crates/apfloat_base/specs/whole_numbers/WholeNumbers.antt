@@ -37,4 +37,4 @@ IsRoundToIntegral f mode (nan b s) value status = IsOfNan f b s value status
 IsRoundToIntegral f mode (infinite b) value status = IsAnswer (infinite b) ok_bits value status
 IsRoundToIntegral f mode (finite b n) value status =
     IsAnswer (signed_quanta f.nonfinite b (whole_quanta f mode b n))
-        (inexact_unless (eqb (whole_quanta f mode b n) n)) value status
+    (inexact_unless (eqb (whole_quanta f mode b n) n)) value status

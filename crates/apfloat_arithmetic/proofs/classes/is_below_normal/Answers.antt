@@ -8,4 +8,4 @@ returns c =
     let s = c.args.shape in
     let x = normal_near s c.args.x.significand c.args.x.exponent c.requires.lawful c.requires.normal in
     rw (x.word, min_exp_word s c.requires.lawful)
-        (below_is s c.args.x.significand c.args.x.exponent c.requires.normal c.requires.lawful.precision_low)
+    (below_is s c.args.x.significand c.args.x.exponent c.requires.normal c.requires.lawful.precision_low)

@@ -12,12 +12,12 @@ returns-in-Normal c =
     let s = c.args.shape in
     let x = c.args.x in
     let n : IsNormal s x.significand x.exponent =
-        subst (λ (k : Category). IsStoredBy k s x) c.in-Normal.is c.requires.stored in
+    subst (λ (k : Category). IsStoredBy k s x) c.in-Normal.is c.requires.stored in
     subst (λ (k : Category). c.is_below_normal.result ≡ is_denormal (format_at s) (datum_by k s x))
-        (sym c.in-Normal.is)
+    (sym c.in-Normal.is)
     (c.is_below_normal.ensures ∙
-        sym (denormal_number (format_at s) x.negative (quanta_at s.min_exp x.significand x.exponent)
-            (quanta_some s x.significand x.exponent n)))
+    sym (denormal_number (format_at s) x.negative (quanta_at s.min_exp x.significand x.exponent)
+    (quanta_some s x.significand x.exponent n)))
 
 pub returns-in-Zero : goal.returns-in-Zero
 returns-in-Zero c = search rules steps 500000

@@ -9,5 +9,5 @@ pub returns-clause-delivered : goal.returns-clause-delivered
 returns-clause-delivered c = λ round parts p.
     let s = c.args.shape in
     let v : datum_at s c.and.result.value ≡ signed_quanta s.nonfinite c.args.negative 0 =
-        ap (datum_at s) c.and.ensures.value ∙ c.zero_of.ensures.datum in
+    ap (datum_at s) c.and.ensures.value ∙ c.zero_of.ensures.datum in
     rw (v, c.and.ensures.status) (zero_delivered (format_at s) round c.args.negative parts 0 p refl)

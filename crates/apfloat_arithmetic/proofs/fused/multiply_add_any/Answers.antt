@@ -15,8 +15,8 @@ returns-in-Zero-category-clause-delivered c =
     let x = c.args.x in
     let y = c.args.y in
     rw (datum_is Normal s x c.in-Normal.is, datum_is Zero s y c.in-Zero-category.is)
-        (c.add_to_zero_product.ensures.delivered x.negative y.negative
-            (quanta_at s.min_exp x.significand x.exponent) 0 (sym c.product_sign-negative.ensures) (omega arith))
+    (c.add_to_zero_product.ensures.delivered x.negative y.negative
+    (quanta_at s.min_exp x.significand x.exponent) 0 (sym c.product_sign-negative.ensures) (omega arith))
 
 pub returns-in-Infinity-category-clause-delivered : goal.returns-in-Infinity-category-clause-delivered
 returns-in-Infinity-category-clause-delivered c =
@@ -38,8 +38,8 @@ returns-in-Normal-category-2-clause-delivered c =
     let x = c.args.x in
     let y = c.args.y in
     rw (datum_is Zero s x c.in-Zero.is, datum_is Normal s y c.in-Normal-category-2.is)
-        (c.add_to_zero_product-in-Normal-category-2.ensures.delivered x.negative y.negative 0
-            (quanta_at s.min_exp y.significand y.exponent) (sym c.product_sign-negative.ensures) (omega arith))
+    (c.add_to_zero_product-in-Normal-category-2.ensures.delivered x.negative y.negative 0
+    (quanta_at s.min_exp y.significand y.exponent) (sym c.product_sign-negative.ensures) (omega arith))
 
 pub returns-in-Zero-category-2-clause-delivered : goal.returns-in-Zero-category-2-clause-delivered
 returns-in-Zero-category-2-clause-delivered c =
@@ -47,8 +47,8 @@ returns-in-Zero-category-2-clause-delivered c =
     let x = c.args.x in
     let y = c.args.y in
     rw (datum_is Zero s x c.in-Zero.is, datum_is Zero s y c.in-Zero-category-2.is)
-        (c.add_to_zero_product-in-Zero-category-2.ensures.delivered x.negative y.negative 0 0
-            (sym c.product_sign-negative.ensures) (omega arith))
+    (c.add_to_zero_product-in-Zero-category-2.ensures.delivered x.negative y.negative 0 0
+    (sym c.product_sign-negative.ensures) (omega arith))
 
 pub returns-in-Infinity-category-2-clause-delivered : goal.returns-in-Infinity-category-2-clause-delivered
 returns-in-Infinity-category-2-clause-delivered c =

@@ -14,7 +14,7 @@ use Rattle.apfloat_arithmetic.proofs.fused.multiply_add_numbers.Goals as goal
 pub add_terms-total-requires-clause-x_room : goal.add_terms-total-requires-clause-x_room
 add_terms-total-requires-clause-x_room c =
     wide_room c.args.shape.precision c.product_term-product.result.significand c.requires.short
-        c.product_term-product.ensures.fits
+    c.product_term-product.ensures.fits
 
 pub add_terms-total-requires-clause-y_room : goal.add_terms-total-requires-clause-y_room
 add_terms-total-requires-clause-y_room c =
@@ -22,8 +22,13 @@ add_terms-total-requires-clause-y_room c =
 
 pub deliver-requires-clause-near : goal.deliver-requires-clause-near
 deliver-requires-clause-near c =
-    omega (arith, ints, c.add_terms-total.ensures.near, c.product_term-product.ensures.near,
-        c.addend_term.ensures.near)
+    omega (
+      arith,
+      ints,
+      c.add_terms-total.ensures.near,
+      c.product_term-product.ensures.near,
+      c.addend_term.ensures.near,
+    )
 
 pub deliver-requires-clause-far : goal.deliver-requires-clause-far
 deliver-requires-clause-far c =
@@ -33,9 +38,9 @@ pub deliver-requires-clause-fine : goal.deliver-requires-clause-fine
 deliver-requires-clause-fine c =
     fine_if c.add_terms-total.result.loss _ (2 ^ (c.args.shape.precision - 1) ≤ c.add_terms-total.result.significand)
     (wide_sum_full c.args.shape.precision c.product_term-product.result.significand c.addend_term.result.significand
-        c.add_terms-total.result.significand c.add_terms-total.result.loss c.requires.lawful.precision_low
+    c.add_terms-total.result.significand c.add_terms-total.result.loss c.requires.lawful.precision_low
     c.product_term-product.ensures.full c.product_term-product.ensures.fits c.addend_term.ensures.full
-        c.addend_term.ensures.fits c.add_terms-total.ensures.full)
+    c.addend_term.ensures.fits c.add_terms-total.ensures.full)
 
 pub returns-clause-delivered : goal.returns-clause-delivered
 returns-clause-delivered c =
@@ -52,25 +57,34 @@ returns-clause-delivered c =
     let unit = t.exponent +ℤ pos (format_at s).scale in
     let fine = t.exponent +ℤ pos (2 * (format_at s).scale) in
     let w : to_z w32 (of_z w32 t.exponent) ≡ t.exponent =
-        omega (arith, ints, c.add_terms-total.ensures.near, c.add_terms-total.ensures.far,
-            c.product_term-product.ensures.near, c.product_term-product.ensures.far, c.addend_term.ensures.near,
-                c.addend_term.ensures.far) in
+    omega (
+      arith,
+      ints,
+      c.add_terms-total.ensures.near,
+      c.add_terms-total.ensures.far,
+      c.product_term-product.ensures.near,
+      c.product_term-product.ensures.far,
+      c.addend_term.ensures.near,
+      c.addend_term.ensures.far,
+    ) in
     let d = rw w at c.deliver.ensures.delivered in
-    let g = rw (c.product_term-product.ensures.negative,
-        c.addend_term.ensures.negative) at c.add_terms-total.ensures.stands in
+    let g = rw (
+      c.product_term-product.ensures.negative,
+      c.addend_term.ensures.negative,
+    ) at c.add_terms-total.ensures.stands in
     let r : IsRepresented of_zero exact t.negative fine t.significand t.loss =
     fused_read of_zero (format_at s).scale 2097780 c.product_term-product.result.exponent
-        c.addend_term.result.exponent t.exponent fine sign z.negative t.negative
+    c.addend_term.result.exponent t.exponent fine sign z.negative t.negative
     c.product_term-product.result.significand c.addend_term.result.significand m n t.significand t.loss
     c.product_term-product.ensures.far c.addend_term.ensures.far refl c.product_term-product.ensures.counted
-        c.addend_term.ensures.counted g in
+    c.addend_term.ensures.counted g in
     let o = rw c.product_term-product.ensures.negative at c.sign_of_zero-of_zero.ensures in
     let k = rw o at c.sign_of_total.ensures.zero in
     let e : c.sign_of_total.result ≡ sign_of of_zero exact =
-        read_negative of_zero exact fine t.negative c.sign_of_total.result t.significand t.loss r k
-            c.sign_of_total.ensures.other in
+    read_negative of_zero exact fine t.negative c.sign_of_total.result t.significand t.loss r k
+    c.sign_of_total.ensures.other in
     let h = in_quanta t.significand t.loss (magnitude exact) (format_at s).scale unit fine (omega (arith, ints))
-        r.stands in
+    r.stands in
     subst (λ (b : Bool). IsDelivered (format_at s) c.args.round b (magnitude exact) (2 ^ (format_at s).scale)
-        (datum_at s c.deliver.result.value) (bits_of c.deliver.result.status)) e
+    (datum_at s c.deliver.result.value) (bits_of c.deliver.result.status)) e
     (d (magnitude exact) (2 ^ (format_at s).scale) (pow_pos (format_at s).scale) h)

@@ -11,4 +11,4 @@ returns-clause-fits c =
 pub returns-clause-full : goal.returns-clause-full
 returns-clause-full c =
     subst (λ (x : ℕ). 2 ^ (2 * c.args.precision - 1) ≤ c.args.significand * x) (sym c.power_of_two.ensures)
-        (addend_full c.args.precision c.args.significand c.requires.some c.requires.full)
+    (addend_full c.args.precision c.args.significand c.requires.some c.requires.full)

@@ -15,11 +15,11 @@ returns-then-is_invertible-clause-stored c = λ inverse h.
     let s = c.args.shape in
     let x = c.args.x in
     let n : IsNormal s x.significand x.exponent =
-        subst (λ (k : Category). IsStoredBy k s x) c.in-Normal.is c.requires.stored in
+    subst (λ (k : Category). IsStoredBy k s x) c.in-Normal.is c.requires.stored in
     let w = (normal_near s x.significand x.exponent c.requires.lawful n).word in
     let e = opposite_word s x.significand x.exponent c.requires.lawful n in
     let i = inverted_normal s x.significand x.exponent c.requires.lawful n
-        (c.is_invertible.ensures.yes c.if-is_invertible.true) in
+    (c.is_invertible.ensures.yes c.if-is_invertible.true) in
     subst (λ (y : Unpacked). IsStored s y) (same_value _ inverse h) (rw (w, e) i)
 
 pub returns-then-is_invertible-clause-inverse : goal.returns-then-is_invertible-clause-inverse
@@ -27,20 +27,20 @@ returns-then-is_invertible-clause-inverse c =
     let s = c.args.shape in
     let x = c.args.x in
     let n : IsNormal s x.significand x.exponent =
-        subst (λ (k : Category). IsStoredBy k s x) c.in-Normal.is c.requires.stored in
+    subst (λ (k : Category). IsStoredBy k s x) c.in-Normal.is c.requires.stored in
     let w = (normal_near s x.significand x.exponent c.requires.lawful n).word in
     let e = opposite_word s x.significand x.exponent c.requires.lawful n in
     let a = inverse_answer s x.negative x.significand x.exponent c.requires.lawful n
-        (c.is_invertible.ensures.yes c.if-is_invertible.true) in
+    (c.is_invertible.ensures.yes c.if-is_invertible.true) in
     rw (w, e) (subst (λ (k : Category). IsExactInverse (format_at s) (datum_by k s x)
-        (Some (finite x.negative (quanta_at s.min_exp x.significand (neg_ℤ x.exponent))))) (sym c.in-Normal.is) a)
+    (Some (finite x.negative (quanta_at s.min_exp x.significand (neg_ℤ x.exponent))))) (sym c.in-Normal.is) a)
 
 pub returns-else-is_invertible-clause-inverse : goal.returns-else-is_invertible-clause-inverse
 returns-else-is_invertible-clause-inverse c =
     let s = c.args.shape in
     let x = c.args.x in
     let n : IsNormal s x.significand x.exponent =
-        subst (λ (k : Category). IsStoredBy k s x) c.in-Normal.is c.requires.stored in
+    subst (λ (k : Category). IsStoredBy k s x) c.in-Normal.is c.requires.stored in
     subst (λ (k : Category). IsExactInverse (format_at s) (datum_by k s x) None) (sym c.in-Normal.is)
     (no_inverse_answer s x.negative x.significand x.exponent c.requires.lawful n
-        (c.is_invertible.ensures.no c.if-is_invertible.false))
+    (c.is_invertible.ensures.no c.if-is_invertible.false))

@@ -12,4 +12,4 @@ returns c = λ s m n.
     let left = subst (λ (k : Category). IsStoredBy k s x) c.requires.left m in
     let right = subst (λ (k : Category). IsStoredBy k s y) c.requires.right n in
     rw (datum_is Normal s x c.requires.left, datum_is Normal s y c.requires.right)
-        (c.compare_significands.ensures s left right)
+    (c.compare_significands.ensures s left right)

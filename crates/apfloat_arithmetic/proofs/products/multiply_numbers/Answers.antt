@@ -59,14 +59,14 @@ returns-clause-delivered c =
     let y = normal_near s c.args.y.significand c.args.y.exponent c.requires.lawful c.requires.right in
     let v = rw (x.word, y.word) at c.product_exponent.ensures.value in
     let w : to_z w32 (of_z w32 c.product_exponent.result) ≡ c.product_exponent.result =
-        to_z-of_z w32 c.product_exponent.result (record { sfits = c.product_exponent.type_inv }) in
+    to_z-of_z w32 c.product_exponent.result (record { sfits = c.product_exponent.type_inv }) in
     let g = rw w at c.deliver.ensures.delivered in
     let d = g (quanta_at s.min_exp c.args.x.significand c.args.x.exponent * quanta_at s.min_exp c.args.y.significand
-        c.args.y.exponent) (2 ^ (format_at s).scale) (pow_pos (format_at s).scale)
+    c.args.y.exponent) (2 ^ (format_at s).scale) (pow_pos (format_at s).scale)
     (product_is s c.args.x.exponent c.args.y.exponent c.product_exponent.result c.args.x.significand
-        c.args.y.significand c.full_product.result c.requires.lawful c.requires.left c.requires.right
-            c.full_product.ensures v) in
+    c.args.y.significand c.full_product.result c.requires.lawful c.requires.left c.requires.right
+    c.full_product.ensures v) in
     subst (λ (b : Bool). IsDelivered (format_at s) c.args.round b
-        (quanta_at s.min_exp c.args.x.significand c.args.x.exponent * quanta_at s.min_exp c.args.y.significand
-            c.args.y.exponent) (2 ^ (format_at s).scale) (datum_at s c.deliver.result.value)
-                (bits_of c.deliver.result.status)) c.product_sign.ensures d
+    (quanta_at s.min_exp c.args.x.significand c.args.x.exponent * quanta_at s.min_exp c.args.y.significand
+    c.args.y.exponent) (2 ^ (format_at s).scale) (datum_at s c.deliver.result.value)
+    (bits_of c.deliver.result.status)) c.product_sign.ensures d

@@ -15,7 +15,7 @@ returns-then-are_normal-clause-delivered c =
     let y = c.args.y in
     let both = c.are_normal.ensures.yes c.if-are_normal.true in
     let n : IsNormal s y.significand y.exponent =
-        subst (λ (k : Category). IsStoredBy k s y) both.1 c.requires.right in
+    subst (λ (k : Category). IsStoredBy k s y) both.1 c.requires.right in
     rw (datum_is Normal s x both.0, datum_is Normal s y both.1)
     (some_quotient (format_at s) c.args.round x.negative y.negative (quanta_at s.min_exp x.significand x.exponent)
     (quanta_at s.min_exp y.significand y.exponent) _ _ (quanta_some s y.significand y.exponent n)

@@ -46,9 +46,9 @@ deliver-requires-clause-fine c =
     let s = c.args.shape in
     let t = c.requires.lawful.precision_low in
     inr (inr (quotient_full c.quotient_of-quotient.result.whole c.args.x.significand c.args.y.significand
-        s.precision (s.precision + 1)
+    s.precision (s.precision + 1)
     (normal_some s c.args.y.significand c.args.y.exponent c.requires.right) c.requires.left.operand.full
-        c.requires.right.operand.fits (omega arith) (omega arith) c.quotient_of-quotient.ensures.quotient))
+    c.requires.right.operand.fits (omega arith) (omega arith) c.quotient_of-quotient.ensures.quotient))
 
 pub returns-clause-stored : goal.returns-clause-stored
 returns-clause-stored c = c.deliver.ensures.stored
@@ -60,16 +60,16 @@ returns-clause-delivered c =
     let y = normal_near s c.args.y.significand c.args.y.exponent c.requires.lawful c.requires.right in
     let v = rw (x.word, y.word) at c.quotient_exponent.ensures.value in
     let w : to_z w32 (of_z w32 c.quotient_exponent.result) ≡ c.quotient_exponent.result =
-        to_z-of_z w32 c.quotient_exponent.result (record { sfits = c.quotient_exponent.type_inv }) in
+    to_z-of_z w32 c.quotient_exponent.result (record { sfits = c.quotient_exponent.type_inv }) in
     let g = rw w at c.deliver.ensures.delivered in
     let d = g (quanta_at s.min_exp c.args.x.significand c.args.x.exponent * 2 ^ (format_at s).scale)
-        (quanta_at s.min_exp c.args.y.significand c.args.y.exponent)
-            (quanta_some s c.args.y.significand c.args.y.exponent c.requires.right)
+    (quanta_at s.min_exp c.args.y.significand c.args.y.exponent)
+    (quanta_some s c.args.y.significand c.args.y.exponent c.requires.right)
     (quotient_is s c.args.x.exponent c.args.y.exponent c.quotient_exponent.result (s.precision + 1)
-        c.quotient_of-quotient.result.whole c.quotient_of-quotient.result.loss c.args.x.significand
-            c.args.y.significand c.requires.lawful c.requires.left c.requires.right v
-                c.quotient_of-quotient.ensures.stands) in
+    c.quotient_of-quotient.result.whole c.quotient_of-quotient.result.loss c.args.x.significand
+    c.args.y.significand c.requires.lawful c.requires.left c.requires.right v
+    c.quotient_of-quotient.ensures.stands) in
     subst (λ (b : Bool). IsDelivered (format_at s) c.args.round b
-        (quanta_at s.min_exp c.args.x.significand c.args.x.exponent * 2 ^ (format_at s).scale)
-            (quanta_at s.min_exp c.args.y.significand c.args.y.exponent) (datum_at s c.deliver.result.value)
-                (bits_of c.deliver.result.status)) c.product_sign.ensures d
+    (quanta_at s.min_exp c.args.x.significand c.args.x.exponent * 2 ^ (format_at s).scale)
+    (quanta_at s.min_exp c.args.y.significand c.args.y.exponent) (datum_at s c.deliver.result.value)
+    (bits_of c.deliver.result.status)) c.product_sign.ensures d

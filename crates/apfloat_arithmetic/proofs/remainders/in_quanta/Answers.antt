@@ -24,7 +24,7 @@ cut_below s p low n l e =
 pub returns-then-point-quantum-clause-same : goal.returns-then-point-quantum-clause-same
 returns-then-point-quantum-clause-same c = λ n h.
     lowered c.raised-high.result.significand c.raised-high.result.place (c.args.precision - 1) n
-        c.raised-high.ensures.least (c.raised-high.ensures.same ∙ h)
+    c.raised-high.ensures.least (c.raised-high.ensures.same ∙ h)
 
 pub returns-else-point-quantum-clause-same : goal.returns-else-point-quantum-clause-same
 returns-else-point-quantum-clause-same c =

@@ -20,8 +20,8 @@ returns-then-gap-gt1-clause-past c =
     let e : s * 2 ^ p ≡ x % y = c.rest_by-rest.ensures.rest in
     let low = c.rest_by-rest.ensures.low in
     let f : 2 * (s * 2 ^ p) < y =
-        far_below c.args.precision s p c.args.y.significand c.args.y.place c.requires.some
-            c.rest_by-rest.ensures.fits c.requires.y_full (omega arith) in
+    far_below c.args.precision s p c.args.y.significand c.args.y.place c.requires.some
+    c.rest_by-rest.ensures.fits c.requires.y_full (omega arith) in
     lower_near (x % y) y (eqb (x / y % 2) 1) (subst (λ (z : ℕ). 2 * z < y) e f)
 
 pub overflow_mul-divisor : goal.overflow_mul-divisor
@@ -46,7 +46,7 @@ overflow_sub-other c =
           level_places c.args.y.significand c.rest_by-rest.result.point.place c.args.y.place (omega arith)
     ] in
     let l : x % y < y =
-        mod-lt x (divisor_pos c.args.precision c.args.y.significand c.args.y.place c.requires.y_full) in
+    mod-lt x (divisor_pos c.args.precision c.args.y.significand c.args.y.place c.requires.y_full) in
     let k : s < d = digits_less s d (2 ^ p) (x % y) y e f l in
     omega arith
 
@@ -66,8 +66,8 @@ returns-then-is_upper_nearest-clause-past c =
           level_places c.args.y.significand c.rest_by-rest.result.point.place c.args.y.place (omega arith)
     ] in
     let u : upper s (d - s) c.rest_by-rest.result.odd ≡ upper (x % y) (y - x % y) (eqb (x / y % 2) 1) =
-        upper_level s d (2 ^ p) (x % y) y c.rest_by-rest.result.odd (eqb (x / y % 2) 1) (pow_pos p) e f
-            c.rest_by-rest.ensures.odd in
+    upper_level s d (2 ^ p) (x % y) y c.rest_by-rest.result.odd (eqb (x / y % 2) 1) (pow_pos p) e f
+    c.rest_by-rest.ensures.odd in
     sym c.if-is_upper_nearest.true ∙ c.is_upper_nearest.ensures ∙ u
 
 pub returns-then-is_upper_nearest-clause-distance : goal.returns-then-is_upper_nearest-clause-distance
@@ -103,6 +103,6 @@ returns-clause-past c =
           level_places c.args.y.significand c.rest_by-rest.result.point.place c.args.y.place (omega arith)
     ] in
     let u : upper s (d - s) c.rest_by-rest.result.odd ≡ upper (x % y) (y - x % y) (eqb (x / y % 2) 1) =
-        upper_level s d (2 ^ p) (x % y) y c.rest_by-rest.result.odd (eqb (x / y % 2) 1) (pow_pos p) e f
-            c.rest_by-rest.ensures.odd in
+    upper_level s d (2 ^ p) (x % y) y c.rest_by-rest.result.odd (eqb (x / y % 2) 1) (pow_pos p) e f
+    c.rest_by-rest.ensures.odd in
     sym c.if-is_upper_nearest.false ∙ c.is_upper_nearest.ensures ∙ u

@@ -11,9 +11,9 @@ returns-clause-past c =
     let a : ℕ = quanta_at s.min_exp c.args.x.significand c.args.x.exponent in
     let b : ℕ = quanta_at s.min_exp c.args.y.significand c.args.y.exponent in
     let e = operand_scaled c.point_of-number.result.place low a _ _ (c.args.x.exponent -ℤ s.min_exp)
-        c.point_of-number.ensures.significand c.point_of-number.ensures.place c.requires.x.whole in
+    c.point_of-number.ensures.significand c.point_of-number.ensures.place c.requires.x.whole in
     let f = operand_scaled c.point_of-divisor.result.place low b _ _ (c.args.y.exponent -ℤ s.min_exp)
-        c.point_of-divisor.ensures.significand c.point_of-divisor.ensures.place c.requires.y.whole in
+    c.point_of-divisor.ensures.significand c.point_of-divisor.ensures.place c.requires.y.whole in
     past_in _ _ _ a b (2 ^ low) (pow_pos low) e f c.nearest_by-nearest.ensures.past
 
 pub returns-clause-quanta : goal.returns-clause-quanta
@@ -23,9 +23,9 @@ returns-clause-quanta c =
     let a : ℕ = quanta_at s.min_exp c.args.x.significand c.args.x.exponent in
     let b : ℕ = quanta_at s.min_exp c.args.y.significand c.args.y.exponent in
     let e = operand_scaled c.point_of-number.result.place low a _ _ (c.args.x.exponent -ℤ s.min_exp)
-        c.point_of-number.ensures.significand c.point_of-number.ensures.place c.requires.x.whole in
+    c.point_of-number.ensures.significand c.point_of-number.ensures.place c.requires.x.whole in
     let f = operand_scaled c.point_of-divisor.result.place low b _ _ (c.args.y.exponent -ℤ s.min_exp)
-        c.point_of-divisor.ensures.significand c.point_of-divisor.ensures.place c.requires.y.whole in
+    c.point_of-divisor.ensures.significand c.point_of-divisor.ensures.place c.requires.y.whole in
     let past = c.nearest_by-nearest.result.past in
     c.in_quanta.ensures.same (cond past (b - a % b) (a % b))
-        (distance_in past _ _ a b (2 ^ low) _ (pow_pos low) e f c.nearest_by-nearest.ensures.distance)
+    (distance_in past _ _ a b (2 ^ low) _ (pow_pos low) e f c.nearest_by-nearest.ensures.distance)

@@ -9,8 +9,8 @@ returns-then-x-y-clause-rest c =
     let d : ℕ = c.args.y.significand * 2 ^ c.args.y.place in
     let r : ℕ = c.args.x.significand * 2 ^ c.args.x.place in
     let l : r < d =
-        below_divisor c.args.precision c.args.x.significand c.args.x.place c.args.y.significand c.args.y.place
-            c.requires.some c.requires.x_fits c.requires.y_full (omega arith) in
+    below_divisor c.args.precision c.args.x.significand c.args.x.place c.args.y.significand c.args.y.place
+    c.requires.some c.requires.x_fits c.requires.y_full (omega arith) in
     left_all d r l
 
 pub returns-then-x-y-clause-steps : goal.returns-then-x-y-clause-steps
@@ -18,8 +18,8 @@ returns-then-x-y-clause-steps c =
     let d : ℕ = c.args.y.significand * 2 ^ c.args.y.place in
     let r : ℕ = c.args.x.significand * 2 ^ c.args.x.place in
     let l : r < d =
-        below_divisor c.args.precision c.args.x.significand c.args.x.place c.args.y.significand c.args.y.place
-            c.requires.some c.requires.x_fits c.requires.y_full (omega arith) in
+    below_divisor c.args.precision c.args.x.significand c.args.x.place c.args.y.significand c.args.y.place
+    c.requires.some c.requires.x_fits c.requires.y_full (omega arith) in
     none_set d r l
 
 pub returns-then-x-y-clause-odd : goal.returns-then-x-y-clause-odd
@@ -27,8 +27,8 @@ returns-then-x-y-clause-odd c =
     let d : ℕ = c.args.y.significand * 2 ^ c.args.y.place in
     let r : ℕ = c.args.x.significand * 2 ^ c.args.x.place in
     let l : r < d =
-        below_divisor c.args.precision c.args.x.significand c.args.x.place c.args.y.significand c.args.y.place
-            c.requires.some c.requires.x_fits c.requires.y_full (omega arith) in
+    below_divisor c.args.precision c.args.x.significand c.args.x.place c.args.y.significand c.args.y.place
+    c.requires.some c.requires.x_fits c.requires.y_full (omega arith) in
     not_odd d r l
 
 pub less_multiple-less-requires-clause-narrow : goal.less_multiple-less-requires-clause-narrow
@@ -45,18 +45,18 @@ overflow_add-steps c =
     let k : ℕ = c.less_multiple-less.result.place - c.args.y.place in
     let p : 0 < d = divisor_pos c.args.precision c.args.y.significand c.args.y.place c.requires.y_full in
     let t : IsTurn d r s k =
-        is_turn c.loop-rest.rest.significand c.loop-rest.rest.place c.args.y.significand c.args.y.place
-            c.less_multiple-less.result.significand c.less_multiple-less.result.place
-                c.less_multiple-less.ensures.taken c.less_multiple-less.ensures.below
-                    c.less_multiple-less.ensures.least in
+    is_turn c.loop-rest.rest.significand c.loop-rest.rest.place c.args.y.significand c.args.y.place
+    c.less_multiple-less.result.significand c.less_multiple-less.result.place
+    c.less_multiple-less.ensures.taken c.less_multiple-less.ensures.below
+    c.less_multiple-less.ensures.least in
     let f : count_ones (c.args.x.significand * 2 ^ c.args.x.place / (c.args.y.significand * 2 ^ c.args.y.place))
-        ≤ c.args.x.place + 1 - c.args.y.place =
-            few_digits c.args.precision c.args.x.significand c.args.x.place c.args.y.significand c.args.y.place
-                c.requires.some c.requires.x_fits c.requires.y_full (omega arith) in
+    ≤ c.args.x.place + 1 - c.args.y.place =
+    few_digits c.args.precision c.args.x.significand c.args.x.place c.args.y.significand c.args.y.place
+    c.requires.some c.requires.x_fits c.requires.y_full (omega arith) in
     let o : count_ones (c.loop-rest.rest.significand * 2 ^ c.loop-rest.rest.place
-        / (c.args.y.significand * 2 ^ c.args.y.place))
-            ≡ 1 + count_ones (c.less_multiple-less.result.significand * 2 ^ c.less_multiple-less.result.place
-                / (c.args.y.significand * 2 ^ c.args.y.place)) = turn_ones d r s k p t in
+    / (c.args.y.significand * 2 ^ c.args.y.place))
+    ≡ 1 + count_ones (c.less_multiple-less.result.significand * 2 ^ c.less_multiple-less.result.place
+    / (c.args.y.significand * 2 ^ c.args.y.place)) = turn_ones d r s k p t in
     let i = c.loop-rest.invariant.counted in
     record { fits = omega arith }
 
@@ -68,10 +68,10 @@ returns-then-less-y-clause-rest c =
     let k : ℕ = c.less_multiple-less.result.place - c.args.y.place in
     let p : 0 < d = divisor_pos c.args.precision c.args.y.significand c.args.y.place c.requires.y_full in
     let t : IsTurn d r s k =
-        is_turn c.loop-rest.rest.significand c.loop-rest.rest.place c.args.y.significand c.args.y.place
-            c.less_multiple-less.result.significand c.less_multiple-less.result.place
-                c.less_multiple-less.ensures.taken c.less_multiple-less.ensures.below
-                    c.less_multiple-less.ensures.least in
+    is_turn c.loop-rest.rest.significand c.loop-rest.rest.place c.args.y.significand c.args.y.place
+    c.less_multiple-less.result.significand c.less_multiple-less.result.place
+    c.less_multiple-less.ensures.taken c.less_multiple-less.ensures.below
+    c.less_multiple-less.ensures.least in
     let z : k ≡ 0 = omega arith in
     let u : IsTurn d r s 0 = last_turn d r s k z t in
     let l : s < d = last_below d r s u in
@@ -85,20 +85,20 @@ returns-then-less-y-clause-steps c =
     let k : ℕ = c.less_multiple-less.result.place - c.args.y.place in
     let p : 0 < d = divisor_pos c.args.precision c.args.y.significand c.args.y.place c.requires.y_full in
     let t : IsTurn d r s k =
-        is_turn c.loop-rest.rest.significand c.loop-rest.rest.place c.args.y.significand c.args.y.place
-            c.less_multiple-less.result.significand c.less_multiple-less.result.place
-                c.less_multiple-less.ensures.taken c.less_multiple-less.ensures.below
-                    c.less_multiple-less.ensures.least in
+    is_turn c.loop-rest.rest.significand c.loop-rest.rest.place c.args.y.significand c.args.y.place
+    c.less_multiple-less.result.significand c.less_multiple-less.result.place
+    c.less_multiple-less.ensures.taken c.less_multiple-less.ensures.below
+    c.less_multiple-less.ensures.least in
     let z : k ≡ 0 = omega arith in
     let u : IsTurn d r s 0 = last_turn d r s k z t in
     let l : s < d = last_below d r s u in
     let o : count_ones (c.loop-rest.rest.significand * 2 ^ c.loop-rest.rest.place
-        / (c.args.y.significand * 2 ^ c.args.y.place))
-            ≡ 1 + count_ones (c.less_multiple-less.result.significand * 2 ^ c.less_multiple-less.result.place
-                / (c.args.y.significand * 2 ^ c.args.y.place)) = turn_ones d r s k p t in
+    / (c.args.y.significand * 2 ^ c.args.y.place))
+    ≡ 1 + count_ones (c.less_multiple-less.result.significand * 2 ^ c.less_multiple-less.result.place
+    / (c.args.y.significand * 2 ^ c.args.y.place)) = turn_ones d r s k p t in
     let i = c.loop-rest.invariant.counted in
     let n : 0 ≡ count_ones (c.less_multiple-less.result.significand * 2 ^ c.less_multiple-less.result.place
-        / (c.args.y.significand * 2 ^ c.args.y.place)) = none_set d s l in
+    / (c.args.y.significand * 2 ^ c.args.y.place)) = none_set d s l in
     omega arith
 
 pub returns-then-less-y-clause-odd : goal.returns-then-less-y-clause-odd
@@ -109,10 +109,10 @@ returns-then-less-y-clause-odd c =
     let k : ℕ = c.less_multiple-less.result.place - c.args.y.place in
     let p : 0 < d = divisor_pos c.args.precision c.args.y.significand c.args.y.place c.requires.y_full in
     let t : IsTurn d r s k =
-        is_turn c.loop-rest.rest.significand c.loop-rest.rest.place c.args.y.significand c.args.y.place
-            c.less_multiple-less.result.significand c.less_multiple-less.result.place
-                c.less_multiple-less.ensures.taken c.less_multiple-less.ensures.below
-                    c.less_multiple-less.ensures.least in
+    is_turn c.loop-rest.rest.significand c.loop-rest.rest.place c.args.y.significand c.args.y.place
+    c.less_multiple-less.result.significand c.less_multiple-less.result.place
+    c.less_multiple-less.ensures.taken c.less_multiple-less.ensures.below
+    c.less_multiple-less.ensures.least in
     let z : k ≡ 0 = omega arith in
     let u : IsTurn d r s 0 = last_turn d r s k z t in
     let l : s < d = last_below d r s u in
@@ -126,12 +126,12 @@ loop-rest-smaller c =
     let k : ℕ = c.less_multiple-less.result.place - c.args.y.place in
     let p : 0 < d = divisor_pos c.args.precision c.args.y.significand c.args.y.place c.requires.y_full in
     let t : IsTurn d r s k =
-        is_turn c.loop-rest.rest.significand c.loop-rest.rest.place c.args.y.significand c.args.y.place
-            c.less_multiple-less.result.significand c.less_multiple-less.result.place
-                c.less_multiple-less.ensures.taken c.less_multiple-less.ensures.below
-                    c.less_multiple-less.ensures.least in
+    is_turn c.loop-rest.rest.significand c.loop-rest.rest.place c.args.y.significand c.args.y.place
+    c.less_multiple-less.result.significand c.less_multiple-less.result.place
+    c.less_multiple-less.ensures.taken c.less_multiple-less.ensures.below
+    c.less_multiple-less.ensures.least in
     subst (λ (x : ℕ). x < c.loop-rest.rest.significand * 2 ^ c.loop-rest.rest.place)
-        (sym c.raised-rest.ensures.same) (turn_less d r s k p t)
+    (sym c.raised-rest.ensures.same) (turn_less d r s k p t)
 
 pub loop-rest-preserved : goal.loop-rest-preserved
 loop-rest-preserved c =
@@ -141,21 +141,21 @@ loop-rest-preserved c =
     let k : ℕ = c.less_multiple-less.result.place - c.args.y.place in
     let p : 0 < d = divisor_pos c.args.precision c.args.y.significand c.args.y.place c.requires.y_full in
     let t : IsTurn d r s k =
-        is_turn c.loop-rest.rest.significand c.loop-rest.rest.place c.args.y.significand c.args.y.place
-            c.less_multiple-less.result.significand c.less_multiple-less.result.place
-                c.less_multiple-less.ensures.taken c.less_multiple-less.ensures.below
-                    c.less_multiple-less.ensures.least in
+    is_turn c.loop-rest.rest.significand c.loop-rest.rest.place c.args.y.significand c.args.y.place
+    c.less_multiple-less.result.significand c.less_multiple-less.result.place
+    c.less_multiple-less.ensures.taken c.less_multiple-less.ensures.below
+    c.less_multiple-less.ensures.least in
     let o : count_ones (c.loop-rest.rest.significand * 2 ^ c.loop-rest.rest.place
-        / (c.args.y.significand * 2 ^ c.args.y.place))
-            ≡ 1 + count_ones (c.less_multiple-less.result.significand * 2 ^ c.less_multiple-less.result.place
-                / (c.args.y.significand * 2 ^ c.args.y.place)) = turn_ones d r s k p t in
+    / (c.args.y.significand * 2 ^ c.args.y.place))
+    ≡ 1 + count_ones (c.less_multiple-less.result.significand * 2 ^ c.less_multiple-less.result.place
+    / (c.args.y.significand * 2 ^ c.args.y.place)) = turn_ones d r s k p t in
     let i = c.loop-rest.invariant.counted in
     let e : count_ones (c.raised-rest.result.significand * 2 ^ c.raised-rest.result.place
-        / (c.args.y.significand * 2 ^ c.args.y.place))
-            ≡ count_ones (c.less_multiple-less.result.significand * 2 ^ c.less_multiple-less.result.place
-                / (c.args.y.significand * 2 ^ c.args.y.place)) =
-                    ap (λ (x : ℕ). count_ones (x / (c.args.y.significand * 2 ^ c.args.y.place)))
-                        c.raised-rest.ensures.same in
+    / (c.args.y.significand * 2 ^ c.args.y.place))
+    ≡ count_ones (c.less_multiple-less.result.significand * 2 ^ c.less_multiple-less.result.place
+    / (c.args.y.significand * 2 ^ c.args.y.place)) =
+    ap (λ (x : ℕ). count_ones (x / (c.args.y.significand * 2 ^ c.args.y.place)))
+    c.raised-rest.ensures.same in
     let g : 0 < k = omega arith in
     record {
       above = c.raised-rest.ensures.least;
@@ -174,8 +174,8 @@ returns-clause-rest c =
     let r : ℕ = c.loop-rest.rest.significand * 2 ^ c.loop-rest.rest.place in
     let a = c.loop-rest.invariant.above in
     let l : r < d =
-        at_place c.loop-rest.rest.significand c.args.y.significand c.loop-rest.rest.place c.args.y.place
-            (omega arith) (omega arith) in
+    at_place c.loop-rest.rest.significand c.args.y.significand c.loop-rest.rest.place c.args.y.place
+    (omega arith) (omega arith) in
     left_all d r l ∙ c.loop-rest.invariant.left
 
 pub returns-clause-steps : goal.returns-clause-steps
@@ -184,11 +184,11 @@ returns-clause-steps c =
     let r : ℕ = c.loop-rest.rest.significand * 2 ^ c.loop-rest.rest.place in
     let a = c.loop-rest.invariant.above in
     let l : r < d =
-        at_place c.loop-rest.rest.significand c.args.y.significand c.loop-rest.rest.place c.args.y.place
-            (omega arith) (omega arith) in
+    at_place c.loop-rest.rest.significand c.args.y.significand c.loop-rest.rest.place c.args.y.place
+    (omega arith) (omega arith) in
     let i = c.loop-rest.invariant.counted in
     let n : 0 ≡ count_ones (c.loop-rest.rest.significand * 2 ^ c.loop-rest.rest.place
-        / (c.args.y.significand * 2 ^ c.args.y.place)) = none_set d r l in
+    / (c.args.y.significand * 2 ^ c.args.y.place)) = none_set d r l in
     omega arith
 
 pub returns-clause-odd : goal.returns-clause-odd
@@ -197,6 +197,6 @@ returns-clause-odd c =
     let r : ℕ = c.loop-rest.rest.significand * 2 ^ c.loop-rest.rest.place in
     let a = c.loop-rest.invariant.above in
     let l : r < d =
-        at_place c.loop-rest.rest.significand c.args.y.significand c.loop-rest.rest.place c.args.y.place
-            (omega arith) (omega arith) in
+    at_place c.loop-rest.rest.significand c.args.y.significand c.loop-rest.rest.place c.args.y.place
+    (omega arith) (omega arith) in
     not_odd d r l ∙ ap (λ (x : ℕ). eqb x 1) c.loop-rest.invariant.parity

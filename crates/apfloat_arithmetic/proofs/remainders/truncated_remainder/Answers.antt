@@ -14,12 +14,12 @@ truncated_number-requires-clause-lawful c = c.requires.lawful
 pub truncated_number-requires-clause-x : goal.truncated_number-requires-clause-x
 truncated_number-requires-clause-x c =
     subst (λ (k : Category). IsStoredBy k c.args.shape c.args.x) (c.are_normal.ensures.yes c.if-are_normal.true).0
-        c.requires.x
+    c.requires.x
 
 pub truncated_number-requires-clause-y : goal.truncated_number-requires-clause-y
 truncated_number-requires-clause-y c =
     subst (λ (k : Category). IsStoredBy k c.args.shape c.args.y) (c.are_normal.ensures.yes c.if-are_normal.true).1
-        c.requires.y
+    c.requires.y
 
 pub returns-then-are_normal-clause-stored : goal.returns-then-are_normal-clause-stored
 returns-then-are_normal-clause-stored c = c.truncated_number.ensures.stored
@@ -28,22 +28,25 @@ pub returns-then-are_normal-clause-delivered : goal.returns-then-are_normal-clau
 returns-then-are_normal-clause-delivered c =
     let n = c.are_normal.ensures.yes c.if-are_normal.true in
     of_numbers c.args.shape truncated_quotient c.args.x.category c.args.y.category c.args.x c.args.y _ _ n.0 n.1
-        c.requires.y record { value_is = c.truncated_number.ensures.value; status_is =
-            c.truncated_number.ensures.status }
+    c.requires.y record {
+      value_is = c.truncated_number.ensures.value;
+      status_is =
+          c.truncated_number.ensures.status;
+    }
 
 pub returns-then-are_normal-clause-steps : goal.returns-then-are_normal-clause-steps
 returns-then-are_normal-clause-steps c =
     let n = c.are_normal.ensures.yes c.if-are_normal.true in
     c.truncated_number.ensures.steps ∙
-        ones_of_numbers c.args.shape c.args.x.category c.args.y.category c.args.x c.args.y n.0 n.1 c.requires.y
+    ones_of_numbers c.args.shape c.args.x.category c.args.y.category c.args.x c.args.y n.0 n.1 c.requires.y
 
 pub returns-then-are_normal-clause-few : goal.returns-then-are_normal-clause-few
 returns-then-are_normal-clause-few c = λ a b h k p.
     let n = c.are_normal.ensures.yes c.if-are_normal.true in
     let e = c.truncated_number.ensures.steps ∙
-        ones_of_numbers c.args.shape c.args.x.category c.args.y.category c.args.x c.args.y n.0 n.1 c.requires.y in
+    ones_of_numbers c.args.shape c.args.x.category c.args.y.category c.args.x c.args.y n.0 n.1 c.requires.y in
     rw e (few_steps (format_at c.args.shape) (datum_at c.args.shape c.args.x) (datum_at c.args.shape c.args.y) a b h
-        k (rw e at p))
+    k (rw e at p))
 
 pub returns-else-are_normal-clause-stored : goal.returns-else-are_normal-clause-stored
 returns-else-are_normal-clause-stored c = c.special_remainder.ensures.stored
@@ -55,7 +58,7 @@ returns-else-are_normal-clause-delivered c =
 pub returns-else-are_normal-clause-steps : goal.returns-else-are_normal-clause-steps
 returns-else-are_normal-clause-steps c =
     no_ones c.args.shape c.args.x.category c.args.y.category c.args.x c.args.y
-        (c.are_normal.ensures.no c.if-are_normal.false)
+    (c.are_normal.ensures.no c.if-are_normal.false)
 
 pub returns-else-are_normal-clause-few : goal.returns-else-are_normal-clause-few
 returns-else-are_normal-clause-few c = λ a b h k p. absurd (omega (arith, p))

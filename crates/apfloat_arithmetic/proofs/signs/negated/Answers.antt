@@ -19,7 +19,7 @@ turned_datum Normal s x e h a b =
     ∙ ap (negated s.nonfinite) (sym (datum_is Normal s x e))
 turned_datum Infinity s x e h a b =
     datum_is Infinity s (record x { negative = not x.negative }) e ∙
-        ap (negated s.nonfinite) (sym (datum_is Infinity s x e))
+    ap (negated s.nonfinite) (sym (datum_is Infinity s x e))
 turned_datum Zero s x e h a b = absurd (a refl)
 turned_datum NaN s x e h a b = absurd (b refl)
 

@@ -14,7 +14,7 @@ returns-in-Infinity-clause-delivered c =
     let v = datum_at s c.add_to_infinity.result.value in
     let i = bits_of c.add_to_infinity.result.status in
     same_sum (format_at s) c.args.round (datum_at s x) (datum_at s c.args.y) v (infinite x.negative)
-        (datum_at s c.args.y) v i i
+    (datum_at s c.args.y) v i i
     (datum_is Infinity s x c.in-Infinity.is) refl refl refl (c.add_to_infinity.ensures.delivered c.args.round)
 
 pub returns-in-NaN-clause-delivered : goal.returns-in-NaN-clause-delivered

@@ -40,12 +40,12 @@ add_terms-total-requires-clause-y_far c =
 pub add_terms-total-requires-clause-x_room : goal.add_terms-total-requires-clause-x_room
 add_terms-total-requires-clause-x_room c =
     roomy c.args.shape.precision c.args.x.significand c.term_of.result.significand c.requires.lawful.precision_high
-        c.term_of.ensures.significand c.requires.x_normal.operand.fits
+    c.term_of.ensures.significand c.requires.x_normal.operand.fits
 
 pub add_terms-total-requires-clause-y_room : goal.add_terms-total-requires-clause-y_room
 add_terms-total-requires-clause-y_room c =
     roomy c.args.shape.precision c.args.y.significand c.term_of-2.result.significand
-        c.requires.lawful.precision_high c.term_of-2.ensures.significand c.requires.y_normal.operand.fits
+    c.requires.lawful.precision_high c.term_of-2.ensures.significand c.requires.y_normal.operand.fits
 
 pub deliver-requires-clause-lawful : goal.deliver-requires-clause-lawful
 deliver-requires-clause-lawful c = c.requires.lawful
@@ -53,23 +53,39 @@ deliver-requires-clause-lawful c = c.requires.lawful
 pub deliver-requires-clause-near : goal.deliver-requires-clause-near
 deliver-requires-clause-near c =
     let l = c.requires.lawful in
-    omega (arith, ints, l, c.add_terms-total.ensures.near, c.term_of.ensures.exponent, c.term_of-2.ensures.exponent,
-        c.requires.x_normal.operand.greatest, c.requires.y_normal.operand.greatest)
+    omega (
+      arith,
+      ints,
+      l,
+      c.add_terms-total.ensures.near,
+      c.term_of.ensures.exponent,
+      c.term_of-2.ensures.exponent,
+      c.requires.x_normal.operand.greatest,
+      c.requires.y_normal.operand.greatest,
+    )
 
 pub deliver-requires-clause-far : goal.deliver-requires-clause-far
 deliver-requires-clause-far c =
     let l = c.requires.lawful in
-    omega (arith, ints, l, c.add_terms-total.ensures.far, c.term_of.ensures.exponent, c.term_of-2.ensures.exponent,
-        c.requires.x_normal.operand.least, c.requires.y_normal.operand.least)
+    omega (
+      arith,
+      ints,
+      l,
+      c.add_terms-total.ensures.far,
+      c.term_of.ensures.exponent,
+      c.term_of-2.ensures.exponent,
+      c.requires.x_normal.operand.least,
+      c.requires.y_normal.operand.least,
+    )
 
 pub deliver-requires-clause-fine : goal.deliver-requires-clause-fine
 deliver-requires-clause-fine c =
     fine_if c.add_terms-total.result.loss _ (2 ^ (c.args.shape.precision - 1) ≤ c.add_terms-total.result.significand)
     (sum_full c.args.shape.precision c.args.x.significand c.args.y.significand c.term_of.result.significand
-        c.term_of-2.result.significand c.add_terms-total.result.significand c.add_terms-total.result.loss
+    c.term_of-2.result.significand c.add_terms-total.result.significand c.add_terms-total.result.loss
     c.requires.lawful.precision_low c.term_of.ensures.significand c.term_of-2.ensures.significand
-        c.requires.x_normal.operand.full c.requires.x_normal.operand.fits c.requires.y_normal.operand.full
-            c.requires.y_normal.operand.fits c.add_terms-total.ensures.full)
+    c.requires.x_normal.operand.full c.requires.x_normal.operand.fits c.requires.y_normal.operand.full
+    c.requires.y_normal.operand.fits c.add_terms-total.ensures.full)
 
 pub returns-clause-stored : goal.returns-clause-stored
 returns-clause-stored c = c.deliver.ensures.stored
@@ -82,29 +98,42 @@ returns-clause-delivered c =
     let exact = signed c.args.x.negative m +ℤ signed c.args.y.negative n in
     let unit = c.add_terms-total.result.exponent +ℤ pos (format_at c.args.shape).scale in
     let w : to_z w32 (of_z w32 c.add_terms-total.result.exponent) ≡ c.add_terms-total.result.exponent =
-        omega (arith, ints, c.requires.lawful, c.add_terms-total.ensures.near, c.add_terms-total.ensures.far,
-            c.term_of.ensures.exponent, c.term_of-2.ensures.exponent, c.requires.x_normal.operand.least,
-                c.requires.y_normal.operand.least, c.requires.x_normal.operand.greatest,
-                    c.requires.y_normal.operand.greatest) in
+    omega (
+      arith,
+      ints,
+      c.requires.lawful,
+      c.add_terms-total.ensures.near,
+      c.add_terms-total.ensures.far,
+      c.term_of.ensures.exponent,
+      c.term_of-2.ensures.exponent,
+      c.requires.x_normal.operand.least,
+      c.requires.y_normal.operand.least,
+      c.requires.x_normal.operand.greatest,
+      c.requires.y_normal.operand.greatest,
+    ) in
     let d = rw w at c.deliver.ensures.delivered in
-    let g = rw (c.term_of.ensures.negative, c.term_of.ensures.significand, c.term_of-2.ensures.negative,
-        c.term_of-2.ensures.significand) at c.add_terms-total.ensures.stands in
+    let g = rw (
+      c.term_of.ensures.negative,
+      c.term_of.ensures.significand,
+      c.term_of-2.ensures.negative,
+      c.term_of-2.ensures.significand,
+    ) at c.add_terms-total.ensures.stands in
     let r : IsRepresented of_zero exact c.add_terms-total.result.negative unit c.add_terms-total.result.significand
-        c.add_terms-total.result.loss =
+    c.add_terms-total.result.loss =
     sum_read of_zero c.args.shape.precision (format_at c.args.shape).scale c.args.shape.min_exp c.args.x.exponent
-        c.args.y.exponent c.term_of.result.exponent c.term_of-2.result.exponent c.add_terms-total.result.exponent
-            unit
+    c.args.y.exponent c.term_of.result.exponent c.term_of-2.result.exponent c.add_terms-total.result.exponent
+    unit
     c.args.x.negative c.args.y.negative c.add_terms-total.result.negative c.args.x.significand c.args.y.significand
-        m n c.add_terms-total.result.significand c.add_terms-total.result.loss
+    m n c.add_terms-total.result.significand c.add_terms-total.result.loss
     c.requires.x_normal.operand.least c.requires.y_normal.operand.least c.term_of.ensures.exponent
-        c.term_of-2.ensures.exponent
-            (scale_is c.args.shape.precision c.args.shape.min_exp c.requires.lawful.precision_low
-                c.requires.lawful.min_exp_high) refl c.requires.x_normal.whole c.requires.y_normal.whole g in
+    c.term_of-2.ensures.exponent
+    (scale_is c.args.shape.precision c.args.shape.min_exp c.requires.lawful.precision_low
+    c.requires.lawful.min_exp_high) refl c.requires.x_normal.whole c.requires.y_normal.whole g in
     let z = rw c.sign_of_zero-of_zero.ensures at c.sign_of_total-negative.ensures.zero in
     let e : c.sign_of_total-negative.result ≡ sign_of of_zero exact =
-        read_negative of_zero exact unit c.add_terms-total.result.negative c.sign_of_total-negative.result
-            c.add_terms-total.result.significand c.add_terms-total.result.loss r z
-                c.sign_of_total-negative.ensures.other in
+    read_negative of_zero exact unit c.add_terms-total.result.negative c.sign_of_total-negative.result
+    c.add_terms-total.result.significand c.add_terms-total.result.loss r z
+    c.sign_of_total-negative.ensures.other in
     subst (λ (b : Bool). IsDelivered (format_at c.args.shape) c.args.round b (magnitude exact) 1
-        (datum_at c.args.shape c.deliver.result.value) (bits_of c.deliver.result.status)) e
-            (d (magnitude exact) 1 (omega arith) r.stands)
+    (datum_at c.args.shape c.deliver.result.value) (bits_of c.deliver.result.status)) e
+    (d (magnitude exact) 1 (omega arith) r.stands)

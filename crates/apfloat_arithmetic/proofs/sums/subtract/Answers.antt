@@ -9,4 +9,4 @@ returns-clause-delivered c =
     let s = c.args.shape in
     let v = c.add.result in
     difference_is (format_at s) c.args.round (datum_at s c.args.x) (datum_at s c.args.y) (datum_at s v.value)
-        (bits_of v.status) (rw c.added.ensures.datum at c.add.ensures.delivered)
+    (bits_of v.status) (rw c.added.ensures.datum at c.add.ensures.delivered)

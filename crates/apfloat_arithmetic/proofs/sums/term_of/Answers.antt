@@ -13,5 +13,11 @@ last_exponent-requires-clause-far c = omega (arith, ints, c.requires.lawful, c.r
 
 pub returns-clause-exponent : goal.returns-clause-exponent
 returns-clause-exponent c =
-    omega (arith, ints, c.requires.lawful, c.requires.normal.operand.least, c.requires.normal.operand.greatest,
-        c.last_exponent.ensures.value)
+    omega (
+      arith,
+      ints,
+      c.requires.lawful,
+      c.requires.normal.operand.least,
+      c.requires.normal.operand.greatest,
+      c.last_exponent.ensures.value,
+    )

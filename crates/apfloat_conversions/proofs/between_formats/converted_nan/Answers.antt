@@ -6,13 +6,18 @@ pub carried_payload-payload-requires-clause-fits :
     goal.carried_payload-payload-requires-clause-fits
 carried_payload-payload-requires-clause-fits c =
     nan_fits c.args.from.nonfinite c.args.from.explicit_integer_bit c.args.from.precision _
-        c.requires.from.precision_low c.quieted_significand-quieted.ensures.nan
+    c.requires.from.precision_low c.quieted_significand-quieted.ensures.nan
 
 pub returns-clause-converted : goal.returns-clause-converted
 returns-clause-converted c =
     record {
-      value_is = rw (c.and.ensures.value, c.nan_of-value.ensures.datum, c.quiet_significand.ensures.value,
-          c.carried_payload-payload.ensures, c.quieted_significand-quieted.ensures.value) refl;
+      value_is = rw (
+        c.and.ensures.value,
+        c.nan_of-value.ensures.datum,
+        c.quiet_significand.ensures.value,
+        c.carried_payload-payload.ensures,
+        c.quieted_significand-quieted.ensures.value,
+      ) refl;
       status_is = rw (c.and.ensures.status, c.status_of.ensures, c.signals.ensures) refl;
       loses_is = c.nan_loses.ensures;
     }

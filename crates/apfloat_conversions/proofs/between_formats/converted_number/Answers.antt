@@ -53,7 +53,7 @@ returns-clause-converted c =
     record {
       is_delivered = g (a * 2 ^ (format_at t).scale) (2 ^ (format_at s).scale) (pow_pos (format_at s).scale)
           (converted_is (s.precision - 1) (format_at s).scale (t.precision - 1) (format_at t).scale s.min_exp
-              t.min_exp c.args.x.exponent c.last_exponent.result c.args.x.significand a k k' v c.requires.x.whole);
+          t.min_exp c.args.x.exponent c.last_exponent.result c.args.x.significand a k k' v c.requires.x.whole);
       loses_is = c.ne.ensures;
     }
 
@@ -64,7 +64,7 @@ returns-then-holds-clause-converted c =
     let h = c.holds.ensures c.if-holds.true in
     let v = ap (datum_at t) c.and.ensures.value ∙ c.widened.ensures.datum in
     let m = subst (λ (d : Datum). IsMember (format_at t) d) c.widened.ensures.datum
-        (member_is t c.widened.result c.widened.ensures.stored) in
+    (member_is t c.widened.result c.widened.ensures.stored) in
     held_converted (format_at s) (format_at t) c.args.round c.args.x.negative
-        (quanta_at s.min_exp c.args.x.significand c.args.x.exponent) _ _ h.fine
+    (quanta_at s.min_exp c.args.x.significand c.args.x.exponent) _ _ h.fine
     (quanta_some s c.args.x.significand c.args.x.exponent c.requires.x) v m (ap bits_of c.and.ensures.status)

@@ -9,11 +9,11 @@ returns-then-from-into c = λ h.
     let s = c.args.from in
     let t = c.args.into in
     let w = rw (held_shift s.precision t.precision c.greatest_significand.result c.requires.precise
-        c.requires.into.precision_high c.greatest_significand.ensures.fits) at h in
+    c.requires.into.precision_high c.greatest_significand.ensures.fits) at h in
     inr (record {
       exponents = sym (max_exp_word s c.requires.from) ∙ ap (to_z w32) c.if-from-into.true ∙
           max_exp_word t c.requires.into;
       significands =
           rw (← c.greatest_significand.ensures.value, ← c.greatest_significand-then-from-into.ensures.value)
-              (leb-true _ _ w);
+          (leb-true _ _ w);
     })

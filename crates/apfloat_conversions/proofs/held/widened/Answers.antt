@@ -10,8 +10,11 @@ returns-clause-stored c =
     let t = c.args.into in
     let m = c.args.x.significand in
     let e = c.args.x.exponent in
-    rw (held_shift s.precision t.precision m c.requires.held.precise c.requires.into.precision_high
-        c.requires.x.operand.fits, exponent_word s m e c.requires.from c.requires.x)
+    rw (
+      held_shift s.precision t.precision m c.requires.held.precise c.requires.into.precision_high
+          c.requires.x.operand.fits,
+      exponent_word s m e c.requires.from c.requires.x,
+    )
     (held_normal s t m e c.requires.from c.requires.into c.requires.held c.requires.x)
 
 pub returns-clause-datum : goal.returns-clause-datum
@@ -20,7 +23,10 @@ returns-clause-datum c =
     let t = c.args.into in
     let m = c.args.x.significand in
     let e = c.args.x.exponent in
-    rw (held_shift s.precision t.precision m c.requires.held.precise c.requires.into.precision_high
-        c.requires.x.operand.fits, exponent_word s m e c.requires.from c.requires.x)
+    rw (
+      held_shift s.precision t.precision m c.requires.held.precise c.requires.into.precision_high
+          c.requires.x.operand.fits,
+      exponent_word s m e c.requires.from c.requires.x,
+    )
     (ap (finite c.args.x.negative)
-        (held_quanta_are s t m e c.requires.from c.requires.into c.requires.held c.requires.x))
+    (held_quanta_are s t m e c.requires.from c.requires.into c.requires.held c.requires.x))

@@ -27,4 +27,4 @@ in_units number scale =
 pub returns-clause-delivered : goal.returns-clause-delivered
 returns-clause-delivered c =
     c.deliver.ensures.delivered (c.args.number * 2 ^ (format_at c.args.shape).scale) 1 (omega arith)
-        (in_units c.args.number (format_at c.args.shape).scale)
+    (in_units c.args.number (format_at c.args.shape).scale)

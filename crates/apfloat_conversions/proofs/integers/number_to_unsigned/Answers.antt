@@ -28,12 +28,12 @@ returns-in-None-clause-whole c =
     let e = c.limit_of-limit.ensures.value in
     let w : 2 ^ c.args.width ≤ 2 ^ 128 = pow-le-pow_right two_pos c.requires.high in
     let l : limit c.args.width c.args.x.negative
-        < whole_pick c.args.round c.args.x.negative n (2 ^ (format_at s).scale) =
-            subst (λ (k : ℕ). k < whole_pick c.args.round c.args.x.negative n (2 ^ (format_at s).scale)) e
-                (omega (arith, i, w, c.limit_of-limit.ensures.fits)) in
+    < whole_pick c.args.round c.args.x.negative n (2 ^ (format_at s).scale) =
+    subst (λ (k : ℕ). k < whole_pick c.args.round c.args.x.negative n (2 ^ (format_at s).scale)) e
+    (omega (arith, i, w, c.limit_of-limit.ensures.fits)) in
     out_of_range (format_at s) c.args.round c.args.width c.args.x.negative n c.out_of_range.result.answer.value _
-        c.out_of_range.result.is_exact (quanta_some s c.args.x.significand c.args.x.exponent c.requires.normal) l
-            (c.out_of_range.ensures.number ∙ e) c.out_of_range.ensures.status c.out_of_range.ensures.inexact
+    c.out_of_range.result.is_exact (quanta_some s c.args.x.significand c.args.x.exponent c.requires.normal) l
+    (c.out_of_range.ensures.number ∙ e) c.out_of_range.ensures.status c.out_of_range.ensures.inexact
 
 pub returns-in-None-clause-fits : goal.returns-in-None-clause-fits
 returns-in-None-clause-fits c = rw c.out_of_range.ensures.number c.limit_of-limit.ensures.fits
@@ -47,14 +47,14 @@ returns-then-whole-limit-clause-whole c =
     let t = c.if-whole-limit.true in
     let m = i.magnitude_is in
     let l : limit c.args.width c.args.x.negative
-        < whole_pick c.args.round c.args.x.negative n (2 ^ (format_at s).scale) =
-            subst (λ (k : ℕ). k < whole_pick c.args.round c.args.x.negative n (2 ^ (format_at s).scale)) e
-                (omega (arith, t, m)) in
+    < whole_pick c.args.round c.args.x.negative n (2 ^ (format_at s).scale) =
+    subst (λ (k : ℕ). k < whole_pick c.args.round c.args.x.negative n (2 ^ (format_at s).scale)) e
+    (omega (arith, t, m)) in
     out_of_range (format_at s) c.args.round c.args.width c.args.x.negative n
-        c.out_of_range-then-whole-limit.result.answer.value _ c.out_of_range-then-whole-limit.result.is_exact
-            (quanta_some s c.args.x.significand c.args.x.exponent c.requires.normal) l
-                (c.out_of_range-then-whole-limit.ensures.number ∙ e) c.out_of_range-then-whole-limit.ensures.status
-                    c.out_of_range-then-whole-limit.ensures.inexact
+    c.out_of_range-then-whole-limit.result.answer.value _ c.out_of_range-then-whole-limit.result.is_exact
+    (quanta_some s c.args.x.significand c.args.x.exponent c.requires.normal) l
+    (c.out_of_range-then-whole-limit.ensures.number ∙ e) c.out_of_range-then-whole-limit.ensures.status
+    c.out_of_range-then-whole-limit.ensures.inexact
 
 pub returns-then-whole-limit-clause-fits : goal.returns-then-whole-limit-clause-fits
 returns-then-whole-limit-clause-fits c =
@@ -68,11 +68,11 @@ returns-else-whole-limit-clause-whole c =
     let f = c.if-whole-limit.false in
     let e = c.limit_of-limit.ensures.value in
     let l : c.in-Some.whole.magnitude ≤ limit c.args.width c.args.x.negative =
-        subst (λ (k : ℕ). c.in-Some.whole.magnitude ≤ k) e (omega (arith, f)) in
+    subst (λ (k : ℕ). c.in-Some.whole.magnitude ≤ k) e (omega (arith, f)) in
     rw (c.and.ensures.value) (in_range (format_at s) c.args.round c.args.width c.args.x.negative n
-        c.in-Some.whole.magnitude _ c.in-Some.whole.exact
-            (quanta_some s c.args.x.significand c.args.x.exponent c.requires.normal) i.magnitude_is i.exact_is l
-                (rw c.and.ensures.status c.status_of.ensures))
+    c.in-Some.whole.magnitude _ c.in-Some.whole.exact
+    (quanta_some s c.args.x.significand c.args.x.exponent c.requires.normal) i.magnitude_is i.exact_is l
+    (rw c.and.ensures.status c.status_of.ensures))
 
 pub returns-else-whole-limit-clause-fits : goal.returns-else-whole-limit-clause-fits
 returns-else-whole-limit-clause-fits c =

@@ -17,8 +17,13 @@ last_exponent-exponent-requires-clause-near c =
 
 pub last_exponent-exponent-requires-clause-far : goal.last_exponent-exponent-requires-clause-far
 last_exponent-exponent-requires-clause-far c =
-    omega (arith, ints, c.requires.lawful.min_exp_low, c.requires.lawful.precision_high,
-        c.requires.normal.operand.least)
+    omega (
+      arith,
+      ints,
+      c.requires.lawful.min_exp_low,
+      c.requires.lawful.precision_high,
+      c.requires.normal.operand.least,
+    )
 
 pub steps_between-places-requires-clause-above : goal.steps_between-places-requires-clause-above
 steps_between-places-requires-clause-above c = omega (arith, ints)
@@ -38,10 +43,10 @@ returns-then-exponent-ge0 c =
     let a = quanta_at s.min_exp m x in
     let r = c.last_exponent-exponent.result in
     let w : to_z w32 (of_z w32 c.last_exponent-exponent.result) ≡ c.last_exponent-exponent.result =
-        to_z-of_z w32 c.last_exponent-exponent.result (record { sfits = c.last_exponent-exponent.type_inv }) in
+    to_z-of_z w32 c.last_exponent-exponent.result (record { sfits = c.last_exponent-exponent.type_inv }) in
     let g = c.if-exponent-ge0.true in
     let e = whole_places s m x r c.requires.lawful n c.last_exponent-exponent.ensures.value
-        (omega (arith, ints, g, w)) in
+    (omega (arith, ints, g, w)) in
     whole_multiple (m * 2 ^ up r) a (2 ^ (format_at s).scale) e
 
 pub round_fraction-requires : goal.round_fraction-requires
@@ -57,10 +62,10 @@ returns c =
     let a = quanta_at s.min_exp m x in
     let r = c.last_exponent-exponent.result in
     let w : to_z w32 (of_z w32 c.last_exponent-exponent.result) ≡ c.last_exponent-exponent.result =
-        to_z-of_z w32 c.last_exponent-exponent.result (record { sfits = c.last_exponent-exponent.type_inv }) in
+    to_z-of_z w32 c.last_exponent-exponent.result (record { sfits = c.last_exponent-exponent.type_inv }) in
     let k = rw w at c.steps_between-places.ensures in
     let p = pow_pos (format_at s).scale in
     let i = c.round_fraction.ensures.picked a (2 ^ (format_at s).scale) p
     (fraction_places s m c.steps_between-places.result x r c.requires.lawful n
-        c.last_exponent-exponent.ensures.value k) in
+    c.last_exponent-exponent.ensures.value k) in
     i.exact_is ∙ whole_toward_zero c.args.x.negative a (2 ^ (format_at s).scale) p

@@ -20,8 +20,13 @@ last_exponent-exponent-requires-clause-near c =
 
 pub last_exponent-exponent-requires-clause-far : goal.last_exponent-exponent-requires-clause-far
 last_exponent-exponent-requires-clause-far c =
-    omega (arith, ints, c.requires.lawful.min_exp_low, c.requires.lawful.precision_high,
-        c.requires.normal.operand.least)
+    omega (
+      arith,
+      ints,
+      c.requires.lawful.min_exp_low,
+      c.requires.lawful.precision_high,
+      c.requires.normal.operand.least,
+    )
 
 pub steps_between-places-requires-clause-above : goal.steps_between-places-requires-clause-above
 steps_between-places-requires-clause-above c = omega (arith, ints)
@@ -56,12 +61,12 @@ returns-then-exponent-ge0-clause-delivered c =
     let a = quanta_at s.min_exp m x in
     let r = c.last_exponent-exponent.result in
     let w : to_z w32 (of_z w32 c.last_exponent-exponent.result) ≡ c.last_exponent-exponent.result =
-        to_z-of_z w32 c.last_exponent-exponent.result (record { sfits = c.last_exponent-exponent.type_inv }) in
+    to_z-of_z w32 c.last_exponent-exponent.result (record { sfits = c.last_exponent-exponent.type_inv }) in
     let g = c.if-exponent-ge0.true in
     let e = whole_places s m x r c.requires.lawful n c.last_exponent-exponent.ensures.value
-        (omega (arith, ints, g, w)) in
+    (omega (arith, ints, g, w)) in
     rw (c.and.ensures.value, c.and.ensures.status, c.requires.number)
-        (integral_stays (format_at s) c.args.round c.args.x.negative a (m * 2 ^ up r) (quanta_some s m x n) e)
+    (integral_stays (format_at s) c.args.round c.args.x.negative a (m * 2 ^ up r) (quanta_some s m x n) e)
 
 pub round_fraction-whole-requires : goal.round_fraction-whole-requires
 round_fraction-whole-requires c =
@@ -72,12 +77,12 @@ half_bound c =
     let three = c.requires.lawful.precision_low in
     let g = c.if-exponent-ge0.false in
     let w : to_z w32 (of_z w32 c.last_exponent-exponent.result) ≡ c.last_exponent-exponent.result =
-        to_z-of_z w32 c.last_exponent-exponent.result (record { sfits = c.last_exponent-exponent.type_inv }) in
+    to_z-of_z w32 c.last_exponent-exponent.result (record { sfits = c.last_exponent-exponent.type_inv }) in
     let k = rw w at c.steps_between-places.ensures in
     let l : 1 ≤ c.steps_between-places.result = omega (arith, ints, g, w, k) in
     whole_fits c.args.shape.precision c.args.x.significand c.steps_between-places.result
-        c.round_fraction-whole.result.magnitude (omega (arith, three)) c.requires.normal.operand.fits l
-            c.round_fraction-whole.ensures.bound
+    c.round_fraction-whole.result.magnitude (omega (arith, three)) c.requires.normal.operand.fits l
+    c.round_fraction-whole.ensures.bound
 
 pub quanta_of-requires-clause-fits : goal.quanta_of-requires-clause-fits
 quanta_of-requires-clause-fits c =
@@ -94,7 +99,7 @@ quanta_of-requires-clause-within c =
     let h = half_bound c in
     let r = scale_in_span s c.requires.lawful in
     subst (λ (k : ℕ). c.round_fraction-whole.result.magnitude * 2 ^ k ≤ largest (format_at s))
-        (sym c.scale.ensures.value)
+    (sym c.scale.ensures.value)
     (half_within s c.round_fraction-whole.result.magnitude (format_at s).scale c.requires.lawful h (omega (arith, r)))
 
 pub returns-clause-delivered : goal.returns-clause-delivered
@@ -106,13 +111,13 @@ returns-clause-delivered c =
     let a = quanta_at s.min_exp m x in
     let r = c.last_exponent-exponent.result in
     let w : to_z w32 (of_z w32 c.last_exponent-exponent.result) ≡ c.last_exponent-exponent.result =
-        to_z-of_z w32 c.last_exponent-exponent.result (record { sfits = c.last_exponent-exponent.type_inv }) in
+    to_z-of_z w32 c.last_exponent-exponent.result (record { sfits = c.last_exponent-exponent.type_inv }) in
     let k = rw w at c.steps_between-places.ensures in
     let i = c.round_fraction-whole.ensures.picked a (2 ^ (format_at s).scale) (pow_pos (format_at s).scale)
     (fraction_places s m c.steps_between-places.result x r c.requires.lawful n
-        c.last_exponent-exponent.ensures.value k) in
+    c.last_exponent-exponent.ensures.value k) in
     let d = rw c.scale.ensures.value at c.quanta_of.ensures.datum in
     rw (c.and-2.ensures.value, c.and-2.ensures.status, c.requires.number)
-        (integral_picked (format_at s) c.args.round c.args.x.negative a c.round_fraction-whole.result.magnitude
-            c.round_fraction-whole.result.exact (datum_at s c.quanta_of.result) _ i.magnitude_is i.exact_is d
-                c.status_of.ensures)
+    (integral_picked (format_at s) c.args.round c.args.x.negative a c.round_fraction-whole.result.magnitude
+    c.round_fraction-whole.result.exact (datum_at s c.quanta_of.result) _ i.magnitude_is i.exact_is d
+    c.status_of.ensures)

@@ -26,9 +26,11 @@ raised-requires c = omega (arith, ints, c.requires.lawful.max_exp_high, c.requir
 pub overflow_add-significand : goal.overflow_add-significand
 overflow_add-significand c =
     let ex = exponent_word c.args.shape c.args.x.significand c.args.x.exponent c.requires.lawful c.requires.normal in
-    record { fits =
-        step_fits c.args.shape c.args.x.significand c.step.result c.args.x.exponent c.requires.lawful
-            c.requires.normal (rw ex at c.step.ensures) }
+    record {
+      fits =
+          step_fits c.args.shape c.args.x.significand c.step.result c.args.x.exponent c.requires.lawful
+          c.requires.normal (rw ex at c.step.ensures);
+    }
 
 stays : (c : goal.After-struct_told-then-significand-power_of_two-1)
     → IsAfter c.args.shape (quanta_at c.args.shape.min_exp c.args.x.significand c.args.x.exponent)
@@ -39,21 +41,21 @@ stays c =
     let t = c.if-significand-power_of_two.true in
     let e = c.power_of_two.ensures in
     after_stays s c.args.x.significand c.step.result c.args.x.exponent c.requires.lawful c.requires.normal
-        (rw ex at c.step.ensures) (omega (arith, t, e))
+    (rw ex at c.step.ensures) (omega (arith, t, e))
 
 pub returns-then-significand-power_of_two-clause-stored : goal.returns-then-significand-power_of_two-clause-stored
 returns-then-significand-power_of_two-clause-stored c =
     let s = c.args.shape in
     let ex = exponent_word s c.args.x.significand c.args.x.exponent c.requires.lawful c.requires.normal in
     rw ex (after_stored s (quanta_at s.min_exp c.args.x.significand c.args.x.exponent)
-        (c.args.x.significand + c.step.result) c.args.x.exponent c.requires.lawful c.requires.below (stays c))
+    (c.args.x.significand + c.step.result) c.args.x.exponent c.requires.lawful c.requires.below (stays c))
 
 pub returns-then-significand-power_of_two-clause-next : goal.returns-then-significand-power_of_two-clause-next
 returns-then-significand-power_of_two-clause-next c =
     let s = c.args.shape in
     let ex = exponent_word s c.args.x.significand c.args.x.exponent c.requires.lawful c.requires.normal in
     rw ex (after_is s (quanta_at s.min_exp c.args.x.significand c.args.x.exponent)
-        (c.args.x.significand + c.step.result) c.args.x.exponent (stays c))
+    (c.args.x.significand + c.step.result) c.args.x.exponent (stays c))
 
 carries : (c : goal.After-raised)
     → IsAfter c.args.shape (quanta_at c.args.shape.min_exp c.args.x.significand c.args.x.exponent)
@@ -64,21 +66,21 @@ carries c =
     let f = c.if-significand-power_of_two.false in
     let e = c.power_of_two.ensures in
     after_carries s c.args.x.significand c.step.result c.integer_bit.result c.args.x.exponent c.raised.result
-        c.requires.lawful c.requires.normal c.requires.below (rw ex at c.step.ensures) (omega (arith, f, e))
-            c.integer_bit.ensures (rw ex at c.raised.ensures)
+    c.requires.lawful c.requires.normal c.requires.below (rw ex at c.step.ensures) (omega (arith, f, e))
+    c.integer_bit.ensures (rw ex at c.raised.ensures)
 
 pub returns-else-significand-power_of_two-clause-stored : goal.returns-else-significand-power_of_two-clause-stored
 returns-else-significand-power_of_two-clause-stored c =
     let s = c.args.shape in
     let er : to_z w32 (of_z w32 c.raised.result) ≡ c.raised.result =
-        to_z-of_z w32 c.raised.result (record { sfits = c.raised.type_inv }) in
+    to_z-of_z w32 c.raised.result (record { sfits = c.raised.type_inv }) in
     rw er (after_stored s (quanta_at s.min_exp c.args.x.significand c.args.x.exponent) c.integer_bit.result
-        c.raised.result c.requires.lawful c.requires.below (carries c))
+    c.raised.result c.requires.lawful c.requires.below (carries c))
 
 pub returns-else-significand-power_of_two-clause-next : goal.returns-else-significand-power_of_two-clause-next
 returns-else-significand-power_of_two-clause-next c =
     let s = c.args.shape in
     let er : to_z w32 (of_z w32 c.raised.result) ≡ c.raised.result =
-        to_z-of_z w32 c.raised.result (record { sfits = c.raised.type_inv }) in
+    to_z-of_z w32 c.raised.result (record { sfits = c.raised.type_inv }) in
     rw er (after_is s (quanta_at s.min_exp c.args.x.significand c.args.x.exponent) c.integer_bit.result
-        c.raised.result (carries c))
+    c.raised.result (carries c))

@@ -27,8 +27,13 @@ returns-then-x-least_exponent-clause-stored c = c.zero_of.ensures.stored
 
 pub lowered-exponent-requires : goal.lowered-exponent-requires
 lowered-exponent-requires c =
-    omega (arith, ints, c.requires.lawful.min_exp_low, c.requires.lawful.precision_high,
-        c.requires.normal.operand.least)
+    omega (
+      arith,
+      ints,
+      c.requires.lawful.min_exp_low,
+      c.requires.lawful.precision_high,
+      c.requires.normal.operand.least,
+    )
 
 pub power_of_two-requires : goal.power_of_two-requires
 power_of_two-requires c = omega (arith, c.requires.lawful.precision_high)
@@ -45,7 +50,7 @@ overflow_sub-result c =
     let s = c.args.shape in
     let ex = exponent_word s c.args.x.significand c.args.x.exponent c.requires.lawful c.requires.normal in
     step_below s c.args.x.significand c.step.result c.args.x.exponent c.requires.lawful
-        c.requires.normal.operand.least c.requires.normal.operand.full (rw ex at c.step.ensures)
+    c.requires.normal.operand.least c.requires.normal.operand.full (rw ex at c.step.ensures)
 
 stays : (c : goal.After-struct_told-then-x-integer_bit-1)
     → IsBefore c.args.shape (quanta_at c.args.shape.min_exp c.args.x.significand c.args.x.exponent)
@@ -56,21 +61,21 @@ stays c =
     let t = c.if-x-integer_bit.true in
     let e = c.integer_bit.ensures in
     before_stays s c.args.x.significand c.step.result c.args.x.exponent c.requires.lawful c.requires.normal
-        (rw ex at c.step.ensures) (omega (arith, t, e))
+    (rw ex at c.step.ensures) (omega (arith, t, e))
 
 pub returns-then-x-integer_bit-clause-stored : goal.returns-then-x-integer_bit-clause-stored
 returns-then-x-integer_bit-clause-stored c =
     let s = c.args.shape in
     let ex = exponent_word s c.args.x.significand c.args.x.exponent c.requires.lawful c.requires.normal in
     rw ex (before_stored s (quanta_at s.min_exp c.args.x.significand c.args.x.exponent)
-        (c.args.x.significand - c.step.result) c.args.x.exponent c.requires.normal.within (stays c))
+    (c.args.x.significand - c.step.result) c.args.x.exponent c.requires.normal.within (stays c))
 
 pub returns-then-x-integer_bit-clause-next : goal.returns-then-x-integer_bit-clause-next
 returns-then-x-integer_bit-clause-next c =
     let s = c.args.shape in
     let ex = exponent_word s c.args.x.significand c.args.x.exponent c.requires.lawful c.requires.normal in
     rw ex (before_is s (quanta_at s.min_exp c.args.x.significand c.args.x.exponent)
-        (c.args.x.significand - c.step.result) c.args.x.exponent c.requires.normal.within (stays c))
+    (c.args.x.significand - c.step.result) c.args.x.exponent c.requires.normal.within (stays c))
 
 -- a significand that is not above the integer bit is it
 is_half : (m bit half : ℕ) → m ≤ bit → bit ≡ half → half ≤ m → m ≡ half
@@ -81,12 +86,12 @@ returns-then-x-least_exponent-clause-next c =
     let s = c.args.shape in
     let ex = exponent_word s c.args.x.significand c.args.x.exponent c.requires.lawful c.requires.normal in
     let el : to_z w32 (of_z w32 c.least_exponent.result) ≡ c.least_exponent.result =
-        to_z-of_z w32 c.least_exponent.result (record { sfits = c.least_exponent.type_inv }) in
+    to_z-of_z w32 c.least_exponent.result (record { sfits = c.least_exponent.type_inv }) in
     let i : c.args.x.exponent ≡ ((s.min_exp +ℤ pos 1) -ℤ pos s.precision) = sym ex ∙
-        ap (to_z w32) c.if-x-least_exponent.true ∙ el ∙ c.least_exponent.ensures in
+    ap (to_z w32) c.if-x-least_exponent.true ∙ el ∙ c.least_exponent.ensures in
     rw c.zero_of.ensures.datum (before_least s c.args.x.significand c.args.x.exponent c.requires.lawful
-        c.requires.normal (is_half c.args.x.significand c.integer_bit.result (2 ^ (s.precision - 1))
-            c.if-x-integer_bit.false c.integer_bit.ensures c.requires.normal.operand.full) i)
+    c.requires.normal (is_half c.args.x.significand c.integer_bit.result (2 ^ (s.precision - 1))
+    c.if-x-integer_bit.false c.integer_bit.ensures c.requires.normal.operand.full) i)
 
 low : (c : goal.After-step-2)
     → ((c.args.shape.min_exp +ℤ pos 1) -ℤ pos c.args.shape.precision) ≤ℤ c.lowered-exponent.result
@@ -97,19 +102,19 @@ low c =
     let f = c.if-x-least_exponent.false in
     let n = c.least_exponent.ensures in
     subst (λ (z : ℤ). ((s.min_exp +ℤ pos 1) -ℤ pos s.precision) ≤ℤ z) (sym r)
-        (room_below ((s.min_exp +ℤ pos 1) -ℤ pos s.precision) c.args.x.exponent c.requires.normal.operand.least
-            (λ e. f (ap (of_z w32) (e ∙ sym n))))
+    (room_below ((s.min_exp +ℤ pos 1) -ℤ pos s.precision) c.args.x.exponent c.requires.normal.operand.least
+    (λ e. f (ap (of_z w32) (e ∙ sym n))))
 
 pub overflow_sub-result-2 : goal.overflow_sub-result-2
 overflow_sub-result-2 c =
     let s = c.args.shape in
     let three = c.requires.lawful.precision_low in
     let ey : to_z w32 (of_z w32 c.lowered-exponent.result) ≡ c.lowered-exponent.result =
-        to_z-of_z w32 c.lowered-exponent.result (record { sfits = c.lowered-exponent.type_inv }) in
+    to_z-of_z w32 c.lowered-exponent.result (record { sfits = c.lowered-exponent.type_inv }) in
     let p = c.power_of_two.ensures in
     let t = twice_half s.precision (omega (arith, three)) in
     step_below s c.power_of_two.result c.step-2.result c.lowered-exponent.result c.requires.lawful (low c)
-        (omega (arith, p, t)) (rw ey at c.step-2.ensures)
+    (omega (arith, p, t)) (rw ey at c.step-2.ensures)
 
 lowers : (c : goal.After-step-2)
     → IsBefore c.args.shape (quanta_at c.args.shape.min_exp c.args.x.significand c.args.x.exponent)
@@ -118,25 +123,25 @@ lowers c =
     let s = c.args.shape in
     let ex = exponent_word s c.args.x.significand c.args.x.exponent c.requires.lawful c.requires.normal in
     let ey : to_z w32 (of_z w32 c.lowered-exponent.result) ≡ c.lowered-exponent.result =
-        to_z-of_z w32 c.lowered-exponent.result (record { sfits = c.lowered-exponent.type_inv }) in
+    to_z-of_z w32 c.lowered-exponent.result (record { sfits = c.lowered-exponent.type_inv }) in
     before_lowers s c.args.x.significand c.power_of_two.result c.step-2.result c.args.x.exponent
-        c.lowered-exponent.result c.requires.lawful c.requires.normal
-            (is_half c.args.x.significand c.integer_bit.result (2 ^ (s.precision - 1)) c.if-x-integer_bit.false
-                c.integer_bit.ensures c.requires.normal.operand.full) c.power_of_two.ensures
-                    (rw ex at c.lowered-exponent.ensures) (low c) (rw ey at c.step-2.ensures)
+    c.lowered-exponent.result c.requires.lawful c.requires.normal
+    (is_half c.args.x.significand c.integer_bit.result (2 ^ (s.precision - 1)) c.if-x-integer_bit.false
+    c.integer_bit.ensures c.requires.normal.operand.full) c.power_of_two.ensures
+    (rw ex at c.lowered-exponent.ensures) (low c) (rw ey at c.step-2.ensures)
 
 pub returns-clause-stored : goal.returns-clause-stored
 returns-clause-stored c =
     let s = c.args.shape in
     let ey : to_z w32 (of_z w32 c.lowered-exponent.result) ≡ c.lowered-exponent.result =
-        to_z-of_z w32 c.lowered-exponent.result (record { sfits = c.lowered-exponent.type_inv }) in
+    to_z-of_z w32 c.lowered-exponent.result (record { sfits = c.lowered-exponent.type_inv }) in
     rw ey (before_stored s (quanta_at s.min_exp c.args.x.significand c.args.x.exponent)
-        (c.power_of_two.result - c.step-2.result) c.lowered-exponent.result c.requires.normal.within (lowers c))
+    (c.power_of_two.result - c.step-2.result) c.lowered-exponent.result c.requires.normal.within (lowers c))
 
 pub returns-clause-next : goal.returns-clause-next
 returns-clause-next c =
     let s = c.args.shape in
     let ey : to_z w32 (of_z w32 c.lowered-exponent.result) ≡ c.lowered-exponent.result =
-        to_z-of_z w32 c.lowered-exponent.result (record { sfits = c.lowered-exponent.type_inv }) in
+    to_z-of_z w32 c.lowered-exponent.result (record { sfits = c.lowered-exponent.type_inv }) in
     rw ey (before_is s (quanta_at s.min_exp c.args.x.significand c.args.x.exponent)
-        (c.power_of_two.result - c.step-2.result) c.lowered-exponent.result c.requires.normal.within (lowers c))
+    (c.power_of_two.result - c.step-2.result) c.lowered-exponent.result c.requires.normal.within (lowers c))

@@ -34,8 +34,18 @@ returns-in-NaN-clause-next c = c.next_of_nan.ensures.next
 
 pub returns-after-x-clause-next : goal.returns-after-x-clause-next
 returns-after-x-clause-next c = elim c.if-x.branch [
-  | then-x w ↦ rw (c.and-in-Infinity.ensures.value, c.and-in-Infinity.ensures.status, w.and-is, c.in-Infinity.is,
-      w.if-x.true) (record { value_is = w.largest_of.ensures.datum; status_is = refl })
-  | else-x w ↦ rw (c.and-in-Infinity.ensures.value, c.and-in-Infinity.ensures.status, w.and-is, c.in-Infinity.is,
-      w.if-x.false) (record { value_is = refl; status_is = refl })
+  | then-x w ↦ rw (
+    c.and-in-Infinity.ensures.value,
+    c.and-in-Infinity.ensures.status,
+    w.and-is,
+    c.in-Infinity.is,
+    w.if-x.true,
+  ) (record { value_is = w.largest_of.ensures.datum; status_is = refl })
+  | else-x w ↦ rw (
+    c.and-in-Infinity.ensures.value,
+    c.and-in-Infinity.ensures.status,
+    w.and-is,
+    c.in-Infinity.is,
+    w.if-x.false,
+  ) (record { value_is = refl; status_is = refl })
 ]

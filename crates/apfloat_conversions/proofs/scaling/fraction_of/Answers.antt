@@ -10,7 +10,7 @@ returns-in-Normal-clause-fraction c =
     let n = rw c.in-Normal.is at c.requires.stored in
     let p = quanta_some s c.args.x.significand c.args.x.exponent n in
     let z : eqb (quanta_at s.min_exp c.args.x.significand c.args.x.exponent) 0 ≡ false =
-        ne_eqb _ 0 (λ q. omega (arith, p, q)) in
+    ne_eqb _ 0 (λ q. omega (arith, p, q)) in
     rw (c.in-Normal.is, z) c.number_fraction.ensures.fraction
 
 pub returns-in-Infinity-clause-fraction : goal.returns-in-Infinity-clause-fraction

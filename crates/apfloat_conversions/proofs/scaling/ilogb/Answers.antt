@@ -17,5 +17,5 @@ returns-in-Normal c =
     let z : eqb (quanta_at s.min_exp m e) 0 ≡ false = ne_eqb _ 0 (λ q. omega (arith, p, q)) in
     let w = exponent_word s m e c.requires.lawful n in
     rw (c.in-Normal.is, z, w)
-        (logarithm_is (format_at s) s.precision s.min_exp s.max_exp e m (quanta_at s.min_exp m e)
-            c.requires.lawful.precision_low (scale_is s c.requires.lawful) n.operand n.whole)
+    (logarithm_is (format_at s) s.precision s.min_exp s.max_exp e m (quanta_at s.min_exp m e)
+    c.requires.lawful.precision_low (scale_is s c.requires.lawful) n.operand n.whole)

@@ -11,8 +11,13 @@ moved-requires-clause-near c = omega (arith, ints, c.requires.lawful.max_exp_hig
 
 pub moved-requires-clause-far : goal.moved-requires-clause-far
 moved-requires-clause-far c =
-    omega (arith, ints, c.requires.lawful.min_exp_low, c.requires.lawful.precision_high,
-        c.requires.normal.operand.least)
+    omega (
+      arith,
+      ints,
+      c.requires.lawful.min_exp_low,
+      c.requires.lawful.precision_high,
+      c.requires.normal.operand.least,
+    )
 
 pub moved-requires-clause-low : goal.moved-requires-clause-low
 moved-requires-clause-low c =
@@ -21,7 +26,7 @@ moved-requires-clause-low c =
 pub moved-requires-clause-high : goal.moved-requires-clause-high
 moved-requires-clause-high c =
     rw (to_z-of_z w32 c.clamped-near.result (record { sfits = c.clamped-near.type_inv }))
-        c.clamped-near.ensures.high
+    c.clamped-near.ensures.high
 
 pub last_exponent-exponent-requires-clause-lawful : goal.last_exponent-exponent-requires-clause-lawful
 last_exponent-exponent-requires-clause-lawful c = c.requires.lawful
@@ -40,12 +45,12 @@ deliver-requires-clause-lawful c = c.requires.lawful
 pub deliver-requires-clause-near : goal.deliver-requires-clause-near
 deliver-requires-clause-near c =
     rw (to_z-of_z w32 c.last_exponent-exponent.result (record { sfits = c.last_exponent-exponent.type_inv }))
-        c.last_exponent-exponent.ensures.near
+    c.last_exponent-exponent.ensures.near
 
 pub deliver-requires-clause-far : goal.deliver-requires-clause-far
 deliver-requires-clause-far c =
     rw (to_z-of_z w32 c.last_exponent-exponent.result (record { sfits = c.last_exponent-exponent.type_inv }))
-        c.last_exponent-exponent.ensures.far
+    c.last_exponent-exponent.ensures.far
 
 pub deliver-requires-clause-fine : goal.deliver-requires-clause-fine
 deliver-requires-clause-fine c = inl refl
@@ -59,19 +64,19 @@ returns-clause-delivered c =
     let ex = exponent_word s c.args.x.significand c.args.x.exponent c.requires.lawful c.requires.normal in
     let ej = to_z-of_z w32 c.args.places c.ranges.places in
     let en : to_z w32 (of_z w32 c.clamped-near.result) ≡ c.clamped-near.result =
-        to_z-of_z w32 c.clamped-near.result (record { sfits = c.clamped-near.type_inv }) in
+    to_z-of_z w32 c.clamped-near.result (record { sfits = c.clamped-near.type_inv }) in
     let em : to_z w32 (of_z w32 c.moved.result) ≡ c.moved.result =
-        to_z-of_z w32 c.moved.result (record { sfits = c.moved.type_inv }) in
+    to_z-of_z w32 c.moved.result (record { sfits = c.moved.type_inv }) in
     let el : to_z w32 (of_z w32 c.last_exponent-exponent.result) ≡ c.last_exponent-exponent.result =
-        to_z-of_z w32 c.last_exponent-exponent.result (record { sfits = c.last_exponent-exponent.type_inv }) in
+    to_z-of_z w32 c.last_exponent-exponent.result (record { sfits = c.last_exponent-exponent.type_inv }) in
     let is = rw ej at c.clamped-near.ensures.is in
     let w = rw (ex, en) at c.moved.ensures.value in
     let l = rw em at c.last_exponent-exponent.ensures.value in
     let v : c.last_exponent-exponent.result
-        ≡ ((c.args.x.exponent +ℤ c.clamped-near.result) -ℤ pos (s.precision - 1)) = rw w at l in
+    ≡ ((c.args.x.exponent +ℤ c.clamped-near.result) -ℤ pos (s.precision - 1)) = rw w at l in
     scale_delivered s c.args.x.significand c.args.x.exponent c.args.places c.clamped-near.result
-        c.last_exponent-exponent.result c.args.round c.args.x.negative (datum_at s c.deliver.result.value)
-            (bits_of c.deliver.result.status)
+    c.last_exponent-exponent.result c.args.round c.args.x.negative (datum_at s c.deliver.result.value)
+    (bits_of c.deliver.result.status)
     c.requires.lawful c.requires.normal
-        (record { low = c.clamped-near.ensures.low; high = c.clamped-near.ensures.high; is = is }) v
-            (rw el at c.deliver.ensures.delivered)
+    (record { low = c.clamped-near.ensures.low; high = c.clamped-near.ensures.high; is = is }) v
+    (rw el at c.deliver.ensures.delivered)

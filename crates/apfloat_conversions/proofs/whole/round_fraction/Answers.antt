@@ -5,23 +5,25 @@ use Rattle.apfloat_conversions.proofs.whole.round_fraction.Goals as goal
 
 pub overflow_add-result : goal.overflow_add-result
 overflow_add-result c =
-    record { fits =
-        cut_below c.args.significand c.shift_right-kept.result.significand c.args.places c.requires
-            c.shift_right-kept.ensures.quotient }
+    record {
+      fits =
+          cut_below c.args.significand c.shift_right-kept.result.significand c.args.places c.requires
+          c.shift_right-kept.ensures.quotient;
+    }
 
 pub returns-then-moves_up-clause-picked : goal.returns-then-moves_up-clause-picked
 returns-then-moves_up-clause-picked c = λ amount parts p e.
     let q = c.shift_right-kept.result.significand in
     let loss = c.shift_right-kept.result.loss in
     let st = cut_whole_stands c.args.significand q c.args.places amount parts loss e
-        (c.shift_right-kept.ensures.stands (c.args.significand * parts) parts p refl) in
+    (c.shift_right-kept.ensures.stands (c.args.significand * parts) parts p refl) in
     record {
       magnitude_is =
           kept_moved c.args.round c.args.negative loss q c.moves_up.result c.moves_up.ensures c.if-moves_up.true ∙
-              sym (whole_at c.args.round c.args.negative q amount parts loss p st);
+          sym (whole_at c.args.round c.args.negative q amount parts loss p st);
       exact_is =
           exact_at c.args.round c.args.negative q amount parts loss c.is_exact-exact.result p st
-              c.is_exact-exact.ensures.yes c.is_exact-exact.ensures.no;
+          c.is_exact-exact.ensures.yes c.is_exact-exact.ensures.no;
     }
 
 pub returns-else-moves_up-clause-picked : goal.returns-else-moves_up-clause-picked
@@ -29,12 +31,12 @@ returns-else-moves_up-clause-picked c = λ amount parts p e.
     let q = c.shift_right-kept.result.significand in
     let loss = c.shift_right-kept.result.loss in
     let st = cut_whole_stands c.args.significand q c.args.places amount parts loss e
-        (c.shift_right-kept.ensures.stands (c.args.significand * parts) parts p refl) in
+    (c.shift_right-kept.ensures.stands (c.args.significand * parts) parts p refl) in
     record {
       magnitude_is =
           kept_stayed c.args.round c.args.negative loss q c.moves_up.result c.moves_up.ensures c.if-moves_up.false ∙
-              sym (whole_at c.args.round c.args.negative q amount parts loss p st);
+          sym (whole_at c.args.round c.args.negative q amount parts loss p st);
       exact_is =
           exact_at c.args.round c.args.negative q amount parts loss c.is_exact-exact.result p st
-              c.is_exact-exact.ensures.yes c.is_exact-exact.ensures.no;
+          c.is_exact-exact.ensures.yes c.is_exact-exact.ensures.no;
     }

@@ -19,8 +19,13 @@ last_exponent-exponent-requires-clause-near c =
 
 pub last_exponent-exponent-requires-clause-far : goal.last_exponent-exponent-requires-clause-far
 last_exponent-exponent-requires-clause-far c =
-    omega (arith, ints, c.requires.lawful.min_exp_low, c.requires.lawful.precision_high,
-        c.requires.normal.operand.least)
+    omega (
+      arith,
+      ints,
+      c.requires.lawful.min_exp_low,
+      c.requires.lawful.precision_high,
+      c.requires.normal.operand.least,
+    )
 
 pub steps_between-requires-clause-above : goal.steps_between-requires-clause-above
 steps_between-requires-clause-above c = omega (arith, ints)
@@ -39,8 +44,13 @@ raised-requires-clause-fits c = c.requires.normal.operand.fits
 
 pub raised-requires-clause-near : goal.raised-requires-clause-near
 raised-requires-clause-near c =
-    omega (arith, ints, c.requires.lawful.precision_low, c.last_exponent-exponent.ensures.value,
-        c.steps_between.ensures)
+    omega (
+      arith,
+      ints,
+      c.requires.lawful.precision_low,
+      c.last_exponent-exponent.ensures.value,
+      c.steps_between.ensures,
+    )
 
 pub steps_between-requires-2-clause-above : goal.steps_between-requires-2-clause-above
 steps_between-requires-2-clause-above c = omega (arith, ints)
@@ -58,7 +68,7 @@ returns-then-x-ge128 c =
     let p = c.requires.lawful.precision_high in
     let n = c.requires.normal in
     too_large c.args.round c.args.x.negative (s.precision - 1) (format_at s).scale s.min_exp c.args.x.exponent
-        c.args.x.significand (quanta_at s.min_exp c.args.x.significand c.args.x.exponent)
+    c.args.x.significand (quanta_at s.min_exp c.args.x.significand c.args.x.exponent)
     (omega (arith, p)) (scale_is s c.requires.lawful) n.operand.full (omega (arith, ints, g)) n.whole
 
 pub returns-then-exponent-ge0 : goal.returns-then-exponent-ge0
@@ -68,19 +78,19 @@ returns-then-exponent-ge0 c =
     let ex = exponent_word s c.args.x.significand c.args.x.exponent c.requires.lawful c.requires.normal in
     let v = rw ex at c.last_exponent-exponent.ensures.value in
     let w : to_z w32 (of_z w32 c.last_exponent-exponent.result) ≡ c.last_exponent-exponent.result =
-        to_z-of_z w32 c.last_exponent-exponent.result (record { sfits = c.last_exponent-exponent.type_inv }) in
+    to_z-of_z w32 c.last_exponent-exponent.result (record { sfits = c.last_exponent-exponent.type_inv }) in
     let k = rw w at c.steps_between.ensures in
     let e = places_up (s.precision - 1) (format_at s).scale s.min_exp c.args.x.exponent
-        c.last_exponent-exponent.result c.args.x.significand a c.steps_between.result (scale_is s c.requires.lawful)
-            v k c.requires.normal.whole in
+    c.last_exponent-exponent.result c.args.x.significand a c.steps_between.result (scale_is s c.requires.lawful)
+    v k c.requires.normal.whole in
     let p = pow_pos (format_at s).scale in
     record {
       magnitude_is = c.raised.ensures ∙
           sym (whole_exactly c.args.round c.args.x.negative (c.args.x.significand * 2 ^ c.steps_between.result) a
-              (2 ^ (format_at s).scale) p e);
+          (2 ^ (format_at s).scale) p e);
       exact_is =
           exactly_so c.args.round c.args.x.negative (c.args.x.significand * 2 ^ c.steps_between.result) a
-              (2 ^ (format_at s).scale) p e;
+          (2 ^ (format_at s).scale) p e;
     }
 
 pub round_fraction-requires : goal.round_fraction-requires
@@ -95,9 +105,9 @@ returns c =
     let s = c.args.shape in
     let a = quanta_at s.min_exp c.args.x.significand c.args.x.exponent in
     let w : to_z w32 (of_z w32 c.last_exponent-exponent.result) ≡ c.last_exponent-exponent.result =
-        to_z-of_z w32 c.last_exponent-exponent.result (record { sfits = c.last_exponent-exponent.type_inv }) in
+    to_z-of_z w32 c.last_exponent-exponent.result (record { sfits = c.last_exponent-exponent.type_inv }) in
     let k = rw w at c.steps_between-2.ensures in
     c.round_fraction.ensures.picked a (2 ^ (format_at s).scale) (pow_pos (format_at s).scale)
     (fraction_places s c.args.x.significand c.steps_between-2.result c.args.x.exponent
-        c.last_exponent-exponent.result c.requires.lawful c.requires.normal c.last_exponent-exponent.ensures.value
-            k)
+    c.last_exponent-exponent.result c.requires.lawful c.requires.normal c.last_exponent-exponent.ensures.value
+    k)

@@ -10,11 +10,11 @@ returns-clause-opposite g c =
     let d = rw c.shape_of.ensures.value at c.multiply.ensures.delivered in
     let l = rw c.shape_of.ensures.value at c.shape_of.ensures.lawful in
     let p : IsProduct (format_of g.S.Semantics) c.args.round c.args.x c.args.y c.answered.result.value
-        (bits_of c.answered.result.status) =
+    (bits_of c.answered.result.status) =
     rw (c.unpacked.ensures.datum, c.unpacked-2.ensures.datum, c.answered.ensures.value, c.answered.ensures.status)
-        d in
+    d in
     opposite_product (format_of g.S.Semantics) c.args.round c.args.x c.args.y c.answered.result.value
-        (bits_of c.answered.result.status) (largest_some (format_of g.S.Semantics) l.precision_low) p
+    (bits_of c.answered.result.status) (largest_some (format_of g.S.Semantics) l.precision_low) p
 
 pub returns-clause-product : goal.returns-clause-product
 returns-clause-product g c =

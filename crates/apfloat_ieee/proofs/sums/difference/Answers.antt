@@ -15,8 +15,8 @@ returns-clause-nearby g c =
     let ym = member_is s c.unpacked-2.result c.unpacked-2.ensures.stored in
     let y = rw (← c.unpacked-2.ensures.datum) at ym in
     rw (c.answered.ensures.value, c.answered.ensures.status)
-        (nearby (format_of g.S.Semantics) c.args.round c.args.x c.args.y (datum_at s c.subtract.result.value)
-            (bits_of c.subtract.result.status) x y e)
+    (nearby (format_of g.S.Semantics) c.args.round c.args.x c.args.y (datum_at s c.subtract.result.value)
+    (bits_of c.subtract.result.status) x y e)
 
 pub returns-clause-difference : goal.returns-clause-difference
 returns-clause-difference g c =

@@ -11,4 +11,4 @@ returns-clause-near c exact near =
     let l = rw u at k in
     rw (to_z-of_z w32 c.clamped.result (record { sfits = c.clamped.type_inv }))
     (near_sum exact c.args.exponent c.clamped.result c.args.cut c.args.places c.ranges.cut.fits c.ranges.places.fits
-        near l)
+    near l)

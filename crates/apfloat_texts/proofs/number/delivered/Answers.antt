@@ -12,14 +12,14 @@ use Rattle.apfloat_texts.proofs.number.delivered.Goals as goal
 pub returns-then-digits-eq0-clause-delivered : goal.returns-then-digits-eq0-clause-delivered
 returns-then-digits-eq0-clause-delivered c number exact k near =
     zero_delivered (format_at c.args.shape) c.args.round c.args.negative number c.args.digits.significand
-        c.args.digits.cut c.args.digits.loss _ _ _ c.if-digits-eq0.true k
+    c.args.digits.cut c.args.digits.loss _ _ _ c.if-digits-eq0.true k
     (ap (λ (x : Unpacked). datum_at c.args.shape x) c.and.ensures.value ∙ c.zero_of.ensures.datum)
-        (ap bits_of c.and.ensures.status)
+    (ap bits_of c.and.ensures.status)
 
 pub deliver-requires-clause-fine : goal.deliver-requires-clause-fine
 deliver-requires-clause-fine c =
     fine_digits c.args.shape.precision c.requires.kept.0 c.args.digits.significand c.args.digits.cut
-        c.args.digits.loss c.requires.lawful.precision_high c.requires.kept.1
+    c.args.digits.loss c.requires.lawful.precision_high c.requires.kept.1
 
 pub returns-clause-delivered : goal.returns-clause-delivered
 returns-clause-delivered c number exact k near =
@@ -30,5 +30,5 @@ returns-clause-delivered c number exact k near =
     let some : 0 < c.args.digits.significand = pos_of_ne-zero c.if-digits-eq0.false in
     let small : c.args.digits.significand < 2 ^ 128 = omega arith in
     number_delivered (format_at c.args.shape) c.args.round c.args.negative number c.args.digits.significand
-        c.args.digits.cut c.args.places c.args.digits.loss exact
+    c.args.digits.cut c.args.places c.args.digits.loss exact
     c.unit_exponent-unit.result _ _ (bounded c.args.shape c.requires.lawful) some small k n d

@@ -10,7 +10,7 @@ returns-in-empty c = search rules
 pub returns-in-40 : goal.returns-in-40
 returns-in-40 c =
     c.plain.ensures ∙ ap plain_payload (inside_is c.args.text.now) ∙
-        sym (within c.args.text.now (search rules) (search rules) (search rules))
+    sym (within c.args.text.now (search rules) (search rules) (search rules))
 
 pub returns-in_default : goal.returns-in_default
 returns-in_default c =

@@ -26,8 +26,12 @@ pub returns-in_err-payload_behind_name-in_default : goal.returns-in_err-payload_
 returns-in_err-payload_behind_name-in_default c = λ negative.
     let s : begins is_s c.args.body.now ≡ false = search rules in
     let p : None ≡ named_payload c.args.body.now = c.in_err-payload_behind_name-in_default.ensures in
-    rw (s, c.from_residual-in_err-payload_behind_name-in_default.ensures, named_is negative false c.args.body.now,
-        ← p) refl
+    rw (
+      s,
+      c.from_residual-in_err-payload_behind_name-in_default.ensures,
+      named_is negative false c.args.body.now,
+      ← p,
+    ) refl
 
 pub returns-in_ok-payload_behind_name-in-115 : goal.returns-in_ok-payload_behind_name-in-115
 returns-in_ok-payload_behind_name-in-115 c = λ negative.
@@ -39,5 +43,5 @@ pub returns-in_ok-payload_behind_name-in_default : goal.returns-in_ok-payload_be
 returns-in_ok-payload_behind_name-in_default c = λ negative.
     let s : begins is_s c.args.body.now ≡ false = search rules in
     let p : Some c.in_ok-payload_behind_name-in_default.field-0 ≡ named_payload c.args.body.now =
-        c.in_ok-payload_behind_name-in_default.ensures in
+    c.in_ok-payload_behind_name-in_default.ensures in
     rw (s, named_is negative false c.args.body.now, ← p) refl

@@ -8,13 +8,13 @@ use Rattle.apfloat_unpacked.proofs.bits.encode.Goals as goal
 pub returns-clause-encoded : goal.returns-clause-encoded
 returns-clause-encoded c =
     rw c.join.ensures (fields_encode (format_at c.args.shape) (layout_at c.args.widths)
-        (fields_at c.fields_of_value-fields.result) (datum_at c.args.shape c.args.x) c.requires.interchange
-            c.fields_of_value-fields.ensures)
+    (fields_at c.fields_of_value-fields.result) (datum_at c.args.shape c.args.x) c.requires.interchange
+    c.fields_of_value-fields.ensures)
 
 pub returns-clause-only : goal.returns-clause-only
 returns-clause-only c = λ other h.
     let e = fields_encode (format_at c.args.shape) (layout_at c.args.widths)
-        (fields_at c.fields_of_value-fields.result) (datum_at c.args.shape c.args.x) c.requires.interchange
-            c.fields_of_value-fields.ensures in
+    (fields_at c.fields_of_value-fields.result) (datum_at c.args.shape c.args.x) c.requires.interchange
+    c.fields_of_value-fields.ensures in
     rw c.join.ensures (encoded_once (format_at c.args.shape) (layout_at c.args.widths)
-        (datum_at c.args.shape c.args.x) other _ c.requires.interchange h e)
+    (datum_at c.args.shape c.args.x) other _ c.requires.interchange h e)

@@ -20,10 +20,10 @@ returns-in-NanNegativeZero c =
     let s = no_significand _ _ _ _ c.in-NanNegativeZero.is c.requires.nan.member.significand_is in
     let b = no_sign _ _ c.in-NanNegativeZero.is c.requires.nan.member.sign_is in
     rw (s, b) (one_nan_fields_of (format_at c.args.shape) (layout_at c.args.widths) c.requires.interchange
-        c.in-NanNegativeZero.is)
+    c.in-NanNegativeZero.is)
 
 pub returns-in_default : goal.returns-in_default
 returns-in_default c =
     rw c.ones.ensures (nan_fields_of (format_at c.args.shape) (layout_at c.args.widths) c.args.x.negative
-        c.args.x.significand c.requires.interchange c.in_default.not-NanNegativeZero
-            c.requires.nan.member.significand_is)
+    c.args.x.significand c.requires.interchange c.in_default.not-NanNegativeZero
+    c.requires.nan.member.significand_is)

@@ -22,8 +22,13 @@ steps_between-requires-clause-near c = omega (arith, ints, c.requires.lawful.min
 
 pub steps_between-requires-clause-far : goal.steps_between-requires-clause-far
 steps_between-requires-clause-far c =
-    omega (arith, ints, c.requires.lawful.min_exp_low, c.requires.lawful.precision_high,
-        c.requires.normal.operand.least)
+    omega (
+      arith,
+      ints,
+      c.requires.lawful.min_exp_low,
+      c.requires.lawful.precision_high,
+      c.requires.normal.operand.least,
+    )
 
 pub overflow_cast-result : goal.overflow_cast-result
 overflow_cast-result c = omega (arith, ints, c.requires.lawful.precision_high, c.requires.normal.operand.least)
@@ -42,8 +47,8 @@ returns-then-x-shape c =
     let k = quanta_some s m e c.requires.normal in
     rw (← quanta_low s m e c.steps_between.result d)
     (low_fields_of (format_at s) (layout_at c.args.widths) c.args.x.negative (quanta_at s.min_exp m e)
-        c.requires.interchange (quanta_low_below s m e c.steps_between.result c.requires.normal
-            c.requires.lawful.precision_low d l) (λ z. absurd (omega (arith, z, k))))
+    c.requires.interchange (quanta_low_below s m e c.steps_between.result c.requires.normal
+    c.requires.lawful.precision_low d l) (λ z. absurd (omega (arith, z, k))))
 
 pub steps_between-requires-2-clause-above : goal.steps_between-requires-2-clause-above
 steps_between-requires-2-clause-above c = omega (arith, ints)
@@ -74,7 +79,7 @@ high s widths b m j t e law interchange n d w =
     let top : m * 2 ^ j ≤ largest (format_at s) = rw q at n.within in
     let h = high_fields_of (format_at s) (layout_at widths) interchange b j m n.operand.full n.operand.fits top in
     rw q (subst (λ (x : ℕ). AreFieldsOf (format_at s) (layout_at widths) (fields_with b (j + 1) x)
-        (finite b (m * 2 ^ j))) w h)
+    (finite b (m * 2 ^ j))) w h)
 
 hidden_none : (explicit : Bool) (m half : ℕ) → explicit ≡ true → m - cond explicit 0 half ≡ m
 hidden_none explicit m half e = rw e (omega arith)
@@ -85,16 +90,16 @@ hidden_bit explicit m half e = rw e refl
 pub returns-then-shape : goal.returns-then-shape
 returns-then-shape c =
     let d : pos c.steps_between-2.result ≡ c.args.x.exponent -ℤ c.args.shape.min_exp =
-        omega (arith, ints, c.requires.normal.operand) in
+    omega (arith, ints, c.requires.normal.operand) in
     rw c.from.ensures (high c.args.shape c.args.widths c.args.x.negative c.args.x.significand
-        c.steps_between-2.result _ c.args.x.exponent c.requires.lawful c.requires.interchange c.requires.normal d
-            (hidden_none _ _ _ c.if-shape.true))
+    c.steps_between-2.result _ c.args.x.exponent c.requires.lawful c.requires.interchange c.requires.normal d
+    (hidden_none _ _ _ c.if-shape.true))
 
 pub returns-else-shape : goal.returns-else-shape
 returns-else-shape c =
     let d : pos c.steps_between-2.result ≡ c.args.x.exponent -ℤ c.args.shape.min_exp =
-        omega (arith, ints, c.requires.normal.operand) in
+    omega (arith, ints, c.requires.normal.operand) in
     rw (c.from.ensures, c.integer_bit.ensures)
-        (high c.args.shape c.args.widths c.args.x.negative c.args.x.significand c.steps_between-2.result _
-            c.args.x.exponent c.requires.lawful c.requires.interchange c.requires.normal d
-                (hidden_bit _ _ _ c.if-shape.false))
+    (high c.args.shape c.args.widths c.args.x.negative c.args.x.significand c.steps_between-2.result _
+    c.args.x.exponent c.requires.lawful c.requires.interchange c.requires.normal d
+    (hidden_bit _ _ _ c.if-shape.false))

@@ -13,7 +13,7 @@ pub returns-in-Zero : goal.returns-in-Zero
 returns-in-Zero c =
     let z = rw c.in-Zero.is at c.requires.stored in
     rw c.in-Zero.is (low_fields_of (format_at c.args.shape) (layout_at c.args.widths) c.args.x.negative 0
-        c.requires.interchange (pow_pos (c.args.shape.precision - 1)) (λ _. z.sign_is))
+    c.requires.interchange (pow_pos (c.args.shape.precision - 1)) (λ _. z.sign_is))
 
 written : (b : Bool) (half : ℕ) → b ≡ true → cond b half 0 ≡ half
 written b half e = rw e refl
@@ -29,7 +29,7 @@ returns-then-shape c =
     let h = infinity_fields_of f l c.args.x.negative c.requires.interchange z.kind in
     rw (c.in-Infinity.is, c.ones.ensures, c.integer_bit.ensures)
     (subst (λ (x : ℕ). AreFieldsOf f l (fields_with c.args.x.negative (all_ones l.exponent_bits) x)
-        (infinite c.args.x.negative)) (written _ _ c.if-shape.true) h)
+    (infinite c.args.x.negative)) (written _ _ c.if-shape.true) h)
 
 pub returns-else-shape : goal.returns-else-shape
 returns-else-shape c =
@@ -39,4 +39,4 @@ returns-else-shape c =
     let h = infinity_fields_of f l c.args.x.negative c.requires.interchange z.kind in
     rw (c.in-Infinity.is, c.ones.ensures)
     (subst (λ (x : ℕ). AreFieldsOf f l (fields_with c.args.x.negative (all_ones l.exponent_bits) x)
-        (infinite c.args.x.negative)) (unwritten _ _ c.if-shape.false) h)
+    (infinite c.args.x.negative)) (unwritten _ _ c.if-shape.false) h)

@@ -54,6 +54,6 @@ returns-else-fields-eq0-clause-datum c =
     let e = ne_eqb c.args.fields.biased_exponent 0 c.if-fields-eq0.false in
     let s : 0 < smallest_normalized f = pow_pos (c.args.shape.precision - 1) in
     let p : 0 < (smallest_normalized f + c.args.fields.trailing) * 2 ^ (c.args.fields.biased_exponent - 1) =
-        mul-pos (omega arith) (pow_pos (c.args.fields.biased_exponent - 1)) in
+    mul-pos (omega arith) (pow_pos (c.args.fields.biased_exponent - 1)) in
     rw (e, c.quanta_of-else-fields-eq0.ensures.datum, c.integer_bit.ensures)
-        (signed_some c.args.shape.nonfinite c.args.fields.negative _ p)
+    (signed_some c.args.shape.nonfinite c.args.fields.negative _ p)

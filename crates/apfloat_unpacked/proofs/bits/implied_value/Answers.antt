@@ -64,11 +64,11 @@ pub implied_number-requires-clause-within : goal.implied_number-requires-clause-
 implied_number-requires-clause-within c p =
     let f = format_at c.args.shape in
     let l : c.args.fields.trailing < 2 ^ (c.args.shape.precision - 1) =
-        rw c.requires.implied at c.requires.within.trailing in
+    rw c.requires.implied at c.requires.within.trailing in
     let t = twice_half c.args.shape.precision (omega (arith, c.requires.lawful.precision_low)) in
     ieee_within f (layout_at c.args.widths) (smallest_normalized f + c.args.fields.trailing)
-        c.args.fields.biased_exponent c.requires.interchange c.in-IEEE754.is (omega (arith, l, t))
-            c.requires.within.biased_exponent
+    c.args.fields.biased_exponent c.requires.interchange c.in-IEEE754.is (omega (arith, l, t))
+    c.requires.within.biased_exponent
     (λ e. c.if-not-is_greatest.true (e ∙ sym c.ones.ensures))
 
 pub implied_number-requires-else-is_greatest-clause-within :
@@ -76,11 +76,11 @@ pub implied_number-requires-else-is_greatest-clause-within :
 implied_number-requires-else-is_greatest-clause-within c p =
     let f = format_at c.args.shape in
     let l : c.args.fields.trailing < 2 ^ (c.args.shape.precision - 1) =
-        rw c.requires.implied at c.requires.within.trailing in
+    rw c.requires.implied at c.requires.within.trailing in
     let t = twice_half c.args.shape.precision (omega (arith, c.requires.lawful.precision_low)) in
     nan_only_within f (layout_at c.args.widths) (smallest_normalized f + c.args.fields.trailing)
-        c.args.fields.biased_exponent c.requires.interchange c.in-NanOnly.is p (omega (arith, l, t))
-            c.requires.within.biased_exponent
+    c.args.fields.biased_exponent c.requires.interchange c.in-NanOnly.is p (omega (arith, l, t))
+    c.requires.within.biased_exponent
     (λ a b. elim c.else-is_greatest.branch [
       | else-is_greatest-via-then-is_greatest+else-fields-ones w ↦ w.if-fields-ones.false
           (omega (arith, b, l, t, w.ones-then-is_greatest.ensures))
@@ -91,8 +91,8 @@ pub implied_number-requires-else-fields-clause-within : goal.implied_number-requ
 implied_number-requires-else-fields-clause-within c p =
     let f = format_at c.args.shape in
     let l : c.args.fields.trailing < 2 ^ (c.args.shape.precision - 1) =
-        rw c.requires.implied at c.requires.within.trailing in
+    rw c.requires.implied at c.requires.within.trailing in
     let t = twice_half c.args.shape.precision (omega (arith, c.requires.lawful.precision_low)) in
     negative_zero_within f (layout_at c.args.widths) (smallest_normalized f + c.args.fields.trailing)
-        c.args.fields.biased_exponent c.requires.interchange c.in-NanNegativeZero.is (omega (arith, l, t))
-            c.requires.within.biased_exponent
+    c.args.fields.biased_exponent c.requires.interchange c.in-NanNegativeZero.is (omega (arith, l, t))
+    c.requires.within.biased_exponent

@@ -15,12 +15,12 @@ returns c =
     let t = trailing_bits (format_at c.args.shape) in
     let s : ℕ = cond c.args.fields.negative 1 0 in
     let w : c.args.widths.exponent_bits + trailing_bits (format_at c.args.shape) + 1 ≤ 128 =
-        omega (arith, c.requires.interchange.bits, c.requires.interchange.within) in
+    omega (arith, c.requires.interchange.bits, c.requires.interchange.within) in
     let a = shl_whole s 1 e 128 (short c.args.fields.negative) (omega (arith, w)) in
     let x : cond c.args.fields.negative 1 0 * 2 ^ c.args.widths.exponent_bits + c.args.fields.biased_exponent
-        < 2 ^ suc c.args.widths.exponent_bits =
+    < 2 ^ suc c.args.widths.exponent_bits =
     let y = mul-add-lt s (2 ^ e) c.args.fields.biased_exponent 2 (short c.args.fields.negative)
-        c.requires.within.biased_exponent in
+    c.requires.within.biased_exponent in
     omega (arith, y, two-pow-succ e) in
     let b = shl_whole (s * 2 ^ e + c.args.fields.biased_exponent) (suc e) t 128 x (omega (arith, w)) in
     rw (

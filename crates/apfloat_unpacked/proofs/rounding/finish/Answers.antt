@@ -11,9 +11,9 @@ returns-then-is_past-clause-delivered c = λ amount parts u i h.
     let f = format_at c.args.shape in
     let p = c.pick-point.result.significand * 2 ^ c.pick-point.result.place in
     let a = past_is f c.greatest_significand-greatest.result c.span.result p c.is_past.result true
-        c.greatest_significand-greatest.ensures.value c.span.ensures.value c.is_past.ensures c.if-is_past.true in
+    c.greatest_significand-greatest.ensures.value c.span.ensures.value c.is_past.ensures c.if-is_past.true in
     delivered_past f c.args.mode c.args.negative amount parts p _ _ (c.pick-point.ensures.picked amount parts u i h)
-        a c.overflowed.ensures.value c.overflowed.ensures.status
+    a c.overflowed.ensures.value c.overflowed.ensures.status
 
 pub returns-clause-delivered : goal.returns-clause-delivered
 returns-clause-delivered c = λ amount parts u i h.
@@ -22,20 +22,20 @@ returns-clause-delivered c = λ amount parts u i h.
     let half = 2 ^ (c.args.shape.precision - 1) in
     let is = c.pick-point.ensures.picked amount parts u i h in
     let a = past_is f c.greatest_significand-greatest.result c.span.result p c.is_past.result false
-        c.greatest_significand-greatest.ensures.value c.span.ensures.value c.is_past.ensures c.if-is_past.false in
+    c.greatest_significand-greatest.ensures.value c.span.ensures.value c.is_past.ensures c.if-is_past.false in
     let v = ap (datum_at c.args.shape) c.and.ensures.value ∙ c.rounded_quanta_of.ensures.datum in
     let s = ap bits_of c.and.ensures.status in
     ⊎_elim
     (λ (z : c.args.kept.loss ≡ ExactlyZero).
     delivered_exactly f c.args.mode c.args.negative amount parts p _ _ is a
     (exact_if f.precision c.args.mode c.args.negative half c.args.kept.significand c.args.kept.place amount parts p
-        c.args.kept.loss z u i h is)
+    c.args.kept.loss z u i h is)
     v (s ∙ c.status_within-status.ensures.exact z))
     (λ (n : c.args.kept.loss ≡ ExactlyZero → ⊥).
     let t = tiny_is f c.args.kept.significand c.args.kept.place amount parts c.pick-point.result.significand
-        c.pick-point.result.place c.is_tiny-tiny.result u i c.pick-point.ensures.full c.is_tiny-tiny.ensures in
+    c.pick-point.result.place c.is_tiny-tiny.result u i c.pick-point.ensures.full c.is_tiny-tiny.ensures in
     delivered_inexactly f c.args.mode c.args.negative amount parts p _ _ is a
     (inexact_if f.precision c.args.mode c.args.negative half c.args.kept.significand c.args.kept.place amount parts
-        p c.args.kept.loss n u i h is)
+    p c.args.kept.loss n u i h is)
     v (rw t (s ∙ c.status_within-status.ensures.inexact n)))
     (loss_cases c.args.kept.loss)

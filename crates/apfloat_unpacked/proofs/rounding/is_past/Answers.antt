@@ -8,5 +8,5 @@ returns-then-point-span c =
 pub returns-else-point-span : goal.returns-else-point-span
 returns-else-point-span c =
     past_other c.args.precision c.args.point.significand c.args.point.place c.args.greatest c.args.span
-        c.requires.some c.requires.fits c.requires.full c.requires.greatest_fits c.requires.greatest_full
-            c.if-point-span.false
+    c.requires.some c.requires.fits c.requires.full c.requires.greatest_fits c.requires.greatest_full
+    c.if-point-span.false

@@ -10,9 +10,9 @@ pub returns-then-significand-eq0-clause-enclosed : goal.returns-then-significand
 returns-then-significand-eq0-clause-enclosed c = λ amount parts u h.
     let n : c.args.unit ≤ℤ pos 0 → ⊥ = omega (arith, ints) in
     let z = exact_zero c.args.significand c.args.precision c.args.loss (c.args.unit ≤ℤ pos 0)
-        c.if-significand-eq0.true c.requires.fine n in
+    c.if-significand-eq0.true c.requires.fine n in
     (zero_kept c.args.precision c.args.significand (up c.args.unit) (down c.args.unit) c.args.loss amount parts
-        c.requires.some u c.if-significand-eq0.true z h).0
+    c.requires.some u c.if-significand-eq0.true z h).0
 
 pub returns-then-unit-place-clause-enclosed : goal.returns-then-unit-place-clause-enclosed
 returns-then-unit-place-clause-enclosed c = λ amount parts u h.
@@ -23,12 +23,12 @@ returns-then-unit-place-clause-enclosed c = λ amount parts u h.
     let steps = rw e at c.steps_down-shift.ensures in
     let j : 0 < c.steps_down-shift.result = omega (arith, ints) in
     let z = exact_shift c.args.significand c.digits.result c.steps_down-shift.result c.kept_place-place.result
-        (up c.args.unit) (down c.args.unit) c.args.precision c.args.loss (c.args.unit ≤ℤ pos 0)
-            c.digits.ensures.below j covers steps c.requires.fine n in
+    (up c.args.unit) (down c.args.unit) c.args.precision c.args.loss (c.args.unit ≤ℤ pos 0)
+    c.digits.ensures.below j covers steps c.requires.fine n in
     (shift_kept c.args.precision c.args.significand c.digits.result c.steps_down-shift.result
-        c.kept_place-place.result (up c.args.unit) (down c.args.unit) c.args.loss amount parts c.requires.some
-            c.requires.precise u c.digits.ensures.below c.digits.ensures.full c.if-significand-eq0.false covers
-                reached steps z h).0
+    c.kept_place-place.result (up c.args.unit) (down c.args.unit) c.args.loss amount parts c.requires.some
+    c.requires.precise u c.digits.ensures.below c.digits.ensures.full c.if-significand-eq0.false covers
+    reached steps z h).0
 
 pub returns-clause-enclosed : goal.returns-clause-enclosed
 returns-clause-enclosed c = λ amount parts u h.
@@ -37,19 +37,19 @@ returns-clause-enclosed c = λ amount parts u h.
     let reached = rw e at c.kept_place-place.ensures.reached in
     let steps = rw e at c.steps_up.ensures in
     (cut_kept c.args.precision c.args.significand c.shift_right-kept.result.significand c.digits.result
-        c.steps_up.result c.kept_place-place.result (up c.args.unit) (down c.args.unit)
-            c.shift_right-kept.result.loss amount parts c.requires.some u c.digits.ensures.below
-                c.digits.ensures.full covers reached steps c.shift_right-kept.ensures.quotient
+    c.steps_up.result c.kept_place-place.result (up c.args.unit) (down c.args.unit)
+    c.shift_right-kept.result.loss amount parts c.requires.some u c.digits.ensures.below
+    c.digits.ensures.full covers reached steps c.shift_right-kept.ensures.quotient
     (c.shift_right-kept.ensures.stands (amount * 2 ^ down c.args.unit) (parts * 2 ^ up c.args.unit)
-        (mul-pos u (pow_pos (up c.args.unit))) h)).0
+    (mul-pos u (pow_pos (up c.args.unit))) h)).0
 
 pub returns-then-significand-eq0-clause-stands : goal.returns-then-significand-eq0-clause-stands
 returns-then-significand-eq0-clause-stands c = λ amount parts u h.
     let n : c.args.unit ≤ℤ pos 0 → ⊥ = omega (arith, ints) in
     let z = exact_zero c.args.significand c.args.precision c.args.loss (c.args.unit ≤ℤ pos 0)
-        c.if-significand-eq0.true c.requires.fine n in
+    c.if-significand-eq0.true c.requires.fine n in
     (zero_kept c.args.precision c.args.significand (up c.args.unit) (down c.args.unit) c.args.loss amount parts
-        c.requires.some u c.if-significand-eq0.true z h).1
+    c.requires.some u c.if-significand-eq0.true z h).1
 
 pub returns-then-unit-place-clause-stands : goal.returns-then-unit-place-clause-stands
 returns-then-unit-place-clause-stands c = λ amount parts u h.
@@ -60,12 +60,12 @@ returns-then-unit-place-clause-stands c = λ amount parts u h.
     let steps = rw e at c.steps_down-shift.ensures in
     let j : 0 < c.steps_down-shift.result = omega (arith, ints) in
     let z = exact_shift c.args.significand c.digits.result c.steps_down-shift.result c.kept_place-place.result
-        (up c.args.unit) (down c.args.unit) c.args.precision c.args.loss (c.args.unit ≤ℤ pos 0)
-            c.digits.ensures.below j covers steps c.requires.fine n in
+    (up c.args.unit) (down c.args.unit) c.args.precision c.args.loss (c.args.unit ≤ℤ pos 0)
+    c.digits.ensures.below j covers steps c.requires.fine n in
     (shift_kept c.args.precision c.args.significand c.digits.result c.steps_down-shift.result
-        c.kept_place-place.result (up c.args.unit) (down c.args.unit) c.args.loss amount parts c.requires.some
-            c.requires.precise u c.digits.ensures.below c.digits.ensures.full c.if-significand-eq0.false covers
-                reached steps z h).1
+    c.kept_place-place.result (up c.args.unit) (down c.args.unit) c.args.loss amount parts c.requires.some
+    c.requires.precise u c.digits.ensures.below c.digits.ensures.full c.if-significand-eq0.false covers
+    reached steps z h).1
 
 pub returns-clause-stands : goal.returns-clause-stands
 returns-clause-stands c = λ amount parts u h.
@@ -74,39 +74,39 @@ returns-clause-stands c = λ amount parts u h.
     let reached = rw e at c.kept_place-place.ensures.reached in
     let steps = rw e at c.steps_up.ensures in
     (cut_kept c.args.precision c.args.significand c.shift_right-kept.result.significand c.digits.result
-        c.steps_up.result c.kept_place-place.result (up c.args.unit) (down c.args.unit)
-            c.shift_right-kept.result.loss amount parts c.requires.some u c.digits.ensures.below
-                c.digits.ensures.full covers reached steps c.shift_right-kept.ensures.quotient
+    c.steps_up.result c.kept_place-place.result (up c.args.unit) (down c.args.unit)
+    c.shift_right-kept.result.loss amount parts c.requires.some u c.digits.ensures.below
+    c.digits.ensures.full covers reached steps c.shift_right-kept.ensures.quotient
     (c.shift_right-kept.ensures.stands (amount * 2 ^ down c.args.unit) (parts * 2 ^ up c.args.unit)
-        (mul-pos u (pow_pos (up c.args.unit))) h)).1
+    (mul-pos u (pow_pos (up c.args.unit))) h)).1
 
 pub returns-then-unit-place-clause-fits : goal.returns-then-unit-place-clause-fits
 returns-then-unit-place-clause-fits c =
     let e = to_z-of_z w32 c.args.unit c.ranges.unit in
     shift_fits c.args.precision c.args.significand c.digits.result c.steps_down-shift.result
-        c.kept_place-place.result (up c.args.unit) (down c.args.unit) c.requires.precise c.digits.ensures.below
-            (rw e at c.kept_place-place.ensures.covers) (rw e at c.steps_down-shift.ensures)
+    c.kept_place-place.result (up c.args.unit) (down c.args.unit) c.requires.precise c.digits.ensures.below
+    (rw e at c.kept_place-place.ensures.covers) (rw e at c.steps_down-shift.ensures)
 
 pub returns-then-unit-place-clause-full : goal.returns-then-unit-place-clause-full
 returns-then-unit-place-clause-full c =
     let e = to_z-of_z w32 c.args.unit c.ranges.unit in
     shift_full c.args.precision c.args.significand c.digits.result c.steps_down-shift.result
-        c.kept_place-place.result (up c.args.unit) (down c.args.unit) c.requires.precise c.digits.ensures.below
-            c.digits.ensures.full c.if-significand-eq0.false (rw e at c.kept_place-place.ensures.covers)
-                (rw e at c.kept_place-place.ensures.reached) (rw e at c.steps_down-shift.ensures)
+    c.kept_place-place.result (up c.args.unit) (down c.args.unit) c.requires.precise c.digits.ensures.below
+    c.digits.ensures.full c.if-significand-eq0.false (rw e at c.kept_place-place.ensures.covers)
+    (rw e at c.kept_place-place.ensures.reached) (rw e at c.steps_down-shift.ensures)
 
 pub returns-clause-fits : goal.returns-clause-fits
 returns-clause-fits c =
     let e = to_z-of_z w32 c.args.unit c.ranges.unit in
     cut_fits c.args.precision c.args.significand c.shift_right-kept.result.significand c.digits.result
-        c.steps_up.result c.kept_place-place.result (up c.args.unit) (down c.args.unit) c.digits.ensures.below
-            (rw e at c.kept_place-place.ensures.covers) (rw e at c.steps_up.ensures)
-                c.shift_right-kept.ensures.quotient
+    c.steps_up.result c.kept_place-place.result (up c.args.unit) (down c.args.unit) c.digits.ensures.below
+    (rw e at c.kept_place-place.ensures.covers) (rw e at c.steps_up.ensures)
+    c.shift_right-kept.ensures.quotient
 
 pub returns-clause-full : goal.returns-clause-full
 returns-clause-full c =
     let e = to_z-of_z w32 c.args.unit c.ranges.unit in
     cut_full c.args.precision c.args.significand c.shift_right-kept.result.significand c.digits.result
-        c.steps_up.result c.kept_place-place.result (up c.args.unit) (down c.args.unit) c.requires.some
-            c.digits.ensures.full (rw e at c.kept_place-place.ensures.reached) (rw e at c.steps_up.ensures)
-                c.shift_right-kept.ensures.quotient
+    c.steps_up.result c.kept_place-place.result (up c.args.unit) (down c.args.unit) c.requires.some
+    c.digits.ensures.full (rw e at c.kept_place-place.ensures.reached) (rw e at c.steps_up.ensures)
+    c.shift_right-kept.ensures.quotient

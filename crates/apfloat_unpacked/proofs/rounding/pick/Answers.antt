@@ -14,15 +14,15 @@ returns-then-significand-power_of_two-clause-picked c = λ amount parts u i h.
     elim c.if-moved.branch [
       | then-moved w ↦ w.significand-is ∙
           kept_moved c.args.mode c.args.negative c.args.kept.loss c.args.kept.significand c.moves_up-moved.result
-              c.moves_up-moved.ensures w.if-moved.true
+          c.moves_up-moved.ensures w.if-moved.true
       | else-moved w ↦ w.significand-is ∙
           kept_stayed c.args.mode c.args.negative c.args.kept.loss c.args.kept.significand c.moves_up-moved.result
-              c.moves_up-moved.ensures w.if-moved.false
+          c.moves_up-moved.ensures w.if-moved.false
     ] in
     pick_carries c.args.precision c.args.mode c.args.negative c.args.kept.significand c.args.kept.place amount parts
-        c.args.kept.loss c.if-moved.significand c.power_of_two.result
-            c.power_of_two-then-significand-power_of_two.result c.requires.some e c.if-significand-power_of_two.true
-                c.power_of_two.ensures c.power_of_two-then-significand-power_of_two.ensures u i h
+    c.args.kept.loss c.if-moved.significand c.power_of_two.result
+    c.power_of_two-then-significand-power_of_two.result c.requires.some e c.if-significand-power_of_two.true
+    c.power_of_two.ensures c.power_of_two-then-significand-power_of_two.ensures u i h
 
 pub returns-else-significand-power_of_two-clause-picked : goal.returns-else-significand-power_of_two-clause-picked
 returns-else-significand-power_of_two-clause-picked c = λ amount parts u i h.
@@ -30,10 +30,10 @@ returns-else-significand-power_of_two-clause-picked c = λ amount parts u i h.
     elim c.if-moved.branch [
       | then-moved w ↦ w.significand-is ∙
           kept_moved c.args.mode c.args.negative c.args.kept.loss c.args.kept.significand c.moves_up-moved.result
-              c.moves_up-moved.ensures w.if-moved.true
+          c.moves_up-moved.ensures w.if-moved.true
       | else-moved w ↦ w.significand-is ∙
           kept_stayed c.args.mode c.args.negative c.args.kept.loss c.args.kept.significand c.moves_up-moved.result
-              c.moves_up-moved.ensures w.if-moved.false
+          c.moves_up-moved.ensures w.if-moved.false
     ] in
     pick_stays c.args.precision c.args.mode c.args.negative (2 ^ (c.args.precision - 1)) c.args.kept.significand
-        c.args.kept.place amount parts c.args.kept.loss c.if-moved.significand e u i h
+    c.args.kept.place amount parts c.args.kept.loss c.if-moved.significand e u i h

@@ -14,10 +14,10 @@ overflow_sub-shift c =
 moved_up : (c : goal.After-exponent_at)
     → IsMovedUp c.args.shape c.args.significand c.digits.result c.args.place
     (c.args.significand * 2 ^ (c.args.shape.precision - c.digits.result) % 2 ^ 128)
-        (to_z w32 (of_z w32 c.exponent_at.result))
+    (to_z w32 (of_z w32 c.exponent_at.result))
 moved_up c =
     let l = digits_le c.args.significand c.digits.result c.args.shape.precision c.requires.fits
-        c.digits.ensures.full in
+    c.digits.ensures.full in
     let j = c.args.shape.precision - c.digits.result in
     let e = to_z-of_z w32 c.exponent_at.result (record { sfits = c.exponent_at.type_inv }) in
     record {
@@ -40,7 +40,7 @@ pub returns-clause-datum : goal.returns-clause-datum
 returns-clause-datum c =
     let p : 0 < c.args.significand * 2 ^ c.args.place = mul-pos (omega arith) (pow_pos c.args.place) in
     rw (moved_up_quanta c.args.shape c.args.significand c.digits.result c.args.place _ _ (moved_up c))
-        (sym (signed_some c.args.shape.nonfinite c.args.negative (c.args.significand * 2 ^ c.args.place) p))
+    (sym (signed_some c.args.shape.nonfinite c.args.negative (c.args.significand * 2 ^ c.args.place) p))
 
 pub returns-then-significand-eq0-clause-datum : goal.returns-then-significand-eq0-clause-datum
 returns-then-significand-eq0-clause-datum c = search rules steps 500000

@@ -13,7 +13,7 @@ full : (c : goal.After-exponent_at)
 full c =
     let p = c.requires.lawful.precision_low in
     let f : 2 ^ (c.args.shape.precision - 1) ≤ c.args.significand =
-        rw (← c.integer_bit.ensures) c.if-significand-integer_bit.true in
+    rw (← c.integer_bit.ensures) c.if-significand-integer_bit.true in
     let o : 0 < 2 ^ (c.args.shape.precision - 1) = pow_pos (c.args.shape.precision - 1) in
     let n : c.args.shape.precision - c.args.shape.precision ≡ 0 = omega arith in
     let e = to_z-of_z w32 c.exponent_at.result (record { sfits = c.exponent_at.type_inv }) in
@@ -31,13 +31,13 @@ full c =
 pub returns-then-significand-integer_bit-clause-stored : goal.returns-then-significand-integer_bit-clause-stored
 returns-then-significand-integer_bit-clause-stored c =
     moved_up_normal c.args.shape c.args.significand c.args.shape.precision c.args.place _ _ c.requires.lawful
-        (full c)
+    (full c)
 
 pub returns-then-significand-integer_bit-clause-datum : goal.returns-then-significand-integer_bit-clause-datum
 returns-then-significand-integer_bit-clause-datum c =
     let o : 0 < 2 ^ (c.args.shape.precision - 1) = pow_pos (c.args.shape.precision - 1) in
     let f : 2 ^ (c.args.shape.precision - 1) ≤ c.args.significand =
-        rw (← c.integer_bit.ensures) c.if-significand-integer_bit.true in
+    rw (← c.integer_bit.ensures) c.if-significand-integer_bit.true in
     let p : 0 < c.args.significand * 2 ^ c.args.place = mul-pos (omega arith) (pow_pos c.args.place) in
     rw (moved_up_quanta c.args.shape c.args.significand c.args.shape.precision c.args.place _ _ (full c))
-        (sym (signed_some c.args.shape.nonfinite c.args.negative (c.args.significand * 2 ^ c.args.place) p))
+    (sym (signed_some c.args.shape.nonfinite c.args.negative (c.args.significand * 2 ^ c.args.place) p))

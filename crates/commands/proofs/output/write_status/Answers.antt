@@ -15,7 +15,7 @@ loop-flag-preserved g c =
       | then-intersects+in_ok-write_name w ↦
           rw (w.out-is, w.separator-is)
           (name_more _ _ _ _ _ _ _ _ _ _ c.loop-flag-test.true (test ∙ w.if-intersects.true) w.name.ensures
-              c.loop-flag.invariant w.in_ok-write_name.ensures)
+          c.loop-flag.invariant w.in_ok-write_name.ensures)
       | else-intersects w ↦
           rw (w.out-is, w.separator-is)
           (name_same _ _ _ _ _ _ _ _ c.loop-flag-test.true (test ∙ w.if-intersects.false) c.loop-flag.invariant)
@@ -24,4 +24,4 @@ loop-flag-preserved g c =
 pub returns : goal.returns
 returns g c =
     name_all _ _ _ _ _ _ _ c.loop-flag-test.false (c.flags-flag-items.ensures tt)
-        (sym (c.is_empty.ensures tt) ∙ c.if-is_empty.false) c.loop-flag.invariant
+    (sym (c.is_empty.ensures tt) ∙ c.if-is_empty.false) c.loop-flag.invariant

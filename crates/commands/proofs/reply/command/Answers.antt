@@ -24,4 +24,4 @@ only_count command n count outside =
 pub returns-then-words-lt4-clause-reply : goal.returns-then-words-lt4-clause-reply
 returns-then-words-lt4-clause-reply c =
     only_count (map string_bytes c.args.words.now) _ (length-map c.args.words.now string_bytes)
-        c.then-words-lt4.either
+    c.then-words-lt4.either

@@ -13,7 +13,7 @@ only_line c value status bits width encoded only width_is = record {
   holds = record { bits = bits; is_encoded = encoded; is = ap (λ w. line bits (w / 4) status) width_is };
   only = λ other h.
       h.is ∙ ap (λ b. line b (c.bits / 4) status) (only h.bits h.is_encoded) ∙
-          sym (ap (λ w. line bits (w / 4) status) width_is);
+      sym (ap (λ w. line bits (w / 4) status) width_is);
 }
 
 pub returns-clause-line : goal.returns-clause-line

@@ -7,10 +7,10 @@ use Rattle.commands.proofs.reply.of_two.Goals as goal
 pub returns-clause-reply : goal.returns-clause-reply
 returns-clause-reply g c =
     let first =
-        subst (λ n. bits_of_word n c.args.left.now ≡ Some c.in-Some.x) c.BITS.ensures (sym c.in-Some.ensures) in
+    subst (λ n. bits_of_word n c.args.left.now ≡ Some c.in-Some.x) c.BITS.ensures (sym c.in-Some.ensures) in
     let second =
-        subst (λ n. bits_of_word n c.args.right.now ≡ Some c.in-Some-bits_of.y) c.BITS-2.ensures
-            (sym c.in-Some-bits_of.ensures) in
+    subst (λ n. bits_of_word n c.args.right.now ≡ Some c.in-Some-bits_of.y) c.BITS-2.ensures
+    (sym c.in-Some-bits_of.ensures) in
     only_of_two (constants_of g.S.Semantics) c.args.operation c.args.round c.args.left.now c.args.right.now _ _ _ _
-        _ _ _ first second
+    _ _ _ first second
     c.from_bits.ensures.read c.from_bits-2.ensures.read c.answer_of_two.ensures c.line.ensures.line

@@ -7,7 +7,7 @@ use Rattle.commands.proofs.words.bits_of.Goals as goal
 without_prefix : (rest : Option (Bor (List ℕ))) (bytes : Bor (List ℕ))
     → MatchOption rest (same (take 2 bytes.now) (codes "0x") ≡ false)
     (λ x. (same (take 2 bytes.now) (codes "0x") ≡ true) × (x.now ≡ drop 2 bytes.now)
-        × (length x.now + 2 ≡ length bytes.now))
+    × (length x.now + 2 ≡ length bytes.now))
     → (unwrap_or rest bytes).now ≡ behind_0x bytes.now
 without_prefix None bytes h = rw h refl
 without_prefix (Some x) bytes h = rw h.0 h.1

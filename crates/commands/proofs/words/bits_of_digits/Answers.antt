@@ -26,5 +26,5 @@ returns-then-is_within c =
     let few : length digits ≤ 32 = omega arith in
     let some : (length digits == 0) ≡ false = sym c.is_empty.ensures ∙ c.if-is_empty.false in
     all_pass (is_empty digits) (nat_le (length digits) 32) (every is_hexadecimal digits) (number 16 digits)
-        c.in_ok-bits.bits (λ n. nat_lt n (2 ^ c.args.width))
+    c.in_ok-bits.bits (λ n. nat_lt n (2 ^ c.args.width))
     (some_digits digits some) (le-leb _ _ few) c.in_ok-bits.ensures (sym c.is_within.ensures ∙ c.if-is_within.true)

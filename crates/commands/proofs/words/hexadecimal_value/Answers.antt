@@ -11,6 +11,12 @@ returns-in-97-to-102-clause-value c =
     let from_a : 97 ≤ byte = omega arith in
     let to_f : byte ≤ 102 = omega arith in
     let digit : byte - 97 + 10 ≡ byte - 87 = omega arith in
-    rw (le-leb 48 byte (omega arith), lt-leb byte 57 (omega arith), le-leb 65 byte (omega arith),
-        lt-leb byte 70 (omega arith), le-leb 97 byte from_a, le-leb byte 102 to_f)
+    rw (
+      le-leb 48 byte (omega arith),
+      lt-leb byte 57 (omega arith),
+      le-leb 65 byte (omega arith),
+      lt-leb byte 70 (omega arith),
+      le-leb 97 byte from_a,
+      le-leb byte 102 to_f,
+    )
     (ap Some digit)

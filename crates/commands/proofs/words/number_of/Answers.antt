@@ -11,14 +11,14 @@ loop-byte-init c =
 pub returns-in_err-number : goal.returns-in_err-number
 returns-in_err-number c =
     let unread =
-        read_stops c.as_bytes-byte-items.result.now _ _ c.loop-byte-test.true c.loop-byte.invariant
-            (sym c.in_err-number.ensures) in
+    read_stops c.as_bytes-byte-items.result.now _ _ c.loop-byte-test.true c.loop-byte.invariant
+    (sym c.in_err-number.ensures) in
     c.from_residual.ensures ∙ sym unread ∙ ap whole_number_of c.as_bytes-byte-items.ensures.value
 
 pub loop-byte-preserved : goal.loop-byte-preserved
 loop-byte-preserved c =
     read_goes c.as_bytes-byte-items.result.now _ _ _ c.loop-byte-test.true c.loop-byte.invariant
-        (sym c.in_ok-number.ensures)
+    (sym c.in_ok-number.ensures)
 
 pub returns : goal.returns
 returns c =

@@ -10,13 +10,13 @@ returns-then-places-gt128-clause-quotient c =
 pub returns-then-places-eq128-clause-stands : goal.returns-then-places-eq128-clause-stands
 returns-then-places-eq128-clause-stands c =
     cut_whole c.args.significand c.args.places c.power_of_two-half.result c.args.loss c.loss_of_rest.result
-        c.if-places-eq128.true c.ranges.significand.fits c.power_of_two-half.ensures c.loss_of_rest.ensures
+    c.if-places-eq128.true c.ranges.significand.fits c.power_of_two-half.ensures c.loss_of_rest.ensures
 
 pub returns-clause-stands : goal.returns-clause-stands
 returns-clause-stands c =
     let p : 0 < c.args.places = omega arith in
     cut_at c.args.significand c.args.places c.power_of_two-half.result c.low_digits.result c.args.loss
-        c.loss_of_rest-2.result p c.power_of_two-half.ensures c.low_digits.ensures c.loss_of_rest-2.ensures
+    c.loss_of_rest-2.result p c.power_of_two-half.ensures c.low_digits.ensures c.loss_of_rest-2.ensures
 
 pub loss_of_rest-requires-2 : goal.loss_of_rest-requires-2
 loss_of_rest-requires-2 c =
@@ -25,6 +25,6 @@ loss_of_rest-requires-2 c =
     let d : c.power_of_two-half.result ≡ 2 ^ (c.args.places - 1) = c.power_of_two-half.ensures in
     let k : 0 < 2 ^ c.args.places = pow_pos c.args.places in
     let m : c.args.significand % 2 ^ c.args.places < 2 ^ c.args.places =
-        mod_below c.args.significand (2 ^ c.args.places) k in
+    mod_below c.args.significand (2 ^ c.args.places) k in
     let e : c.low_digits.result ≡ c.args.significand % 2 ^ c.args.places = c.low_digits.ensures in
     omega arith

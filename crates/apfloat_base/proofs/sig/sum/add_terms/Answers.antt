@@ -15,19 +15,19 @@ returns-then-is_zero-clause-stands c = λ base lx ly.
     let r = c.sum_of-total.ensures.stands base lx in
     let z = c.is_zero.ensures.yes c.if-is_zero.true in
     let w : to_z w32 (of_z w32 c.sum_of-total.result.exponent) ≡ c.sum_of-total.result.exponent =
-        omega (arith, ints, c.sum_of-total.ensures.near, c.sum_of-total.ensures.far) in
+    omega (arith, ints, c.sum_of-total.ensures.near, c.sum_of-total.ensures.far) in
     let f = resigned base (counted base c.args.y.negative c.args.y.exponent c.args.y.significand)
-        (counted base c.args.x.negative c.args.x.exponent c.args.x.significand) c.sum_of-total.result.negative
-            c.args.x.negative c.sum_of-total.result.exponent c.sum_of-total.result.significand
-                c.sum_of-total.result.loss (inr z) r in
+    (counted base c.args.x.negative c.args.x.exponent c.args.x.significand) c.sum_of-total.result.negative
+    c.args.x.negative c.sum_of-total.result.exponent c.sum_of-total.result.significand
+    c.sum_of-total.result.loss (inr z) r in
     rw w f
 
 pub returns-then-is_zero-clause-halved : goal.returns-then-is_zero-clause-halved
 returns-then-is_zero-clause-halved c = λ n d.
     let w : to_z w32 (of_z w32 c.sum_of-total.result.exponent) ≡ c.sum_of-total.result.exponent =
-        omega (arith, ints, c.sum_of-total.ensures.near, c.sum_of-total.ensures.far) in
+    omega (arith, ints, c.sum_of-total.ensures.near, c.sum_of-total.ensures.far) in
     let e : (c.sum_of-total.result.exponent +ℤ pos 1) ≡ c.args.y.exponent =
-        c.sum_of-total.ensures.halved (λ p. n (sym p)) (λ p. d (sym p)) in
+    c.sum_of-total.ensures.halved (λ p. n (sym p)) (λ p. d (sym p)) in
     rw w (record { one = inr e; first = omega (arith, ints); second = omega (arith, ints) })
 
 pub sum_of-requires-clause-above : goal.sum_of-requires-clause-above
@@ -94,7 +94,7 @@ returns-then-is_zero-clause-zero c = λ s l. refl
 pub returns-then-is_zero-clause-coarser : goal.returns-then-is_zero-clause-coarser
 returns-then-is_zero-clause-coarser c = λ e.
     let w : to_z w32 (of_z w32 c.sum_of-total.result.exponent) ≡ c.sum_of-total.result.exponent =
-        omega (arith, ints, c.sum_of-total.ensures.near, c.sum_of-total.ensures.far) in
+    omega (arith, ints, c.sum_of-total.ensures.near, c.sum_of-total.ensures.far) in
     let l = c.sum_of-total.ensures.coarser (sym e) in
     rw w (record { one = inr l; first = omega (arith, ints); second = omega (arith, ints) })
 
@@ -133,4 +133,4 @@ returns-clause-far c = inl c.sum_of-total.ensures.far
 pub returns-clause-stands : goal.returns-clause-stands
 returns-clause-stands c = λ base lx ly.
     rw (swapped_sum (counted base c.args.x.negative c.args.x.exponent c.args.x.significand))
-        (c.sum_of-total.ensures.stands base lx)
+    (c.sum_of-total.ensures.stands base lx)

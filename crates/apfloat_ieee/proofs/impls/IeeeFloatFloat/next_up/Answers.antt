@@ -18,7 +18,7 @@ returns-clause-back g c = λ k z.
     let p : 2 ^ 3 ≤ 2 ^ g.S.Semantics.PRECISION = pow-le-pow_right two_pos l in
     let d = c.unpacked.ensures.datum in
     let b = next_back (format_of g.S.Semantics) (datum_at s c.unpacked.result) (datum_at s c.next_up.result.value) _
-        k (omega (arith, p)) m (rw d at z) n in
+    k (omega (arith, p)) m (rw d at z) n in
     rw (c.answered.ensures.value, d) (assumption b)
 
 pub returns-clause-next : goal.returns-clause-next

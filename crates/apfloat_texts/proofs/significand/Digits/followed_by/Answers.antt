@@ -8,11 +8,11 @@ returns-clause-kept c number k =
     elim c.if-self-eq0.branch [
       | then-self-eq0 w ↦
           rw (w.loss-is, ← w.from-then-self-eq0.ensures)
-              (with_first_cut number c.args.self.significand w.from-then-self-eq0.result c.args.self.cut
-                  c.args.self.loss w.loss_of_rest-loss.result w.if-self-eq0.true c.if-self.false k
-                      w.loss_of_rest-loss.ensures)
+          (with_first_cut number c.args.self.significand w.from-then-self-eq0.result c.args.self.cut
+          c.args.self.loss w.loss_of_rest-loss.result w.if-self-eq0.true c.if-self.false k
+          w.loss_of_rest-loss.ensures)
       | else-self-eq0 w ↦
           rw w.loss-is (with_next_cut number c.args.self.significand c.args.digit c.args.self.cut c.args.self.loss
-              w.loss_behind-loss.result (pos_of_ne-zero w.if-self-eq0.false) c.if-self.false k
-                  (w.loss_behind-loss.ensures number c.args.self.significand))
+          w.loss_behind-loss.result (pos_of_ne-zero w.if-self-eq0.false) c.if-self.false k
+          (w.loss_behind-loss.ensures number c.args.self.significand))
     ]

@@ -5,7 +5,7 @@ use Rattle.rustc_apfloat.proofs.ppc.join.rest.Goals as goal
 pub returns : goal.returns
 returns c =
     rest_by_steps c.args.x c.args.rounded.value c.convert.result.value (bits_of c.args.rounded.status)
-        c.requires.number
+    c.requires.number
     (record {
       is_wide = c.category.ensures.member;
       is_double = c.category-2.ensures.member;

@@ -13,7 +13,7 @@ returns c =
     rw (← c.x.view_is)
     (rw (← c.y.view_is)
     (answered (IsLostOfProduct c.args.round _ _ _ _ c.args.t) _ _ _ _ c.and.ensures.value
-        (ap bits_of c.and.ensures.status)
+    (ap bits_of c.and.ensures.status)
     (record {
       lost = c.mul_add_r-answer.result.value;
       v = c.mul_r-answer.result.value;

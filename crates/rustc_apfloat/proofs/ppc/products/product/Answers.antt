@@ -5,7 +5,7 @@ use Rattle.rustc_apfloat.proofs.ppc.products.product.Goals as goal
 pub returns-clause-product : goal.returns-clause-product
 returns-clause-product c =
     product_by_categories c.args.round c.args.x c.args.y _ _ _ _ c.category.ensures.category
-        c.category-2.ensures.category
+    c.category-2.ensures.category
     c.product_of_categories.ensures
 
 pub returns-clause-error_free : goal.returns-clause-error_free

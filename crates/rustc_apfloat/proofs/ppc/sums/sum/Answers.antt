@@ -10,7 +10,7 @@ returns-clause-sum c =
 pub returns-clause-error_free : goal.returns-clause-error_free
 returns-clause-error_free c =
     sum_error_free c.args.round c.args.x c.args.y _ (bits_of c.sum_of_categories.result.status)
-        c.category.ensures.high
+    c.category.ensures.high
     c.category-2.ensures.high (returns-clause-sum c)
 
 pub returns-clause-accurate : goal.returns-clause-accurate

@@ -24,7 +24,7 @@ returns-then-not-is_finite c =
       flags_are = c.union-status-2.ensures tt;
     })
     c.is_finite.ensures c.if-not-is_finite.true (c.and.ensures.value ∙ c.alone.ensures)
-        (ap bits_of c.and.ensures.status)))
+    (ap bits_of c.and.ensures.status)))
 
 pub returns : goal.returns
 returns c =
