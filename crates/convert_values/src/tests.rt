@@ -162,7 +162,9 @@ fn converts_what_stands_before_the_end(rt: HostRuntime) -> Result<(), Fail> {
     assert_eq!(rt; output.as_slice(), b"\x38\x38\x7f\x7f\x00".as_slice());
     assert_eq!(rt;
         err.as_slice(),
-        b"values 5, inexact 3, underflow 1, overflow 1, invalid 1, NaNs 2\nconvert_values: the stream ended inside a value, 3 bytes behind the last one\n".as_slice()
+        b"values 5, inexact 3, underflow 1, overflow 1, invalid 1, NaNs 2\n\
+          convert_values: the stream ended inside a value, 3 bytes behind the last one\n"
+            .as_slice()
     );
     assert_eq!(rt; status, 1);
     let (output, err, status) = answer_to(rt.alloc(), "single e4m3fn up", &SINGLES[..20])?;
