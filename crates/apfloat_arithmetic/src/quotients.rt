@@ -14,7 +14,7 @@ ghost use Rattle.apfloat_unpacked.specs.Stored.{IsStored, IsNormal, quanta_at, d
 use crate::classes::are_normal;
 use crate::exact::{exact_infinity, exact_zero};
 use crate::products::product_sign;
-use apfloat_base::sig::{self, Quotient, divide_short};
+use apfloat_base::sig::{self, Quotient, divide_short, divide_word};
 use apfloat_base::{Category, ExpInt, Round, Status, StatusAnd};
 use apfloat_unpacked::nans::{invalid, propagated, propagated_left};
 use apfloat_unpacked::rounding::deliver;
@@ -37,7 +37,8 @@ fn quotient_exponent(left: ExpInt, right: ExpInt, places: u32) -> ExpInt
     left - right - places as ExpInt
 }
 
-/// The quotient of two significands of so many digits with one place more, in one machine word where it fits one.
+/// The quotient of two significands of so many digits with one place more, in one machine word where it fits one, and by
+/// one division where the dividend with its places does too.
 #[inline(always)]
 fn quotient_of(precision: u32, dividend: u128, divisor: u128) -> Quotient
     requires some { 0 < precision }
@@ -49,7 +50,9 @@ fn quotient_of(precision: u32, dividend: u128, divisor: u128) -> Quotient
     ensures stands { StandsFor result.whole result.loss (dividend * 2 ^ (precision + 1)) divisor }
 {
     let places = precision + 1;
-    if places <= 62 {
+    if precision <= 31 {
+        divide_word(dividend as u64, divisor as u64, places)
+    } else if places <= 62 {
         divide_short(dividend as u64, divisor as u64, places)
     } else {
         sig::divide(dividend, divisor, places)

@@ -14,5 +14,5 @@ pub use loss::{Loss, is_exact, loss_of_rest};
 pub use product::full_product;
 pub use quotient::{Quotient, divide};
 pub use shift::{Shifted, digits, low_digits, power_of_two, shift_right, steps_between};
-pub use short_quotient::divide_short;
+pub use short_quotient::{divide_short, divide_word};
 pub use sum::{Term, Total, add_terms, is_zero};

@@ -1,6 +1,6 @@
 -- Numbers of a shape in another that has them all.
-use Rattle.std.proofs.Common.{◌≡◌, ℕ, ◌+◌, ◌-◌, ◌*◌, ◌%◌, ◌^◌, ◌<◌, ◌≤◌, Bool, false, ℤ, ◌-ℤ◌, sym, refl, ap, ◌∙◌, ⊎_elim, arith}
-use Rattle.std.proofs.Math.Nat.{mul-le-mul_right, mul-pos, pow-le-pow_right, mod-eq_of_lt}
+use Rattle.std.proofs.Common.{◌≡◌, ℕ, zero, suc, ◌+◌, ◌-◌, ◌*◌, ◌%◌, ◌^◌, ◌<◌, ◌≤◌, Bool, false, ℤ, ◌-ℤ◌, sym, refl, ap, ◌∙◌, ⊎_elim, arith}
+use Rattle.std.proofs.Math.Nat.{mul-le-mul_right, mul-pos, pow-le-pow_right, mod-eq_of_lt, eq_of_mul-eq-mul_right}
 use Rattle.std.proofs.lemmas.Nat.{pow-add, pow_pos}
 use Rattle.std.proofs.lemmas.Int.{ints}
 use Rattle.apfloat_base.specs.declared.kinds.Round.{Round}
@@ -17,12 +17,13 @@ use Rattle.apfloat_base.proofs.KeptDigits.{fits_shifted, full_shifted}
 use Rattle.apfloat_base.proofs.Laws.{exact_delivered}
 use Rattle.apfloat_base.proofs.Powers.{pow3}
 use Rattle.apfloat_base.proofs.SingleScalings.{scaled_stands}
+use Rattle.apfloat_base.proofs.Totals.{no_down}
 use Rattle.apfloat_unpacked.specs.declared.shape.Shape.{Shape}
 use Rattle.apfloat_unpacked.specs.Shapes.{IsShape, format_at}
 use Rattle.apfloat_unpacked.specs.Stored.{IsNormal, IsQuantaAt, quanta_at}
 use Rattle.apfloat_unpacked.proofs.StoredNumbers.{quanta_is, whole_is}
 use Rattle.apfloat_unpacked.proofs.ShapeExponents.{scale_is, span_is}
-use Rattle.apfloat_conversions.specs.Held.{IsHeld, IsReachedLevel}
+use Rattle.apfloat_conversions.specs.Held.{IsHeld, IsHeldAt, IsInside, IsReachedLevel}
 
 -- ---- the largest value: g * 2 ^ m quanta, and h * 2 ^ n of the other, finer by k places
 
@@ -84,7 +85,7 @@ held_quanta s t m e from into h n =
     (t.precision - s.precision) (up (e -ℤ t.min_exp)) (down (e -ℤ t.min_exp)) n.whole b in
     omega (arith, q)
 
-pub held_normal : (s t : Shape) (m : ℕ) (e : ℤ) → IsShape s → IsShape t → IsHeld s t → IsNormal s m e
+held_normal : (s t : Shape) (m : ℕ) (e : ℤ) → IsShape s → IsShape t → IsHeld s t → IsNormal s m e
     → IsNormal t (m * 2 ^ (t.precision - s.precision)) e
 held_normal s t m e from into h n =
     let q = held_quanta s t m e from into h n in
@@ -107,10 +108,83 @@ held_normal s t m e from into h n =
           (held_within s t (quanta_at s.min_exp m e) from into h n.within);
     }
 
-pub held_quanta_are : (s t : Shape) (m : ℕ) (e : ℤ) → IsShape s → IsShape t → IsHeld s t → IsNormal s m e
-    → quanta_at t.min_exp (m * 2 ^ (t.precision - s.precision)) e ≡ quanta_at s.min_exp m e * 2 ^ finer s t
-held_quanta_are s t m e from into h n =
-    quanta_is t.min_exp (m * 2 ^ (t.precision - s.precision)) e _ (held_quanta s t m e from into h n)
+-- a number of another shape whose exponent lies inside
+inside_quanta : (s t : Shape) (m : ℕ) (e : ℤ) → IsInside s t e
+    → IsQuantaAt t.min_exp (m * 2 ^ (t.precision - s.precision)) e
+    (m * 2 ^ (t.precision - s.precision) * 2 ^ up (e -ℤ t.min_exp))
+inside_quanta s t m e h =
+    let l = h.least in
+    let z : down (e -ℤ t.min_exp) ≡ 0 = no_down (e -ℤ t.min_exp) (omega (arith, ints, l)) in
+    rw z (omega arith)
+
+inside_within : (s t : Shape) (m : ℕ) (e : ℤ) → IsShape s → IsShape t → IsInside s t e → m < 2 ^ s.precision
+    → m * 2 ^ (t.precision - s.precision) * 2 ^ up (e -ℤ t.min_exp) ≤ largest (format_at t)
+inside_within s t m e from into h f =
+    let p = h.precise in
+    let l = h.least in
+    let b = h.below in
+    let v = span_is t into in
+    let z : down (e -ℤ t.min_exp) ≡ 0 = no_down (e -ℤ t.min_exp) (omega (arith, ints, l)) in
+    let w : m * 2 ^ (t.precision - s.precision) < 2 ^ t.precision =
+    fits_shifted m s.precision (t.precision - s.precision) t.precision f (omega arith) in
+    let q = higher (m * 2 ^ (t.precision - s.precision) * 2 ^ up (e -ℤ t.min_exp))
+    (m * 2 ^ (t.precision - s.precision)) (greatest_significand t.nonfinite t.precision)
+    (up (e -ℤ t.min_exp)) (format_at t).span 0 t.precision (t.precision - 1) (omega arith) w
+    (greatest_full t.nonfinite t.precision into.precision_low)
+    (omega (arith, ints, v, z, b, into.precision_low)) in
+    omega (arith, q)
+
+inside_normal : (s t : Shape) (m : ℕ) (e : ℤ) → IsShape s → IsShape t → IsInside s t e → IsNormal s m e
+    → IsNormal t (m * 2 ^ (t.precision - s.precision)) e
+inside_normal s t m e from into h n =
+    let p = h.precise in
+    let q = inside_quanta s t m e h in
+    record {
+      operand = record {
+        fits = fits_shifted m s.precision (t.precision - s.precision) t.precision n.operand.fits (omega arith);
+        full = full_shifted m s.precision (t.precision - s.precision) t.precision
+            (omega (arith, from.precision_low)) (λ _. n.operand.full) (omega arith);
+        least = omega (arith, ints, h.least, into.precision_low);
+        greatest = omega (arith, ints, h.below);
+      };
+      whole = whole_is t.min_exp (m * 2 ^ (t.precision - s.precision)) e _ q;
+      within = rw (quanta_is t.min_exp (m * 2 ^ (t.precision - s.precision)) e _ q)
+          (inside_within s t m e from into h n.operand.fits);
+    }
+
+pub normal_there : (s t : Shape) (m : ℕ) (e : ℤ) → IsShape s → IsShape t → IsHeldAt s t e → IsNormal s m e
+    → IsNormal t (m * 2 ^ (t.precision - s.precision)) e
+normal_there s t m e from into h n =
+    ⊎_elim (λ o. held_normal s t m e from into o n) (λ o. inside_normal s t m e from into o n) h
+
+pub precise_there : (s t : Shape) (e : ℤ) → IsHeldAt s t e → s.precision ≤ t.precision
+precise_there s t e h = ⊎_elim (λ (o : IsHeld s t). o.precise) (λ (o : IsInside s t e). o.precise) h
+
+-- ---- it is the same number: a quanta of 2 ^ (- f) are b quanta of 2 ^ (- g)
+
+same_quanta : (m a b f g k d u d' u' : ℕ) → a * 2 ^ d ≡ m * 2 ^ u → b * 2 ^ d' ≡ m * 2 ^ k * 2 ^ u'
+    → u + g + d' ≡ d + f + (k + u') → a * 2 ^ g ≡ b * 2 ^ f
+same_quanta m a b f g k d u d' u' h h' e =
+    let l : a * 2 ^ g * 2 ^ d' ≡ m * (2 ^ f * 2 ^ (k + u')) = scaled_stands m a d u g f (k + u') d' h e in
+    let q : b * 2 ^ f * 2 ^ d' ≡ b * 2 ^ d' * 2 ^ f = omega arith in
+    let r : b * 2 ^ d' * 2 ^ f ≡ m * 2 ^ k * 2 ^ u' * 2 ^ f = ap (λ (x : ℕ). x * 2 ^ f) h' in
+    let t : m * 2 ^ k * 2 ^ u' * 2 ^ f ≡ m * (2 ^ f * 2 ^ (k + u')) = rw (pow-add 2 k u') (omega arith) in
+    eq_of_mul-eq-mul_right (2 ^ d') (pow_pos d') (a * 2 ^ g) (b * 2 ^ f) (l ∙ sym (q ∙ r ∙ t))
+
+some_there : (a b f g : ℕ) → 0 < a → a * 2 ^ g ≡ b * 2 ^ f → 0 < b
+some_there a zero f g p e = let q : 0 < a * 2 ^ g = mul-pos p (pow_pos g) in omega arith
+some_there a (suc b) f g p e = omega arith
+
+pub same_there : (s t : Shape) (m : ℕ) (e : ℤ) → IsShape s → IsShape t → s.precision ≤ t.precision → IsNormal s m e
+    → IsNormal t (m * 2 ^ (t.precision - s.precision)) e
+    → quanta_at s.min_exp m e * 2 ^ (format_at t).scale
+    ≡ quanta_at t.min_exp (m * 2 ^ (t.precision - s.precision)) e * 2 ^ (format_at s).scale
+same_there s t m e from into p n o =
+    let x = scale_is s from in
+    let y = scale_is t into in
+    same_quanta m (quanta_at s.min_exp m e) (quanta_at t.min_exp (m * 2 ^ (t.precision - s.precision)) e)
+    (format_at s).scale (format_at t).scale (t.precision - s.precision) (down (e -ℤ s.min_exp)) (up (e -ℤ s.min_exp))
+    (down (e -ℤ t.min_exp)) (up (e -ℤ t.min_exp)) n.whole o.whole (omega (arith, ints, from.precision_low))
 
 -- the shift loses no digit
 pub held_shift : (s t m : ℕ) → s ≤ t → t ≤ 125 → m < 2 ^ s → m * 2 ^ (t - s) % 2 ^ 128 ≡ m * 2 ^ (t - s)
@@ -121,19 +195,13 @@ held_shift s t m p q f =
 
 -- ---- its conversion rounds nothing
 
-quantum_finer : (a k p q : ℕ) → p ≤ q → k ≡ q - p → a * 2 ^ q ≡ a * 2 ^ k * 2 ^ p
-quantum_finer a k p q l e =
-    let t : 2 ^ q ≡ 2 ^ k * 2 ^ p = ap (λ (x : ℕ). 2 ^ x) (omega arith) ∙ pow-add 2 k p in
-    ap (λ (x : ℕ). a * x) t ∙ omega arith
-
-pub held_converted : (f g : Format) (mode : Round) (b : Bool) (a : ℕ) (v : Datum) (status : ℕ) → f.scale ≤ g.scale
-    → 0 < a → v ≡ finite b (a * 2 ^ (g.scale - f.scale))
-    → IsFiniteOf g b (a * 2 ^ (g.scale - f.scale)) → status ≡ ok_bits → IsConvertedNumber f g mode b a v status false
-held_converted f g mode b a v status l p d t s =
-    let o : 0 < a * 2 ^ (g.scale - f.scale) = mul-pos p (pow_pos (g.scale - f.scale)) in
+pub same_converted : (f g : Format) (mode : Round) (negative : Bool) (a b : ℕ) (v : Datum) (status : ℕ) → 0 < a
+    → a * 2 ^ g.scale ≡ b * 2 ^ f.scale → v ≡ finite negative b → IsFiniteOf g negative b → status ≡ ok_bits
+    → IsConvertedNumber f g mode negative a v status false
+same_converted f g mode negative a b v status p e d t s =
+    let o : 0 < b = some_there a b f.scale g.scale p e in
     record {
-      is_delivered = rw (d, s, ← signed_some g.nonfinite b (a * 2 ^ (g.scale - f.scale)) o)
-          (exact_delivered g mode b (a * 2 ^ (g.scale - f.scale)) (a * 2 ^ g.scale) (2 ^ f.scale) (pow_pos f.scale)
-          t.on_grid t.within (quantum_finer a (g.scale - f.scale) f.scale g.scale l refl));
+      is_delivered = rw (d, s, ← signed_some g.nonfinite negative b o)
+          (exact_delivered g mode negative b (a * 2 ^ g.scale) (2 ^ f.scale) (pow_pos f.scale) t.on_grid t.within e);
       loses_is = rw s refl;
     }

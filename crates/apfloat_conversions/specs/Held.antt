@@ -1,5 +1,5 @@
--- When each number of one shape is a number of another.
-use Rattle.std.specs.Prelude.{◌≡◌, ◌-◌, ◌*◌, ◌^◌, ◌≤◌, ◌⊎◌, pos, ◌+ℤ◌, ◌≤ℤ◌}
+-- When each number of one shape, or each with a certain exponent, is a number of another.
+use Rattle.std.specs.Prelude.{◌≡◌, ◌-◌, ◌*◌, ◌^◌, ◌≤◌, ◌⊎◌, ℤ, pos, ◌+ℤ◌, ◌≤ℤ◌}
 use Rattle.apfloat_base.specs.formats.Format.{greatest_significand}
 use Rattle.apfloat_unpacked.specs.declared.shape.Shape.{Shape}
 use Rattle.apfloat_unpacked.specs.Shapes.{format_at}
@@ -18,3 +18,13 @@ pub record IsHeld (from into : Shape) : Type 0 where
   pub precise : from.precision ≤ into.precision
   pub fine : (format_at from).scale ≤ (format_at into).scale
   pub reached : IsReached from into
+
+-- the other shape has as many digits, and all of them at this exponent, which is none of its greatest numbers'
+pub record IsInside (from into : Shape) (exponent : ℤ) : Type 0 where
+  pub precise : from.precision ≤ into.precision
+  pub least : into.min_exp ≤ℤ exponent
+  pub below : (exponent +ℤ pos 1) ≤ℤ into.max_exp
+
+-- each number of the one shape with this exponent is a number of the other
+abbrev pub IsHeldAt : Shape → Shape → ℤ → Type 0
+IsHeldAt from into exponent = IsHeld from into ⊎ IsInside from into exponent

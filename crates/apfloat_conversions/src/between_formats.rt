@@ -12,7 +12,7 @@ ghost use Rattle.apfloat_base.specs.formats.Nan.{invalid_if, is_signaling};
 ghost use Rattle.apfloat_unpacked.specs.Shapes.{IsShape, format_at};
 ghost use Rattle.apfloat_unpacked.specs.Stored.{IsNan, IsNormal, IsStored, datum_at, quanta_at};
 
-use crate::held::{holds, widened};
+use crate::held::{has, widened};
 use apfloat_base::sig::{Loss, low_digits};
 use apfloat_base::{Category, NonfiniteBehavior, Round, Status, StatusAnd};
 use apfloat_unpacked::nans::{
@@ -31,8 +31,8 @@ pub struct Converted {
     pub loses_info: bool,
 }
 
-/// A number, rounded once; inexact is what loses information. Where the other format has all numbers of the one, there is
-/// nothing to round.
+/// A number, rounded once; inexact is what loses information. Where the other format has the number, there is nothing to
+/// round.
 #[inline(always)]
 fn converted_number(from: Shape, into: Shape, x: Unpacked, round: Round) -> Converted
     requires from { IsShape from }
@@ -43,7 +43,7 @@ fn converted_number(from: Shape, into: Shape, x: Unpacked, round: Round) -> Conv
         (quanta_at from.min_exp x.significand x.exponent) (datum_at into result.answer.value)
         (bits_of result.answer.status) result.loses_info }
 {
-    if holds(from, into) {
+    if has(from, into, x) {
         return Converted {
             answer: Status::OK.and(widened(from, into, x)),
             loses_info: false,

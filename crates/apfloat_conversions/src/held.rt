@@ -1,12 +1,12 @@
-//! Formats whose numbers are all numbers of another format, and these numbers there.
+//! Formats that have numbers of another format, all of them or those of one exponent, and these numbers there.
 
 ghost use Rattle.std.specs.Prelude.{◌≡◌, ◌-◌, ◌*◌, ◌^◌, ◌≤◌, true};
 ghost use Rattle.apfloat_base.specs.formats.Datum.{finite};
 ghost use Rattle.apfloat_unpacked.specs.Shapes.{IsShape, format_at};
 ghost use Rattle.apfloat_unpacked.specs.Stored.{IsNormal, IsStored, datum_at, quanta_at};
-ghost use Rattle.apfloat_conversions.specs.Held.{IsHeld, IsReached};
+ghost use Rattle.apfloat_conversions.specs.Held.{IsHeld, IsHeldAt, IsInside, IsReached};
 
-use apfloat_base::Category;
+use apfloat_base::{Category, ExpInt};
 use apfloat_unpacked::shape::Shape;
 use apfloat_unpacked::unpacked::Unpacked;
 
@@ -28,7 +28,7 @@ fn reaches(from: Shape, into: Shape) -> bool
 
 /// Whether each number of the one format is a number of the other too.
 #[inline(always)]
-pub fn holds(from: Shape, into: Shape) -> bool
+fn holds(from: Shape, into: Shape) -> bool
     requires from { IsShape from }
     requires into { IsShape into }
     ensures { result ≡ true → IsHeld from into }
@@ -39,17 +39,37 @@ pub fn holds(from: Shape, into: Shape) -> bool
     reaches(from, into)
 }
 
-/// A number in a format that has all numbers of its own: its significand gets as many digits more as that one has.
+/// Whether another format has as many digits as a number, and has all of them at its exponent.
+#[inline(always)]
+fn is_inside(from: Shape, into: Shape, exponent: ExpInt) -> bool
+    ensures { result ≡ true → IsInside from into exponent }
+{
+    from.precision <= into.precision && into.min_exp <= exponent && exponent < into.max_exp
+}
+
+/// Whether another format has a number, as far as its exponent tells.
+#[inline(always)]
+pub fn has(from: Shape, into: Shape, x: Unpacked) -> bool
+    requires from { IsShape from }
+    requires into { IsShape into }
+    ensures { result ≡ true → IsHeldAt from into x.exponent }
+{
+    holds(from, into) || is_inside(from, into, x.exponent)
+}
+
+/// A number in a format that has it: its significand gets as many digits more as that one has.
 #[inline(always)]
 pub fn widened(from: Shape, into: Shape, x: Unpacked) -> Unpacked
     requires from { IsShape from }
     requires into { IsShape into }
-    requires held { IsHeld from into }
+    requires held { IsHeldAt from into x.exponent }
     requires x { IsNormal from x.significand x.exponent }
     ensures stored { IsStored into result }
-    ensures datum { datum_at into result
-        ≡ finite x.negative (quanta_at from.min_exp x.significand
-        x.exponent * 2 ^ ((format_at into).scale - (format_at from).scale)) }
+    ensures datum { datum_at into result ≡ finite x.negative
+        (quanta_at into.min_exp result.significand result.exponent) }
+    ensures same { quanta_at from.min_exp x.significand x.exponent * 2 ^ (format_at into).scale
+        ≡ quanta_at into.min_exp result.significand result.exponent
+        * 2 ^ (format_at from).scale }
 {
     Unpacked {
         significand: x.significand << (into.precision - from.precision),

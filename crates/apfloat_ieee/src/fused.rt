@@ -18,7 +18,7 @@ impl<S: Semantics> IeeeFloat<S> {
     /// the sign of a sum of the product and the addend (6.3). An infinity times a zero is invalid (7.2): the quiet NaN
     /// without a payload, with `INVALID_OP`, whatever the addend is; and so is the sum of an infinite product and the
     /// infinity of the other sign. The first operand that is a NaN is answered, made quiet (6.2.3).
-    #[inline]
+    #[inline(always)]
     pub fn mul_add_r(self, multiplicand: Self, addend: Self, round: Round) -> StatusAnd<Self>
         requires { S.PRECISION ≤ 63 }
         ensures { Gives (IsFusedSum (format_of S.Semantics) round self multiplicand addend) result }

@@ -196,7 +196,7 @@ impl<S: Semantics> Float for IeeeFloat<S> {
         IeeeFloat::packed(smallest_normalized_of(shape_of::<S>()))
     }
 
-    #[inline]
+    #[inline(always)]
     fn add_r(self, rhs: Self, round: Round) -> StatusAnd<Self>
         ensures sum { Gives (IsSum (format_of S.Semantics) round self rhs) result }
         ensures monotone { IsMonotone (format_of S.Semantics) round self rhs result.value }
@@ -204,7 +204,7 @@ impl<S: Semantics> Float for IeeeFloat<S> {
         sum(self, rhs, round)
     }
 
-    #[inline]
+    #[inline(always)]
     fn sub_r(self, rhs: Self, round: Round) -> StatusAnd<Self>
         ensures difference { Gives (IsDifference (format_of S.Semantics) round self rhs) result }
         ensures nearby { Gives (IsNearby self rhs) result }
@@ -212,7 +212,7 @@ impl<S: Semantics> Float for IeeeFloat<S> {
         difference(self, rhs, round)
     }
 
-    #[inline]
+    #[inline(always)]
     fn mul_r(self, rhs: Self, round: Round) -> StatusAnd<Self>
         requires { IsTrue (leb S.PRECISION 64) }
         ensures product { Gives (IsProduct (format_of S.Semantics) round self rhs) result }
@@ -221,7 +221,7 @@ impl<S: Semantics> Float for IeeeFloat<S> {
         product(self, rhs, round)
     }
 
-    #[inline]
+    #[inline(always)]
     fn div_r(self, rhs: Self, round: Round) -> StatusAnd<Self> {
         quotient(self, rhs, round)
     }
@@ -263,7 +263,7 @@ impl<S: Semantics> Float for IeeeFloat<S> {
         read::<S>(bits)
     }
 
-    #[inline]
+    #[inline(always)]
     fn from_u128_r(input: u128, round: Round) -> StatusAnd<Self> {
         IeeeFloat::answered(from_unsigned(shape_of::<S>(), input, round))
     }

@@ -18,7 +18,7 @@ use apfloat_base::{Round, StatusAnd};
 use std::ops::{Div, DivAssign, Mul, MulAssign};
 
 /// The product of two values, rounded once; a format of at most 64 digits has it.
-#[inline]
+#[inline(always)]
 pub(crate) fn product<S: Semantics>(
     x: IeeeFloat<S>,
     y: IeeeFloat<S>,
@@ -32,7 +32,7 @@ pub(crate) fn product<S: Semantics>(
 }
 
 /// The quotient of two values, rounded once.
-#[inline]
+#[inline(always)]
 pub(crate) fn quotient<S: Semantics>(
     x: IeeeFloat<S>,
     y: IeeeFloat<S>,

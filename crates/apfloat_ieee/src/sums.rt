@@ -16,7 +16,7 @@ use apfloat_base::{Round, StatusAnd};
 use std::ops::{Add, AddAssign, Neg, Sub, SubAssign};
 
 /// The sum of two values, rounded once. In a format with infinities it does not fall as a finite `x` grows.
-#[inline]
+#[inline(always)]
 pub(crate) fn sum<S: Semantics>(
     x: IeeeFloat<S>,
     y: IeeeFloat<S>,
@@ -30,7 +30,7 @@ pub(crate) fn sum<S: Semantics>(
 
 /// The difference of two values, rounded once. That of positive numbers is exact where neither is more than twice the
 /// other.
-#[inline]
+#[inline(always)]
 pub(crate) fn difference<S: Semantics>(
     x: IeeeFloat<S>,
     y: IeeeFloat<S>,

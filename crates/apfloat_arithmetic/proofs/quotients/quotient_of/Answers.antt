@@ -1,6 +1,7 @@
-use Rattle.std.proofs.Common.{◌^◌, ◌≤◌, arith}
+use Rattle.std.proofs.Common.{◌+◌, ◌^◌, ◌≤◌, arith}
 use Rattle.std.proofs.Math.Nat.{pow-le-pow_right}
 use Rattle.apfloat_base.proofs.Existence.{two_pos}
+use Rattle.apfloat_base.proofs.KeptDigits.{fits_shifted}
 use Rattle.apfloat_arithmetic.proofs.quotients.quotient_of.Goals as goal
 
 pub divide-requires-clause-narrow : goal.divide-requires-clause-narrow
@@ -15,3 +16,13 @@ divide_short-requires-clause-narrow c =
     let a : 2 ^ c.args.precision ≤ 2 ^ 61 = pow-le-pow_right two_pos l in
     let f = c.requires.divisor_fits in
     omega arith
+
+pub divide_word-requires-clause-narrow : goal.divide_word-requires-clause-narrow
+divide_word-requires-clause-narrow c =
+    let a : 2 ^ c.args.precision ≤ 2 ^ 31 = pow-le-pow_right two_pos c.if-precision-le31.true in
+    let f = c.requires.divisor_fits in
+    omega arith
+
+pub divide_word-requires-clause-fits : goal.divide_word-requires-clause-fits
+divide_word-requires-clause-fits c =
+    fits_shifted c.args.dividend c.args.precision (c.args.precision + 1) 64 c.requires.dividend_fits (omega arith)

@@ -10,7 +10,7 @@ use Rattle.apfloat_unpacked.specs.Stored.{quanta_at, datum_at}
 use Rattle.apfloat_unpacked.specs.StoredBack.{quanta_some}
 use Rattle.apfloat_unpacked.proofs.ShapeExponents.{exponent_word, scale_is}
 use Rattle.apfloat_unpacked.proofs.StoredMembers.{member_is}
-use Rattle.apfloat_conversions.proofs.HeldNumbers.{held_converted}
+use Rattle.apfloat_conversions.proofs.HeldNumbers.{same_converted}
 use Rattle.apfloat_conversions.proofs.between_formats.converted_number.Goals as goal
 
 pub last_exponent-requires-clause-lawful : goal.last_exponent-requires-clause-lawful
@@ -57,14 +57,14 @@ returns-clause-converted c =
       loses_is = c.ne.ensures;
     }
 
-pub returns-then-holds-clause-converted : goal.returns-then-holds-clause-converted
-returns-then-holds-clause-converted c =
+pub returns-then-has-clause-converted : goal.returns-then-has-clause-converted
+returns-then-has-clause-converted c =
     let s = c.args.from in
     let t = c.args.into in
-    let h = c.holds.ensures c.if-holds.true in
     let v = ap (datum_at t) c.and.ensures.value ∙ c.widened.ensures.datum in
     let m = subst (λ (d : Datum). IsMember (format_at t) d) c.widened.ensures.datum
     (member_is t c.widened.result c.widened.ensures.stored) in
-    held_converted (format_at s) (format_at t) c.args.round c.args.x.negative
-    (quanta_at s.min_exp c.args.x.significand c.args.x.exponent) _ _ h.fine
-    (quanta_some s c.args.x.significand c.args.x.exponent c.requires.x) v m (ap bits_of c.and.ensures.status)
+    same_converted (format_at s) (format_at t) c.args.round c.args.x.negative
+    (quanta_at s.min_exp c.args.x.significand c.args.x.exponent) _ _ _
+    (quanta_some s c.args.x.significand c.args.x.exponent c.requires.x) c.widened.ensures.same v m
+    (ap bits_of c.and.ensures.status)
