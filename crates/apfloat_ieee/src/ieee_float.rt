@@ -17,7 +17,7 @@ ghost use Rattle.apfloat_ieee.specs.Types.{shape_of, format_of, layout_of};
 use crate::semantics::Semantics;
 use apfloat_base::sig::Loss;
 use apfloat_base::{ExpInt, Round, StatusAnd};
-use apfloat_unpacked::bits::{Widths, decode, encode};
+use apfloat_unpacked::bits::{self, Widths};
 use apfloat_unpacked::rounding::deliver;
 use apfloat_unpacked::shape::Shape;
 use apfloat_unpacked::unpacked::Unpacked;
@@ -79,7 +79,7 @@ fn widths_of<S: Semantics>() -> Widths
 
 /// The value that is written as `bits`.
 #[inline]
-pub(crate) fn read<S: Semantics>(bits: u128) -> IeeeFloat<S>
+pub(crate) fn decode<S: Semantics>(bits: u128) -> IeeeFloat<S>
     requires { S.PRECISION < S.BITS }
     ensures read { result ≡ datum_of (format_of S.Semantics) (layout_of S.Semantics) bits }
     ensures back { S.EXPLICIT_INTEGER_BIT ≡ false → bits < 2 ^ S.BITS
@@ -87,18 +87,18 @@ pub(crate) fn read<S: Semantics>(bits: u128) -> IeeeFloat<S>
     ensures once { S.EXPLICIT_INTEGER_BIT ≡ false → bits < 2 ^ S.BITS → (other : ℕ)
         → IsEncodedBy (format_of S.Semantics) (layout_of S.Semantics) other result → other ≡ bits }
 {
-    IeeeFloat::packed(decode(shape_of::<S>(), widths_of::<S>(), bits))
+    IeeeFloat::packed(bits::decode(shape_of::<S>(), widths_of::<S>(), bits))
 }
 
 /// The bits of the one canonical encoding of the value.
 #[inline]
-pub(crate) fn write<S: Semantics>(x: IeeeFloat<S>) -> u128
+pub(crate) fn encode<S: Semantics>(x: IeeeFloat<S>) -> u128
     requires { S.PRECISION < S.BITS }
     ensures written { IsEncodedBy (format_of S.Semantics) (layout_of S.Semantics) result x }
     ensures only { (other : ℕ)
         → IsEncodedBy (format_of S.Semantics) (layout_of S.Semantics) other x → other ≡ result }
 {
-    encode(shape_of::<S>(), widths_of::<S>(), x.unpacked())
+    bits::encode(shape_of::<S>(), widths_of::<S>(), x.unpacked())
 }
 
 impl<S: Semantics> IeeeFloat<S> {

@@ -28,14 +28,15 @@ ghost use Rattle.apfloat_base.proofs.Determined.{determined, scale_some};
 ghost use Rattle.apfloat_base.proofs.Encodings.{lawful_interchange};
 ghost use Rattle.apfloat_ieee.specs.Types.{constants_of, format_of, layout_of};
 
-use crate::ieee_float::{IeeeFloat, read, shape_of, write};
-use crate::order::{is_same, magnitude_order};
+use crate::ieee_float::{IeeeFloat, decode, encode, shape_of};
 use crate::products::{inverse, product, quotient};
-use crate::remainders::{nearest, truncated};
+use crate::remainders::truncated;
 use crate::semantics::Semantics;
 use crate::sums::{difference, sum};
-use crate::texts::read_text;
+use crate::texts::read;
 use apfloat_arithmetic::classes::is_denormal;
+use apfloat_arithmetic::order::{compare_magnitudes, is_same};
+use apfloat_arithmetic::remainders::nearest_remainder;
 use apfloat_base::{Category, ExpInt, Float, ParseError, Round, StatusAnd};
 use apfloat_conversions::integers::{from_unsigned, to_unsigned};
 use apfloat_conversions::integral::{is_integer, round_to_integral};
@@ -228,7 +229,7 @@ impl<S: Semantics> Float for IeeeFloat<S> {
 
     #[inline]
     fn ieee_rem(self, rhs: Self) -> StatusAnd<Self> {
-        nearest(self, rhs)
+        IeeeFloat::answered(nearest_remainder(shape_of::<S>(), self.unpacked(), rhs.unpacked()))
     }
 
     #[inline]
@@ -260,7 +261,7 @@ impl<S: Semantics> Float for IeeeFloat<S> {
             → IsEncodedBy (format_of S.Semantics) (layout_of S.Semantics) other result
             → other ≡ bits }
     {
-        read::<S>(bits)
+        decode::<S>(bits)
     }
 
     #[inline(always)]
@@ -270,7 +271,7 @@ impl<S: Semantics> Float for IeeeFloat<S> {
 
     #[inline]
     fn from_str_r(s: &str, round: Round) -> Result<StatusAnd<Self>, ParseError> {
-        read_text::<S>(s, round)
+        read::<S>(s, round)
     }
 
     #[inline]
@@ -283,7 +284,7 @@ impl<S: Semantics> Float for IeeeFloat<S> {
             → IsEncodedBy (format_of S.Semantics) (layout_of S.Semantics) other self
             → other ≡ result }
     {
-        write::<S>(self)
+        encode::<S>(self)
     }
 
     #[inline]
@@ -295,12 +296,12 @@ impl<S: Semantics> Float for IeeeFloat<S> {
 
     #[inline]
     fn cmp_abs_normal(self, rhs: Self) -> Ordering {
-        magnitude_order(self, rhs)
+        compare_magnitudes(self.unpacked(), rhs.unpacked())
     }
 
     #[inline]
     fn bitwise_eq(self, rhs: Self) -> bool {
-        is_same(self, rhs)
+        is_same(self.unpacked(), rhs.unpacked())
     }
 
     #[inline]

@@ -1,8 +1,7 @@
 //! The order of the values of one format, `==` and `<`, and their sameness.
 
 ghost use Rattle.std.specs.Prelude.{◌≡◌};
-ghost use Rattle.apfloat_base.specs.order.Classes.{same_datum};
-ghost use Rattle.apfloat_base.specs.order.Order.{AreNumbers, compared, compared_magnitudes};
+ghost use Rattle.apfloat_base.specs.order.Order.{compared};
 
 use crate::ieee_float::IeeeFloat;
 use crate::semantics::Semantics;
@@ -11,27 +10,10 @@ use std::cmp::Ordering;
 
 /// The order of two values as numbers: both zeros are equal, the infinities stand at the ends, and a NaN beside none.
 #[inline]
-pub(crate) fn comparison<S: Semantics>(x: IeeeFloat<S>, y: IeeeFloat<S>) -> Option<Ordering>
+fn compare<S: Semantics>(x: IeeeFloat<S>, y: IeeeFloat<S>) -> Option<Ordering>
     ensures { result ≡ compared x y }
 {
     order::compare(x.unpacked(), y.unpacked())
-}
-
-/// The order of the magnitudes of two finite values that are not zero.
-#[inline]
-pub(crate) fn magnitude_order<S: Semantics>(x: IeeeFloat<S>, y: IeeeFloat<S>) -> Ordering
-    requires { AreNumbers x y }
-    ensures { result ≡ compared_magnitudes x y }
-{
-    order::compare_magnitudes(x.unpacked(), y.unpacked())
-}
-
-/// Whether both are one value.
-#[inline]
-pub(crate) fn is_same<S: Semantics>(x: IeeeFloat<S>, y: IeeeFloat<S>) -> bool
-    ensures { result ≡ same_datum x y }
-{
-    order::is_same(x.unpacked(), y.unpacked())
 }
 
 impl<S: Semantics> PartialEq for IeeeFloat<S> {
@@ -45,7 +27,7 @@ impl<S: Semantics> PartialEq for IeeeFloat<S> {
     /// Whether both are one number (IEEE 754-2008 5.11): both zeros are equal, and a NaN equals nothing.
     #[inline]
     fn eq(&self, other: &Self) -> bool {
-        match comparison(*self, *other) {
+        match compare(*self, *other) {
             Some(order) => order.is_eq(),
             None => false,
         }
@@ -64,6 +46,6 @@ impl<S: Semantics> PartialOrd for IeeeFloat<S> {
     /// beside none.
     #[inline]
     fn partial_cmp(&self, other: &Self) -> Option<Ordering> {
-        comparison(*self, *other)
+        compare(*self, *other)
     }
 }

@@ -4,12 +4,12 @@ ghost use Rattle.std.specs.Prelude.{◌≡◌, ℤ, ◌<◌, pos, ◌+ℤ◌, �
 ghost use Rattle.apfloat_base.specs.declared.status.StatusAnd.{StatusAnd};
 ghost use Rattle.apfloat_base.specs.rounding.Flags.{Gives};
 ghost use Rattle.apfloat_base.specs.arithmetic.Exponents.{IsIlogb};
-ghost use Rattle.apfloat_base.specs.arithmetic.Remainders.{IsTruncatedRemainder, IsNearestRemainder, ones_of_quotient};
+ghost use Rattle.apfloat_base.specs.arithmetic.Remainders.{IsTruncatedRemainder, ones_of_quotient};
 ghost use Rattle.apfloat_ieee.specs.Types.{format_of};
 
 use crate::ieee_float::{IeeeFloat, shape_of};
 use crate::semantics::Semantics;
-use apfloat_arithmetic::remainders::{nearest_remainder, truncated_remainder};
+use apfloat_arithmetic::remainders::truncated_remainder;
 use apfloat_base::StatusAnd;
 use std::ops::{Rem, RemAssign};
 
@@ -19,14 +19,6 @@ pub(crate) fn truncated<S: Semantics>(x: IeeeFloat<S>, y: IeeeFloat<S>) -> Statu
     ensures { Gives (IsTruncatedRemainder (format_of S.Semantics) x y) result }
 {
     IeeeFloat::answered(truncated_remainder(shape_of::<S>(), x.unpacked(), y.unpacked()).answer)
-}
-
-/// The remainder by the whole number nearest to the quotient, a tie to the even one, which is exact.
-#[inline]
-pub(crate) fn nearest<S: Semantics>(x: IeeeFloat<S>, y: IeeeFloat<S>) -> StatusAnd<IeeeFloat<S>>
-    ensures { Gives (IsNearestRemainder (format_of S.Semantics) x y) result }
-{
-    IeeeFloat::answered(nearest_remainder(shape_of::<S>(), x.unpacked(), y.unpacked()))
 }
 
 impl<S: Semantics> IeeeFloat<S> {

@@ -5,7 +5,7 @@ ghost use Rattle.apfloat_base.specs.declared.kinds.NonfiniteBehavior.{NonfiniteB
 ghost use Rattle.apfloat_base.specs.bits.Layout.{datum_of, IsEncodedBy};
 ghost use Rattle.apfloat_base.specs.formats.Lawful.{IsLawful, constants_with, format_with, layout_with};
 
-use crate::ieee_float::{IeeeFloat, read, write};
+use crate::ieee_float::{IeeeFloat, decode, encode};
 use apfloat_base::{ExpInt, NonfiniteBehavior};
 
 /// A binary format.
@@ -108,7 +108,7 @@ pub trait Semantics: Copy {
             EXPLICIT_INTEGER_BIT ≡ false → bits < 2 ^ BITS → (other : ℕ)
             → IsEncodedBy (format_with c) (layout_with c) other result → other ≡ bits }
     {
-        read::<Self>(bits)
+        decode::<Self>(bits)
     }
 
     /// The bits of the one canonical encoding of the value (IEEE 754-2008 3.4), in a format with bits, `PRECISION`
@@ -125,7 +125,7 @@ pub trait Semantics: Copy {
             QNAN_SIGNIFICAND EXPLICIT_INTEGER_BIT TINY_BEFORE_ROUNDING in
             (other : ℕ) → IsEncodedBy (format_with c) (layout_with c) other x → other ≡ result }
     {
-        write::<Self>(x)
+        encode::<Self>(x)
     }
 
     // That the constants keep the rules above. Where they are written out, the proof to write is

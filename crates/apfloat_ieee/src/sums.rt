@@ -42,14 +42,6 @@ pub(crate) fn difference<S: Semantics>(
     IeeeFloat::answered(subtract(shape_of::<S>(), x.unpacked(), y.unpacked(), round))
 }
 
-/// The value with the other sign.
-#[inline]
-fn negation<S: Semantics>(x: IeeeFloat<S>) -> IeeeFloat<S>
-    ensures { result ≡ negated (format_of S.Semantics).nonfinite x }
-{
-    IeeeFloat::packed(negated(shape_of::<S>(), x.unpacked()))
-}
-
 impl<S: Semantics> Neg for IeeeFloat<S> {
     type Output = IeeeFloat<S>;
 
@@ -58,7 +50,7 @@ impl<S: Semantics> Neg for IeeeFloat<S> {
     /// The value with the other sign (IEEE 754-2008 5.5.1, negate), also of a NaN; none is signaled.
     #[inline]
     fn neg(self) -> IeeeFloat<S> {
-        negation(self)
+        IeeeFloat::packed(negated(shape_of::<S>(), self.unpacked()))
     }
 }
 

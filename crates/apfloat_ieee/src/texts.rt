@@ -11,18 +11,17 @@ ghost use Rattle.apfloat_ieee.specs.Types.{format_of};
 use crate::ieee_float::{IeeeFloat, shape_of};
 use crate::semantics::Semantics;
 use apfloat_base::{ParseError, Round, StatusAnd};
-use apfloat_texts::read;
 use std::str::FromStr;
 
 /// The value of a text, or its refusal.
 #[inline]
-pub(crate) fn read_text<S: Semantics>(
+pub(crate) fn read<S: Semantics>(
     text: &str,
     round: Round,
 ) -> Result<StatusAnd<IeeeFloat<S>>, ParseError>
     ensures { IsRead (format_of S.Semantics) round text.now result }
 {
-    match read(shape_of::<S>(), text, round) {
+    match apfloat_texts::read(shape_of::<S>(), text, round) {
         Ok(answer) => Ok(IeeeFloat::answered(answer)),
         Err(error) => Err(error),
     }
@@ -37,7 +36,7 @@ impl<S: Semantics> FromStr for IeeeFloat<S> {
 
     /// Reads a text as `from_str_r` does, to the nearest value, a tie to the even one, and drops the status.
     fn from_str(s: &str) -> Result<Self, ParseError> {
-        match read_text::<S>(s, Round::NearestTiesToEven) {
+        match read::<S>(s, Round::NearestTiesToEven) {
             Ok(answer) => Ok(answer.value),
             Err(error) => Err(error),
         }

@@ -17,7 +17,7 @@ ghost use Rattle.apfloat_pairs.specs.PairCalls.{IsPairExactInverse, IsPairFromSi
 ghost use Rattle.apfloat_pairs.proofs.PairsDetermined.{pairs_determined};
 ghost use Rattle.apfloat_pairs.proofs.SignedPairs.{pair_signed_above, pair_signed_below, pair_to_signed_above, pair_to_signed_below};
 
-use super::order::magnitude_order;
+use super::order::compare_magnitudes;
 use super::products::product;
 use super::sums::{difference, sum};
 use super::{DoubleFloat, parts, wide};
@@ -293,7 +293,7 @@ impl Float for DoubleFloat {
 
     #[inline]
     fn cmp_abs_normal(self, rhs: Self) -> Ordering {
-        magnitude_order(self, rhs)
+        compare_magnitudes(self, rhs)
     }
 
     #[inline]

@@ -19,7 +19,7 @@ fn is_opposite(x: DoubleFloat) -> bool
 /// The order of the magnitudes of two pairs whose high parts have one magnitude, by that of the low parts and by which of
 /// these take from the high ones.
 #[inline]
-fn low_magnitude_order(order: Ordering, opposite: bool, other_opposite: bool) -> Ordering
+fn compare_low_magnitudes(order: Ordering, opposite: bool, other_opposite: bool) -> Ordering
     ensures { result ≡ compared_low_magnitudes order opposite other_opposite }
 {
     match order {
@@ -35,12 +35,12 @@ fn low_magnitude_order(order: Ordering, opposite: bool, other_opposite: bool) ->
 
 /// The order of the magnitudes of two pairs.
 #[inline]
-pub(super) fn magnitude_order(x: DoubleFloat, y: DoubleFloat) -> Ordering
+pub(super) fn compare_magnitudes(x: DoubleFloat, y: DoubleFloat) -> Ordering
     requires { CanComparePairMagnitudes x y }
     ensures { result ≡ compared_pair_magnitudes x y }
 {
     match x.0.cmp_abs_normal(y.0) {
-        Ordering::Equal => low_magnitude_order(
+        Ordering::Equal => compare_low_magnitudes(
             x.1.cmp_abs_normal(y.1),
             is_opposite(x),
             is_opposite(y),

@@ -1,4 +1,4 @@
-use Rattle.apfloat_ieee.proofs.texts.read_text.Goals as goal
+use Rattle.apfloat_ieee.proofs.texts.read.Goals as goal
 
 pub returns-in-Ok : goal.returns-in-Ok
 returns-in-Ok g c =

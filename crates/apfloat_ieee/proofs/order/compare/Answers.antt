@@ -1,5 +1,5 @@
 use Rattle.apfloat_ieee.specs.Types.{shape_of}
-use Rattle.apfloat_ieee.proofs.order.comparison.Goals as goal
+use Rattle.apfloat_ieee.proofs.order.compare.Goals as goal
 
 pub returns : goal.returns
 returns g c =

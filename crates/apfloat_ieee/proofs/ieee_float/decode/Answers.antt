@@ -5,7 +5,7 @@ use Rattle.apfloat_base.specs.bits.Layout.{Layout, Fields, datum_of, fields_of, 
 use Rattle.apfloat_base.proofs.EncodedOnce.{encoded_once}
 use Rattle.apfloat_unpacked.specs.Stored.{datum_at}
 use Rattle.apfloat_ieee.specs.Types.{shape_of, format_of, layout_of}
-use Rattle.apfloat_ieee.proofs.ieee_float.read.Goals as goal
+use Rattle.apfloat_ieee.proofs.ieee_float.decode.Goals as goal
 
 implied_is_canonical : (f : Format) (layout : Layout) (x : Fields) → f.explicit_integer_bit ≡ false
     → IsTrue (is_canonical f layout x)

@@ -1,4 +1,4 @@
-use Rattle.apfloat_ieee.proofs.ieee_float.write.Goals as goal
+use Rattle.apfloat_ieee.proofs.ieee_float.encode.Goals as goal
 
 pub returns-clause-written : goal.returns-clause-written
 returns-clause-written g c =

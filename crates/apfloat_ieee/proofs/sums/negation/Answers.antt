@@ -1,6 +1,0 @@
-use Rattle.apfloat_ieee.proofs.sums.negation.Goals as goal
-
-pub returns : goal.returns
-returns g c =
-    let d = rw c.shape_of.ensures.value at c.negated.ensures.datum in
-    rw (c.packed.ensures, c.unpacked.ensures.datum) d
