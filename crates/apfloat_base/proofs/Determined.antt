@@ -5,6 +5,7 @@ use Rattle.std.specs.Bool.{MatchBool}
 use Rattle.std.specs.Option.{unwrap_or}
 use Rattle.std.proofs.lemmas.Nat.{pow_pos}
 use Rattle.std.proofs.lemmas.Int.{ints}
+use Rattle.apfloat_base.specs.declared.parse_error.Fault.{Fault}
 use Rattle.apfloat_base.specs.declared.kinds.Round.{Round}
 use Rattle.apfloat_base.specs.declared.parse_error.ParseError.{ParseError}
 use Rattle.apfloat_base.specs.declared.status.StatusAnd.{StatusAnd}
@@ -24,7 +25,7 @@ use Rattle.apfloat_base.specs.whole_numbers.WholeNumbersOut.{IsToUnsigned, IsToS
 use Rattle.apfloat_base.specs.arithmetic.NextUp.{IsNextUp, IsNextDown}
 use Rattle.apfloat_base.specs.arithmetic.Exponents.{IsIlogb, IsLogarithm, IsFraction, IsFrexp, AreInverse, IsExactInverse}
 use Rattle.apfloat_base.specs.texts.Specials.{Meaning, infinity, not_a_number, hexadecimal}
-use Rattle.apfloat_base.specs.texts.Texts.{Fault, words}
+use Rattle.apfloat_base.specs.texts.Texts.{words}
 use Rattle.apfloat_base.specs.texts.Readings.{IsMeant, IsReading, IsRefusal}
 use Rattle.apfloat_base.specs.texts.Parsing.{IsRead}
 use Rattle.apfloat_base.specs.Determined.{Determines, DeterminesBoth, AreOneReading, IsDetermined}
