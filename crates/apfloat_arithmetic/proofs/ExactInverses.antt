@@ -1,9 +1,8 @@
 -- Exact inverses of stored numbers.
-use Rattle.std.proofs.Common.{refl, sym, ap, subst, ◌∙◌, ◌≡◌, ℕ, ◌+◌, ◌-◌, ◌*◌, ◌^◌, ◌<◌, ◌≤◌, ℤ, pos, ◌-ℤ◌, ◌≤ℤ◌, to_z, of_z, w32, Bool, ⊎_elim, arith}
+use Rattle.std.proofs.Common.{refl, sym, ap, subst, ◌∙◌, ◌≡◌, ℕ, ◌+◌, ◌-◌, ◌*◌, ◌^◌, ◌<◌, ◌≤◌, ℤ, pos, ◌-ℤ◌, ◌≤ℤ◌, to_z, of_z, w32, Bool, arith}
 use Rattle.std.specs.Prelude.{neg_ℤ, unsigned_abs, Option, Some, None}
 use Rattle.std.proofs.Math.Nat.{mul-le-mul_left, mul-le-mul_right, mul-lt-mul_of_pos_right, pow-le-pow_right, mul-pos}
 use Rattle.std.proofs.lemmas.Nat.{pow_pos, pow-add}
-use Rattle.std.proofs.lemmas.Bool.{cases_lt}
 use Rattle.std.proofs.lemmas.Int.{ints, by_lt_z, to_z-of_z}
 use borrow.Author.Differences.{fits_in}
 use Rattle.apfloat_base.specs.arithmetic.Exact.{up, down}
@@ -12,7 +11,7 @@ use Rattle.apfloat_base.specs.arithmetic.Exponents.{AreInverse, IsExactInverse}
 use Rattle.apfloat_base.specs.formats.Datum.{finite}
 use Rattle.apfloat_base.proofs.Existence.{two_pos}
 use Rattle.apfloat_base.proofs.Greatest.{greatest_fits, greatest_full}
-use Rattle.apfloat_base.proofs.Powers.{pow3, pow22, twice_power}
+use Rattle.apfloat_base.proofs.Powers.{pow3, pow22, exponent_at_most, exponent_below}
 use Rattle.apfloat_unpacked.specs.declared.shape.Shape.{Shape}
 use Rattle.apfloat_unpacked.specs.declared.unpacked.Unpacked.{Unpacked}
 use Rattle.apfloat_unpacked.specs.Shapes.{IsShape, format_at}
@@ -97,25 +96,6 @@ inverted_product s m e law n i =
 
 -- ---- a number with an exact inverse is such a power of two
 
-lower_power : (a b : ℕ) → 2 ^ a ≤ 2 ^ b → a ≤ b
-lower_power a b h =
-    ⊎_elim
-    (λ (c : b < a).
-    let l : b + 1 ≤ a = omega arith in
-    let k : 2 ^ (b + 1) ≤ 2 ^ a = pow-le-pow_right two_pos l in
-    let t : 2 ^ (b + 1) ≡ 2 * 2 ^ b = twice_power b in
-    let p : 0 < 2 ^ b = pow_pos b in
-    absurd (omega arith))
-    (λ (c : a ≤ b). c)
-    (cases_lt b a)
-
-least_power : (a b : ℕ) → 2 ^ a < 2 ^ b → a < b
-least_power a b h =
-    ⊎_elim
-    (λ (c : a < b). c)
-    (λ (c : b ≤ a). let k : 2 ^ b ≤ 2 ^ a = pow-le-pow_right two_pos c in absurd (omega arith))
-    (cases_lt a b)
-
 power_factor : (q i m d u w : ℕ) → q * 2 ^ d ≡ m * 2 ^ u → q * i ≡ 2 ^ w * 2 ^ w → m * (2 ^ u * i) ≡ 2 ^ (w + w + d)
 power_factor q i m d u w h e =
     let a : m * 2 ^ u * i ≡ q * 2 ^ d * i = ap (λ (x : ℕ). x * i) (sym h) in
@@ -140,7 +120,7 @@ short_inverse h j w i l e =
     let b : 2 ^ (h + j + h) ≡ 2 ^ h * 2 ^ j * 2 ^ h = pow3 h j h in
     let c : 2 ^ (w + w) ≡ 2 ^ w * 2 ^ w = pow-add 2 w w in
     let k : 2 ^ (h + j + h) ≤ 2 ^ (w + w) = omega arith in
-    lower_power (h + j + h) (w + w) k
+    exponent_at_most (h + j + h) (w + w) k
 
 long_inverse : (h j w i p span : ℕ) → i < 2 ^ p * 2 ^ span → 2 ^ h * 2 ^ j * i ≡ 2 ^ w * 2 ^ w
     → w + w < h + j + (p + span)
@@ -150,7 +130,7 @@ long_inverse h j w i p span l e =
     let b : 2 ^ (h + j + (p + span)) ≡ 2 ^ h * 2 ^ j * (2 ^ p * 2 ^ span) = pow22 h j p span in
     let c : 2 ^ (w + w) ≡ 2 ^ w * 2 ^ w = pow-add 2 w w in
     let k : 2 ^ (w + w) < 2 ^ (h + j + (p + span)) = omega arith in
-    least_power (w + w) (h + j + (p + span)) k
+    exponent_below (w + w) (h + j + (p + span)) k
 
 not_low : (s : Shape) (m i : ℕ) (e : ℤ) → IsShape s → IsNormal s m e
     → AreInverse (format_at s) (quanta_at s.min_exp m e) i → s.min_exp ≤ℤ e

@@ -1,6 +1,6 @@
 -- The value and the status that are delivered for a pick.
 use Rattle.std.proofs.Common.{◌≡◌, ℕ, ◌+◌, ◌-◌, ◌*◌, ◌%◌, ◌^◌, ◌<◌, ◌≤◌, ◌⊎◌, Bool, true, false, cond, ltb, eqb, sym, refl, ap, ◌∙◌, subst, inl, inr, ⊎_elim, arith}
-use Rattle.std.proofs.Math.Nat.{mul-le-mul_right, mul-le-mul_left, pow-le-pow_right, mul-pos}
+use Rattle.std.proofs.Math.Nat.{mul-le-mul_right, mul-le-mul_left, pow-le-pow_right, mul-pos, mul_assoc}
 use Rattle.std.proofs.lemmas.Nat.{pow_pos}
 use Rattle.std.proofs.lemmas.Bool.{cases_lt, lt-ltb, le-ltb, eq-eqb, ne_eqb}
 use Rattle.apfloat_base.specs.declared.kinds.Round.{Round}
@@ -15,6 +15,7 @@ use Rattle.apfloat_base.specs.rounding.Rounding.{IsPick, IsDelivered, past_large
 use Rattle.apfloat_base.proofs.Picks.{kept, pick_is, pick_unique}
 use Rattle.apfloat_base.proofs.Existence.{two_pos}
 use Rattle.apfloat_base.proofs.Losses.{stands_past, stands_to}
+use Rattle.apfloat_base.proofs.Choices.{off_both}
 
 pub four : (precision : ℕ) → 3 ≤ precision → 4 ≤ 2 ^ (precision - 1)
 four precision h =
@@ -76,11 +77,6 @@ exact_if precision mode negative half m c amount parts p loss z l i h x =
     (pick_is precision mode negative half m c amount parts ExactlyZero l i h') in
     ap (λ (y : ℕ). y * parts) e ∙ omega (arith, h')
 
-off_if : (b : Bool) (m c amount parts : ℕ) → m * (2 ^ c * parts) < amount → amount < (m + 1) * (2 ^ c * parts)
-    → cond b (m + 1) m * 2 ^ c * parts ≡ amount → ⊥
-off_if true m c amount parts l k e = omega arith
-off_if false m c amount parts l k e = omega arith
-
 pub inexact_if : (precision : ℕ) (mode : Round) (negative : Bool) (half m c amount parts p : ℕ) (loss : Loss)
     → (loss ≡ ExactlyZero → ⊥) → 0 < parts → IsEnclosed precision half m c amount parts
     → StandsFor m loss amount (2 ^ c * parts) → IsPick precision mode negative amount parts p → p * parts ≡ amount
@@ -90,9 +86,10 @@ inexact_if precision mode negative half m c amount parts p loss n l i h x q =
     let e : p ≡ kept mode negative loss m * 2 ^ c =
     pick_unique precision mode negative amount parts p (kept mode negative loss m * 2 ^ c) x
     (pick_is precision mode negative half m c amount parts loss l i h) in
-    off_if (rounds_up mode negative loss (eqb (m % 2) 1)) m c amount parts
+    let s : kept mode negative loss m * 2 ^ c * parts ≡ amount = ap (λ (y : ℕ). y * parts) (sym e) ∙ q in
+    off_both (rounds_up mode negative loss (eqb (m % 2) 1)) m amount (2 ^ c * parts)
     (stands_past m loss amount (2 ^ c * parts) u n h) (stands_to m loss amount (2 ^ c * parts) u h)
-    (ap (λ (y : ℕ). y * parts) (sym e) ∙ q)
+    (sym (mul_assoc (kept mode negative loss m) (2 ^ c) parts) ∙ s)
 
 -- ---- tiny
 

@@ -5,6 +5,7 @@ use Rattle.std.specs.Bool.{MatchBool}
 use Rattle.std.specs.Option.{unwrap_or}
 use Rattle.std.proofs.lemmas.Nat.{pow_pos}
 use Rattle.std.proofs.lemmas.Int.{ints}
+use Rattle.std.proofs.lemmas.Option.{none-some}
 use Rattle.apfloat_base.specs.declared.parse_error.Fault.{Fault}
 use Rattle.apfloat_base.specs.declared.kinds.Round.{Round}
 use Rattle.apfloat_base.specs.declared.parse_error.ParseError.{ParseError}
@@ -32,7 +33,7 @@ use Rattle.apfloat_base.specs.Determined.{Determines, DeterminesBoth, AreOneRead
 use Rattle.apfloat_base.proofs.Once.{Once, answer_once, rounded_once, sum_once, difference_once, product_once, quotient_once, scaling_once, from_unsigned_once, from_signed_once, round_to_integral_once, whole_once, remainder_once, next_up_once, next_down_once}
 use Rattle.apfloat_base.proofs.EncodedOnce.{encoded_once}
 use Rattle.apfloat_base.proofs.Inverses.{logarithm_once, fraction_once, inverse_once}
-use Rattle.apfloat_base.proofs.OneMeaning.{one_meaning, meaning_no_fault, none_is_not_some}
+use Rattle.apfloat_base.proofs.OneMeaning.{one_meaning, meaning_no_fault}
 
 -- an answer is its value and the bits of its status
 pub same_answer : {A : Type 0} (r s : StatusAnd A) → r.value ≡ s.value → bits_of r.status ≡ bits_of s.status → r ≡ s
@@ -129,7 +130,7 @@ refusal_once text r s h k =
 pub reading_or_refusal : (f : Format) (mode : Round) (text said : List ℕ) (v : Datum) (s : ℕ)
     → IsReading f mode text v s → IsRefusal text said → ⊥
 reading_or_refusal f mode text said v s h k =
-    none_is_not_some (sym (meaning_no_fault text h.meaning h.means) ∙ k.is_first)
+    none-some _ (sym (meaning_no_fault text h.meaning h.means) ∙ k.is_first)
 
 pub read_once : (f : Format) (mode : Round) (text : List ℕ) (answer other : Result (StatusAnd Datum) ParseError)
     → IsRead f mode text answer → IsRead f mode text other → AreOneReading answer other

@@ -1,27 +1,16 @@
 -- The significands that operations give NaNs are significands of NaNs.
 use Rattle.std.proofs.Common.{◌≡◌, ◌≢◌, ℕ, ◌+◌, ◌-◌, ◌*◌, ◌/◌, ◌^◌, ◌<◌, ◌≤◌, Bool, true, false, sym, refl, ap, ◌∙◌, subst, arith, if◌then◌else◌, eqb}
-use Rattle.std.specs.Prelude.{⊤, bit_and, bit_or}
+use Rattle.std.specs.Prelude.{bit_and, bit_or}
 use Rattle.std.specs.Int.Bits.{or_zero_r, or_zero_l, and_zero_r, and_zero_l}
 use Rattle.std.proofs.lemmas.Nat.{pow_pos, or_lt, le_or_l, le_or_r, and_le_r, and_or_self, pow_apart, and_mask, pow-add}
+use Rattle.std.proofs.lemmas.Bool.{eqb-false}
 use Rattle.std.proofs.Math.Nat.{mod_self, pos_of_ne-zero}
 use Rattle.apfloat_base.specs.declared.kinds.NonfiniteBehavior.{NonfiniteBehavior}
 use Rattle.apfloat_base.specs.declared.kinds.NonfiniteBehavior.TheVariants.{IEEE754, NanOnly, NanNegativeZero}
 use Rattle.apfloat_base.specs.formats.Format.{Format, nan_base_of, payload_mask_of, quiet_bits_of}
 use Rattle.apfloat_base.specs.formats.Members.{IsNanSignificand}
 use Rattle.apfloat_base.specs.formats.Nan.{quiet_bit_of, quiet_significand, signaling_significand}
-
-truth : Bool → Type 0
-truth true = ⊤
-truth false = ⊥
-
-true_false : true ≡ false → ⊥
-unfolding truth
-true_false e = subst truth e tt
-
-if_case : {A : Type 0} (P : A → Type 0) {x y : A} (b : Bool) → (b ≡ true → P x) → (b ≡ false → P y)
-    → P (if b then x else y)
-if_case P true l r = l refl
-if_case P false l r = r refl
+use Rattle.apfloat_base.proofs.Choices.{if_case}
 
 twice : (p : ℕ) → 3 ≤ p
     → (2 ^ (p - 1) ≡ 2 * 2 ^ (p - 2)) × (2 ^ p ≡ 4 * 2 ^ (p - 2)) × (2 ^ (p - 2) ≡ 2 * 2 ^ (p - 3))
@@ -81,7 +70,7 @@ pub quiet_member : (f : Format) (payload : ℕ) → 3 ≤ f.precision
 quiet_member f payload h = quiet_kinds f.nonfinite f.explicit_integer_bit f.precision payload h
 
 lit_apart : {A : Type 0} (n : ℕ) → n ≡ 0 → eqb n 0 ≡ false → A
-lit_apart n z e = absurd (true_false (ap (λ (x : ℕ). eqb x 0) (sym z) ∙ e))
+lit_apart n z e = absurd (eqb-false n 0 e z)
 
 less_nothing : (q : ℕ) → q - bit_and q 0 ≡ q
 less_nothing q = let e : bit_and q 0 ≡ 0 = and_zero_r q in omega (arith, e)

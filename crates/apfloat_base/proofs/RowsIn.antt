@@ -14,7 +14,7 @@ use Rattle.apfloat_base.specs.bits.Layout.{datum_of}
 use Rattle.apfloat_base.specs.formats.Lawful.{Constants, format_with, layout_with}
 use Rattle.apfloat_base.specs.formats.Formats.{half_constants, single_constants, e5m2_constants, e4m3fn_constants, e4m3fnuz_constants}
 use Rattle.apfloat_base.proofs.Neighbours.{below_is, above_is_same, above_is_next}
-use Rattle.apfloat_base.proofs.Picks.{cond_same}
+use Rattle.apfloat_base.proofs.Choices.{cond_same}
 
 -- ---- formats, and the values that bits stand for in them
 

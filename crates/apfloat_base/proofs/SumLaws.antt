@@ -155,9 +155,10 @@ nearby f mode x y v s hx hy h = λ m n p q sm sn a b.
 abbrev at : Bool → Bool → Bool → ℕ → ℕ → Datum
 at past out negative top p = cond past (cond out (infinite negative) (finite negative top)) (finite negative p)
 
-signed_is : (negative : Bool) (p : ℕ) → signed_quanta IEEE754 negative p ≡ finite negative p
-signed_is negative zero = refl
-signed_is negative (suc n) = let e : eqb (suc n) 0 ≡ false = ne_eqb (suc n) 0 (λ z. omega arith) in rw e refl
+-- with infinities each zero keeps its sign
+pub signed_quanta_is : (negative : Bool) (p : ℕ) → signed_quanta IEEE754 negative p ≡ finite negative p
+signed_quanta_is negative zero = refl
+signed_quanta_is negative (suc n) = let e : eqb (suc n) 0 ≡ false = ne_eqb (suc n) 0 (λ z. omega arith) in rw e refl
 
 value_is : (f : Format) (mode : Round) (negative : Bool) (p : ℕ) → f.nonfinite ≡ IEEE754
     → delivered_value f mode negative p ≡ at (ltb (largest f) p) (leads_out mode negative) negative (largest f) p
@@ -166,7 +167,7 @@ value_is f mode negative p e =
     (cond (leads_out mode negative) (past_largest k (nan_base f) negative) (finite negative (largest f)))
     (signed_quanta k negative p)) e
     ∙ ap (λ (v : Datum). cond (ltb (largest f) p)
-    (cond (leads_out mode negative) (infinite negative) (finite negative (largest f))) v) (signed_is negative p)
+    (cond (leads_out mode negative) (infinite negative) (finite negative (largest f))) v) (signed_quanta_is negative p)
 
 up_grows : (b d out : Bool) (top p q : ℕ) → ltb top p ≡ b → ltb top q ≡ d → p ≤ q
     → AtMost (at b out false top p) (at d out false top q)

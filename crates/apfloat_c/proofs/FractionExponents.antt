@@ -13,14 +13,7 @@ use Rattle.rustc_apfloat.specs.Lawful.{Constants, IsLawful, format_with}
 use Rattle.rustc_apfloat.specs.Members.{IsMember}
 use Rattle.apfloat_base.proofs.Existence.{two_pos}
 use Rattle.apfloat_base.proofs.FarMagnitudes.{largest_below}
-
--- a lesser power has a lesser exponent
-place_below : (a b : ℕ) → 2 ^ a < 2 ^ b → a < b
-place_below a b less =
-    ⊎_elim
-    (λ (c : a < b). c)
-    (λ (c : b ≤ a). let k : 2 ^ b ≤ 2 ^ a = pow-le-pow_right two_pos c in absurd (omega arith))
-    (cases_lt a b)
+use Rattle.apfloat_base.proofs.Powers.{exponent_below}
 
 -- the exponent of a fraction of some quanta is above -scale, and below the exponent that is past all numbers
 magnitude_below : (f : Format) (b : Bool) (n : ℕ) (value : Datum) (e : ℤ) → 0 < n → n ≤ largest f
@@ -32,14 +25,14 @@ magnitude_below f b n value (pos k) some within x =
     let same : n * 2 ^ 0 ≡ x.fraction * 2 ^ k = x.same in
     let past : largest f < 2 ^ (f.precision + f.span) = largest_below f in
     let less : 2 ^ k < 2 ^ (f.precision + f.span) = omega arith in
-    let k_below : k < f.precision + f.span = place_below k (f.precision + f.span) less in
+    let k_below : k < f.precision + f.span = exponent_below k (f.precision + f.span) less in
     omega arith
 magnitude_below f b n value (negsuc k) some within x =
     let more : 1 * 2 ^ suc k ≤ n * 2 ^ suc k = mul-le-mul_right (2 ^ suc k) some in
     let same : n * 2 ^ suc k ≡ x.fraction * 2 ^ 0 = x.same in
     let high : x.fraction < 2 ^ f.scale = x.high in
     let less : 2 ^ suc k < 2 ^ f.scale = omega arith in
-    let k_below : suc k < f.scale = place_below (suc k) f.scale less in
+    let k_below : suc k < f.scale = exponent_below (suc k) f.scale less in
     omega arith
 
 -- the constants of a lawful format are far below 2 ^ 31

@@ -20,6 +20,7 @@ use Rattle.apfloat_base.proofs.Losses.{stands_to, stands_past, twice_half}
 use Rattle.apfloat_base.proofs.KeptDigits.{stands_cancel}
 use Rattle.apfloat_base.proofs.Picks.{kept, takes_less, takes_half, takes_more}
 use Rattle.apfloat_base.proofs.SingleScalings.{scaled_stands}
+use Rattle.apfloat_base.proofs.Choices.{off_both}
 
 whole_odd : (q : ℕ) → eqb (q / (q + 1 - q) % 2) 1 ≡ eqb (q % 2) 1
 whole_odd q =
@@ -75,11 +76,6 @@ pub exactly_so : (mode : Round) (negative : Bool) (q amount parts : ℕ) → 0 <
 exactly_so mode negative q amount parts p e =
     let w = whole_exactly mode negative q amount parts p e in
     sym (eq-eqb (whole_pick mode negative amount parts * parts) amount (ap (λ (x : ℕ). x * parts) w ∙ sym e))
-
-off_both : (b : Bool) (q amount parts : ℕ) → q * parts < amount → amount < (q + 1) * parts
-    → cond b (q + 1) q * parts ≡ amount → ⊥
-off_both true q amount parts l k e = omega arith
-off_both false q amount parts l k e = omega arith
 
 pub inexactly_so : (mode : Round) (negative : Bool) (q amount parts : ℕ) (loss : Loss) → 0 < parts
     → (loss ≡ ExactlyZero → ⊥) → StandsFor q loss amount parts

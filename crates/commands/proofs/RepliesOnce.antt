@@ -11,6 +11,7 @@ use Rattle.rustc_apfloat.specs.Texts.{Means}
 use Rattle.rustc_apfloat.specs.Readings.{IsMeant, IsReading, IsRefusal}
 use Rattle.apfloat_base.proofs.Once.{Once, answer_once, rounded_once, sum_once, difference_once, product_once, quotient_once, fused_sum_once, remainder_once, from_unsigned_once}
 use Rattle.apfloat_base.proofs.OneMeaning.{meaning_no_fault, one_meaning}
+use Rattle.apfloat_base.proofs.Determined.{reading_once}
 use Rattle.commands.specs.declared.operation.Arithmetic.{Arithmetic}
 use Rattle.commands.specs.declared.operation.Arithmetic.TheVariants.{Sum, Difference, Product, Quotient, NearestRemainder, TruncatedRemainder}
 use Rattle.commands.specs.Commands.{Kind, of_format, bits_in, Call, of_two, fused_sum, from_whole_number, from_text, bits_of_word, requested, whole_number_of, with_text, with_three, with_two, with_whole_number}
@@ -26,16 +27,6 @@ of_two_once Product f mode x y = product_once f mode x y
 of_two_once Quotient f mode x y = quotient_once f mode x y
 of_two_once NearestRemainder f mode x y = remainder_once f _ x y
 of_two_once TruncatedRemainder f mode x y = remainder_once f _ x y
-
-meant_once : (f : Format) (mode : Round) (meaning : Meaning) → Once (IsMeant f mode meaning)
-meant_once f mode (infinity negative) = answer_once _ _
-meant_once f mode (not_a_number negative signaling payload) = answer_once _ _
-meant_once f mode (hexadecimal negative h places e) = rounded_once f mode _ _ _
-
-reading_once : (f : Format) (mode : Round) (text : List ℕ) → Once (IsReading f mode text)
-reading_once f mode text v w r s x y =
-    let same = one_meaning text x.meaning y.meaning x.means y.means in
-    meant_once f mode y.meaning v w r s (subst (λ m. IsMeant f mode m v r) same x.is_meant) y.is_meant
 
 call_once : (call : Call) (c : Constants) (mode : Round) → Once (IsAnswerOf call c mode)
 call_once (of_two arithmetic x y) c mode = of_two_once arithmetic (format_with c) mode (value_of c x) (value_of c y)

@@ -17,10 +17,10 @@ use Rattle.apfloat_base.specs.formats.Members.{IsMember}
 use Rattle.apfloat_base.specs.arithmetic.Scaling.{IsScaling}
 use Rattle.apfloat_base.proofs.Existence.{two_pos}
 use Rattle.apfloat_base.proofs.Signs.{one_side}
+use Rattle.apfloat_base.proofs.Choices.{match_true}
 use Rattle.apfloat_pairs.specs.PairFormats.{double}
 use Rattle.apfloat_pairs.specs.Pairs.{Pair}
 use Rattle.apfloat_pairs.specs.PairParts.{IsPairFraction}
-use Rattle.rustc_apfloat.proofs.PairSteps.{match_true}
 
 -- ---- the exponent of a fraction
 
