@@ -28,8 +28,8 @@ or_no_power s i j apart e =
     let z : 0 < 2 ^ j = pow_pos j in
     omega (arith, a, pow_apart i j apart, z)
 
-pub or_member : (k : NonfiniteBehavior) (e : Bool) (p s : ℕ) → 3 ≤ p → IsNanSignificand k e p s
-    → IsNanSignificand k e p (bit_or s (quiet_bit_of k p))
+pub or_member : (kind : NonfiniteBehavior) (e : Bool) (p s : ℕ) → 3 ≤ p → IsNanSignificand kind e p s
+    → IsNanSignificand kind e p (bit_or s (quiet_bit_of kind p))
 or_member IEEE754 false p s h (some, below) =
     let t = twice p h in let g = le_or_l s (2 ^ (p - 2)) in
     let l : 2 ^ (p - 2) < 2 ^ (p - 1) = omega (arith, t) in
@@ -41,9 +41,9 @@ or_member IEEE754 true p s h (below, other) =
 or_member NanOnly e p s h m = rw (or_zero_r s) m
 or_member NanNegativeZero e p s h m = rw (or_zero_r s) m
 
-quiet_kinds : (k : NonfiniteBehavior) (e : Bool) (p payload : ℕ) → 3 ≤ p
-    → IsNanSignificand k e p (bit_or (bit_or (nan_base_of k p) (quiet_bits_of k e p))
-    (bit_and payload (payload_mask_of k p)))
+quiet_kinds : (kind : NonfiniteBehavior) (e : Bool) (p payload : ℕ) → 3 ≤ p
+    → IsNanSignificand kind e p (bit_or (bit_or (nan_base_of kind p) (quiet_bits_of kind e p))
+    (bit_and payload (payload_mask_of kind p)))
 quiet_kinds IEEE754 false p payload h =
     let t = twice p h in
     let q : bit_or 0 (2 ^ (p - 2)) ≡ 2 ^ (p - 2) = or_zero_l (2 ^ (p - 2)) in
@@ -65,9 +65,9 @@ quiet_kinds NanOnly e p payload h = let b = nan_base_of NanOnly p in
     rw (and_zero_r payload) rw (or_zero_r (bit_or b 0)) rw (or_zero_r b) refl
 quiet_kinds NanNegativeZero e p payload h = rw (and_zero_r payload) refl
 
-pub quiet_member : (f : Format) (payload : ℕ) → 3 ≤ f.precision
-    → IsNanSignificand f.nonfinite f.explicit_integer_bit f.precision (quiet_significand f payload)
-quiet_member f payload h = quiet_kinds f.nonfinite f.explicit_integer_bit f.precision payload h
+pub quiet_member : (format : Format) (payload : ℕ) → 3 ≤ format.precision
+    → IsNanSignificand format.nonfinite format.explicit_integer_bit format.precision (quiet_significand format payload)
+quiet_member format payload h = quiet_kinds format.nonfinite format.explicit_integer_bit format.precision payload h
 
 lit_apart : {A : Type 0} (n : ℕ) → n ≡ 0 → eqb n 0 ≡ false → A
 lit_apart n z e = absurd (eqb-false n 0 e z)
@@ -78,9 +78,10 @@ less_nothing q = let e : bit_and q 0 ≡ 0 = and_zero_r q in omega (arith, e)
 or_nothing : (q : ℕ) → bit_or (q - bit_and q 0) (0 / 2) ≡ q
 or_nothing q = ap (λ (x : ℕ). bit_or x 0) (less_nothing q) ∙ or_zero_r q
 
-signaling_kinds : (k : NonfiniteBehavior) (e : Bool) (p q : ℕ) → 3 ≤ p → IsNanSignificand k e p q →
-    IsNanSignificand k e p (let c = q - bit_and q (quiet_bit_of k p) in if eqb (bit_and c (payload_mask_of k p)) 0
-    then bit_or c (quiet_bit_of k p / 2) else c)
+signaling_kinds : (kind : NonfiniteBehavior) (e : Bool) (p q : ℕ) → 3 ≤ p → IsNanSignificand kind e p q →
+    IsNanSignificand kind e p (let c = q - bit_and q (quiet_bit_of kind p) in
+    if eqb (bit_and c (payload_mask_of kind p)) 0
+    then bit_or c (quiet_bit_of kind p / 2) else c)
 signaling_kinds IEEE754 false p q h (some, below) =
     let t = twice p h in
     let c = q - bit_and q (2 ^ (p - 2)) in
@@ -122,8 +123,9 @@ signaling_kinds NanNegativeZero e p q h m =
     (λ _. subst (λ (x : ℕ). IsNanSignificand NanNegativeZero e p x) (sym (or_nothing q)) m)
     (λ _. subst (λ (x : ℕ). IsNanSignificand NanNegativeZero e p x) (sym (less_nothing q)) m)
 
-pub signaling_member : (f : Format) (payload : ℕ) → 3 ≤ f.precision
-    → IsNanSignificand f.nonfinite f.explicit_integer_bit f.precision (signaling_significand f payload)
-signaling_member f payload h =
-    signaling_kinds f.nonfinite f.explicit_integer_bit f.precision (quiet_significand f payload) h
-    (quiet_member f payload h)
+pub signaling_member : (format : Format) (payload : ℕ) → 3 ≤ format.precision
+    → IsNanSignificand format.nonfinite format.explicit_integer_bit format.precision
+    (signaling_significand format payload)
+signaling_member format payload h =
+    signaling_kinds format.nonfinite format.explicit_integer_bit format.precision (quiet_significand format payload) h
+    (quiet_member format payload h)

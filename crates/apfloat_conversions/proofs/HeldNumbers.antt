@@ -48,69 +48,82 @@ higher a g h m n k p q l f r e =
 abbrev finer : Shape → Shape → ℕ
 finer s t = (format_at t).scale - (format_at s).scale
 
-held_within : (s t : Shape) (a : ℕ) → IsShape s → IsShape t → IsHeld s t → a ≤ largest (format_at s)
-    → a * 2 ^ finer s t ≤ largest (format_at t)
-held_within s t a from into h l =
-    let x = scale_is s from in
-    let y = scale_is t into in
-    let u = span_is s from in
-    let v = span_is t into in
+held_within : (source target : Shape) (a : ℕ) → IsShape source → IsShape target → IsHeld source target
+    → a ≤ largest (format_at source)
+    → a * 2 ^ finer source target ≤ largest (format_at target)
+held_within source target a from into h l =
+    let x = scale_is source from in
+    let y = scale_is target into in
+    let u = span_is source from in
+    let v = span_is target into in
     let f = h.fine in
     let p = h.precise in
     ⊎_elim
-    (λ o. higher a (greatest_significand s.nonfinite s.precision) (greatest_significand t.nonfinite t.precision)
-    (format_at s).span (format_at t).span (finer s t) s.precision (t.precision - 1)
-    l (greatest_fits s.nonfinite s.precision) (greatest_full t.nonfinite t.precision into.precision_low)
+    (λ o. higher a (greatest_significand source.nonfinite source.precision)
+    (greatest_significand target.nonfinite target.precision)
+    (format_at source).span (format_at target).span (finer source target) source.precision (target.precision - 1)
+    l (greatest_fits source.nonfinite source.precision)
+    (greatest_full target.nonfinite target.precision into.precision_low)
     (omega (arith, ints, into.precision_low)))
-    (λ (o : IsReachedLevel s t). level a (greatest_significand s.nonfinite s.precision)
-    (greatest_significand t.nonfinite t.precision) (format_at s).span (format_at t).span (finer s t)
-    (t.precision - s.precision)
+    (λ (o : IsReachedLevel source target). level a (greatest_significand source.nonfinite source.precision)
+    (greatest_significand target.nonfinite target.precision)
+    (format_at source).span (format_at target).span (finer source target)
+    (target.precision - source.precision)
     l o.significands (let e = o.exponents in omega (arith, ints)))
     h.reached
 
 -- ---- a number
 
-held_quanta : (s t : Shape) (m : ℕ) (e : ℤ) → IsShape s → IsShape t → IsHeld s t → IsNormal s m e
-    → IsQuantaAt t.min_exp (m * 2 ^ (t.precision - s.precision)) e (quanta_at s.min_exp m e * 2 ^ finer s t)
-held_quanta s t m e from into h n =
-    let x = scale_is s from in
-    let y = scale_is t into in
+held_quanta : (source target : Shape) (m : ℕ) (e : ℤ) → IsShape source → IsShape target → IsHeld source target
+    → IsNormal source m e
+    → IsQuantaAt target.min_exp (m * 2 ^ (target.precision - source.precision)) e
+    (quanta_at source.min_exp m e * 2 ^ finer source target)
+held_quanta source target m e from into h n =
+    let x = scale_is source from in
+    let y = scale_is target into in
     let f = h.fine in
     let p = h.precise in
-    let b : up (e -ℤ s.min_exp) + finer s t + down (e -ℤ t.min_exp)
-    ≡ down (e -ℤ s.min_exp) + (t.precision - s.precision) + up (e -ℤ t.min_exp) =
+    let b : up (e -ℤ source.min_exp) + finer source target + down (e -ℤ target.min_exp)
+    ≡ down (e -ℤ source.min_exp) + (target.precision - source.precision) + up (e -ℤ target.min_exp) =
     omega (arith, ints, from.precision_low) in
-    let q = scaled_stands m (quanta_at s.min_exp m e) (down (e -ℤ s.min_exp)) (up (e -ℤ s.min_exp)) (finer s t)
-    (t.precision - s.precision) (up (e -ℤ t.min_exp)) (down (e -ℤ t.min_exp)) n.whole b in
+    let q = scaled_stands m (quanta_at source.min_exp m e) (down (e -ℤ source.min_exp)) (up (e -ℤ source.min_exp))
+    (finer source target)
+    (target.precision - source.precision) (up (e -ℤ target.min_exp)) (down (e -ℤ target.min_exp)) n.whole b in
     omega (arith, q)
 
-pub held_normal : (s t : Shape) (m : ℕ) (e : ℤ) → IsShape s → IsShape t → IsHeld s t → IsNormal s m e
-    → IsNormal t (m * 2 ^ (t.precision - s.precision)) e
-held_normal s t m e from into h n =
-    let q = held_quanta s t m e from into h n in
-    let x = scale_is s from in
-    let y = scale_is t into in
+pub held_normal : (source target : Shape) (m : ℕ) (e : ℤ) → IsShape source → IsShape target → IsHeld source target
+    → IsNormal source m e
+    → IsNormal target (m * 2 ^ (target.precision - source.precision)) e
+held_normal source target m e from into h n =
+    let q = held_quanta source target m e from into h n in
+    let x = scale_is source from in
+    let y = scale_is target into in
     let f = h.fine in
     let p = h.precise in
     record {
       operand = record {
-        fits = fits_shifted m s.precision (t.precision - s.precision) t.precision n.operand.fits (omega arith);
-        full = full_shifted m s.precision (t.precision - s.precision) t.precision
+        fits = fits_shifted m source.precision (target.precision - source.precision) target.precision n.operand.fits
+        (omega arith);
+        full = full_shifted m source.precision (target.precision - source.precision) target.precision
             (omega (arith, from.precision_low)) (λ _. n.operand.full) (omega arith);
         least = omega (arith, ints, n.operand.least, from.precision_low);
         greatest =
             ⊎_elim (λ o. omega (arith, ints, n.operand.greatest))
-            (λ (o : IsReachedLevel s t). let w = o.exponents in omega (arith, ints, n.operand.greatest)) h.reached;
+            (λ (o : IsReachedLevel source target). let w = o.exponents in omega (arith, ints, n.operand.greatest))
+            h.reached;
       };
-      whole = whole_is t.min_exp (m * 2 ^ (t.precision - s.precision)) e _ q;
-      within = rw (quanta_is t.min_exp (m * 2 ^ (t.precision - s.precision)) e _ q)
-          (held_within s t (quanta_at s.min_exp m e) from into h n.within);
+      whole = whole_is target.min_exp (m * 2 ^ (target.precision - source.precision)) e _ q;
+      within = rw (quanta_is target.min_exp (m * 2 ^ (target.precision - source.precision)) e _ q)
+          (held_within source target (quanta_at source.min_exp m e) from into h n.within);
     }
 
-pub held_quanta_are : (s t : Shape) (m : ℕ) (e : ℤ) → IsShape s → IsShape t → IsHeld s t → IsNormal s m e
-    → quanta_at t.min_exp (m * 2 ^ (t.precision - s.precision)) e ≡ quanta_at s.min_exp m e * 2 ^ finer s t
-held_quanta_are s t m e from into h n =
-    quanta_is t.min_exp (m * 2 ^ (t.precision - s.precision)) e _ (held_quanta s t m e from into h n)
+pub held_quanta_are : (source target : Shape) (m : ℕ) (e : ℤ) → IsShape source → IsShape target → IsHeld source target
+    → IsNormal source m e
+    → quanta_at target.min_exp (m * 2 ^ (target.precision - source.precision)) e
+    ≡ quanta_at source.min_exp m e * 2 ^ finer source target
+held_quanta_are source target m e from into h n =
+    quanta_is target.min_exp (m * 2 ^ (target.precision - source.precision)) e _
+    (held_quanta source target m e from into h n)
 
 -- the shift loses no digit
 pub held_shift : (s t m : ℕ) → s ≤ t → t ≤ 125 → m < 2 ^ s → m * 2 ^ (t - s) % 2 ^ 128 ≡ m * 2 ^ (t - s)
@@ -126,14 +139,17 @@ quantum_finer a k p q l e =
     let t : 2 ^ q ≡ 2 ^ k * 2 ^ p = ap (λ (x : ℕ). 2 ^ x) (omega arith) ∙ pow-add 2 k p in
     ap (λ (x : ℕ). a * x) t ∙ omega arith
 
-pub held_converted : (f g : Format) (mode : Round) (b : Bool) (a : ℕ) (v : Datum) (status : ℕ) → f.scale ≤ g.scale
-    → 0 < a → v ≡ finite b (a * 2 ^ (g.scale - f.scale))
-    → IsFiniteOf g b (a * 2 ^ (g.scale - f.scale)) → status ≡ ok_bits → IsConvertedNumber f g mode b a v status false
-held_converted f g mode b a v status l p d t s =
-    let o : 0 < a * 2 ^ (g.scale - f.scale) = mul-pos p (pow_pos (g.scale - f.scale)) in
+pub held_converted : (from into : Format) (mode : Round) (b : Bool) (a : ℕ) (v : Datum) (status : ℕ)
+    → from.scale ≤ into.scale
+    → 0 < a → v ≡ finite b (a * 2 ^ (into.scale - from.scale))
+    → IsFiniteOf into b (a * 2 ^ (into.scale - from.scale)) → status ≡ ok_bits
+    → IsConvertedNumber from into mode b a v status false
+held_converted from into mode b a v status l p d t s =
+    let o : 0 < a * 2 ^ (into.scale - from.scale) = mul-pos p (pow_pos (into.scale - from.scale)) in
     record {
-      is_delivered = rw (d, s, ← signed_some g.nonfinite b (a * 2 ^ (g.scale - f.scale)) o)
-          (exact_delivered g mode b (a * 2 ^ (g.scale - f.scale)) (a * 2 ^ g.scale) (2 ^ f.scale) (pow_pos f.scale)
-          t.on_grid t.within (quantum_finer a (g.scale - f.scale) f.scale g.scale l refl));
+      is_delivered = rw (d, s, ← signed_some into.nonfinite b (a * 2 ^ (into.scale - from.scale)) o)
+          (exact_delivered into mode b (a * 2 ^ (into.scale - from.scale)) (a * 2 ^ into.scale) (2 ^ from.scale)
+          (pow_pos from.scale)
+          t.on_grid t.within (quantum_finer a (into.scale - from.scale) from.scale into.scale l refl));
       loses_is = rw s refl;
     }

@@ -1,7 +1,6 @@
 -- Signed whole numbers and pairs, by the unsigned ones of magnitudes.
 use Rattle.std.proofs.Common.{◌≡◌, ℕ, zero, suc, ◌-◌, ◌<◌, Bool, true, false, refl, subst, arith}
 use Rattle.std.specs.Prelude.{ℤ, pos, neg_ℤ, int_lt}
-use Rattle.std.specs.Bool.{MatchBool}
 use Rattle.std.proofs.lemmas.Int.{ints}
 use Rattle.apfloat_base.specs.declared.kinds.Round.{Round}
 use Rattle.apfloat_base.specs.rounding.Negation.{swapped}

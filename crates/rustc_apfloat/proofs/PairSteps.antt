@@ -75,8 +75,9 @@ infinities_of_one_sign x y answer status first second a b e v s =
     sym (same_beq first second) ∙ e)
     (record { answer_is = v; status_is = s })
 
--- ---- the sum taken anew: the greater high part and the lesser, and the sum from the low parts on, with the flags so far
+-- ---- the sum taken anew
 
+-- the greater high part and the lesser, and the sum from the low parts on, with the flags so far
 pub record IsOpenedAnew (mode : Round) (x y : Pair) (big small z : Datum) (flags : ℕ) : Type 0 where
   pub lows : Datum
   pub with_lesser : Datum
