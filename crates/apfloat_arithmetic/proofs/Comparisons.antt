@@ -119,8 +119,8 @@ near_end false true e = cc
 near_end false false e = cc
 
 -- beside a number that is not zero stands only one of its sign
-number_beside : (k : Category) (shape : Shape) (y : Unpacked) (b : Bool) → IsStoredBy k shape y
-    → number_side b ≡ side (datum_by k shape y) → (k ≡ Normal) × (y.negative ≡ b)
+number_beside : (category : Category) (shape : Shape) (y : Unpacked) (b : Bool) → IsStoredBy category shape y
+    → number_side b ≡ side (datum_by category shape y) → (category ≡ Normal) × (y.negative ≡ b)
 number_beside Normal shape y b h e =
     let q = some_side y.negative _ (quanta_some shape y.significand y.exponent h) in
     (refl, one_sign b y.negative (e ∙ sym q))

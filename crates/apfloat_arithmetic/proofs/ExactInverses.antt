@@ -1,9 +1,8 @@
 -- Exact inverses of stored numbers.
-use Rattle.std.proofs.Common.{refl, sym, ap, subst, ◌∙◌, ◌≡◌, ℕ, ◌+◌, ◌-◌, ◌*◌, ◌^◌, ◌<◌, ◌≤◌, ℤ, pos, ◌-ℤ◌, ◌≤ℤ◌, to_z, of_z, w32, Bool, ⊎_elim, arith}
+use Rattle.std.proofs.Common.{refl, sym, ap, subst, ◌∙◌, ◌≡◌, ℕ, ◌+◌, ◌-◌, ◌*◌, ◌^◌, ◌<◌, ◌≤◌, ℤ, pos, ◌-ℤ◌, ◌≤ℤ◌, to_z, of_z, w32, Bool, arith}
 use Rattle.std.specs.Prelude.{neg_ℤ, unsigned_abs, Option, Some, None}
 use Rattle.std.proofs.Math.Nat.{mul-le-mul_left, mul-le-mul_right, mul-lt-mul_of_pos_right, pow-le-pow_right, mul-pos}
 use Rattle.std.proofs.lemmas.Nat.{pow_pos, pow-add}
-use Rattle.std.proofs.lemmas.Bool.{cases_lt}
 use Rattle.std.proofs.lemmas.Int.{ints, by_lt_z, to_z-of_z}
 use borrow.Author.Differences.{fits_in}
 use Rattle.apfloat_base.specs.arithmetic.Exact.{up, down}
@@ -12,7 +11,7 @@ use Rattle.apfloat_base.specs.arithmetic.Exponents.{AreInverse, IsExactInverse}
 use Rattle.apfloat_base.specs.formats.Datum.{finite}
 use Rattle.apfloat_base.proofs.Existence.{two_pos}
 use Rattle.apfloat_base.proofs.Greatest.{greatest_fits, greatest_full}
-use Rattle.apfloat_base.proofs.Powers.{pow3, pow22, twice_power}
+use Rattle.apfloat_base.proofs.Powers.{pow3, pow22, exponent_at_most, exponent_below}
 use Rattle.apfloat_unpacked.specs.declared.shape.Shape.{Shape}
 use Rattle.apfloat_unpacked.specs.declared.unpacked.Unpacked.{Unpacked}
 use Rattle.apfloat_unpacked.specs.Shapes.{IsShape, format_at}
@@ -29,30 +28,31 @@ abbrev pub steps_of : Shape → ℤ → ℕ
 steps_of s e = unsigned_abs (e -ℤ s.min_exp)
 
 -- a significand at an exponent that is not below the least
-pub whole_from : (s : Shape) (m : ℕ) (e : ℤ) → s.min_exp ≤ℤ e → IsQuantaAt s.min_exp m e (m * 2 ^ steps_of s e)
-whole_from s m e l =
-    let a = above_zero (e -ℤ s.min_exp) (steps_of s e) (omega (arith, ints)) in
+pub whole_from : (shape : Shape) (m : ℕ) (e : ℤ) → shape.min_exp ≤ℤ e
+    → IsQuantaAt shape.min_exp m e (m * 2 ^ steps_of shape e)
+whole_from shape m e l =
+    let a = above_zero (e -ℤ shape.min_exp) (steps_of shape e) (omega (arith, ints)) in
     rw (a.0, a.1) (omega arith)
 
-pub power_within : (s : Shape) (e : ℤ) → IsShape s → s.min_exp ≤ℤ e → e ≤ℤ s.max_exp
-    → 2 ^ (s.precision - 1) * 2 ^ steps_of s e ≤ largest (format_at s)
-power_within s e law l h =
-    let j : steps_of s e ≤ (format_at s).span = omega (arith, ints) in
-    let a : 2 ^ steps_of s e ≤ 2 ^ (format_at s).span = pow-le-pow_right two_pos j in
-    let b : 2 ^ (s.precision - 1) * 2 ^ steps_of s e ≤ 2 ^ (s.precision - 1) * 2 ^ (format_at s).span =
-    mul-le-mul_left (2 ^ (s.precision - 1)) a in
-    let c : 2 ^ (s.precision - 1) * 2 ^ (format_at s).span
-    ≤ greatest_significand s.nonfinite s.precision * 2 ^ (format_at s).span =
-    mul-le-mul_right (2 ^ (format_at s).span) (greatest_full s.nonfinite s.precision law.precision_low) in
+pub power_within : (shape : Shape) (e : ℤ) → IsShape shape → shape.min_exp ≤ℤ e → e ≤ℤ shape.max_exp
+    → 2 ^ (shape.precision - 1) * 2 ^ steps_of shape e ≤ largest (format_at shape)
+power_within shape e law l h =
+    let j : steps_of shape e ≤ (format_at shape).span = omega (arith, ints) in
+    let a : 2 ^ steps_of shape e ≤ 2 ^ (format_at shape).span = pow-le-pow_right two_pos j in
+    let b : 2 ^ (shape.precision - 1) * 2 ^ steps_of shape e ≤ 2 ^ (shape.precision - 1) * 2 ^ (format_at shape).span =
+    mul-le-mul_left (2 ^ (shape.precision - 1)) a in
+    let c : 2 ^ (shape.precision - 1) * 2 ^ (format_at shape).span
+    ≤ greatest_significand shape.nonfinite shape.precision * 2 ^ (format_at shape).span =
+    mul-le-mul_right (2 ^ (format_at shape).span) (greatest_full shape.nonfinite shape.precision law.precision_low) in
     omega arith
 
 -- the inverse of a power of two is a number of the format
-pub inverted_normal : (s : Shape) (m : ℕ) (e : ℤ) → IsShape s → IsNormal s m e → IsInvertible s m e
-    → IsNormal s m (neg_ℤ e)
-inverted_normal s m e law n i =
-    let g : m * 2 ^ steps_of s (neg_ℤ e) ≤ largest (format_at s) =
-    subst (λ (x : ℕ). x * 2 ^ steps_of s (neg_ℤ e) ≤ largest (format_at s)) (sym i.power)
-    (power_within s (neg_ℤ e) law i.inverse_normal i.inverse_within) in
+pub inverted_normal : (shape : Shape) (m : ℕ) (e : ℤ) → IsShape shape → IsNormal shape m e → IsInvertible shape m e
+    → IsNormal shape m (neg_ℤ e)
+inverted_normal shape m e law n i =
+    let g : m * 2 ^ steps_of shape (neg_ℤ e) ≤ largest (format_at shape) =
+    subst (λ (x : ℕ). x * 2 ^ steps_of shape (neg_ℤ e) ≤ largest (format_at shape)) (sym i.power)
+    (power_within shape (neg_ℤ e) law i.inverse_normal i.inverse_within) in
     record {
       operand = record {
         fits = n.operand.fits;
@@ -61,9 +61,9 @@ inverted_normal s m e law n i =
             omega (arith, ints, i.inverse_normal, law.precision_low);
         greatest = i.inverse_within;
       };
-      whole = whole_is s.min_exp m (neg_ℤ e) (m * 2 ^ steps_of s (neg_ℤ e))
-          (whole_from s m (neg_ℤ e) i.inverse_normal);
-      within = rw (quanta_high_is s m (neg_ℤ e) i.inverse_normal) g;
+      whole = whole_is shape.min_exp m (neg_ℤ e) (m * 2 ^ steps_of shape (neg_ℤ e))
+          (whole_from shape m (neg_ℤ e) i.inverse_normal);
+      within = rw (quanta_high_is shape m (neg_ℤ e) i.inverse_normal) g;
     }
 
 power_full : (half j : ℕ) → half ≤ half * 2 ^ j
@@ -75,46 +75,28 @@ power_full half j =
 powers_product : (h j k w : ℕ) → (h + j) + (h + k) ≡ w + w → 2 ^ h * 2 ^ j * (2 ^ h * 2 ^ k) ≡ 2 ^ w * 2 ^ w
 powers_product h j k w e = sym (pow22 h j h k) ∙ ap (λ (x : ℕ). 2 ^ x) e ∙ pow-add 2 w w
 
-pub inverted_product : (s : Shape) (m : ℕ) (e : ℤ) → IsShape s → IsNormal s m e → IsInvertible s m e
-    → AreInverse (format_at s) (quanta_at s.min_exp m e) (quanta_at s.min_exp m (neg_ℤ e))
-inverted_product s m e law n i =
-    let half = 2 ^ (s.precision - 1) in
-    let j = steps_of s e in
-    let k = steps_of s (neg_ℤ e) in
-    let a : quanta_at s.min_exp m e ≡ half * 2 ^ j = quanta_high_is s m e i.normal ∙
+pub inverted_product : (shape : Shape) (m : ℕ) (e : ℤ) → IsShape shape → IsNormal shape m e → IsInvertible shape m e
+    → AreInverse (format_at shape) (quanta_at shape.min_exp m e) (quanta_at shape.min_exp m (neg_ℤ e))
+inverted_product shape m e law n i =
+    let half = 2 ^ (shape.precision - 1) in
+    let j = steps_of shape e in
+    let k = steps_of shape (neg_ℤ e) in
+    let a : quanta_at shape.min_exp m e ≡ half * 2 ^ j = quanta_high_is shape m e i.normal ∙
     ap (λ (x : ℕ). x * 2 ^ j) i.power in
-    let b : quanta_at s.min_exp m (neg_ℤ e) ≡ half * 2 ^ k = quanta_high_is s m (neg_ℤ e) i.inverse_normal ∙
+    let b : quanta_at shape.min_exp m (neg_ℤ e) ≡ half * 2 ^ k = quanta_high_is shape m (neg_ℤ e) i.inverse_normal ∙
     ap (λ (x : ℕ). x * 2 ^ k) i.power in
-    let c = scale_is s law in
-    let d : ((s.precision - 1) + j) + ((s.precision - 1) + k) ≡ (format_at s).scale + (format_at s).scale =
+    let c = scale_is shape law in
+    let d : ((shape.precision - 1) + j) + ((shape.precision - 1) + k)
+    ≡ (format_at shape).scale + (format_at shape).scale =
     omega (arith, ints, i.normal, i.inverse_normal) in
     record {
       normal = rw a (power_full half j);
       inverse_normal = rw b (power_full half k);
-      within = (inverted_normal s m e law n i).within;
-      product = rw (a, b) (powers_product (s.precision - 1) j k (format_at s).scale d);
+      within = (inverted_normal shape m e law n i).within;
+      product = rw (a, b) (powers_product (shape.precision - 1) j k (format_at shape).scale d);
     }
 
 -- ---- a number with an exact inverse is such a power of two
-
-lower_power : (a b : ℕ) → 2 ^ a ≤ 2 ^ b → a ≤ b
-lower_power a b h =
-    ⊎_elim
-    (λ (c : b < a).
-    let l : b + 1 ≤ a = omega arith in
-    let k : 2 ^ (b + 1) ≤ 2 ^ a = pow-le-pow_right two_pos l in
-    let t : 2 ^ (b + 1) ≡ 2 * 2 ^ b = twice_power b in
-    let p : 0 < 2 ^ b = pow_pos b in
-    absurd (omega arith))
-    (λ (c : a ≤ b). c)
-    (cases_lt b a)
-
-least_power : (a b : ℕ) → 2 ^ a < 2 ^ b → a < b
-least_power a b h =
-    ⊎_elim
-    (λ (c : a < b). c)
-    (λ (c : b ≤ a). let k : 2 ^ b ≤ 2 ^ a = pow-le-pow_right two_pos c in absurd (omega arith))
-    (cases_lt a b)
 
 power_factor : (q i m d u w : ℕ) → q * 2 ^ d ≡ m * 2 ^ u → q * i ≡ 2 ^ w * 2 ^ w → m * (2 ^ u * i) ≡ 2 ^ (w + w + d)
 power_factor q i m d u w h e =
@@ -123,15 +105,15 @@ power_factor q i m d u w h e =
     let c : 2 ^ (w + w + d) ≡ 2 ^ w * 2 ^ w * 2 ^ d = pow3 w w d in
     omega arith
 
-is_power : (s : Shape) (m i : ℕ) (e : ℤ) → IsShape s → IsNormal s m e
-    → AreInverse (format_at s) (quanta_at s.min_exp m e) i → m ≡ 2 ^ (s.precision - 1)
-is_power s m i e law n h =
+is_power : (shape : Shape) (m i : ℕ) (e : ℤ) → IsShape shape → IsNormal shape m e
+    → AreInverse (format_at shape) (quanta_at shape.min_exp m e) i → m ≡ 2 ^ (shape.precision - 1)
+is_power shape m i e law n h =
     let l = law.precision_low in
-    let d = down (e -ℤ s.min_exp) in
-    let u = up (e -ℤ s.min_exp) in
-    let w = (format_at s).scale in
-    power_with_digits s.precision m (omega arith) n.operand.full n.operand.fits
-    (factor_of_power (w + w + d) m (2 ^ u * i) (power_factor (quanta_at s.min_exp m e) i m d u w n.whole h.product))
+    let d = down (e -ℤ shape.min_exp) in
+    let u = up (e -ℤ shape.min_exp) in
+    let w = (format_at shape).scale in
+    power_with_digits shape.precision m (omega arith) n.operand.full n.operand.fits
+    (factor_of_power (w + w + d) m (2 ^ u * i) (power_factor (quanta_at shape.min_exp m e) i m d u w n.whole h.product))
 
 -- how long the inverse is
 short_inverse : (h j w i : ℕ) → 2 ^ h ≤ i → 2 ^ h * 2 ^ j * i ≡ 2 ^ w * 2 ^ w → h + j + h ≤ w + w
@@ -140,7 +122,7 @@ short_inverse h j w i l e =
     let b : 2 ^ (h + j + h) ≡ 2 ^ h * 2 ^ j * 2 ^ h = pow3 h j h in
     let c : 2 ^ (w + w) ≡ 2 ^ w * 2 ^ w = pow-add 2 w w in
     let k : 2 ^ (h + j + h) ≤ 2 ^ (w + w) = omega arith in
-    lower_power (h + j + h) (w + w) k
+    exponent_at_most (h + j + h) (w + w) k
 
 long_inverse : (h j w i p span : ℕ) → i < 2 ^ p * 2 ^ span → 2 ^ h * 2 ^ j * i ≡ 2 ^ w * 2 ^ w
     → w + w < h + j + (p + span)
@@ -150,35 +132,38 @@ long_inverse h j w i p span l e =
     let b : 2 ^ (h + j + (p + span)) ≡ 2 ^ h * 2 ^ j * (2 ^ p * 2 ^ span) = pow22 h j p span in
     let c : 2 ^ (w + w) ≡ 2 ^ w * 2 ^ w = pow-add 2 w w in
     let k : 2 ^ (w + w) < 2 ^ (h + j + (p + span)) = omega arith in
-    least_power (w + w) (h + j + (p + span)) k
+    exponent_below (w + w) (h + j + (p + span)) k
 
-not_low : (s : Shape) (m i : ℕ) (e : ℤ) → IsShape s → IsNormal s m e
-    → AreInverse (format_at s) (quanta_at s.min_exp m e) i → s.min_exp ≤ℤ e
-not_low s m i e law n h =
-    by_lt_z e s.min_exp
-    (λ l. let k = quanta_low_is s m e n law.precision_low l in let g = h.normal in absurd (omega arith))
+not_low : (shape : Shape) (m i : ℕ) (e : ℤ) → IsShape shape → IsNormal shape m e
+    → AreInverse (format_at shape) (quanta_at shape.min_exp m e) i → shape.min_exp ≤ℤ e
+not_low shape m i e law n h =
+    by_lt_z e shape.min_exp
+    (λ l. let k = quanta_low_is shape m e n law.precision_low l in let g = h.normal in absurd (omega arith))
     (λ l. l)
 
-pub invertible_from : (s : Shape) (m i : ℕ) (e : ℤ) → IsShape s → IsNormal s m e
-    → AreInverse (format_at s) (quanta_at s.min_exp m e) i → IsInvertible s m e
-invertible_from s m i e law n h =
-    let high : ℕ = s.precision - 1 in
-    let p : m ≡ 2 ^ (s.precision - 1) = is_power s m i e law n h in
-    let l : s.min_exp ≤ℤ e = not_low s m i e law n h in
-    let j : ℕ = steps_of s e in
-    let w : ℕ = (format_at s).scale in
-    let q : quanta_at s.min_exp m e ≡ 2 ^ (s.precision - 1) * 2 ^ steps_of s e = quanta_high_is s m e l ∙
-    ap (λ (x : ℕ). x * 2 ^ steps_of s e) p in
-    let g : 2 ^ (s.precision - 1) * 2 ^ steps_of s e * i ≡ 2 ^ (format_at s).scale * 2 ^ (format_at s).scale =
+pub invertible_from : (shape : Shape) (m i : ℕ) (e : ℤ) → IsShape shape → IsNormal shape m e
+    → AreInverse (format_at shape) (quanta_at shape.min_exp m e) i → IsInvertible shape m e
+invertible_from shape m i e law n h =
+    let high : ℕ = shape.precision - 1 in
+    let p : m ≡ 2 ^ (shape.precision - 1) = is_power shape m i e law n h in
+    let l : shape.min_exp ≤ℤ e = not_low shape m i e law n h in
+    let j : ℕ = steps_of shape e in
+    let w : ℕ = (format_at shape).scale in
+    let q : quanta_at shape.min_exp m e ≡ 2 ^ (shape.precision - 1) * 2 ^ steps_of shape e =
+    quanta_high_is shape m e l ∙
+    ap (λ (x : ℕ). x * 2 ^ steps_of shape e) p in
+    let g : 2 ^ (shape.precision - 1) * 2 ^ steps_of shape e * i
+    ≡ 2 ^ (format_at shape).scale * 2 ^ (format_at shape).scale =
     ap (λ (x : ℕ). x * i) (sym q) ∙ h.product in
-    let c = scale_is s law in
-    let short = short_inverse (s.precision - 1) (steps_of s e) (format_at s).scale i h.inverse_normal g in
-    let t : greatest_significand s.nonfinite s.precision * 2 ^ (format_at s).span
-    < 2 ^ s.precision * 2 ^ (format_at s).span =
-    mul-lt-mul_of_pos_right (greatest_fits s.nonfinite s.precision) (pow_pos (format_at s).span) in
+    let c = scale_is shape law in
+    let short = short_inverse (shape.precision - 1) (steps_of shape e) (format_at shape).scale i h.inverse_normal g in
+    let t : greatest_significand shape.nonfinite shape.precision * 2 ^ (format_at shape).span
+    < 2 ^ shape.precision * 2 ^ (format_at shape).span =
+    mul-lt-mul_of_pos_right (greatest_fits shape.nonfinite shape.precision) (pow_pos (format_at shape).span) in
     let b = h.within in
     let long =
-    long_inverse (s.precision - 1) (steps_of s e) (format_at s).scale i s.precision (format_at s).span
+    long_inverse (shape.precision - 1) (steps_of shape e)
+    (format_at shape).scale i shape.precision (format_at shape).span
     (omega arith) g in
     record {
       power = p;
@@ -187,22 +172,24 @@ invertible_from s m i e law n h =
       inverse_within = omega (arith, ints, long, c, l, law);
     }
 
-pub opposite_word : (s : Shape) (m : ℕ) (e : ℤ) → IsShape s → IsNormal s m e
+pub opposite_word : (shape : Shape) (m : ℕ) (e : ℤ) → IsShape shape → IsNormal shape m e
     → to_z w32 (of_z w32 (pos 0 -ℤ e)) ≡ neg_ℤ e
-opposite_word s m e law n =
-    let x = normal_near s m e law n in
+opposite_word shape m e law n =
+    let x = normal_near shape m e law n in
     let z : pos 0 -ℤ e ≡ neg_ℤ e = omega (arith, ints) in
     to_z-of_z w32 (pos 0 -ℤ e) (fits_in w32 (pos 0 -ℤ e) (omega (arith, ints, x.near, x.far))) ∙ z
 
 -- what is answered of a number
-pub inverse_answer : (s : Shape) (b : Bool) (m : ℕ) (e : ℤ) → IsShape s → IsNormal s m e → IsInvertible s m e
-    → IsExactInverse (format_at s) (finite b (quanta_at s.min_exp m e))
-    (Some (finite b (quanta_at s.min_exp m (neg_ℤ e))))
-inverse_answer s b m e law n i = (quanta_at s.min_exp m (neg_ℤ e), inverted_product s m e law n i, refl)
+pub inverse_answer : (shape : Shape) (b : Bool) (m : ℕ) (e : ℤ) → IsShape shape → IsNormal shape m e
+    → IsInvertible shape m e
+    → IsExactInverse (format_at shape) (finite b (quanta_at shape.min_exp m e))
+    (Some (finite b (quanta_at shape.min_exp m (neg_ℤ e))))
+inverse_answer shape b m e law n i = (quanta_at shape.min_exp m (neg_ℤ e), inverted_product shape m e law n i, refl)
 
-pub no_inverse_answer : (s : Shape) (b : Bool) (m : ℕ) (e : ℤ) → IsShape s → IsNormal s m e → (IsInvertible s m e → ⊥)
-    → IsExactInverse (format_at s) (finite b (quanta_at s.min_exp m e)) None
-no_inverse_answer s b m e law n i = λ inverse h. i (invertible_from s m inverse e law n h)
+pub no_inverse_answer : (shape : Shape) (b : Bool) (m : ℕ) (e : ℤ) → IsShape shape → IsNormal shape m e
+    → (IsInvertible shape m e → ⊥)
+    → IsExactInverse (format_at shape) (finite b (quanta_at shape.min_exp m e)) None
+no_inverse_answer shape b m e law n i = λ inverse h. i (invertible_from shape m inverse e law n h)
 
 abbrev value_or : Unpacked → Option Unpacked → Unpacked
 value_or x (Some y) = y

@@ -19,27 +19,27 @@ addend_alone : (s d : Bool) (m n : ℕ) → m ≡ 0 → (signed s m +ℤ signed 
 addend_alone s d m n z = rw z (zero_and s (signed d n))
 
 -- the product alone
-pub product_rounded : (f : Format) (mode : Round) (b c d : Bool) (l m : ℕ) (value : Datum) (status : ℕ) → 0 < l
+pub product_rounded : (format : Format) (mode : Round) (b c d : Bool) (l m : ℕ) (value : Datum) (status : ℕ) → 0 < l
     → 0 < m
-    → IsDelivered f mode (product_sign b c) (l * m) (2 ^ f.scale) value status
-    → IsFusedSum f mode (finite b l) (finite c m) (finite d 0) value status
-product_rounded f mode b c d l m value status p q h =
-    rounded_signed f mode (zero_sum_sign mode (product_sign b c) d) (product_sign b c) (l * m) (2 ^ f.scale)
-    (signed (product_sign b c) (l * m) +ℤ signed d (0 * 2 ^ f.scale)) value status
-    (product_alone (product_sign b c) d (l * m) (0 * 2 ^ f.scale) (omega arith)) (mul-pos p q) h
+    → IsDelivered format mode (product_sign b c) (l * m) (2 ^ format.scale) value status
+    → IsFusedSum format mode (finite b l) (finite c m) (finite d 0) value status
+product_rounded format mode b c d l m value status p q h =
+    rounded_signed format mode (zero_sum_sign mode (product_sign b c) d) (product_sign b c) (l * m) (2 ^ format.scale)
+    (signed (product_sign b c) (l * m) +ℤ signed d (0 * 2 ^ format.scale)) value status
+    (product_alone (product_sign b c) d (l * m) (0 * 2 ^ format.scale) (omega arith)) (mul-pos p q) h
 
 -- an exact zero
-pub zeros_rounded : (f : Format) (mode : Round) (b c d sign : Bool) (l m : ℕ) (value : Datum) (status : ℕ)
+pub zeros_rounded : (format : Format) (mode : Round) (b c d sign : Bool) (l m : ℕ) (value : Datum) (status : ℕ)
     → l * m ≡ 0 → sign ≡ zero_sum_sign mode (product_sign b c) d
-    → ((parts : ℕ) → 0 < parts → IsDelivered f mode sign 0 parts value status)
-    → IsFusedSum f mode (finite b l) (finite c m) (finite d 0) value status
-zeros_rounded f mode b c d sign l m value status z e h =
-    let n : 0 * 2 ^ f.scale ≡ 0 = omega arith in
-    let w : (signed (product_sign b c) (l * m) +ℤ signed d (0 * 2 ^ f.scale)) ≡ pos 0 =
-    addend_alone (product_sign b c) d (l * m) (0 * 2 ^ f.scale) z ∙ ap (signed d) n ∙ no_sign d in
-    rw w (subst (λ (x : Bool). IsDelivered f mode x 0 (2 ^ f.scale) value status) e
-    (h (2 ^ f.scale) (pow_pos f.scale)))
+    → ((parts : ℕ) → 0 < parts → IsDelivered format mode sign 0 parts value status)
+    → IsFusedSum format mode (finite b l) (finite c m) (finite d 0) value status
+zeros_rounded format mode b c d sign l m value status z e h =
+    let n : 0 * 2 ^ format.scale ≡ 0 = omega arith in
+    let w : (signed (product_sign b c) (l * m) +ℤ signed d (0 * 2 ^ format.scale)) ≡ pos 0 =
+    addend_alone (product_sign b c) d (l * m) (0 * 2 ^ format.scale) z ∙ ap (signed d) n ∙ no_sign d in
+    rw w (subst (λ (x : Bool). IsDelivered format mode x 0 (2 ^ format.scale) value status) e
+    (h (2 ^ format.scale) (pow_pos format.scale)))
 
-pub same_fused : (f : Format) (mode : Round) (x y z v d w : Datum) (i j : ℕ) → z ≡ d → v ≡ w → i ≡ j
-    → IsFusedSum f mode x y d w j → IsFusedSum f mode x y z v i
-same_fused f mode x y z v d w i j p q r h = rw (p, q, r) h
+pub same_fused : (format : Format) (mode : Round) (x y z v d w : Datum) (i j : ℕ) → z ≡ d → v ≡ w → i ≡ j
+    → IsFusedSum format mode x y d w j → IsFusedSum format mode x y z v i
+same_fused format mode x y z v d w i j p q r h = rw (p, q, r) h

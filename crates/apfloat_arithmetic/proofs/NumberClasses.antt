@@ -18,31 +18,32 @@ pub compares_as : (t : Bool) (a b : ℤ) (x : Bool) → lt_z a b ≡ t → (a <�
 compares_as true a b x e f g = sym (f (lt_z_yes (subst T (sym e) tt)))
 compares_as false a b x e f g = sym (g (lt_z_no (subst (λ (y : Bool). T (not y)) (sym e) tt)))
 
-pub quanta_low_is : (s : Shape) (m : ℕ) (e : ℤ) → IsNormal s m e → 3 ≤ s.precision → e <ℤ s.min_exp
-    → quanta_at s.min_exp m e < 2 ^ (s.precision - 1)
-quanta_low_is s m e n p l =
-    quanta_low_below s m e (unsigned_abs (s.min_exp -ℤ e)) n p (omega (arith, ints)) (omega (arith, ints))
+pub quanta_low_is : (shape : Shape) (m : ℕ) (e : ℤ) → IsNormal shape m e → 3 ≤ shape.precision → e <ℤ shape.min_exp
+    → quanta_at shape.min_exp m e < 2 ^ (shape.precision - 1)
+quanta_low_is shape m e n p l =
+    quanta_low_below shape m e (unsigned_abs (shape.min_exp -ℤ e)) n p (omega (arith, ints)) (omega (arith, ints))
 
-pub quanta_high_is : (s : Shape) (m : ℕ) (e : ℤ) → s.min_exp ≤ℤ e
-    → quanta_at s.min_exp m e ≡ m * 2 ^ unsigned_abs (e -ℤ s.min_exp)
-quanta_high_is s m e l = quanta_high s m e (unsigned_abs (e -ℤ s.min_exp)) (omega (arith, ints))
+pub quanta_high_is : (shape : Shape) (m : ℕ) (e : ℤ) → shape.min_exp ≤ℤ e
+    → quanta_at shape.min_exp m e ≡ m * 2 ^ unsigned_abs (e -ℤ shape.min_exp)
+quanta_high_is shape m e l = quanta_high shape m e (unsigned_abs (e -ℤ shape.min_exp)) (omega (arith, ints))
 
-quanta_full : (s : Shape) (m : ℕ) (e : ℤ) → IsNormal s m e → s.min_exp ≤ℤ e
-    → 2 ^ (s.precision - 1) ≤ quanta_at s.min_exp m e
-quanta_full s m e n l =
-    let q = quanta_high_is s m e l in
+quanta_full : (shape : Shape) (m : ℕ) (e : ℤ) → IsNormal shape m e → shape.min_exp ≤ℤ e
+    → 2 ^ (shape.precision - 1) ≤ quanta_at shape.min_exp m e
+quanta_full shape m e n l =
+    let q = quanta_high_is shape m e l in
     let f = n.operand.full in
-    let o : 1 ≤ 2 ^ unsigned_abs (e -ℤ s.min_exp) = pow_pos (unsigned_abs (e -ℤ s.min_exp)) in
-    let a : m * 1 ≤ m * 2 ^ unsigned_abs (e -ℤ s.min_exp) = mul-le-mul_left m o in
+    let o : 1 ≤ 2 ^ unsigned_abs (e -ℤ shape.min_exp) = pow_pos (unsigned_abs (e -ℤ shape.min_exp)) in
+    let a : m * 1 ≤ m * 2 ^ unsigned_abs (e -ℤ shape.min_exp) = mul-le-mul_left m o in
     omega arith
 
-pub below_is : (s : Shape) (m : ℕ) (e : ℤ) → IsNormal s m e → 3 ≤ s.precision
-    → lt_z e s.min_exp ≡ ltb (quanta_at s.min_exp m e) (2 ^ (s.precision - 1))
-below_is s m e n p =
-    compares_as (lt_z e s.min_exp) e s.min_exp (ltb (quanta_at s.min_exp m e) (2 ^ (s.precision - 1))) refl
-    (λ l. lt-ltb (quanta_at s.min_exp m e) (2 ^ (s.precision - 1)) (quanta_low_is s m e n p l))
-    (λ l. le-ltb (quanta_at s.min_exp m e) (2 ^ (s.precision - 1)) (quanta_full s m e n l))
+pub below_is : (shape : Shape) (m : ℕ) (e : ℤ) → IsNormal shape m e → 3 ≤ shape.precision
+    → lt_z e shape.min_exp ≡ ltb (quanta_at shape.min_exp m e) (2 ^ (shape.precision - 1))
+below_is shape m e n p =
+    compares_as (lt_z e shape.min_exp) e shape.min_exp (ltb (quanta_at shape.min_exp m e) (2 ^ (shape.precision - 1)))
+    refl
+    (λ l. lt-ltb (quanta_at shape.min_exp m e) (2 ^ (shape.precision - 1)) (quanta_low_is shape m e n p l))
+    (λ l. le-ltb (quanta_at shape.min_exp m e) (2 ^ (shape.precision - 1)) (quanta_full shape m e n l))
 
-pub denormal_number : (f : Format) (b : Bool) (n : ℕ) → 0 < n
-    → is_denormal f (finite b n) ≡ ltb n (smallest_normalized f)
-denormal_number f b n p = rw (lt-ltb 0 n p) refl
+pub denormal_number : (format : Format) (b : Bool) (n : ℕ) → 0 < n
+    → is_denormal format (finite b n) ≡ ltb n (smallest_normalized format)
+denormal_number format b n p = rw (lt-ltb 0 n p) refl

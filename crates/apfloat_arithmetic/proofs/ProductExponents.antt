@@ -17,12 +17,12 @@ pub record IsNear (e : ℤ) : Type 0 where
   pub far : neg_ℤ (pos 1048701) ≤ℤ e
   pub word : to_z w32 (of_z w32 e) ≡ e
 
-pub normal_near : (s : Shape) (m : ℕ) (e : ℤ) → IsShape s → IsNormal s m e → IsNear e
-normal_near s m e l n =
+pub normal_near : (shape : Shape) (m : ℕ) (e : ℤ) → IsShape shape → IsNormal shape m e → IsNear e
+normal_near shape m e l n =
     let o = n.operand in
     let near : e ≤ℤ pos 1048576 = omega (arith, ints, l.max_exp_high, o.greatest) in
     let far : neg_ℤ (pos 1048701) ≤ℤ e = omega (arith, ints, l.min_exp_low, l.precision_high, o.least) in
-    record { near = near; far = far; word = exponent_word s m e l n }
+    record { near = near; far = far; word = exponent_word shape m e l n }
 
 balanced_product : (precision scale : ℕ) (min_exp x y r : ℤ) → 3 ≤ precision
     → pos scale ≡ pos (precision - 1) -ℤ min_exp → r ≡ ((x +ℤ y) -ℤ pos (2 * (precision - 1)))
@@ -37,32 +37,38 @@ balanced_quotient : (precision places scale : ℕ) (min_exp x y r : ℤ) → 3 �
 balanced_quotient precision places scale min_exp x y r t l e = omega (arith, ints)
 
 -- the product of the significands stands for the product of the numbers, both in quanta
-pub product_is : (s : Shape) (x y r : ℤ) (m n p : ℕ) → IsShape s → IsNormal s m x → IsNormal s n y → p ≡ m * n
-    → r ≡ ((x +ℤ y) -ℤ pos (2 * (s.precision - 1)))
-    → quanta_at s.min_exp m x * quanta_at s.min_exp n y * 2 ^ down (r +ℤ pos (format_at s).scale)
-    ≡ p * (2 ^ (format_at s).scale * 2 ^ up (r +ℤ pos (format_at s).scale))
-product_is s x y r m n p l hx hy v e =
-    let unit : ℤ = r +ℤ pos (format_at s).scale in
-    product_stands m n (quanta_at s.min_exp m x) (quanta_at s.min_exp n y) (up (x -ℤ s.min_exp))
-    (up (y -ℤ s.min_exp)) (down (x -ℤ s.min_exp)) (down (y -ℤ s.min_exp)) (format_at s).scale (up unit)
+pub product_is : (shape : Shape) (x y r : ℤ) (m n p : ℕ) → IsShape shape → IsNormal shape m x → IsNormal shape n y
+    → p ≡ m * n
+    → r ≡ ((x +ℤ y) -ℤ pos (2 * (shape.precision - 1)))
+    → quanta_at shape.min_exp m x * quanta_at shape.min_exp n y * 2 ^ down (r +ℤ pos (format_at shape).scale)
+    ≡ p * (2 ^ (format_at shape).scale * 2 ^ up (r +ℤ pos (format_at shape).scale))
+product_is shape x y r m n p l hx hy v e =
+    let unit : ℤ = r +ℤ pos (format_at shape).scale in
+    product_stands m n (quanta_at shape.min_exp m x) (quanta_at shape.min_exp n y) (up (x -ℤ shape.min_exp))
+    (up (y -ℤ shape.min_exp)) (down (x -ℤ shape.min_exp)) (down (y -ℤ shape.min_exp)) (format_at shape).scale (up unit)
     (down unit)
-    hx.whole hy.whole (balanced_product s.precision (format_at s).scale s.min_exp x y r l.precision_low
-    (scale_is s l) e)
-    ∙ ap (λ (z : ℕ). z * (2 ^ (format_at s).scale * 2 ^ up unit)) (sym v)
+    hx.whole hy.whole (balanced_product shape.precision (format_at shape).scale shape.min_exp x y r l.precision_low
+    (scale_is shape l) e)
+    ∙ ap (λ (z : ℕ). z * (2 ^ (format_at shape).scale * 2 ^ up unit)) (sym v)
 
 -- the quotient of the significands stands for the quotient of the numbers
-pub quotient_is : (s : Shape) (x y r : ℤ) (places q : ℕ) (loss : Loss) (m n : ℕ) → IsShape s → IsNormal s m x
-    → IsNormal s n y → r ≡ ((x -ℤ y) -ℤ pos places) → StandsFor q loss (m * 2 ^ places) n
-    → StandsFor q loss (quanta_at s.min_exp m x * 2 ^ (format_at s).scale * 2 ^ down (r +ℤ pos (format_at s).scale))
-    (quanta_at s.min_exp n y * 2 ^ up (r +ℤ pos (format_at s).scale))
-quotient_is s x y r places q loss m n l hx hy e h =
-    let unit : ℤ = r +ℤ pos (format_at s).scale in
-    quotient_stands q loss m n (quanta_at s.min_exp m x) (quanta_at s.min_exp n y) places (up (x -ℤ s.min_exp))
-    (up (y -ℤ s.min_exp)) (down (x -ℤ s.min_exp)) (down (y -ℤ s.min_exp)) (format_at s).scale (up unit)
+pub quotient_is : (shape : Shape) (x y r : ℤ) (places q : ℕ) (loss : Loss) (m n : ℕ) → IsShape shape
+    → IsNormal shape m x
+    → IsNormal shape n y → r ≡ ((x -ℤ y) -ℤ pos places) → StandsFor q loss (m * 2 ^ places) n
+    → StandsFor q loss (quanta_at shape.min_exp m x * 2 ^ (format_at shape).scale * 2 ^ down
+    (r +ℤ pos (format_at shape).scale))
+    (quanta_at shape.min_exp n y * 2 ^ up (r +ℤ pos (format_at shape).scale))
+quotient_is shape x y r places q loss m n l hx hy e h =
+    let unit : ℤ = r +ℤ pos (format_at shape).scale in
+    quotient_stands q loss m n (quanta_at shape.min_exp m x)
+    (quanta_at shape.min_exp n y) places (up (x -ℤ shape.min_exp))
+    (up (y -ℤ shape.min_exp)) (down (x -ℤ shape.min_exp)) (down (y -ℤ shape.min_exp)) (format_at shape).scale (up unit)
     (down unit)
-    hx.whole hy.whole (balanced_quotient s.precision places (format_at s).scale s.min_exp x y r l.precision_low
-    (scale_is s l) e) h
+    hx.whole hy.whole (balanced_quotient shape.precision places (format_at shape).scale shape.min_exp x y r
+    l.precision_low
+    (scale_is shape l) e) h
 
-pub normal_some : (s : Shape) (m : ℕ) (e : ℤ) → IsNormal s m e → 0 < m
-normal_some s m e n = let p : 0 < 2 ^ (s.precision - 1) = pow_pos (s.precision - 1) in let f = n.operand.full in
+pub normal_some : (shape : Shape) (m : ℕ) (e : ℤ) → IsNormal shape m e → 0 < m
+normal_some shape m e n = let p : 0 < 2 ^ (shape.precision - 1) = pow_pos (shape.precision - 1) in
+    let f = n.operand.full in
     omega arith

@@ -20,72 +20,75 @@ Says s quotient k l x y value status =
     IsRemainder (format_at s) quotient (datum_by k s x) (datum_by l s y) value status
 
 -- a number other than zero on the right
-pub by_number : (s : Shape) (quotient : ℕ → ℕ → ℕ) (x y : Unpacked) (m : ℕ) (value : Datum) (status : ℕ)
-    → IsStoredBy Normal s y
-    → IsAnswer (rest_of s.nonfinite x.negative m
-    (quanta_at s.min_exp y.significand y.exponent * quotient m (quanta_at s.min_exp y.significand y.exponent)))
+pub by_number : (shape : Shape) (quotient : ℕ → ℕ → ℕ) (x y : Unpacked) (m : ℕ) (value : Datum) (status : ℕ)
+    → IsStoredBy Normal shape y
+    → IsAnswer (rest_of shape.nonfinite x.negative m
+    (quanta_at shape.min_exp y.significand y.exponent * quotient m (quanta_at shape.min_exp y.significand y.exponent)))
     ok_bits value status
-    → IsRemainder (format_at s) quotient (finite x.negative m) (datum_by Normal s y) value status
-by_number s quotient x y m value status t h =
-    let p = quanta_some s y.significand y.exponent t in
-    rw (ne_eqb (quanta_at s.min_exp y.significand y.exponent) 0 (λ z. omega (arith, z, p))) h
+    → IsRemainder (format_at shape) quotient (finite x.negative m) (datum_by Normal shape y) value status
+by_number shape quotient x y m value status t h =
+    let p = quanta_some shape y.significand y.exponent t in
+    rw (ne_eqb (quanta_at shape.min_exp y.significand y.exponent) 0 (λ z. omega (arith, z, p))) h
 
 zero_rest : (kind : NonfiniteBehavior) (b : Bool) (n q : ℕ) → q ≡ 0 → b ≡ zero_sign kind b
     → finite b 0 ≡ rest_of kind b 0 (n * q)
 zero_rest kind b n q e z = let w : n * 0 ≡ 0 = omega arith in rw (e, w) (ap (λ (u : Bool). finite u 0) z)
 
-zero_by_number : (s : Shape) (quotient : ℕ → ℕ → ℕ) (x y : Unpacked) (value : Datum) (status : ℕ)
-    → IsStoredBy Zero s x → IsStoredBy Normal s y
+zero_by_number : (shape : Shape) (quotient : ℕ → ℕ → ℕ) (x y : Unpacked) (value : Datum) (status : ℕ)
+    → IsStoredBy Zero shape x → IsStoredBy Normal shape y
     → ((n : ℕ) → 0 < n → quotient 0 n ≡ 0) → IsAnswer (finite x.negative 0) ok_bits value status
-    → Says s quotient Zero Normal x y value status
-zero_by_number s quotient x y value status u t q h =
-    let n : ℕ = quanta_at s.min_exp y.significand y.exponent in
-    let e = zero_rest s.nonfinite x.negative n (quotient 0 n) (q n (quanta_some s y.significand y.exponent t))
+    → Says shape quotient Zero Normal x y value status
+zero_by_number shape quotient x y value status u t q h =
+    let n : ℕ = quanta_at shape.min_exp y.significand y.exponent in
+    let e = zero_rest shape.nonfinite x.negative n (quotient 0 n) (q n (quanta_some shape y.significand y.exponent t))
     u.sign_is in
-    by_number s quotient x y 0 value status t (subst (λ (d : Datum). IsAnswer d ok_bits value status) e h)
+    by_number shape quotient x y 0 value status t (subst (λ (d : Datum). IsAnswer d ok_bits value status) e h)
 
-pub of_zero : (s : Shape) (quotient : ℕ → ℕ → ℕ) (k l : Category) (x y : Unpacked) (value : Datum) (status : ℕ)
-    → (k ≡ Zero) ⊎ (k ≡ Normal) → (k ≡ Normal → ⊥) → l ≡ Normal
-    → IsStoredBy k s x → IsStoredBy l s y → ((n : ℕ) → 0 < n → quotient 0 n ≡ 0)
-    → IsAnswer (datum_by k s x) ok_bits value status → Says s quotient k l x y value status
-of_zero s quotient k l x y value status (inr z) n e t u q h = absurd (n z)
-of_zero s quotient k l x y value status (inl z) n e t u q h =
-    subst (λ (o : Category). IsStoredBy o s x → IsAnswer (datum_by o s x) ok_bits value status
-    → Says s quotient o l x y value status) (sym z)
-    (λ t h. subst (λ (o : Category). IsStoredBy o s y → Says s quotient Zero o x y value status) (sym e)
-    (λ u. zero_by_number s quotient x y value status t u q h) u) t h
+pub of_zero : (shape : Shape) (quotient : ℕ → ℕ → ℕ) (first second : Category) (x y : Unpacked) (value : Datum)
+    (status : ℕ)
+    → (first ≡ Zero) ⊎ (first ≡ Normal) → (first ≡ Normal → ⊥) → second ≡ Normal
+    → IsStoredBy first shape x → IsStoredBy second shape y → ((n : ℕ) → 0 < n → quotient 0 n ≡ 0)
+    → IsAnswer (datum_by first shape x) ok_bits value status → Says shape quotient first second x y value status
+of_zero shape quotient first second x y value status (inr z) n e t u q h = absurd (n z)
+of_zero shape quotient first second x y value status (inl z) n e t u q h =
+    subst (λ (o : Category). IsStoredBy o shape x → IsAnswer (datum_by o shape x) ok_bits value status
+    → Says shape quotient o second x y value status) (sym z)
+    (λ t h. subst (λ (o : Category). IsStoredBy o shape y → Says shape quotient Zero o x y value status) (sym e)
+    (λ u. zero_by_number shape quotient x y value status t u q h) u) t h
 
 -- ---- both numbers other than zero
 
-pub of_numbers : (s : Shape) (quotient : ℕ → ℕ → ℕ) (k l : Category) (x y : Unpacked) (value : Datum) (status : ℕ)
-    → k ≡ Normal → l ≡ Normal → IsStoredBy l s y
-    → IsAnswer (rest_of s.nonfinite x.negative (quanta_at s.min_exp x.significand x.exponent)
-    (quanta_at s.min_exp y.significand y.exponent * quotient (quanta_at s.min_exp x.significand x.exponent)
-    (quanta_at s.min_exp y.significand y.exponent))) ok_bits value status
-    → Says s quotient k l x y value status
-of_numbers s quotient k l x y value status e f u h =
-    subst (λ (o : Category). Says s quotient o l x y value status) (sym e)
-    (subst (λ (o : Category). IsStoredBy o s y → Says s quotient Normal o x y value status) (sym f)
-    (λ u. by_number s quotient x y (quanta_at s.min_exp x.significand x.exponent) value status u h) u)
+pub of_numbers : (shape : Shape) (quotient : ℕ → ℕ → ℕ) (first second : Category) (x y : Unpacked) (value : Datum)
+    (status : ℕ)
+    → first ≡ Normal → second ≡ Normal → IsStoredBy second shape y
+    → IsAnswer (rest_of shape.nonfinite x.negative (quanta_at shape.min_exp x.significand x.exponent)
+    (quanta_at shape.min_exp y.significand y.exponent * quotient (quanta_at shape.min_exp x.significand x.exponent)
+    (quanta_at shape.min_exp y.significand y.exponent))) ok_bits value status
+    → Says shape quotient first second x y value status
+of_numbers shape quotient first second x y value status e f u h =
+    subst (λ (o : Category). Says shape quotient o second x y value status) (sym e)
+    (subst (λ (o : Category). IsStoredBy o shape y → Says shape quotient Normal o x y value status) (sym f)
+    (λ u. by_number shape quotient x y (quanta_at shape.min_exp x.significand x.exponent) value status u h) u)
 
-number_ones : (s : Shape) (x y : Unpacked) (m : ℕ) → IsStoredBy Normal s y
-    → count_ones (m / quanta_at s.min_exp y.significand y.exponent)
-    ≡ ones_of_quotient (finite x.negative m) (datum_by Normal s y)
-number_ones s x y m t =
-    let p = quanta_some s y.significand y.exponent t in
-    rw (ne_eqb (quanta_at s.min_exp y.significand y.exponent) 0 (λ z. omega (arith, z, p))) refl
+number_ones : (shape : Shape) (x y : Unpacked) (m : ℕ) → IsStoredBy Normal shape y
+    → count_ones (m / quanta_at shape.min_exp y.significand y.exponent)
+    ≡ ones_of_quotient (finite x.negative m) (datum_by Normal shape y)
+number_ones shape x y m t =
+    let p = quanta_some shape y.significand y.exponent t in
+    rw (ne_eqb (quanta_at shape.min_exp y.significand y.exponent) 0 (λ z. omega (arith, z, p))) refl
 
-pub ones_of_numbers : (s : Shape) (k l : Category) (x y : Unpacked) → k ≡ Normal → l ≡ Normal → IsStoredBy l s y
-    → count_ones (quanta_at s.min_exp x.significand x.exponent / quanta_at s.min_exp y.significand y.exponent)
-    ≡ ones_of_quotient (datum_by k s x) (datum_by l s y)
-ones_of_numbers s k l x y e f u =
+pub ones_of_numbers : (shape : Shape) (first second : Category) (x y : Unpacked) → first ≡ Normal → second ≡ Normal
+    → IsStoredBy second shape y
+    → count_ones (quanta_at shape.min_exp x.significand x.exponent / quanta_at shape.min_exp y.significand y.exponent)
+    ≡ ones_of_quotient (datum_by first shape x) (datum_by second shape y)
+ones_of_numbers shape first second x y e f u =
     subst (λ (o : Category). count_ones
-    (quanta_at s.min_exp x.significand x.exponent / quanta_at s.min_exp y.significand y.exponent)
-    ≡ ones_of_quotient (datum_by o s x) (datum_by l s y)) (sym e)
-    (subst (λ (o : Category). IsStoredBy o s y
-    → count_ones (quanta_at s.min_exp x.significand x.exponent / quanta_at s.min_exp y.significand y.exponent)
-    ≡ ones_of_quotient (datum_by Normal s x) (datum_by o s y)) (sym f)
-    (λ u. number_ones s x y (quanta_at s.min_exp x.significand x.exponent) u) u)
+    (quanta_at shape.min_exp x.significand x.exponent / quanta_at shape.min_exp y.significand y.exponent)
+    ≡ ones_of_quotient (datum_by o shape x) (datum_by second shape y)) (sym e)
+    (subst (λ (o : Category). IsStoredBy o shape y
+    → count_ones (quanta_at shape.min_exp x.significand x.exponent / quanta_at shape.min_exp y.significand y.exponent)
+    ≡ ones_of_quotient (datum_by Normal shape x) (datum_by o shape y)) (sym f)
+    (λ u. number_ones shape x y (quanta_at shape.min_exp x.significand x.exponent) u) u)
 
 -- ---- not both numbers other than zero
 
@@ -97,15 +100,15 @@ zero_ones : (n : ℕ) → 0 ≡ (if eqb n 0 then 0 else count_ones (0 / n))
 unfolding lib.Count.ones
 zero_ones n = zero_if (eqb n 0) (count_ones (0 / n)) (ap count_ones (zero-div n))
 
-pub no_ones : (s : Shape) (k l : Category) (x y : Unpacked) → (k ≡ Normal → l ≡ Normal → ⊥)
-    → 0 ≡ ones_of_quotient (datum_by k s x) (datum_by l s y)
-no_ones s Normal Normal x y h = absurd (h refl refl)
-no_ones s Normal Zero x y h = refl
-no_ones s Normal Infinity x y h = refl
-no_ones s Normal NaN x y h = refl
-no_ones s Zero Normal x y h = zero_ones (quanta_at s.min_exp y.significand y.exponent)
-no_ones s Zero Zero x y h = refl
-no_ones s Zero Infinity x y h = refl
-no_ones s Zero NaN x y h = refl
-no_ones s Infinity l x y h = refl
-no_ones s NaN l x y h = refl
+pub no_ones : (shape : Shape) (first second : Category) (x y : Unpacked) → (first ≡ Normal → second ≡ Normal → ⊥)
+    → 0 ≡ ones_of_quotient (datum_by first shape x) (datum_by second shape y)
+no_ones shape Normal Normal x y h = absurd (h refl refl)
+no_ones shape Normal Zero x y h = refl
+no_ones shape Normal Infinity x y h = refl
+no_ones shape Normal NaN x y h = refl
+no_ones shape Zero Normal x y h = zero_ones (quanta_at shape.min_exp y.significand y.exponent)
+no_ones shape Zero Zero x y h = refl
+no_ones shape Zero Infinity x y h = refl
+no_ones shape Zero NaN x y h = refl
+no_ones shape Infinity second x y h = refl
+no_ones shape NaN second x y h = refl

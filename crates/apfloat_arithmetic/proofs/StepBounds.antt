@@ -24,9 +24,9 @@ few m n p q d f l g =
     let b : 2 ^ (p + 1 - q) * 2 ^ q ≤ 2 ^ (p + 1 - q) * n = mul-le-mul_left (2 ^ (p + 1 - q)) l in
     ones-le (p + 1 - q) (m / n) ((div-lt_iff_lt-mul d).1 (omega arith))
 
-of_numbers : (f : Format) (m n : ℕ) (a b : ℤ) → 0 < n → IsLogarithm f m a → IsLogarithm f n b
+of_numbers : (format : Format) (m n : ℕ) (a b : ℤ) → 0 < n → IsLogarithm format m a → IsLogarithm format n b
     → 0 < count_ones (m / n) → pos (count_ones (m / n)) ≤ℤ ((a -ℤ b) +ℤ pos 1)
-of_numbers f m n a b d h k p =
+of_numbers format m n a b d h k p =
     ⊎_elim
     (λ (l : m < n). absurd (none m n l p))
     (λ (l : n ≤ m).
@@ -45,18 +45,19 @@ of_numbers f m n a b d h k p =
     omega (arith, ints))
     (cases_lt m n)
 
-pub few_steps : (f : Format) (x y : Datum) (a b : ℤ) → IsIlogb f x a → IsIlogb f y b → 0 < ones_of_quotient x y
+pub few_steps : (format : Format) (x y : Datum) (a b : ℤ) → IsIlogb format x a → IsIlogb format y b
+    → 0 < ones_of_quotient x y
     → pos (ones_of_quotient x y) ≤ℤ ((a -ℤ b) +ℤ pos 1)
-few_steps f (finite s zero) (finite t zero) a b h k p = absurd (omega (arith, p))
-few_steps f (finite s zero) (finite t (suc n)) a b h k p =
+few_steps format (finite s zero) (finite t zero) a b h k p = absurd (omega (arith, p))
+few_steps format (finite s zero) (finite t (suc n)) a b h k p =
     let e : eqb (suc n) 0 ≡ false = ne_eqb (suc n) 0 (λ z. absurd (omega (arith, z))) in
     absurd (none 0 (suc n) (omega arith) (rw e at p))
-few_steps f (finite s (suc m)) (finite t zero) a b h k p = absurd (omega (arith, p))
-few_steps f (finite s (suc m)) (finite t (suc n)) a b h k p =
+few_steps format (finite s (suc m)) (finite t zero) a b h k p = absurd (omega (arith, p))
+few_steps format (finite s (suc m)) (finite t (suc n)) a b h k p =
     let d : eqb (suc m) 0 ≡ false = ne_eqb (suc m) 0 (λ z. absurd (omega (arith, z))) in
     let e : eqb (suc n) 0 ≡ false = ne_eqb (suc n) 0 (λ z. absurd (omega (arith, z))) in
-    rw e (of_numbers f (suc m) (suc n) a b (omega arith) (rw d at h) (rw e at k) (rw e at p))
-few_steps f (finite s m) (infinite t) a b h k p = absurd (omega (arith, p))
-few_steps f (finite s m) (nan t u) a b h k p = absurd (omega (arith, p))
-few_steps f (infinite s) y a b h k p = absurd (omega (arith, p))
-few_steps f (nan s u) y a b h k p = absurd (omega (arith, p))
+    rw e (of_numbers format (suc m) (suc n) a b (omega arith) (rw d at h) (rw e at k) (rw e at p))
+few_steps format (finite s m) (infinite t) a b h k p = absurd (omega (arith, p))
+few_steps format (finite s m) (nan t u) a b h k p = absurd (omega (arith, p))
+few_steps format (infinite s) y a b h k p = absurd (omega (arith, p))
+few_steps format (nan s u) y a b h k p = absurd (omega (arith, p))

@@ -18,34 +18,36 @@ use Rattle.apfloat_unpacked.specs.StoredBack.{quanta_some}
 use Rattle.apfloat_unpacked.proofs.StoredMembers.{member_is}
 use Rattle.apfloat_arithmetic.specs.Subtrahends.{added}
 
-pub number_stored : (s : Shape) (x : Unpacked) → x.category ≡ Normal → IsStored s x
-    → IsFiniteOf (format_at s) x.negative (quanta_at s.min_exp x.significand x.exponent)
-    × (0 < quanta_at s.min_exp x.significand x.exponent)
-number_stored s x e h =
-    let n : IsNormal s x.significand x.exponent = subst (λ (k : Category). IsStoredBy k s x) e h in (
-      subst (λ (k : Category). IsMember (format_at s) (datum_by k s x)) e (member_is s x h),
-      quanta_some s x.significand x.exponent n,
+pub number_stored : (shape : Shape) (x : Unpacked) → x.category ≡ Normal → IsStored shape x
+    → IsFiniteOf (format_at shape) x.negative (quanta_at shape.min_exp x.significand x.exponent)
+    × (0 < quanta_at shape.min_exp x.significand x.exponent)
+number_stored shape x e h =
+    let n : IsNormal shape x.significand x.exponent = subst (λ (k : Category). IsStoredBy k shape x) e h in (
+      subst (λ (k : Category). IsMember (format_at shape) (datum_by k shape x)) e (member_is shape x h),
+      quanta_some shape x.significand x.exponent n,
     )
 
-pub same_sum : (f : Format) (mode : Round) (x y v a b d : Datum) (i j : ℕ) → x ≡ a → y ≡ b → v ≡ d → i ≡ j
-    → IsSum f mode a b d j → IsSum f mode x y v i
-same_sum f mode x y v a b d i j p q r e h = rw (p, q, r, e) h
+pub same_sum : (format : Format) (mode : Round) (x y v a b d : Datum) (i j : ℕ) → x ≡ a → y ≡ b → v ≡ d → i ≡ j
+    → IsSum format mode a b d j → IsSum format mode x y v i
+same_sum format mode x y v a b d i j p q r e h = rw (p, q, r, e) h
 
-pub datum_is : (k : Category) (s : Shape) (x : Unpacked) → x.category ≡ k → datum_at s x ≡ datum_by k s x
-datum_is k s x e = ap (λ (l : Category). datum_by l s x) e
+pub datum_is : (category : Category) (shape : Shape) (x : Unpacked) → x.category ≡ category
+    → datum_at shape x ≡ datum_by category shape x
+datum_is category shape x e = ap (λ (l : Category). datum_by l shape x) e
 
-not_signaling : (f : Format) (kind : NonfiniteBehavior) (b : Bool) (n : ℕ)
-    → is_signaling_nan f (negated kind (finite b n)) ≡ false
-not_signaling f kind b n = search rules
+not_signaling : (format : Format) (kind : NonfiniteBehavior) (b : Bool) (n : ℕ)
+    → is_signaling_nan format (negated kind (finite b n)) ≡ false
+not_signaling format kind b n = search rules
 
-pub difference_is : (f : Format) (mode : Round) (x y v : Datum) (i : ℕ) → IsSum f mode x (added f.nonfinite y) v i
-    → IsDifference f mode x y v i
-difference_is f mode (nan b s) (nan c t) v i h = h
-difference_is f mode (nan b s) (infinite c) v i h = h
-difference_is f mode (nan b s) (finite c n) v i h = rw (not_signaling f f.nonfinite c n) at h
-difference_is f mode (finite b m) (nan c t) v i h = h
-difference_is f mode (finite b m) (infinite c) v i h = h
-difference_is f mode (finite b m) (finite c n) v i h = h
-difference_is f mode (infinite b) (nan c t) v i h = h
-difference_is f mode (infinite b) (infinite c) v i h = h
-difference_is f mode (infinite b) (finite c n) v i h = h
+pub difference_is : (format : Format) (mode : Round) (x y v : Datum) (i : ℕ)
+    → IsSum format mode x (added format.nonfinite y) v i
+    → IsDifference format mode x y v i
+difference_is format mode (nan b s) (nan c t) v i h = h
+difference_is format mode (nan b s) (infinite c) v i h = h
+difference_is format mode (nan b s) (finite c n) v i h = rw (not_signaling format format.nonfinite c n) at h
+difference_is format mode (finite b m) (nan c t) v i h = h
+difference_is format mode (finite b m) (infinite c) v i h = h
+difference_is format mode (finite b m) (finite c n) v i h = h
+difference_is format mode (infinite b) (nan c t) v i h = h
+difference_is format mode (infinite b) (infinite c) v i h = h
+difference_is format mode (infinite b) (finite c n) v i h = h

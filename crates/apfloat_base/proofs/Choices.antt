@@ -1,9 +1,81 @@
--- Tests, and what is chosen by them.
-use Rattle.std.proofs.Common.{◌≡◌, ℕ, Bool, true, false, ◌&&◌, eqb, if◌then◌else◌, Option, None, refl}
-use Rattle.std.proofs.lemmas.Bool.{eq-eqb}
+-- Truth values, and what is chosen by them.
+use Rattle.std.proofs.Common.{◌≡◌, ℕ, ◌+◌, ◌*◌, ◌<◌, ◌≤◌, Bool, true, false, cond, ◌&&◌, eqb, if◌then◌else◌, Option, Some, None, refl, sym, arith}
+use mathlib.Core.Bool.{beq}
+use Rattle.std.specs.Bool.{MatchBool}
+use Rattle.std.proofs.lemmas.Bool.{eq-eqb, false≢true}
+use Rattle.std.proofs.lemmas.Option.{none-some}
+use Rattle.apfloat_base.specs.arithmetic.Exact.{same_sign}
+
+-- ---- tests
 
 pub eqb_self : (n : ℕ) → eqb n n ≡ true
 eqb_self n = eq-eqb n n refl
+
+-- two signs are equal where the model says that they are the same
+pub same_beq : (left right : Bool) → beq left right ≡ same_sign left right
+same_beq true true = refl
+same_beq true false = refl
+same_beq false true = refl
+same_beq false false = refl
+
+-- ---- a number chosen by a test
+
+pub cond_times : (test : Bool) (x y factor : ℕ) → (cond test x y) * factor ≡ cond test (x * factor) (y * factor)
+cond_times true x y factor = refl
+cond_times false x y factor = refl
+
+pub cond_same : (test : Bool) (x : ℕ) → x ≡ cond test x x
+cond_same true x = refl
+cond_same false x = refl
+
+-- a test that turns out true chooses no smaller one of two numbers
+pub cond_grows : (first second : Bool) (high low : ℕ) → low ≤ high → (first ≡ true → second ≡ true)
+    → cond first high low ≤ cond second high low
+cond_grows true true high low h f = omega arith
+cond_grows true false high low h f = absurd (false≢true (f refl))
+cond_grows false true high low h f = h
+cond_grows false false high low h f = omega arith
+
+pub cond_within : (test : Bool) (high low : ℕ) → low ≤ high → (cond test high low ≤ high) × (low ≤ cond test high low)
+cond_within true high low h = (omega arith, h)
+cond_within false high low h = (h, omega arith)
+
+-- what lies strictly between two multiples is neither of them
+pub off_both : (test : Bool) (q amount parts : ℕ) → q * parts < amount → amount < (q + 1) * parts
+    → cond test (q + 1) q * parts ≡ amount → ⊥
+off_both true q amount parts l k e = omega arith
+off_both false q amount parts l k e = omega arith
+
+-- ---- a fact chosen by a test
+
+pub match_true : (test : Bool) (P Q : Type 0) → test ≡ true → P → MatchBool test P Q
+match_true true P Q e p = p
+match_true false P Q e p = cc
+
+pub match_false : (test : Bool) (P Q : Type 0) → test ≡ false → Q → MatchBool test P Q
+match_false true P Q e q = cc
+match_false false P Q e q = q
+
+-- what holds of both choices, each under its test, holds of the choice
+pub if_case : {A : Type 0} (P : A → Type 0) {x y : A} (test : Bool) → (test ≡ true → P x) → (test ≡ false → P y)
+    → P (if test then x else y)
+if_case P true l r = l refl
+if_case P false l r = r refl
+
+pub either_false : (test x y : Bool) → x ≡ false → y ≡ false → cond test x y ≡ false
+either_false true x y e g = e
+either_false false x y e g = g
+
+-- ---- an option chosen by one test, by two, or by three
+
+pub passed : (test other : Bool) (x : Option ℕ) → test ≡ true
+    → (if test && other then x else None) ≡ (if other then x else None)
+passed true other x h = refl
+passed false other x h = cc
+
+pub refused : (test other : Bool) (x : Option ℕ) → test ≡ false → (if test && other then x else None) ≡ None
+refused true other x h = cc
+refused false other x h = refl
 
 pub first_holds : (b e l : Bool) (x : Option ℕ) → b ≡ true
     → (if b && e && l then x else None) ≡ (if e && l then x else None)
@@ -18,3 +90,9 @@ pub last_fails : (e l : Bool) (x : Option ℕ) → l ≡ false → (if e && l th
 last_fails true true x h = cc
 last_fails true false x h = refl
 last_fails false l x h = refl
+
+-- where none is chosen, the test chose the other option, which is none
+pub left_none : {A : Type 0} (test : Bool) (a : A) (other : Option A) → cond test (Some a) other ≡ None
+    → (test ≡ false) × (other ≡ None)
+left_none true a other h = absurd (none-some a (sym h))
+left_none false a other h = (refl, h)

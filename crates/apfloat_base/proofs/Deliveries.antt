@@ -1,6 +1,6 @@
 -- The value and the status that are delivered for a pick.
 use Rattle.std.proofs.Common.{◌≡◌, ℕ, ◌+◌, ◌-◌, ◌*◌, ◌%◌, ◌^◌, ◌<◌, ◌≤◌, ◌⊎◌, Bool, true, false, cond, ltb, eqb, sym, refl, ap, ◌∙◌, subst, inl, inr, ⊎_elim, arith}
-use Rattle.std.proofs.Math.Nat.{mul-le-mul_right, mul-le-mul_left, pow-le-pow_right, mul-pos}
+use Rattle.std.proofs.Math.Nat.{mul-le-mul_right, mul-le-mul_left, pow-le-pow_right, mul-pos, mul_assoc}
 use Rattle.std.proofs.lemmas.Nat.{pow_pos}
 use Rattle.std.proofs.lemmas.Bool.{cases_lt, lt-ltb, le-ltb, eq-eqb, ne_eqb}
 use Rattle.apfloat_base.specs.declared.kinds.Round.{Round}
@@ -15,6 +15,7 @@ use Rattle.apfloat_base.specs.rounding.Rounding.{IsPick, IsDelivered, past_large
 use Rattle.apfloat_base.proofs.Picks.{kept, pick_is, pick_unique}
 use Rattle.apfloat_base.proofs.Existence.{two_pos}
 use Rattle.apfloat_base.proofs.Losses.{stands_past, stands_to}
+use Rattle.apfloat_base.proofs.Choices.{off_both}
 
 pub four : (precision : ℕ) → 3 ≤ precision → 4 ≤ 2 ^ (precision - 1)
 four precision h =
@@ -22,38 +23,39 @@ four precision h =
     let k : 2 ^ 2 ≤ 2 ^ (precision - 1) = pow-le-pow_right two_pos l in
     k
 
-pub past_is : (f : Format) (top place p : ℕ) (b v : Bool) → top ≡ greatest_significand f.nonfinite f.precision
-    → place ≡ f.span → b ≡ ltb (top * 2 ^ place) p → b ≡ v → ltb (largest f) p ≡ v
-past_is f top place p b v e d h k =
-    ap (λ (x : ℕ). ltb (x * 2 ^ f.span) p) (sym e) ∙ ap (λ (x : ℕ). ltb (top * 2 ^ x) p) (sym d) ∙ sym h ∙ k
+pub past_is : (format : Format) (top place p : ℕ) (b v : Bool)
+    → top ≡ greatest_significand format.nonfinite format.precision
+    → place ≡ format.span → b ≡ ltb (top * 2 ^ place) p → b ≡ v → ltb (largest format) p ≡ v
+past_is format top place p b v e d h k =
+    ap (λ (x : ℕ). ltb (x * 2 ^ format.span) p) (sym e) ∙ ap (λ (x : ℕ). ltb (top * 2 ^ x) p) (sym d) ∙ sym h ∙ k
 
 pub signed_some : (kind : NonfiniteBehavior) (negative : Bool) (p : ℕ) → 0 < p
     → signed_quanta kind negative p ≡ finite negative p
 signed_some kind negative p h = let e : eqb p 0 ≡ false = ne_eqb p 0 (λ z. omega arith) in rw e refl
 
 -- a pick past the largest value
-pub delivered_past : (f : Format) (mode : Round) (negative : Bool) (amount parts p : ℕ) (v : Datum) (s : ℕ)
-    → IsPick f.precision mode negative amount parts p → ltb (largest f) p ≡ true
-    → v ≡ cond (leads_out mode negative) (past_largest f.nonfinite (nan_base f) negative)
-    (finite negative (largest f)) → s ≡ cond (leads_out mode negative) 20 16
-    → IsDelivered f mode negative amount parts v s
-delivered_past f mode negative amount parts p v s i a e d =
+pub delivered_past : (format : Format) (mode : Round) (negative : Bool) (amount parts p : ℕ) (v : Datum) (s : ℕ)
+    → IsPick format.precision mode negative amount parts p → ltb (largest format) p ≡ true
+    → v ≡ cond (leads_out mode negative) (past_largest format.nonfinite (nan_base format) negative)
+    (finite negative (largest format)) → s ≡ cond (leads_out mode negative) 20 16
+    → IsDelivered format mode negative amount parts v s
+delivered_past format mode negative amount parts p v s i a e d =
     record { pick = p; is_pick = i; value_is = rw a e; status_is = rw a d }
 
 -- a pick within the format that is the magnitude
-pub delivered_exactly : (f : Format) (mode : Round) (negative : Bool) (amount parts p : ℕ) (v : Datum) (s : ℕ)
-    → IsPick f.precision mode negative amount parts p → ltb (largest f) p ≡ false → p * parts ≡ amount
-    → v ≡ signed_quanta f.nonfinite negative p → s ≡ 0 → IsDelivered f mode negative amount parts v s
-delivered_exactly f mode negative amount parts p v s i a e w d =
+pub delivered_exactly : (format : Format) (mode : Round) (negative : Bool) (amount parts p : ℕ) (v : Datum) (s : ℕ)
+    → IsPick format.precision mode negative amount parts p → ltb (largest format) p ≡ false → p * parts ≡ amount
+    → v ≡ signed_quanta format.nonfinite negative p → s ≡ 0 → IsDelivered format mode negative amount parts v s
+delivered_exactly format mode negative amount parts p v s i a e w d =
     let b : eqb (p * parts) amount ≡ true = eq-eqb (p * parts) amount e in
     record { pick = p; is_pick = i; value_is = rw a w; status_is = rw (a, b) d }
 
 -- a pick within the format that is not the magnitude
-pub delivered_inexactly : (f : Format) (mode : Round) (negative : Bool) (amount parts p : ℕ) (v : Datum) (s : ℕ)
-    → IsPick f.precision mode negative amount parts p → ltb (largest f) p ≡ false → (p * parts ≡ amount → ⊥)
-    → v ≡ signed_quanta f.nonfinite negative p → s ≡ cond (is_tiny f amount parts p) 24 16
-    → IsDelivered f mode negative amount parts v s
-delivered_inexactly f mode negative amount parts p v s i a n w d =
+pub delivered_inexactly : (format : Format) (mode : Round) (negative : Bool) (amount parts p : ℕ) (v : Datum) (s : ℕ)
+    → IsPick format.precision mode negative amount parts p → ltb (largest format) p ≡ false → (p * parts ≡ amount → ⊥)
+    → v ≡ signed_quanta format.nonfinite negative p → s ≡ cond (is_tiny format amount parts p) 24 16
+    → IsDelivered format mode negative amount parts v s
+delivered_inexactly format mode negative amount parts p v s i a n w d =
     let b : eqb (p * parts) amount ≡ false = ne_eqb (p * parts) amount n in
     record { pick = p; is_pick = i; value_is = rw a w; status_is = rw (a, b) d }
 
@@ -76,11 +78,6 @@ exact_if precision mode negative half m c amount parts p loss z l i h x =
     (pick_is precision mode negative half m c amount parts ExactlyZero l i h') in
     ap (λ (y : ℕ). y * parts) e ∙ omega (arith, h')
 
-off_if : (b : Bool) (m c amount parts : ℕ) → m * (2 ^ c * parts) < amount → amount < (m + 1) * (2 ^ c * parts)
-    → cond b (m + 1) m * 2 ^ c * parts ≡ amount → ⊥
-off_if true m c amount parts l k e = omega arith
-off_if false m c amount parts l k e = omega arith
-
 pub inexact_if : (precision : ℕ) (mode : Round) (negative : Bool) (half m c amount parts p : ℕ) (loss : Loss)
     → (loss ≡ ExactlyZero → ⊥) → 0 < parts → IsEnclosed precision half m c amount parts
     → StandsFor m loss amount (2 ^ c * parts) → IsPick precision mode negative amount parts p → p * parts ≡ amount
@@ -90,9 +87,10 @@ inexact_if precision mode negative half m c amount parts p loss n l i h x q =
     let e : p ≡ kept mode negative loss m * 2 ^ c =
     pick_unique precision mode negative amount parts p (kept mode negative loss m * 2 ^ c) x
     (pick_is precision mode negative half m c amount parts loss l i h) in
-    off_if (rounds_up mode negative loss (eqb (m % 2) 1)) m c amount parts
+    let s : kept mode negative loss m * 2 ^ c * parts ≡ amount = ap (λ (y : ℕ). y * parts) (sym e) ∙ q in
+    off_both (rounds_up mode negative loss (eqb (m % 2) 1)) m amount (2 ^ c * parts)
     (stands_past m loss amount (2 ^ c * parts) u n h) (stands_to m loss amount (2 ^ c * parts) u h)
-    (ap (λ (y : ℕ). y * parts) (sym e) ∙ q)
+    (sym (mul_assoc (kept mode negative loss m) (2 ^ c) parts) ∙ s)
 
 -- ---- tiny
 
@@ -145,13 +143,14 @@ tiny_after half s place f =
     (λ (l : half ≤ s). le-ltb s half l ∙ sym (le-ltb (s * 2 ^ place) half (large_after half s place l)))
     (cases_lt s half)
 
-pub tiny_is : (f : Format) (m c amount parts s place : ℕ) (b : Bool) → 0 < parts
-    → IsEnclosed f.precision (2 ^ (f.precision - 1)) m c amount parts → (place ≡ 0) ⊎ (2 ^ (f.precision - 1) ≤ s)
-    → b ≡ cond f.tiny_before_rounding (ltb m (2 ^ (f.precision - 1))) (ltb s (2 ^ (f.precision - 1)))
-    → is_tiny f amount parts (s * 2 ^ place) ≡ b
-tiny_is f m c amount parts s place b p i g e =
-    ap (λ (x : Bool). cond f.tiny_before_rounding x (ltb (s * 2 ^ place) (2 ^ (f.precision - 1))))
-    (sym (tiny_before f.precision (2 ^ (f.precision - 1)) m c amount parts p i))
-    ∙ ap (λ (x : Bool). cond f.tiny_before_rounding (ltb m (2 ^ (f.precision - 1))) x)
-    (sym (tiny_after (2 ^ (f.precision - 1)) s place g))
+pub tiny_is : (format : Format) (m c amount parts s place : ℕ) (b : Bool) → 0 < parts
+    → IsEnclosed format.precision (2 ^ (format.precision - 1)) m c amount parts
+    → (place ≡ 0) ⊎ (2 ^ (format.precision - 1) ≤ s)
+    → b ≡ cond format.tiny_before_rounding (ltb m (2 ^ (format.precision - 1))) (ltb s (2 ^ (format.precision - 1)))
+    → is_tiny format amount parts (s * 2 ^ place) ≡ b
+tiny_is format m c amount parts s place b p i g e =
+    ap (λ (x : Bool). cond format.tiny_before_rounding x (ltb (s * 2 ^ place) (2 ^ (format.precision - 1))))
+    (sym (tiny_before format.precision (2 ^ (format.precision - 1)) m c amount parts p i))
+    ∙ ap (λ (x : Bool). cond format.tiny_before_rounding (ltb m (2 ^ (format.precision - 1))) x)
+    (sym (tiny_after (2 ^ (format.precision - 1)) s place g))
     ∙ sym e

@@ -5,6 +5,8 @@ use Rattle.std.specs.Bool.{MatchBool}
 use Rattle.std.specs.Option.{unwrap_or}
 use Rattle.std.proofs.lemmas.Nat.{pow_pos}
 use Rattle.std.proofs.lemmas.Int.{ints}
+use Rattle.std.proofs.lemmas.Option.{none-some}
+use Rattle.apfloat_base.specs.declared.parse_error.Fault.{Fault}
 use Rattle.apfloat_base.specs.declared.kinds.Round.{Round}
 use Rattle.apfloat_base.specs.declared.parse_error.ParseError.{ParseError}
 use Rattle.apfloat_base.specs.declared.status.StatusAnd.{StatusAnd}
@@ -24,14 +26,14 @@ use Rattle.apfloat_base.specs.whole_numbers.WholeNumbersOut.{IsToUnsigned, IsToS
 use Rattle.apfloat_base.specs.arithmetic.NextUp.{IsNextUp, IsNextDown}
 use Rattle.apfloat_base.specs.arithmetic.Exponents.{IsIlogb, IsLogarithm, IsFraction, IsFrexp, AreInverse, IsExactInverse}
 use Rattle.apfloat_base.specs.texts.Specials.{Meaning, infinity, not_a_number, hexadecimal}
-use Rattle.apfloat_base.specs.texts.Texts.{Fault, words}
+use Rattle.apfloat_base.specs.texts.Texts.{words}
 use Rattle.apfloat_base.specs.texts.Readings.{IsMeant, IsReading, IsRefusal}
 use Rattle.apfloat_base.specs.texts.Parsing.{IsRead}
 use Rattle.apfloat_base.specs.Determined.{Determines, DeterminesBoth, AreOneReading, IsDetermined}
 use Rattle.apfloat_base.proofs.Once.{Once, answer_once, rounded_once, sum_once, difference_once, product_once, quotient_once, scaling_once, from_unsigned_once, from_signed_once, round_to_integral_once, whole_once, remainder_once, next_up_once, next_down_once}
 use Rattle.apfloat_base.proofs.EncodedOnce.{encoded_once}
 use Rattle.apfloat_base.proofs.Inverses.{logarithm_once, fraction_once, inverse_once}
-use Rattle.apfloat_base.proofs.OneMeaning.{one_meaning, meaning_no_fault, none_is_not_some}
+use Rattle.apfloat_base.proofs.OneMeaning.{one_meaning, meaning_no_fault}
 
 -- an answer is its value and the bits of its status
 pub same_answer : {A : Type 0} (r s : StatusAnd A) → r.value ≡ s.value → bits_of r.status ≡ bits_of s.status → r ≡ s
@@ -63,134 +65,142 @@ is_once given a b h k = h ∙ sym k
 are_once : {A B : Type 0} (given : A) (other : B) → DeterminesBoth (λ (a : A) (b : B). (a ≡ given) × (b ≡ other))
 are_once given other a c b d h k = (h.0 ∙ sym k.0, h.1 ∙ sym k.1)
 
-pub exponent_once : (f : Format) (x : Datum) → Determines (IsIlogb f x)
-exponent_once f (nan b s) = is_once _
-exponent_once f (infinite b) = is_once _
-exponent_once f (finite b n) = match_determines (eqb n 0) _ (IsLogarithm f n) (is_once _) (logarithm_once f n)
+pub exponent_once : (format : Format) (x : Datum) → Determines (IsIlogb format x)
+exponent_once format (nan b s) = is_once _
+exponent_once format (infinite b) = is_once _
+exponent_once format (finite b n) = match_determines (eqb n 0) _ (IsLogarithm format n) (is_once _)
+    (logarithm_once format n)
 
-pub frexp_once : (f : Format) (x : Datum) → 0 < f.scale → DeterminesBoth (IsFrexp f x)
-frexp_once f (nan b s) p = are_once _ _
-frexp_once f (infinite b) p = are_once _ _
-frexp_once f (finite b n) p =
-    match_determines_both (eqb n 0) _ (IsFraction f b n) (are_once _ _) (λ v w d e. fraction_once f b n v w d e p)
+pub frexp_once : (format : Format) (x : Datum) → 0 < format.scale → DeterminesBoth (IsFrexp format x)
+frexp_once format (nan b s) p = are_once _ _
+frexp_once format (infinite b) p = are_once _ _
+frexp_once format (finite b n) p =
+    match_determines_both (eqb n 0) _ (IsFraction format b n) (are_once _ _)
+    (λ v w d e. fraction_once format b n v w d e p)
 
-pub exact_inverse_once : (f : Format) (x : Datum) → Determines (IsExactInverse f x)
-exact_inverse_once f (finite b n) (Some v) (Some w) h k =
-    let i : AreInverse f n h.0 = h.1 in
-    let p : 0 < 2 ^ (f.precision - 1) = pow_pos (f.precision - 1) in
-    let l : 2 ^ (f.precision - 1) ≤ n = i.normal in
-    let e : h.0 ≡ k.0 = inverse_once f n h.0 k.0 (omega arith) i k.1 in
+pub exact_inverse_once : (format : Format) (x : Datum) → Determines (IsExactInverse format x)
+exact_inverse_once format (finite b n) (Some v) (Some w) h k =
+    let i : AreInverse format n h.0 = h.1 in
+    let p : 0 < 2 ^ (format.precision - 1) = pow_pos (format.precision - 1) in
+    let l : 2 ^ (format.precision - 1) ≤ n = i.normal in
+    let e : h.0 ≡ k.0 = inverse_once format n h.0 k.0 (omega arith) i k.1 in
     ap (λ (d : Datum). Some d) (h.2 ∙ ap (λ (m : ℕ). finite b m) e ∙ sym k.2)
-exact_inverse_once f (finite b n) (Some v) None h k = absurd (k h.0 h.1)
-exact_inverse_once f (finite b n) None (Some w) h k = absurd (h k.0 k.1)
-exact_inverse_once f (finite b n) None None h k = refl
-exact_inverse_once f (infinite b) (Some v) w h k = absurd h
-exact_inverse_once f (infinite b) None (Some w) h k = absurd k
-exact_inverse_once f (infinite b) None None h k = refl
-exact_inverse_once f (nan b s) (Some v) w h k = absurd h
-exact_inverse_once f (nan b s) None (Some w) h k = absurd k
-exact_inverse_once f (nan b s) None None h k = refl
+exact_inverse_once format (finite b n) (Some v) None h k = absurd (k h.0 h.1)
+exact_inverse_once format (finite b n) None (Some w) h k = absurd (h k.0 k.1)
+exact_inverse_once format (finite b n) None None h k = refl
+exact_inverse_once format (infinite b) (Some v) w h k = absurd h
+exact_inverse_once format (infinite b) None (Some w) h k = absurd k
+exact_inverse_once format (infinite b) None None h k = refl
+exact_inverse_once format (nan b s) (Some v) w h k = absurd h
+exact_inverse_once format (nan b s) None (Some w) h k = absurd k
+exact_inverse_once format (nan b s) None None h k = refl
 
 -- ---- whole numbers out
 
-pub to_unsigned_once : (f : Format) (mode : Round) (width : ℕ) (x : Datum)
+pub to_unsigned_once : (format : Format) (mode : Round) (width : ℕ) (x : Datum)
     → DeterminesBoth (λ (answer : StatusAnd ℕ) (exact : Bool).
-    IsToUnsigned f mode width x answer.value (bits_of answer.status) exact)
-to_unsigned_once f mode width x r s a b h k =
-    let whole = to_unsigned f mode width x in
+    IsToUnsigned format mode width x answer.value (bits_of answer.status) exact)
+to_unsigned_once format mode width x r s a b h k =
+    let whole = to_unsigned format mode width x in
     let e = whole_once whole (pos r.value) (pos s.value) (bits_of r.status) (bits_of s.status) a b h k in
     (same_answer r s (ap unsigned_abs e.0) e.1, e.2)
 
-pub to_signed_once : (f : Format) (mode : Round) (width : ℕ) (x : Datum)
+pub to_signed_once : (format : Format) (mode : Round) (width : ℕ) (x : Datum)
     → DeterminesBoth (λ (answer : StatusAnd ℤ) (exact : Bool).
-    IsToSigned f mode width x answer.value (bits_of answer.status) exact)
-to_signed_once f mode width x r s a b h k =
-    let e = whole_once (to_signed f mode width x) r.value s.value (bits_of r.status) (bits_of s.status) a b h k in
+    IsToSigned format mode width x answer.value (bits_of answer.status) exact)
+to_signed_once format mode width x r s a b h k =
+    let e = whole_once (to_signed format mode width x) r.value s.value (bits_of r.status) (bits_of s.status) a b h k in
     (same_answer r s e.0 e.1, e.2)
 
 -- ---- texts
 
-meant_once : (f : Format) (mode : Round) (meaning : Meaning) → Once (IsMeant f mode meaning)
-meant_once f mode (infinity negative) = answer_once _ _
-meant_once f mode (not_a_number negative signaling payload) = answer_once _ _
-meant_once f mode (hexadecimal negative h places e) = rounded_once f mode negative _ _
+meant_once : (format : Format) (mode : Round) (meaning : Meaning) → Once (IsMeant format mode meaning)
+meant_once format mode (infinity negative) = answer_once _ _
+meant_once format mode (not_a_number negative signaling payload) = answer_once _ _
+meant_once format mode (hexadecimal negative h places e) = rounded_once format mode negative _ _
 
-pub reading_once : (f : Format) (mode : Round) (text : List ℕ) → Once (IsReading f mode text)
-reading_once f mode text v w r s h k =
+pub reading_once : (format : Format) (mode : Round) (text : List ℕ) → Once (IsReading format mode text)
+reading_once format mode text v w r s h k =
     let e = one_meaning text k.meaning h.meaning k.means h.means in
-    meant_once f mode h.meaning v w r s h.is_meant (subst (λ (m : Meaning). IsMeant f mode m w s) e k.is_meant)
+    meant_once format mode h.meaning v w r s h.is_meant
+    (subst (λ (m : Meaning). IsMeant format mode m w s) e k.is_meant)
 
 pub refusal_once : (text : List ℕ) → Determines (IsRefusal text)
 refusal_once text r s h k =
     h.says ∙ ap (λ (o : Option Fault). words (unwrap_or o h.fault)) (sym h.is_first ∙ k.is_first) ∙ sym k.says
 
 -- a text is read or refused, not both
-pub reading_or_refusal : (f : Format) (mode : Round) (text said : List ℕ) (v : Datum) (s : ℕ)
-    → IsReading f mode text v s → IsRefusal text said → ⊥
-reading_or_refusal f mode text said v s h k =
-    none_is_not_some (sym (meaning_no_fault text h.meaning h.means) ∙ k.is_first)
+pub reading_or_refusal : (format : Format) (mode : Round) (text said : List ℕ) (v : Datum) (s : ℕ)
+    → IsReading format mode text v s → IsRefusal text said → ⊥
+reading_or_refusal format mode text said v s h k =
+    none-some _ (sym (meaning_no_fault text h.meaning h.means) ∙ k.is_first)
 
-pub read_once : (f : Format) (mode : Round) (text : List ℕ) (answer other : Result (StatusAnd Datum) ParseError)
-    → IsRead f mode text answer → IsRead f mode text other → AreOneReading answer other
-read_once f mode text (Ok r) (Ok s) h k = gives_once (IsReading f mode text) (reading_once f mode text) r s h k
-read_once f mode text (Ok r) (Err e) h k = reading_or_refusal f mode text e.0.now r.value (bits_of r.status) h k
-read_once f mode text (Err e) (Ok r) h k = reading_or_refusal f mode text e.0.now r.value (bits_of r.status) k h
-read_once f mode text (Err e) (Err d) h k = refusal_once text e.0.now d.0.now h k
+pub read_once : (format : Format) (mode : Round) (text : List ℕ) (answer other : Result (StatusAnd Datum) ParseError)
+    → IsRead format mode text answer → IsRead format mode text other → AreOneReading answer other
+read_once format mode text (Ok r) (Ok s) h k = gives_once (IsReading format mode text)
+    (reading_once format mode text) r s h k
+read_once format mode text (Ok r) (Err e) h k =
+    reading_or_refusal format mode text e.0.now r.value (bits_of r.status) h k
+read_once format mode text (Err e) (Ok r) h k =
+    reading_or_refusal format mode text e.0.now r.value (bits_of r.status) k h
+read_once format mode text (Err e) (Err d) h k = refusal_once text e.0.now d.0.now h k
 
 -- ---- all relations
 
 -- the quantum of a lawful format is below 1
-pub scale_some : (c : Constants) → IsLawful c → 0 < (format_with c).scale
-scale_some c law =
-    let e : pos (c.precision - 1) -ℤ c.min_exp ≡ pos (unsigned_abs (pos (c.precision - 1) -ℤ c.min_exp)) =
+pub scale_some : (constants : Constants) → IsLawful constants → 0 < (format_with constants).scale
+scale_some constants law =
+    let e : pos (constants.precision - 1) -ℤ constants.min_exp
+    ≡ pos (unsigned_abs (pos (constants.precision - 1) -ℤ constants.min_exp)) =
     omega (arith, ints, law.precision_low, law.min_exp_high) in
     omega (arith, ints, law.precision_low, law.min_exp_high, e)
 
 -- of a format of positive scale, with its bits if it has any
 
-pub determined : (f : Format) (layout : Layout) (precision bits : ℕ) (mode : Round) → 0 < f.scale
-    → (precision < bits → IsInterchange f layout)
+pub determined : (format : Format) (layout : Layout) (precision bits : ℕ) (mode : Round) → 0 < format.scale
+    → (precision < bits → IsInterchange format layout)
     → IsDetermined mode precision bits
-    (λ (x y : Datum) (mode : Round) (answer : StatusAnd Datum). Gives (IsSum f mode x y) answer)
-    (λ (x y : Datum) (mode : Round) (answer : StatusAnd Datum). Gives (IsDifference f mode x y) answer)
-    (λ (x y : Datum) (mode : Round) (answer : StatusAnd Datum). Gives (IsProduct f mode x y) answer)
-    (λ (x y : Datum) (mode : Round) (answer : StatusAnd Datum). Gives (IsQuotient f mode x y) answer)
-    (IsExactInverse f)
-    (λ (x y : Datum) (answer : StatusAnd Datum). Gives (IsTruncatedRemainder f x y) answer)
-    (λ (x y : Datum) (answer : StatusAnd Datum). Gives (IsNearestRemainder f x y) answer)
-    (λ (x : Datum) (written : ℕ). IsEncodedBy f layout written x)
-    (λ (number : ℕ) (mode : Round) (answer : StatusAnd Datum). Gives (IsFromUnsigned f mode number) answer)
-    (λ (number : ℤ) (mode : Round) (answer : StatusAnd Datum). Gives (IsFromSigned f mode number) answer)
-    (λ (x : Datum) (mode : Round) (answer : StatusAnd Datum). Gives (IsRoundToIntegral f mode x) answer)
+    (λ (x y : Datum) (mode : Round) (answer : StatusAnd Datum). Gives (IsSum format mode x y) answer)
+    (λ (x y : Datum) (mode : Round) (answer : StatusAnd Datum). Gives (IsDifference format mode x y) answer)
+    (λ (x y : Datum) (mode : Round) (answer : StatusAnd Datum). Gives (IsProduct format mode x y) answer)
+    (λ (x y : Datum) (mode : Round) (answer : StatusAnd Datum). Gives (IsQuotient format mode x y) answer)
+    (IsExactInverse format)
+    (λ (x y : Datum) (answer : StatusAnd Datum). Gives (IsTruncatedRemainder format x y) answer)
+    (λ (x y : Datum) (answer : StatusAnd Datum). Gives (IsNearestRemainder format x y) answer)
+    (λ (x : Datum) (written : ℕ). IsEncodedBy format layout written x)
+    (λ (number : ℕ) (mode : Round) (answer : StatusAnd Datum). Gives (IsFromUnsigned format mode number) answer)
+    (λ (number : ℤ) (mode : Round) (answer : StatusAnd Datum). Gives (IsFromSigned format mode number) answer)
+    (λ (x : Datum) (mode : Round) (answer : StatusAnd Datum). Gives (IsRoundToIntegral format mode x) answer)
     (λ (x : Datum) (width : ℕ) (mode : Round) (answer : StatusAnd ℕ) (exact : Bool).
-    IsToUnsigned f mode width x answer.value (bits_of answer.status) exact)
+    IsToUnsigned format mode width x answer.value (bits_of answer.status) exact)
     (λ (x : Datum) (width : ℕ) (mode : Round) (answer : StatusAnd ℤ) (exact : Bool).
-    IsToSigned f mode width x answer.value (bits_of answer.status) exact)
-    (λ (x : Datum) (answer : StatusAnd Datum). Gives (IsNextUp f x) answer)
-    (λ (x : Datum) (answer : StatusAnd Datum). Gives (IsNextDown f x) answer)
-    (λ (x : Datum) (places : ℤ) (mode : Round) (value : Datum). IsScaling f mode x places value)
-    (λ (x : Datum) (exponent : ℤ). IsIlogb f x exponent)
-    (λ (x : Datum) (mode : Round) (value : Datum) (exponent : ℤ). IsFrexp f x value exponent)
-    (λ (text : List ℕ) (mode : Round) (answer : Result (StatusAnd Datum) ParseError). IsRead f mode text answer)
-determined f layout precision bits mode positive interchange =
+    IsToSigned format mode width x answer.value (bits_of answer.status) exact)
+    (λ (x : Datum) (answer : StatusAnd Datum). Gives (IsNextUp format x) answer)
+    (λ (x : Datum) (answer : StatusAnd Datum). Gives (IsNextDown format x) answer)
+    (λ (x : Datum) (places : ℤ) (mode : Round) (value : Datum). IsScaling format mode x places value)
+    (λ (x : Datum) (exponent : ℤ). IsIlogb format x exponent)
+    (λ (x : Datum) (mode : Round) (value : Datum) (exponent : ℤ). IsFrexp format x value exponent)
+    (λ (text : List ℕ) (mode : Round) (answer : Result (StatusAnd Datum) ParseError). IsRead format mode text answer)
+determined format layout precision bits mode positive interchange =
     record {
-      sum = λ x y. gives_once (IsSum f mode x y) (sum_once f mode x y);
-      difference = λ x y. gives_once (IsDifference f mode x y) (difference_once f mode x y);
-      product = λ x y. gives_once (IsProduct f mode x y) (product_once f mode x y);
-      quotient = λ x y. gives_once (IsQuotient f mode x y) (quotient_once f mode x y);
-      inverse = λ x. exact_inverse_once f x;
-      remainder = λ x y. gives_once (IsTruncatedRemainder f x y) (remainder_once f truncated_quotient x y);
-      nearest_remainder = λ x y. gives_once (IsNearestRemainder f x y) (remainder_once f nearest_quotient x y);
-      bits = λ p x a b. encoded_once f layout x a b (interchange p);
-      of_unsigned = λ number. gives_once (IsFromUnsigned f mode number) (from_unsigned_once f mode number);
-      of_signed = λ number. gives_once (IsFromSigned f mode number) (from_signed_once f mode number);
-      integral = λ x. gives_once (IsRoundToIntegral f mode x) (round_to_integral_once f mode x);
-      to_unsigned = λ x width. to_unsigned_once f mode width x;
-      to_signed = λ x width. to_signed_once f mode width x;
-      above = λ x. gives_once (IsNextUp f x) (next_up_once f x);
-      below = λ x. gives_once (IsNextDown f x) (next_down_once f x);
-      scaled = λ x places. scaling_once f mode x places;
-      exponent = λ x. exponent_once f x;
-      fraction = λ x. frexp_once f x positive;
-      reading = λ text. read_once f mode text;
+      sum = λ x y. gives_once (IsSum format mode x y) (sum_once format mode x y);
+      difference = λ x y. gives_once (IsDifference format mode x y) (difference_once format mode x y);
+      product = λ x y. gives_once (IsProduct format mode x y) (product_once format mode x y);
+      quotient = λ x y. gives_once (IsQuotient format mode x y) (quotient_once format mode x y);
+      inverse = λ x. exact_inverse_once format x;
+      remainder = λ x y. gives_once (IsTruncatedRemainder format x y) (remainder_once format truncated_quotient x y);
+      nearest_remainder = λ x y. gives_once (IsNearestRemainder format x y)
+          (remainder_once format nearest_quotient x y);
+      bits = λ p x a b. encoded_once format layout x a b (interchange p);
+      of_unsigned = λ number. gives_once (IsFromUnsigned format mode number) (from_unsigned_once format mode number);
+      of_signed = λ number. gives_once (IsFromSigned format mode number) (from_signed_once format mode number);
+      integral = λ x. gives_once (IsRoundToIntegral format mode x) (round_to_integral_once format mode x);
+      to_unsigned = λ x width. to_unsigned_once format mode width x;
+      to_signed = λ x width. to_signed_once format mode width x;
+      above = λ x. gives_once (IsNextUp format x) (next_up_once format x);
+      below = λ x. gives_once (IsNextDown format x) (next_down_once format x);
+      scaled = λ x places. scaling_once format mode x places;
+      exponent = λ x. exponent_once format x;
+      fraction = λ x. frexp_once format x positive;
+      reading = λ text. read_once format mode text;
     }

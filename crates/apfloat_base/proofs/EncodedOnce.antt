@@ -47,57 +47,59 @@ explicit_kind IEEE754 explicit may e = refl
 explicit_kind NanOnly explicit may e = absurd (true≢false (sym e ∙ may))
 explicit_kind NanNegativeZero explicit may e = absurd (true≢false (sym e ∙ may))
 
-module _ (f : Format) (layout : Layout) (precise : 3 ≤ f.precision) where
+module _ (format : Format) (layout : Layout) (precise : 3 ≤ format.precision) where
   -- ---- numbers
 
   -- below the smallest normalized number the number itself is written
-  low_fields : (b : Bool) (n : ℕ) → n < smallest_normalized f → fields_by f layout (finite b n) ≡ fields_with b 0 n
-  low_fields b n h = rw (lt-leb (smallest_normalized f) n h) refl
+  low_fields : (b : Bool) (n : ℕ) → n < smallest_normalized format
+      → fields_by format layout (finite b n) ≡ fields_with b 0 n
+  low_fields b n h = rw (lt-leb (smallest_normalized format) n h) refl
 
   -- a significand with its integer bit, at a place
-  high_fields : (b : Bool) (m j : ℕ) → smallest_normalized f ≤ m → m < 2 ^ f.precision
-      → fields_by f layout (finite b (m * 2 ^ j)) ≡ fields_with b (j + 1) (m - hidden f)
+  high_fields : (b : Bool) (m j : ℕ) → smallest_normalized format ≤ m → m < 2 ^ format.precision
+      → fields_by format layout (finite b (m * 2 ^ j)) ≡ fields_with b (j + 1) (m - hidden format)
   high_fields b m j low high =
-      let t : 2 * 2 ^ (f.precision - 1) ≡ 2 ^ f.precision = twice_half f.precision (omega arith) in
-      let p : 2 ^ (f.precision - 1 + j) ≡ 2 ^ (f.precision - 1) * 2 ^ j = pow-add 2 (f.precision - 1) j in
-      let a : 2 ^ (f.precision - 1) * 2 ^ j ≤ m * 2 ^ j = mul-le-mul_right (2 ^ j) low in
-      let h : m < 2 * 2 ^ (f.precision - 1) = omega arith in
-      let c : m * 2 ^ j < 2 * 2 ^ (f.precision - 1) * 2 ^ j = mul-lt-mul_of_pos_right h (pow_pos j) in
-      let g : log2 (m * 2 ^ j) ≡ f.precision - 1 + j =
-      log2_is (m * 2 ^ j) (f.precision - 1 + j) (omega arith) (omega arith) in
+      let t : 2 * 2 ^ (format.precision - 1) ≡ 2 ^ format.precision = twice_half format.precision (omega arith) in
+      let p : 2 ^ (format.precision - 1 + j) ≡ 2 ^ (format.precision - 1) * 2 ^ j =
+      pow-add 2 (format.precision - 1) j in
+      let a : 2 ^ (format.precision - 1) * 2 ^ j ≤ m * 2 ^ j = mul-le-mul_right (2 ^ j) low in
+      let h : m < 2 * 2 ^ (format.precision - 1) = omega arith in
+      let c : m * 2 ^ j < 2 * 2 ^ (format.precision - 1) * 2 ^ j = mul-lt-mul_of_pos_right h (pow_pos j) in
+      let g : log2 (m * 2 ^ j) ≡ format.precision - 1 + j =
+      log2_is (m * 2 ^ j) (format.precision - 1 + j) (omega arith) (omega arith) in
       let o : 1 ≤ 2 ^ j = pow_pos j in
       let d : m * 1 ≤ m * 2 ^ j = mul-le-mul_left m o in
-      let l : leb (smallest_normalized f) (m * 2 ^ j) ≡ true =
-      le-leb (smallest_normalized f) (m * 2 ^ j) (omega arith) in
-      let c1 : f.precision - 1 + j + 2 - f.precision ≡ j + 1 = omega arith in
-      let c2 : f.precision - 1 + j + 1 - f.precision ≡ j = omega arith in
+      let l : leb (smallest_normalized format) (m * 2 ^ j) ≡ true =
+      le-leb (smallest_normalized format) (m * 2 ^ j) (omega arith) in
+      let c1 : format.precision - 1 + j + 2 - format.precision ≡ j + 1 = omega arith in
+      let c2 : format.precision - 1 + j + 1 - format.precision ≡ j = omega arith in
       rw (l, g, c1, c2, shl-shr m j) refl
 
   -- ---- an implied integer bit
 
-  module _ (implied : f.explicit_integer_bit ≡ false) where
-    hidden_is : hidden f ≡ smallest_normalized f
+  module _ (implied : format.explicit_integer_bit ≡ false) where
+    hidden_is : hidden format ≡ smallest_normalized format
     hidden_is = rw implied refl
 
-    width_is : trailing_bits f ≡ f.precision - 1
+    width_is : trailing_bits format ≡ format.precision - 1
     width_is = rw implied refl
 
-    number_fields : (b : Bool) (e t : ℕ) → t < smallest_normalized f
-        → fields_by f layout (implied_number f (fields_with b e t)) ≡ fields_with b e t
+    number_fields : (b : Bool) (e t : ℕ) → t < smallest_normalized format
+        → fields_by format layout (implied_number format (fields_with b e t)) ≡ fields_with b e t
     number_fields b e t low =
         ⊎_elim
         (λ (z : e ≡ 0). rw (eq-eqb e 0 z) (low_fields b t low ∙ ap (λ (x : ℕ). fields_with b x t) (sym z)))
         (λ (n : e ≡ 0 → ⊥).
-        let w : 2 * 2 ^ (f.precision - 1) ≡ 2 ^ f.precision = twice_half f.precision (omega arith) in
-        let h = high_fields b (smallest_normalized f + t) (e - 1) (omega arith) (omega arith) in
+        let w : 2 * 2 ^ (format.precision - 1) ≡ 2 ^ format.precision = twice_half format.precision (omega arith) in
+        let h = high_fields b (smallest_normalized format + t) (e - 1) (omega arith) (omega arith) in
         let c : e - 1 + 1 ≡ e = omega arith in
-        let d : smallest_normalized f + t - hidden f ≡ t = rw hidden_is (omega arith) in
+        let d : smallest_normalized format + t - hidden format ≡ t = rw hidden_is (omega arith) in
         rw (ne_eqb e 0 n) (rw (c, d) at h))
         (cases_eq e 0)
 
-    implied_fields : (kind : NonfiniteBehavior) (b : Bool) (e t : ℕ) → f.nonfinite ≡ kind
-        → t < smallest_normalized f
-        → fields_by f layout (implied_datum kind f layout (fields_with b e t)) ≡ fields_with b e t
+    implied_fields : (kind : NonfiniteBehavior) (b : Bool) (e t : ℕ) → format.nonfinite ≡ kind
+        → t < smallest_normalized format
+        → fields_by format layout (implied_datum kind format layout (fields_with b e t)) ≡ fields_with b e t
     implied_fields IEEE754 b e t k low =
         ⊎_elim
         (λ (o : e ≡ all_ones layout.exponent_bits).
@@ -112,12 +114,12 @@ module _ (f : Format) (layout : Layout) (precise : 3 ≤ f.precision) where
         ⊎_elim
         (λ (o : e ≡ all_ones layout.exponent_bits).
         ⊎_elim
-        (λ (z : t ≡ all_ones (f.precision - 1)).
-        rw (eq-eqb e (all_ones layout.exponent_bits) o, eq-eqb t (all_ones (f.precision - 1)) z, k, o, z) refl)
-        (λ (n : t ≡ all_ones (f.precision - 1) → ⊥).
-        rw (eq-eqb e (all_ones layout.exponent_bits) o, ne_eqb t (all_ones (f.precision - 1)) n)
+        (λ (z : t ≡ all_ones (format.precision - 1)).
+        rw (eq-eqb e (all_ones layout.exponent_bits) o, eq-eqb t (all_ones (format.precision - 1)) z, k, o, z) refl)
+        (λ (n : t ≡ all_ones (format.precision - 1) → ⊥).
+        rw (eq-eqb e (all_ones layout.exponent_bits) o, ne_eqb t (all_ones (format.precision - 1)) n)
         (number_fields b e t low))
-        (cases_eq t (all_ones (f.precision - 1))))
+        (cases_eq t (all_ones (format.precision - 1))))
         (λ (n : e ≡ all_ones layout.exponent_bits → ⊥).
         rw (ne_eqb e (all_ones layout.exponent_bits) n) (number_fields b e t low))
         (cases_eq e (all_ones layout.exponent_bits))
@@ -134,72 +136,78 @@ module _ (f : Format) (layout : Layout) (precise : 3 ≤ f.precision) where
 
   -- ---- a written integer bit
 
-  module _ (written : f.explicit_integer_bit ≡ true) (kind : f.nonfinite ≡ IEEE754) where
-    whole_significand : (m : ℕ) → m - hidden f ≡ m
+  module _ (written : format.explicit_integer_bit ≡ true) (kind : format.nonfinite ≡ IEEE754) where
+    whole_significand : (m : ℕ) → m - hidden format ≡ m
     whole_significand m = rw written (omega arith)
 
-    nan_fields : (b : Bool) (s : ℕ) → fields_by f layout (nan b s) ≡ fields_with b (all_ones layout.exponent_bits) s
+    nan_fields : (b : Bool) (s : ℕ) → fields_by format layout (nan b s)
+        ≡ fields_with b (all_ones layout.exponent_bits) s
     nan_fields b s = rw kind refl
 
-    written_fields : (b : Bool) (e t : ℕ) → t < 2 ^ f.precision
-        → IsTrue (is_canonical_written f layout (fields_with b e t))
-        → fields_by f layout (written_datum f layout (fields_with b e t)) ≡ fields_with b e t
+    written_fields : (b : Bool) (e t : ℕ) → t < 2 ^ format.precision
+        → IsTrue (is_canonical_written format layout (fields_with b e t))
+        → fields_by format layout (written_datum format layout (fields_with b e t)) ≡ fields_with b e t
     written_fields b e t high canonical =
         ⊎_elim
         (λ (o : e ≡ all_ones layout.exponent_bits).
         ⊎_elim
-        (λ (z : t ≡ smallest_normalized f).
-        rw (eq-eqb e (all_ones layout.exponent_bits) o, eq-eqb t (smallest_normalized f) z, written, o, z) refl)
-        (λ (n : t ≡ smallest_normalized f → ⊥).
-        rw (eq-eqb e (all_ones layout.exponent_bits) o, ne_eqb t (smallest_normalized f) n)
+        (λ (z : t ≡ smallest_normalized format).
+        rw (eq-eqb e (all_ones layout.exponent_bits) o, eq-eqb t (smallest_normalized format) z, written, o, z) refl)
+        (λ (n : t ≡ smallest_normalized format → ⊥).
+        rw (eq-eqb e (all_ones layout.exponent_bits) o, ne_eqb t (smallest_normalized format) n)
         (nan_fields b t ∙ ap (λ (x : ℕ). fields_with b x t) (sym o)))
-        (cases_eq t (smallest_normalized f)))
+        (cases_eq t (smallest_normalized format)))
         (λ (n : e ≡ all_ones layout.exponent_bits → ⊥).
         let q : eqb e (all_ones layout.exponent_bits) ≡ false = ne_eqb e (all_ones layout.exponent_bits) n in
-        let c : IsTrue (cond (eqb e 0) (ltb t (smallest_normalized f)) (leb (smallest_normalized f) t)) =
+        let c : IsTrue (cond (eqb e 0) (ltb t (smallest_normalized format)) (leb (smallest_normalized format) t)) =
         rw q at canonical in
         rw q (number_by b e t high c))
         (cases_eq e (all_ones layout.exponent_bits))
       where
-        number_by : (b : Bool) (e t : ℕ) → t < 2 ^ f.precision
-            → IsTrue (cond (eqb e 0) (ltb t (smallest_normalized f)) (leb (smallest_normalized f) t))
-            → fields_by f layout (written_number f (fields_with b e t)) ≡ fields_with b e t
+        number_by : (b : Bool) (e t : ℕ) → t < 2 ^ format.precision
+            → IsTrue (cond (eqb e 0) (ltb t (smallest_normalized format)) (leb (smallest_normalized format) t))
+            → fields_by format layout (written_number format (fields_with b e t)) ≡ fields_with b e t
         number_by b e t high c =
             ⊎_elim
             (λ (z : e ≡ 0).
             let q = eq-eqb e 0 z in
-            let l : IsTrue (ltb t (smallest_normalized f)) = rw q at c in
-            rw q (low_fields b t (ltb-true t (smallest_normalized f) l) ∙ ap (λ (x : ℕ). fields_with b x t) (sym z)))
+            let l : IsTrue (ltb t (smallest_normalized format)) = rw q at c in
+            rw q (low_fields b t (ltb-true t (smallest_normalized format) l) ∙ ap (λ (x : ℕ). fields_with b x t)
+            (sym z)))
             (λ (n : e ≡ 0 → ⊥).
             let q = ne_eqb e 0 n in
-            let l : IsTrue (leb (smallest_normalized f) t) = rw q at c in
-            let h = high_fields b t (e - 1) (leb-true (smallest_normalized f) t l) high in
+            let l : IsTrue (leb (smallest_normalized format) t) = rw q at c in
+            let h = high_fields b t (e - 1) (leb-true (smallest_normalized format) t l) high in
             let d : e - 1 + 1 ≡ e = omega arith in
             rw (q, l) (rw (d, whole_significand t) at h))
             (cases_eq e 0)
 
 -- ---- any layout
 
-by_layout : (explicit : Bool) (f : Format) (layout : Layout) (b : Bool) (e t : ℕ)
-    → f.explicit_integer_bit ≡ explicit → IsInterchange f layout → AreWithin f layout (fields_with b e t)
-    → IsTrue (is_canonical f layout (fields_with b e t))
-    → fields_by f layout (datum_of_fields f layout (fields_with b e t)) ≡ fields_with b e t
-by_layout true f layout b e t x law within canonical =
-    let k : f.nonfinite ≡ IEEE754 = explicit_kind f.nonfinite f.explicit_integer_bit law.explicit x in
-    let w : t < 2 ^ f.precision = rw x at within.trailing in
-    let c : IsTrue (is_canonical_written f layout (fields_with b e t)) = rw x at canonical in
-    ap (fields_by f layout) (cond-true f.explicit_integer_bit _ _ x) ∙
-    written_fields f layout law.precise x k b e t w c
-by_layout false f layout b e t x law within canonical =
-    let w : t < 2 ^ (f.precision - 1) = rw x at within.trailing in
-    ap (fields_by f layout) (cond-false f.explicit_integer_bit _ _ x) ∙
-    implied_fields f layout law.precise x f.nonfinite b e t refl w
+by_layout : (explicit : Bool) (format : Format) (layout : Layout) (b : Bool) (e t : ℕ)
+    → format.explicit_integer_bit ≡ explicit → IsInterchange format layout → AreWithin format layout (fields_with b e t)
+    → IsTrue (is_canonical format layout (fields_with b e t))
+    → fields_by format layout (datum_of_fields format layout (fields_with b e t)) ≡ fields_with b e t
+by_layout true format layout b e t x law within canonical =
+    let k : format.nonfinite ≡ IEEE754 = explicit_kind format.nonfinite format.explicit_integer_bit law.explicit x in
+    let w : t < 2 ^ format.precision = rw x at within.trailing in
+    let c : IsTrue (is_canonical_written format layout (fields_with b e t)) = rw x at canonical in
+    ap (fields_by format layout) (cond-true format.explicit_integer_bit _ _ x) ∙
+    written_fields format layout law.precise x k b e t w c
+by_layout false format layout b e t x law within canonical =
+    let w : t < 2 ^ (format.precision - 1) = rw x at within.trailing in
+    ap (fields_by format layout) (cond-false format.explicit_integer_bit _ _ x) ∙
+    implied_fields format layout law.precise x format.nonfinite b e t refl w
 
 -- the bits are determined by the datum
-pub encoded_once : (f : Format) (layout : Layout) (datum : Datum) (a b : ℕ) → IsInterchange f layout
-    → IsEncodedBy f layout a datum → IsEncodedBy f layout b datum → a ≡ b
-encoded_once f layout datum a b law x y =
-    let p = by_layout f.explicit_integer_bit f layout _ _ _ refl law (fields_within f layout law a) x.canonical in
-    let q = by_layout f.explicit_integer_bit f layout _ _ _ refl law (fields_within f layout law b) y.canonical in
-    let e : fields_of f layout a ≡ fields_of f layout b = sym p ∙ ap (fields_by f layout) (x.is ∙ sym y.is) ∙ q in
-    sym (bits_back f layout law a x.below) ∙ ap (bits_of_fields f layout) e ∙ bits_back f layout law b y.below
+pub encoded_once : (format : Format) (layout : Layout) (datum : Datum) (a b : ℕ) → IsInterchange format layout
+    → IsEncodedBy format layout a datum → IsEncodedBy format layout b datum → a ≡ b
+encoded_once format layout datum a b law x y =
+    let p = by_layout format.explicit_integer_bit format layout _ _ _ refl law (fields_within format layout law a)
+    x.canonical in
+    let q = by_layout format.explicit_integer_bit format layout _ _ _ refl law (fields_within format layout law b)
+    y.canonical in
+    let e : fields_of format layout a ≡ fields_of format layout b = sym p ∙
+    ap (fields_by format layout) (x.is ∙ sym y.is) ∙ q in
+    sym (bits_back format layout law a x.below) ∙ ap (bits_of_fields format layout) e ∙
+    bits_back format layout law b y.below

@@ -13,35 +13,37 @@ use Rattle.apfloat_base.proofs.Losses.{twice_half}
 -- ---- the law
 
 -- a format that is wider than its significand has bits
-pub has_bits : (c : Constants) → IsLawful c → c.precision < c.bits → HasBits c
-has_bits c law wide = ⊎_elim (λ (n : HasNoBits c). absurd (omega (arith, n.bits))) (λ (h : HasBits c). h) law.layout
+pub has_bits : (constants : Constants) → IsLawful constants → constants.precision < constants.bits → HasBits constants
+has_bits constants law wide = ⊎_elim (λ (n : HasNoBits constants). absurd (omega (arith, n.bits)))
+    (λ (h : HasBits constants). h) law.layout
 
 trailing_by : (explicit : Bool) (precision : ℕ) → 1 ≤ precision
     → precision + cond explicit 1 0 ≡ cond explicit precision (precision - 1) + 1
 trailing_by true precision h = refl
 trailing_by false precision h = omega arith
 
-pub lawful_interchange : (c : Constants) → IsLawful c → c.precision < c.bits
-    → IsInterchange (format_with c) (layout_with c)
-lawful_interchange c law wide =
-    let h = has_bits c law wide in
-    let t = twice_half c.exp_bits h.exp_bits in
-    let p = pow_pos (c.exp_bits - 1) in
-    let w = trailing_by c.explicit_integer_bit c.precision (omega (arith, law.precision_low)) in
+pub lawful_interchange : (constants : Constants) → IsLawful constants → constants.precision < constants.bits
+    → IsInterchange (format_with constants) (layout_with constants)
+lawful_interchange constants law wide =
+    let h = has_bits constants law wide in
+    let t = twice_half constants.exp_bits h.exp_bits in
+    let p = pow_pos (constants.exp_bits - 1) in
+    let w = trailing_by constants.explicit_integer_bit constants.precision (omega (arith, law.precision_low)) in
     record {
       precise = law.precision_low;
       some = h.exp_bits;
       bits = omega (arith, h.bits, w);
       within = h.bits_high;
-      span = span_by c law h;
+      span = span_by constants law h;
       explicit = law.explicit;
     }
   where
-    span_by : (c : Constants) → IsLawful c → HasBits c
-        → unsigned_abs (c.max_exp -ℤ c.min_exp) + 3 ≡ 2 ^ c.exp_bits + more_exponents c.nonfinite
-    span_by c law h =
-        let t = twice_half c.exp_bits h.exp_bits in
-        let big : 3 ≤ 2 ^ c.exp_bits + more_exponents c.nonfinite =
+    span_by : (constants : Constants) → IsLawful constants → HasBits constants
+        → unsigned_abs (constants.max_exp -ℤ constants.min_exp) + 3
+        ≡ 2 ^ constants.exp_bits + more_exponents constants.nonfinite
+    span_by constants law h =
+        let t = twice_half constants.exp_bits h.exp_bits in
+        let big : 3 ≤ 2 ^ constants.exp_bits + more_exponents constants.nonfinite =
         omega (
           arith,
           ints,
@@ -53,9 +55,11 @@ lawful_interchange c law wide =
           h.max_exp,
           t,
         ) in
-        let e : c.max_exp -ℤ c.min_exp ≡ pos (2 ^ c.exp_bits + more_exponents c.nonfinite - 3) =
+        let e : constants.max_exp -ℤ constants.min_exp
+        ≡ pos (2 ^ constants.exp_bits + more_exponents constants.nonfinite - 3) =
         omega (arith, ints, h.ieee_min_exp, h.ieee_max_exp, h.max_exp, t) in
-        let a : unsigned_abs (c.max_exp -ℤ c.min_exp) ≡ 2 ^ c.exp_bits + more_exponents c.nonfinite - 3 =
+        let a : unsigned_abs (constants.max_exp -ℤ constants.min_exp)
+        ≡ 2 ^ constants.exp_bits + more_exponents constants.nonfinite - 3 =
         ap unsigned_abs e in
         omega arith
 
@@ -74,23 +78,24 @@ top_bit zero h = refl
 top_bit (suc zero) h = refl
 top_bit (suc (suc n)) h = absurd (omega arith)
 
-module _ (f : Format) (layout : Layout) (law : IsInterchange f layout) where
-  pub fields_within : (bits : ℕ) → AreWithin f layout (fields_of f layout bits)
+module _ (format : Format) (layout : Layout) (law : IsInterchange format layout) where
+  pub fields_within : (bits : ℕ) → AreWithin format layout (fields_of format layout bits)
   fields_within bits = record {
     biased_exponent =
-        mod_below (bits / 2 ^ trailing_bits f) (2 ^ layout.exponent_bits) (pow_pos layout.exponent_bits);
-    trailing = mod_below bits (2 ^ trailing_bits f) (pow_pos (trailing_bits f));
+        mod_below (bits / 2 ^ trailing_bits format) (2 ^ layout.exponent_bits) (pow_pos layout.exponent_bits);
+    trailing = mod_below bits (2 ^ trailing_bits format) (pow_pos (trailing_bits format));
   }
 
-  top : layout.bits - 1 ≡ trailing_bits f + layout.exponent_bits
+  top : layout.bits - 1 ≡ trailing_bits format + layout.exponent_bits
   top = omega (arith, law.bits)
 
   -- the fields of the bits of fields
-  pub fields_back : (x : Fields) → AreWithin f layout x → fields_of f layout (bits_of_fields f layout x) ≡ x
+  pub fields_back : (x : Fields) → AreWithin format layout x
+      → fields_of format layout (bits_of_fields format layout x) ≡ x
   fields_back x w =
-      let t = mod_low (cond x.negative 1 0 * 2 ^ layout.exponent_bits + x.biased_exponent) (trailing_bits f)
+      let t = mod_low (cond x.negative 1 0 * 2 ^ layout.exponent_bits + x.biased_exponent) (trailing_bits format)
       x.trailing w.trailing in
-      let h = shr_high (cond x.negative 1 0 * 2 ^ layout.exponent_bits + x.biased_exponent) (trailing_bits f)
+      let h = shr_high (cond x.negative 1 0 * 2 ^ layout.exponent_bits + x.biased_exponent) (trailing_bits format)
       x.trailing w.trailing in
       let b = mod_low (cond x.negative 1 0) layout.exponent_bits x.biased_exponent w.biased_exponent in
       let g = shr_high (cond x.negative 1 0) layout.exponent_bits x.biased_exponent w.biased_exponent in
@@ -99,29 +104,30 @@ module _ (f : Format) (layout : Layout) (law : IsInterchange f layout) where
         h,
         b,
         top,
-        ← shr-shr (bits_of_fields f layout x) (trailing_bits f) layout.exponent_bits,
+        ← shr-shr (bits_of_fields format layout x) (trailing_bits format) layout.exponent_bits,
         h,
         g,
         one_bit x.negative,
       ) refl
 
-  pub bits_below : (x : Fields) → AreWithin f layout x → bits_of_fields f layout x < 2 ^ layout.bits
+  pub bits_below : (x : Fields) → AreWithin format layout x → bits_of_fields format layout x < 2 ^ layout.bits
   bits_below x w =
       let a : cond x.negative 1 0 * 2 ^ layout.exponent_bits + x.biased_exponent < 2 ^ layout.exponent_bits * 2 =
       mul-add-lt (cond x.negative 1 0) (2 ^ layout.exponent_bits) x.biased_exponent 2 (bit_low x.negative)
       w.biased_exponent in
-      let b = mul-add-lt (cond x.negative 1 0 * 2 ^ layout.exponent_bits + x.biased_exponent) (2 ^ trailing_bits f)
+      let b = mul-add-lt (cond x.negative 1 0 * 2 ^ layout.exponent_bits + x.biased_exponent) (2 ^ trailing_bits format)
       x.trailing (2 ^ layout.exponent_bits * 2) a w.trailing in
-      let e : layout.bits ≡ trailing_bits f + suc layout.exponent_bits = omega (arith, law.bits) in
-      rw (e, pow-add 2 (trailing_bits f) (suc layout.exponent_bits), two-pow-succ layout.exponent_bits)
+      let e : layout.bits ≡ trailing_bits format + suc layout.exponent_bits = omega (arith, law.bits) in
+      rw (e, pow-add 2 (trailing_bits format) (suc layout.exponent_bits), two-pow-succ layout.exponent_bits)
       (let z : 2 ^ layout.exponent_bits * 2 ≡ 2 ^ layout.exponent_bits + 2 ^ layout.exponent_bits = omega arith in
       rw z at b)
 
   -- the bits of the fields of bits
-  pub bits_back : (bits : ℕ) → bits < 2 ^ layout.bits → bits_of_fields f layout (fields_of f layout bits) ≡ bits
+  pub bits_back : (bits : ℕ) → bits < 2 ^ layout.bits → bits_of_fields format layout (fields_of format layout bits)
+      ≡ bits
   bits_back bits low =
-      let w = trailing_bits f in
-      let e : layout.bits ≡ suc (trailing_bits f + layout.exponent_bits) = omega (arith, law.bits) in
+      let w = trailing_bits format in
+      let e : layout.bits ≡ suc (trailing_bits format + layout.exponent_bits) = omega (arith, law.bits) in
       let k : 2 ^ layout.bits ≡ 2 * 2 ^ (w + layout.exponent_bits) =
       rw e (omega (arith, two-pow-succ (w + layout.exponent_bits))) in
       let d : bits / 2 ^ (w + layout.exponent_bits) < 2 =

@@ -20,26 +20,30 @@ both_some m zero p q e l =
     absurd (omega arith)
 both_some m (suc n) p q e l = omega arith
 
-number_exactly : (f g : Format) (mode : Round) (b : Bool) (m n : ℕ) (value : Datum) (status : ℕ) (loses_info : Bool)
-    → 0 < m → n * 2 ^ f.scale ≡ m * 2 ^ g.scale → IsFiniteOf g b n
-    → IsConvertedNumber f g mode b m value status loses_info
+number_exactly : (from into : Format) (mode : Round) (b : Bool) (m n : ℕ) (value : Datum) (status : ℕ)
+    (loses_info : Bool)
+    → 0 < m → n * 2 ^ from.scale ≡ m * 2 ^ into.scale → IsFiniteOf into b n
+    → IsConvertedNumber from into mode b m value status loses_info
     → IsConverted (finite b n) ok_bits false value status loses_info
-number_exactly f g mode b m n value status loses_info l e t h =
-    let d = exact_delivered g mode b n (m * 2 ^ g.scale) (2 ^ f.scale) (pow_pos f.scale) t.on_grid t.within (sym e) in
-    let o = delivered_once g mode b (m * 2 ^ g.scale) (2 ^ f.scale) value (signed_quanta g.nonfinite b n) status
+number_exactly from into mode b m n value status loses_info l e t h =
+    let d = exact_delivered into mode b n (m * 2 ^ into.scale) (2 ^ from.scale)
+    (pow_pos from.scale) t.on_grid t.within (sym e) in
+    let o = delivered_once into mode b (m * 2 ^ into.scale)
+    (2 ^ from.scale) value (signed_quanta into.nonfinite b n) status
     ok_bits h.is_delivered d in
-    let p : 0 < n = both_some m n f.scale g.scale e l in
+    let p : 0 < n = both_some m n from.scale into.scale e l in
     record {
-      value_is = o.0 ∙ signed_some g.nonfinite b n p;
+      value_is = o.0 ∙ signed_some into.nonfinite b n p;
       status_is = o.1;
       loses_is = h.loses_is ∙ ap (λ (s : ℕ). not (eqb s ok_bits)) o.1;
     }
 
-zero_exactly : (g : Format) (b : Bool) (value : Datum) (status : ℕ) (loses_info : Bool) → b ≡ zero_sign g.nonfinite b
-    → IsKept (finite (zero_sign g.nonfinite b) 0) (loses_zero_sign g b) value status loses_info
+zero_exactly : (format : Format) (b : Bool) (value : Datum) (status : ℕ) (loses_info : Bool)
+    → b ≡ zero_sign format.nonfinite b
+    → IsKept (finite (zero_sign format.nonfinite b) 0) (loses_zero_sign format b) value status loses_info
     → IsConverted (finite b 0) ok_bits false value status loses_info
-zero_exactly g b value status loses_info z h =
-    let k : loses_zero_sign g b ≡ false = rw (← z) (ap not (same_sign_self b)) in
+zero_exactly format b value status loses_info z h =
+    let k : loses_zero_sign format b ≡ false = rw (← z) (ap not (same_sign_self b)) in
     let r = rw k at h in
     record {
       value_is = r.value_is ∙ ap (λ (s : Bool). finite s 0) (sym z);
@@ -54,13 +58,13 @@ no_quanta (suc n) p q e =
     let a : 0 < suc n * 2 ^ p = mul-pos (omega arith) (pow_pos p) in
     absurd (omega arith)
 
-pub exactly_converted : (f g : Format) (mode : Round) (x value : Datum) (status : ℕ) (loses_info : Bool)
-    → IsConversion f g mode x value status loses_info → IsExactlyConverted f g x value status loses_info
-exactly_converted f g mode (nan b s) value status loses_info h = tt
-exactly_converted f g mode (infinite b) value status loses_info h = tt
-exactly_converted f g mode (finite b zero) value status loses_info h = λ n e t.
-    let z = no_quanta n f.scale g.scale e in
-    rw z (zero_exactly g b value status loses_info (t.zero_has z) h)
-exactly_converted f g mode (finite b (suc m)) value status loses_info h = λ n e t.
+pub exactly_converted : (from into : Format) (mode : Round) (x value : Datum) (status : ℕ) (loses_info : Bool)
+    → IsConversion from into mode x value status loses_info → IsExactlyConverted from into x value status loses_info
+exactly_converted from into mode (nan b s) value status loses_info h = tt
+exactly_converted from into mode (infinite b) value status loses_info h = tt
+exactly_converted from into mode (finite b zero) value status loses_info h = λ n e t.
+    let z = no_quanta n from.scale into.scale e in
+    rw z (zero_exactly into b value status loses_info (t.zero_has z) h)
+exactly_converted from into mode (finite b (suc m)) value status loses_info h = λ n e t.
     let k : eqb (suc m) 0 ≡ false = ne_eqb (suc m) 0 (λ z. absurd (omega (arith, z))) in
-    number_exactly f g mode b (suc m) n value status loses_info (omega arith) e t (rw k at h)
+    number_exactly from into mode b (suc m) n value status loses_info (omega arith) e t (rw k at h)

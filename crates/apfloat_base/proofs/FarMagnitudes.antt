@@ -17,9 +17,9 @@ use Rattle.apfloat_base.proofs.Picks.{kept, pick_is, pick_unique}
 use Rattle.apfloat_base.proofs.Laws.{pick_within, delivered_exists}
 
 -- at or above the power of two past every value
-pub record IsFarAbove (f : Format) (amount parts : ℕ) : Type 0 where
+pub record IsFarAbove (format : Format) (amount parts : ℕ) : Type 0 where
   pub some : 0 < parts
-  pub from : 2 ^ (f.precision + f.span) * parts ≤ amount
+  pub from : 2 ^ (format.precision + format.span) * parts ≤ amount
 
 -- below half a quantum, and not 0
 pub record IsFarBelow (amount parts : ℕ) : Type 0 where
@@ -28,12 +28,14 @@ pub record IsFarBelow (amount parts : ℕ) : Type 0 where
 
 -- ---- above
 
-pub largest_below : (f : Format) → largest f < 2 ^ (f.precision + f.span)
-largest_below f =
-    let e : 2 ^ (f.precision + f.span) ≡ 2 ^ f.precision * 2 ^ f.span = pow-add 2 f.precision f.span in
-    let a : greatest_significand f.nonfinite f.precision * 2 ^ f.span < 2 ^ f.precision * 2 ^ f.span =
-    mul-lt-mul_of_pos_right (greatest_fits f.nonfinite f.precision) (pow_pos f.span) in
-    subst (λ (x : ℕ). greatest_significand f.nonfinite f.precision * 2 ^ f.span < x) (sym e) a
+pub largest_below : (format : Format) → largest format < 2 ^ (format.precision + format.span)
+largest_below format =
+    let e : 2 ^ (format.precision + format.span) ≡ 2 ^ format.precision * 2 ^ format.span =
+    pow-add 2 format.precision format.span in
+    let a : greatest_significand format.nonfinite format.precision * 2 ^ format.span < 2 ^ format.precision * 2 ^
+    format.span =
+    mul-lt-mul_of_pos_right (greatest_fits format.nonfinite format.precision) (pow_pos format.span) in
+    subst (λ (x : ℕ). greatest_significand format.nonfinite format.precision * 2 ^ format.span < x) (sym e) a
 
 power_on_grid : (precision k : ℕ) → 0 < precision → IsOnGrid precision (2 ^ k)
 power_on_grid precision k h =
@@ -42,39 +44,41 @@ power_on_grid precision k h =
     record { significand = 1; place = k; fits = omega arith; is = omega arith }
 
 -- whatever is picked is past the largest value
-pub picks_past : (f : Format) (mode : Round) (negative : Bool) (amount parts p : ℕ) → 0 < f.precision
-    → IsFarAbove f amount parts → IsPick f.precision mode negative amount parts p → ltb (largest f) p ≡ true
-picks_past f mode negative amount parts p h x i =
-    let a : largest f < 2 ^ (f.precision + f.span) = largest_below f in
-    let b : 2 ^ (f.precision + f.span) ≤ i.below =
-    i.is_below.greatest (2 ^ (f.precision + f.span)) (power_on_grid f.precision (f.precision + f.span) h)
+pub picks_past : (format : Format) (mode : Round) (negative : Bool) (amount parts p : ℕ) → 0 < format.precision
+    → IsFarAbove format amount parts → IsPick format.precision mode negative amount parts p
+    → ltb (largest format) p ≡ true
+picks_past format mode negative amount parts p h x i =
+    let a : largest format < 2 ^ (format.precision + format.span) = largest_below format in
+    let b : 2 ^ (format.precision + format.span) ≤ i.below =
+    i.is_below.greatest (2 ^ (format.precision + format.span))
+    (power_on_grid format.precision (format.precision + format.span) h)
     x.from in
-    let c = pick_within f.precision mode negative amount parts p x.some i in
+    let c = pick_within format.precision mode negative amount parts p x.some i in
     let d : i.below ≤ p = c.1 in
-    lt-ltb (largest f) p (omega (arith, a, b, d))
+    lt-ltb (largest format) p (omega (arith, a, b, d))
 
-value_past : (f : Format) (mode : Round) (negative : Bool) (p q : ℕ) → ltb (largest f) p ≡ true
-    → ltb (largest f) q ≡ true → delivered_value f mode negative p ≡ delivered_value f mode negative q
-value_past f mode negative p q a b = rw (a, b) refl
+value_past : (format : Format) (mode : Round) (negative : Bool) (p q : ℕ) → ltb (largest format) p ≡ true
+    → ltb (largest format) q ≡ true → delivered_value format mode negative p ≡ delivered_value format mode negative q
+value_past format mode negative p q a b = rw (a, b) refl
 
-status_past : (f : Format) (mode : Round) (negative : Bool) (amount parts p amount' parts' q : ℕ)
-    → ltb (largest f) p ≡ true → ltb (largest f) q ≡ true
-    → delivered_status f mode negative amount parts p ≡ delivered_status f mode negative amount' parts' q
-status_past f mode negative amount parts p amount' parts' q a b = rw (a, b) refl
+status_past : (format : Format) (mode : Round) (negative : Bool) (amount parts p amount' parts' q : ℕ)
+    → ltb (largest format) p ≡ true → ltb (largest format) q ≡ true
+    → delivered_status format mode negative amount parts p ≡ delivered_status format mode negative amount' parts' q
+status_past format mode negative amount parts p amount' parts' q a b = rw (a, b) refl
 
 -- one answer for all of them
-pub far_above : (f : Format) (mode : Round) (negative : Bool) (amount parts amount' parts' : ℕ) (v : Datum) (s : ℕ)
-    → 0 < f.precision → IsFarAbove f amount parts → IsFarAbove f amount' parts'
-    → IsDelivered f mode negative amount parts v s → IsDelivered f mode negative amount' parts' v s
-far_above f mode negative amount parts amount' parts' v s h x y d =
-    let e = (delivered_exists f mode negative amount' parts' h y.some).1.1 in
-    let a = picks_past f mode negative amount parts d.pick h x d.is_pick in
-    let b = picks_past f mode negative amount' parts' e.pick h y e.is_pick in
+pub far_above : (format : Format) (mode : Round) (negative : Bool) (amount parts amount' parts' : ℕ) (v : Datum) (s : ℕ)
+    → 0 < format.precision → IsFarAbove format amount parts → IsFarAbove format amount' parts'
+    → IsDelivered format mode negative amount parts v s → IsDelivered format mode negative amount' parts' v s
+far_above format mode negative amount parts amount' parts' v s h x y d =
+    let e = (delivered_exists format mode negative amount' parts' h y.some).1.1 in
+    let a = picks_past format mode negative amount parts d.pick h x d.is_pick in
+    let b = picks_past format mode negative amount' parts' e.pick h y e.is_pick in
     record {
       pick = e.pick;
       is_pick = e.is_pick;
-      value_is = d.value_is ∙ value_past f mode negative d.pick e.pick a b;
-      status_is = d.status_is ∙ status_past f mode negative amount parts d.pick amount' parts' e.pick a b;
+      value_is = d.value_is ∙ value_past format mode negative d.pick e.pick a b;
+      status_is = d.status_is ∙ status_past format mode negative amount parts d.pick amount' parts' e.pick a b;
     }
 
 -- ---- below
@@ -120,45 +124,46 @@ off_little (suc (suc p)) amount parts h k l e = omega arith
 inexact_little : (amount parts p : ℕ) → IsFarBelow amount parts → p ≤ 1 → eqb (p * parts) amount ≡ false
 inexact_little amount parts p x h = ne_eqb (p * parts) amount (off_little p amount parts h x.some x.to)
 
-before_little : (f : Format) (amount parts : ℕ) → IsFarBelow amount parts
-    → ltb amount (smallest_normalized f * parts) ≡ true
-before_little f amount parts x =
+before_little : (format : Format) (amount parts : ℕ) → IsFarBelow amount parts
+    → ltb amount (smallest_normalized format * parts) ≡ true
+before_little format amount parts x =
     let l = x.to in
-    let w : 1 ≤ 2 ^ (f.precision - 1) = pow_pos (f.precision - 1) in
-    let a : 1 * parts ≤ 2 ^ (f.precision - 1) * parts = mul-le-mul_right parts w in
-    lt-ltb amount (smallest_normalized f * parts) (omega (arith, l, a))
+    let w : 1 ≤ 2 ^ (format.precision - 1) = pow_pos (format.precision - 1) in
+    let a : 1 * parts ≤ 2 ^ (format.precision - 1) * parts = mul-le-mul_right parts w in
+    lt-ltb amount (smallest_normalized format * parts) (omega (arith, l, a))
 
-tiny_little : (f : Format) (amount parts amount' parts' p : ℕ) → IsFarBelow amount parts → IsFarBelow amount' parts'
-    → is_tiny f amount parts p ≡ is_tiny f amount' parts' p
-tiny_little f amount parts amount' parts' p x y =
-    let a = before_little f amount parts x in
-    let b = before_little f amount' parts' y in
-    ap (λ (z : Bool). cond f.tiny_before_rounding z (ltb p (smallest_normalized f))) (a ∙ sym b)
+tiny_little : (format : Format) (amount parts amount' parts' p : ℕ) → IsFarBelow amount parts
+    → IsFarBelow amount' parts'
+    → is_tiny format amount parts p ≡ is_tiny format amount' parts' p
+tiny_little format amount parts amount' parts' p x y =
+    let a = before_little format amount parts x in
+    let b = before_little format amount' parts' y in
+    ap (λ (z : Bool). cond format.tiny_before_rounding z (ltb p (smallest_normalized format))) (a ∙ sym b)
 
-status_little : (f : Format) (mode : Round) (negative : Bool) (amount parts amount' parts' p : ℕ) → p ≤ 1
+status_little : (format : Format) (mode : Round) (negative : Bool) (amount parts amount' parts' p : ℕ) → p ≤ 1
     → IsFarBelow amount parts → IsFarBelow amount' parts'
-    → delivered_status f mode negative amount parts p ≡ delivered_status f mode negative amount' parts' p
-status_little f mode negative amount parts amount' parts' p h x y =
+    → delivered_status format mode negative amount parts p ≡ delivered_status format mode negative amount' parts' p
+status_little format mode negative amount parts amount' parts' p h x y =
     let a = inexact_little amount parts p x h in
     let b = inexact_little amount' parts' p y h in
-    let t = tiny_little f amount parts amount' parts' p x y in
+    let t = tiny_little format amount parts amount' parts' p x y in
     rw (a, b, t) refl
 
 -- one answer for all of them
-pub far_below : (f : Format) (mode : Round) (negative : Bool) (amount parts amount' parts' : ℕ) (v : Datum) (s : ℕ)
-    → 0 < f.precision → IsFarBelow amount parts → IsFarBelow amount' parts'
-    → IsDelivered f mode negative amount parts v s → IsDelivered f mode negative amount' parts' v s
-far_below f mode negative amount parts amount' parts' v s h x y d =
+pub far_below : (format : Format) (mode : Round) (negative : Bool) (amount parts amount' parts' : ℕ) (v : Datum) (s : ℕ)
+    → 0 < format.precision → IsFarBelow amount parts → IsFarBelow amount' parts'
+    → IsDelivered format mode negative amount parts v s → IsDelivered format mode negative amount' parts' v s
+far_below format mode negative amount parts amount' parts' v s h x y d =
     let p : ℕ = little_pick mode negative in
     let e : d.pick ≡ little_pick mode negative =
-    pick_unique f.precision mode negative amount parts d.pick (little_pick mode negative) d.is_pick
-    (picks_little f.precision mode negative amount parts h x) in
+    pick_unique format.precision mode negative amount parts d.pick (little_pick mode negative) d.is_pick
+    (picks_little format.precision mode negative amount parts h x) in
     record {
       pick = little_pick mode negative;
-      is_pick = picks_little f.precision mode negative amount' parts' h y;
-      value_is = d.value_is ∙ ap (λ (z : ℕ). delivered_value f mode negative z) e;
+      is_pick = picks_little format.precision mode negative amount' parts' h y;
+      value_is = d.value_is ∙ ap (λ (z : ℕ). delivered_value format mode negative z) e;
       status_is =
-          d.status_is ∙ ap (λ (z : ℕ). delivered_status f mode negative amount parts z) e
-          ∙ status_little f mode negative amount parts amount' parts' (little_pick mode negative)
+          d.status_is ∙ ap (λ (z : ℕ). delivered_status format mode negative amount parts z) e
+          ∙ status_little format mode negative amount parts amount' parts' (little_pick mode negative)
           (little_within mode negative) x y;
     }

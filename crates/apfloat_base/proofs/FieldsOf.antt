@@ -22,14 +22,14 @@ use Rattle.apfloat_base.proofs.Encodings.{fields_back, bits_below}
 use Rattle.apfloat_base.proofs.EncodedOnce.{fields_with}
 
 -- the bits of the fields of a datum encode it
-pub fields_encode : (f : Format) (layout : Layout) (x : Fields) (datum : Datum) → IsInterchange f layout
-    → AreFieldsOf f layout x datum → IsEncodedBy f layout (bits_of_fields f layout x) datum
-fields_encode f layout x datum law h =
-    let b = fields_back f layout law x h.within in
+pub fields_encode : (format : Format) (layout : Layout) (fields : Fields) (datum : Datum) → IsInterchange format layout
+    → AreFieldsOf format layout fields datum → IsEncodedBy format layout (bits_of_fields format layout fields) datum
+fields_encode format layout fields datum law h =
+    let b = fields_back format layout law fields h.within in
     record {
-      below = bits_below f layout law x h.within;
-      canonical = subst (λ (y : Fields). IsTrue (is_canonical f layout y)) (sym b) h.canonical;
-      is = ap (datum_of_fields f layout) b ∙ h.is;
+      below = bits_below format layout law fields h.within;
+      canonical = subst (λ (y : Fields). IsTrue (is_canonical format layout y)) (sym b) h.canonical;
+      is = ap (datum_of_fields format layout) b ∙ h.is;
     }
 
 -- ---- each layout
@@ -55,27 +55,28 @@ width_high false p m o h = let t = twice_half p o in let q : 0 < 2 ^ (p - 1) = p
 abbrev pub MayHaveSign : NonfiniteBehavior → Bool → ℕ → Type 0
 MayHaveSign kind b n = n ≡ 0 → b ≡ zero_sign kind b
 
-low_is : (explicit : Bool) (kind : NonfiniteBehavior) (f : Format) (layout : Layout) (b : Bool) (n : ℕ)
+low_is : (explicit : Bool) (kind : NonfiniteBehavior) (format : Format) (layout : Layout) (b : Bool) (n : ℕ)
     → eqb 0 (all_ones layout.exponent_bits) ≡ false → MayHaveSign kind b n
-    → cond explicit (written_datum f layout (fields_with b 0 n)) (implied_datum kind f layout (fields_with b 0 n))
+    → cond explicit (written_datum format layout (fields_with b 0 n))
+    (implied_datum kind format layout (fields_with b 0 n))
     ≡ finite b n
-low_is true kind f layout b n e h = rw e refl
-low_is false IEEE754 f layout b n e h = rw e refl
-low_is false NanOnly f layout b n e h = rw e refl
-low_is false NanNegativeZero f layout false n e h = refl
-low_is false NanNegativeZero f layout true n e h =
+low_is true kind format layout b n e h = rw e refl
+low_is false IEEE754 format layout b n e h = rw e refl
+low_is false NanOnly format layout b n e h = rw e refl
+low_is false NanNegativeZero format layout false n e h = refl
+low_is false NanNegativeZero format layout true n e h =
     ⊎_elim (λ (z : n ≡ 0). absurd (true≢false (h z))) (λ (k : n ≡ 0 → ⊥). rw (ne_eqb n 0 k) refl) (cases_eq n 0)
 
-low_canonical : (explicit : Bool) (f : Format) (layout : Layout) (b : Bool) (n : ℕ)
-    → eqb 0 (all_ones layout.exponent_bits) ≡ false → n < smallest_normalized f
-    → cond explicit (is_canonical_written f layout (fields_with b 0 n)) true ≡ true
-low_canonical true f layout b n e h = rw (e, lt-ltb n (smallest_normalized f) h) refl
-low_canonical false f layout b n e h = refl
+low_canonical : (explicit : Bool) (format : Format) (layout : Layout) (b : Bool) (n : ℕ)
+    → eqb 0 (all_ones layout.exponent_bits) ≡ false → n < smallest_normalized format
+    → cond explicit (is_canonical_written format layout (fields_with b 0 n)) true ≡ true
+low_canonical true format layout b n e h = rw (e, lt-ltb n (smallest_normalized format) h) refl
+low_canonical false format layout b n e h = refl
 
-pub low_fields_of : (f : Format) (layout : Layout) (b : Bool) (n : ℕ) → IsInterchange f layout
-    → n < smallest_normalized f → MayHaveSign f.nonfinite b n
-    → AreFieldsOf f layout (fields_with b 0 n) (finite b n)
-low_fields_of f layout b n law h s =
+pub low_fields_of : (format : Format) (layout : Layout) (b : Bool) (n : ℕ) → IsInterchange format layout
+    → n < smallest_normalized format → MayHaveSign format.nonfinite b n
+    → AreFieldsOf format layout (fields_with b 0 n) (finite b n)
+low_fields_of format layout b n law h s =
     let o = ones_some layout.exponent_bits law.some in
     let e : eqb 0 (all_ones layout.exponent_bits) ≡ false =
     ne_eqb 0 (all_ones layout.exponent_bits) (λ z. omega (arith, z, o)) in
@@ -83,10 +84,10 @@ low_fields_of f layout b n law h s =
       within = record {
         biased_exponent = pow_pos layout.exponent_bits;
         trailing =
-            width_low f.explicit_integer_bit f.precision n h;
+            width_low format.explicit_integer_bit format.precision n h;
       };
-      canonical = low_canonical f.explicit_integer_bit f layout b n e h;
-      is = low_is f.explicit_integer_bit f.nonfinite f layout b n e s;
+      canonical = low_canonical format.explicit_integer_bit format layout b n e h;
+      is = low_is format.explicit_integer_bit format.nonfinite format layout b n e s;
     }
 
 -- ---- numbers with their integer bit
@@ -101,156 +102,163 @@ IsNoSpecial NanNegativeZero f layout e m = eqb e 0 ≡ false
 significand_back : (half m : ℕ) → half ≤ m → half + (m - half) ≡ m
 significand_back half m h = omega arith
 
-high_is : (explicit : Bool) (kind : NonfiniteBehavior) (f : Format) (layout : Layout) (b : Bool) (j m : ℕ)
-    → MayBeExplicit kind explicit → smallest_normalized f ≤ m → IsNoSpecial kind f layout (j + 1) m
-    → cond explicit (written_datum f layout (fields_with b (j + 1) (m - cond explicit 0 (smallest_normalized f))))
-    (implied_datum kind f layout (fields_with b (j + 1) (m - cond explicit 0 (smallest_normalized f))))
+high_is : (explicit : Bool) (kind : NonfiniteBehavior) (format : Format) (layout : Layout) (b : Bool) (j m : ℕ)
+    → MayBeExplicit kind explicit → smallest_normalized format ≤ m → IsNoSpecial kind format layout (j + 1) m
+    → cond explicit (written_datum format layout
+    (fields_with b (j + 1) (m - cond explicit 0 (smallest_normalized format))))
+    (implied_datum kind format layout (fields_with b (j + 1) (m - cond explicit 0 (smallest_normalized format))))
     ≡ finite b (m * 2 ^ j)
-high_is true IEEE754 f layout b j m may low n =
+high_is true IEEE754 format layout b j m may low n =
     let z : m - 0 ≡ m = omega arith in
     let y : j + 1 - 1 ≡ j = omega arith in
-    rw (z, n, ne_eqb (j + 1) 0 (λ q. omega (arith, q)), le-leb (smallest_normalized f) m low, y) refl
-high_is true NanOnly f layout b j m may low n = absurd (true≢false may)
-high_is true NanNegativeZero f layout b j m may low n = absurd (true≢false may)
-high_is false IEEE754 f layout b j m may low n =
+    rw (z, n, ne_eqb (j + 1) 0 (λ q. omega (arith, q)), le-leb (smallest_normalized format) m low, y) refl
+high_is true NanOnly format layout b j m may low n = absurd (true≢false may)
+high_is true NanNegativeZero format layout b j m may low n = absurd (true≢false may)
+high_is false IEEE754 format layout b j m may low n =
     let y : j + 1 - 1 ≡ j = omega arith in
-    rw (n, ne_eqb (j + 1) 0 (λ q. omega (arith, q)), significand_back (smallest_normalized f) m low, y) refl
-high_is false NanOnly f layout b j m may low n =
+    rw (n, ne_eqb (j + 1) 0 (λ q. omega (arith, q)), significand_back (smallest_normalized format) m low, y) refl
+high_is false NanOnly format layout b j m may low n =
     let y : j + 1 - 1 ≡ j = omega arith in
-    rw (n, ne_eqb (j + 1) 0 (λ q. omega (arith, q)), significand_back (smallest_normalized f) m low, y) refl
-high_is false NanNegativeZero f layout true j m may low n =
+    rw (n, ne_eqb (j + 1) 0 (λ q. omega (arith, q)), significand_back (smallest_normalized format) m low, y) refl
+high_is false NanNegativeZero format layout true j m may low n =
     let y : j + 1 - 1 ≡ j = omega arith in
-    rw (n, significand_back (smallest_normalized f) m low, y) refl
-high_is false NanNegativeZero f layout false j m may low n =
+    rw (n, significand_back (smallest_normalized format) m low, y) refl
+high_is false NanNegativeZero format layout false j m may low n =
     let y : j + 1 - 1 ≡ j = omega arith in
-    rw (n, significand_back (smallest_normalized f) m low, y) refl
+    rw (n, significand_back (smallest_normalized format) m low, y) refl
 
-high_canonical : (explicit : Bool) (kind : NonfiniteBehavior) (f : Format) (layout : Layout) (b : Bool) (j m : ℕ)
-    → MayBeExplicit kind explicit → smallest_normalized f ≤ m → IsNoSpecial kind f layout (j + 1) m
-    → cond explicit (is_canonical_written f layout
-    (fields_with b (j + 1) (m - cond explicit 0 (smallest_normalized f)))) true ≡ true
-high_canonical true IEEE754 f layout b j m may low n =
+high_canonical : (explicit : Bool) (kind : NonfiniteBehavior) (format : Format) (layout : Layout) (b : Bool) (j m : ℕ)
+    → MayBeExplicit kind explicit → smallest_normalized format ≤ m → IsNoSpecial kind format layout (j + 1) m
+    → cond explicit (is_canonical_written format layout
+    (fields_with b (j + 1) (m - cond explicit 0 (smallest_normalized format)))) true ≡ true
+high_canonical true IEEE754 format layout b j m may low n =
     let z : m - 0 ≡ m = omega arith in
-    rw (z, n, ne_eqb (j + 1) 0 (λ q. omega (arith, q)), le-leb (smallest_normalized f) m low) refl
-high_canonical true NanOnly f layout b j m may low n = absurd (true≢false may)
-high_canonical true NanNegativeZero f layout b j m may low n = absurd (true≢false may)
-high_canonical false kind f layout b j m may low n = refl
+    rw (z, n, ne_eqb (j + 1) 0 (λ q. omega (arith, q)), le-leb (smallest_normalized format) m low) refl
+high_canonical true NanOnly format layout b j m may low n = absurd (true≢false may)
+high_canonical true NanNegativeZero format layout b j m may low n = absurd (true≢false may)
+high_canonical false kind format layout b j m may low n = refl
 
 -- the exponent of a number within the largest value
-module _ (f : Format) (layout : Layout) (law : IsInterchange f layout) where
-  place_within : (j m : ℕ) → smallest_normalized f ≤ m → m * 2 ^ j ≤ largest f → j ≤ f.span
+module _ (format : Format) (layout : Layout) (law : IsInterchange format layout) where
+  place_within : (j m : ℕ) → smallest_normalized format ≤ m → m * 2 ^ j ≤ largest format → j ≤ format.span
   place_within j m low top =
-      let t : 2 * 2 ^ (f.precision - 1) ≡ 2 ^ f.precision = twice_half f.precision (omega (arith, law.precise)) in
-      let g = greatest_fits f.nonfinite f.precision in
+      let t : 2 * 2 ^ (format.precision - 1) ≡ 2 ^ format.precision =
+      twice_half format.precision (omega (arith, law.precise)) in
+      let g = greatest_fits format.nonfinite format.precision in
       ⊎_elim
-      (λ (h : f.span < j).
-      let a : 2 ^ (f.span + 1) ≤ 2 ^ j = pow-le-pow_right two_pos (omega arith) in
-      let b : 2 ^ (f.span + 1) ≡ 2 ^ f.span * 2 = pow-add 2 f.span 1 in
-      let c : smallest_normalized f * 2 ^ j ≤ m * 2 ^ j = mul-le-mul_right (2 ^ j) low in
-      let d : 2 ^ (f.precision - 1) * (2 ^ f.span * 2) ≤ 2 ^ (f.precision - 1) * 2 ^ j =
-      mul-le-mul_left (2 ^ (f.precision - 1)) (omega arith) in
-      let e : greatest_significand f.nonfinite f.precision * 2 ^ f.span < 2 ^ f.precision * 2 ^ f.span =
-      mul-lt-mul_of_pos_right g (pow_pos f.span) in
-      let k : 2 ^ f.precision * 2 ^ f.span ≡ 2 * 2 ^ (f.precision - 1) * 2 ^ f.span =
-      ap (λ (x : ℕ). x * 2 ^ f.span) (sym t) in
+      (λ (h : format.span < j).
+      let a : 2 ^ (format.span + 1) ≤ 2 ^ j = pow-le-pow_right two_pos (omega arith) in
+      let b : 2 ^ (format.span + 1) ≡ 2 ^ format.span * 2 = pow-add 2 format.span 1 in
+      let c : smallest_normalized format * 2 ^ j ≤ m * 2 ^ j = mul-le-mul_right (2 ^ j) low in
+      let d : 2 ^ (format.precision - 1) * (2 ^ format.span * 2) ≤ 2 ^ (format.precision - 1) * 2 ^ j =
+      mul-le-mul_left (2 ^ (format.precision - 1)) (omega arith) in
+      let e : greatest_significand format.nonfinite format.precision * 2 ^ format.span < 2 ^ format.precision * 2 ^
+      format.span =
+      mul-lt-mul_of_pos_right g (pow_pos format.span) in
+      let k : 2 ^ format.precision * 2 ^ format.span ≡ 2 * 2 ^ (format.precision - 1) * 2 ^ format.span =
+      ap (λ (x : ℕ). x * 2 ^ format.span) (sym t) in
       absurd (omega arith))
-      (λ (h : j ≤ f.span). h)
-      (cases_lt f.span j)
+      (λ (h : j ≤ format.span). h)
+      (cases_lt format.span j)
 
-  exponent_fits : (kind : NonfiniteBehavior) (j : ℕ) → f.nonfinite ≡ kind → j ≤ f.span
+  exponent_fits : (kind : NonfiniteBehavior) (j : ℕ) → format.nonfinite ≡ kind → j ≤ format.span
       → j + 1 < 2 ^ layout.exponent_bits
-  exponent_fits IEEE754 j k h = let s : f.span + 3 ≡ 2 ^ layout.exponent_bits + 0 = rw k at law.span in omega arith
-  exponent_fits NanOnly j k h = let s : f.span + 3 ≡ 2 ^ layout.exponent_bits + 1 = rw k at law.span in omega arith
-  exponent_fits NanNegativeZero j k h = let s : f.span + 3 ≡ 2 ^ layout.exponent_bits + 1 = rw k at law.span in
+  exponent_fits IEEE754 j k h = let s : format.span + 3 ≡ 2 ^ layout.exponent_bits + 0 = rw k at law.span in omega arith
+  exponent_fits NanOnly j k h = let s : format.span + 3 ≡ 2 ^ layout.exponent_bits + 1 = rw k at law.span in omega arith
+  exponent_fits NanNegativeZero j k h = let s : format.span + 3 ≡ 2 ^ layout.exponent_bits + 1 = rw k at law.span in
       omega arith
 
-  no_special : (kind : NonfiniteBehavior) (j m : ℕ) → f.nonfinite ≡ kind → smallest_normalized f ≤ m
-      → m * 2 ^ j ≤ largest f → j ≤ f.span → IsNoSpecial kind f layout (j + 1) m
+  no_special : (kind : NonfiniteBehavior) (j m : ℕ) → format.nonfinite ≡ kind → smallest_normalized format ≤ m
+      → m * 2 ^ j ≤ largest format → j ≤ format.span → IsNoSpecial kind format layout (j + 1) m
   no_special IEEE754 j m k low top high =
-      let s : f.span + 3 ≡ 2 ^ layout.exponent_bits + 0 = rw k at law.span in
+      let s : format.span + 3 ≡ 2 ^ layout.exponent_bits + 0 = rw k at law.span in
       ne_eqb (j + 1) (all_ones layout.exponent_bits) (λ q. omega (arith, q, s))
   no_special NanOnly j m k low top high =
-      let s : f.span + 3 ≡ 2 ^ layout.exponent_bits + 1 = rw k at law.span in
+      let s : format.span + 3 ≡ 2 ^ layout.exponent_bits + 1 = rw k at law.span in
       ⊎_elim
       (λ (q : j + 1 ≡ all_ones layout.exponent_bits).
-      let r : j ≡ f.span = omega (arith, q, s) in
-      let t : m * 2 ^ f.span ≤ (2 ^ f.precision - 2) * 2 ^ f.span = rw (k, r) at top in
-      let u : m ≤ 2 ^ f.precision - 2 = le_of_mul-le-mul_right t (pow_pos f.span) in
-      let w = twice_half f.precision (omega (arith, law.precise)) in
-      let p = pow_pos (f.precision - 1) in
-      and_right _ _ (ne_eqb (m - smallest_normalized f) (all_ones (f.precision - 1))
+      let r : j ≡ format.span = omega (arith, q, s) in
+      let t : m * 2 ^ format.span ≤ (2 ^ format.precision - 2) * 2 ^ format.span = rw (k, r) at top in
+      let u : m ≤ 2 ^ format.precision - 2 = le_of_mul-le-mul_right t (pow_pos format.span) in
+      let w = twice_half format.precision (omega (arith, law.precise)) in
+      let p = pow_pos (format.precision - 1) in
+      and_right _ _ (ne_eqb (m - smallest_normalized format) (all_ones (format.precision - 1))
       (λ v. omega (arith, v, u, w, p))))
       (λ (q : j + 1 ≡ all_ones layout.exponent_bits → ⊥).
       and_left _ _ (ne_eqb (j + 1) (all_ones layout.exponent_bits) q))
       (cases_eq (j + 1) (all_ones layout.exponent_bits))
   no_special NanNegativeZero j m k low top high = ne_eqb (j + 1) 0 (λ q. omega (arith, q))
 
-  pub high_fields_of : (b : Bool) (j m : ℕ) → smallest_normalized f ≤ m → m < 2 ^ f.precision → m * 2 ^ j ≤ largest f
-      → AreFieldsOf f layout (fields_with b (j + 1) (m - cond f.explicit_integer_bit 0 (smallest_normalized f)))
+  pub high_fields_of : (b : Bool) (j m : ℕ) → smallest_normalized format ≤ m → m < 2 ^ format.precision
+      → m * 2 ^ j ≤ largest format
+      → AreFieldsOf format layout (fields_with b (j + 1)
+      (m - cond format.explicit_integer_bit 0 (smallest_normalized format)))
       (finite b (m * 2 ^ j))
   high_fields_of b j m low high top =
       let h = place_within j m low top in
-      let n = no_special f.nonfinite j m refl low top h in
+      let n = no_special format.nonfinite j m refl low top h in
       record {
         within = record {
-          biased_exponent = exponent_fits f.nonfinite j refl h;
+          biased_exponent = exponent_fits format.nonfinite j refl h;
           trailing =
-              width_high f.explicit_integer_bit f.precision m (omega (arith, law.precise)) high;
+              width_high format.explicit_integer_bit format.precision m (omega (arith, law.precise)) high;
         };
-        canonical = high_canonical f.explicit_integer_bit f.nonfinite f layout b j m law.explicit low n;
-        is = high_is f.explicit_integer_bit f.nonfinite f layout b j m law.explicit low n;
+        canonical = high_canonical format.explicit_integer_bit format.nonfinite format layout b j m law.explicit low n;
+        is = high_is format.explicit_integer_bit format.nonfinite format layout b j m law.explicit low n;
       }
 
 -- ---- infinities and NaNs
 
-infinity_is : (explicit : Bool) (kind : NonfiniteBehavior) (f : Format) (layout : Layout) (b : Bool) → kind ≡ IEEE754
-    → cond explicit (written_datum f layout
-    (fields_with b (all_ones layout.exponent_bits) (cond explicit (smallest_normalized f) 0)))
-    (implied_datum kind f layout
-    (fields_with b (all_ones layout.exponent_bits) (cond explicit (smallest_normalized f) 0))) ≡ infinite b
-infinity_is true IEEE754 f layout b k =
-    rw (eqb_self (all_ones layout.exponent_bits), eqb_self (smallest_normalized f)) refl
-infinity_is false IEEE754 f layout b k = rw (eqb_self (all_ones layout.exponent_bits)) refl
-infinity_is true NanOnly f layout b k = cc
-infinity_is false NanOnly f layout b k = cc
-infinity_is true NanNegativeZero f layout b k = cc
-infinity_is false NanNegativeZero f layout b k = cc
+infinity_is : (explicit : Bool) (kind : NonfiniteBehavior) (format : Format) (layout : Layout) (b : Bool)
+    → kind ≡ IEEE754
+    → cond explicit (written_datum format layout
+    (fields_with b (all_ones layout.exponent_bits) (cond explicit (smallest_normalized format) 0)))
+    (implied_datum kind format layout
+    (fields_with b (all_ones layout.exponent_bits) (cond explicit (smallest_normalized format) 0))) ≡ infinite b
+infinity_is true IEEE754 format layout b k =
+    rw (eqb_self (all_ones layout.exponent_bits), eqb_self (smallest_normalized format)) refl
+infinity_is false IEEE754 format layout b k = rw (eqb_self (all_ones layout.exponent_bits)) refl
+infinity_is true NanOnly format layout b k = cc
+infinity_is false NanOnly format layout b k = cc
+infinity_is true NanNegativeZero format layout b k = cc
+infinity_is false NanNegativeZero format layout b k = cc
 
-ones_canonical : (explicit : Bool) (f : Format) (layout : Layout) (b : Bool) (t : ℕ)
-    → cond explicit (is_canonical_written f layout (fields_with b (all_ones layout.exponent_bits) t)) true ≡ true
-ones_canonical true f layout b t = rw (eqb_self (all_ones layout.exponent_bits)) refl
-ones_canonical false f layout b t = refl
+ones_canonical : (explicit : Bool) (format : Format) (layout : Layout) (b : Bool) (t : ℕ)
+    → cond explicit (is_canonical_written format layout (fields_with b (all_ones layout.exponent_bits) t)) true ≡ true
+ones_canonical true format layout b t = rw (eqb_self (all_ones layout.exponent_bits)) refl
+ones_canonical false format layout b t = refl
 
 width_of_infinity : (explicit : Bool) (p : ℕ) → 1 ≤ p → cond explicit (2 ^ (p - 1)) 0 < 2 ^ cond explicit p (p - 1)
 width_of_infinity true p h = let t = twice_half p h in let q : 0 < 2 ^ (p - 1) = pow_pos (p - 1) in omega arith
 width_of_infinity false p h = pow_pos (p - 1)
 
-pub infinity_fields_of : (f : Format) (layout : Layout) (b : Bool) → IsInterchange f layout → f.nonfinite ≡ IEEE754
-    → AreFieldsOf f layout (fields_with b (all_ones layout.exponent_bits)
-    (cond f.explicit_integer_bit (smallest_normalized f) 0)) (infinite b)
-infinity_fields_of f layout b law k = record {
+pub infinity_fields_of : (format : Format) (layout : Layout) (b : Bool) → IsInterchange format layout
+    → format.nonfinite ≡ IEEE754
+    → AreFieldsOf format layout (fields_with b (all_ones layout.exponent_bits)
+    (cond format.explicit_integer_bit (smallest_normalized format) 0)) (infinite b)
+infinity_fields_of format layout b law k = record {
   within = record {
     biased_exponent = ones_fit layout.exponent_bits;
     trailing =
-        width_of_infinity f.explicit_integer_bit f.precision (omega (arith, law.precise));
+        width_of_infinity format.explicit_integer_bit format.precision (omega (arith, law.precise));
   };
-  canonical = ones_canonical f.explicit_integer_bit f layout b _;
-  is = infinity_is f.explicit_integer_bit f.nonfinite f layout b k;
+  canonical = ones_canonical format.explicit_integer_bit format layout b _;
+  is = infinity_is format.explicit_integer_bit format.nonfinite format layout b k;
 }
 
-nan_is : (explicit : Bool) (kind : NonfiniteBehavior) (f : Format) (layout : Layout) (b : Bool) (s : ℕ)
-    → f.nonfinite ≡ kind → (kind ≡ NanNegativeZero → ⊥) → MayBeExplicit kind explicit
-    → IsNanSignificand kind explicit f.precision s
-    → cond explicit (written_datum f layout (fields_with b (all_ones layout.exponent_bits) s))
-    (implied_datum kind f layout (fields_with b (all_ones layout.exponent_bits) s)) ≡ nan b s
-nan_is true IEEE754 f layout b s k n may h =
-    rw (eqb_self (all_ones layout.exponent_bits), ne_eqb s (smallest_normalized f) h.1) refl
-nan_is false IEEE754 f layout b s k n may h =
+nan_is : (explicit : Bool) (kind : NonfiniteBehavior) (format : Format) (layout : Layout) (b : Bool) (s : ℕ)
+    → format.nonfinite ≡ kind → (kind ≡ NanNegativeZero → ⊥) → MayBeExplicit kind explicit
+    → IsNanSignificand kind explicit format.precision s
+    → cond explicit (written_datum format layout (fields_with b (all_ones layout.exponent_bits) s))
+    (implied_datum kind format layout (fields_with b (all_ones layout.exponent_bits) s)) ≡ nan b s
+nan_is true IEEE754 format layout b s k n may h =
+    rw (eqb_self (all_ones layout.exponent_bits), ne_eqb s (smallest_normalized format) h.1) refl
+nan_is false IEEE754 format layout b s k n may h =
     rw (eqb_self (all_ones layout.exponent_bits), ne_eqb s 0 (λ z. omega (arith, z, h.0))) refl
-nan_is true NanOnly f layout b s k n may h = absurd (true≢false may)
-nan_is false NanOnly f layout b s k n may h =
-    rw (eqb_self (all_ones layout.exponent_bits), eq-eqb s (all_ones (f.precision - 1)) h, k) (ap (nan b) (sym h))
-nan_is explicit NanNegativeZero f layout b s k n may h = absurd (n refl)
+nan_is true NanOnly format layout b s k n may h = absurd (true≢false may)
+nan_is false NanOnly format layout b s k n may h =
+    rw (eqb_self (all_ones layout.exponent_bits), eq-eqb s (all_ones (format.precision - 1)) h, k) (ap (nan b) (sym h))
+nan_is explicit NanNegativeZero format layout b s k n may h = absurd (n refl)
 
 width_of_nan : (explicit : Bool) (kind : NonfiniteBehavior) (p s : ℕ) → (kind ≡ NanNegativeZero → ⊥)
     → MayBeExplicit kind explicit → IsNanSignificand kind explicit p s → s < 2 ^ cond explicit p (p - 1)
@@ -261,40 +269,44 @@ width_of_nan false NanOnly p s n may h = let q : 0 < 2 ^ (p - 1) = pow_pos (p - 
 width_of_nan explicit NanNegativeZero p s n may h = absurd (n refl)
 
 -- with the greatest exponent
-pub nan_fields_of : (f : Format) (layout : Layout) (b : Bool) (s : ℕ) → IsInterchange f layout
-    → (f.nonfinite ≡ NanNegativeZero → ⊥) → IsNanSignificand f.nonfinite f.explicit_integer_bit f.precision s
-    → AreFieldsOf f layout (fields_with b (all_ones layout.exponent_bits) s) (nan b s)
-nan_fields_of f layout b s law n h = record {
+pub nan_fields_of : (format : Format) (layout : Layout) (b : Bool) (s : ℕ) → IsInterchange format layout
+    → (format.nonfinite ≡ NanNegativeZero → ⊥)
+    → IsNanSignificand format.nonfinite format.explicit_integer_bit format.precision s
+    → AreFieldsOf format layout (fields_with b (all_ones layout.exponent_bits) s) (nan b s)
+nan_fields_of format layout b s law n h = record {
   within = record {
     biased_exponent = ones_fit layout.exponent_bits;
     trailing =
-        width_of_nan f.explicit_integer_bit f.nonfinite f.precision s n law.explicit h;
+        width_of_nan format.explicit_integer_bit format.nonfinite format.precision s n law.explicit h;
   };
-  canonical = ones_canonical f.explicit_integer_bit f layout b s;
-  is = nan_is f.explicit_integer_bit f.nonfinite f layout b s refl n law.explicit h;
+  canonical = ones_canonical format.explicit_integer_bit format layout b s;
+  is = nan_is format.explicit_integer_bit format.nonfinite format layout b s refl n law.explicit h;
 }
 
-one_nan_is : (explicit : Bool) (kind : NonfiniteBehavior) (f : Format) (layout : Layout) → f.nonfinite ≡ kind
+one_nan_is : (explicit : Bool) (kind : NonfiniteBehavior) (format : Format) (layout : Layout) → format.nonfinite ≡ kind
     → kind ≡ NanNegativeZero → MayBeExplicit kind explicit
-    → cond explicit (written_datum f layout (fields_with true 0 0))
-    (implied_datum kind f layout (fields_with true 0 0)) ≡ nan false 0
-one_nan_is explicit IEEE754 f layout k e may = cc
-one_nan_is explicit NanOnly f layout k e may = cc
-one_nan_is true NanNegativeZero f layout k e may = absurd (true≢false may)
-one_nan_is false NanNegativeZero f layout k e may = rw k refl
+    → cond explicit (written_datum format layout (fields_with true 0 0))
+    (implied_datum kind format layout (fields_with true 0 0)) ≡ nan false 0
+one_nan_is explicit IEEE754 format layout k e may = cc
+one_nan_is explicit NanOnly format layout k e may = cc
+one_nan_is true NanNegativeZero format layout k e may = absurd (true≢false may)
+one_nan_is false NanNegativeZero format layout k e may = rw k refl
 
-one_canonical : (explicit : Bool) (kind : NonfiniteBehavior) (f : Format) (layout : Layout) → kind ≡ NanNegativeZero
-    → MayBeExplicit kind explicit → cond explicit (is_canonical_written f layout (fields_with true 0 0)) true ≡ true
-one_canonical explicit IEEE754 f layout e may = cc
-one_canonical explicit NanOnly f layout e may = cc
-one_canonical true NanNegativeZero f layout e may = absurd (true≢false may)
-one_canonical false NanNegativeZero f layout e may = refl
+one_canonical : (explicit : Bool) (kind : NonfiniteBehavior) (format : Format) (layout : Layout)
+    → kind ≡ NanNegativeZero
+    → MayBeExplicit kind explicit → cond explicit (is_canonical_written format layout (fields_with true 0 0)) true
+    ≡ true
+one_canonical explicit IEEE754 format layout e may = cc
+one_canonical explicit NanOnly format layout e may = cc
+one_canonical true NanNegativeZero format layout e may = absurd (true≢false may)
+one_canonical false NanNegativeZero format layout e may = refl
 
 -- in place of the negative zero
-pub one_nan_fields_of : (f : Format) (layout : Layout) → IsInterchange f layout → f.nonfinite ≡ NanNegativeZero
-    → AreFieldsOf f layout (fields_with true 0 0) (nan false 0)
-one_nan_fields_of f layout law k = record {
-  within = record { biased_exponent = pow_pos layout.exponent_bits; trailing = pow_pos (trailing_bits f) };
-  canonical = one_canonical f.explicit_integer_bit f.nonfinite f layout k law.explicit;
-  is = one_nan_is f.explicit_integer_bit f.nonfinite f layout refl k law.explicit;
+pub one_nan_fields_of : (format : Format) (layout : Layout) → IsInterchange format layout
+    → format.nonfinite ≡ NanNegativeZero
+    → AreFieldsOf format layout (fields_with true 0 0) (nan false 0)
+one_nan_fields_of format layout law k = record {
+  within = record { biased_exponent = pow_pos layout.exponent_bits; trailing = pow_pos (trailing_bits format) };
+  canonical = one_canonical format.explicit_integer_bit format.nonfinite format layout k law.explicit;
+  is = one_nan_is format.explicit_integer_bit format.nonfinite format layout refl k law.explicit;
 }

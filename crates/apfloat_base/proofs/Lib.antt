@@ -8,6 +8,7 @@ pub mod Deliveries
 pub mod Signs
 pub mod Greatest
 pub mod Choices
+pub mod ListLaws
 pub mod Laws
 pub mod Logarithms
 pub mod Encodings

@@ -1,27 +1,16 @@
 -- The significands that operations give NaNs are significands of NaNs.
 use Rattle.std.proofs.Common.{◌≡◌, ◌≢◌, ℕ, ◌+◌, ◌-◌, ◌*◌, ◌/◌, ◌^◌, ◌<◌, ◌≤◌, Bool, true, false, sym, refl, ap, ◌∙◌, subst, arith, if◌then◌else◌, eqb}
-use Rattle.std.specs.Prelude.{⊤, bit_and, bit_or}
+use Rattle.std.specs.Prelude.{bit_and, bit_or}
 use Rattle.std.specs.Int.Bits.{or_zero_r, or_zero_l, and_zero_r, and_zero_l}
 use Rattle.std.proofs.lemmas.Nat.{pow_pos, or_lt, le_or_l, le_or_r, and_le_r, and_or_self, pow_apart, and_mask, pow-add}
+use Rattle.std.proofs.lemmas.Bool.{eqb-false}
 use Rattle.std.proofs.Math.Nat.{mod_self, pos_of_ne-zero}
 use Rattle.apfloat_base.specs.declared.kinds.NonfiniteBehavior.{NonfiniteBehavior}
 use Rattle.apfloat_base.specs.declared.kinds.NonfiniteBehavior.TheVariants.{IEEE754, NanOnly, NanNegativeZero}
 use Rattle.apfloat_base.specs.formats.Format.{Format, nan_base_of, payload_mask_of, quiet_bits_of}
 use Rattle.apfloat_base.specs.formats.Members.{IsNanSignificand}
 use Rattle.apfloat_base.specs.formats.Nan.{quiet_bit_of, quiet_significand, signaling_significand}
-
-truth : Bool → Type 0
-truth true = ⊤
-truth false = ⊥
-
-true_false : true ≡ false → ⊥
-unfolding truth
-true_false e = subst truth e tt
-
-if_case : {A : Type 0} (P : A → Type 0) {x y : A} (b : Bool) → (b ≡ true → P x) → (b ≡ false → P y)
-    → P (if b then x else y)
-if_case P true l r = l refl
-if_case P false l r = r refl
+use Rattle.apfloat_base.proofs.Choices.{if_case}
 
 twice : (p : ℕ) → 3 ≤ p
     → (2 ^ (p - 1) ≡ 2 * 2 ^ (p - 2)) × (2 ^ p ≡ 4 * 2 ^ (p - 2)) × (2 ^ (p - 2) ≡ 2 * 2 ^ (p - 3))
@@ -39,8 +28,8 @@ or_no_power s i j apart e =
     let z : 0 < 2 ^ j = pow_pos j in
     omega (arith, a, pow_apart i j apart, z)
 
-pub or_member : (k : NonfiniteBehavior) (e : Bool) (p s : ℕ) → 3 ≤ p → IsNanSignificand k e p s
-    → IsNanSignificand k e p (bit_or s (quiet_bit_of k p))
+pub or_member : (kind : NonfiniteBehavior) (e : Bool) (p s : ℕ) → 3 ≤ p → IsNanSignificand kind e p s
+    → IsNanSignificand kind e p (bit_or s (quiet_bit_of kind p))
 or_member IEEE754 false p s h (some, below) =
     let t = twice p h in let g = le_or_l s (2 ^ (p - 2)) in
     let l : 2 ^ (p - 2) < 2 ^ (p - 1) = omega (arith, t) in
@@ -52,9 +41,9 @@ or_member IEEE754 true p s h (below, other) =
 or_member NanOnly e p s h m = rw (or_zero_r s) m
 or_member NanNegativeZero e p s h m = rw (or_zero_r s) m
 
-quiet_kinds : (k : NonfiniteBehavior) (e : Bool) (p payload : ℕ) → 3 ≤ p
-    → IsNanSignificand k e p (bit_or (bit_or (nan_base_of k p) (quiet_bits_of k e p))
-    (bit_and payload (payload_mask_of k p)))
+quiet_kinds : (kind : NonfiniteBehavior) (e : Bool) (p payload : ℕ) → 3 ≤ p
+    → IsNanSignificand kind e p (bit_or (bit_or (nan_base_of kind p) (quiet_bits_of kind e p))
+    (bit_and payload (payload_mask_of kind p)))
 quiet_kinds IEEE754 false p payload h =
     let t = twice p h in
     let q : bit_or 0 (2 ^ (p - 2)) ≡ 2 ^ (p - 2) = or_zero_l (2 ^ (p - 2)) in
@@ -76,12 +65,12 @@ quiet_kinds NanOnly e p payload h = let b = nan_base_of NanOnly p in
     rw (and_zero_r payload) rw (or_zero_r (bit_or b 0)) rw (or_zero_r b) refl
 quiet_kinds NanNegativeZero e p payload h = rw (and_zero_r payload) refl
 
-pub quiet_member : (f : Format) (payload : ℕ) → 3 ≤ f.precision
-    → IsNanSignificand f.nonfinite f.explicit_integer_bit f.precision (quiet_significand f payload)
-quiet_member f payload h = quiet_kinds f.nonfinite f.explicit_integer_bit f.precision payload h
+pub quiet_member : (format : Format) (payload : ℕ) → 3 ≤ format.precision
+    → IsNanSignificand format.nonfinite format.explicit_integer_bit format.precision (quiet_significand format payload)
+quiet_member format payload h = quiet_kinds format.nonfinite format.explicit_integer_bit format.precision payload h
 
 lit_apart : {A : Type 0} (n : ℕ) → n ≡ 0 → eqb n 0 ≡ false → A
-lit_apart n z e = absurd (true_false (ap (λ (x : ℕ). eqb x 0) (sym z) ∙ e))
+lit_apart n z e = absurd (eqb-false n 0 e z)
 
 less_nothing : (q : ℕ) → q - bit_and q 0 ≡ q
 less_nothing q = let e : bit_and q 0 ≡ 0 = and_zero_r q in omega (arith, e)
@@ -89,9 +78,10 @@ less_nothing q = let e : bit_and q 0 ≡ 0 = and_zero_r q in omega (arith, e)
 or_nothing : (q : ℕ) → bit_or (q - bit_and q 0) (0 / 2) ≡ q
 or_nothing q = ap (λ (x : ℕ). bit_or x 0) (less_nothing q) ∙ or_zero_r q
 
-signaling_kinds : (k : NonfiniteBehavior) (e : Bool) (p q : ℕ) → 3 ≤ p → IsNanSignificand k e p q →
-    IsNanSignificand k e p (let c = q - bit_and q (quiet_bit_of k p) in if eqb (bit_and c (payload_mask_of k p)) 0
-    then bit_or c (quiet_bit_of k p / 2) else c)
+signaling_kinds : (kind : NonfiniteBehavior) (e : Bool) (p q : ℕ) → 3 ≤ p → IsNanSignificand kind e p q →
+    IsNanSignificand kind e p (let c = q - bit_and q (quiet_bit_of kind p) in
+    if eqb (bit_and c (payload_mask_of kind p)) 0
+    then bit_or c (quiet_bit_of kind p / 2) else c)
 signaling_kinds IEEE754 false p q h (some, below) =
     let t = twice p h in
     let c = q - bit_and q (2 ^ (p - 2)) in
@@ -133,8 +123,9 @@ signaling_kinds NanNegativeZero e p q h m =
     (λ _. subst (λ (x : ℕ). IsNanSignificand NanNegativeZero e p x) (sym (or_nothing q)) m)
     (λ _. subst (λ (x : ℕ). IsNanSignificand NanNegativeZero e p x) (sym (less_nothing q)) m)
 
-pub signaling_member : (f : Format) (payload : ℕ) → 3 ≤ f.precision
-    → IsNanSignificand f.nonfinite f.explicit_integer_bit f.precision (signaling_significand f payload)
-signaling_member f payload h =
-    signaling_kinds f.nonfinite f.explicit_integer_bit f.precision (quiet_significand f payload) h
-    (quiet_member f payload h)
+pub signaling_member : (format : Format) (payload : ℕ) → 3 ≤ format.precision
+    → IsNanSignificand format.nonfinite format.explicit_integer_bit format.precision
+    (signaling_significand format payload)
+signaling_member format payload h =
+    signaling_kinds format.nonfinite format.explicit_integer_bit format.precision (quiet_significand format payload) h
+    (quiet_member format payload h)

@@ -50,37 +50,38 @@ above_below precision n next p g b =
 infinite_past : (kind : NonfiniteBehavior) (base : ℕ) → kind ≡ IEEE754 → past_largest kind base false ≡ infinite false
 infinite_past kind base e = rw e refl
 
-next_down_infinite : (f : Format) (n : ℕ) (v : Datum) → 0 < n → n ≡ largest f → v ≡ infinite false
-    → IsNextDown f v (finite false n) 0
-next_down_infinite f n v p e w =
-    subst (λ (z : Datum). IsNextDown f z (finite false n) 0) (sym w)
+next_down_infinite : (format : Format) (n : ℕ) (v : Datum) → 0 < n → n ≡ largest format → v ≡ infinite false
+    → IsNextDown format v (finite false n) 0
+next_down_infinite format n v p e w =
+    subst (λ (z : Datum). IsNextDown format z (finite false n) 0) (sym w)
     (record {
       up_of_negated = finite true n;
       is_next_up =
           record { value_is = ap (λ (k : ℕ). finite true k) e; status_is = refl };
       is =
-          sym (negated_number f.nonfinite true n p);
+          sym (negated_number format.nonfinite true n p);
     })
 
-next_down_greater : (f : Format) (n next : ℕ) (v : Datum) → 0 < n → IsOnGrid f.precision n
-    → IsAbove f.precision next (n + 1) 1 → v ≡ finite false next → IsNextDown f v (finite false n) 0
-next_down_greater f n next v p g a w =
+next_down_greater : (format : Format) (n next : ℕ) (v : Datum) → 0 < n → IsOnGrid format.precision n
+    → IsAbove format.precision next (n + 1) 1 → v ≡ finite false next → IsNextDown format v (finite false n) 0
+next_down_greater format n next v p g a w =
     let l = a.not_below in
     let q : 0 < next = omega (arith, l) in
-    let less : IsNextLess f next (finite true n) 0 =
+    let less : IsNextLess format next (finite true n) 0 =
     record {
       next = n;
-      is_below = below_above f.precision n next g a;
+      is_below = below_above format.precision n next g a;
       is =
-          record { value_is = sym (signed_some f.nonfinite true n p); status_is = refl };
+          record { value_is = sym (signed_some format.nonfinite true n p); status_is = refl };
     } in
-    let up : IsNextUp f (finite true next) (finite true n) 0 = rw (no_zero next q) less in
-    subst (λ (z : Datum). IsNextDown f z (finite false n) 0) (sym w)
+    let up : IsNextUp format (finite true next) (finite true n) 0 = rw (no_zero next q) less in
+    subst (λ (z : Datum). IsNextDown format z (finite false n) 0) (sym w)
     (record {
       up_of_negated = finite true n;
       is_next_up =
-          subst (λ (z : Datum). IsNextUp f z (finite true n) 0) (sym (negated_number f.nonfinite false next q)) up;
-      is = sym (negated_number f.nonfinite true n p);
+          subst (λ (z : Datum). IsNextUp format z (finite true n) 0)
+          (sym (negated_number format.nonfinite false next q)) up;
+      is = sym (negated_number format.nonfinite true n p);
     })
 
 -- ---- of a negative number
@@ -88,82 +89,88 @@ next_down_greater f n next v p g a w =
 zero_negated : (kind : NonfiniteBehavior) → kind ≡ IEEE754 → negated kind (signed_quanta kind true 0) ≡ finite false 0
 zero_negated kind e = rw e refl
 
-next_down_zero : (f : Format) (n : ℕ) (v : Datum) → f.nonfinite ≡ IEEE754 → n ≡ 1
-    → v ≡ signed_quanta f.nonfinite true 0 → IsNextDown f v (finite true n) 0
-next_down_zero f n v k e w =
+next_down_zero : (format : Format) (n : ℕ) (v : Datum) → format.nonfinite ≡ IEEE754 → n ≡ 1
+    → v ≡ signed_quanta format.nonfinite true 0 → IsNextDown format v (finite true n) 0
+next_down_zero format n v k e w =
     let p : 0 < n = omega (arith, e) in
-    let up : IsNextUp f (finite false 0) (finite false n) 0 =
+    let up : IsNextUp format (finite false 0) (finite false n) 0 =
     record { value_is = ap (λ (j : ℕ). finite false j) e; status_is = refl } in
-    subst (λ (z : Datum). IsNextDown f z (finite true n) 0) (sym w)
+    subst (λ (z : Datum). IsNextDown format z (finite true n) 0) (sym w)
     (record {
       up_of_negated = finite false n;
-      is_next_up = subst (λ (z : Datum). IsNextUp f z (finite false n) 0) (sym (zero_negated f.nonfinite k)) up;
-      is = sym (negated_number f.nonfinite false n p);
+      is_next_up = subst (λ (z : Datum). IsNextUp format z (finite false n) 0)
+          (sym (zero_negated format.nonfinite k)) up;
+      is = sym (negated_number format.nonfinite false n p);
     })
 
-next_down_less : (f : Format) (n next : ℕ) (v : Datum) → 0 < n → 0 < next → n ≤ largest f → IsOnGrid f.precision n
-    → IsBelow f.precision next (n - 1) 1 → v ≡ finite true next → IsNextDown f v (finite true n) 0
-next_down_less f n next v p q m g b w =
+next_down_less : (format : Format) (n next : ℕ) (v : Datum) → 0 < n → 0 < next → n ≤ largest format
+    → IsOnGrid format.precision n
+    → IsBelow format.precision next (n - 1) 1 → v ≡ finite true next → IsNextDown format v (finite true n) 0
+next_down_less format n next v p q m g b w =
     let l = b.not_above in
-    let z : eqb next (largest f) ≡ false = ne_eqb next (largest f) (λ e. omega (arith, e, l, m, p)) in
-    let greater : IsNextGreater f next (finite false n) 0 =
+    let z : eqb next (largest format) ≡ false = ne_eqb next (largest format) (λ e. omega (arith, e, l, m, p)) in
+    let greater : IsNextGreater format next (finite false n) 0 =
     record {
       next = n;
-      is_above = above_below f.precision n next p g b;
+      is_above = above_below format.precision n next p g b;
       is =
           record { value_is = refl; status_is = refl };
     } in
-    let number : IsNextOfNumber f false next (finite false n) 0 = rw z greater in
-    let up : IsNextUp f (finite false next) (finite false n) 0 = rw (no_zero next q) number in
-    subst (λ (z : Datum). IsNextDown f z (finite true n) 0) (sym w)
+    let number : IsNextOfNumber format false next (finite false n) 0 = rw z greater in
+    let up : IsNextUp format (finite false next) (finite false n) 0 = rw (no_zero next q) number in
+    subst (λ (z : Datum). IsNextDown format z (finite true n) 0) (sym w)
     (record {
       up_of_negated = finite false n;
       is_next_up =
-          subst (λ (z : Datum). IsNextUp f z (finite false n) 0) (sym (negated_number f.nonfinite true next q)) up;
-      is = sym (negated_number f.nonfinite false n p);
+          subst (λ (z : Datum). IsNextUp format z (finite false n) 0)
+          (sym (negated_number format.nonfinite true next q)) up;
+      is = sym (negated_number format.nonfinite false n p);
     })
 
 one_on_grid : (precision : ℕ) → 1 < 2 ^ precision → IsOnGrid precision 1
 one_on_grid precision h = record { significand = 1; place = 0; fits = h; is = refl }
 
-negative_back : (f : Format) (n : ℕ) (v : Datum) (st : ℕ) → f.nonfinite ≡ IEEE754 → 1 < 2 ^ f.precision → 0 < n
-    → IsFiniteOf f true n → IsNextLess f n v st → IsNextDown f v (finite true n) 0
-negative_back f n v st k s p m u =
+negative_back : (format : Format) (n : ℕ) (v : Datum) (st : ℕ) → format.nonfinite ≡ IEEE754 → 1 < 2 ^ format.precision
+    → 0 < n
+    → IsFiniteOf format true n → IsNextLess format n v st → IsNextDown format v (finite true n) 0
+negative_back format n v st k s p m u =
     ⊎_elim
-    (λ (q : 0 < u.next). next_down_less f n u.next v p q m.within m.on_grid u.is_below
-    (u.is.value_is ∙ signed_some f.nonfinite true u.next q))
+    (λ (q : 0 < u.next). next_down_less format n u.next v p q m.within m.on_grid u.is_below
+    (u.is.value_is ∙ signed_some format.nonfinite true u.next q))
     (λ (q : u.next ≤ 0).
     let e : u.next ≡ 0 = omega (arith, q) in
     let o : n ≡ 1 =
     ⊎_elim (λ (h : 1 < n). let t : 1 ≤ u.next =
-    u.is_below.greatest 1 (one_on_grid f.precision s) (omega (arith, h)) in absurd (omega (arith, t, q)))
+    u.is_below.greatest 1 (one_on_grid format.precision s) (omega (arith, h)) in absurd (omega (arith, t, q)))
     (λ (h : n ≤ 1). omega (arith, h, p)) (cases_lt 1 n) in
-    next_down_zero f n v k o (u.is.value_is ∙ ap (λ (j : ℕ). signed_quanta f.nonfinite true j) e))
+    next_down_zero format n v k o (u.is.value_is ∙ ap (λ (j : ℕ). signed_quanta format.nonfinite true j) e))
     (cases_lt 0 u.next)
 
-positive_back : (f : Format) (n : ℕ) (v : Datum) (st : ℕ) → f.nonfinite ≡ IEEE754 → 0 < n → IsFiniteOf f false n
-    → IsNextOfNumber f false n v st → IsNextDown f v (finite false n) 0
-positive_back f n v st k p m u =
+positive_back : (format : Format) (n : ℕ) (v : Datum) (st : ℕ) → format.nonfinite ≡ IEEE754 → 0 < n
+    → IsFiniteOf format false n
+    → IsNextOfNumber format false n v st → IsNextDown format v (finite false n) 0
+positive_back format n v st k p m u =
     ⊎_elim
-    (λ (e : n ≡ largest f).
-    let a = rw (eq-eqb n (largest f) e) at u in
-    next_down_infinite f n v p e (a.value_is ∙ infinite_past f.nonfinite _ k))
-    (λ (e : n ≡ largest f → ⊥).
-    let a = rw (ne_eqb n (largest f) e) at u in
-    next_down_greater f n a.next v p m.on_grid a.is_above a.is.value_is)
-    (cases_eq n (largest f))
+    (λ (e : n ≡ largest format).
+    let a = rw (eq-eqb n (largest format) e) at u in
+    next_down_infinite format n v p e (a.value_is ∙ infinite_past format.nonfinite _ k))
+    (λ (e : n ≡ largest format → ⊥).
+    let a = rw (ne_eqb n (largest format) e) at u in
+    next_down_greater format n a.next v p m.on_grid a.is_above a.is.value_is)
+    (cases_eq n (largest format))
 
 some_quanta : (n : ℕ) → ltb 0 n ≡ true → 0 < n
 some_quanta n h =
     ⊎_elim (λ (k : 0 < n). k) (λ (k : n ≤ 0). absurd (false≢true (sym (le-ltb 0 n k) ∙ h))) (cases_lt 0 n)
 
-pub next_back : (f : Format) (x v : Datum) (st : ℕ) → f.nonfinite ≡ IEEE754 → 1 < 2 ^ f.precision → IsMember f x
-    → is_finite_non_zero x ≡ true → IsNextUp f x v st → IsNextDown f v x 0
-next_back f (finite true n) v st k s m z u =
+pub next_back : (format : Format) (x v : Datum) (st : ℕ) → format.nonfinite ≡ IEEE754 → 1 < 2 ^ format.precision
+    → IsMember format x
+    → is_finite_non_zero x ≡ true → IsNextUp format x v st → IsNextDown format v x 0
+next_back format (finite true n) v st k s m z u =
     let p = some_quanta n z in
-    negative_back f n v st k s p m (rw (no_zero n p) at u)
-next_back f (finite false n) v st k s m z u =
+    negative_back format n v st k s p m (rw (no_zero n p) at u)
+next_back format (finite false n) v st k s m z u =
     let p = some_quanta n z in
-    positive_back f n v st k p m (rw (no_zero n p) at u)
-next_back f (infinite b) v st k s m z u = absurd (false≢true z)
-next_back f (nan b t) v st k s m z u = absurd (false≢true z)
+    positive_back format n v st k p m (rw (no_zero n p) at u)
+next_back format (infinite b) v st k s m z u = absurd (false≢true z)
+next_back format (nan b t) v st k s m z u = absurd (false≢true z)

@@ -1,5 +1,5 @@
 -- Which neighbour is picked, by what is left of the magnitude.
-use Rattle.std.proofs.Common.{◌≡◌, ℕ, ◌+◌, ◌-◌, ◌*◌, ◌/◌, ◌%◌, ◌^◌, ◌<◌, Bool, true, false, cond, eqb, sym, refl, ap, ◌∙◌, arith}
+use Rattle.std.proofs.Common.{◌≡◌, ℕ, ◌+◌, ◌-◌, ◌*◌, ◌/◌, ◌%◌, ◌^◌, ◌<◌, Bool, cond, eqb, sym, refl, ap, ◌∙◌, arith}
 use Rattle.apfloat_base.specs.declared.kinds.Round.{Round}
 use Rattle.apfloat_base.specs.declared.kinds.Round.TheVariants.{NearestTiesToEven, TowardPositive, TowardNegative, TowardZero, NearestTiesToAway}
 use Rattle.apfloat_base.specs.declared.sig.loss.Loss.{Loss}
@@ -8,6 +8,7 @@ use Rattle.apfloat_base.specs.rounding.Rounding.{takes_above, pick_between, IsPi
 use Rattle.apfloat_base.specs.rounding.Standing.{StandsFor}
 use Rattle.apfloat_base.specs.rounding.Enclosure.{IsEnclosed, rounds_up}
 use Rattle.apfloat_base.proofs.Neighbours.{below_is, above_is_same, above_is_next, below_unique, above_unique}
+use Rattle.apfloat_base.proofs.Choices.{cond_times, cond_same}
 use Rattle.std.proofs.Math.Nat.{mul-div_cancel, mul-pos}
 use Rattle.std.proofs.lemmas.Nat.{pow_pos}
 
@@ -34,14 +35,6 @@ takes_more TowardPositive negative odd x y h = refl
 takes_more TowardNegative negative odd x y h = refl
 takes_more TowardZero negative odd x y h = refl
 takes_more NearestTiesToAway negative odd x y h = grind arith
-
-pub cond_times : (b : Bool) (x y u : ℕ) → (cond b x y) * u ≡ cond b (x * u) (y * u)
-cond_times true x y u = refl
-cond_times false x y u = refl
-
-pub cond_same : (b : Bool) (x : ℕ) → x ≡ cond b x x
-cond_same true x = refl
-cond_same false x = refl
 
 odd_is : (m c : ℕ) → eqb (m * 2 ^ c / ((m + 1) * 2 ^ c - m * 2 ^ c) % 2) 1 ≡ eqb (m % 2) 1
 odd_is m c =

@@ -1,6 +1,8 @@
--- Products of powers of two.
-use Rattle.std.proofs.Common.{◌≡◌, ℕ, ◌+◌, ◌*◌, ◌^◌, ap, ◌∙◌, arith}
-use Rattle.std.proofs.lemmas.Nat.{pow-add}
+-- Powers of two: products of them, and their exponents.
+use Rattle.std.proofs.Common.{◌≡◌, ℕ, ◌+◌, ◌*◌, ◌^◌, ◌<◌, ◌≤◌, ap, ◌∙◌, ⊎_elim, arith, lit<}
+use Rattle.std.proofs.Math.Nat.{pow-le-pow_right}
+use Rattle.std.proofs.lemmas.Nat.{pow-add, pow_pos}
+use Rattle.std.proofs.lemmas.Bool.{cases_lt}
 
 pub pow3 : (a b c : ℕ) → 2 ^ (a + b + c) ≡ 2 ^ a * 2 ^ b * 2 ^ c
 pow3 a b c = pow-add 2 (a + b) c ∙ ap (λ (x : ℕ). x * 2 ^ c) (pow-add 2 a b)
@@ -14,3 +16,23 @@ pow4 a b c d = pow-add 2 (a + b + c) d ∙ ap (λ (x : ℕ). x * 2 ^ d) (pow3 a 
 
 pub twice_power : (n : ℕ) → 2 ^ (n + 1) ≡ 2 * 2 ^ n
 twice_power n = let e : 2 ^ (n + 1) ≡ 2 ^ n * 2 = pow-add 2 n 1 in omega arith
+
+-- a power that is no greater has no greater exponent
+pub exponent_at_most : (a b : ℕ) → 2 ^ a ≤ 2 ^ b → a ≤ b
+exponent_at_most a b h =
+    ⊎_elim
+    (λ (c : b < a).
+    let k : 2 ^ (b + 1) ≤ 2 ^ a = pow-le-pow_right (lit< tt) (omega arith) in
+    let t : 2 ^ (b + 1) ≡ 2 * 2 ^ b = twice_power b in
+    let p : 0 < 2 ^ b = pow_pos b in
+    absurd (omega arith))
+    (λ (c : a ≤ b). c)
+    (cases_lt b a)
+
+-- a lesser power has a lesser exponent
+pub exponent_below : (a b : ℕ) → 2 ^ a < 2 ^ b → a < b
+exponent_below a b h =
+    ⊎_elim
+    (λ (c : a < b). c)
+    (λ (c : b ≤ a). let k : 2 ^ b ≤ 2 ^ a = pow-le-pow_right (lit< tt) c in absurd (omega arith))
+    (cases_lt a b)

@@ -73,11 +73,12 @@ at_least n m h =
     (λ (l : m ≤ n). rw (lt-ltb 0 n (omega (arith, h, l)), le-ltb n m l, le-leb m n l) refl)
     (cases_lt n m)
 
-pub normal_agrees : (f : Format) (x : Datum)
-    → (is_number_category (category_of x) && not (is_denormal f x)) ≡ is_normal f x
-normal_agrees f (finite b n) = rw (number_or_not n) (at_least n (smallest_normalized f) (pow_pos (f.precision - 1)))
-normal_agrees f (infinite b) = refl
-normal_agrees f (nan b s) = refl
+pub normal_agrees : (format : Format) (x : Datum)
+    → (is_number_category (category_of x) && not (is_denormal format x)) ≡ is_normal format x
+normal_agrees format (finite b n) = rw (number_or_not n)
+    (at_least n (smallest_normalized format) (pow_pos (format.precision - 1)))
+normal_agrees format (infinite b) = refl
+normal_agrees format (nan b s) = refl
 
 pub min_agrees : (x y : Datum) → min_by category_of compared x y ≡ min_num x y
 min_agrees x y = rw (nan_agrees x, nan_agrees y) refl
@@ -168,22 +169,24 @@ magnitude_agrees kind m (infinite b) h =
 magnitude_agrees kind m (nan b s) h =
     rw (sign_alone kind m (nan b s) (finite b m) refl, turned_number kind b m h) refl
 
-pub smallest_agrees : (f : Format) (x : Datum)
-    → same_datum x (signed_like is_negative (negated f.nonfinite) smallest_datum x) ≡ is_smallest x
-smallest_agrees f x = magnitude_agrees f.nonfinite 1 x (omega arith)
+pub smallest_agrees : (format : Format) (x : Datum)
+    → same_datum x (signed_like is_negative (negated format.nonfinite) smallest_datum x) ≡ is_smallest x
+smallest_agrees format x = magnitude_agrees format.nonfinite 1 x (omega arith)
 
-pub smallest_normalized_agrees : (f : Format) (x : Datum)
-    → same_datum x (signed_like is_negative (negated f.nonfinite) (smallest_normalized_datum f) x)
-    ≡ is_smallest_normalized f x
-smallest_normalized_agrees f x = magnitude_agrees f.nonfinite (smallest_normalized f) x (pow_pos (f.precision - 1))
+pub smallest_normalized_agrees : (format : Format) (x : Datum)
+    → same_datum x (signed_like is_negative (negated format.nonfinite) (smallest_normalized_datum format) x)
+    ≡ is_smallest_normalized format x
+smallest_normalized_agrees format x = magnitude_agrees format.nonfinite (smallest_normalized format) x
+    (pow_pos (format.precision - 1))
 
-pub largest_agrees : (f : Format) (x : Datum) → 0 < largest f
-    → same_datum x (signed_like is_negative (negated f.nonfinite) (largest_datum f) x) ≡ is_largest f x
-largest_agrees f x h = magnitude_agrees f.nonfinite (largest f) x h
+pub largest_agrees : (format : Format) (x : Datum) → 0 < largest format
+    → same_datum x (signed_like is_negative (negated format.nonfinite) (largest_datum format) x) ≡ is_largest format x
+largest_agrees format x h = magnitude_agrees format.nonfinite (largest format) x h
 
-pub abs_agrees : (f : Format) (x : Datum) → (if is_negative x then negated f.nonfinite x else x) ≡ abs f x
-abs_agrees f x = refl
+pub abs_agrees : (format : Format) (x : Datum)
+    → (if is_negative x then negated format.nonfinite x else x) ≡ abs format x
+abs_agrees format x = refl
 
-pub copy_sign_agrees : (f : Format) (x y : Datum)
-    → signed_like is_negative (negated f.nonfinite) x y ≡ copy_sign f x y
-copy_sign_agrees f x y = refl
+pub copy_sign_agrees : (format : Format) (x y : Datum)
+    → signed_like is_negative (negated format.nonfinite) x y ≡ copy_sign format x y
+copy_sign_agrees format x y = refl

@@ -21,24 +21,26 @@ negated_some : (kind : NonfiniteBehavior) (b : Bool) (m : ℕ)
     → negated kind (finite b (suc m)) ≡ finite (not b) (suc m)
 negated_some kind b m = rw (ne_eqb (suc m) 0 (λ z. omega (arith, z))) refl
 
-opposite_numbers : (f : Format) (mode : Round) (b c : Bool) (m n : ℕ) (value : Datum) (status : ℕ) → 0 < largest f
-    → IsProduct f mode (finite b m) (finite c n) value status
-    → IsOpposite f mode (finite b m) (finite c n) value status
-opposite_numbers f mode b c zero n value status l h x y = absurd (false≢true x)
-opposite_numbers f mode b c (suc m) n value status l h x y =
-    let d : IsDelivered f (swapped mode) (product_sign (not b) c) (suc m * n) (2 ^ f.scale)
-    (negated f.nonfinite value) status =
-    subst (λ (sign : Bool). IsDelivered f (swapped mode) sign (suc m * n) (2 ^ f.scale) (negated f.nonfinite value)
+opposite_numbers : (format : Format) (mode : Round) (b c : Bool) (m n : ℕ) (value : Datum) (status : ℕ)
+    → 0 < largest format
+    → IsProduct format mode (finite b m) (finite c n) value status
+    → IsOpposite format mode (finite b m) (finite c n) value status
+opposite_numbers format mode b c zero n value status l h x y = absurd (false≢true x)
+opposite_numbers format mode b c (suc m) n value status l h x y =
+    let d : IsDelivered format (swapped mode) (product_sign (not b) c) (suc m * n) (2 ^ format.scale)
+    (negated format.nonfinite value) status =
+    subst (λ (sign : Bool). IsDelivered format (swapped mode) sign (suc m * n) (2 ^ format.scale)
+    (negated format.nonfinite value)
     status) (other_sign b c)
-    (delivered_swapped f mode (product_sign b c) (suc m * n) (2 ^ f.scale) value status l h) in
-    subst (λ (left : Datum). IsProduct f (swapped mode) left (finite c n) (negated f.nonfinite value) status)
-    (sym (negated_some f.nonfinite b m)) d
+    (delivered_swapped format mode (product_sign b c) (suc m * n) (2 ^ format.scale) value status l h) in
+    subst (λ (left : Datum). IsProduct format (swapped mode) left (finite c n) (negated format.nonfinite value) status)
+    (sym (negated_some format.nonfinite b m)) d
 
-pub opposite_product : (f : Format) (mode : Round) (x y value : Datum) (status : ℕ) → 0 < largest f
-    → IsProduct f mode x y value status → IsOpposite f mode x y value status
-opposite_product f mode (nan b s) y value status l h p q = absurd (false≢true p)
-opposite_product f mode (infinite b) y value status l h p q = absurd (false≢true p)
-opposite_product f mode (finite b m) (nan c t) value status l h p q = absurd (false≢true q)
-opposite_product f mode (finite b m) (infinite c) value status l h p q = absurd (false≢true q)
-opposite_product f mode (finite b m) (finite c n) value status l h p q =
-    opposite_numbers f mode b c m n value status l h p q
+pub opposite_product : (format : Format) (mode : Round) (x y value : Datum) (status : ℕ) → 0 < largest format
+    → IsProduct format mode x y value status → IsOpposite format mode x y value status
+opposite_product format mode (nan b s) y value status l h p q = absurd (false≢true p)
+opposite_product format mode (infinite b) y value status l h p q = absurd (false≢true p)
+opposite_product format mode (finite b m) (nan c t) value status l h p q = absurd (false≢true q)
+opposite_product format mode (finite b m) (infinite c) value status l h p q = absurd (false≢true q)
+opposite_product format mode (finite b m) (finite c n) value status l h p q =
+    opposite_numbers format mode b c m n value status l h p q

@@ -1,4 +1,5 @@
--- Worked rows of what needs no rounding: NaNs and infinities, remainders, whole numbers out, neighbours, exponents, order. See `Rows`.
+-- Worked rows of what needs no rounding: NaNs and infinities, remainders, whole numbers out, neighbours, exponents,
+-- order. See `Rows`.
 use Rattle.std.proofs.Common.{◌≡◌, ◌^◌, true, false, refl, neg_ℤ, pos, lit<, lit≤, arith}
 use Rattle.std.specs.Prelude.{Some, None}
 use Rattle.apfloat_base.specs.declared.kinds.Round.{Round}

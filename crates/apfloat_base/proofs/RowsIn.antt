@@ -14,7 +14,7 @@ use Rattle.apfloat_base.specs.bits.Layout.{datum_of}
 use Rattle.apfloat_base.specs.formats.Lawful.{Constants, format_with, layout_with}
 use Rattle.apfloat_base.specs.formats.Formats.{half_constants, single_constants, e5m2_constants, e4m3fn_constants, e4m3fnuz_constants}
 use Rattle.apfloat_base.proofs.Neighbours.{below_is, above_is_same, above_is_next}
-use Rattle.apfloat_base.proofs.Picks.{cond_same}
+use Rattle.apfloat_base.proofs.Choices.{cond_same}
 
 -- ---- formats, and the values that bits stand for in them
 
@@ -103,18 +103,18 @@ module _ (precision : ℕ) (mode : Round) (negative : Bool) (m c amount parts : 
     is = refl;
   }
 
-pub rounded : {f : Format} {mode : Round} {negative : Bool} {amount parts : ℕ} {value : Datum} {status : ℕ}
-    (m c : ℕ) → encloses f.precision m c amount parts ≡ true
-    → value ≡ delivered_value f mode negative (picked mode negative m c amount parts)
-    → status ≡ delivered_status f mode negative amount parts (picked mode negative m c amount parts)
-    → IsDelivered f mode negative amount parts value status
-rounded {f} {mode} {negative} {amount} {parts} m c e v s =
+pub rounded : {format : Format} {mode : Round} {negative : Bool} {amount parts : ℕ} {value : Datum} {status : ℕ}
+    (m c : ℕ) → encloses format.precision m c amount parts ≡ true
+    → value ≡ delivered_value format mode negative (picked mode negative m c amount parts)
+    → status ≡ delivered_status format mode negative amount parts (picked mode negative m c amount parts)
+    → IsDelivered format mode negative amount parts value status
+rounded {format} {mode} {negative} {amount} {parts} m c e v s =
     let x = and_parts _ _ e in
     let y = and_parts _ _ x.1 in
     let z = and_parts _ _ y.1 in
     let u = and_parts _ _ z.1 in
     let w = and_parts _ _ u.1 in
-    let i : IsEnclosed f.precision (2 ^ (f.precision - 1)) m c amount parts =
+    let i : IsEnclosed format.precision (2 ^ (format.precision - 1)) m c amount parts =
     record {
       double = eqb-true _ _ x.0;
       fits = ltb-true _ _ y.0;
@@ -124,7 +124,7 @@ rounded {f} {mode} {negative} {amount} {parts} m c e v s =
     } in
     record {
       pick = picked mode negative m c amount parts;
-      is_pick = is_picked f.precision mode negative m c amount parts i (ltb-true _ _ w.1)
+      is_pick = is_picked format.precision mode negative m c amount parts i (ltb-true _ _ w.1)
           (eqb amount (m * 2 ^ c * parts)) refl;
       value_is = v;
       status_is = s;

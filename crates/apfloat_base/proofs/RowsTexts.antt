@@ -1,6 +1,7 @@
 -- Worked rows of encodings and texts.
 use Rattle.std.proofs.Common.{◌≡◌, ℕ, ◌+◌, ◌*◌, ◌^◌, ◌≤◌, true, false, refl, inl, inr, neg_ℤ, pos, lit<, lit≤, List, [], ◌++◌, length, codes}
 use Rattle.std.specs.Prelude.{IsTrue}
+use Rattle.apfloat_base.specs.declared.parse_error.Fault.TheVariants.{NoLiteral, SecondDot, NoExponent}
 use Rattle.apfloat_base.specs.declared.kinds.Round.{Round}
 use Rattle.apfloat_base.specs.declared.kinds.Round.TheVariants.{NearestTiesToEven, TowardZero}
 use Rattle.apfloat_base.specs.formats.Datum.{Datum, finite, infinite, nan}
@@ -10,7 +11,7 @@ use Rattle.apfloat_base.specs.formats.Lawful.{Constants, format_with, layout_wit
 use Rattle.apfloat_base.specs.formats.Formats.{half_constants, e4m3fn_constants, e4m3fnuz_constants}
 use Rattle.apfloat_base.specs.texts.Digits.{every, is_decimal, is_hexadecimal, number}
 use Rattle.apfloat_base.specs.texts.Specials.{not_a_number, hexadecimal, mark_of, behind_mark}
-use Rattle.apfloat_base.specs.texts.Texts.{marked, IsHexadecimal, no_literal, second_dot, no_exponent}
+use Rattle.apfloat_base.specs.texts.Texts.{marked, IsHexadecimal}
 use Rattle.apfloat_base.specs.texts.Readings.{IsReading, IsRefusal}
 use Rattle.apfloat_base.proofs.RowsIn.{half, single, e4m3fnuz, in_half, in_single, in_e4m3fnuz, answer, rounded}
 
@@ -152,10 +153,10 @@ read_signaling = record { meaning = not_a_number true true 0; means = refl; is_m
 -- ---- texts that are refused, and the words
 
 refused_without_exponent : IsRefusal (codes "0x1") (codes "Hex strings require an exponent")
-refused_without_exponent = record { fault = no_exponent; is_first = refl; says = refl }
+refused_without_exponent = record { fault = NoExponent; is_first = refl; says = refl }
 
 refused_second_dot : IsRefusal (codes "0x1.2.3p0") (codes "String contains multiple dots")
-refused_second_dot = record { fault = second_dot; is_first = refl; says = refl }
+refused_second_dot = record { fault = SecondDot; is_first = refl; says = refl }
 
 refused_decimal : IsRefusal (codes "1.0") (codes "Not a special or hexadecimal literal")
-refused_decimal = record { fault = no_literal; is_first = refl; says = refl }
+refused_decimal = record { fault = NoLiteral; is_first = refl; says = refl }

@@ -19,17 +19,18 @@ swapped_back TowardNegative = refl
 swapped_back TowardZero = refl
 swapped_back NearestTiesToAway = refl
 
-pub signed_above : (f : Format) (mode : Round) (n : ℕ) (v : Datum) (s : ℕ) → IsFromUnsigned f mode n v s
-    → IsFromSigned f mode (pos n) v s
-signed_above f mode zero v s h = h
-signed_above f mode (suc n) v s h = rw (magnitude_signed false (suc n)) h
+pub signed_above : (format : Format) (mode : Round) (n : ℕ) (v : Datum) (s : ℕ) → IsFromUnsigned format mode n v s
+    → IsFromSigned format mode (pos n) v s
+signed_above format mode zero v s h = h
+signed_above format mode (suc n) v s h = rw (magnitude_signed false (suc n)) h
 
-pub signed_below : (f : Format) (mode : Round) (n : ℕ) (v : Datum) (s : ℕ) → 0 < largest f → 0 < n
-    → IsFromUnsigned f (swapped mode) n v s → IsFromSigned f mode (neg_ℤ (pos n)) (negated f.nonfinite v) s
-signed_below f mode n v s l p h =
-    let d = delivered_swapped f (swapped mode) false (n * 2 ^ f.scale) 1 v s l h in
+pub signed_below : (format : Format) (mode : Round) (n : ℕ) (v : Datum) (s : ℕ) → 0 < largest format → 0 < n
+    → IsFromUnsigned format (swapped mode) n v s
+    → IsFromSigned format mode (neg_ℤ (pos n)) (negated format.nonfinite v) s
+signed_below format mode n v s l p h =
+    let d = delivered_swapped format (swapped mode) false (n * 2 ^ format.scale) 1 v s l h in
     rw (sign_signed false true n p, magnitude_signed true n) (rw (swapped_back mode) at d)
 
 -- a format of three digits or more has a number that is not zero
-pub largest_some : (f : Format) → 3 ≤ f.precision → 0 < largest f
-largest_some f l = mul-pos (greatest_some f.nonfinite f.precision l) (pow_pos f.span)
+pub largest_some : (format : Format) → 3 ≤ format.precision → 0 < largest format
+largest_some format l = mul-pos (greatest_some format.nonfinite format.precision l) (pow_pos format.span)

@@ -47,8 +47,8 @@ one_side (negsuc n) = inl refl
 
 -- ---- a number that is not zero is delivered as its sign and magnitude
 
-pub rounded_signed : (f : Format) (mode : Round) (of_zero s : Bool) (m parts : ℕ) (z : ℤ) (value : Datum)
-    (status : ℕ) → z ≡ signed s m → 0 < m → IsDelivered f mode s m parts value status
-    → IsRounded f mode of_zero z parts value status
-rounded_signed f mode of_zero s m parts z value status e p h =
+pub rounded_signed : (format : Format) (mode : Round) (of_zero s : Bool) (m parts : ℕ) (z : ℤ) (value : Datum)
+    (status : ℕ) → z ≡ signed s m → 0 < m → IsDelivered format mode s m parts value status
+    → IsRounded format mode of_zero z parts value status
+rounded_signed format mode of_zero s m parts z value status e p h =
     rw (e, sign_signed of_zero s m p, magnitude_signed s m) h

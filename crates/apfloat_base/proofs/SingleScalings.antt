@@ -75,13 +75,13 @@ quanta_below precision min_exp x s a f h =
     let c : a * 1 ≤ a * 2 ^ down (x -ℤ min_exp) = mul-le-mul_left a w in
     omega (arith, e, b, c, h)
 
-far_up : (f : Format) (a bound u d : ℕ) → 0 < a → f.precision + f.span ≤ bound → bound ≤ u → d ≡ 0
-    → IsFarAbove f (a * 2 ^ u) (2 ^ d)
-far_up f a bound u d h l k z = record {
+far_up : (format : Format) (a bound u d : ℕ) → 0 < a → format.precision + format.span ≤ bound → bound ≤ u → d ≡ 0
+    → IsFarAbove format (a * 2 ^ u) (2 ^ d)
+far_up format a bound u d h l k z = record {
   some = pow_pos d;
   from =
-      let g : f.precision + f.span ≤ u = omega arith in
-      let p : 2 ^ (f.precision + f.span) ≤ 2 ^ u = pow-le-pow_right two_pos g in
+      let g : format.precision + format.span ≤ u = omega arith in
+      let p : 2 ^ (format.precision + format.span) ≤ 2 ^ u = pow-le-pow_right two_pos g in
       let q : 1 * 2 ^ u ≤ a * 2 ^ u = mul-le-mul_right (2 ^ u) h in
       let e : 2 ^ d ≡ 1 = ap (λ (x : ℕ). 2 ^ x) z in
       rw e (omega (arith, p, q));
@@ -115,13 +115,14 @@ down_far (pos k) bound h =
 down_far (negsuc k) bound h = let l : bound ≤ k + 1 = omega (arith, ints) in (omega (arith, l), refl)
 
 -- no answer changes where the clamp changes the amount
-pub clamp_kept : (f : Format) (mode : Round) (negative : Bool) (a k bound : ℕ) (j near : ℤ) (v : Datum) (s : ℕ)
-    → 0 < f.precision → 0 < a → a < 2 ^ k → f.precision + f.span ≤ bound → k + 1 ≤ bound → IsClamped bound j near
-    → IsDelivered f mode negative (a * 2 ^ up near) (2 ^ down near) v s
-    → IsDelivered f mode negative (a * 2 ^ up j) (2 ^ down j) v s
-clamp_kept f mode negative a k bound j near v s p h b l m c d =
+pub clamp_kept : (format : Format) (mode : Round) (negative : Bool) (a k bound : ℕ) (j near : ℤ) (v : Datum) (s : ℕ)
+    → 0 < format.precision → 0 < a → a < 2 ^ k → format.precision + format.span ≤ bound → k + 1 ≤ bound
+    → IsClamped bound j near
+    → IsDelivered format mode negative (a * 2 ^ up near) (2 ^ down near) v s
+    → IsDelivered format mode negative (a * 2 ^ up j) (2 ^ down j) v s
+clamp_kept format mode negative a k bound j near v s p h b l m c d =
     ⊎_elim
-    (λ (e : near ≡ j). subst (λ (x : ℤ). IsDelivered f mode negative (a * 2 ^ up x) (2 ^ down x) v s) e d)
+    (λ (e : near ≡ j). subst (λ (x : ℤ). IsDelivered format mode negative (a * 2 ^ up x) (2 ^ down x) v s) e d)
     (λ r.
     ⊎_elim
     (λ (e : (near ≡ pos bound) × (pos bound ≤ℤ j)).
@@ -129,14 +130,14 @@ clamp_kept f mode negative a k bound j near v s p h b l m c d =
     let l₀ : pos bound ≤ℤ near = omega (arith, ints, e₀) in
     let u = up_far near bound l₀ in
     let w = up_far j bound e.1 in
-    far_above f mode negative (a * 2 ^ up near) (2 ^ down near) (a * 2 ^ up j) (2 ^ down j) v s p
-    (far_up f a bound (up near) (down near) h l u.0 u.1) (far_up f a bound (up j) (down j) h l w.0 w.1) d)
+    far_above format mode negative (a * 2 ^ up near) (2 ^ down near) (a * 2 ^ up j) (2 ^ down j) v s p
+    (far_up format a bound (up near) (down near) h l u.0 u.1) (far_up format a bound (up j) (down j) h l w.0 w.1) d)
     (λ (e : (near ≡ neg_ℤ (pos bound)) × (j ≤ℤ neg_ℤ (pos bound))).
     let e₀ = e.0 in
     let l₀ : near ≤ℤ neg_ℤ (pos bound) = omega (arith, ints, e₀) in
     let u = down_far near bound l₀ in
     let w = down_far j bound e.1 in
-    far_below f mode negative (a * 2 ^ up near) (2 ^ down near) (a * 2 ^ up j) (2 ^ down j) v s p
+    far_below format mode negative (a * 2 ^ up near) (2 ^ down near) (a * 2 ^ up j) (2 ^ down j) v s p
     (far_down a k bound (up near) (down near) h b m u.0 u.1) (far_down a k bound (up j) (down j) h b m w.0 w.1)
     d)
     r)

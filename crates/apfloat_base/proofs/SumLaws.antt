@@ -122,32 +122,32 @@ exactly kind of_zero (negsuc n) v s h e =
       status_is = e;
     }
 
-pub nearby_numbers : (f : Format) (mode : Round) (of_zero : Bool) (m n : ℕ) (v : Datum) (s : ℕ)
-    → IsFiniteOf f false m → IsFiniteOf f false n → m ≤ 2 * n → n ≤ 2 * m
-    → IsRounded f mode of_zero (pos m -ℤ pos n) 1 v s → IsExactly (pos m -ℤ pos n) v s
-nearby_numbers f mode of_zero m n v s x y a b h =
+pub nearby_numbers : (format : Format) (mode : Round) (of_zero : Bool) (m n : ℕ) (v : Datum) (s : ℕ)
+    → IsFiniteOf format false m → IsFiniteOf format false n → m ≤ 2 * n → n ≤ 2 * m
+    → IsRounded format mode of_zero (pos m -ℤ pos n) 1 v s → IsExactly (pos m -ℤ pos n) v s
+nearby_numbers format mode of_zero m n v s x y a b h =
     let d = magnitude (pos m -ℤ pos n) in
     let e = far_apart m n in
-    let g : IsOnGrid f.precision d = close_on_grid f.precision m n d x.on_grid y.on_grid e a b in
-    let r = delivered_once f mode (sign_of of_zero (pos m -ℤ pos n)) d 1 v
-    (signed_quanta f.nonfinite (sign_of of_zero (pos m -ℤ pos n)) d) s ok_bits h
-    (exact_delivered f mode (sign_of of_zero (pos m -ℤ pos n)) d d 1 (omega arith) g
-    (far_below m n d (largest f) e x.within y.within) (omega arith)) in
-    exactly f.nonfinite of_zero (pos m -ℤ pos n) v s r.0 r.1
+    let g : IsOnGrid format.precision d = close_on_grid format.precision m n d x.on_grid y.on_grid e a b in
+    let r = delivered_once format mode (sign_of of_zero (pos m -ℤ pos n)) d 1 v
+    (signed_quanta format.nonfinite (sign_of of_zero (pos m -ℤ pos n)) d) s ok_bits h
+    (exact_delivered format mode (sign_of of_zero (pos m -ℤ pos n)) d d 1 (omega arith) g
+    (far_below m n d (largest format) e x.within y.within) (omega arith)) in
+    exactly format.nonfinite of_zero (pos m -ℤ pos n) v s r.0 r.1
 
 minus_is : (m n : ℕ) → (signed false m +ℤ signed true n) ≡ (pos m -ℤ pos n)
 minus_is m n = omega (arith, ints)
 
 -- a difference of near numbers is exact
-pub nearby : (f : Format) (mode : Round) (x y v : Datum) (s : ℕ) → IsMember f x → IsMember f y
-    → IsDifference f mode x y v s → IsNearby x y v s
-nearby f mode x y v s hx hy h = λ m n p q sm sn a b.
-    let d : IsDifference f mode (finite false m) (finite false n) v s = rw (p, q) at h in
-    let k : IsSum f mode (finite false m) (finite true n) v s = rw (ne_eqb n 0 (λ z. omega (arith, sn, z))) at d in
+pub nearby : (format : Format) (mode : Round) (x y v : Datum) (s : ℕ) → IsMember format x → IsMember format y
+    → IsDifference format mode x y v s → IsNearby x y v s
+nearby format mode x y v s hx hy h = λ m n p q sm sn a b.
+    let d : IsDifference format mode (finite false m) (finite false n) v s = rw (p, q) at h in
+    let k : IsSum format mode (finite false m) (finite true n) v s = rw (ne_eqb n 0 (λ z. omega (arith, sn, z))) at d in
     let r = rw (minus_is m n) at k in
-    let xm : IsFiniteOf f false m = rw p at hx in
-    let yn : IsFiniteOf f false n = rw q at hy in
-    nearby_numbers f mode (zero_sum_sign mode false true) m n v s xm yn a b r
+    let xm : IsFiniteOf format false m = rw p at hx in
+    let yn : IsFiniteOf format false n = rw q at hy in
+    nearby_numbers format mode (zero_sum_sign mode false true) m n v s xm yn a b r
 
 -- ---- sums that grow
 
@@ -155,18 +155,21 @@ nearby f mode x y v s hx hy h = λ m n p q sm sn a b.
 abbrev at : Bool → Bool → Bool → ℕ → ℕ → Datum
 at past out negative top p = cond past (cond out (infinite negative) (finite negative top)) (finite negative p)
 
-signed_is : (negative : Bool) (p : ℕ) → signed_quanta IEEE754 negative p ≡ finite negative p
-signed_is negative zero = refl
-signed_is negative (suc n) = let e : eqb (suc n) 0 ≡ false = ne_eqb (suc n) 0 (λ z. omega arith) in rw e refl
+-- with infinities each zero keeps its sign
+pub signed_quanta_is : (negative : Bool) (p : ℕ) → signed_quanta IEEE754 negative p ≡ finite negative p
+signed_quanta_is negative zero = refl
+signed_quanta_is negative (suc n) = let e : eqb (suc n) 0 ≡ false = ne_eqb (suc n) 0 (λ z. omega arith) in rw e refl
 
-value_is : (f : Format) (mode : Round) (negative : Bool) (p : ℕ) → f.nonfinite ≡ IEEE754
-    → delivered_value f mode negative p ≡ at (ltb (largest f) p) (leads_out mode negative) negative (largest f) p
-value_is f mode negative p e =
-    ap (λ (k : NonfiniteBehavior). cond (ltb (largest f) p)
-    (cond (leads_out mode negative) (past_largest k (nan_base f) negative) (finite negative (largest f)))
+value_is : (format : Format) (mode : Round) (negative : Bool) (p : ℕ) → format.nonfinite ≡ IEEE754
+    → delivered_value format mode negative p ≡ at (ltb (largest format) p)
+    (leads_out mode negative) negative (largest format) p
+value_is format mode negative p e =
+    ap (λ (k : NonfiniteBehavior). cond (ltb (largest format) p)
+    (cond (leads_out mode negative) (past_largest k (nan_base format) negative) (finite negative (largest format)))
     (signed_quanta k negative p)) e
-    ∙ ap (λ (v : Datum). cond (ltb (largest f) p)
-    (cond (leads_out mode negative) (infinite negative) (finite negative (largest f))) v) (signed_is negative p)
+    ∙ ap (λ (v : Datum). cond (ltb (largest format) p)
+    (cond (leads_out mode negative) (infinite negative) (finite negative (largest format))) v)
+    (signed_quanta_is negative p)
 
 up_grows : (b d out : Bool) (top p q : ℕ) → ltb top p ≡ b → ltb top q ≡ d → p ≤ q
     → AtMost (at b out false top p) (at d out false top q)
@@ -231,64 +234,75 @@ zeros_ordered true false = omega (arith, ints)
 zeros_ordered false true = omega (arith, ints)
 zeros_ordered false false = omega (arith, ints)
 
-zero_is : (f : Format) (mode : Round) (s : Bool) (v : Datum) (i : ℕ) → f.nonfinite ≡ IEEE754
-    → IsDelivered f mode s 0 1 v i → v ≡ finite s 0
-zero_is f mode s v i e d =
-    let x = delivered_once f mode s 0 1 v (signed_quanta f.nonfinite s 0) i ok_bits d
-    (zero_delivered f mode s 1 0 (omega arith) refl) in
+zero_is : (format : Format) (mode : Round) (s : Bool) (v : Datum) (i : ℕ) → format.nonfinite ≡ IEEE754
+    → IsDelivered format mode s 0 1 v i → v ≡ finite s 0
+zero_is format mode s v i e d =
+    let x = delivered_once format mode s 0 1 v (signed_quanta format.nonfinite s 0) i ok_bits d
+    (zero_delivered format mode s 1 0 (omega arith) refl) in
     x.0 ∙ ap (λ (k : NonfiniteBehavior). signed_quanta k s 0) e
 
-grows_at : (f : Format) (mode : Round) (s t : Bool) (x y : ℕ) (v w : Datum) (i j : ℕ) → f.nonfinite ≡ IEEE754
-    → Ordered s x t y → IsDelivered f mode s x 1 v i → IsDelivered f mode t y 1 w j → AtMost v w
-grows_at f mode s t x y v w i j e (both_up a b l) d g =
-    let k : d.pick ≤ g.pick = pick_grows f.precision mode false a b 1 d.pick g.pick (lit< tt) l d.is_pick g.is_pick in
-    let h = up_grows (ltb (largest f) d.pick) (ltb (largest f) g.pick) (leads_out mode false) (largest f) d.pick
+grows_at : (format : Format) (mode : Round) (s t : Bool) (x y : ℕ) (v w : Datum) (i j : ℕ) → format.nonfinite ≡ IEEE754
+    → Ordered s x t y → IsDelivered format mode s x 1 v i → IsDelivered format mode t y 1 w j → AtMost v w
+grows_at format mode s t x y v w i j e (both_up a b l) d g =
+    let k : d.pick ≤ g.pick = pick_grows format.precision mode false a b 1 d.pick g.pick (lit< tt) l d.is_pick g.is_pick
+    in
+    let h = up_grows (ltb (largest format) d.pick) (ltb (largest format) g.pick) (leads_out mode false)
+    (largest format) d.pick
     g.pick refl refl k in
-    subst (λ (z : Datum). AtMost z w) (sym (d.value_is ∙ value_is f mode false d.pick e))
-    (subst (λ (z : Datum). AtMost (at (ltb (largest f) d.pick) (leads_out mode false) false (largest f) d.pick)
-    z) (sym (g.value_is ∙ value_is f mode false g.pick e)) h)
-grows_at f mode s t x y v w i j e (both_down a b l) d g =
-    let k : g.pick ≤ d.pick = pick_grows f.precision mode true b a 1 g.pick d.pick (lit< tt) l g.is_pick d.is_pick in
-    let h = down_grows (ltb (largest f) d.pick) (ltb (largest f) g.pick) (leads_out mode true) (largest f) d.pick
+    subst (λ (z : Datum). AtMost z w) (sym (d.value_is ∙ value_is format mode false d.pick e))
+    (subst (λ (z : Datum). AtMost (at (ltb (largest format) d.pick)
+    (leads_out mode false) false (largest format) d.pick)
+    z) (sym (g.value_is ∙ value_is format mode false g.pick e)) h)
+grows_at format mode s t x y v w i j e (both_down a b l) d g =
+    let k : g.pick ≤ d.pick = pick_grows format.precision mode true b a 1 g.pick d.pick (lit< tt) l g.is_pick d.is_pick
+    in
+    let h = down_grows (ltb (largest format) d.pick) (ltb (largest format) g.pick) (leads_out mode true)
+    (largest format) d.pick
     g.pick refl refl k in
-    subst (λ (z : Datum). AtMost z w) (sym (d.value_is ∙ value_is f mode true d.pick e))
-    (subst (λ (z : Datum). AtMost (at (ltb (largest f) d.pick) (leads_out mode true) true (largest f) d.pick) z)
-    (sym (g.value_is ∙ value_is f mode true g.pick e)) h)
-grows_at f mode s t x y v w i j e (apart a b) d g =
-    let h = across (ltb (largest f) d.pick) (ltb (largest f) g.pick) (leads_out mode true) (leads_out mode false)
-    (largest f) d.pick g.pick in
-    subst (λ (z : Datum). AtMost z w) (sym (d.value_is ∙ value_is f mode true d.pick e))
-    (subst (λ (z : Datum). AtMost (at (ltb (largest f) d.pick) (leads_out mode true) true (largest f) d.pick) z)
-    (sym (g.value_is ∙ value_is f mode false g.pick e)) h)
-grows_at f mode s t x y v w i j e (zeros b c) d g =
-    let p = zero_is f mode b v i e d in
-    let q = zero_is f mode c w j e g in
+    subst (λ (z : Datum). AtMost z w) (sym (d.value_is ∙ value_is format mode true d.pick e))
+    (subst (λ (z : Datum). AtMost (at (ltb (largest format) d.pick) (leads_out mode true) true (largest format) d.pick)
+    z)
+    (sym (g.value_is ∙ value_is format mode true g.pick e)) h)
+grows_at format mode s t x y v w i j e (apart a b) d g =
+    let h = across (ltb (largest format) d.pick) (ltb (largest format) g.pick) (leads_out mode true)
+    (leads_out mode false)
+    (largest format) d.pick g.pick in
+    subst (λ (z : Datum). AtMost z w) (sym (d.value_is ∙ value_is format mode true d.pick e))
+    (subst (λ (z : Datum). AtMost (at (ltb (largest format) d.pick) (leads_out mode true) true (largest format) d.pick)
+    z)
+    (sym (g.value_is ∙ value_is format mode false g.pick e)) h)
+grows_at format mode s t x y v w i j e (zeros b c) d g =
+    let p = zero_is format mode b v i e d in
+    let q = zero_is format mode c w j e g in
     rw (p, q) (zeros_ordered b c)
 
-pub sum_grows : (f : Format) (mode : Round) (of_zero of_other : Bool) (a b : ℤ) (v w : Datum) (i j : ℕ)
-    → f.nonfinite ≡ IEEE754 → a ≤ℤ b → IsRounded f mode of_zero a 1 v i → IsRounded f mode of_other b 1 w j
+pub sum_grows : (format : Format) (mode : Round) (of_zero of_other : Bool) (a b : ℤ) (v w : Datum) (i j : ℕ)
+    → format.nonfinite ≡ IEEE754 → a ≤ℤ b → IsRounded format mode of_zero a 1 v i
+    → IsRounded format mode of_other b 1 w j
     → AtMost v w
-sum_grows f mode of_zero of_other a b v w i j e l d g =
-    grows_at f mode (sign_of of_zero a) (sign_of of_other b) (magnitude a) (magnitude b) v w i j e
+sum_grows format mode of_zero of_other a b v w i j e l d g =
+    grows_at format mode (sign_of of_zero a) (sign_of of_other b) (magnitude a) (magnitude b) v w i j e
     (ordered of_zero of_other a b l) d g
 
 more_together : (a b z : ℤ) → a ≤ℤ b → (a +ℤ z) ≤ℤ (b +ℤ z)
 more_together a b z l = omega (arith, ints)
 
-grows_to : (f : Format) (mode : Round) (b d : Bool) (m n : ℕ) (v : Datum) (s : ℕ)
-    → IsSum f mode (finite b m) (finite d n) v s → f.nonfinite ≡ IEEE754
+grows_to : (format : Format) (mode : Round) (b d : Bool) (m n : ℕ) (v : Datum) (s : ℕ)
+    → IsSum format mode (finite b m) (finite d n) v s → format.nonfinite ≡ IEEE754
     → (y greater : Datum) (status : ℕ) → IsTrue (is_finite y) → signed b m ≤ℤ number y
-    → IsSum f mode y (finite d n) greater status → AtMost v greater
-grows_to f mode b d m n v s h e (finite c k) w i p l g =
-    sum_grows f mode (zero_sum_sign mode b d) (zero_sum_sign mode c d) (signed b m +ℤ signed d n)
+    → IsSum format mode y (finite d n) greater status → AtMost v greater
+grows_to format mode b d m n v s h e (finite c k) w i p l g =
+    sum_grows format mode (zero_sum_sign mode b d) (zero_sum_sign mode c d) (signed b m +ℤ signed d n)
     (signed c k +ℤ signed d n) v w s i e (more_together (signed b m) (signed c k) (signed d n) l) h g
-grows_to f mode b d m n v s h e (infinite c) w i p l g = absurd (false≢true p)
-grows_to f mode b d m n v s h e (nan c t) w i p l g = absurd (false≢true p)
+grows_to format mode b d m n v s h e (infinite c) w i p l g = absurd (false≢true p)
+grows_to format mode b d m n v s h e (nan c t) w i p l g = absurd (false≢true p)
 
 -- a sum of numbers does not fall as one of them grows
-pub monotone : (f : Format) (mode : Round) (x z v : Datum) (s : ℕ) → IsSum f mode x z v s → IsMonotone f mode x z v
-monotone f mode (finite b m) (finite d n) v s h = λ e p q y w i r l g. grows_to f mode b d m n v s h e y w i r l g
-monotone f mode (finite b m) (infinite d) v s h = λ e p q. absurd (false≢true q)
-monotone f mode (finite b m) (nan d t) v s h = λ e p q. absurd (false≢true q)
-monotone f mode (infinite b) z v s h = λ e p. absurd (false≢true p)
-monotone f mode (nan b t) z v s h = λ e p. absurd (false≢true p)
+pub monotone : (format : Format) (mode : Round) (x z v : Datum) (s : ℕ) → IsSum format mode x z v s
+    → IsMonotone format mode x z v
+monotone format mode (finite b m) (finite d n) v s h =
+    λ e p q y w i r l g. grows_to format mode b d m n v s h e y w i r l g
+monotone format mode (finite b m) (infinite d) v s h = λ e p q. absurd (false≢true q)
+monotone format mode (finite b m) (nan d t) v s h = λ e p q. absurd (false≢true q)
+monotone format mode (infinite b) z v s h = λ e p. absurd (false≢true p)
+monotone format mode (nan b t) z v s h = λ e p. absurd (false≢true p)

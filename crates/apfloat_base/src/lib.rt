@@ -10,6 +10,7 @@ pub mod kinds;
 pub mod parse_error;
 pub mod sig;
 pub mod status;
+pub mod texts;
 
 pub use bitflags::Flags;
 pub use convert::FloatConvert;

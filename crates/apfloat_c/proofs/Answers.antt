@@ -28,17 +28,19 @@ use Rattle.apfloat_c.specs.Answers.{IsFractionOf, IsOutcomeBy, IsPairFractionOf,
 -- ---- fractions
 
 -- the number that is written is the exponent itself
-pub fraction_answer : (c : Constants) → IsLawful c → (bits : ℕ) (x value : Datum) (exponent : ℤ) (answer : Answer)
-    → x ≡ value_of c bits → IsMember (format_with c) x
-    → IsFrexp (format_with c) x value exponent → IsWritten c value 0 (to_z w32 (of_z w32 exponent)) answer
-    → IsFractionOf c (IsFrexp (format_with c) (value_of c bits)) answer
-fraction_answer c law bits x value exponent answer read member holds written =
-    let fits = frexp_fits c law x value exponent member holds in
+pub fraction_answer : (constants : Constants) → IsLawful constants
+    → (bits : ℕ) (x value : Datum) (exponent : ℤ) (answer : Answer)
+    → x ≡ value_of constants bits → IsMember (format_with constants) x
+    → IsFrexp (format_with constants) x value exponent
+    → IsWritten constants value 0 (to_z w32 (of_z w32 exponent)) answer
+    → IsFractionOf constants (IsFrexp (format_with constants) (value_of constants bits)) answer
+fraction_answer constants law bits x value exponent answer read member holds written =
+    let fits = frexp_fits constants law x value exponent member holds in
     record {
       value = value;
       exponent = exponent;
-      holds = subst (λ (d : Datum). IsFrexp (format_with c) d value exponent) read holds;
-      is_written = subst (λ (n : ℤ). IsWritten c value 0 n answer) (to_z-of_z w32 exponent fits) written;
+      holds = subst (λ (d : Datum). IsFrexp (format_with constants) d value exponent) read holds;
+      is_written = subst (λ (n : ℤ). IsWritten constants value 0 n answer) (to_z-of_z w32 exponent fits) written;
     }
 
 pub pair_fraction_answer : (mode : Round) (bits : ℕ) (x value : Pair) (exponent : ℤ) (answer : Answer)
@@ -90,15 +92,15 @@ text_with_meaning : (text : List ℕ) (meaning : Meaning) → every is_ascii tex
     → is_text text ≡ true
 text_with_meaning text meaning ascii means = rw (ascii, meaning_no_fault text meaning means) refl
 
-pub read_answer : (c : Constants) (mode : Round) (bytes text : List ℕ) (value : Datum) (status : ℕ)
+pub read_answer : (constants : Constants) (mode : Round) (bytes text : List ℕ) (value : Datum) (status : ℕ)
     (answer : Answer)
-    → text ≡ bytes → every is_ascii bytes ≡ true → IsReading (format_with c) mode text value status
-    → IsWritten c value status (pos 0) answer
+    → text ≡ bytes → every is_ascii bytes ≡ true → IsReading (format_with constants) mode text value status
+    → IsWritten constants value status (pos 0) answer
     → IsOutcomeBy (unless (is_text bytes) refused_text)
-    (λ (a : Answer). IsValue c (IsReading (format_with c) mode bytes) a)
+    (λ (a : Answer). IsValue constants (IsReading (format_with constants) mode bytes) a)
     (Ok answer)
-read_answer c mode bytes text value status answer same ascii holds written =
-    let reading = subst (λ (t : List ℕ). IsReading (format_with c) mode t value status) same holds in
+read_answer constants mode bytes text value status answer same ascii holds written =
+    let reading = subst (λ (t : List ℕ). IsReading (format_with constants) mode t value status) same holds in
     answered_if (is_text bytes) refused_text _ answer
     (text_with_meaning bytes reading.meaning ascii reading.means)
     (record { value = value; status = status; holds = reading; is_written = written })

@@ -73,60 +73,62 @@ given_once given = number_once (λ (n : ℤ). n ≡ given) (λ m n h k. h ∙ sy
 
 -- ---- in a format that has bits
 
-pub record HasLaw (c : Constants) : Type 0 where
-  pub law : IsLawful c
-  pub wide : c.precision < c.bits
+pub record HasLaw (constants : Constants) : Type 0 where
+  pub law : IsLawful constants
+  pub wide : constants.precision < constants.bits
 
-module _ (c : Constants) (has : HasLaw c) where
-  written_once : (v w : Datum) (s t : ℕ) (i j : ℤ) (a b : Answer) → v ≡ w → s ≡ t → i ≡ j → IsWritten c v s i a
-      → IsWritten c w t j b → SameAnswer a b
+module _ (constants : Constants) (has : HasLaw constants) where
+  written_once : (v w : Datum) (s t : ℕ) (i j : ℤ) (a b : Answer) → v ≡ w → s ≡ t → i ≡ j → IsWritten constants v s i a
+      → IsWritten constants w t j b → SameAnswer a b
   written_once v w s t i j a b value_is status_is number_is x y =
-      let encodes = λ (d : Datum). IsEncodedBy (format_with c) (layout_with c) (whole a.bits) d in
+      let encodes = λ (d : Datum). IsEncodedBy (format_with constants) (layout_with constants) (whole a.bits) d in
       record {
-        bits = encoded_once (format_with c) (layout_with c) w (whole a.bits) (whole b.bits)
-            (lawful_interchange c has.law has.wide) (subst encodes value_is x.is_encoded) y.is_encoded;
+        bits = encoded_once (format_with constants) (layout_with constants) w (whole a.bits) (whole b.bits)
+            (lawful_interchange constants has.law has.wide) (subst encodes value_is x.is_encoded) y.is_encoded;
         status = x.status_is ∙ status_is ∙ sym y.status_is;
         number = x.number_is ∙ number_is ∙ sym y.number_is;
       }
 
-  value_once : (Holds : Datum → ℕ → Type 0) → Once Holds → OnceAnswer (IsValue c Holds)
+  value_once : (Holds : Datum → ℕ → Type 0) → Once Holds → OnceAnswer (IsValue constants Holds)
   value_once Holds once a b x y =
       let same = once x.value y.value x.status y.status x.holds y.holds in
       written_once x.value y.value x.status y.status _ _ a b same.0 same.1 refl x.is_written y.is_written
 
-  untold_once : (Holds : Datum → Type 0) → Determines Holds → OnceAnswer (IsUntold c Holds)
+  untold_once : (Holds : Datum → Type 0) → Determines Holds → OnceAnswer (IsUntold constants Holds)
   untold_once Holds once a b x y =
       let same = once x.value y.value x.holds y.holds in
       written_once x.value y.value _ _ _ _ a b same refl refl x.is_written y.is_written
 
-  fraction_once : (Holds : Datum → ℤ → Type 0) → DeterminesBoth Holds → OnceAnswer (IsFractionOf c Holds)
+  fraction_once : (Holds : Datum → ℤ → Type 0) → DeterminesBoth Holds → OnceAnswer (IsFractionOf constants Holds)
   fraction_once Holds once a b x y =
       let same = once x.value y.value x.exponent y.exponent x.holds y.holds in
       written_once x.value y.value _ _ x.exponent y.exponent a b same.0 refl same.1 x.is_written y.is_written
 
-  converted_once : (Holds : Datum → ℕ → Bool → Type 0) → OnceWith Holds → OnceAnswer (IsConvertedTo c Holds)
+  converted_once : (Holds : Datum → ℕ → Bool → Type 0) → OnceWith Holds → OnceAnswer (IsConvertedTo constants Holds)
   converted_once Holds once a b x y =
       let same = once x.value y.value x.status y.status x.loses y.loses x.holds y.holds in
       written_once x.value y.value x.status y.status _ _ a b same.0 same.1 (ap one_if same.2) x.is_written
       y.is_written
 
-of_two_once : (arithmetic : Arithmetic) (c : Constants) (mode : Round) (x y : Datum) → Once (IsOfTwo arithmetic c mode x y)
-of_two_once Sum c mode x y = sum_once (format_with c) mode x y
-of_two_once Difference c mode x y = difference_once (format_with c) mode x y
-of_two_once Product c mode x y = product_once (format_with c) mode x y
-of_two_once Quotient c mode x y = quotient_once (format_with c) mode x y
-of_two_once NearestRemainder c mode x y = remainder_once (format_with c) _ x y
-of_two_once TruncatedRemainder c mode x y = remainder_once (format_with c) _ x y
+of_two_once : (arithmetic : Arithmetic) (constants : Constants) (mode : Round) (x y : Datum)
+    → Once (IsOfTwo arithmetic constants mode x y)
+of_two_once Sum constants mode x y = sum_once (format_with constants) mode x y
+of_two_once Difference constants mode x y = difference_once (format_with constants) mode x y
+of_two_once Product constants mode x y = product_once (format_with constants) mode x y
+of_two_once Quotient constants mode x y = quotient_once (format_with constants) mode x y
+of_two_once NearestRemainder constants mode x y = remainder_once (format_with constants) _ x y
+of_two_once TruncatedRemainder constants mode x y = remainder_once (format_with constants) _ x y
 
-to_unsigned_once : (c : Constants) (mode : Round) (width : ℕ) (x : Datum)
-    → OnceWhole (IsToUnsigned (format_with c) mode width x)
-to_unsigned_once c mode width x m n r s a b h k =
-    let same = whole_once (to_unsigned (format_with c) mode width x) (pos m) (pos n) r s a b h k in
+to_unsigned_once : (constants : Constants) (mode : Round) (width : ℕ) (x : Datum)
+    → OnceWhole (IsToUnsigned (format_with constants) mode width x)
+to_unsigned_once constants mode width x m n r s a b h k =
+    let same = whole_once (to_unsigned (format_with constants) mode width x) (pos m) (pos n) r s a b h k in
     (ap unsigned_abs same.0, same.1, same.2)
 
-to_signed_once : (c : Constants) (mode : Round) (width : ℕ) (x : Datum)
-    → OnceWhole (IsToSigned (format_with c) mode width x)
-to_signed_once c mode width x m n r s a b h k = whole_once (to_signed (format_with c) mode width x) m n r s a b h k
+to_signed_once : (constants : Constants) (mode : Round) (width : ℕ) (x : Datum)
+    → OnceWhole (IsToSigned (format_with constants) mode width x)
+to_signed_once constants mode width x m n r s a b h k =
+    whole_once (to_signed (format_with constants) mode width x) m n r s a b h k
 
 -- ---- the kinds of the codes
 
@@ -148,41 +150,53 @@ kind_law DoubleDouble = tt
 
 -- ---- conversions
 
-converted_in_once : (c : Constants) (mode : Round) (x : ℕ) (target : Kind) → KindHasLaw target
-    → OnceAnswer (IsConvertedIn c mode x target)
-converted_in_once c mode x (of_format d) has =
-    converted_once d has _ (conversion_once (format_with c) (format_with d) mode (value_of c x))
-converted_in_once c mode x of_pairs has = λ a b h k. absurd h
+converted_in_once : (constants : Constants) (mode : Round) (x : ℕ) (target : Kind) → KindHasLaw target
+    → OnceAnswer (IsConvertedIn constants mode x target)
+converted_in_once constants mode x (of_format d) has =
+    converted_once d has _ (conversion_once (format_with constants) (format_with d) mode (value_of constants x))
+converted_in_once constants mode x of_pairs has = λ a b h k. absurd h
 
-conversion_answer_once : (c : Constants) (mode : Round) (x : ℕ) (target : Option Format)
-    → OnceAnswer (IsConverted c mode x target)
-conversion_answer_once c mode x None = λ a b h k. absurd h
-conversion_answer_once c mode x (Some target) = converted_in_once c mode x (kind_of target) (kind_law target)
+conversion_answer_once : (constants : Constants) (mode : Round) (x : ℕ) (target : Option Format)
+    → OnceAnswer (IsConverted constants mode x target)
+conversion_answer_once constants mode x None = λ a b h k. absurd h
+conversion_answer_once constants mode x (Some target) = converted_in_once constants mode x (kind_of target)
+    (kind_law target)
 
 -- ---- one answer in a format
 
-answer_once : (c : Constants) → HasLaw c → (mode : Round) (call : Call) → OnceAnswer (IsAnswer c mode call)
-answer_once c has mode (OfTwo arithmetic x y) =
-    value_once c has _ (of_two_once arithmetic c mode (value_of c x) (value_of c y))
-answer_once c has mode (FusedSum x y z) =
-    value_once c has _ (fused_sum_once (format_with c) mode (value_of c x) (value_of c y) (value_of c z))
-answer_once c has mode (FromUnsigned number) = value_once c has _ (from_unsigned_once (format_with c) mode number)
-answer_once c has mode (FromSigned number) = value_once c has _ (from_signed_once (format_with c) mode number)
-answer_once c has mode (ToUnsigned x width) = unsigned_once _ (to_unsigned_once c mode width (value_of c x))
-answer_once c has mode (ToSigned x width) = signed_once _ (to_signed_once c mode width (value_of c x))
-answer_once c has mode (RoundToIntegral x) =
-    value_once c has _ (round_to_integral_once (format_with c) mode (value_of c x))
-answer_once c has mode (Scaling x power) =
-    untold_once c has _ (scaling_once (format_with c) mode (value_of c x) power)
-answer_once c has mode (Fraction x) =
-    fraction_once c has _ (frexp_once (format_with c) (value_of c x) (scale_some c has.law))
-answer_once c has mode (Exponent x) = number_once _ (exponent_once (format_with c) (value_of c x))
-answer_once c has mode (NextUp x) = value_once c has _ (next_up_once (format_with c) (value_of c x))
-answer_once c has mode (NextDown x) = value_once c has _ (next_down_once (format_with c) (value_of c x))
-answer_once c has mode (Comparison x y) = given_once _
-answer_once c has mode (Class x) = given_once _
-answer_once c has mode (Conversion x target) = conversion_answer_once c mode x target
-answer_once c has mode (Text text) = value_once c has _ (reading_once (format_with c) mode text.now)
+answer_once : (constants : Constants) → HasLaw constants → (mode : Round) (call : Call)
+    → OnceAnswer (IsAnswer constants mode call)
+answer_once constants has mode (OfTwo arithmetic x y) =
+    value_once constants has _ (of_two_once arithmetic constants mode (value_of constants x) (value_of constants y))
+answer_once constants has mode (FusedSum x y z) =
+    value_once constants has _ (fused_sum_once (format_with constants) mode (value_of constants x)
+    (value_of constants y) (value_of constants z))
+answer_once constants has mode (FromUnsigned number) =
+    value_once constants has _ (from_unsigned_once (format_with constants) mode number)
+answer_once constants has mode (FromSigned number) =
+    value_once constants has _ (from_signed_once (format_with constants) mode number)
+answer_once constants has mode (ToUnsigned x width) =
+    unsigned_once _ (to_unsigned_once constants mode width (value_of constants x))
+answer_once constants has mode (ToSigned x width) =
+    signed_once _ (to_signed_once constants mode width (value_of constants x))
+answer_once constants has mode (RoundToIntegral x) =
+    value_once constants has _ (round_to_integral_once (format_with constants) mode (value_of constants x))
+answer_once constants has mode (Scaling x power) =
+    untold_once constants has _ (scaling_once (format_with constants) mode (value_of constants x) power)
+answer_once constants has mode (Fraction x) =
+    fraction_once constants has _ (frexp_once (format_with constants) (value_of constants x)
+    (scale_some constants has.law))
+answer_once constants has mode (Exponent x) =
+    number_once _ (exponent_once (format_with constants) (value_of constants x))
+answer_once constants has mode (NextUp x) = value_once constants has _ (next_up_once (format_with constants)
+    (value_of constants x))
+answer_once constants has mode (NextDown x) =
+    value_once constants has _ (next_down_once (format_with constants) (value_of constants x))
+answer_once constants has mode (Comparison x y) = given_once _
+answer_once constants has mode (Class x) = given_once _
+answer_once constants has mode (Conversion x target) = conversion_answer_once constants mode x target
+answer_once constants has mode (Text text) = value_once constants has _
+    (reading_once (format_with constants) mode text.now)
 
 -- ---- one answer of pairs
 

@@ -33,21 +33,21 @@ number_converted from into mode x value status loses_info t h =
     let p = quanta_some from x.significand x.exponent t in
     rw (ne_eqb (quanta_at from.min_exp x.significand x.exponent) 0 (λ z. omega (arith, z, p))) h
 
-pub of_number : (from into : Shape) (mode : Round) (k : Category) (x : Unpacked) (value : Datum) (status : ℕ)
-    (loses_info : Bool) → k ≡ Normal → IsStoredBy k from x
+pub of_number : (from into : Shape) (mode : Round) (category : Category) (x : Unpacked) (value : Datum) (status : ℕ)
+    (loses_info : Bool) → category ≡ Normal → IsStoredBy category from x
     → IsConvertedNumber (format_at from) (format_at into) mode x.negative
     (quanta_at from.min_exp x.significand x.exponent) value status loses_info
-    → Says from into mode k x value status loses_info
-of_number from into mode k x value status loses_info e t h =
+    → Says from into mode category x value status loses_info
+of_number from into mode category x value status loses_info e t h =
     subst (λ (o : Category). IsStoredBy o from x → Says from into mode o x value status loses_info) (sym e)
     (λ t. number_converted from into mode x value status loses_info t h) t
 
-pub of_zero : (from into : Shape) (mode : Round) (k : Category) (x : Unpacked) (value : Datum) (status : ℕ)
-    (loses_info : Bool) → k ≡ Zero
+pub of_zero : (from into : Shape) (mode : Round) (category : Category) (x : Unpacked) (value : Datum) (status : ℕ)
+    (loses_info : Bool) → category ≡ Zero
     → IsKept (finite (zero_sign into.nonfinite x.negative) 0) (loses_zero_sign (format_at into) x.negative) value
     status loses_info
-    → Says from into mode k x value status loses_info
-of_zero from into mode k x value status loses_info e h =
+    → Says from into mode category x value status loses_info
+of_zero from into mode category x value status loses_info e h =
     subst (λ (o : Category). Says from into mode o x value status loses_info) (sym e) h
 
 -- ---- NaNs

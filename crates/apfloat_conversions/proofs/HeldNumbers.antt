@@ -47,118 +47,133 @@ higher a g h m n k p q l f r e =
 
 -- by how many places the quantum is finer
 abbrev finer : Shape → Shape → ℕ
-finer s t = (format_at t).scale - (format_at s).scale
+finer source target = (format_at target).scale - (format_at source).scale
 
-held_within : (s t : Shape) (a : ℕ) → IsShape s → IsShape t → IsHeld s t → a ≤ largest (format_at s)
-    → a * 2 ^ finer s t ≤ largest (format_at t)
-held_within s t a from into h l =
-    let x = scale_is s from in
-    let y = scale_is t into in
-    let u = span_is s from in
-    let v = span_is t into in
+held_within : (source target : Shape) (a : ℕ) → IsShape source → IsShape target → IsHeld source target
+    → a ≤ largest (format_at source)
+    → a * 2 ^ finer source target ≤ largest (format_at target)
+held_within source target a from into h l =
+    let x = scale_is source from in
+    let y = scale_is target into in
+    let u = span_is source from in
+    let v = span_is target into in
     let f = h.fine in
     let p = h.precise in
     ⊎_elim
-    (λ o. higher a (greatest_significand s.nonfinite s.precision) (greatest_significand t.nonfinite t.precision)
-    (format_at s).span (format_at t).span (finer s t) s.precision (t.precision - 1)
-    l (greatest_fits s.nonfinite s.precision) (greatest_full t.nonfinite t.precision into.precision_low)
+    (λ o. higher a (greatest_significand source.nonfinite source.precision)
+    (greatest_significand target.nonfinite target.precision)
+    (format_at source).span (format_at target).span (finer source target) source.precision (target.precision - 1)
+    l (greatest_fits source.nonfinite source.precision)
+    (greatest_full target.nonfinite target.precision into.precision_low)
     (omega (arith, ints, into.precision_low)))
-    (λ (o : IsReachedLevel s t). level a (greatest_significand s.nonfinite s.precision)
-    (greatest_significand t.nonfinite t.precision) (format_at s).span (format_at t).span (finer s t)
-    (t.precision - s.precision)
+    (λ (o : IsReachedLevel source target). level a (greatest_significand source.nonfinite source.precision)
+    (greatest_significand target.nonfinite target.precision) (format_at source).span (format_at target).span
+    (finer source target)
+    (target.precision - source.precision)
     l o.significands (let e = o.exponents in omega (arith, ints)))
     h.reached
 
 -- ---- a number
 
-held_quanta : (s t : Shape) (m : ℕ) (e : ℤ) → IsShape s → IsShape t → IsHeld s t → IsNormal s m e
-    → IsQuantaAt t.min_exp (m * 2 ^ (t.precision - s.precision)) e (quanta_at s.min_exp m e * 2 ^ finer s t)
-held_quanta s t m e from into h n =
-    let x = scale_is s from in
-    let y = scale_is t into in
+held_quanta : (source target : Shape) (m : ℕ) (e : ℤ) → IsShape source → IsShape target → IsHeld source target
+    → IsNormal source m e
+    → IsQuantaAt target.min_exp (m * 2 ^ (target.precision - source.precision)) e
+    (quanta_at source.min_exp m e * 2 ^ finer source target)
+held_quanta source target m e from into h n =
+    let x = scale_is source from in
+    let y = scale_is target into in
     let f = h.fine in
     let p = h.precise in
-    let b : up (e -ℤ s.min_exp) + finer s t + down (e -ℤ t.min_exp)
-    ≡ down (e -ℤ s.min_exp) + (t.precision - s.precision) + up (e -ℤ t.min_exp) =
+    let b : up (e -ℤ source.min_exp) + finer source target + down (e -ℤ target.min_exp)
+    ≡ down (e -ℤ source.min_exp) + (target.precision - source.precision) + up (e -ℤ target.min_exp) =
     omega (arith, ints, from.precision_low) in
-    let q = scaled_stands m (quanta_at s.min_exp m e) (down (e -ℤ s.min_exp)) (up (e -ℤ s.min_exp)) (finer s t)
-    (t.precision - s.precision) (up (e -ℤ t.min_exp)) (down (e -ℤ t.min_exp)) n.whole b in
+    let q = scaled_stands m (quanta_at source.min_exp m e) (down (e -ℤ source.min_exp)) (up (e -ℤ source.min_exp))
+    (finer source target)
+    (target.precision - source.precision) (up (e -ℤ target.min_exp)) (down (e -ℤ target.min_exp)) n.whole b in
     omega (arith, q)
 
-held_normal : (s t : Shape) (m : ℕ) (e : ℤ) → IsShape s → IsShape t → IsHeld s t → IsNormal s m e
-    → IsNormal t (m * 2 ^ (t.precision - s.precision)) e
-held_normal s t m e from into h n =
-    let q = held_quanta s t m e from into h n in
-    let x = scale_is s from in
-    let y = scale_is t into in
+held_normal : (source target : Shape) (m : ℕ) (e : ℤ) → IsShape source → IsShape target → IsHeld source target
+    → IsNormal source m e
+    → IsNormal target (m * 2 ^ (target.precision - source.precision)) e
+held_normal source target m e from into h n =
+    let q = held_quanta source target m e from into h n in
+    let x = scale_is source from in
+    let y = scale_is target into in
     let f = h.fine in
     let p = h.precise in
     record {
       operand = record {
-        fits = fits_shifted m s.precision (t.precision - s.precision) t.precision n.operand.fits (omega arith);
-        full = full_shifted m s.precision (t.precision - s.precision) t.precision
+        fits = fits_shifted m source.precision (target.precision - source.precision) target.precision n.operand.fits
+            (omega arith);
+        full = full_shifted m source.precision (target.precision - source.precision) target.precision
             (omega (arith, from.precision_low)) (λ _. n.operand.full) (omega arith);
         least = omega (arith, ints, n.operand.least, from.precision_low);
         greatest =
             ⊎_elim (λ o. omega (arith, ints, n.operand.greatest))
-            (λ (o : IsReachedLevel s t). let w = o.exponents in omega (arith, ints, n.operand.greatest)) h.reached;
+            (λ (o : IsReachedLevel source target). let w = o.exponents in omega (arith, ints, n.operand.greatest))
+            h.reached;
       };
-      whole = whole_is t.min_exp (m * 2 ^ (t.precision - s.precision)) e _ q;
-      within = rw (quanta_is t.min_exp (m * 2 ^ (t.precision - s.precision)) e _ q)
-          (held_within s t (quanta_at s.min_exp m e) from into h n.within);
+      whole = whole_is target.min_exp (m * 2 ^ (target.precision - source.precision)) e _ q;
+      within = rw (quanta_is target.min_exp (m * 2 ^ (target.precision - source.precision)) e _ q)
+          (held_within source target (quanta_at source.min_exp m e) from into h n.within);
     }
 
 -- a number of another shape whose exponent lies inside
-inside_quanta : (s t : Shape) (m : ℕ) (e : ℤ) → IsInside s t e
-    → IsQuantaAt t.min_exp (m * 2 ^ (t.precision - s.precision)) e
-    (m * 2 ^ (t.precision - s.precision) * 2 ^ up (e -ℤ t.min_exp))
-inside_quanta s t m e h =
+inside_quanta : (source target : Shape) (m : ℕ) (e : ℤ) → IsInside source target e
+    → IsQuantaAt target.min_exp (m * 2 ^ (target.precision - source.precision)) e
+    (m * 2 ^ (target.precision - source.precision) * 2 ^ up (e -ℤ target.min_exp))
+inside_quanta source target m e h =
     let l = h.least in
-    let z : down (e -ℤ t.min_exp) ≡ 0 = no_down (e -ℤ t.min_exp) (omega (arith, ints, l)) in
+    let z : down (e -ℤ target.min_exp) ≡ 0 = no_down (e -ℤ target.min_exp) (omega (arith, ints, l)) in
     rw z (omega arith)
 
-inside_within : (s t : Shape) (m : ℕ) (e : ℤ) → IsShape s → IsShape t → IsInside s t e → m < 2 ^ s.precision
-    → m * 2 ^ (t.precision - s.precision) * 2 ^ up (e -ℤ t.min_exp) ≤ largest (format_at t)
-inside_within s t m e from into h f =
+inside_within : (source target : Shape) (m : ℕ) (e : ℤ) → IsShape source → IsShape target → IsInside source target e
+    → m < 2 ^ source.precision
+    → m * 2 ^ (target.precision - source.precision) * 2 ^ up (e -ℤ target.min_exp) ≤ largest (format_at target)
+inside_within source target m e from into h f =
     let p = h.precise in
     let l = h.least in
     let b = h.below in
-    let v = span_is t into in
-    let z : down (e -ℤ t.min_exp) ≡ 0 = no_down (e -ℤ t.min_exp) (omega (arith, ints, l)) in
-    let w : m * 2 ^ (t.precision - s.precision) < 2 ^ t.precision =
-    fits_shifted m s.precision (t.precision - s.precision) t.precision f (omega arith) in
-    let q = higher (m * 2 ^ (t.precision - s.precision) * 2 ^ up (e -ℤ t.min_exp))
-    (m * 2 ^ (t.precision - s.precision)) (greatest_significand t.nonfinite t.precision)
-    (up (e -ℤ t.min_exp)) (format_at t).span 0 t.precision (t.precision - 1) (omega arith) w
-    (greatest_full t.nonfinite t.precision into.precision_low)
+    let v = span_is target into in
+    let z : down (e -ℤ target.min_exp) ≡ 0 = no_down (e -ℤ target.min_exp) (omega (arith, ints, l)) in
+    let w : m * 2 ^ (target.precision - source.precision) < 2 ^ target.precision =
+    fits_shifted m source.precision (target.precision - source.precision) target.precision f (omega arith) in
+    let q = higher (m * 2 ^ (target.precision - source.precision) * 2 ^ up (e -ℤ target.min_exp))
+    (m * 2 ^ (target.precision - source.precision)) (greatest_significand target.nonfinite target.precision)
+    (up (e -ℤ target.min_exp)) (format_at target).span 0 target.precision (target.precision - 1) (omega arith) w
+    (greatest_full target.nonfinite target.precision into.precision_low)
     (omega (arith, ints, v, z, b, into.precision_low)) in
     omega (arith, q)
 
-inside_normal : (s t : Shape) (m : ℕ) (e : ℤ) → IsShape s → IsShape t → IsInside s t e → IsNormal s m e
-    → IsNormal t (m * 2 ^ (t.precision - s.precision)) e
-inside_normal s t m e from into h n =
+inside_normal : (source target : Shape) (m : ℕ) (e : ℤ) → IsShape source → IsShape target → IsInside source target e
+    → IsNormal source m e
+    → IsNormal target (m * 2 ^ (target.precision - source.precision)) e
+inside_normal source target m e from into h n =
     let p = h.precise in
-    let q = inside_quanta s t m e h in
+    let q = inside_quanta source target m e h in
     record {
       operand = record {
-        fits = fits_shifted m s.precision (t.precision - s.precision) t.precision n.operand.fits (omega arith);
-        full = full_shifted m s.precision (t.precision - s.precision) t.precision
+        fits = fits_shifted m source.precision (target.precision - source.precision) target.precision n.operand.fits
+            (omega arith);
+        full = full_shifted m source.precision (target.precision - source.precision) target.precision
             (omega (arith, from.precision_low)) (λ _. n.operand.full) (omega arith);
         least = omega (arith, ints, h.least, into.precision_low);
         greatest = omega (arith, ints, h.below);
       };
-      whole = whole_is t.min_exp (m * 2 ^ (t.precision - s.precision)) e _ q;
-      within = rw (quanta_is t.min_exp (m * 2 ^ (t.precision - s.precision)) e _ q)
-          (inside_within s t m e from into h n.operand.fits);
+      whole = whole_is target.min_exp (m * 2 ^ (target.precision - source.precision)) e _ q;
+      within = rw (quanta_is target.min_exp (m * 2 ^ (target.precision - source.precision)) e _ q)
+          (inside_within source target m e from into h n.operand.fits);
     }
 
-pub normal_there : (s t : Shape) (m : ℕ) (e : ℤ) → IsShape s → IsShape t → IsHeldAt s t e → IsNormal s m e
-    → IsNormal t (m * 2 ^ (t.precision - s.precision)) e
-normal_there s t m e from into h n =
-    ⊎_elim (λ o. held_normal s t m e from into o n) (λ o. inside_normal s t m e from into o n) h
+pub normal_there : (source target : Shape) (m : ℕ) (e : ℤ) → IsShape source → IsShape target
+    → IsHeldAt source target e → IsNormal source m e
+    → IsNormal target (m * 2 ^ (target.precision - source.precision)) e
+normal_there source target m e from into h n =
+    ⊎_elim (λ o. held_normal source target m e from into o n) (λ o. inside_normal source target m e from into o n) h
 
-pub precise_there : (s t : Shape) (e : ℤ) → IsHeldAt s t e → s.precision ≤ t.precision
-precise_there s t e h = ⊎_elim (λ (o : IsHeld s t). o.precise) (λ (o : IsInside s t e). o.precise) h
+pub precise_there : (source target : Shape) (e : ℤ) → IsHeldAt source target e → source.precision ≤ target.precision
+precise_there source target e h =
+    ⊎_elim (λ (o : IsHeld source target). o.precise) (λ (o : IsInside source target e). o.precise) h
 
 -- ---- it is the same number: a quanta of 2 ^ (- f) are b quanta of 2 ^ (- g)
 
@@ -175,16 +190,20 @@ some_there : (a b f g : ℕ) → 0 < a → a * 2 ^ g ≡ b * 2 ^ f → 0 < b
 some_there a zero f g p e = let q : 0 < a * 2 ^ g = mul-pos p (pow_pos g) in omega arith
 some_there a (suc b) f g p e = omega arith
 
-pub same_there : (s t : Shape) (m : ℕ) (e : ℤ) → IsShape s → IsShape t → s.precision ≤ t.precision → IsNormal s m e
-    → IsNormal t (m * 2 ^ (t.precision - s.precision)) e
-    → quanta_at s.min_exp m e * 2 ^ (format_at t).scale
-    ≡ quanta_at t.min_exp (m * 2 ^ (t.precision - s.precision)) e * 2 ^ (format_at s).scale
-same_there s t m e from into p n o =
-    let x = scale_is s from in
-    let y = scale_is t into in
-    same_quanta m (quanta_at s.min_exp m e) (quanta_at t.min_exp (m * 2 ^ (t.precision - s.precision)) e)
-    (format_at s).scale (format_at t).scale (t.precision - s.precision) (down (e -ℤ s.min_exp)) (up (e -ℤ s.min_exp))
-    (down (e -ℤ t.min_exp)) (up (e -ℤ t.min_exp)) n.whole o.whole (omega (arith, ints, from.precision_low))
+pub same_there : (source target : Shape) (m : ℕ) (e : ℤ) → IsShape source → IsShape target
+    → source.precision ≤ target.precision → IsNormal source m e
+    → IsNormal target (m * 2 ^ (target.precision - source.precision)) e
+    → quanta_at source.min_exp m e * 2 ^ (format_at target).scale
+    ≡ quanta_at target.min_exp (m * 2 ^ (target.precision - source.precision)) e * 2 ^ (format_at source).scale
+same_there source target m e from into p n o =
+    let x = scale_is source from in
+    let y = scale_is target into in
+    same_quanta m (quanta_at source.min_exp m e)
+    (quanta_at target.min_exp (m * 2 ^ (target.precision - source.precision)) e)
+    (format_at source).scale (format_at target).scale (target.precision - source.precision)
+    (down (e -ℤ source.min_exp)) (up (e -ℤ source.min_exp))
+    (down (e -ℤ target.min_exp)) (up (e -ℤ target.min_exp)) n.whole o.whole
+    (omega (arith, ints, from.precision_low))
 
 -- the shift loses no digit
 pub held_shift : (s t m : ℕ) → s ≤ t → t ≤ 125 → m < 2 ^ s → m * 2 ^ (t - s) % 2 ^ 128 ≡ m * 2 ^ (t - s)
@@ -202,6 +221,7 @@ same_converted f g mode negative a b v status p e d t s =
     let o : 0 < b = some_there a b f.scale g.scale p e in
     record {
       is_delivered = rw (d, s, ← signed_some g.nonfinite negative b o)
-          (exact_delivered g mode negative b (a * 2 ^ g.scale) (2 ^ f.scale) (pow_pos f.scale) t.on_grid t.within e);
+          (exact_delivered g mode negative b (a * 2 ^ g.scale) (2 ^ f.scale) (pow_pos f.scale) t.on_grid t.within
+          e);
       loses_is = rw s refl;
     }

@@ -63,11 +63,11 @@ ranged_in width b mag exact h =
     less_not (pos (2 ^ width - 1)) (pos mag) (limit_high b width mag h) in
     rw (signed_in b width mag h, low, high, no_zero b exact) refl
 
-pub in_range : (f : Format) (mode : Round) (width : ℕ) (b : Bool) (n mag st : ℕ) (exact : Bool) → 0 < n
-    → mag ≡ whole_pick mode b n (2 ^ f.scale) → exact ≡ eqb (whole_quanta f mode b n) n → mag ≤ limit width b
+pub in_range : (format : Format) (mode : Round) (width : ℕ) (b : Bool) (n mag st : ℕ) (exact : Bool) → 0 < n
+    → mag ≡ whole_pick mode b n (2 ^ format.scale) → exact ≡ eqb (whole_quanta format mode b n) n → mag ≤ limit width b
     → st ≡ inexact_unless exact
-    → IsToUnsigned f mode width (finite b n) mag st exact
-in_range f mode width b n mag st exact p i x h t =
+    → IsToUnsigned format mode width (finite b n) mag st exact
+in_range format mode width b n mag st exact p i x h t =
     let z : eqb n 0 ≡ false = ne_eqb n 0 (λ e. omega (arith, e, p)) in
     let r = ranged_in width b mag exact h in
     rw (z, ← x, ← i, r) (record { number_is = refl; status_is = t; is_exact_is = refl })
@@ -84,10 +84,10 @@ ranged_out width false mag exact h =
     less_so (pos (2 ^ width - 1)) (pos mag) (omega (arith, ints, h)) in
     rw (low, high) refl
 
-pub out_of_range : (f : Format) (mode : Round) (width : ℕ) (b : Bool) (n number st : ℕ) (exact : Bool) → 0 < n
-    → limit width b < whole_pick mode b n (2 ^ f.scale) → number ≡ limit width b → st ≡ 1 → exact ≡ false
-    → IsToUnsigned f mode width (finite b n) number st exact
-out_of_range f mode width b n number st exact p h m t x =
+pub out_of_range : (format : Format) (mode : Round) (width : ℕ) (b : Bool) (n number st : ℕ) (exact : Bool) → 0 < n
+    → limit width b < whole_pick mode b n (2 ^ format.scale) → number ≡ limit width b → st ≡ 1 → exact ≡ false
+    → IsToUnsigned format mode width (finite b n) number st exact
+out_of_range format mode width b n number st exact p h m t x =
     let z : eqb n 0 ≡ false = ne_eqb n 0 (λ e. omega (arith, e, p)) in
-    let r = ranged_out width b (whole_pick mode b n (2 ^ f.scale)) (eqb (whole_quanta f mode b n) n) h in
+    let r = ranged_out width b (whole_pick mode b n (2 ^ format.scale)) (eqb (whole_quanta format mode b n) n) h in
     rw (z, r) (record { number_is = ap pos m; status_is = t; is_exact_is = x })

@@ -159,51 +159,52 @@ room_cases x m (pos zero) e l = inr (omega (arith, ints, e, l))
 room_cases x m (pos (suc k)) e l = inl (omega (arith, ints, e, l))
 room_cases x m (negsuc k) e l = absurd (omega (arith, ints, e, l))
 
-at_top : (f : Format) (precision : ℕ) (min_exp max_exp : ℤ) (s a : ℕ) → f.precision ≡ precision
-    → pos f.span ≡ max_exp -ℤ min_exp → IsQuantaAt min_exp s max_exp a
-    → 2 ^ precision ≤ s + 2 ^ down (max_exp -ℤ min_exp) → largest f ≤ a
-at_top f precision min_exp max_exp s a e g h c =
+at_top : (format : Format) (precision : ℕ) (min_exp max_exp : ℤ) (s a : ℕ) → format.precision ≡ precision
+    → pos format.span ≡ max_exp -ℤ min_exp → IsQuantaAt min_exp s max_exp a
+    → 2 ^ precision ≤ s + 2 ^ down (max_exp -ℤ min_exp) → largest format ≤ a
+at_top format precision min_exp max_exp s a e g h c =
     let w = up_far (max_exp -ℤ min_exp) 0 (omega (arith, ints)) in
     let d : 2 ^ down (max_exp -ℤ min_exp) ≡ 1 = ap (λ (x : ℕ). 2 ^ x) w.1 in
     let i : 2 ^ precision ≤ s + 1 = omega (arith, c, d) in
-    let k : greatest_significand f.nonfinite precision ≤ s = greatest_before f.nonfinite precision s i in
-    let k' : greatest_significand f.nonfinite f.precision ≤ s =
-    subst (λ (x : ℕ). greatest_significand f.nonfinite x ≤ s) (sym e) k in
-    let m : greatest_significand f.nonfinite f.precision * 2 ^ f.span ≤ s * 2 ^ f.span =
-    mul-le-mul_right (2 ^ f.span) k' in
-    let g' : f.span ≡ up (max_exp -ℤ min_exp) = ap up g in
-    let n : s * 2 ^ f.span ≡ s * 2 ^ up (max_exp -ℤ min_exp) = ap (λ (x : ℕ). s * 2 ^ x) g' in
+    let k : greatest_significand format.nonfinite precision ≤ s = greatest_before format.nonfinite precision s i in
+    let k' : greatest_significand format.nonfinite format.precision ≤ s =
+    subst (λ (x : ℕ). greatest_significand format.nonfinite x ≤ s) (sym e) k in
+    let m : greatest_significand format.nonfinite format.precision * 2 ^ format.span ≤ s * 2 ^ format.span =
+    mul-le-mul_right (2 ^ format.span) k' in
+    let g' : format.span ≡ up (max_exp -ℤ min_exp) = ap up g in
+    let n : s * 2 ^ format.span ≡ s * 2 ^ up (max_exp -ℤ min_exp) = ap (λ (x : ℕ). s * 2 ^ x) g' in
     let q : a * 2 ^ down (max_exp -ℤ min_exp) ≡ a * 1 = ap (λ (x : ℕ). a * x) d in
     omega (arith, m, n, q, h)
 
 -- a number below the largest that is a carry away from the next power of two
-pub room_above : (f : Format) (precision : ℕ) (min_exp max_exp x : ℤ) (s a : ℕ) → f.precision ≡ precision
-    → pos f.span ≡ max_exp -ℤ min_exp → IsOperandAt precision min_exp max_exp s x → IsQuantaAt min_exp s x a
-    → a < largest f → 2 ^ precision ≤ s + 2 ^ down (x -ℤ min_exp) → (x +ℤ pos 1) ≤ℤ max_exp
-room_above f precision min_exp max_exp x s a e g o h b c =
+pub room_above : (format : Format) (precision : ℕ) (min_exp max_exp x : ℤ) (s a : ℕ) → format.precision ≡ precision
+    → pos format.span ≡ max_exp -ℤ min_exp → IsOperandAt precision min_exp max_exp s x → IsQuantaAt min_exp s x a
+    → a < largest format → 2 ^ precision ≤ s + 2 ^ down (x -ℤ min_exp) → (x +ℤ pos 1) ≤ℤ max_exp
+room_above format precision min_exp max_exp x s a e g o h b c =
     ⊎_elim (λ q. q)
     (λ (q : x ≡ max_exp).
-    let k : largest f ≤ a =
-    at_top f precision min_exp max_exp s a e g (subst (λ (y : ℤ). IsQuantaAt min_exp s y a) q h)
+    let k : largest format ≤ a =
+    at_top format precision min_exp max_exp s a e g (subst (λ (y : ℤ). IsQuantaAt min_exp s y a) q h)
     (subst (λ (y : ℤ). 2 ^ precision ≤ s + 2 ^ down (y -ℤ min_exp)) q c) in
     absurd (omega (arith, k, b)))
     (room_cases x max_exp (max_exp -ℤ x) refl o.greatest)
 
 -- ---- within the largest value
 
-pub largest_on_grid : (f : Format) → 0 < f.precision → IsOnGrid f.precision (largest f)
-largest_on_grid f h =
+pub largest_on_grid : (format : Format) → 0 < format.precision → IsOnGrid format.precision (largest format)
+largest_on_grid format h =
     record {
-      significand = greatest_significand f.nonfinite f.precision;
-      place = f.span;
+      significand = greatest_significand format.nonfinite format.precision;
+      place = format.span;
       fits =
-          greatest_fits f.nonfinite f.precision;
+          greatest_fits format.nonfinite format.precision;
       is = refl;
     }
 
-pub next_within : (f : Format) (a next : ℕ) → 0 < f.precision → a < largest f → IsAbove f.precision next (a + 1) 1
-    → next ≤ largest f
-next_within f a next h b i = i.least (largest f) (largest_on_grid f h) (omega arith)
+pub next_within : (format : Format) (a next : ℕ) → 0 < format.precision → a < largest format
+    → IsAbove format.precision next (a + 1) 1
+    → next ≤ largest format
+next_within format a next h b i = i.least (largest format) (largest_on_grid format h) (omega arith)
 
 pub step_room : (p s d : ℕ) → p ≤ 125 → s < 2 ^ p → d ≤ p - 1 → s + 2 ^ d < 2 ^ 128
 step_room p s d h f l =
@@ -306,18 +307,18 @@ logarithm_high p s a k u d e f h =
     let r : a * 2 ^ d < 2 ^ k * 2 ^ d = omega (arith, w, g, h) in
     lt_of_mul-lt-mul_right (2 ^ d) r
 
-pub logarithm_is : (f : Format) (p : ℕ) (min max x : ℤ) (s a : ℕ) → 3 ≤ p → pos f.scale ≡ pos (p - 1) -ℤ min
-    → IsOperandAt p min max s x → IsQuantaAt min s x a → IsLogarithm f a x
-logarithm_is f p min max x s a t z o h =
+pub logarithm_is : (format : Format) (p : ℕ) (min max x : ℤ) (s a : ℕ) → 3 ≤ p → pos format.scale ≡ pos (p - 1) -ℤ min
+    → IsOperandAt p min max s x → IsQuantaAt min s x a → IsLogarithm format a x
+logarithm_is format p min max x s a t z o h =
     let lo = o.least in
-    let n : pos 0 ≤ℤ (x +ℤ pos f.scale) = omega (arith, ints, z, lo, t) in
-    let q : pos (up (x +ℤ pos f.scale)) ≡ (x +ℤ pos f.scale) = up_of (x +ℤ pos f.scale) n in
-    let e : up (x +ℤ pos f.scale) + down (x -ℤ min) ≡ p - 1 + up (x -ℤ min) = omega (arith, ints, z, q, t) in
-    let e' : up (x +ℤ pos f.scale) + 1 + down (x -ℤ min) ≡ p + up (x -ℤ min) = omega (arith, e, t) in
+    let n : pos 0 ≤ℤ (x +ℤ pos format.scale) = omega (arith, ints, z, lo, t) in
+    let q : pos (up (x +ℤ pos format.scale)) ≡ (x +ℤ pos format.scale) = up_of (x +ℤ pos format.scale) n in
+    let e : up (x +ℤ pos format.scale) + down (x -ℤ min) ≡ p - 1 + up (x -ℤ min) = omega (arith, ints, z, q, t) in
+    let e' : up (x +ℤ pos format.scale) + 1 + down (x -ℤ min) ≡ p + up (x -ℤ min) = omega (arith, e, t) in
     record {
-      place = up (x +ℤ pos f.scale);
-      low = logarithm_low (p - 1) s a (up (x +ℤ pos f.scale)) (up (x -ℤ min)) (down (x -ℤ min)) e o.full h;
-      high = logarithm_high p s a (up (x +ℤ pos f.scale) + 1) (up (x -ℤ min)) (down (x -ℤ min)) e' o.fits h;
+      place = up (x +ℤ pos format.scale);
+      low = logarithm_low (p - 1) s a (up (x +ℤ pos format.scale)) (up (x -ℤ min)) (down (x -ℤ min)) e o.full h;
+      high = logarithm_high p s a (up (x +ℤ pos format.scale) + 1) (up (x -ℤ min)) (down (x -ℤ min)) e' o.fits h;
       is = omega (arith, ints, q);
     }
 
@@ -341,12 +342,13 @@ fraction_same min x y s a b e h =
     (omega (arith, ints, e, w₁)) in
     omega (arith, g)
 
-pub fraction_low : (f : Format) (a : ℕ) (i : IsLogarithm f a (negsuc 0)) → (2 ^ (f.scale - 1) ≤ a) × (a < 2 ^ f.scale)
-fraction_low f a i =
-    let e = i.is in
-    let k : i.place ≡ f.scale - 1 = omega (arith, ints, e) in
-    let m : i.place + 1 ≡ f.scale = omega (arith, ints, e) in
-    (subst (λ (x : ℕ). 2 ^ x ≤ a) k i.low, subst (λ (x : ℕ). a < 2 ^ x) m i.high)
+pub fraction_low : (format : Format) (a : ℕ) (logarithm : IsLogarithm format a (negsuc 0))
+    → (2 ^ (format.scale - 1) ≤ a) × (a < 2 ^ format.scale)
+fraction_low format a logarithm =
+    let e = logarithm.is in
+    let k : logarithm.place ≡ format.scale - 1 = omega (arith, ints, e) in
+    let m : logarithm.place + 1 ≡ format.scale = omega (arith, ints, e) in
+    (subst (λ (x : ℕ). 2 ^ x ≤ a) k logarithm.low, subst (λ (x : ℕ). a < 2 ^ x) m logarithm.high)
 
 pub room_below : (low x : ℤ) → low ≤ℤ x → (x ≡ low → ⊥) → low ≤ℤ (x -ℤ pos 1)
 room_below low x l n =

@@ -14,24 +14,27 @@ use Rattle.apfloat_conversions.proofs.Nexts.{logarithm_is, fraction_operand, fra
 abbrev pub fraction_at : Shape → ℕ → ℕ
 fraction_at s m = m * 2 ^ up (negsuc 0 -ℤ s.min_exp)
 
-pub fraction_size : (s : Shape) (m : ℕ) (e : ℤ) → IsShape s → IsNormal s m e
-    → (2 ^ ((format_at s).scale - 1) ≤ fraction_at s m) × (fraction_at s m < 2 ^ (format_at s).scale)
-fraction_size s m e law n =
-    let o = fraction_operand s.precision s.min_exp s.max_exp e m law.precision_low law.min_exp_high law.max_exp_low
+pub fraction_size : (shape : Shape) (m : ℕ) (e : ℤ) → IsShape shape → IsNormal shape m e
+    → (2 ^ ((format_at shape).scale - 1) ≤ fraction_at shape m) × (fraction_at shape m < 2 ^ (format_at shape).scale)
+fraction_size shape m e law n =
+    let o = fraction_operand shape.precision shape.min_exp shape.max_exp e m law.precision_low law.min_exp_high
+    law.max_exp_low
     n.operand in
-    let q = fraction_quanta s.min_exp m law.min_exp_high in
-    fraction_low (format_at s) (fraction_at s m)
-    (logarithm_is (format_at s) s.precision s.min_exp s.max_exp (negsuc 0) m (fraction_at s m) law.precision_low
-    (scale_is s law) o q)
+    let q = fraction_quanta shape.min_exp m law.min_exp_high in
+    fraction_low (format_at shape) (fraction_at shape m)
+    (logarithm_is (format_at shape) shape.precision shape.min_exp shape.max_exp (negsuc 0) m (fraction_at shape m)
+    law.precision_low
+    (scale_is shape law) o q)
 
-pub fraction_number : (s : Shape) (m : ℕ) (e : ℤ) → IsShape s → IsNormal s m e → IsNormal s m (negsuc 0)
-fraction_number s m e law n =
-    let o = fraction_operand s.precision s.min_exp s.max_exp e m law.precision_low law.min_exp_high law.max_exp_low
+pub fraction_number : (shape : Shape) (m : ℕ) (e : ℤ) → IsShape shape → IsNormal shape m e → IsNormal shape m (negsuc 0)
+fraction_number shape m e law n =
+    let o = fraction_operand shape.precision shape.min_exp shape.max_exp e m law.precision_low law.min_exp_high
+    law.max_exp_low
     n.operand in
-    let q = fraction_quanta s.min_exp m law.min_exp_high in
-    let b = fraction_size s m e law n in
+    let q = fraction_quanta shape.min_exp m law.min_exp_high in
+    let b = fraction_size shape m e law n in
     let b₁ = b.1 in
-    let r = scale_in_span s law in
-    let w : 1 * 2 ^ (format_at s).scale ≤ largest (format_at s) =
-    half_within s 1 (format_at s).scale law (pow_pos (s.precision - 1)) (omega (arith, r)) in
-    number_of s m (negsuc 0) (fraction_at s m) o q (omega (arith, w, b₁))
+    let r = scale_in_span shape law in
+    let w : 1 * 2 ^ (format_at shape).scale ≤ largest (format_at shape) =
+    half_within shape 1 (format_at shape).scale law (pow_pos (shape.precision - 1)) (omega (arith, r)) in
+    number_of shape m (negsuc 0) (fraction_at shape m) o q (omega (arith, w, b₁))

@@ -24,21 +24,22 @@ use Rattle.apfloat_conversions.proofs.Wholes.{up_of, places_up, places_down}
 
 -- ---- the number as a fraction, by the exponent of its last digit
 
-pub whole_places : (s : Shape) (m : ℕ) (e r : ℤ) → IsShape s → IsNormal s m e
-    → r ≡ (to_z w32 (of_z w32 e) -ℤ pos (s.precision - 1)) → pos 0 ≤ℤ r
-    → quanta_at s.min_exp m e ≡ m * 2 ^ up r * 2 ^ (format_at s).scale
-whole_places s m e r law n v l =
-    let v' = rw (exponent_word s m e law n) at v in
+pub whole_places : (shape : Shape) (m : ℕ) (e r : ℤ) → IsShape shape → IsNormal shape m e
+    → r ≡ (to_z w32 (of_z w32 e) -ℤ pos (shape.precision - 1)) → pos 0 ≤ℤ r
+    → quanta_at shape.min_exp m e ≡ m * 2 ^ up r * 2 ^ (format_at shape).scale
+whole_places shape m e r law n v l =
+    let v' = rw (exponent_word shape m e law n) at v in
     let k : pos (up r) ≡ r = up_of r l in
-    places_up (s.precision - 1) (format_at s).scale s.min_exp e r m (quanta_at s.min_exp m e) (up r)
-    (scale_is s law) v' (omega (arith, ints, k)) n.whole
+    places_up (shape.precision - 1) (format_at shape).scale shape.min_exp e r m (quanta_at shape.min_exp m e) (up r)
+    (scale_is shape law) v' (omega (arith, ints, k)) n.whole
 
-pub fraction_places : (s : Shape) (m k : ℕ) (e r : ℤ) → IsShape s → IsNormal s m e
-    → r ≡ (to_z w32 (of_z w32 e) -ℤ pos (s.precision - 1)) → pos k ≡ (pos 0 -ℤ r)
-    → quanta_at s.min_exp m e * 2 ^ k ≡ m * 2 ^ (format_at s).scale
-fraction_places s m k e r law n v h =
-    let v' = rw (exponent_word s m e law n) at v in
-    places_down (s.precision - 1) (format_at s).scale s.min_exp e r m (quanta_at s.min_exp m e) k (scale_is s law)
+pub fraction_places : (shape : Shape) (m k : ℕ) (e r : ℤ) → IsShape shape → IsNormal shape m e
+    → r ≡ (to_z w32 (of_z w32 e) -ℤ pos (shape.precision - 1)) → pos k ≡ (pos 0 -ℤ r)
+    → quanta_at shape.min_exp m e * 2 ^ k ≡ m * 2 ^ (format_at shape).scale
+fraction_places shape m k e r law n v h =
+    let v' = rw (exponent_word shape m e law n) at v in
+    places_down (shape.precision - 1) (format_at shape).scale shape.min_exp e r m (quanta_at shape.min_exp m e) k
+    (scale_is shape law)
     v' h n.whole
 
 -- ---- times a power of two
@@ -49,63 +50,65 @@ DeliversOf s mode negative m r v st =
     → StandsFor m ExactlyZero (amount * 2 ^ down (r +ℤ pos (format_at s).scale))
     (parts * 2 ^ up (r +ℤ pos (format_at s).scale)) → IsDelivered (format_at s) mode negative amount parts v st
 
-pub scale_delivered : (s : Shape) (m : ℕ) (e j near r : ℤ) (mode : Round) (negative : Bool) (v : Datum) (st : ℕ)
-    → IsShape s → IsNormal s m e → IsClamped 6000000 j near → r ≡ ((e +ℤ near) -ℤ pos (s.precision - 1))
-    → DeliversOf s mode negative m r v st
-    → IsDelivered (format_at s) mode negative (quanta_at s.min_exp m e * 2 ^ up j) (2 ^ down j) v st
-scale_delivered s m e j near r mode negative v st law n c i d =
-    let a = quanta_at s.min_exp m e in
-    let k = scale_is s law in
-    let w = span_is s law in
+pub scale_delivered : (shape : Shape) (m : ℕ) (e j near r : ℤ) (mode : Round) (negative : Bool) (v : Datum) (st : ℕ)
+    → IsShape shape → IsNormal shape m e → IsClamped 6000000 j near → r ≡ ((e +ℤ near) -ℤ pos (shape.precision - 1))
+    → DeliversOf shape mode negative m r v st
+    → IsDelivered (format_at shape) mode negative (quanta_at shape.min_exp m e * 2 ^ up j) (2 ^ down j) v st
+scale_delivered shape m e j near r mode negative v st law n c i d =
+    let a = quanta_at shape.min_exp m e in
+    let k = scale_is shape law in
+    let w = span_is shape law in
     let o = n.operand in
-    let g : (e -ℤ s.min_exp) ≤ℤ pos 2097152 = omega (arith, ints, law, o) in
-    let g' = up_le (e -ℤ s.min_exp) 2097152 g in
-    let f : (format_at s).span ≤ 2097152 = omega (arith, ints, law, w) in
-    clamp_kept (format_at s) mode negative (quanta_at s.min_exp m e) (s.precision + up (e -ℤ s.min_exp)) 6000000 j
-    near v st (omega (arith, law)) (quanta_some s m e n)
-    (quanta_below s.precision s.min_exp e m (quanta_at s.min_exp m e) o.fits n.whole)
+    let g : (e -ℤ shape.min_exp) ≤ℤ pos 2097152 = omega (arith, ints, law, o) in
+    let g' = up_le (e -ℤ shape.min_exp) 2097152 g in
+    let f : (format_at shape).span ≤ 2097152 = omega (arith, ints, law, w) in
+    clamp_kept (format_at shape) mode negative (quanta_at shape.min_exp m e)
+    (shape.precision + up (e -ℤ shape.min_exp)) 6000000 j
+    near v st (omega (arith, law)) (quanta_some shape m e n)
+    (quanta_below shape.precision shape.min_exp e m (quanta_at shape.min_exp m e) o.fits n.whole)
     (omega (arith, f, law)) (omega (arith, g', law)) c
-    (d (quanta_at s.min_exp m e * 2 ^ up near) (2 ^ down near) (pow_pos (down near))
-    (scaled_is (s.precision - 1) (format_at s).scale s.min_exp e near r m (quanta_at s.min_exp m e) k i
+    (d (quanta_at shape.min_exp m e * 2 ^ up near) (2 ^ down near) (pow_pos (down near))
+    (scaled_is (shape.precision - 1) (format_at shape).scale shape.min_exp e near r m (quanta_at shape.min_exp m e) k i
     n.whole))
 
 -- ---- sizes within the format
 
 -- half of 2 to the precision, at any place up to the span
-pub half_within : (s : Shape) (m k : ℕ) → IsShape s → m ≤ 2 ^ (s.precision - 1) → k ≤ (format_at s).span
-    → m * 2 ^ k ≤ largest (format_at s)
-half_within s m k law h l =
-    let g : m ≤ greatest_significand s.nonfinite s.precision =
-    let f = greatest_full s.nonfinite s.precision law.precision_low in omega (arith, h, f) in
-    let a : m * 2 ^ k ≤ greatest_significand s.nonfinite s.precision * 2 ^ k = mul-le-mul_right (2 ^ k) g in
-    let b : 2 ^ k ≤ 2 ^ (format_at s).span = pow-le-pow_right two_pos l in
-    let c : greatest_significand s.nonfinite s.precision * 2 ^ k
-    ≤ greatest_significand s.nonfinite s.precision * 2 ^ (format_at s).span =
-    mul-le-mul_left (greatest_significand s.nonfinite s.precision) b in
+pub half_within : (shape : Shape) (m k : ℕ) → IsShape shape → m ≤ 2 ^ (shape.precision - 1) → k ≤ (format_at shape).span
+    → m * 2 ^ k ≤ largest (format_at shape)
+half_within shape m k law h l =
+    let g : m ≤ greatest_significand shape.nonfinite shape.precision =
+    let f = greatest_full shape.nonfinite shape.precision law.precision_low in omega (arith, h, f) in
+    let a : m * 2 ^ k ≤ greatest_significand shape.nonfinite shape.precision * 2 ^ k = mul-le-mul_right (2 ^ k) g in
+    let b : 2 ^ k ≤ 2 ^ (format_at shape).span = pow-le-pow_right two_pos l in
+    let c : greatest_significand shape.nonfinite shape.precision * 2 ^ k
+    ≤ greatest_significand shape.nonfinite shape.precision * 2 ^ (format_at shape).span =
+    mul-le-mul_left (greatest_significand shape.nonfinite shape.precision) b in
     omega (arith, a, c)
 
-pub scale_in_span : (s : Shape) → IsShape s → (format_at s).scale + 1 ≤ (format_at s).span
-scale_in_span s law =
-    let a = scale_is s law in
-    let b = span_is s law in
+pub scale_in_span : (shape : Shape) → IsShape shape → (format_at shape).scale + 1 ≤ (format_at shape).span
+scale_in_span shape law =
+    let a = scale_is shape law in
+    let b = span_is shape law in
     omega (arith, ints, a, b, law)
 
-pub significand_small : (s : Shape) (m : ℕ) → IsShape s → m < 2 ^ s.precision → m < 2 ^ 125
-significand_small s m law f =
+pub significand_small : (shape : Shape) (m : ℕ) → IsShape shape → m < 2 ^ shape.precision → m < 2 ^ 125
+significand_small shape m law f =
     let l = law.precision_high in
-    let a : 2 ^ s.precision ≤ 2 ^ 125 = pow-le-pow_right two_pos l in
+    let a : 2 ^ shape.precision ≤ 2 ^ 125 = pow-le-pow_right two_pos l in
     omega (arith, a, f)
 
 -- a number by its quanta
-pub number_of : (s : Shape) (m : ℕ) (e : ℤ) (n : ℕ) → IsOperandAt s.precision s.min_exp s.max_exp m e
-    → IsQuantaAt s.min_exp m e n → n ≤ largest (format_at s) → IsNormal s m e
-number_of s m e n o q l =
-    record { operand = o; whole = whole_is s.min_exp m e n q; within = rw (quanta_is s.min_exp m e n q) l }
+pub number_of : (shape : Shape) (m : ℕ) (e : ℤ) (n : ℕ) → IsOperandAt shape.precision shape.min_exp shape.max_exp m e
+    → IsQuantaAt shape.min_exp m e n → n ≤ largest (format_at shape) → IsNormal shape m e
+number_of shape m e n o q l =
+    record { operand = o; whole = whole_is shape.min_exp m e n q; within = rw (quanta_is shape.min_exp m e n q) l }
 
 -- ---- a zero times a power of two
 
-pub zero_scaled : (f : Format) (mode : Round) (negative : Bool) (j : ℤ) → negative ≡ zero_sign f.nonfinite negative
-    → IsScaling f mode (finite negative 0) j (finite negative 0)
-zero_scaled f mode negative j z =
-    subst (λ (b : Bool). IsScaling f mode (finite negative 0) j (finite b 0)) (sym z)
-    (scaling_zero f mode negative j)
+pub zero_scaled : (format : Format) (mode : Round) (negative : Bool) (j : ℤ)
+    → negative ≡ zero_sign format.nonfinite negative
+    → IsScaling format mode (finite negative 0) j (finite negative 0)
+zero_scaled format mode negative j z =
+    subst (λ (b : Bool). IsScaling format mode (finite negative 0) j (finite b 0)) (sym z)
+    (scaling_zero format mode negative j)

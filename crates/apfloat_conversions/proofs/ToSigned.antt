@@ -26,19 +26,19 @@ use Rattle.apfloat_conversions.proofs.Wholes.{whole_exactly}
 
 -- ---- of a value without a minus sign: one binary digit less
 
-pub to_signed_above : (f : Format) (mode : Round) (width : ℕ) (x : Datum) (number st : ℕ) (exact : Bool)
-    → is_negative x ≡ false → IsToUnsigned f mode (width - 1) x number st exact
-    → IsToSigned f mode width x (pos number) st exact
-to_signed_above f mode width (nan b s) number st exact z h = h
-to_signed_above f mode width (infinite true) number st exact z h = absurd (false≢true (sym z))
-to_signed_above f mode width (infinite false) number st exact z h = h
-to_signed_above f mode width (finite true n) number st exact z h = absurd (false≢true (sym z))
-to_signed_above f mode width (finite false n) number st exact z h =
-    let k : ℕ = whole_pick mode false n (2 ^ f.scale) in
-    let a : int_lt (pos (whole_pick mode false n (2 ^ f.scale))) (pos 0) ≡ false =
-    less_not (pos (whole_pick mode false n (2 ^ f.scale))) (pos 0) (omega (arith, ints)) in
-    let b : int_lt (pos (whole_pick mode false n (2 ^ f.scale))) (neg_ℤ (pos (2 ^ (width - 1)))) ≡ false =
-    less_not (pos (whole_pick mode false n (2 ^ f.scale))) (neg_ℤ (pos (2 ^ (width - 1))))
+pub to_signed_above : (format : Format) (mode : Round) (width : ℕ) (x : Datum) (number st : ℕ) (exact : Bool)
+    → is_negative x ≡ false → IsToUnsigned format mode (width - 1) x number st exact
+    → IsToSigned format mode width x (pos number) st exact
+to_signed_above format mode width (nan b s) number st exact z h = h
+to_signed_above format mode width (infinite true) number st exact z h = absurd (false≢true (sym z))
+to_signed_above format mode width (infinite false) number st exact z h = h
+to_signed_above format mode width (finite true n) number st exact z h = absurd (false≢true (sym z))
+to_signed_above format mode width (finite false n) number st exact z h =
+    let k : ℕ = whole_pick mode false n (2 ^ format.scale) in
+    let a : int_lt (pos (whole_pick mode false n (2 ^ format.scale))) (pos 0) ≡ false =
+    less_not (pos (whole_pick mode false n (2 ^ format.scale))) (pos 0) (omega (arith, ints)) in
+    let b : int_lt (pos (whole_pick mode false n (2 ^ format.scale))) (neg_ℤ (pos (2 ^ (width - 1)))) ≡ false =
+    less_not (pos (whole_pick mode false n (2 ^ format.scale))) (neg_ℤ (pos (2 ^ (width - 1))))
     (omega (arith, ints)) in
     rw b (rw a at h)
 
@@ -56,12 +56,12 @@ pub pick_swapped : (mode : Round) (n p : ℕ) → whole_pick (swapped mode) fals
 pick_swapped mode n p =
     ap (λ (b : Bool). cond (eqb (n % p) 0) (n / p) (cond b (n / p + 1) (n / p))) (takes_swapped mode _ _ _)
 
-nan_unsigned : (kind : NonfiniteBehavior) (f : Format) (mode : Round) (width s number st : ℕ) (exact : Bool)
-    → IsToUnsigned f mode width (negated_nan kind true s) number st exact
+nan_unsigned : (kind : NonfiniteBehavior) (format : Format) (mode : Round) (width s number st : ℕ) (exact : Bool)
+    → IsToUnsigned format mode width (negated_nan kind true s) number st exact
     → IsWhole (invalid_whole (pos 0)) (pos number) st exact
-nan_unsigned IEEE754 f mode width s number st exact h = h
-nan_unsigned NanOnly f mode width s number st exact h = h
-nan_unsigned NanNegativeZero f mode width s number st exact h = h
+nan_unsigned IEEE754 format mode width s number st exact h = h
+nan_unsigned NanOnly format mode width s number st exact h = h
+nan_unsigned NanNegativeZero format mode width s number st exact h = h
 
 no_whole : (mode : Round) (b : Bool) (scale : ℕ) → whole_pick mode b 0 (2 ^ scale) ≡ 0
 no_whole mode b scale = whole_exactly mode b 0 0 (2 ^ scale) (pow_pos scale) (omega arith)
@@ -72,58 +72,60 @@ no_quanta scale = eq-eqb (0 * 2 ^ scale) 0 (omega arith)
 zero_ranged : (low high : ℤ) (answer : Whole) → low ≤ℤ pos 0 → pos 0 ≤ℤ high → ranged low high (pos 0) answer ≡ answer
 zero_ranged low high answer l h = rw (less_not (pos 0) low l, less_not high (pos 0) h) refl
 
-zero_unsigned_of : (f : Format) (mode : Round) (width number st : ℕ) (b exact : Bool)
-    → IsToUnsigned f mode width (finite b 0) number st exact → (number ≡ 0) × (st ≡ 0)
-zero_unsigned_of f mode width number st b exact h =
+zero_unsigned_of : (format : Format) (mode : Round) (width number st : ℕ) (b exact : Bool)
+    → IsToUnsigned format mode width (finite b 0) number st exact → (number ≡ 0) × (st ≡ 0)
+zero_unsigned_of format mode width number st b exact h =
     let h' = rw (
-      no_whole mode b f.scale,
+      no_whole mode b format.scale,
       no_sign b,
-      no_quanta f.scale,
+      no_quanta format.scale,
       zero_ranged (pos 0) (pos (2 ^ width - 1)) (exact_or_not (pos 0) true (b && true)) (omega (arith, ints))
           (omega (arith, ints)),
     ) at h in
     let n = h'.number_is in
     (omega (arith, ints, n), h'.status_is)
 
-zero_unsigned : (kind : NonfiniteBehavior) (f : Format) (mode : Round) (width number st : ℕ) (exact : Bool)
-    → IsToUnsigned f mode width (negated_zero kind true) number st exact → (number ≡ 0) × (st ≡ 0)
-zero_unsigned IEEE754 f mode width number st exact h = zero_unsigned_of f mode width number st false exact h
-zero_unsigned NanOnly f mode width number st exact h = zero_unsigned_of f mode width number st false exact h
-zero_unsigned NanNegativeZero f mode width number st exact h = zero_unsigned_of f mode width number st true exact h
+zero_unsigned : (kind : NonfiniteBehavior) (format : Format) (mode : Round) (width number st : ℕ) (exact : Bool)
+    → IsToUnsigned format mode width (negated_zero kind true) number st exact → (number ≡ 0) × (st ≡ 0)
+zero_unsigned IEEE754 format mode width number st exact h = zero_unsigned_of format mode width number st false exact h
+zero_unsigned NanOnly format mode width number st exact h = zero_unsigned_of format mode width number st false exact h
+zero_unsigned NanNegativeZero format mode width number st exact h =
+    zero_unsigned_of format mode width number st true exact h
 
-minus_zero : (f : Format) (mode : Round) (width : ℕ) (value : ℤ) (status : ℕ) (is_exact : Bool) → value ≡ pos 0
-    → status ≡ 0 → is_exact ≡ false → IsToSigned f mode width (finite true 0) value status is_exact
-minus_zero f mode width value status is_exact v t e =
+minus_zero : (format : Format) (mode : Round) (width : ℕ) (value : ℤ) (status : ℕ) (is_exact : Bool) → value ≡ pos 0
+    → status ≡ 0 → is_exact ≡ false → IsToSigned format mode width (finite true 0) value status is_exact
+minus_zero format mode width value status is_exact v t e =
     rw (
-      no_whole mode true f.scale,
-      no_quanta f.scale,
+      no_whole mode true format.scale,
+      no_quanta format.scale,
       zero_ranged (neg_ℤ (pos (2 ^ (width - 1)))) (pos (2 ^ (width - 1) - 1)) (exact_or_not (pos 0) true true)
           (omega (arith, ints)) (omega (arith, ints)),
     )
     (record { number_is = v; status_is = t; is_exact_is = e })
 
 -- a number that is not zero: within the range, and past its lower end
-minus_within : (f : Format) (mode : Round) (width n : ℕ) (value : ℤ) (status : ℕ) (is_exact : Bool)
-    → eqb n 0 ≡ false → whole_pick mode true n (2 ^ f.scale) ≤ 2 ^ (width - 1)
-    → value ≡ neg_ℤ (pos (whole_pick mode true n (2 ^ f.scale)))
-    → status ≡ inexact_unless (eqb (whole_quanta f mode true n) n) → is_exact ≡ eqb (whole_quanta f mode true n) n
-    → IsToSigned f mode width (finite true n) value status is_exact
-minus_within f mode width n value status is_exact z l v t e =
-    let k : ℕ = whole_pick mode true n (2 ^ f.scale) in
-    let a : int_lt (neg_ℤ (pos (whole_pick mode true n (2 ^ f.scale)))) (neg_ℤ (pos (2 ^ (width - 1)))) ≡ false =
-    less_not (neg_ℤ (pos (whole_pick mode true n (2 ^ f.scale)))) (neg_ℤ (pos (2 ^ (width - 1))))
+minus_within : (format : Format) (mode : Round) (width n : ℕ) (value : ℤ) (status : ℕ) (is_exact : Bool)
+    → eqb n 0 ≡ false → whole_pick mode true n (2 ^ format.scale) ≤ 2 ^ (width - 1)
+    → value ≡ neg_ℤ (pos (whole_pick mode true n (2 ^ format.scale)))
+    → status ≡ inexact_unless (eqb (whole_quanta format mode true n) n)
+    → is_exact ≡ eqb (whole_quanta format mode true n) n
+    → IsToSigned format mode width (finite true n) value status is_exact
+minus_within format mode width n value status is_exact z l v t e =
+    let k : ℕ = whole_pick mode true n (2 ^ format.scale) in
+    let a : int_lt (neg_ℤ (pos (whole_pick mode true n (2 ^ format.scale)))) (neg_ℤ (pos (2 ^ (width - 1)))) ≡ false =
+    less_not (neg_ℤ (pos (whole_pick mode true n (2 ^ format.scale)))) (neg_ℤ (pos (2 ^ (width - 1))))
     (omega (arith, ints, l)) in
-    let b : int_lt (pos (2 ^ (width - 1) - 1)) (neg_ℤ (pos (whole_pick mode true n (2 ^ f.scale)))) ≡ false =
-    less_not (pos (2 ^ (width - 1) - 1)) (neg_ℤ (pos (whole_pick mode true n (2 ^ f.scale))))
+    let b : int_lt (pos (2 ^ (width - 1) - 1)) (neg_ℤ (pos (whole_pick mode true n (2 ^ format.scale)))) ≡ false =
+    less_not (pos (2 ^ (width - 1) - 1)) (neg_ℤ (pos (whole_pick mode true n (2 ^ format.scale))))
     (omega (arith, ints)) in
     rw (z, a, b) (record { number_is = v; status_is = t; is_exact_is = e ∙ sym (and-true _) })
 
-minus_past : (f : Format) (mode : Round) (width n : ℕ) (value : ℤ) (status : ℕ) (is_exact : Bool)
-    → 2 ^ (width - 1) < whole_pick mode true n (2 ^ f.scale) → value ≡ neg_ℤ (pos (2 ^ (width - 1))) → status ≡ 1
-    → is_exact ≡ false → IsToSigned f mode width (finite true n) value status is_exact
-minus_past f mode width n value status is_exact l v t e =
-    let a : int_lt (neg_ℤ (pos (whole_pick mode true n (2 ^ f.scale)))) (neg_ℤ (pos (2 ^ (width - 1)))) ≡ true =
-    less_so (neg_ℤ (pos (whole_pick mode true n (2 ^ f.scale)))) (neg_ℤ (pos (2 ^ (width - 1))))
+minus_past : (format : Format) (mode : Round) (width n : ℕ) (value : ℤ) (status : ℕ) (is_exact : Bool)
+    → 2 ^ (width - 1) < whole_pick mode true n (2 ^ format.scale) → value ≡ neg_ℤ (pos (2 ^ (width - 1))) → status ≡ 1
+    → is_exact ≡ false → IsToSigned format mode width (finite true n) value status is_exact
+minus_past format mode width n value status is_exact l v t e =
+    let a : int_lt (neg_ℤ (pos (whole_pick mode true n (2 ^ format.scale)))) (neg_ℤ (pos (2 ^ (width - 1)))) ≡ true =
+    less_so (neg_ℤ (pos (whole_pick mode true n (2 ^ format.scale)))) (neg_ℤ (pos (2 ^ (width - 1))))
     (omega (arith, ints, l)) in
     rw a (record { number_is = v; status_is = t; is_exact_is = e })
 
@@ -134,52 +136,56 @@ wider width h =
     let a : 2 ^ 1 ≤ 2 ^ (width - 1) = pow-le-pow_right two_pos l in
     omega (arith, t, a)
 
-minus_number : (f : Format) (mode : Round) (width n number st : ℕ) (exact : Bool) (value : ℤ) (status : ℕ)
+minus_number : (format : Format) (mode : Round) (width n number st : ℕ) (exact : Bool) (value : ℤ) (status : ℕ)
     (is_exact : Bool) → eqb n 0 ≡ false → 2 ≤ width
-    → IsToUnsigned f (swapped mode) width (finite false n) number st exact
+    → IsToUnsigned format (swapped mode) width (finite false n) number st exact
     → IsNegatedWhole false width number st exact value status is_exact
-    → IsToSigned f mode width (finite true n) value status is_exact
-minus_number f mode width n number st exact value status is_exact z w h g =
-    let p = pick_swapped mode n (2 ^ f.scale) in
+    → IsToSigned format mode width (finite true n) value status is_exact
+minus_number format mode width n number st exact value status is_exact z w h g =
+    let p = pick_swapped mode n (2 ^ format.scale) in
     let h' = rw p at h in
-    let k : ℕ = whole_pick mode true n (2 ^ f.scale) in
+    let k : ℕ = whole_pick mode true n (2 ^ format.scale) in
     let big = wider width w in
     ⊎_elim
-    (λ (l : 2 ^ (width - 1) < whole_pick mode true n (2 ^ f.scale)).
+    (λ (l : 2 ^ (width - 1) < whole_pick mode true n (2 ^ format.scale)).
     let o : 2 ^ (width - 1) < number =
     ⊎_elim
-    (λ (m : 2 ^ width - 1 < whole_pick mode true n (2 ^ f.scale)).
-    let i = rw (ranged_out width false (whole_pick mode true n (2 ^ f.scale)) (eqb (whole_quanta f mode true n) n)
+    (λ (m : 2 ^ width - 1 < whole_pick mode true n (2 ^ format.scale)).
+    let i = rw (ranged_out width false (whole_pick mode true n (2 ^ format.scale))
+    (eqb (whole_quanta format mode true n) n)
     m) at h' in
     let q = i.number_is in
     omega (arith, ints, q, big))
-    (λ (m : whole_pick mode true n (2 ^ f.scale) ≤ 2 ^ width - 1).
-    let i = rw (ranged_in width false (whole_pick mode true n (2 ^ f.scale)) (eqb (whole_quanta f mode true n) n)
+    (λ (m : whole_pick mode true n (2 ^ format.scale) ≤ 2 ^ width - 1).
+    let i = rw (ranged_in width false (whole_pick mode true n (2 ^ format.scale))
+    (eqb (whole_quanta format mode true n) n)
     m) at h' in
     let q = i.number_is in
     omega (arith, ints, q, l))
-    (cases_lt (2 ^ width - 1) (whole_pick mode true n (2 ^ f.scale))) in
+    (cases_lt (2 ^ width - 1) (whole_pick mode true n (2 ^ format.scale))) in
     let r = g.past o in
-    minus_past f mode width n value status is_exact l r.1.0 r.0 r.1.1)
-    (λ (l : whole_pick mode true n (2 ^ f.scale) ≤ 2 ^ (width - 1)).
-    let m : whole_pick mode true n (2 ^ f.scale) ≤ 2 ^ width - 1 = omega (arith, l, big) in
-    let i = rw (ranged_in width false (whole_pick mode true n (2 ^ f.scale)) (eqb (whole_quanta f mode true n) n)
+    minus_past format mode width n value status is_exact l r.1.0 r.0 r.1.1)
+    (λ (l : whole_pick mode true n (2 ^ format.scale) ≤ 2 ^ (width - 1)).
+    let m : whole_pick mode true n (2 ^ format.scale) ≤ 2 ^ width - 1 = omega (arith, l, big) in
+    let i = rw (ranged_in width false (whole_pick mode true n (2 ^ format.scale))
+    (eqb (whole_quanta format mode true n) n)
     m) at h' in
     let q = i.number_is in
-    let q' : number ≡ whole_pick mode true n (2 ^ f.scale) = omega (arith, ints, q) in
+    let q' : number ≡ whole_pick mode true n (2 ^ format.scale) = omega (arith, ints, q) in
     let r = g.within (omega (arith, q', l)) in
-    minus_within f mode width n value status is_exact z l (r.1.0 ∙ ap (λ (j : ℕ). neg_ℤ (pos j)) q')
+    minus_within format mode width n value status is_exact z l (r.1.0 ∙ ap (λ (j : ℕ). neg_ℤ (pos j)) q')
     (r.0 ∙ i.status_is) (r.1.1 ∙ and-true exact ∙ i.is_exact_is))
-    (cases_lt (2 ^ (width - 1)) (whole_pick mode true n (2 ^ f.scale)))
+    (cases_lt (2 ^ (width - 1)) (whole_pick mode true n (2 ^ format.scale)))
 
-pub to_signed_below : (f : Format) (mode : Round) (width : ℕ) (x : Datum) (number st : ℕ) (exact : Bool) (value : ℤ)
+pub to_signed_below : (format : Format) (mode : Round) (width : ℕ) (x : Datum) (number st : ℕ) (exact : Bool)
+    (value : ℤ)
     (status : ℕ) (is_exact : Bool) → is_negative x ≡ true → 2 ≤ width
-    → IsToUnsigned f (swapped mode) width (negated f.nonfinite x) number st exact
+    → IsToUnsigned format (swapped mode) width (negated format.nonfinite x) number st exact
     → IsNegatedWhole (is_zero_category (category_of x)) width number st exact value status is_exact
-    → IsToSigned f mode width x value status is_exact
-to_signed_below f mode width (nan false s) number st exact value status is_exact y w h g = absurd (false≢true y)
-to_signed_below f mode width (nan true s) number st exact value status is_exact y w h g =
-    let i = nan_unsigned f.nonfinite f (swapped mode) width s number st exact h in
+    → IsToSigned format mode width x value status is_exact
+to_signed_below format mode width (nan false s) number st exact value status is_exact y w h g = absurd (false≢true y)
+to_signed_below format mode width (nan true s) number st exact value status is_exact y w h g =
+    let i = nan_unsigned format.nonfinite format (swapped mode) width s number st exact h in
     let q = i.number_is in
     let e : number ≡ 0 = omega (arith, ints, q) in
     let r = g.within (omega (arith, e)) in
@@ -189,26 +195,26 @@ to_signed_below f mode width (nan true s) number st exact value status is_exact 
       is_exact_is =
           r.1.1 ∙ and-true exact ∙ i.is_exact_is;
     }
-to_signed_below f mode width (infinite false) number st exact value status is_exact y w h g = absurd (false≢true y)
-to_signed_below f mode width (infinite true) number st exact value status is_exact y w h g =
+to_signed_below format mode width (infinite false) number st exact value status is_exact y w h g = absurd (false≢true y)
+to_signed_below format mode width (infinite true) number st exact value status is_exact y w h g =
     let q = h.number_is in
     let big = wider width w in
     let r = g.past (omega (arith, ints, q, big)) in
     record { number_is = r.1.0; status_is = r.0; is_exact_is = r.1.1 }
-to_signed_below f mode width (finite false n) number st exact value status is_exact y w h g = absurd (false≢true y)
-to_signed_below f mode width (finite true n) number st exact value status is_exact y w h g =
+to_signed_below format mode width (finite false n) number st exact value status is_exact y w h g = absurd (false≢true y)
+to_signed_below format mode width (finite true n) number st exact value status is_exact y w h g =
     ⊎_elim
     (λ (e : n ≡ 0).
     let z : eqb n 0 ≡ true = eq-eqb n 0 e in
     let h' = rw z at h in
     let g' = rw z at g in
-    let i = zero_unsigned f.nonfinite f (swapped mode) width number st exact h' in
+    let i = zero_unsigned format.nonfinite format (swapped mode) width number st exact h' in
     let i₀ = i.0 in
     let r = g'.within (omega (arith, i₀)) in
-    subst (λ (j : ℕ). IsToSigned f mode width (finite true j) value status is_exact) (sym e)
-    (minus_zero f mode width value status is_exact (r.1.0 ∙ ap (λ (j : ℕ). neg_ℤ (pos j)) i.0) (r.0 ∙ i.1)
+    subst (λ (j : ℕ). IsToSigned format mode width (finite true j) value status is_exact) (sym e)
+    (minus_zero format mode width value status is_exact (r.1.0 ∙ ap (λ (j : ℕ). neg_ℤ (pos j)) i.0) (r.0 ∙ i.1)
     (r.1.1 ∙ and-false exact)))
     (λ (e : n ≡ 0 → ⊥).
     let z : eqb n 0 ≡ false = ne_eqb n 0 e in
-    minus_number f mode width n number st exact value status is_exact z w (rw z at h) (rw z at g))
+    minus_number format mode width n number st exact value status is_exact z w (rw z at h) (rw z at g))
     (cases_eq n 0)

@@ -20,6 +20,7 @@ use Rattle.apfloat_base.proofs.Losses.{stands_to, stands_past, twice_half}
 use Rattle.apfloat_base.proofs.KeptDigits.{stands_cancel}
 use Rattle.apfloat_base.proofs.Picks.{kept, takes_less, takes_half, takes_more}
 use Rattle.apfloat_base.proofs.SingleScalings.{scaled_stands}
+use Rattle.apfloat_base.proofs.Choices.{off_both}
 
 whole_odd : (q : ℕ) → eqb (q / (q + 1 - q) % 2) 1 ≡ eqb (q % 2) 1
 whole_odd q =
@@ -75,11 +76,6 @@ pub exactly_so : (mode : Round) (negative : Bool) (q amount parts : ℕ) → 0 <
 exactly_so mode negative q amount parts p e =
     let w = whole_exactly mode negative q amount parts p e in
     sym (eq-eqb (whole_pick mode negative amount parts * parts) amount (ap (λ (x : ℕ). x * parts) w ∙ sym e))
-
-off_both : (b : Bool) (q amount parts : ℕ) → q * parts < amount → amount < (q + 1) * parts
-    → cond b (q + 1) q * parts ≡ amount → ⊥
-off_both true q amount parts l k e = omega arith
-off_both false q amount parts l k e = omega arith
 
 pub inexactly_so : (mode : Round) (negative : Bool) (q amount parts : ℕ) (loss : Loss) → 0 < parts
     → (loss ≡ ExactlyZero → ⊥) → StandsFor q loss amount parts
@@ -190,22 +186,22 @@ whole_fits p s k mag q f l h =
 
 -- ---- a number rounded to a whole number
 
-pub integral_picked : (f : Format) (mode : Round) (b : Bool) (n mag : ℕ) (exact : Bool) (v : Datum) (st : ℕ)
-    → mag ≡ whole_pick mode b n (2 ^ f.scale) → exact ≡ eqb (whole_quanta f mode b n) n
-    → v ≡ signed_quanta f.nonfinite b (mag * 2 ^ f.scale) → st ≡ inexact_unless exact
-    → IsRoundToIntegral f mode (finite b n) v st
-integral_picked f mode b n mag exact v st i x w t = record {
-  value_is = w ∙ ap (λ (k : ℕ). signed_quanta f.nonfinite b (k * 2 ^ f.scale)) i;
+pub integral_picked : (format : Format) (mode : Round) (b : Bool) (n mag : ℕ) (exact : Bool) (v : Datum) (st : ℕ)
+    → mag ≡ whole_pick mode b n (2 ^ format.scale) → exact ≡ eqb (whole_quanta format mode b n) n
+    → v ≡ signed_quanta format.nonfinite b (mag * 2 ^ format.scale) → st ≡ inexact_unless exact
+    → IsRoundToIntegral format mode (finite b n) v st
+integral_picked format mode b n mag exact v st i x w t = record {
+  value_is = w ∙ ap (λ (k : ℕ). signed_quanta format.nonfinite b (k * 2 ^ format.scale)) i;
   status_is = t ∙ ap (λ (k : Bool). inexact_unless k) x;
 }
 
-pub integral_stays : (f : Format) (mode : Round) (b : Bool) (n q : ℕ) → 0 < n → n ≡ q * 2 ^ f.scale
-    → IsRoundToIntegral f mode (finite b n) (finite b n) 0
-integral_stays f mode b n q p e =
-    integral_picked f mode b n q true (finite b n) 0
-    (sym (whole_exactly mode b q n (2 ^ f.scale) (pow_pos f.scale) e))
-    (exactly_so mode b q n (2 ^ f.scale) (pow_pos f.scale) e)
-    (sym (signed_some f.nonfinite b n p) ∙ ap (λ (k : ℕ). signed_quanta f.nonfinite b k) e) refl
+pub integral_stays : (format : Format) (mode : Round) (b : Bool) (n q : ℕ) → 0 < n → n ≡ q * 2 ^ format.scale
+    → IsRoundToIntegral format mode (finite b n) (finite b n) 0
+integral_stays format mode b n q p e =
+    integral_picked format mode b n q true (finite b n) 0
+    (sym (whole_exactly mode b q n (2 ^ format.scale) (pow_pos format.scale) e))
+    (exactly_so mode b q n (2 ^ format.scale) (pow_pos format.scale) e)
+    (sym (signed_some format.nonfinite b n p) ∙ ap (λ (k : ℕ). signed_quanta format.nonfinite b k) e) refl
 
 -- ---- toward zero a whole number stays, and no other does
 

@@ -10,11 +10,12 @@ use Rattle.apfloat_base.specs.order.Classes.{is_finite, is_finite_non_zero}
 use Rattle.apfloat_base.specs.arithmetic.Exact.{magnitude}
 use Rattle.apfloat_base.specs.formats.Members.{IsMember}
 use Rattle.apfloat_base.specs.order.Order.{number}
+use Rattle.apfloat_base.proofs.Laws.{zero_on_grid}
 use Rattle.apfloat_pairs.specs.PairFormats.{double}
 use Rattle.apfloat_pairs.specs.Pairs.{Pair, pair_number, IsNormalised}
 use Rattle.apfloat_pairs.specs.PairProducts.{IsPairProduct}
 use Rattle.apfloat_pairs.specs.PairAccuracy.{HaveExponents, IsExactPair, IsErrorFreeProduct, IsAccurateProduct}
-use Rattle.apfloat_pairs.proofs.Signed.{magnitude-sub, magnitude_le, first_most, IsGridNumber, on_grid_as, zero_on_grid}
+use Rattle.apfloat_pairs.proofs.Signed.{magnitude-sub, magnitude_le, first_most, IsGridNumber, on_grid_as}
 use Rattle.apfloat_pairs.proofs.SignedProducts.{magnitude-mul}
 use Rattle.apfloat_pairs.proofs.Nearest.{IsNearest, nearest_exact}
 use Rattle.apfloat_pairs.proofs.PairRoundings.{low_small}

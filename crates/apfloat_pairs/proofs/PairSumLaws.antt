@@ -11,11 +11,11 @@ use Rattle.apfloat_base.specs.arithmetic.Exact.{magnitude}
 use Rattle.apfloat_base.specs.formats.Members.{IsMember}
 use Rattle.apfloat_base.specs.order.Order.{number}
 use Rattle.apfloat_base.specs.arithmetic.Sums.{IsSum}
+use Rattle.apfloat_base.proofs.Signs.{one_side}
 use Rattle.apfloat_pairs.specs.PairFormats.{double}
 use Rattle.apfloat_pairs.specs.Pairs.{Pair, pair_number, IsNormalised}
 use Rattle.apfloat_pairs.specs.PairSums.{IsSumOfNumbers, IsPairSum}
 use Rattle.apfloat_pairs.specs.PairAccuracy.{sum_reach, AreWithinReach, IsExactPair, IsClosePair, total_size, IsErrorFreeSum, IsAccurateSum, HasPlainStatus}
-use Rattle.apfloat_pairs.proofs.Signed.{parted}
 use Rattle.apfloat_pairs.proofs.SignedProducts.{times_one}
 use Rattle.apfloat_pairs.proofs.SumBounds.{opening_bound}
 use Rattle.apfloat_pairs.proofs.TwoSums.{IsShared, two_sum}
@@ -163,11 +163,11 @@ normalised_share x y s t z q v r d e u w k =
 
 -- a low part beside a high part that is zero is zero
 low_zero : (h l : ℤ) → 7 * magnitude l ≤ magnitude h → h ≡ pos 0 → l ≡ pos 0
-low_zero h l a e = let m : magnitude h ≡ 0 = ap magnitude e in omega (arith, ints, parted l)
+low_zero h l a e = let m : magnitude h ≡ 0 = ap magnitude e in omega (arith, ints, one_side l)
 
 -- an answer that is one of the operands, beside a zero
 no_error : (p s : ℤ) (a b : ℕ) → p ≡ s → magnitude (p -ℤ s) * 2 ^ 103 ≤ a + b
-no_error p s a b e = let m : magnitude (p -ℤ s) ≡ 0 = omega (arith, ints, parted (p -ℤ s)) in omega arith
+no_error p s a b e = let m : magnitude (p -ℤ s) ≡ 0 = omega (arith, ints, one_side (p -ℤ s)) in omega arith
 
 given_closely : (x y given answer : Pair) → answer ≡ given → IsNormalised given
     → pair_number given ≡ (pair_number x +ℤ pair_number y)

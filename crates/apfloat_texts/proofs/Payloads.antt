@@ -1,17 +1,19 @@
 -- The digits of a payload are read one by one.
 use Rattle.std.proofs.Common.{◌≡◌, ℕ, ◌^◌, ◌<◌, ◌≤◌, Bool, true, false, ◌&&◌, ltb, if◌then◌else◌, List, [], ◌∷◌, fold, Some, None, refl, ap, ◌∙◌, arith}
 use Rattle.std.proofs.lemmas.Bool.{le-ltb, ltb-false, ltb-true}
+use Rattle.apfloat_base.specs.declared.texts.Radix.{Radix}
+use Rattle.apfloat_base.specs.declared.texts.Radix.TheVariants.{Sixteen, Eight, Ten}
 use Rattle.apfloat_base.specs.texts.Digits.{every}
-use Rattle.apfloat_base.specs.texts.Specials.{Radix, sixteen, eight, ten, is_digit_of, payload_of_digits}
+use Rattle.apfloat_base.specs.texts.Specials.{is_digit_of, payload_of_digits}
 use Rattle.apfloat_base.proofs.Choices.{first_holds, first_fails, last_fails}
 use Rattle.apfloat_texts.specs.Payloads.{longer, next, read_on, IsPayloadRead}
 
 -- ---- one digit
 
 grown : (radix : Radix) (n c : ℕ) → n ≤ longer radix n c
-grown sixteen n c = omega arith
-grown eight n c = omega arith
-grown ten n c = omega arith
+grown Sixteen n c = omega arith
+grown Eight n c = omega arith
+grown Ten n c = omega arith
 
 -- more digits make no smaller number
 fold_grows : (radix : Radix) (n : ℕ) (digits : List ℕ) → n ≤ fold (longer radix) n digits

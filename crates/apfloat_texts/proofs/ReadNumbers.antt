@@ -25,17 +25,17 @@ use Rattle.apfloat_texts.specs.Saturation.{IsNear}
 
 -- ---- far magnitudes, by the place z of the lowest digit that is kept
 
-far_up : (f : Format) (number s k : ℕ) (z p : ℤ) → 0 < s → s * 2 ^ k ≤ number → p ≡ z -ℤ pos k
-    → pos (f.precision + f.span) ≤ℤ z
-    → IsFarAbove f (number * 2 ^ up p) (2 ^ down p)
-far_up f number s k z p some from e far =
+far_up : (format : Format) (number s k : ℕ) (z p : ℤ) → 0 < s → s * 2 ^ k ≤ number → p ≡ z -ℤ pos k
+    → pos (format.precision + format.span) ≤ℤ z
+    → IsFarAbove format (number * 2 ^ up p) (2 ^ down p)
+far_up format number s k z p some from e far =
     let a : 1 * 2 ^ k ≤ s * 2 ^ k = mul-le-mul_right (2 ^ k) some in
     let b : 2 ^ k ≤ number = omega (arith, a, from) in
     let c : 2 ^ k * 2 ^ up p ≤ number * 2 ^ up p = mul-le-mul_right (2 ^ up p) b in
-    let g : f.precision + f.span + down p ≤ k + up p = omega (arith, ints, e, far) in
-    let h : 2 ^ (f.precision + f.span + down p) ≤ 2 ^ (k + up p) = pow-le-pow_right two_pos g in
-    let i : 2 ^ (f.precision + f.span + down p) ≡ 2 ^ (f.precision + f.span) * 2 ^ down p =
-    pow-add 2 (f.precision + f.span) (down p) in
+    let g : format.precision + format.span + down p ≤ k + up p = omega (arith, ints, e, far) in
+    let h : 2 ^ (format.precision + format.span + down p) ≤ 2 ^ (k + up p) = pow-le-pow_right two_pos g in
+    let i : 2 ^ (format.precision + format.span + down p) ≡ 2 ^ (format.precision + format.span) * 2 ^ down p =
+    pow-add 2 (format.precision + format.span) (down p) in
     let j : 2 ^ (k + up p) ≡ 2 ^ k * 2 ^ up p = pow-add 2 k (up p) in
     record { some = pow_pos (down p); from = omega (arith, c, h, i, j) }
 
@@ -61,36 +61,38 @@ far_down number s k z p some small to e far =
 abbrev power_at : ℕ → ℕ → ℤ → ℤ
 power_at k scale unit = (unit +ℤ pos scale) -ℤ pos k
 
-pub record IsBounded (f : Format) : Type 0 where
-  pub some : 0 < f.precision
-  pub above : f.precision + f.span ≤ 4000000
-  pub below : f.scale ≤ 4000000
+pub record IsBounded (format : Format) : Type 0 where
+  pub some : 0 < format.precision
+  pub above : format.precision + format.span ≤ 4000000
+  pub below : format.scale ≤ 4000000
 
-moved : (f : Format) (mode : Round) (negative : Bool) (number s cut : ℕ) (loss : Loss) (exact unit : ℤ) (v : Datum)
+moved : (format : Format) (mode : Round) (negative : Bool) (number s cut : ℕ) (loss : Loss) (exact unit : ℤ) (v : Datum)
     (status : ℕ)
-    → IsBounded f → 0 < s → s < 2 ^ 128 → IsKept number s loss cut → IsNear 4194304 exact unit
-    → IsScaledDelivery f mode negative number (power_at (4 * cut) f.scale unit) v status
-    → IsScaledDelivery f mode negative number (power_at (4 * cut) f.scale exact) v status
-moved f mode negative number s cut loss exact unit v status b some small k (inl e) d =
-    subst (λ (z : ℤ). IsScaledDelivery f mode negative number (power_at (4 * cut) f.scale z) v status) e d
-moved f mode negative number s cut loss exact unit v status b some small k (inr (inl e)) d =
+    → IsBounded format → 0 < s → s < 2 ^ 128 → IsKept number s loss cut → IsNear 4194304 exact unit
+    → IsScaledDelivery format mode negative number (power_at (4 * cut) format.scale unit) v status
+    → IsScaledDelivery format mode negative number (power_at (4 * cut) format.scale exact) v status
+moved format mode negative number s cut loss exact unit v status b some small k (inl e) d =
+    subst (λ (z : ℤ). IsScaledDelivery format mode negative number (power_at (4 * cut) format.scale z) v status) e d
+moved format mode negative number s cut loss exact unit v status b some small k (inr (inl e)) d =
     let from = stands_from s loss number (2 ^ (4 * cut)) k.stands in
-    let l : pos (f.precision + f.span) ≤ℤ (unit +ℤ pos f.scale) = omega (arith, ints, b.above, e) in
-    let m : pos (f.precision + f.span) ≤ℤ (exact +ℤ pos f.scale) = omega (arith, ints, b.above, e) in
-    far_above f mode negative _ _ _ _ v status b.some
-    (far_up f number s (4 * cut) (unit +ℤ pos f.scale) (power_at (4 * cut) f.scale unit) some from refl l)
-    (far_up f number s (4 * cut) (exact +ℤ pos f.scale) (power_at (4 * cut) f.scale exact) some from refl m)
+    let l : pos (format.precision + format.span) ≤ℤ (unit +ℤ pos format.scale) = omega (arith, ints, b.above, e) in
+    let m : pos (format.precision + format.span) ≤ℤ (exact +ℤ pos format.scale) = omega (arith, ints, b.above, e) in
+    far_above format mode negative _ _ _ _ v status b.some
+    (far_up format number s (4 * cut) (unit +ℤ pos format.scale)
+    (power_at (4 * cut) format.scale unit) some from refl l)
+    (far_up format number s (4 * cut) (exact +ℤ pos format.scale)
+    (power_at (4 * cut) format.scale exact) some from refl m)
     d
-moved f mode negative number s cut loss exact unit v status b some small k (inr (inr e)) d =
+moved format mode negative number s cut loss exact unit v status b some small k (inr (inr e)) d =
     let from = stands_from s loss number (2 ^ (4 * cut)) k.stands in
     let to = stands_to s loss number (2 ^ (4 * cut)) (pow_pos (4 * cut)) k.stands in
     let p : 0 < s * 2 ^ (4 * cut) = mul-pos some (pow_pos (4 * cut)) in
     let n : 0 < number = omega (arith, p, from) in
-    let l : (unit +ℤ pos f.scale) ≤ℤ neg_ℤ (pos 129) = omega (arith, ints, b.below, e) in
-    let m : (exact +ℤ pos f.scale) ≤ℤ neg_ℤ (pos 129) = omega (arith, ints, b.below, e) in
-    far_below f mode negative _ _ _ _ v status b.some
-    (far_down number s (4 * cut) (unit +ℤ pos f.scale) (power_at (4 * cut) f.scale unit) n small to refl l)
-    (far_down number s (4 * cut) (exact +ℤ pos f.scale) (power_at (4 * cut) f.scale exact) n small to refl m)
+    let l : (unit +ℤ pos format.scale) ≤ℤ neg_ℤ (pos 129) = omega (arith, ints, b.below, e) in
+    let m : (exact +ℤ pos format.scale) ≤ℤ neg_ℤ (pos 129) = omega (arith, ints, b.below, e) in
+    far_below format mode negative _ _ _ _ v status b.some
+    (far_down number s (4 * cut) (unit +ℤ pos format.scale) (power_at (4 * cut) format.scale unit) n small to refl l)
+    (far_down number s (4 * cut) (exact +ℤ pos format.scale) (power_at (4 * cut) format.scale exact) n small to refl m)
     d
 
 -- ---- the kept digits
@@ -114,22 +116,23 @@ stands_at number s k scale loss unit h =
     ap (λ (x : ℕ). 2 ^ x) (balanced k scale unit) ∙ pow-add 2 (down p) (up u) in
     rw (b, c) at a
 
-pub number_delivered : (f : Format) (mode : Round) (negative : Bool) (number s cut places : ℕ) (loss : Loss)
+pub number_delivered : (format : Format) (mode : Round) (negative : Bool) (number s cut places : ℕ) (loss : Loss)
     (exact unit : ℤ) (v : Datum) (status : ℕ)
-    → IsBounded f → 0 < s → s < 2 ^ 128 → IsKept number s loss cut
+    → IsBounded format → 0 < s → s < 2 ^ 128 → IsKept number s loss cut
     → IsNear 4194304 ((exact +ℤ pos (4 * cut)) -ℤ pos (4 * places)) unit
     → ((amount parts : ℕ) → 0 < parts
-    → StandsFor s loss (amount * 2 ^ down (unit +ℤ pos f.scale)) (parts * 2 ^ up (unit +ℤ pos f.scale))
-    → IsDelivered f mode negative amount parts v status)
-    → IsScaledDelivery f mode negative number ((exact -ℤ pos (4 * places)) +ℤ pos f.scale) v status
-number_delivered f mode negative number s cut places loss exact unit v status b some small k near step =
-    let d = step (number * 2 ^ up (power_at (4 * cut) f.scale unit)) (2 ^ down (power_at (4 * cut) f.scale unit))
-    (pow_pos (down (power_at (4 * cut) f.scale unit)))
-    (stands_at number s (4 * cut) f.scale loss unit k.stands) in
-    let e : power_at (4 * cut) f.scale ((exact +ℤ pos (4 * cut)) -ℤ pos (4 * places))
-    ≡ (exact -ℤ pos (4 * places)) +ℤ pos f.scale = omega (arith, ints) in
-    subst (λ (z : ℤ). IsScaledDelivery f mode negative number z v status) e
-    (moved f mode negative number s cut loss ((exact +ℤ pos (4 * cut)) -ℤ pos (4 * places)) unit v status b some
+    → StandsFor s loss (amount * 2 ^ down (unit +ℤ pos format.scale)) (parts * 2 ^ up (unit +ℤ pos format.scale))
+    → IsDelivered format mode negative amount parts v status)
+    → IsScaledDelivery format mode negative number ((exact -ℤ pos (4 * places)) +ℤ pos format.scale) v status
+number_delivered format mode negative number s cut places loss exact unit v status b some small k near step =
+    let d = step (number * 2 ^ up (power_at (4 * cut) format.scale unit))
+    (2 ^ down (power_at (4 * cut) format.scale unit))
+    (pow_pos (down (power_at (4 * cut) format.scale unit)))
+    (stands_at number s (4 * cut) format.scale loss unit k.stands) in
+    let e : power_at (4 * cut) format.scale ((exact +ℤ pos (4 * cut)) -ℤ pos (4 * places))
+    ≡ (exact -ℤ pos (4 * places)) +ℤ pos format.scale = omega (arith, ints) in
+    subst (λ (z : ℤ). IsScaledDelivery format mode negative number z v status) e
+    (moved format mode negative number s cut loss ((exact +ℤ pos (4 * cut)) -ℤ pos (4 * places)) unit v status b some
     small k near d)
 
 -- ---- nothing
@@ -144,13 +147,13 @@ nothing_read number cut loss k =
     (λ (l : 2 ^ 124 ≤ 0). absurd (omega (arith, l)))
     k.full
 
-pub zero_delivered : (f : Format) (mode : Round) (negative : Bool) (number s cut : ℕ) (loss : Loss) (power : ℤ)
+pub zero_delivered : (format : Format) (mode : Round) (negative : Bool) (number s cut : ℕ) (loss : Loss) (power : ℤ)
     (v : Datum) (status : ℕ) → s ≡ 0 → IsKept number s loss cut
-    → v ≡ finite (zero_sign f.nonfinite negative) 0 → status ≡ 0
-    → IsScaledDelivery f mode negative number power v status
-zero_delivered f mode negative number s cut loss power v status z k e o =
+    → v ≡ finite (zero_sign format.nonfinite negative) 0 → status ≡ 0
+    → IsScaledDelivery format mode negative number power v status
+zero_delivered format mode negative number s cut loss power v status z k e o =
     let n : number ≡ 0 = nothing_read number cut loss (subst (λ (x : ℕ). IsKept number x loss cut) z k) in
-    rw (n, e, o) (zero_text f mode negative power)
+    rw (n, e, o) (zero_text format mode negative power)
 
 -- ---- for the kernel
 
@@ -165,8 +168,8 @@ fine_digits precision number s cut loss p k =
     inr (inr (omega (arith, h, l))))
     k.full
 
-pub bounded : (s : Shape) → IsShape s → IsBounded (format_at s)
-bounded s h =
+pub bounded : (shape : Shape) → IsShape shape → IsBounded (format_at shape)
+bounded shape h =
     record {
       some = omega (arith, h.precision_low);
       above = omega (arith, ints, h.precision_high, h.min_exp_low, h.max_exp_high);

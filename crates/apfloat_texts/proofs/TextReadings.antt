@@ -1,11 +1,14 @@
 -- The reading of a text by its special or by its literal.
 use Rattle.std.proofs.Common.{◌≡◌, ℕ, Bool, true, false, refl, sym, ap, ◌∙◌, ⊎_elim, subst, List, ◌++◌, drop, codes, Some, None}
 use Rattle.std.specs.Prelude.{Result, Ok, Err, MatchResult}
+use Rattle.apfloat_base.specs.declared.parse_error.Fault.{Fault}
+use Rattle.apfloat_base.specs.declared.texts.Mark.{Mark}
+use Rattle.apfloat_base.specs.declared.texts.Mark.TheVariants.{Unmarked, Plus, Minus}
 use Rattle.apfloat_base.specs.declared.kinds.Round.{Round}
 use Rattle.apfloat_base.specs.declared.status.StatusAnd.{StatusAnd}
 use Rattle.apfloat_base.specs.rounding.Flags.{bits_of}
 use Rattle.apfloat_base.specs.texts.Digits.{is_empty}
-use Rattle.apfloat_base.specs.texts.Specials.{Mark, unmarked, plus, minus, hexadecimal, mark_of, behind_mark, is_minus, special_meaning, special_of}
+use Rattle.apfloat_base.specs.texts.Specials.{hexadecimal, mark_of, behind_mark, is_minus, special_meaning, special_of}
 use Rattle.apfloat_base.specs.texts.Texts.{Means, begins_literal, behind_prefix_fault, fault_of}
 use Rattle.apfloat_base.specs.texts.Literals.{digits_number, places_behind_dot, exponent_text, exponent_number}
 use Rattle.apfloat_base.specs.texts.Readings.{IsMeant}
@@ -15,10 +18,8 @@ use Rattle.apfloat_unpacked.specs.declared.shape.Shape.{Shape}
 use Rattle.apfloat_unpacked.specs.declared.unpacked.Unpacked.{Unpacked}
 use Rattle.apfloat_unpacked.specs.Shapes.{format_at}
 use Rattle.apfloat_unpacked.specs.Stored.{IsStored, datum_at}
-use Rattle.apfloat_texts.specs.declared.fault.Fault.{Fault}
 use Rattle.apfloat_texts.specs.declared.special.Special.{Special}
 use Rattle.apfloat_texts.specs.declared.special.Special.TheVariants.{Infinity, Quiet, Signaling}
-use Rattle.apfloat_texts.specs.Faults.{fault_at}
 use Rattle.apfloat_texts.specs.LiteralParts.{IsLiteralRead}
 use Rattle.apfloat_texts.specs.Payloads.{meaning_of}
 use Rattle.apfloat_texts.specs.TextsRead.{IsTextRead}
@@ -51,14 +52,14 @@ special_read shape mode text negative special value answer e stored meant v s =
 -- ---- a literal is no special
 
 no_small_special : (mark : Mark) (rest : List ℕ) → special_meaning mark (codes "0x" ++ rest) ≡ None
-no_small_special unmarked rest = refl
-no_small_special plus rest = refl
-no_small_special minus rest = refl
+no_small_special Unmarked rest = refl
+no_small_special Plus rest = refl
+no_small_special Minus rest = refl
 
 no_capital_special : (mark : Mark) (rest : List ℕ) → special_meaning mark (codes "0X" ++ rest) ≡ None
-no_capital_special unmarked rest = refl
-no_capital_special plus rest = refl
-no_capital_special minus rest = refl
+no_capital_special Unmarked rest = refl
+no_capital_special Plus rest = refl
+no_capital_special Minus rest = refl
 
 no_special : (text : List ℕ) → begins_literal (behind_mark text) ≡ true → special_of text ≡ None
 no_special text b =
@@ -96,9 +97,9 @@ pub literal_text : (shape : Shape) (mode : Round) (text rest : List ℕ) (negati
     → is_empty text ≡ false → is_empty (behind_mark text) ≡ false → begins_literal (behind_mark text) ≡ true
     → rest ≡ drop 2 (behind_mark text) → negative ≡ is_minus (mark_of text)
     → MatchResult result (λ answer. IsLiteralRead shape mode negative rest answer)
-    (λ fault. behind_prefix_fault rest ≡ Some (fault_at fault))
+    (λ fault. behind_prefix_fault rest ≡ Some fault)
     → MatchResult result (λ answer. IsTextRead shape mode text answer)
-    (λ fault. fault_of text ≡ Some (fault_at fault))
+    (λ fault. fault_of text ≡ Some fault)
 literal_text shape mode text rest negative (Ok answer) t b l r n h =
     text_of_literal shape mode text answer l (rw (r, n) at h)
 literal_text shape mode text rest negative (Err fault) t b l r n h =

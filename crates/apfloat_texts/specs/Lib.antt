@@ -1,5 +1,3 @@
-pub mod Faults
-pub mod Marks
 pub mod Scans
 pub mod Saturation
 pub mod LiteralParts

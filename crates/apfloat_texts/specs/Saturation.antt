@@ -1,7 +1,9 @@
 -- Counts that are not counted on from where they decide, and the faults of what they are counted in.
 use Rattle.std.specs.Prelude.{◌≡◌, ◌⊎◌, ℕ, ◌+◌, ◌*◌, ◌^◌, ◌<◌, ◌≤◌, ℤ, pos, neg_ℤ, ◌≤ℤ◌, Bool, not, ◌&&◌, if◌then◌else◌, List, fold, Option, Some}
+use Rattle.apfloat_base.specs.declared.parse_error.Fault.{Fault}
+use Rattle.apfloat_base.specs.declared.parse_error.Fault.TheVariants.{WrongInSignificand, NoDigits}
 use Rattle.apfloat_base.specs.texts.Digits.{every, begins, is_empty, is_decimal, digit_value, number}
-use Rattle.apfloat_base.specs.texts.Texts.{Fault, wrong_in_significand, no_digits, is_p, tail_fault}
+use Rattle.apfloat_base.specs.texts.Texts.{is_p, tail_fault}
 
 -- a count from 0 up, or one of those that are too many
 abbrev pub IsSaturated : ℕ → ℕ → Type 0
@@ -28,6 +30,6 @@ pub record IsCounted (digits left : List ℕ) (counted : ℕ) : Type 0 where
 -- the fault in what follows a significand with a digit or with none
 abbrev pub fault_behind : Bool → List ℕ → Option Fault
 fault_behind some tail =
-    if not (is_empty tail) && not (begins is_p tail) then Some wrong_in_significand
-    else (if not some then Some no_digits
+    if not (is_empty tail) && not (begins is_p tail) then Some WrongInSignificand
+    else (if not some then Some NoDigits
     else tail_fault tail)

@@ -5,13 +5,12 @@ ghost use Rattle.apfloat_base.specs.texts.Digits.{number};
 ghost use Rattle.apfloat_base.specs.texts.Specials.{behind_mark};
 ghost use Rattle.apfloat_base.specs.texts.Texts.{exponent_fault};
 ghost use Rattle.apfloat_base.specs.texts.Literals.{exponent_number};
-ghost use Rattle.apfloat_texts.specs.Faults.{fault_at};
 ghost use Rattle.apfloat_texts.specs.Saturation.{IsSaturated, IsNear, fault_behind};
 
 use crate::characters::{digit_value, is_decimal};
-use crate::fault::Fault;
 use crate::mark::split_mark;
 use apfloat_base::ExpInt;
+use apfloat_base::parse_error::Fault;
 
 /// A number that is not counted on from here.
 const FAR: u128 = 1 << 96;
@@ -37,7 +36,7 @@ fn with_digit(number: u128, digit: u8) -> u128
 fn magnitude(digits: &[u8]) -> Result<u128, Fault>
     ensures { MatchResult result (λ n. IsSaturated (number 10 digits.now) n × (n < 2 ^ 100)
         × (exponent_fault digits.now ≡ None))
-        (λ fault. exponent_fault digits.now ≡ Some (fault_at fault)) }
+        (λ fault. exponent_fault digits.now ≡ Some fault) }
 {
     if digits.is_empty() {
         return Err(Fault::NoExponentDigits);
@@ -60,7 +59,7 @@ fn signed(text: &[u8]) -> Result<i128, Fault>
     ensures { MatchResult result (λ e. IsNear (2 ^ 96) (exponent_number text.now) e
         × (e ≤ℤ pos (2 ^ 100)) × (neg_ℤ (pos (2 ^ 100)) ≤ℤ e)
         × (exponent_fault (behind_mark text.now) ≡ None))
-        (λ fault. exponent_fault (behind_mark text.now) ≡ Some (fault_at fault)) }
+        (λ fault. exponent_fault (behind_mark text.now) ≡ Some fault) }
 {
     let (mark, digits) = split_mark(text);
     let magnitude = magnitude(digits)? as i128;
@@ -77,7 +76,7 @@ pub fn exponent_in(tail: &[u8], some: bool) -> Result<i128, Fault>
     ensures { MatchResult result (λ e. IsNear (2 ^ 96) (exponent_number (drop 1 tail.now)) e
         × (e ≤ℤ pos (2 ^ 100)) × (neg_ℤ (pos (2 ^ 100)) ≤ℤ e)
         × (fault_behind some tail.now ≡ None))
-        (λ fault. fault_behind some tail.now ≡ Some (fault_at fault)) }
+        (λ fault. fault_behind some tail.now ≡ Some fault) }
 {
     match tail {
         [b'p' | b'P', exponent @ ..] if some => signed(exponent),

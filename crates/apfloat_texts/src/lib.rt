@@ -7,7 +7,6 @@
 
 mod characters;
 mod exponent;
-mod fault;
 mod literal;
 mod mark;
 mod number;

@@ -3,13 +3,12 @@
 ghost use Rattle.std.specs.Prelude.{◌≡◌, Some, None, MatchResult};
 ghost use Rattle.apfloat_base.specs.texts.Texts.{behind_prefix_fault};
 ghost use Rattle.apfloat_unpacked.specs.Shapes.{IsShape};
-ghost use Rattle.apfloat_texts.specs.Faults.{fault_at};
 ghost use Rattle.apfloat_texts.specs.LiteralParts.{IsLiteralRead};
 
 use crate::exponent::exponent_in;
-use crate::fault::Fault;
 use crate::number::delivered;
 use crate::significand::scanned;
+use apfloat_base::parse_error::Fault;
 use apfloat_base::{Round, StatusAnd};
 use apfloat_unpacked::shape::Shape;
 use apfloat_unpacked::unpacked::Unpacked;
@@ -24,7 +23,7 @@ pub fn read_literal(
 ) -> Result<StatusAnd<Unpacked>, Fault>
     requires { IsShape shape }
     ensures { MatchResult result (λ answer. IsLiteralRead shape round negative rest.now answer)
-        (λ fault. behind_prefix_fault rest.now ≡ Some (fault_at fault)) }
+        (λ fault. behind_prefix_fault rest.now ≡ Some fault) }
 {
     if rest.is_empty() {
         return Err(Fault::LonePrefix);

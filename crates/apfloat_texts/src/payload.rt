@@ -1,55 +1,27 @@
 //! Payloads of NaNs.
 
 ghost use Rattle.std.specs.Prelude.{◌≡◌, ◌<◌, ◌^◌};
-ghost use Rattle.apfloat_base.specs.texts.Specials.{radix_of, behind_prefix, behind_plus, is_digit_of, base_of, payload_of_digits, plain_payload, payload_of};
-ghost use Rattle.apfloat_texts.specs.Payloads.{radix_at, next};
+ghost use Rattle.apfloat_base.specs.texts.Specials.{radix_of, behind_prefix, behind_plus, is_digit_of, payload_of_digits, plain_payload, payload_of};
+ghost use Rattle.apfloat_texts.specs.Payloads.{next};
 
 use crate::characters::{digit_value, is_decimal, is_hexadecimal, is_octal};
+use apfloat_base::texts::Radix;
 
-/// The base that a payload is written in.
-#[derive(Clone, Copy, Debug)]
-pub enum Radix {
-    /// Hexadecimal digits, behind `0x` or `0X`.
-    Sixteen,
-    /// Octal digits, behind a `0`.
-    Eight,
-    /// Decimal digits, without a prefix.
-    Ten,
-}
-
-impl Radix {
-    ghost use Rattle.std.specs.Prelude.{◌≡◌};
-    ghost use Rattle.apfloat_base.specs.texts.Specials.{is_digit_of, base_of};
-    ghost use Rattle.apfloat_texts.specs.Payloads.{radix_at};
-
-    /// The base as a number.
-    #[inline(always)]
-    fn base(self) -> u128
-        ensures { result ≡ base_of (radix_at self) }
-    {
-        match self {
-            Radix::Sixteen => 16,
-            Radix::Eight => 8,
-            Radix::Ten => 10,
-        }
-    }
-
-    /// Whether the character is a digit of that base.
-    #[inline(always)]
-    fn has_digit(self, byte: u8) -> bool
-        ensures { result ≡ is_digit_of (radix_at self) byte }
-    {
-        match self {
-            Radix::Sixteen => is_hexadecimal(byte),
-            Radix::Eight => is_octal(byte),
-            Radix::Ten => is_decimal(byte),
-        }
+/// Whether the character is a digit of that base.
+#[inline(always)]
+fn is_digit_of(radix: Radix, byte: u8) -> bool
+    ensures { result ≡ is_digit_of radix byte }
+{
+    match radix {
+        Radix::Sixteen => is_hexadecimal(byte),
+        Radix::Eight => is_octal(byte),
+        Radix::Ten => is_decimal(byte),
     }
 }
 
 /// The base that the prefix shows, and what stands behind it: `0x`, or else a 0 with something behind it, or else none.
 fn split_radix(text: &[u8]) -> (Radix, &[u8])
-    ensures radix { radix_at result.0 ≡ radix_of text.now }
+    ensures radix { result.0 ≡ radix_of text.now }
     ensures behind { result.1.now ≡ behind_prefix (radix_of text.now) text.now }
 {
     match text {
@@ -72,9 +44,9 @@ fn skip_plus(text: &[u8]) -> &[u8]
 /// The number with one more digit behind it, if it is below 2^128.
 #[inline(always)]
 fn with_digit(radix: Radix, number: u128, byte: u8) -> Option<u128>
-    ensures { result ≡ next (radix_at radix) number byte }
+    ensures { result ≡ next radix number byte }
 {
-    if !radix.has_digit(byte) {
+    if !is_digit_of(radix, byte) {
         return None;
     }
     let digit = digit_value(byte);
@@ -85,7 +57,7 @@ fn with_digit(radix: Radix, number: u128, byte: u8) -> Option<u128>
 
 /// The number that one or more digits stand for, if it is below 2^128.
 fn number_of(radix: Radix, digits: &[u8]) -> Option<u128>
-    ensures { result ≡ payload_of_digits (radix_at radix) digits.now }
+    ensures { result ≡ payload_of_digits radix digits.now }
 {
     if digits.is_empty() {
         return None;

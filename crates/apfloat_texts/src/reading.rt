@@ -7,14 +7,13 @@ ghost use Rattle.apfloat_base.specs.texts.Texts.{begins_literal, fault_of};
 ghost use Rattle.apfloat_base.specs.texts.Readings.{IsMeant, IsRefusal};
 ghost use Rattle.apfloat_unpacked.specs.Shapes.{IsShape, format_at};
 ghost use Rattle.apfloat_unpacked.specs.Stored.{IsStored, datum_at};
-ghost use Rattle.apfloat_texts.specs.Faults.{fault_at};
 ghost use Rattle.apfloat_texts.specs.Payloads.{meaning_of};
 ghost use Rattle.apfloat_texts.specs.TextsRead.{IsTextRead};
 
-use crate::fault::Fault;
 use crate::literal::read_literal;
 use crate::mark::split_mark;
 use crate::special::{Special, special_of};
+use apfloat_base::parse_error::Fault;
 use apfloat_base::{ParseError, Round, Status, StatusAnd};
 use apfloat_unpacked::nans::{quiet_significand, signaling_significand};
 use apfloat_unpacked::shape::Shape;
@@ -54,7 +53,7 @@ fn behind_prefix(body: &[u8]) -> Option<&[u8]>
 fn read_bytes(shape: Shape, text: &[u8], round: Round) -> Result<StatusAnd<Unpacked>, Fault>
     requires { IsShape shape }
     ensures { MatchResult result (λ answer. IsTextRead shape round text.now answer)
-        (λ fault. fault_of text.now ≡ Some (fault_at fault)) }
+        (λ fault. fault_of text.now ≡ Some fault) }
 {
     if text.is_empty() {
         return Err(Fault::EmptyText);

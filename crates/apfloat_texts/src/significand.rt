@@ -6,10 +6,10 @@ ghost use Rattle.apfloat_base.specs.texts.Digits.{is_hexadecimal, digit_value};
 ghost use Rattle.apfloat_base.specs.texts.Texts.{is_dot, is_digit_or_dot, significand_of, behind_significand};
 ghost use Rattle.apfloat_base.specs.texts.Literals.{digits_number, places_behind_dot};
 ghost use Rattle.apfloat_texts.specs.Scans.{IsKept, IsScan, IsScanned};
-ghost use Rattle.apfloat_texts.specs.declared.fault.Fault.TheVariants.{SecondDot};
+ghost use Rattle.apfloat_base.specs.declared.parse_error.Fault.TheVariants.{SecondDot};
 
 use crate::characters::{digit_value, is_digit_or_dot};
-use crate::fault::Fault;
+use apfloat_base::parse_error::Fault;
 use apfloat_base::sig::{Loss, loss_of_rest};
 
 /// The leading bits of a number, and what is lost of it where its `cut` last hexadecimal digits are cut off.
@@ -114,8 +114,8 @@ impl Scan {
     ghost use Rattle.apfloat_base.specs.texts.Digits.{is_hexadecimal};
     ghost use Rattle.apfloat_base.specs.texts.Texts.{is_dot, is_digit_or_dot, significand_of};
     ghost use Rattle.apfloat_texts.specs.Scans.{IsScan};
-    ghost use Rattle.apfloat_texts.specs.declared.fault.Fault.{Fault};
-    ghost use Rattle.apfloat_texts.specs.declared.fault.Fault.TheVariants.{SecondDot};
+    ghost use Rattle.apfloat_base.specs.declared.parse_error.Fault.{Fault};
+    ghost use Rattle.apfloat_base.specs.declared.parse_error.Fault.TheVariants.{SecondDot};
 
     /// Nothing was read.
     fn none() -> Scan

@@ -3,11 +3,10 @@
 ghost use Rattle.std.specs.Prelude.{◌≡◌, Bool, true, false, drop, if◌then◌else◌};
 ghost use Rattle.apfloat_base.specs.texts.Digits.{same, begins};
 ghost use Rattle.apfloat_base.specs.texts.Specials.{is_infinity, is_minus, is_s, named_nan, special_meaning};
-ghost use Rattle.apfloat_texts.specs.Marks.{mark_at};
 ghost use Rattle.apfloat_texts.specs.Payloads.{named_payload, meaning_at};
 
-use crate::mark::Mark;
 use crate::payload::payload;
+use apfloat_base::texts::Mark;
 
 /// An infinity or a NaN with its payload.
 #[derive(Clone, Copy, Debug)]
@@ -29,7 +28,7 @@ fn is_named(body: &[u8], name: &[u8]) -> bool
 
 /// Whether the text names an infinity, by the mark in front of it.
 fn names_infinity(mark: Mark, body: &[u8]) -> bool
-    ensures { result ≡ is_infinity (mark_at mark) body.now }
+    ensures { result ≡ is_infinity mark body.now }
 {
     match mark {
         Mark::Unmarked => is_named(body, b"inf") || is_named(body, b"INFINITY"),
@@ -67,8 +66,8 @@ fn nan(body: &[u8]) -> Option<Special>
 #[cold]
 #[inline(never)]
 pub fn special_of(mark: Mark, body: &[u8]) -> Option<Special>
-    ensures { meaning_at (is_minus (mark_at mark)) result
-        ≡ special_meaning (mark_at mark) body.now }
+    ensures { meaning_at (is_minus mark) result
+        ≡ special_meaning mark body.now }
 {
     if names_infinity(mark, body) {
         return Some(Special::Infinity);

@@ -7,22 +7,23 @@ use Rattle.apfloat_unpacked.specs.Shapes.{IsShape, format_at}
 use Rattle.apfloat_unpacked.specs.Stored.{IsNormal}
 
 -- the quantum is 2 ^ -scale
-pub scale_is : (s : Shape) → IsShape s → pos (format_at s).scale ≡ pos (s.precision - 1) -ℤ s.min_exp
-scale_is s law = omega (arith, ints, law.precision_low, law.min_exp_high)
+pub scale_is : (shape : Shape) → IsShape shape
+    → pos (format_at shape).scale ≡ pos (shape.precision - 1) -ℤ shape.min_exp
+scale_is shape law = omega (arith, ints, law.precision_low, law.min_exp_high)
 
-pub span_is : (s : Shape) → IsShape s → pos (format_at s).span ≡ s.max_exp -ℤ s.min_exp
-span_is s law = omega (arith, ints, law)
+pub span_is : (shape : Shape) → IsShape shape → pos (format_at shape).span ≡ shape.max_exp -ℤ shape.min_exp
+span_is shape law = omega (arith, ints, law)
 
-pub min_exp_word : (s : Shape) → IsShape s → to_z w32 (of_z w32 s.min_exp) ≡ s.min_exp
-min_exp_word s law =
-    to_z-of_z w32 s.min_exp (fits_in w32 s.min_exp (omega (arith, ints, law.min_exp_low, law.min_exp_high)))
+pub min_exp_word : (shape : Shape) → IsShape shape → to_z w32 (of_z w32 shape.min_exp) ≡ shape.min_exp
+min_exp_word shape law =
+    to_z-of_z w32 shape.min_exp (fits_in w32 shape.min_exp (omega (arith, ints, law.min_exp_low, law.min_exp_high)))
 
-pub max_exp_word : (s : Shape) → IsShape s → to_z w32 (of_z w32 s.max_exp) ≡ s.max_exp
-max_exp_word s law =
-    to_z-of_z w32 s.max_exp (fits_in w32 s.max_exp (omega (arith, ints, law.max_exp_low, law.max_exp_high)))
+pub max_exp_word : (shape : Shape) → IsShape shape → to_z w32 (of_z w32 shape.max_exp) ≡ shape.max_exp
+max_exp_word shape law =
+    to_z-of_z w32 shape.max_exp (fits_in w32 shape.max_exp (omega (arith, ints, law.max_exp_low, law.max_exp_high)))
 
 -- the exponent of a number
-pub exponent_word : (s : Shape) (m : ℕ) (e : ℤ) → IsShape s → IsNormal s m e → to_z w32 (of_z w32 e) ≡ e
-exponent_word s m e law n =
+pub exponent_word : (shape : Shape) (m : ℕ) (e : ℤ) → IsShape shape → IsNormal shape m e → to_z w32 (of_z w32 e) ≡ e
+exponent_word shape m e law n =
     let o = n.operand in
     to_z-of_z w32 e (fits_in w32 e (omega (arith, ints, law, o)))

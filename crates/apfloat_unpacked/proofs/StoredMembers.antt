@@ -16,15 +16,16 @@ use Rattle.apfloat_unpacked.specs.Shapes.{format_at}
 use Rattle.apfloat_unpacked.specs.Stored.{IsStored, IsStoredBy, datum_at, datum_by, quanta_at}
 use Rattle.apfloat_unpacked.specs.StoredBack.{quanta_some}
 
-category_by : (k : Category) (s : Shape) (x : Unpacked) → IsStoredBy k s x → category_of (datum_by k s x) ≡ k
-category_by Normal s x h = let p = quanta_some s x.significand x.exponent h in
-    rw (ne_eqb (quanta_at s.min_exp x.significand x.exponent) 0 (λ z. omega (arith, z, p))) refl
-category_by Zero s x h = refl
-category_by Infinity s x h = refl
-category_by NaN s x h = refl
+category_by : (category : Category) (shape : Shape) (x : Unpacked) → IsStoredBy category shape x
+    → category_of (datum_by category shape x) ≡ category
+category_by Normal shape x h = let p = quanta_some shape x.significand x.exponent h in
+    rw (ne_eqb (quanta_at shape.min_exp x.significand x.exponent) 0 (λ z. omega (arith, z, p))) refl
+category_by Zero shape x h = refl
+category_by Infinity shape x h = refl
+category_by NaN shape x h = refl
 
-pub category_is : (s : Shape) (x : Unpacked) → IsStored s x → category_of (datum_at s x) ≡ x.category
-category_is s x h = category_by x.category s x h
+pub category_is : (shape : Shape) (x : Unpacked) → IsStored shape x → category_of (datum_at shape x) ≡ x.category
+category_is shape x h = category_by x.category shape x h
 
 -- a number that is stored is a point of the grid
 on_grid_at : (precision m n u d : ℕ) → m < 2 ^ precision → n * 2 ^ d ≡ m * 2 ^ u → (u ≡ 0) ⊎ (d ≡ 0)
@@ -38,22 +39,23 @@ on_grid_at precision m n u d h e (inr z) =
     let w : n * 1 ≡ m * 2 ^ u = ap (λ (x : ℕ). n * 2 ^ x) (sym z) ∙ e in
     record { significand = m; place = u; fits = h; is = omega arith }
 
-member_by : (k : Category) (s : Shape) (x : Unpacked) → IsStoredBy k s x → IsMember (format_at s) (datum_by k s x)
-member_by Normal s x h =
-    let p = quanta_some s x.significand x.exponent h in
+member_by : (category : Category) (shape : Shape) (x : Unpacked) → IsStoredBy category shape x
+    → IsMember (format_at shape) (datum_by category shape x)
+member_by Normal shape x h =
+    let p = quanta_some shape x.significand x.exponent h in
     record {
-      on_grid = on_grid_at s.precision x.significand _ _ _ h.operand.fits h.whole
-          (one_side (x.exponent -ℤ s.min_exp));
+      on_grid = on_grid_at shape.precision x.significand _ _ _ h.operand.fits h.whole
+          (one_side (x.exponent -ℤ shape.min_exp));
       within = h.within;
       zero_has = λ z. absurd (omega (arith, z, p));
     }
-member_by Zero s x h = record {
-  on_grid = zero_on_grid s.precision;
+member_by Zero shape x h = record {
+  on_grid = zero_on_grid shape.precision;
   within = omega arith;
   zero_has = λ _. h.sign_is;
 }
-member_by Infinity s x h = h.kind
-member_by NaN s x h = h.member
+member_by Infinity shape x h = h.kind
+member_by NaN shape x h = h.member
 
-pub member_is : (s : Shape) (x : Unpacked) → IsStored s x → IsMember (format_at s) (datum_at s x)
-member_is s x h = member_by x.category s x h
+pub member_is : (shape : Shape) (x : Unpacked) → IsStored shape x → IsMember (format_at shape) (datum_at shape x)
+member_is shape x h = member_by x.category shape x h

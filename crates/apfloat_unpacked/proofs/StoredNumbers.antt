@@ -46,17 +46,18 @@ top_place half m place shift top span full low within =
     (cases_lt (span + shift) place)
 
 -- a significand moved up to its integer bit
-pub normal_at : (s : Shape) (m place shift : ℕ) (e : ℤ) → IsShape s → m * 2 ^ shift < 2 ^ s.precision
-    → 2 ^ (s.precision - 1) ≤ m * 2 ^ shift → shift < s.precision
-    → e ≡ (s.min_exp +ℤ pos place) -ℤ pos shift → IsQuantaAt s.min_exp (m * 2 ^ shift) e (m * 2 ^ place)
-    → m * 2 ^ place ≤ greatest_significand s.nonfinite s.precision * 2 ^ (format_at s).span
-    → IsNormal s (m * 2 ^ shift) e
-normal_at s m place shift e law fits full short is quanta within =
-    let t : 2 * 2 ^ (s.precision - 1) ≡ 2 ^ s.precision = twice_half s.precision (omega (arith, law.precision_low)) in
-    let g = greatest_fits s.nonfinite s.precision in
-    let p : place ≤ (format_at s).span + shift =
-    top_place (2 ^ (s.precision - 1)) m place shift (greatest_significand s.nonfinite s.precision)
-    (format_at s).span full (omega (arith, g, t)) within in
+pub normal_at : (shape : Shape) (m place shift : ℕ) (e : ℤ) → IsShape shape → m * 2 ^ shift < 2 ^ shape.precision
+    → 2 ^ (shape.precision - 1) ≤ m * 2 ^ shift → shift < shape.precision
+    → e ≡ (shape.min_exp +ℤ pos place) -ℤ pos shift → IsQuantaAt shape.min_exp (m * 2 ^ shift) e (m * 2 ^ place)
+    → m * 2 ^ place ≤ greatest_significand shape.nonfinite shape.precision * 2 ^ (format_at shape).span
+    → IsNormal shape (m * 2 ^ shift) e
+normal_at shape m place shift e law fits full short is quanta within =
+    let t : 2 * 2 ^ (shape.precision - 1) ≡ 2 ^ shape.precision =
+    twice_half shape.precision (omega (arith, law.precision_low)) in
+    let g = greatest_fits shape.nonfinite shape.precision in
+    let p : place ≤ (format_at shape).span + shift =
+    top_place (2 ^ (shape.precision - 1)) m place shift (greatest_significand shape.nonfinite shape.precision)
+    (format_at shape).span full (omega (arith, g, t)) within in
     record {
       operand = record {
         fits = fits;
@@ -65,43 +66,46 @@ normal_at s m place shift e law fits full short is quanta within =
         greatest =
             omega (arith, ints, law, p);
       };
-      whole = whole_is s.min_exp (m * 2 ^ shift) e (m * 2 ^ place) quanta;
-      within = rw (quanta_is s.min_exp (m * 2 ^ shift) e (m * 2 ^ place) quanta) within;
+      whole = whole_is shape.min_exp (m * 2 ^ shift) e (m * 2 ^ place) quanta;
+      within = rw (quanta_is shape.min_exp (m * 2 ^ shift) e (m * 2 ^ place) quanta) within;
     }
 
 -- a number moved up by as many digits as its precision has more
-pub record IsMovedUp (s : Shape) (m digits place w : ℕ) (e : ℤ) : Type 0 where
-  pub fits : m < 2 ^ s.precision
+pub record IsMovedUp (shape : Shape) (m digits place w : ℕ) (e : ℤ) : Type 0 where
+  pub fits : m < 2 ^ shape.precision
   pub some : m ≡ 0 → ⊥
   pub below : m < 2 ^ digits
   pub full : 0 < digits → 2 ^ (digits - 1) ≤ m
-  pub moved : w ≡ m * 2 ^ (s.precision - digits)
-  pub exponent : e ≡ (s.min_exp +ℤ pos place) -ℤ pos (s.precision - digits)
-  pub same : (s.precision - digits) + up (e -ℤ s.min_exp) ≡ place + down (e -ℤ s.min_exp)
-  pub within : m * 2 ^ place ≤ greatest_significand s.nonfinite s.precision * 2 ^ (format_at s).span
+  pub moved : w ≡ m * 2 ^ (shape.precision - digits)
+  pub exponent : e ≡ (shape.min_exp +ℤ pos place) -ℤ pos (shape.precision - digits)
+  pub same : (shape.precision - digits) + up (e -ℤ shape.min_exp) ≡ place + down (e -ℤ shape.min_exp)
+  pub within : m * 2 ^ place ≤ greatest_significand shape.nonfinite shape.precision * 2 ^ (format_at shape).span
 
-moved_quanta : (s : Shape) (m digits place w : ℕ) (e : ℤ) → IsMovedUp s m digits place w e
-    → IsQuantaAt s.min_exp w e (m * 2 ^ place)
-moved_quanta s m digits place w e h =
-    sym (same_quanta m (s.precision - digits) place (up (e -ℤ s.min_exp)) (down (e -ℤ s.min_exp)) w (sym h.moved)
+moved_quanta : (shape : Shape) (m digits place w : ℕ) (e : ℤ) → IsMovedUp shape m digits place w e
+    → IsQuantaAt shape.min_exp w e (m * 2 ^ place)
+moved_quanta shape m digits place w e h =
+    sym (same_quanta m (shape.precision - digits) place (up (e -ℤ shape.min_exp))
+    (down (e -ℤ shape.min_exp)) w (sym h.moved)
     h.same)
 
-pub moved_up_quanta : (s : Shape) (m digits place w : ℕ) (e : ℤ) → IsMovedUp s m digits place w e
-    → quanta_at s.min_exp w e ≡ m * 2 ^ place
-moved_up_quanta s m digits place w e h = quanta_is s.min_exp w e (m * 2 ^ place) (moved_quanta s m digits place w e h)
+pub moved_up_quanta : (shape : Shape) (m digits place w : ℕ) (e : ℤ) → IsMovedUp shape m digits place w e
+    → quanta_at shape.min_exp w e ≡ m * 2 ^ place
+moved_up_quanta shape m digits place w e h = quanta_is shape.min_exp w e (m * 2 ^ place)
+    (moved_quanta shape m digits place w e h)
 
-pub moved_up_normal : (s : Shape) (m digits place w : ℕ) (e : ℤ) → IsShape s → IsMovedUp s m digits place w e
-    → IsNormal s w e
-moved_up_normal s m digits place w e law h =
-    let l : digits ≤ s.precision = digits_le m digits s.precision h.fits h.full in
+pub moved_up_normal : (shape : Shape) (m digits place w : ℕ) (e : ℤ) → IsShape shape
+    → IsMovedUp shape m digits place w e
+    → IsNormal shape w e
+moved_up_normal shape m digits place w e law h =
+    let l : digits ≤ shape.precision = digits_le m digits shape.precision h.fits h.full in
     let d : 0 < digits = some_digits m digits h.below h.some in
-    let f : m * 2 ^ (s.precision - digits) < 2 ^ s.precision =
-    fits_shifted m digits (s.precision - digits) s.precision h.below (omega arith) in
-    let g : 2 ^ (s.precision - 1) ≤ m * 2 ^ (s.precision - digits) =
-    full_shifted m digits (s.precision - digits) s.precision d h.full (omega arith) in
-    let q : IsQuantaAt s.min_exp (m * 2 ^ (s.precision - digits)) e (m * 2 ^ place) =
-    rw h.moved at (moved_quanta s m digits place w e h) in
-    rw h.moved (normal_at s m place (s.precision - digits) e law f g (omega arith) h.exponent q h.within)
+    let f : m * 2 ^ (shape.precision - digits) < 2 ^ shape.precision =
+    fits_shifted m digits (shape.precision - digits) shape.precision h.below (omega arith) in
+    let g : 2 ^ (shape.precision - 1) ≤ m * 2 ^ (shape.precision - digits) =
+    full_shifted m digits (shape.precision - digits) shape.precision d h.full (omega arith) in
+    let q : IsQuantaAt shape.min_exp (m * 2 ^ (shape.precision - digits)) e (m * 2 ^ place) =
+    rw h.moved at (moved_quanta shape m digits place w e h) in
+    rw h.moved (normal_at shape m place (shape.precision - digits) e law f g (omega arith) h.exponent q h.within)
 
 -- ---- numbers below the least normal exponent, and from it on
 
@@ -112,30 +116,32 @@ below_zero z (suc d) e = rw (← e) (refl, refl)
 pub above_zero : (z : ℤ) (j : ℕ) → pos j ≡ z → (up z ≡ j) × (down z ≡ 0)
 above_zero z j e = rw (← e) (refl, refl)
 
-pub quanta_low : (s : Shape) (m : ℕ) (e : ℤ) (d : ℕ) → pos d ≡ s.min_exp -ℤ e → quanta_at s.min_exp m e ≡ m / 2 ^ d
+pub quanta_low : (shape : Shape) (m : ℕ) (e : ℤ) (d : ℕ) → pos d ≡ shape.min_exp -ℤ e
+    → quanta_at shape.min_exp m e ≡ m / 2 ^ d
 unfolding quanta_at
-quanta_low s m e d p =
-    let a = below_zero (e -ℤ s.min_exp) d (omega (arith, ints)) in
+quanta_low shape m e d p =
+    let a = below_zero (e -ℤ shape.min_exp) d (omega (arith, ints)) in
     let b : m * 1 ≡ m = omega arith in
     rw (a.0, a.1, b) refl
 
-pub quanta_low_below : (s : Shape) (m : ℕ) (e : ℤ) (d : ℕ) → IsNormal s m e → 3 ≤ s.precision
-    → pos d ≡ s.min_exp -ℤ e → 1 ≤ d → quanta_at s.min_exp m e < 2 ^ (s.precision - 1)
-quanta_low_below s m e d n p k h =
-    let q : ℕ = quanta_at s.min_exp m e in
-    let a = below_zero (e -ℤ s.min_exp) d (omega (arith, ints)) in
-    let t : 2 * 2 ^ (s.precision - 1) ≡ 2 ^ s.precision = twice_half s.precision (omega arith) in
-    let w : quanta_at s.min_exp m e * 2 ^ down (e -ℤ s.min_exp) ≡ m * 2 ^ up (e -ℤ s.min_exp) = n.whole in
-    let v : quanta_at s.min_exp m e * 2 ^ d ≡ m * 2 ^ 0 =
-    ap (λ (x : ℕ). quanta_at s.min_exp m e * 2 ^ x) (sym a.0) ∙ w ∙ ap (λ (x : ℕ). m * 2 ^ x) a.1 in
+pub quanta_low_below : (shape : Shape) (m : ℕ) (e : ℤ) (d : ℕ) → IsNormal shape m e → 3 ≤ shape.precision
+    → pos d ≡ shape.min_exp -ℤ e → 1 ≤ d → quanta_at shape.min_exp m e < 2 ^ (shape.precision - 1)
+quanta_low_below shape m e d n p k h =
+    let q : ℕ = quanta_at shape.min_exp m e in
+    let a = below_zero (e -ℤ shape.min_exp) d (omega (arith, ints)) in
+    let t : 2 * 2 ^ (shape.precision - 1) ≡ 2 ^ shape.precision = twice_half shape.precision (omega arith) in
+    let w : quanta_at shape.min_exp m e * 2 ^ down (e -ℤ shape.min_exp) ≡ m * 2 ^ up (e -ℤ shape.min_exp) = n.whole in
+    let v : quanta_at shape.min_exp m e * 2 ^ d ≡ m * 2 ^ 0 =
+    ap (λ (x : ℕ). quanta_at shape.min_exp m e * 2 ^ x) (sym a.0) ∙ w ∙ ap (λ (x : ℕ). m * 2 ^ x) a.1 in
     let b : 2 ^ 1 ≤ 2 ^ d = pow-le-pow_right two_pos h in
-    let c : quanta_at s.min_exp m e * 2 ≤ quanta_at s.min_exp m e * 2 ^ d = mul-le-mul_left q b in
+    let c : quanta_at shape.min_exp m e * 2 ≤ quanta_at shape.min_exp m e * 2 ^ d = mul-le-mul_left q b in
     let f = n.operand.fits in
     omega arith
 
-pub quanta_high : (s : Shape) (m : ℕ) (e : ℤ) (j : ℕ) → pos j ≡ e -ℤ s.min_exp → quanta_at s.min_exp m e ≡ m * 2 ^ j
+pub quanta_high : (shape : Shape) (m : ℕ) (e : ℤ) (j : ℕ) → pos j ≡ e -ℤ shape.min_exp
+    → quanta_at shape.min_exp m e ≡ m * 2 ^ j
 unfolding quanta_at
-quanta_high s m e j p =
-    let a = above_zero (e -ℤ s.min_exp) j p in
+quanta_high shape m e j p =
+    let a = above_zero (e -ℤ shape.min_exp) j p in
     let b : m * 2 ^ j * 2 ^ 0 ≡ m * 2 ^ j = omega arith in
     rw (a.0, a.1) (rw b at (shl-shr (m * 2 ^ j) 0))

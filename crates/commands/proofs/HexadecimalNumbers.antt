@@ -1,8 +1,9 @@
 -- Hexadecimal digits read one by one.
-use Rattle.std.proofs.Common.{◌≡◌, ℕ, ◌+◌, ◌*◌, ◌^◌, ◌<◌, ◌≤◌, Bool, true, false, ◌&&◌, if◌then◌else◌, List, ◌∷◌, drop, length, get_or, fold, Option, Some, None, refl, ap, ◌∙◌, arith, lit<, pow-add}
+use Rattle.std.proofs.Common.{◌≡◌, ℕ, ◌+◌, ◌*◌, ◌^◌, ◌<◌, ◌≤◌, Bool, true, false, if◌then◌else◌, List, ◌∷◌, drop, length, get_or, fold, Option, Some, None, refl, ap, ◌∙◌, arith, lit<, pow-add}
 use Rattle.std.proofs.Math.Nat.{pow-le-pow_right}
 use Rattle.std.proofs.lemmas.List.{at_drop_more, at_drop_all}
 use Rattle.rustc_apfloat.specs.Digits.{every, is_hexadecimal, digit_value, number}
+use Rattle.apfloat_base.proofs.Choices.{passed, refused}
 
 -- a number with one more digit behind it
 abbrev pub longer : ℕ → ℕ → ℕ
@@ -20,18 +21,10 @@ value_of c = if is_hexadecimal c then Some (digit_value c) else None
 
 -- ---- one digit
 
-accepted : (b e : Bool) (x : Option ℕ) → b ≡ true → (if b && e then x else None) ≡ (if e then x else None)
-accepted true e x h = refl
-accepted false e x h = cc
-
-refused : (b e : Bool) (x : Option ℕ) → b ≡ false → (if b && e then x else None) ≡ None
-refused true e x h = cc
-refused false e x h = refl
-
 read_on-cons : (n c : ℕ) (digits : List ℕ) → is_hexadecimal c ≡ true
     → read_on n (c ∷ digits) ≡ read_on (longer n c) digits
 unfolding read_on
-read_on-cons n c digits e = accepted (is_hexadecimal c) (every is_hexadecimal digits) _ e
+read_on-cons n c digits e = passed (is_hexadecimal c) (every is_hexadecimal digits) _ e
 
 stops : (n c : ℕ) (digits : List ℕ) (b : Bool) → is_hexadecimal c ≡ b
     → (if b then Some (digit_value c) else None) ≡ None → read_on n (c ∷ digits) ≡ None

@@ -6,11 +6,12 @@ use Rattle.rustc_apfloat.specs.Datum.{Datum}
 use Rattle.rustc_apfloat.specs.WholeNumbers.{IsFromUnsigned}
 use Rattle.rustc_apfloat.specs.FusedSums.{IsFusedSum}
 use Rattle.rustc_apfloat.specs.Lawful.{Constants, format_with}
-use Rattle.rustc_apfloat.specs.Specials.{Meaning, infinity, not_a_number, hexadecimal}
+use Rattle.rustc_apfloat.specs.Specials.{Meaning}
 use Rattle.rustc_apfloat.specs.Texts.{Means}
-use Rattle.rustc_apfloat.specs.Readings.{IsMeant, IsReading, IsRefusal}
-use Rattle.apfloat_base.proofs.Once.{Once, answer_once, rounded_once, sum_once, difference_once, product_once, quotient_once, fused_sum_once, remainder_once, from_unsigned_once}
-use Rattle.apfloat_base.proofs.OneMeaning.{meaning_no_fault, one_meaning}
+use Rattle.rustc_apfloat.specs.Readings.{IsReading, IsRefusal}
+use Rattle.apfloat_base.proofs.Once.{Once, sum_once, difference_once, product_once, quotient_once, fused_sum_once, remainder_once, from_unsigned_once}
+use Rattle.apfloat_base.proofs.OneMeaning.{meaning_no_fault}
+use Rattle.apfloat_base.proofs.Determined.{reading_once}
 use Rattle.commands.specs.declared.operation.Arithmetic.{Arithmetic}
 use Rattle.commands.specs.declared.operation.Arithmetic.TheVariants.{Sum, Difference, Product, Quotient, NearestRemainder, TruncatedRemainder}
 use Rattle.commands.specs.Commands.{Kind, of_format, bits_in, Call, of_two, fused_sum, from_whole_number, from_text, bits_of_word, requested, whole_number_of, with_text, with_three, with_two, with_whole_number}
@@ -18,47 +19,39 @@ use Rattle.commands.specs.Replies.{Reply, refused, IsAnswered, IsAnsweredIn, IsA
 
 -- ---- one answer
 
-of_two_once : (arithmetic : Arithmetic) (f : Format) (mode : Round) (x y : Datum)
-    → Once (IsOfTwo arithmetic f mode x y)
-of_two_once Sum f mode x y = sum_once f mode x y
-of_two_once Difference f mode x y = difference_once f mode x y
-of_two_once Product f mode x y = product_once f mode x y
-of_two_once Quotient f mode x y = quotient_once f mode x y
-of_two_once NearestRemainder f mode x y = remainder_once f _ x y
-of_two_once TruncatedRemainder f mode x y = remainder_once f _ x y
+of_two_once : (arithmetic : Arithmetic) (format : Format) (mode : Round) (x y : Datum)
+    → Once (IsOfTwo arithmetic format mode x y)
+of_two_once Sum format mode x y = sum_once format mode x y
+of_two_once Difference format mode x y = difference_once format mode x y
+of_two_once Product format mode x y = product_once format mode x y
+of_two_once Quotient format mode x y = quotient_once format mode x y
+of_two_once NearestRemainder format mode x y = remainder_once format _ x y
+of_two_once TruncatedRemainder format mode x y = remainder_once format _ x y
 
-meant_once : (f : Format) (mode : Round) (meaning : Meaning) → Once (IsMeant f mode meaning)
-meant_once f mode (infinity negative) = answer_once _ _
-meant_once f mode (not_a_number negative signaling payload) = answer_once _ _
-meant_once f mode (hexadecimal negative h places e) = rounded_once f mode _ _ _
-
-reading_once : (f : Format) (mode : Round) (text : List ℕ) → Once (IsReading f mode text)
-reading_once f mode text v w r s x y =
-    let same = one_meaning text x.meaning y.meaning x.means y.means in
-    meant_once f mode y.meaning v w r s (subst (λ m. IsMeant f mode m v r) same x.is_meant) y.is_meant
-
-call_once : (call : Call) (c : Constants) (mode : Round) → Once (IsAnswerOf call c mode)
-call_once (of_two arithmetic x y) c mode = of_two_once arithmetic (format_with c) mode (value_of c x) (value_of c y)
-call_once (fused_sum x y z) c mode = fused_sum_once (format_with c) mode (value_of c x) (value_of c y) (value_of c z)
-call_once (from_whole_number n) c mode = from_unsigned_once (format_with c) mode n
-call_once (from_text text) c mode = reading_once (format_with c) mode text
+call_once : (call : Call) (constants : Constants) (mode : Round) → Once (IsAnswerOf call constants mode)
+call_once (of_two arithmetic x y) constants mode =
+    of_two_once arithmetic (format_with constants) mode (value_of constants x) (value_of constants y)
+call_once (fused_sum x y z) constants mode = fused_sum_once (format_with constants) mode (value_of constants x)
+    (value_of constants y) (value_of constants z)
+call_once (from_whole_number n) constants mode = from_unsigned_once (format_with constants) mode n
+call_once (from_text text) constants mode = reading_once (format_with constants) mode text
 
 -- ---- one reply
 
-line_of : (c : Constants) (v w : Datum) (s t : ℕ) (reply : Reply) → v ≡ w → s ≡ t → IsLineOf c v s reply
-    → IsLineOf c w t reply
-line_of c v w s t reply value_is status_is line =
-    subst (λ x. IsLineOf c w x reply) status_is (subst (λ x. IsLineOf c x s reply) value_is line)
+line_of : (constants : Constants) (v w : Datum) (s t : ℕ) (reply : Reply) → v ≡ w → s ≡ t → IsLineOf constants v s reply
+    → IsLineOf constants w t reply
+line_of constants v w s t reply value_is status_is line =
+    subst (λ x. IsLineOf constants w x reply) status_is (subst (λ x. IsLineOf constants x s reply) value_is line)
 
 -- the only line of an answer is the only reply
-only_answer : (c : Constants) (mode : Round) (call : Call) (value : Datum) (status : ℕ) (reply : Reply)
-    → IsAnswerOf call c mode value status → IsOnly (IsLineOf c value status) reply
-    → IsOnly (IsAnswered c mode call) reply
-only_answer c mode call value status reply answers line = record {
+only_answer : (constants : Constants) (mode : Round) (call : Call) (value : Datum) (status : ℕ) (reply : Reply)
+    → IsAnswerOf call constants mode value status → IsOnly (IsLineOf constants value status) reply
+    → IsOnly (IsAnswered constants mode call) reply
+only_answer constants mode call value status reply answers line = record {
   holds = record { value = value; status = status; answers = answers; is_line = line.holds };
   only = λ other h.
-      let same = call_once call c mode h.value value h.status status h.answers answers in
-      line.only other (line_of c h.value value h.status status other same.0 same.1 h.is_line);
+      let same = call_once call constants mode h.value value h.status status h.answers answers in
+      line.only other (line_of constants h.value value h.status status other same.0 same.1 h.is_line);
 }
 
 -- ---- the reply to operands, of any kind of values
@@ -86,42 +79,49 @@ only_refusal kind mode text word refusal =
 
 -- ---- the reply to operands, of a format
 
-pub only_of_two : (c : Constants) (arithmetic : Arithmetic) (mode : Round) (left right : List ℕ) (x y : ℕ)
+pub only_of_two : (constants : Constants) (arithmetic : Arithmetic) (mode : Round) (left right : List ℕ) (x y : ℕ)
     (a b value : Datum) (status : ℕ) (reply : Reply)
-    → bits_of_word c.bits left ≡ Some x → bits_of_word c.bits right ≡ Some y → a ≡ value_of c x → b ≡ value_of c y
-    → IsOfTwo arithmetic (format_with c) mode a b value status → IsOnly (IsLineOf c value status) reply
-    → IsOnly (IsReplyTo (requested (of_format c) mode (with_two c.bits arithmetic left right))) reply
-only_of_two c arithmetic mode left right x y a b value status reply first second a_is b_is answers line =
-    let of_first = subst (λ d. IsOfTwo arithmetic (format_with c) mode d b value status) a_is answers in
-    let of_both = subst (λ d. IsOfTwo arithmetic (format_with c) mode (value_of c x) d value status) b_is of_first in
-    only_with_two (of_format c) arithmetic mode left right x y reply first second
-    (only_answer c mode (of_two arithmetic x y) value status reply of_both line)
+    → bits_of_word constants.bits left ≡ Some x → bits_of_word constants.bits right ≡ Some y → a ≡ value_of constants x
+    → b ≡ value_of constants y
+    → IsOfTwo arithmetic (format_with constants) mode a b value status → IsOnly (IsLineOf constants value status) reply
+    → IsOnly (IsReplyTo (requested (of_format constants) mode (with_two constants.bits arithmetic left right))) reply
+only_of_two constants arithmetic mode left right x y a b value status reply first second a_is b_is answers line =
+    let of_first = subst (λ d. IsOfTwo arithmetic (format_with constants) mode d b value status) a_is answers in
+    let of_both = subst (λ d. IsOfTwo arithmetic (format_with constants) mode (value_of constants x) d value status)
+    b_is of_first in
+    only_with_two (of_format constants) arithmetic mode left right x y reply first second
+    (only_answer constants mode (of_two arithmetic x y) value status reply of_both line)
 
-pub only_fused_sum : (c : Constants) (mode : Round) (left right addend : List ℕ) (x y z : ℕ) (a b d value : Datum)
+pub only_fused_sum : (constants : Constants) (mode : Round) (left right addend : List ℕ) (x y z : ℕ)
+    (a b d value : Datum)
     (status : ℕ) (reply : Reply)
-    → bits_of_word c.bits left ≡ Some x → bits_of_word c.bits right ≡ Some y → bits_of_word c.bits addend ≡ Some z
-    → a ≡ value_of c x → b ≡ value_of c y → d ≡ value_of c z
-    → IsFusedSum (format_with c) mode a b d value status → IsOnly (IsLineOf c value status) reply
-    → IsOnly (IsReplyTo (requested (of_format c) mode (with_three c.bits left right addend))) reply
-only_fused_sum c mode left right addend x y z a b d value status reply first second third a_is b_is d_is answers
+    → bits_of_word constants.bits left ≡ Some x → bits_of_word constants.bits right ≡ Some y
+    → bits_of_word constants.bits addend ≡ Some z
+    → a ≡ value_of constants x → b ≡ value_of constants y → d ≡ value_of constants z
+    → IsFusedSum (format_with constants) mode a b d value status → IsOnly (IsLineOf constants value status) reply
+    → IsOnly (IsReplyTo (requested (of_format constants) mode (with_three constants.bits left right addend))) reply
+only_fused_sum constants mode left right addend x y z a b d value status reply first second third a_is b_is d_is answers
     line =
-    let of_first = subst (λ e. IsFusedSum (format_with c) mode e b d value status) a_is answers in
-    let of_second = subst (λ e. IsFusedSum (format_with c) mode (value_of c x) e d value status) b_is of_first in
-    let of_all = subst (λ e. IsFusedSum (format_with c) mode (value_of c x) (value_of c y) e value status) d_is
+    let of_first = subst (λ e. IsFusedSum (format_with constants) mode e b d value status) a_is answers in
+    let of_second = subst (λ e. IsFusedSum (format_with constants) mode (value_of constants x) e d value status) b_is
+    of_first in
+    let of_all = subst (λ e. IsFusedSum (format_with constants) mode (value_of constants x)
+    (value_of constants y) e value status) d_is
     of_second in
-    rw (first, second, third) (only_answer c mode (fused_sum x y z) value status reply of_all line)
+    rw (first, second, third) (only_answer constants mode (fused_sum x y z) value status reply of_all line)
 
-pub only_whole_number : (c : Constants) (mode : Round) (word : List ℕ) (number : ℕ) (value : Datum) (status : ℕ)
-    (reply : Reply) → whole_number_of word ≡ Some number → IsFromUnsigned (format_with c) mode number value status
-    → IsOnly (IsLineOf c value status) reply
-    → IsOnly (IsReplyTo (requested (of_format c) mode (with_whole_number word))) reply
-only_whole_number c mode word number value status reply read answers line =
-    only_with_whole_number (of_format c) mode word number reply read
-    (only_answer c mode (from_whole_number number) value status reply answers line)
+pub only_whole_number : (constants : Constants) (mode : Round) (word : List ℕ) (number : ℕ) (value : Datum) (status : ℕ)
+    (reply : Reply) → whole_number_of word ≡ Some number
+    → IsFromUnsigned (format_with constants) mode number value status
+    → IsOnly (IsLineOf constants value status) reply
+    → IsOnly (IsReplyTo (requested (of_format constants) mode (with_whole_number word))) reply
+only_whole_number constants mode word number value status reply read answers line =
+    only_with_whole_number (of_format constants) mode word number reply read
+    (only_answer constants mode (from_whole_number number) value status reply answers line)
 
-pub only_text : (c : Constants) (mode : Round) (text : List ℕ) (value : Datum) (status : ℕ) (reply : Reply)
-    → IsReading (format_with c) mode text value status → IsOnly (IsLineOf c value status) reply
-    → IsOnly (IsReplyTo (requested (of_format c) mode (with_text text))) reply
-only_text c mode text value status reply answers line =
-    only_with_text (of_format c) mode text answers.meaning reply answers.means
-    (only_answer c mode (from_text text) value status reply answers line)
+pub only_text : (constants : Constants) (mode : Round) (text : List ℕ) (value : Datum) (status : ℕ) (reply : Reply)
+    → IsReading (format_with constants) mode text value status → IsOnly (IsLineOf constants value status) reply
+    → IsOnly (IsReplyTo (requested (of_format constants) mode (with_text text))) reply
+only_text constants mode text value status reply answers line =
+    only_with_text (of_format constants) mode text answers.meaning reply answers.means
+    (only_answer constants mode (from_text text) value status reply answers line)

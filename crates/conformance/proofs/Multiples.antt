@@ -12,12 +12,12 @@ use Rattle.apfloat_base.proofs.Existence.{enclosed_by_quotient}
 use Rattle.conformance.specs.Plain.{IsSpacing}
 
 enclosed : (precision amount parts spacing : ℕ) → 0 < precision → 0 < parts
-    → (s : IsSpacing precision amount parts spacing)
-    → IsEnclosed precision (2 ^ (precision - 1)) (amount / (parts * 2 ^ s.place)) s.place amount parts
-enclosed precision amount parts spacing h p s =
-    enclosed_by_quotient precision (2 ^ (precision - 1)) s.place amount parts p (sym (twice_half precision h))
-    (subst (λ (x : ℕ). amount < 2 ^ precision * (parts * x)) s.is s.few)
-    (subst (λ (x : ℕ). (s.place ≡ 0) ⊎ (2 ^ (precision - 1) * (parts * x) ≤ amount)) s.is s.many)
+    → (spaced : IsSpacing precision amount parts spacing)
+    → IsEnclosed precision (2 ^ (precision - 1)) (amount / (parts * 2 ^ spaced.place)) spaced.place amount parts
+enclosed precision amount parts spacing h p spaced =
+    enclosed_by_quotient precision (2 ^ (precision - 1)) spaced.place amount parts p (sym (twice_half precision h))
+    (subst (λ (x : ℕ). amount < 2 ^ precision * (parts * x)) spaced.is spaced.few)
+    (subst (λ (x : ℕ). (spaced.place ≡ 0) ⊎ (2 ^ (precision - 1) * (parts * x) ≤ amount)) spaced.is spaced.many)
 
 pub floor_is : (precision amount parts spacing : ℕ) → 0 < precision → 0 < parts
     → IsSpacing precision amount parts spacing

@@ -23,30 +23,31 @@ pick_fits precision mode negative amount parts pick h p i a b =
     let k : pick * parts ≤ i.above * parts = mul-le-mul_right parts w in
     omega arith
 
-tiny_is : (f : Format) (c : Bounds) (amount parts pick : ℕ) → HasBounds f c
-    → tiny_of c amount parts pick ≡ is_tiny f amount parts pick
-tiny_is f c amount parts pick h =
-    ap (λ (b : Bool). cond b (ltb amount (c.smallest_normalized * parts)) (ltb pick c.smallest_normalized))
+tiny_is : (format : Format) (bounds : Bounds) (amount parts pick : ℕ) → HasBounds format bounds
+    → tiny_of bounds amount parts pick ≡ is_tiny format amount parts pick
+tiny_is format bounds amount parts pick h =
+    ap (λ (b : Bool). cond b (ltb amount (bounds.smallest_normalized * parts)) (ltb pick bounds.smallest_normalized))
     (sym h.tiny_before_rounding)
-    ∙ ap (λ (x : ℕ). cond f.tiny_before_rounding (ltb amount (x * parts)) (ltb pick x))
+    ∙ ap (λ (x : ℕ). cond format.tiny_before_rounding (ltb amount (x * parts)) (ltb pick x))
     (sym h.smallest_normalized)
 
 -- a pick within the format
-pub within_is : (f : Format) (c : Bounds) (mode : Round) (negative : Bool) (amount parts pick status : ℕ)
-    (value : Datum) → HasBounds f c → IsPick c.precision mode negative amount parts pick → pick ≤ c.largest
-    → value ≡ signed_quanta c.nonfinite negative pick → (pick * parts ≡ amount → status ≡ 0)
-    → ((pick * parts ≡ amount → ⊥) → status ≡ cond (tiny_of c amount parts pick) 24 16)
-    → IsDelivered f mode negative amount parts value status
-within_is f c mode negative amount parts pick status value h i l v exact inexact =
-    let p : IsPick f.precision mode negative amount parts pick =
+pub within_is : (format : Format) (bounds : Bounds) (mode : Round) (negative : Bool) (amount parts pick status : ℕ)
+    (value : Datum) → HasBounds format bounds → IsPick bounds.precision mode negative amount parts pick
+    → pick ≤ bounds.largest
+    → value ≡ signed_quanta bounds.nonfinite negative pick → (pick * parts ≡ amount → status ≡ 0)
+    → ((pick * parts ≡ amount → ⊥) → status ≡ cond (tiny_of bounds amount parts pick) 24 16)
+    → IsDelivered format mode negative amount parts value status
+within_is format bounds mode negative amount parts pick status value h i l v exact inexact =
+    let p : IsPick format.precision mode negative amount parts pick =
     subst (λ (x : ℕ). IsPick x mode negative amount parts pick) (sym h.precision) i in
-    let a : ltb (largest f) pick ≡ false = ap (λ (x : ℕ). ltb x pick) h.largest ∙ le-ltb c.largest pick l in
-    let q : value ≡ signed_quanta f.nonfinite negative pick =
+    let a : ltb (largest format) pick ≡ false = ap (λ (x : ℕ). ltb x pick) h.largest ∙ le-ltb bounds.largest pick l in
+    let q : value ≡ signed_quanta format.nonfinite negative pick =
     v ∙ ap (λ (k : NonfiniteBehavior). signed_quanta k negative pick) (sym h.nonfinite) in
     ⊎_elim
-    (λ (e : pick * parts ≡ amount). delivered_exactly f mode negative amount parts pick value status p a e q
+    (λ (e : pick * parts ≡ amount). delivered_exactly format mode negative amount parts pick value status p a e q
     (exact e))
     (λ (n : pick * parts ≡ amount → ⊥).
-    delivered_inexactly f mode negative amount parts pick value status p a n q (inexact n ∙
-    ap (λ (b : Bool). cond b 24 16) (tiny_is f c amount parts pick h)))
+    delivered_inexactly format mode negative amount parts pick value status p a n q (inexact n ∙
+    ap (λ (b : Bool). cond b 24 16) (tiny_is format bounds amount parts pick h)))
     (cases_eq (pick * parts) amount)

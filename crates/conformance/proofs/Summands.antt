@@ -1,7 +1,7 @@
 -- Sums of doubles as pairs, by the laws of sums of pairs.
 use Rattle.std.proofs.Common.{◌≡◌, ℕ, ◌+◌, ◌*◌, ◌≤◌, refl, sym, ◌∙◌, subst, arith}
-use Rattle.std.specs.Prelude.{ℤ, pos, ◌+ℤ◌}
-use Rattle.std.proofs.lemmas.Int.{ints}
+use Rattle.std.specs.Prelude.{ℤ, ◌+ℤ◌}
+use Rattle.std.proofs.Math.IntN.{+ℤ_idr}
 use Rattle.rustc_apfloat.specs.Datum.{Datum}
 use Rattle.rustc_apfloat.specs.Classes.{quanta_of}
 use Rattle.rustc_apfloat.specs.Exact.{magnitude}
@@ -16,12 +16,9 @@ use Rattle.apfloat_pairs.proofs.LawOperands.{magnitude_quanta, normalised_low, d
 use Rattle.apfloat_pairs.proofs.PairSumLaws.{single_normalised}
 use Rattle.conformance.specs.Summands.{reach_of_three, IsSummand}
 
-beside_zero : (z : ℤ) → (z +ℤ pos 0) ≡ z
-beside_zero z = omega (arith, ints)
-
 -- the number of a double alone
 alone_number : (x : Datum) → pair_number (alone x) ≡ number x
-alone_number x = beside_zero (number x)
+alone_number x = +ℤ_idr (number x)
 
 single : (reach : ℕ) (x : Datum) → IsSummand reach x → IsSingle (alone x)
 single reach x s = record { is_finite = s.is_finite; low_is = refl }

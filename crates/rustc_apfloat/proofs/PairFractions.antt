@@ -17,10 +17,10 @@ use Rattle.apfloat_base.specs.formats.Members.{IsMember}
 use Rattle.apfloat_base.specs.arithmetic.Scaling.{IsScaling}
 use Rattle.apfloat_base.proofs.Existence.{two_pos}
 use Rattle.apfloat_base.proofs.Signs.{one_side}
+use Rattle.apfloat_base.proofs.Choices.{match_true}
 use Rattle.apfloat_pairs.specs.PairFormats.{double}
 use Rattle.apfloat_pairs.specs.Pairs.{Pair}
 use Rattle.apfloat_pairs.specs.PairParts.{IsPairFraction}
-use Rattle.rustc_apfloat.proofs.PairSteps.{match_true}
 
 -- ---- the exponent of a fraction
 
@@ -53,16 +53,17 @@ record IsNear (scale top : ℕ) (exponent : ℤ) : Type 0 where
   low : neg_ℤ (pos scale) ≤ℤ exponent
   high : exponent ≤ℤ pos top
 
-near : (f : Format) (negative : Bool) (n top : ℕ) (value : Datum) (exponent : ℤ) → 0 < n → n < 2 ^ top
-    → IsFraction f negative n value exponent → IsNear f.scale top exponent
-near f negative n top value exponent p h x =
+near : (format : Format) (negative : Bool) (n top : ℕ) (value : Datum) (exponent : ℤ) → 0 < n → n < 2 ^ top
+    → IsFraction format negative n value exponent → IsNear format.scale top exponent
+near format negative n top value exponent p h x =
     ⊎_elim
     (λ (z : up exponent ≡ 0).
-    let l : down exponent ≤ f.scale =
-    few_places n x.fraction f.scale (down exponent) (up exponent) p x.high z x.same in
+    let l : down exponent ≤ format.scale =
+    few_places n x.fraction format.scale (down exponent) (up exponent) p x.high z x.same in
     record { low = omega (arith, ints, l, z); high = omega (arith, ints, l, z) })
     (λ (z : down exponent ≡ 0).
-    let l : up exponent ≤ top = few_steps n x.fraction f.scale top (down exponent) (up exponent) h x.low z x.same in
+    let l : up exponent ≤ top = few_steps n x.fraction format.scale top (down exponent)
+    (up exponent) h x.low z x.same in
     record { low = omega (arith, ints, l, z); high = omega (arith, ints, l, z) })
     (one_side exponent)
 

@@ -1,7 +1,6 @@
 -- Answers of calls on pairs, from the answers of their steps.
-use Rattle.std.proofs.Common.{◌≡◌, ℕ, Bool, true, false, not, ◌&&◌, ◌||◌, refl, sym, ap, ◌∙◌, subst}
+use Rattle.std.proofs.Common.{◌≡◌, ℕ, Bool, true, false, not, ◌&&◌, ◌||◌, sym, ap, ◌∙◌, subst}
 use mathlib.Core.Bool.{beq}
-use Rattle.std.specs.Bool.{MatchBool}
 use Rattle.apfloat_base.specs.declared.kinds.Category.{Category}
 use Rattle.apfloat_base.specs.declared.kinds.Round.{Round}
 use Rattle.apfloat_base.specs.formats.Datum.{Datum}
@@ -11,6 +10,7 @@ use Rattle.apfloat_base.specs.formats.Nan.{invalid_bit}
 use Rattle.apfloat_base.specs.rounding.Rounding.{ok_bits}
 use Rattle.apfloat_base.specs.order.Predicates.{is_finite_category}
 use Rattle.apfloat_base.proofs.PredicatesAgree.{finite_agrees, number_agrees}
+use Rattle.apfloat_base.proofs.Choices.{same_beq, match_true, match_false}
 use Rattle.apfloat_base.specs.declared.kinds.Round.TheVariants.{NearestTiesToEven}
 use Rattle.apfloat_base.specs.order.Order.{is_equal}
 use Rattle.apfloat_base.specs.formats.Members.{IsMember}
@@ -26,10 +26,6 @@ use Rattle.apfloat_pairs.specs.PairAccuracy.{IsErrorFreeSum, IsAccurateSum, IsEr
 use Rattle.apfloat_pairs.proofs.PairSumLaws.{error_free_sum, accurate_sum, plain_sum}
 use Rattle.apfloat_pairs.proofs.DifferenceLaws.{error_free_difference, accurate_difference, plain_difference}
 use Rattle.apfloat_pairs.proofs.PairProductLaws.{error_free_product, accurate_product}
-
-pub match_true : (b : Bool) (P Q : Type 0) → b ≡ true → P → MatchBool b P Q
-match_true true P Q e p = p
-match_true false P Q e p = cc
 
 pub product_by_steps : (mode : Round) (x y : Pair) (a c t tau : Datum) (t_flags tau_flags flags : ℕ)
     (is_number : Bool)
@@ -69,12 +65,6 @@ denormal_at_sum x sum status is_number is_denormal_high answer n t d f s a =
     ap (λ (b : Bool). b && (is_denormal double x.high || not (is_equal x.high sum))) e ∙
     ap (λ (b : Bool). true && (b || not (is_equal x.high sum))) g)
 
-same_beq : (a b : Bool) → beq a b ≡ same_sign a b
-same_beq true true = refl
-same_beq true false = refl
-same_beq false true = refl
-same_beq false false = refl
-
 pub infinities_of_one_sign : (x y answer : Pair) (status : ℕ) (first second : Bool) → first ≡ is_negative x.high
     → second ≡ is_negative y.high → beq first second ≡ true → answer ≡ x → status ≡ ok_bits
     → IsSumOfInfinities x y answer status
@@ -85,12 +75,9 @@ infinities_of_one_sign x y answer status first second a b e v s =
     sym (same_beq first second) ∙ e)
     (record { answer_is = v; status_is = s })
 
-match_false : (b : Bool) (P Q : Type 0) → b ≡ false → Q → MatchBool b P Q
-match_false true P Q e q = cc
-match_false false P Q e q = q
+-- ---- the sum taken anew
 
--- ---- the sum taken anew: the greater high part and the lesser, and the sum from the low parts on, with the flags so far
-
+-- the greater high part and the lesser, and the sum from the low parts on, with the flags so far
 pub record IsOpenedAnew (mode : Round) (x y : Pair) (big small z : Datum) (flags : ℕ) : Type 0 where
   pub lows : Datum
   pub with_lesser : Datum

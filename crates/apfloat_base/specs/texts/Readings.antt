@@ -1,5 +1,6 @@
 -- What reading a text answers (IEEE 754-2008 5.12).
 use Rattle.std.specs.Prelude.{◌≡◌, ℕ, ◌*◌, ◌^◌, ℤ, pos, ◌+ℤ◌, ◌-ℤ◌, Bool, if◌then◌else◌, List, Some}
+use Rattle.apfloat_base.specs.declared.parse_error.Fault.{Fault}
 use Rattle.apfloat_base.specs.declared.kinds.Round.{Round}
 use Rattle.apfloat_base.specs.formats.Format.{Format}
 use Rattle.apfloat_base.specs.formats.Datum.{Datum, nan}
@@ -9,7 +10,7 @@ use Rattle.apfloat_base.specs.rounding.Answer.{IsAnswer}
 use Rattle.apfloat_base.specs.formats.Nan.{quiet_significand, signaling_significand, nan_sign}
 use Rattle.apfloat_base.specs.arithmetic.Exact.{up, down}
 use Rattle.apfloat_base.specs.texts.Specials.{Meaning, infinity, not_a_number, hexadecimal}
-use Rattle.apfloat_base.specs.texts.Texts.{Means, Fault, words, fault_of}
+use Rattle.apfloat_base.specs.texts.Texts.{Means, words, fault_of}
 
 abbrev pub read_nan : Format → Bool → Bool → ℕ → Datum
 read_nan f negative signaling payload =

@@ -1,5 +1,9 @@
 -- The texts of infinities and NaNs (IEEE 754-2008 5.12.1), and what any text can stand for.
 use Rattle.std.specs.Prelude.{ℕ, ◌-◌, ◌^◌, ℤ, Bool, true, false, ◌&&◌, ◌||◌, not, ltb, eqb, if◌then◌else◌, List, [], ◌∷◌, ◌++◌, length, take, drop, codes, Option, Some, None}
+use Rattle.apfloat_base.specs.declared.texts.Mark.{Mark}
+use Rattle.apfloat_base.specs.declared.texts.Mark.TheVariants.{Unmarked, Plus, Minus}
+use Rattle.apfloat_base.specs.declared.texts.Radix.{Radix}
+use Rattle.apfloat_base.specs.declared.texts.Radix.TheVariants.{Sixteen, Eight, Ten}
 use Rattle.apfloat_base.specs.texts.Digits.{same, every, begins, is_empty, is_decimal, is_octal, is_hexadecimal, number}
 
 -- negative; negative, signaling and payload; negative and h, f, e of h * 2 ^ (e - 4 * f)
@@ -9,43 +13,37 @@ pub data Meaning : Type 0 where
   hexadecimal : Bool → ℕ → ℕ → ℤ → Meaning
 
 -- the mark in front of a text or of an exponent
-pub data Mark : Type 0 where
-  unmarked plus minus : Mark
-
 abbrev pub mark_of : List ℕ → Mark
-mark_of [] = unmarked
-mark_of (c ∷ text) = if eqb c 45 then minus else (if eqb c 43 then plus else unmarked)
+mark_of [] = Unmarked
+mark_of (c ∷ text) = if eqb c 45 then Minus else (if eqb c 43 then Plus else Unmarked)
 
 abbrev pub behind_mark : List ℕ → List ℕ
 behind_mark [] = []
 behind_mark (c ∷ text) = if eqb c 45 || eqb c 43 then text else c ∷ text
 
 abbrev pub is_minus : Mark → Bool
-is_minus unmarked = false
-is_minus plus = false
-is_minus minus = true
+is_minus Unmarked = false
+is_minus Plus = false
+is_minus Minus = true
 
 abbrev pub is_infinity : Mark → List ℕ → Bool
-is_infinity unmarked body = same body (codes "inf") || same body (codes "INFINITY")
-is_infinity plus body = same body (codes "Inf")
-is_infinity minus body = same body (codes "Inf") || same body (codes "inf") || same body (codes "INFINITY")
-
--- The base of a payload shows in its prefix: 0x, or else a 0 with something behind it, or else none.
-pub data Radix : Type 0 where
-  sixteen eight ten : Radix
+is_infinity Unmarked body = same body (codes "inf") || same body (codes "INFINITY")
+is_infinity Plus body = same body (codes "Inf")
+is_infinity Minus body = same body (codes "Inf") || same body (codes "inf") || same body (codes "INFINITY")
 
 abbrev pub is_x : ℕ → Bool
 is_x c = eqb c 120 || eqb c 88
 
+-- The base of a payload shows in its prefix: 0x, or else a 0 with something behind it, or else none.
 abbrev pub radix_of : List ℕ → Radix
-radix_of [] = ten
-radix_of (c ∷ []) = ten
-radix_of (c ∷ d ∷ text) = if eqb c 48 then (if is_x d then sixteen else eight) else ten
+radix_of [] = Ten
+radix_of (c ∷ []) = Ten
+radix_of (c ∷ d ∷ text) = if eqb c 48 then (if is_x d then Sixteen else Eight) else Ten
 
 abbrev pub behind_prefix : Radix → List ℕ → List ℕ
-behind_prefix sixteen text = drop 2 text
-behind_prefix eight text = drop 1 text
-behind_prefix ten text = text
+behind_prefix Sixteen text = drop 2 text
+behind_prefix Eight text = drop 1 text
+behind_prefix Ten text = text
 
 -- one plus may stand behind the prefix
 abbrev pub behind_plus : List ℕ → List ℕ
@@ -53,14 +51,14 @@ behind_plus [] = []
 behind_plus (c ∷ text) = if eqb c 43 then text else c ∷ text
 
 abbrev pub is_digit_of : Radix → ℕ → Bool
-is_digit_of sixteen c = is_hexadecimal c
-is_digit_of eight c = is_octal c
-is_digit_of ten c = is_decimal c
+is_digit_of Sixteen c = is_hexadecimal c
+is_digit_of Eight c = is_octal c
+is_digit_of Ten c = is_decimal c
 
 abbrev pub base_of : Radix → ℕ
-base_of sixteen = 16
-base_of eight = 8
-base_of ten = 10
+base_of Sixteen = 16
+base_of Eight = 8
+base_of Ten = 10
 
 -- one or more digits of a number below 2 ^ 128
 abbrev pub payload_of_digits : Radix → List ℕ → Option ℕ
@@ -102,10 +100,10 @@ abbrev pub is_s : ℕ → Bool
 is_s c = eqb c 115 || eqb c 83
 
 abbrev pub nan_meaning : Mark → List ℕ → Option Meaning
-nan_meaning unmarked body = if begins is_s body then named_nan false true (drop 1 body)
+nan_meaning Unmarked body = if begins is_s body then named_nan false true (drop 1 body)
     else named_nan false false body
-nan_meaning plus body = None
-nan_meaning minus body = if begins is_s body then named_nan true true (drop 1 body) else named_nan true false body
+nan_meaning Plus body = None
+nan_meaning Minus body = if begins is_s body then named_nan true true (drop 1 body) else named_nan true false body
 
 abbrev pub special_meaning : Mark → List ℕ → Option Meaning
 special_meaning mark body = if is_infinity mark body then Some (infinity (is_minus mark)) else nan_meaning mark body

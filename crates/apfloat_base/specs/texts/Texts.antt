@@ -1,13 +1,17 @@
 -- What texts mean (IEEE 754-2008 5.12), and what is wrong with those that mean nothing.
 use Rattle.std.specs.Prelude.{◌≡◌, ◌⊎◌, ℕ, ◌≤◌, ℤ, pos, neg_ℤ, Bool, not, ◌&&◌, ◌||◌, ltb, eqb, if◌then◌else◌, IsTrue, List, [], ◌∷◌, ◌++◌, length, take, drop, filter, codes, Option, Some, None, is_some}
+use Rattle.apfloat_base.specs.declared.parse_error.Fault.{Fault}
+use Rattle.apfloat_base.specs.declared.parse_error.Fault.TheVariants.{EmptyText, LoneMark, NoLiteral, LonePrefix, SecondDot, WrongInSignificand, NoDigits, WrongInExponent, NoExponentDigits, NoExponent}
+use Rattle.apfloat_base.specs.declared.texts.Mark.{Mark}
+use Rattle.apfloat_base.specs.declared.texts.Mark.TheVariants.{Unmarked, Plus, Minus}
 use Rattle.apfloat_base.specs.texts.Digits.{same, every, begins, is_empty, run, behind_run, is_decimal, is_hexadecimal, number}
-use Rattle.apfloat_base.specs.texts.Specials.{Meaning, infinity, not_a_number, hexadecimal, Mark, unmarked, plus, minus, mark_of, behind_mark, is_minus, special_of}
+use Rattle.apfloat_base.specs.texts.Specials.{Meaning, infinity, not_a_number, hexadecimal, mark_of, behind_mark, is_minus, special_of}
 
 -- a whole number by its mark
 abbrev pub marked : Mark → ℕ → ℤ
-marked unmarked n = pos n
-marked plus n = pos n
-marked minus n = neg_ℤ (pos n)
+marked Unmarked n = pos n
+marked Plus n = pos n
+marked Minus n = neg_ℤ (pos n)
 
 -- 0x, digits with at most one dot, p, and the exponent (5.12.3). The number is h * 2 ^ (e - 4 * f).
 pub record IsHexadecimal (body : List ℕ) (h f : ℕ) (e : ℤ) : Type 0 where
@@ -38,23 +42,18 @@ Means text (not_a_number negative signaling payload) =
 Means text (hexadecimal negative h f e) =
     (negative ≡ is_minus (mark_of text)) × IsHexadecimal (behind_mark text) h f e
 
--- what can be wrong
-pub data Fault : Type 0 where
-  empty_text lone_mark no_literal lone_prefix second_dot wrong_in_significand no_digits wrong_in_exponent
-      no_exponent_digits no_exponent : Fault
-
 -- the words of the refusal
 abbrev pub words : Fault → List ℕ
-words empty_text = codes "Invalid string length"
-words lone_mark = codes "String has no digits"
-words no_literal = codes "Not a special or hexadecimal literal"
-words lone_prefix = codes "Invalid string"
-words second_dot = codes "String contains multiple dots"
-words wrong_in_significand = codes "Invalid character in significand"
-words no_digits = codes "Significand has no digits"
-words wrong_in_exponent = codes "Invalid character in exponent"
-words no_exponent_digits = codes "Exponent has no digits"
-words no_exponent = codes "Hex strings require an exponent"
+words EmptyText = codes "Invalid string length"
+words LoneMark = codes "String has no digits"
+words NoLiteral = codes "Not a special or hexadecimal literal"
+words LonePrefix = codes "Invalid string"
+words SecondDot = codes "String contains multiple dots"
+words WrongInSignificand = codes "Invalid character in significand"
+words NoDigits = codes "Significand has no digits"
+words WrongInExponent = codes "Invalid character in exponent"
+words NoExponentDigits = codes "Exponent has no digits"
+words NoExponent = codes "Hex strings require an exponent"
 
 abbrev pub is_dot : ℕ → Bool
 is_dot c = eqb c 46
@@ -77,31 +76,31 @@ behind_significand rest = behind_run is_digit_or_dot rest
 
 abbrev pub exponent_fault : List ℕ → Option Fault
 exponent_fault digits =
-    if not (every is_decimal digits) then Some wrong_in_exponent
-    else (if is_empty digits then Some no_exponent_digits else None)
+    if not (every is_decimal digits) then Some WrongInExponent
+    else (if is_empty digits then Some NoExponentDigits else None)
 
 -- the fault in what follows the significand
 abbrev pub tail_fault : List ℕ → Option Fault
-tail_fault [] = Some no_exponent
+tail_fault [] = Some NoExponent
 tail_fault (letter ∷ exponent) = exponent_fault (behind_mark exponent)
 
 -- the first fault from the left, behind the prefix
 abbrev pub literal_fault : List ℕ → List ℕ → Option Fault
 literal_fault significand tail =
-    if ltb 1 (length (filter is_dot significand)) then Some second_dot
-    else (if not (is_empty tail) && not (begins is_p tail) then Some wrong_in_significand
-    else (if is_empty (filter is_hexadecimal significand) then Some no_digits
+    if ltb 1 (length (filter is_dot significand)) then Some SecondDot
+    else (if not (is_empty tail) && not (begins is_p tail) then Some WrongInSignificand
+    else (if is_empty (filter is_hexadecimal significand) then Some NoDigits
     else tail_fault tail))
 
 abbrev pub behind_prefix_fault : List ℕ → Option Fault
 behind_prefix_fault rest =
-    if is_empty rest then Some lone_prefix else literal_fault (significand_of rest) (behind_significand rest)
+    if is_empty rest then Some LonePrefix else literal_fault (significand_of rest) (behind_significand rest)
 
 -- the first fault of a text; none, if it means something
 abbrev pub fault_of : List ℕ → Option Fault
 fault_of text =
-    if is_empty text then Some empty_text
-    else (if is_empty (behind_mark text) then Some lone_mark
+    if is_empty text then Some EmptyText
+    else (if is_empty (behind_mark text) then Some LoneMark
     else (if is_some (special_of text) then None
-    else (if not (begins_literal (behind_mark text)) then Some no_literal
+    else (if not (begins_literal (behind_mark text)) then Some NoLiteral
     else behind_prefix_fault (drop 2 (behind_mark text)))))

@@ -1,13 +1,5 @@
-use Rattle.std.proofs.Common.{◌≡◌, Bool, true, false, refl}
-use mathlib.Core.Bool.{beq}
-use Rattle.apfloat_base.specs.arithmetic.Exact.{same_sign}
+use Rattle.apfloat_base.proofs.Choices.{same_beq}
 use Rattle.apfloat_base.proofs.float.Float.maximum.Goals as goal
-
-same_beq : (a b : Bool) → beq a b ≡ same_sign a b
-same_beq true true = refl
-same_beq true false = refl
-same_beq false true = refl
-same_beq false false = refl
 
 pub returns-then-is_negative-2 : goal.returns-then-is_negative-2
 returns-then-is_negative-2 g c =

@@ -1,0 +1,75 @@
+-- Lists whose members pass a test, their runs, and what filters leave of them.
+use mathlib.Core.Bool.{Bool}
+use Rattle.std.proofs.Common.{◌≡◌, ℕ, true, false, refl, sym, ap, ◌∙◌, List, [], ◌∷◌, ◌++◌, filter, append_assoc}
+use Rattle.std.proofs.lemmas.Bool.{and_parts, and_from}
+use Rattle.apfloat_base.specs.texts.Digits.{every, begins, run, behind_run}
+
+-- ---- members that pass
+
+-- members of joined lists pass a test where those of both lists do
+pub every-append : (test : ℕ → Bool) (xs ys : List ℕ) → every test (xs ++ ys) ≡ true
+    → (every test xs ≡ true) × (every test ys ≡ true)
+every-append test [] ys h = (refl, h)
+every-append test (c ∷ xs) ys h =
+    let p = and_parts (test c) (every test (xs ++ ys)) h in
+    let q = every-append test xs ys p.1 in
+    (and_from (test c) (every test xs) p.0 q.0, q.1)
+
+pub append-every : (test : ℕ → Bool) (xs ys : List ℕ) → every test xs ≡ true → every test ys ≡ true
+    → every test (xs ++ ys) ≡ true
+append-every test [] ys h g = g
+append-every test (c ∷ xs) ys h g =
+    let p = and_parts (test c) (every test xs) h in
+    and_from (test c) (every test (xs ++ ys)) p.0 (append-every test xs ys p.1 g)
+
+-- what passes a test passes a weaker one
+pub every_weaker : (test other : ℕ → Bool) → ((c : ℕ) → test c ≡ true → other c ≡ true) → (xs : List ℕ)
+    → every test xs ≡ true → every other xs ≡ true
+every_weaker test other w [] h = refl
+every_weaker test other w (c ∷ xs) h =
+    let p = and_parts (test c) (every test xs) h in
+    and_from (other c) (every other xs) (w c p.0) (every_weaker test other w xs p.1)
+
+-- ---- runs
+
+-- the run of a test goes through a list that passes it, and ends where the next list does not begin with one
+pub run_through : (test : ℕ → Bool) (xs rest : List ℕ) → every test xs ≡ true → begins test rest ≡ false
+    → run test (xs ++ rest) ≡ xs
+run_through test [] [] h b = refl
+run_through test [] (c ∷ rest) h b = rw b refl
+run_through test (c ∷ xs) rest h b =
+    let p = and_parts (test c) (every test xs) h in
+    rw p.0 (ap (λ (t : List ℕ). c ∷ t) (run_through test xs rest p.1 b))
+
+pub behind_run_through : (test : ℕ → Bool) (xs rest : List ℕ) → every test xs ≡ true → begins test rest ≡ false
+    → behind_run test (xs ++ rest) ≡ rest
+behind_run_through test [] [] h b = refl
+behind_run_through test [] (c ∷ rest) h b = rw b refl
+behind_run_through test (c ∷ xs) rest h b =
+    let p = and_parts (test c) (every test xs) h in
+    rw p.0 (behind_run_through test xs rest p.1 b)
+
+-- ---- filters
+
+pub filter_all : (test : ℕ → Bool) (xs : List ℕ) → every test xs ≡ true → filter test xs ≡ xs
+filter_all test [] h = refl
+filter_all test (c ∷ xs) h =
+    let p = and_parts (test c) (every test xs) h in
+    rw p.0 (ap (λ (t : List ℕ). c ∷ t) (filter_all test xs p.1))
+
+-- nothing passes a test that excludes the test which all pass
+pub filter_none : (test other : ℕ → Bool) → ((c : ℕ) → test c ≡ true → other c ≡ false) → (xs : List ℕ)
+    → every test xs ≡ true → filter other xs ≡ []
+filter_none test other w [] h = refl
+filter_none test other w (c ∷ xs) h =
+    let p = and_parts (test c) (every test xs) h in
+    rw (w c p.0) (filter_none test other w xs p.1)
+
+-- ---- groups
+
+-- three parts in front of a tail, grouped together
+pub regroup : (whole point fraction tail : List ℕ)
+    → whole ++ (point ++ (fraction ++ tail)) ≡ (whole ++ (point ++ fraction)) ++ tail
+regroup whole point fraction tail =
+    ap (λ (t : List ℕ). whole ++ t) (sym (append_assoc point fraction tail)) ∙
+    sym (append_assoc whole (point ++ fraction) tail)

@@ -1,0 +1,58 @@
+//! What the reading of texts tells apart: the mark in front, and the base of a payload.
+
+ghost use Rattle.std.specs.Prelude.{◌≡◌};
+ghost use Rattle.apfloat_base.specs.texts.Specials.{is_minus, base_of};
+
+/// The mark in front of a text or of an exponent: a sign that is written, or none.
+#[derive(Clone, Copy, PartialEq, Eq, Debug)]
+pub enum Mark {
+    /// No sign.
+    Unmarked,
+    /// A `+`.
+    Plus,
+    /// A `-`.
+    Minus,
+}
+
+impl Mark {
+    ghost use Rattle.std.specs.Prelude.{◌≡◌};
+    ghost use Rattle.apfloat_base.specs.texts.Specials.{is_minus};
+
+    /// Whether it is a minus.
+    pub fn is_minus(self) -> bool
+        ensures { result ≡ is_minus self }
+    {
+        match self {
+            Mark::Unmarked | Mark::Plus => false,
+            Mark::Minus => true,
+        }
+    }
+}
+
+/// The base that a payload is written in.
+#[derive(Clone, Copy, PartialEq, Eq, Debug)]
+pub enum Radix {
+    /// Hexadecimal digits, behind `0x` or `0X`.
+    Sixteen,
+    /// Octal digits, behind a `0`.
+    Eight,
+    /// Decimal digits, without a prefix.
+    Ten,
+}
+
+impl Radix {
+    ghost use Rattle.std.specs.Prelude.{◌≡◌};
+    ghost use Rattle.apfloat_base.specs.texts.Specials.{base_of};
+
+    /// The base as a number.
+    #[inline(always)]
+    pub fn base(self) -> u128
+        ensures { result ≡ base_of self }
+    {
+        match self {
+            Radix::Sixteen => 16,
+            Radix::Eight => 8,
+            Radix::Ten => 10,
+        }
+    }
+}
