@@ -16,7 +16,7 @@ use Rattle.apfloat_base.proofs.Powers.{pow3, pow22, twice_power}
 use Rattle.apfloat_unpacked.specs.declared.shape.Shape.{Shape}
 use Rattle.apfloat_unpacked.specs.declared.unpacked.Unpacked.{Unpacked}
 use Rattle.apfloat_unpacked.specs.Shapes.{IsShape, format_at}
-use Rattle.apfloat_unpacked.specs.Stored.{IsNormal, IsQuantaAt, quanta_at}
+use Rattle.apfloat_unpacked.specs.Stored.{IsNormalAt, IsQuantaAt, quanta_at}
 use Rattle.apfloat_unpacked.proofs.ShapeExponents.{scale_is}
 use Rattle.apfloat_unpacked.proofs.StoredNumbers.{whole_is, above_zero}
 use Rattle.apfloat_arithmetic.specs.ExactInverseParts.{IsInvertible}
@@ -47,8 +47,8 @@ power_within s e law l h =
     omega arith
 
 -- the inverse of a power of two is a number of the format
-pub inverted_normal : (s : Shape) (m : ℕ) (e : ℤ) → IsShape s → IsNormal s m e → IsInvertible s m e
-    → IsNormal s m (neg_ℤ e)
+pub inverted_normal : (s : Shape) (m : ℕ) (e : ℤ) → IsShape s → IsNormalAt s m e → IsInvertible s m e
+    → IsNormalAt s m (neg_ℤ e)
 inverted_normal s m e law n i =
     let g : m * 2 ^ steps_of s (neg_ℤ e) ≤ largest (format_at s) =
     subst (λ (x : ℕ). x * 2 ^ steps_of s (neg_ℤ e) ≤ largest (format_at s)) (sym i.power)
@@ -75,7 +75,7 @@ power_full half j =
 powers_product : (h j k w : ℕ) → (h + j) + (h + k) ≡ w + w → 2 ^ h * 2 ^ j * (2 ^ h * 2 ^ k) ≡ 2 ^ w * 2 ^ w
 powers_product h j k w e = sym (pow22 h j h k) ∙ ap (λ (x : ℕ). 2 ^ x) e ∙ pow-add 2 w w
 
-pub inverted_product : (s : Shape) (m : ℕ) (e : ℤ) → IsShape s → IsNormal s m e → IsInvertible s m e
+pub inverted_product : (s : Shape) (m : ℕ) (e : ℤ) → IsShape s → IsNormalAt s m e → IsInvertible s m e
     → AreInverse (format_at s) (quanta_at s.min_exp m e) (quanta_at s.min_exp m (neg_ℤ e))
 inverted_product s m e law n i =
     let half = 2 ^ (s.precision - 1) in
@@ -123,7 +123,7 @@ power_factor q i m d u w h e =
     let c : 2 ^ (w + w + d) ≡ 2 ^ w * 2 ^ w * 2 ^ d = pow3 w w d in
     omega arith
 
-is_power : (s : Shape) (m i : ℕ) (e : ℤ) → IsShape s → IsNormal s m e
+is_power : (s : Shape) (m i : ℕ) (e : ℤ) → IsShape s → IsNormalAt s m e
     → AreInverse (format_at s) (quanta_at s.min_exp m e) i → m ≡ 2 ^ (s.precision - 1)
 is_power s m i e law n h =
     let l = law.precision_low in
@@ -152,14 +152,14 @@ long_inverse h j w i p span l e =
     let k : 2 ^ (w + w) < 2 ^ (h + j + (p + span)) = omega arith in
     least_power (w + w) (h + j + (p + span)) k
 
-not_low : (s : Shape) (m i : ℕ) (e : ℤ) → IsShape s → IsNormal s m e
+not_low : (s : Shape) (m i : ℕ) (e : ℤ) → IsShape s → IsNormalAt s m e
     → AreInverse (format_at s) (quanta_at s.min_exp m e) i → s.min_exp ≤ℤ e
 not_low s m i e law n h =
     by_lt_z e s.min_exp
     (λ l. let k = quanta_low_is s m e n law.precision_low l in let g = h.normal in absurd (omega arith))
     (λ l. l)
 
-pub invertible_from : (s : Shape) (m i : ℕ) (e : ℤ) → IsShape s → IsNormal s m e
+pub invertible_from : (s : Shape) (m i : ℕ) (e : ℤ) → IsShape s → IsNormalAt s m e
     → AreInverse (format_at s) (quanta_at s.min_exp m e) i → IsInvertible s m e
 invertible_from s m i e law n h =
     let high : ℕ = s.precision - 1 in
@@ -187,7 +187,7 @@ invertible_from s m i e law n h =
       inverse_within = omega (arith, ints, long, c, l, law);
     }
 
-pub opposite_word : (s : Shape) (m : ℕ) (e : ℤ) → IsShape s → IsNormal s m e
+pub opposite_word : (s : Shape) (m : ℕ) (e : ℤ) → IsShape s → IsNormalAt s m e
     → to_z w32 (of_z w32 (pos 0 -ℤ e)) ≡ neg_ℤ e
 opposite_word s m e law n =
     let x = normal_near s m e law n in
@@ -195,12 +195,12 @@ opposite_word s m e law n =
     to_z-of_z w32 (pos 0 -ℤ e) (fits_in w32 (pos 0 -ℤ e) (omega (arith, ints, x.near, x.far))) ∙ z
 
 -- what is answered of a number
-pub inverse_answer : (s : Shape) (b : Bool) (m : ℕ) (e : ℤ) → IsShape s → IsNormal s m e → IsInvertible s m e
+pub inverse_answer : (s : Shape) (b : Bool) (m : ℕ) (e : ℤ) → IsShape s → IsNormalAt s m e → IsInvertible s m e
     → IsExactInverse (format_at s) (finite b (quanta_at s.min_exp m e))
     (Some (finite b (quanta_at s.min_exp m (neg_ℤ e))))
 inverse_answer s b m e law n i = (quanta_at s.min_exp m (neg_ℤ e), inverted_product s m e law n i, refl)
 
-pub no_inverse_answer : (s : Shape) (b : Bool) (m : ℕ) (e : ℤ) → IsShape s → IsNormal s m e → (IsInvertible s m e → ⊥)
+pub no_inverse_answer : (s : Shape) (b : Bool) (m : ℕ) (e : ℤ) → IsShape s → IsNormalAt s m e → (IsInvertible s m e → ⊥)
     → IsExactInverse (format_at s) (finite b (quanta_at s.min_exp m e)) None
 no_inverse_answer s b m e law n i = λ inverse h. i (invertible_from s m inverse e law n h)
 

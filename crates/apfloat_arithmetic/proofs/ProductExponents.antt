@@ -8,7 +8,7 @@ use Rattle.apfloat_base.specs.rounding.Standing.{StandsFor, up, down}
 use Rattle.apfloat_base.proofs.Fractions.{product_stands, quotient_stands}
 use Rattle.apfloat_unpacked.specs.declared.shape.Shape.{Shape}
 use Rattle.apfloat_unpacked.specs.Shapes.{IsShape, format_at}
-use Rattle.apfloat_unpacked.specs.Stored.{IsNormal, quanta_at}
+use Rattle.apfloat_unpacked.specs.Stored.{IsNormalAt, quanta_at}
 use Rattle.apfloat_unpacked.proofs.ShapeExponents.{scale_is, exponent_word}
 
 -- the exponent of a number that is stored, with bounds
@@ -17,7 +17,7 @@ pub record IsNear (e : ℤ) : Type 0 where
   pub far : neg_ℤ (pos 1048701) ≤ℤ e
   pub word : to_z w32 (of_z w32 e) ≡ e
 
-pub normal_near : (s : Shape) (m : ℕ) (e : ℤ) → IsShape s → IsNormal s m e → IsNear e
+pub normal_near : (s : Shape) (m : ℕ) (e : ℤ) → IsShape s → IsNormalAt s m e → IsNear e
 normal_near s m e l n =
     let o = n.operand in
     let near : e ≤ℤ pos 1048576 = omega (arith, ints, l.max_exp_high, o.greatest) in
@@ -37,7 +37,7 @@ balanced_quotient : (precision places scale : ℕ) (min_exp x y r : ℤ) → 3 �
 balanced_quotient precision places scale min_exp x y r t l e = omega (arith, ints)
 
 -- the product of the significands stands for the product of the numbers, both in quanta
-pub product_is : (s : Shape) (x y r : ℤ) (m n p : ℕ) → IsShape s → IsNormal s m x → IsNormal s n y → p ≡ m * n
+pub product_is : (s : Shape) (x y r : ℤ) (m n p : ℕ) → IsShape s → IsNormalAt s m x → IsNormalAt s n y → p ≡ m * n
     → r ≡ ((x +ℤ y) -ℤ pos (2 * (s.precision - 1)))
     → quanta_at s.min_exp m x * quanta_at s.min_exp n y * 2 ^ down (r +ℤ pos (format_at s).scale)
     ≡ p * (2 ^ (format_at s).scale * 2 ^ up (r +ℤ pos (format_at s).scale))
@@ -51,8 +51,8 @@ product_is s x y r m n p l hx hy v e =
     ∙ ap (λ (z : ℕ). z * (2 ^ (format_at s).scale * 2 ^ up unit)) (sym v)
 
 -- the quotient of the significands stands for the quotient of the numbers
-pub quotient_is : (s : Shape) (x y r : ℤ) (places q : ℕ) (loss : Loss) (m n : ℕ) → IsShape s → IsNormal s m x
-    → IsNormal s n y → r ≡ ((x -ℤ y) -ℤ pos places) → StandsFor q loss (m * 2 ^ places) n
+pub quotient_is : (s : Shape) (x y r : ℤ) (places q : ℕ) (loss : Loss) (m n : ℕ) → IsShape s → IsNormalAt s m x
+    → IsNormalAt s n y → r ≡ ((x -ℤ y) -ℤ pos places) → StandsFor q loss (m * 2 ^ places) n
     → StandsFor q loss (quanta_at s.min_exp m x * 2 ^ (format_at s).scale * 2 ^ down (r +ℤ pos (format_at s).scale))
     (quanta_at s.min_exp n y * 2 ^ up (r +ℤ pos (format_at s).scale))
 quotient_is s x y r places q loss m n l hx hy e h =
@@ -63,6 +63,6 @@ quotient_is s x y r places q loss m n l hx hy e h =
     hx.whole hy.whole (balanced_quotient s.precision places (format_at s).scale s.min_exp x y r l.precision_low
     (scale_is s l) e) h
 
-pub normal_some : (s : Shape) (m : ℕ) (e : ℤ) → IsNormal s m e → 0 < m
+pub normal_some : (s : Shape) (m : ℕ) (e : ℤ) → IsNormalAt s m e → 0 < m
 normal_some s m e n = let p : 0 < 2 ^ (s.precision - 1) = pow_pos (s.precision - 1) in let f = n.operand.full in
     omega arith

@@ -19,7 +19,7 @@ use Rattle.apfloat_base.proofs.Powers.{pow3}
 use Rattle.apfloat_base.proofs.SingleScalings.{scaled_stands}
 use Rattle.apfloat_unpacked.specs.declared.shape.Shape.{Shape}
 use Rattle.apfloat_unpacked.specs.Shapes.{IsShape, format_at}
-use Rattle.apfloat_unpacked.specs.Stored.{IsNormal, IsQuantaAt, quanta_at}
+use Rattle.apfloat_unpacked.specs.Stored.{IsNormalAt, IsQuantaAt, quanta_at}
 use Rattle.apfloat_unpacked.proofs.StoredNumbers.{quanta_is, whole_is}
 use Rattle.apfloat_unpacked.proofs.ShapeExponents.{scale_is, span_is}
 use Rattle.apfloat_conversions.specs.Held.{IsHeld, IsReachedLevel}
@@ -70,7 +70,7 @@ held_within s t a from into h l =
 
 -- ---- a number
 
-held_quanta : (s t : Shape) (m : ℕ) (e : ℤ) → IsShape s → IsShape t → IsHeld s t → IsNormal s m e
+held_quanta : (s t : Shape) (m : ℕ) (e : ℤ) → IsShape s → IsShape t → IsHeld s t → IsNormalAt s m e
     → IsQuantaAt t.min_exp (m * 2 ^ (t.precision - s.precision)) e (quanta_at s.min_exp m e * 2 ^ finer s t)
 held_quanta s t m e from into h n =
     let x = scale_is s from in
@@ -84,8 +84,8 @@ held_quanta s t m e from into h n =
     (t.precision - s.precision) (up (e -ℤ t.min_exp)) (down (e -ℤ t.min_exp)) n.whole b in
     omega (arith, q)
 
-pub held_normal : (s t : Shape) (m : ℕ) (e : ℤ) → IsShape s → IsShape t → IsHeld s t → IsNormal s m e
-    → IsNormal t (m * 2 ^ (t.precision - s.precision)) e
+pub held_normal : (s t : Shape) (m : ℕ) (e : ℤ) → IsShape s → IsShape t → IsHeld s t → IsNormalAt s m e
+    → IsNormalAt t (m * 2 ^ (t.precision - s.precision)) e
 held_normal s t m e from into h n =
     let q = held_quanta s t m e from into h n in
     let x = scale_is s from in
@@ -107,7 +107,7 @@ held_normal s t m e from into h n =
           (held_within s t (quanta_at s.min_exp m e) from into h n.within);
     }
 
-pub held_quanta_are : (s t : Shape) (m : ℕ) (e : ℤ) → IsShape s → IsShape t → IsHeld s t → IsNormal s m e
+pub held_quanta_are : (s t : Shape) (m : ℕ) (e : ℤ) → IsShape s → IsShape t → IsHeld s t → IsNormalAt s m e
     → quanta_at t.min_exp (m * 2 ^ (t.precision - s.precision)) e ≡ quanta_at s.min_exp m e * 2 ^ finer s t
 held_quanta_are s t m e from into h n =
     quanta_is t.min_exp (m * 2 ^ (t.precision - s.precision)) e _ (held_quanta s t m e from into h n)

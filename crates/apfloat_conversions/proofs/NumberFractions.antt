@@ -5,7 +5,7 @@ use Rattle.apfloat_base.specs.formats.Format.{largest}
 use Rattle.apfloat_base.specs.rounding.Standing.{up}
 use Rattle.apfloat_unpacked.specs.declared.shape.Shape.{Shape}
 use Rattle.apfloat_unpacked.specs.Shapes.{format_at, IsShape}
-use Rattle.apfloat_unpacked.specs.Stored.{IsNormal}
+use Rattle.apfloat_unpacked.specs.Stored.{IsNormalAt}
 use Rattle.apfloat_unpacked.proofs.ShapeExponents.{scale_is}
 use Rattle.apfloat_conversions.proofs.StoredExponents.{scale_in_span, half_within, number_of}
 use Rattle.apfloat_conversions.proofs.Nexts.{logarithm_is, fraction_operand, fraction_quanta, fraction_low}
@@ -14,7 +14,7 @@ use Rattle.apfloat_conversions.proofs.Nexts.{logarithm_is, fraction_operand, fra
 abbrev pub fraction_at : Shape → ℕ → ℕ
 fraction_at s m = m * 2 ^ up (negsuc 0 -ℤ s.min_exp)
 
-pub fraction_size : (s : Shape) (m : ℕ) (e : ℤ) → IsShape s → IsNormal s m e
+pub fraction_size : (s : Shape) (m : ℕ) (e : ℤ) → IsShape s → IsNormalAt s m e
     → (2 ^ ((format_at s).scale - 1) ≤ fraction_at s m) × (fraction_at s m < 2 ^ (format_at s).scale)
 fraction_size s m e law n =
     let o = fraction_operand s.precision s.min_exp s.max_exp e m law.precision_low law.min_exp_high law.max_exp_low
@@ -24,7 +24,7 @@ fraction_size s m e law n =
     (logarithm_is (format_at s) s.precision s.min_exp s.max_exp (negsuc 0) m (fraction_at s m) law.precision_low
     (scale_is s law) o q)
 
-pub fraction_number : (s : Shape) (m : ℕ) (e : ℤ) → IsShape s → IsNormal s m e → IsNormal s m (negsuc 0)
+pub fraction_number : (s : Shape) (m : ℕ) (e : ℤ) → IsShape s → IsNormalAt s m e → IsNormalAt s m (negsuc 0)
 fraction_number s m e law n =
     let o = fraction_operand s.precision s.min_exp s.max_exp e m law.precision_low law.min_exp_high law.max_exp_low
     n.operand in

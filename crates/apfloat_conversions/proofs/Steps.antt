@@ -16,7 +16,7 @@ use Rattle.apfloat_base.proofs.Losses.{twice_half}
 use Rattle.apfloat_base.proofs.SingleScalings.{up_le, up_far, quanta_below}
 use Rattle.apfloat_unpacked.specs.declared.shape.Shape.{Shape}
 use Rattle.apfloat_unpacked.specs.Shapes.{IsShape, format_at}
-use Rattle.apfloat_unpacked.specs.Stored.{IsOperandAt, IsQuantaAt, IsNormal, quanta_at}
+use Rattle.apfloat_unpacked.specs.Stored.{IsOperandAt, IsQuantaAt, IsNormalAt, quanta_at}
 use Rattle.apfloat_unpacked.specs.StoredBack.{quanta_some}
 use Rattle.apfloat_unpacked.proofs.StoredNumbers.{quanta_is}
 use Rattle.apfloat_unpacked.proofs.ShapeExponents.{span_is}
@@ -27,7 +27,7 @@ some : (s : Shape) → IsShape s → 0 < s.precision
 some s law = let t = law.precision_low in omega (arith, t)
 
 -- a step at a stored number's last place
-pub step_fits : (s : Shape) (m t : ℕ) (e : ℤ) → IsShape s → IsNormal s m e → t ≡ 2 ^ down (e -ℤ s.min_exp)
+pub step_fits : (s : Shape) (m t : ℕ) (e : ℤ) → IsShape s → IsNormalAt s m e → t ≡ 2 ^ down (e -ℤ s.min_exp)
     → m + t < 2 ^ 128
 step_fits s m t e law n i =
     let l = operand_down s.precision s.min_exp s.max_exp e law.precision_low n.operand.least in
@@ -50,13 +50,13 @@ pub record IsAfter (s : Shape) (n m : ℕ) (e : ℤ) : Type 0 where
   pub operand : IsOperandAt s.precision s.min_exp s.max_exp m e
   pub quanta : IsQuantaAt s.min_exp m e next
 
-above_of : (s : Shape) (m : ℕ) (e : ℤ) → IsShape s → IsNormal s m e
+above_of : (s : Shape) (m : ℕ) (e : ℤ) → IsShape s → IsNormalAt s m e
     → IsAbove s.precision (quanta_at s.min_exp m e + 2 ^ up (e -ℤ s.min_exp)) (quanta_at s.min_exp m e + 1) 1
 above_of s m e law n =
     next_is s.precision m (quanta_at s.min_exp m e) (up (e -ℤ s.min_exp)) (down (e -ℤ s.min_exp)) (some s law)
     (one_side (e -ℤ s.min_exp)) n.operand.fits n.operand.full n.whole
 
-pub after_stays : (s : Shape) (m t : ℕ) (e : ℤ) → IsShape s → IsNormal s m e → t ≡ 2 ^ down (e -ℤ s.min_exp)
+pub after_stays : (s : Shape) (m t : ℕ) (e : ℤ) → IsShape s → IsNormalAt s m e → t ≡ 2 ^ down (e -ℤ s.min_exp)
     → m + t < 2 ^ s.precision → IsAfter s (quanta_at s.min_exp m e) (m + t) e
 after_stays s m t e law n i f =
     let g = n.operand.full in
@@ -67,7 +67,7 @@ after_stays s m t e law n i f =
       quanta = stepped_by m (quanta_at s.min_exp m e) (up (e -ℤ s.min_exp)) (down (e -ℤ s.min_exp)) t i n.whole;
     }
 
-pub after_carries : (s : Shape) (m t w : ℕ) (e r : ℤ) → IsShape s → IsNormal s m e
+pub after_carries : (s : Shape) (m t w : ℕ) (e r : ℤ) → IsShape s → IsNormalAt s m e
     → quanta_at s.min_exp m e < largest (format_at s) → t ≡ 2 ^ down (e -ℤ s.min_exp) → 2 ^ s.precision ≤ m + t
     → w ≡ 2 ^ (s.precision - 1) → r ≡ (e +ℤ pos 1) → IsAfter s (quanta_at s.min_exp m e) w r
 after_carries s m t w e r law n b i h j k =
@@ -90,7 +90,7 @@ after_carries s m t w e r law n b i h j k =
     }
 
 pub after_stored : (s : Shape) (n m : ℕ) (e : ℤ) → IsShape s → n < largest (format_at s) → IsAfter s n m e
-    → IsNormal s m e
+    → IsNormalAt s m e
 after_stored s n m e law b h =
     number_of s m e h.next h.operand h.quanta (next_within (format_at s) n h.next (some s law) b h.is_above)
 
@@ -109,7 +109,7 @@ pub record IsBefore (s : Shape) (n m : ℕ) (e : ℤ) : Type 0 where
   pub operand : IsOperandAt s.precision s.min_exp s.max_exp m e
   pub quanta : IsQuantaAt s.min_exp m e next
 
-pub before_stays : (s : Shape) (m t : ℕ) (e : ℤ) → IsShape s → IsNormal s m e → t ≡ 2 ^ down (e -ℤ s.min_exp)
+pub before_stays : (s : Shape) (m t : ℕ) (e : ℤ) → IsShape s → IsNormalAt s m e → t ≡ 2 ^ down (e -ℤ s.min_exp)
     → 2 ^ (s.precision - 1) < m → IsBefore s (quanta_at s.min_exp m e) (m - t) e
 before_stays s m t e law n i h =
     let a = quanta_at s.min_exp m e in
@@ -128,7 +128,7 @@ before_stays s m t e law n i h =
       quanta = stepped_down_by m a (up (e -ℤ s.min_exp)) (down (e -ℤ s.min_exp)) t i (omega (arith, k)) n.whole;
     }
 
-pub before_lowers : (s : Shape) (m w t : ℕ) (e r : ℤ) → IsShape s → IsNormal s m e → m ≡ 2 ^ (s.precision - 1)
+pub before_lowers : (s : Shape) (m w t : ℕ) (e r : ℤ) → IsShape s → IsNormalAt s m e → m ≡ 2 ^ (s.precision - 1)
     → w ≡ 2 ^ s.precision → r ≡ (e -ℤ pos 1) → ((s.min_exp +ℤ pos 1) -ℤ pos s.precision) ≤ℤ r
     → t ≡ 2 ^ down (r -ℤ s.min_exp) → IsBefore s (quanta_at s.min_exp m e) (w - t) r
 before_lowers s m w t e r law n i j k low h =
@@ -149,7 +149,7 @@ before_lowers s m w t e r law n i j k low h =
       quanta = stepped_down_by w a (up (r -ℤ s.min_exp)) (down (r -ℤ s.min_exp)) t h (omega (arith, y, j, z, o)) q;
     }
 
-pub before_stored : (s : Shape) (n m : ℕ) (e : ℤ) → n ≤ largest (format_at s) → IsBefore s n m e → IsNormal s m e
+pub before_stored : (s : Shape) (n m : ℕ) (e : ℤ) → n ≤ largest (format_at s) → IsBefore s n m e → IsNormalAt s m e
 before_stored s n m e b h =
     let l = h.is_below.not_above in
     number_of s m e h.next h.operand h.quanta (omega (arith, l, b))
@@ -167,7 +167,7 @@ before_is s n m e b h =
           record { value_is = sym (signed_some s.nonfinite true h.next p); status_is = refl };
     })
 
-pub before_least : (s : Shape) (m : ℕ) (e : ℤ) → IsShape s → IsNormal s m e → m ≡ 2 ^ (s.precision - 1)
+pub before_least : (s : Shape) (m : ℕ) (e : ℤ) → IsShape s → IsNormalAt s m e → m ≡ 2 ^ (s.precision - 1)
     → e ≡ ((s.min_exp +ℤ pos 1) -ℤ pos s.precision)
     → IsNextLess (format_at s) (quanta_at s.min_exp m e) (finite (zero_sign s.nonfinite true) 0) 0
 before_least s m e law n i k =
@@ -188,7 +188,7 @@ same_multiple m g w p =
     (λ (e : m ≡ g → ⊥). ne_eqb m g e ∙ sym (ne_eqb (m * w) (g * w) (λ h. e (eq_of_mul-eq-mul_right w p m g h))))
     (cases_eq m g)
 
-pub largest_at_top : (s : Shape) (m g : ℕ) (e : ℤ) → IsShape s → IsNormal s m e → e ≡ s.max_exp
+pub largest_at_top : (s : Shape) (m g : ℕ) (e : ℤ) → IsShape s → IsNormalAt s m e → e ≡ s.max_exp
     → g ≡ greatest_significand s.nonfinite s.precision
     → eqb m g ≡ eqb (quanta_at s.min_exp m e) (largest (format_at s))
 largest_at_top s m g e law n i k =
@@ -205,7 +205,7 @@ largest_at_top s m g e law n i k =
     d ∙ f ∙ ap (λ (z : ℕ). eqb z (largest (format_at s)))
     (sym (quanta_is s.min_exp m e (m * 2 ^ (format_at s).span) q))
 
-pub below_top : (s : Shape) (m : ℕ) (e : ℤ) → IsShape s → IsNormal s m e → (e ≡ s.max_exp → ⊥)
+pub below_top : (s : Shape) (m : ℕ) (e : ℤ) → IsShape s → IsNormalAt s m e → (e ≡ s.max_exp → ⊥)
     → false ≡ eqb (quanta_at s.min_exp m e) (largest (format_at s))
 below_top s m e law n h =
     let b = span_is s law in

@@ -4,7 +4,7 @@ use Rattle.std.proofs.lemmas.Int.{ints, to_z-of_z}
 use borrow.Author.Differences.{fits_in}
 use Rattle.apfloat_unpacked.specs.declared.shape.Shape.{Shape}
 use Rattle.apfloat_unpacked.specs.Shapes.{IsShape, format_at}
-use Rattle.apfloat_unpacked.specs.Stored.{IsNormal}
+use Rattle.apfloat_unpacked.specs.Stored.{IsNormalAt}
 
 -- the quantum is 2 ^ -scale
 pub scale_is : (s : Shape) → IsShape s → pos (format_at s).scale ≡ pos (s.precision - 1) -ℤ s.min_exp
@@ -22,7 +22,7 @@ max_exp_word s law =
     to_z-of_z w32 s.max_exp (fits_in w32 s.max_exp (omega (arith, ints, law.max_exp_low, law.max_exp_high)))
 
 -- the exponent of a number
-pub exponent_word : (s : Shape) (m : ℕ) (e : ℤ) → IsShape s → IsNormal s m e → to_z w32 (of_z w32 e) ≡ e
+pub exponent_word : (s : Shape) (m : ℕ) (e : ℤ) → IsShape s → IsNormalAt s m e → to_z w32 (of_z w32 e) ≡ e
 exponent_word s m e law n =
     let o = n.operand in
     to_z-of_z w32 e (fits_in w32 e (omega (arith, ints, law, o)))

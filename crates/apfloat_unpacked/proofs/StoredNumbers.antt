@@ -13,7 +13,7 @@ use Rattle.apfloat_base.proofs.Losses.{twice_half}
 use Rattle.apfloat_base.proofs.KeptDigits.{digits_le, some_digits, fits_shifted, full_shifted, same_quanta}
 use Rattle.apfloat_unpacked.specs.declared.shape.Shape.{Shape}
 use Rattle.apfloat_unpacked.specs.Shapes.{IsShape, format_at}
-use Rattle.apfloat_unpacked.specs.Stored.{IsQuantaAt, quanta_at, IsNormal}
+use Rattle.apfloat_unpacked.specs.Stored.{IsQuantaAt, quanta_at, IsNormalAt}
 
 -- the quotient is the number of quanta, where there is one
 pub quanta_is : (min_exp : ℤ) (s : ℕ) (e : ℤ) (n : ℕ) → IsQuantaAt min_exp s e n → quanta_at min_exp s e ≡ n
@@ -50,7 +50,7 @@ pub normal_at : (s : Shape) (m place shift : ℕ) (e : ℤ) → IsShape s → m 
     → 2 ^ (s.precision - 1) ≤ m * 2 ^ shift → shift < s.precision
     → e ≡ (s.min_exp +ℤ pos place) -ℤ pos shift → IsQuantaAt s.min_exp (m * 2 ^ shift) e (m * 2 ^ place)
     → m * 2 ^ place ≤ greatest_significand s.nonfinite s.precision * 2 ^ (format_at s).span
-    → IsNormal s (m * 2 ^ shift) e
+    → IsNormalAt s (m * 2 ^ shift) e
 normal_at s m place shift e law fits full short is quanta within =
     let t : 2 * 2 ^ (s.precision - 1) ≡ 2 ^ s.precision = twice_half s.precision (omega (arith, law.precision_low)) in
     let g = greatest_fits s.nonfinite s.precision in
@@ -91,7 +91,7 @@ pub moved_up_quanta : (s : Shape) (m digits place w : ℕ) (e : ℤ) → IsMoved
 moved_up_quanta s m digits place w e h = quanta_is s.min_exp w e (m * 2 ^ place) (moved_quanta s m digits place w e h)
 
 pub moved_up_normal : (s : Shape) (m digits place w : ℕ) (e : ℤ) → IsShape s → IsMovedUp s m digits place w e
-    → IsNormal s w e
+    → IsNormalAt s w e
 moved_up_normal s m digits place w e law h =
     let l : digits ≤ s.precision = digits_le m digits s.precision h.fits h.full in
     let d : 0 < digits = some_digits m digits h.below h.some in
@@ -119,7 +119,7 @@ quanta_low s m e d p =
     let b : m * 1 ≡ m = omega arith in
     rw (a.0, a.1, b) refl
 
-pub quanta_low_below : (s : Shape) (m : ℕ) (e : ℤ) (d : ℕ) → IsNormal s m e → 3 ≤ s.precision
+pub quanta_low_below : (s : Shape) (m : ℕ) (e : ℤ) (d : ℕ) → IsNormalAt s m e → 3 ≤ s.precision
     → pos d ≡ s.min_exp -ℤ e → 1 ≤ d → quanta_at s.min_exp m e < 2 ^ (s.precision - 1)
 quanta_low_below s m e d n p k h =
     let q : ℕ = quanta_at s.min_exp m e in
