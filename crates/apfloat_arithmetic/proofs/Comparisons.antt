@@ -20,7 +20,7 @@ use Rattle.apfloat_base.specs.order.Classes.{is_nan, same_datum}
 use Rattle.apfloat_base.specs.order.Order.{number, compared}
 use Rattle.apfloat_unpacked.specs.declared.shape.Shape.{Shape}
 use Rattle.apfloat_unpacked.specs.declared.unpacked.Unpacked.{Unpacked}
-use Rattle.apfloat_unpacked.specs.Stored.{IsNormal, IsStored, IsStoredBy, datum_at, datum_by, quanta_at, unpacked_of}
+use Rattle.apfloat_unpacked.specs.Stored.{IsNormalAt, IsStored, IsStoredBy, datum_at, datum_by, quanta_at, unpacked_of}
 use Rattle.apfloat_unpacked.specs.StoredBack.{IsFull, top_of, full_low, full_high, normal_full, quanta_some, comes_back}
 use Rattle.apfloat_arithmetic.specs.Sides.{number_side, side}
 
@@ -34,7 +34,7 @@ below_top precision s n u d t m v e f g h =
     let c : 2 ^ suc (top_of precision u d) ≤ 2 ^ top_of precision v e = pow-le-pow_right two_pos h in
     omega (arith, a, b, c, two-pow-succ (top_of precision u d))
 
-below_exponent : (shape : Shape) (s : ℕ) (d : ℤ) (t : ℕ) (e : ℤ) → IsNormal shape s d → IsNormal shape t e → d <ℤ e
+below_exponent : (shape : Shape) (s : ℕ) (d : ℤ) (t : ℕ) (e : ℤ) → IsNormalAt shape s d → IsNormalAt shape t e → d <ℤ e
     → quanta_at shape.min_exp s d < quanta_at shape.min_exp t e
 below_exponent shape s d t e m n h =
     let f = normal_full shape s d m in
@@ -49,7 +49,7 @@ below_significand precision s n t m u d f g h =
     let l : n * 2 ^ d < m * 2 ^ d = omega arith in
     lt_of_mul-lt-mul_right (2 ^ d) l
 
-at_one_exponent : (shape : Shape) (s t : ℕ) (e : ℤ) → IsNormal shape s e → IsNormal shape t e
+at_one_exponent : (shape : Shape) (s t : ℕ) (e : ℤ) → IsNormalAt shape s e → IsNormalAt shape t e
     → nat_cmp s t ≡ nat_cmp (quanta_at shape.min_exp s e) (quanta_at shape.min_exp t e)
 at_one_exponent shape s t e m n =
     let f = normal_full shape s e m in
@@ -59,13 +59,13 @@ at_one_exponent shape s t e m n =
     (λ c h. c ∙ nat_cmp_is _ _ Equal (ap (λ x. quanta_at shape.min_exp x e) h))
     (λ c h. c ∙ nat_cmp_is _ _ Greater (below_significand _ _ _ _ _ _ _ g f h))
 
-pub exponents_first : (shape : Shape) (s : ℕ) (d : ℤ) (t : ℕ) (e : ℤ) → IsNormal shape s d → IsNormal shape t e
+pub exponents_first : (shape : Shape) (s : ℕ) (d : ℤ) (t : ℕ) (e : ℤ) → IsNormalAt shape s d → IsNormalAt shape t e
     → ordering_then (int_cmp d e) (nat_cmp s t) ≡ nat_cmp (quanta_at shape.min_exp s d) (quanta_at shape.min_exp t e)
 exponents_first shape s d t e m n =
     by_ranked (d <ℤ e) (d ≡ e) (e <ℤ d) (int_cmp d e) (int_ranks d e)
     (λ c h. ap (λ x. ordering_then x (nat_cmp s t)) c ∙ nat_cmp_is _ _ Less (below_exponent shape s d t e m n h))
     (λ c h.
-    let k : IsNormal shape s e = rw h at m in
+    let k : IsNormalAt shape s e = rw h at m in
     ap (λ x. ordering_then x (nat_cmp s t)) c ∙ at_one_exponent shape s t e k n ∙
     ap (λ x. nat_cmp (quanta_at shape.min_exp s x) (quanta_at shape.min_exp t e)) (sym h))
     (λ c h. ap (λ x. ordering_then x (nat_cmp s t)) c ∙ nat_cmp_is _ _ Greater (below_exponent shape t e s d n m h))
@@ -103,7 +103,7 @@ some_side b (suc n) h = refl
 pub side_of_normal : (shape : Shape) (x : Unpacked) (b : Bool) → x.category ≡ Normal → x.negative ≡ b
     → IsStored shape x → number_side b ≡ side (datum_at shape x)
 side_of_normal shape x b e f h =
-    let n : IsNormal shape x.significand x.exponent = rw e at h in
+    let n : IsNormalAt shape x.significand x.exponent = rw e at h in
     rw (e, ← f) (some_side x.negative _ (quanta_some shape x.significand x.exponent n))
 
 one_sign : (a b : Bool) → number_side a ≡ number_side b → b ≡ a
@@ -137,28 +137,28 @@ beside_normal shape y b h e = number_beside y.category shape y b h e
 -- two numbers of one sign
 pub beside_negative : (shape : Shape) (x y : Unpacked) → x.category ≡ Normal → x.negative ≡ true → IsStored shape x
     → IsStored shape y → side (datum_at shape x) ≡ side (datum_at shape y) → (r : Ordering)
-    → (IsNormal shape y.significand y.exponent → IsNormal shape x.significand x.exponent
+    → (IsNormalAt shape y.significand y.exponent → IsNormalAt shape x.significand x.exponent
     → r ≡ nat_cmp (quanta_at shape.min_exp y.significand y.exponent)
     (quanta_at shape.min_exp x.significand x.exponent))
     → r ≡ int_cmp (number (datum_at shape x)) (number (datum_at shape y))
 beside_negative shape x y e f h k s r g =
     let p = beside_normal shape y true k (side_of_normal shape x true e f h ∙ s) in
-    let a : IsNormal shape x.significand x.exponent = rw e at h in
-    let b : IsNormal shape y.significand y.exponent = rw p.0 at k in
+    let a : IsNormalAt shape x.significand x.exponent = rw e at h in
+    let b : IsNormalAt shape y.significand y.exponent = rw p.0 at k in
     rw (e, f, p.0, p.1)
     (g b a ∙ both_negative (quanta_at shape.min_exp x.significand x.exponent)
     (quanta_at shape.min_exp y.significand y.exponent))
 
 pub beside_positive : (shape : Shape) (x y : Unpacked) → x.category ≡ Normal → x.negative ≡ false → IsStored shape x
     → IsStored shape y → side (datum_at shape x) ≡ side (datum_at shape y) → (r : Ordering)
-    → (IsNormal shape x.significand x.exponent → IsNormal shape y.significand y.exponent
+    → (IsNormalAt shape x.significand x.exponent → IsNormalAt shape y.significand y.exponent
     → r ≡ nat_cmp (quanta_at shape.min_exp x.significand x.exponent)
     (quanta_at shape.min_exp y.significand y.exponent))
     → r ≡ int_cmp (number (datum_at shape x)) (number (datum_at shape y))
 beside_positive shape x y e f h k s r g =
     let p = beside_normal shape y false k (side_of_normal shape x false e f h ∙ s) in
-    let a : IsNormal shape x.significand x.exponent = rw e at h in
-    let b : IsNormal shape y.significand y.exponent = rw p.0 at k in
+    let a : IsNormalAt shape x.significand x.exponent = rw e at h in
+    let b : IsNormalAt shape y.significand y.exponent = rw p.0 at k in
     rw (e, f, p.0, p.1)
     (g a b ∙ both_positive (quanta_at shape.min_exp x.significand x.exponent)
     (quanta_at shape.min_exp y.significand y.exponent))

@@ -15,7 +15,7 @@ use Rattle.apfloat_base.proofs.Powers.{pow3, pow22, exponent_at_most, exponent_b
 use Rattle.apfloat_unpacked.specs.declared.shape.Shape.{Shape}
 use Rattle.apfloat_unpacked.specs.declared.unpacked.Unpacked.{Unpacked}
 use Rattle.apfloat_unpacked.specs.Shapes.{IsShape, format_at}
-use Rattle.apfloat_unpacked.specs.Stored.{IsNormal, IsQuantaAt, quanta_at}
+use Rattle.apfloat_unpacked.specs.Stored.{IsNormalAt, IsQuantaAt, quanta_at}
 use Rattle.apfloat_unpacked.proofs.ShapeExponents.{scale_is}
 use Rattle.apfloat_unpacked.proofs.StoredNumbers.{whole_is, above_zero}
 use Rattle.apfloat_arithmetic.specs.ExactInverseParts.{IsInvertible}
@@ -47,8 +47,8 @@ power_within shape e law l h =
     omega arith
 
 -- the inverse of a power of two is a number of the format
-pub inverted_normal : (shape : Shape) (m : ℕ) (e : ℤ) → IsShape shape → IsNormal shape m e → IsInvertible shape m e
-    → IsNormal shape m (neg_ℤ e)
+pub inverted_normal : (shape : Shape) (m : ℕ) (e : ℤ) → IsShape shape → IsNormalAt shape m e → IsInvertible shape m e
+    → IsNormalAt shape m (neg_ℤ e)
 inverted_normal shape m e law n i =
     let g : m * 2 ^ steps_of shape (neg_ℤ e) ≤ largest (format_at shape) =
     subst (λ (x : ℕ). x * 2 ^ steps_of shape (neg_ℤ e) ≤ largest (format_at shape)) (sym i.power)
@@ -75,7 +75,7 @@ power_full half j =
 powers_product : (h j k w : ℕ) → (h + j) + (h + k) ≡ w + w → 2 ^ h * 2 ^ j * (2 ^ h * 2 ^ k) ≡ 2 ^ w * 2 ^ w
 powers_product h j k w e = sym (pow22 h j h k) ∙ ap (λ (x : ℕ). 2 ^ x) e ∙ pow-add 2 w w
 
-pub inverted_product : (shape : Shape) (m : ℕ) (e : ℤ) → IsShape shape → IsNormal shape m e → IsInvertible shape m e
+pub inverted_product : (shape : Shape) (m : ℕ) (e : ℤ) → IsShape shape → IsNormalAt shape m e → IsInvertible shape m e
     → AreInverse (format_at shape) (quanta_at shape.min_exp m e) (quanta_at shape.min_exp m (neg_ℤ e))
 inverted_product shape m e law n i =
     let half = 2 ^ (shape.precision - 1) in
@@ -105,7 +105,7 @@ power_factor q i m d u w h e =
     let c : 2 ^ (w + w + d) ≡ 2 ^ w * 2 ^ w * 2 ^ d = pow3 w w d in
     omega arith
 
-is_power : (shape : Shape) (m i : ℕ) (e : ℤ) → IsShape shape → IsNormal shape m e
+is_power : (shape : Shape) (m i : ℕ) (e : ℤ) → IsShape shape → IsNormalAt shape m e
     → AreInverse (format_at shape) (quanta_at shape.min_exp m e) i → m ≡ 2 ^ (shape.precision - 1)
 is_power shape m i e law n h =
     let l = law.precision_low in
@@ -134,14 +134,14 @@ long_inverse h j w i p span l e =
     let k : 2 ^ (w + w) < 2 ^ (h + j + (p + span)) = omega arith in
     exponent_below (w + w) (h + j + (p + span)) k
 
-not_low : (shape : Shape) (m i : ℕ) (e : ℤ) → IsShape shape → IsNormal shape m e
+not_low : (shape : Shape) (m i : ℕ) (e : ℤ) → IsShape shape → IsNormalAt shape m e
     → AreInverse (format_at shape) (quanta_at shape.min_exp m e) i → shape.min_exp ≤ℤ e
 not_low shape m i e law n h =
     by_lt_z e shape.min_exp
     (λ l. let k = quanta_low_is shape m e n law.precision_low l in let g = h.normal in absurd (omega arith))
     (λ l. l)
 
-pub invertible_from : (shape : Shape) (m i : ℕ) (e : ℤ) → IsShape shape → IsNormal shape m e
+pub invertible_from : (shape : Shape) (m i : ℕ) (e : ℤ) → IsShape shape → IsNormalAt shape m e
     → AreInverse (format_at shape) (quanta_at shape.min_exp m e) i → IsInvertible shape m e
 invertible_from shape m i e law n h =
     let high : ℕ = shape.precision - 1 in
@@ -172,7 +172,7 @@ invertible_from shape m i e law n h =
       inverse_within = omega (arith, ints, long, c, l, law);
     }
 
-pub opposite_word : (shape : Shape) (m : ℕ) (e : ℤ) → IsShape shape → IsNormal shape m e
+pub opposite_word : (shape : Shape) (m : ℕ) (e : ℤ) → IsShape shape → IsNormalAt shape m e
     → to_z w32 (of_z w32 (pos 0 -ℤ e)) ≡ neg_ℤ e
 opposite_word shape m e law n =
     let x = normal_near shape m e law n in
@@ -180,13 +180,13 @@ opposite_word shape m e law n =
     to_z-of_z w32 (pos 0 -ℤ e) (fits_in w32 (pos 0 -ℤ e) (omega (arith, ints, x.near, x.far))) ∙ z
 
 -- what is answered of a number
-pub inverse_answer : (shape : Shape) (b : Bool) (m : ℕ) (e : ℤ) → IsShape shape → IsNormal shape m e
+pub inverse_answer : (shape : Shape) (b : Bool) (m : ℕ) (e : ℤ) → IsShape shape → IsNormalAt shape m e
     → IsInvertible shape m e
     → IsExactInverse (format_at shape) (finite b (quanta_at shape.min_exp m e))
     (Some (finite b (quanta_at shape.min_exp m (neg_ℤ e))))
 inverse_answer shape b m e law n i = (quanta_at shape.min_exp m (neg_ℤ e), inverted_product shape m e law n i, refl)
 
-pub no_inverse_answer : (shape : Shape) (b : Bool) (m : ℕ) (e : ℤ) → IsShape shape → IsNormal shape m e
+pub no_inverse_answer : (shape : Shape) (b : Bool) (m : ℕ) (e : ℤ) → IsShape shape → IsNormalAt shape m e
     → (IsInvertible shape m e → ⊥)
     → IsExactInverse (format_at shape) (finite b (quanta_at shape.min_exp m e)) None
 no_inverse_answer shape b m e law n i = λ inverse h. i (invertible_from shape m inverse e law n h)

@@ -10,7 +10,7 @@ use Rattle.apfloat_base.specs.formats.Datum.{finite}
 use Rattle.apfloat_base.specs.order.Classes.{is_denormal}
 use Rattle.apfloat_base.specs.formats.Format.{Format, smallest_normalized}
 use Rattle.apfloat_unpacked.specs.declared.shape.Shape.{Shape}
-use Rattle.apfloat_unpacked.specs.Stored.{IsNormal, quanta_at}
+use Rattle.apfloat_unpacked.specs.Stored.{IsNormalAt, quanta_at}
 use Rattle.apfloat_unpacked.proofs.StoredNumbers.{quanta_low_below, quanta_high}
 
 -- what a comparison of signed numbers answers
@@ -18,7 +18,7 @@ pub compares_as : (t : Bool) (a b : ℤ) (x : Bool) → lt_z a b ≡ t → (a <�
 compares_as true a b x e f g = sym (f (lt_z_yes (subst T (sym e) tt)))
 compares_as false a b x e f g = sym (g (lt_z_no (subst (λ (y : Bool). T (not y)) (sym e) tt)))
 
-pub quanta_low_is : (shape : Shape) (m : ℕ) (e : ℤ) → IsNormal shape m e → 3 ≤ shape.precision → e <ℤ shape.min_exp
+pub quanta_low_is : (shape : Shape) (m : ℕ) (e : ℤ) → IsNormalAt shape m e → 3 ≤ shape.precision → e <ℤ shape.min_exp
     → quanta_at shape.min_exp m e < 2 ^ (shape.precision - 1)
 quanta_low_is shape m e n p l =
     quanta_low_below shape m e (unsigned_abs (shape.min_exp -ℤ e)) n p (omega (arith, ints)) (omega (arith, ints))
@@ -27,7 +27,7 @@ pub quanta_high_is : (shape : Shape) (m : ℕ) (e : ℤ) → shape.min_exp ≤�
     → quanta_at shape.min_exp m e ≡ m * 2 ^ unsigned_abs (e -ℤ shape.min_exp)
 quanta_high_is shape m e l = quanta_high shape m e (unsigned_abs (e -ℤ shape.min_exp)) (omega (arith, ints))
 
-quanta_full : (shape : Shape) (m : ℕ) (e : ℤ) → IsNormal shape m e → shape.min_exp ≤ℤ e
+quanta_full : (shape : Shape) (m : ℕ) (e : ℤ) → IsNormalAt shape m e → shape.min_exp ≤ℤ e
     → 2 ^ (shape.precision - 1) ≤ quanta_at shape.min_exp m e
 quanta_full shape m e n l =
     let q = quanta_high_is shape m e l in
@@ -36,7 +36,7 @@ quanta_full shape m e n l =
     let a : m * 1 ≤ m * 2 ^ unsigned_abs (e -ℤ shape.min_exp) = mul-le-mul_left m o in
     omega arith
 
-pub below_is : (shape : Shape) (m : ℕ) (e : ℤ) → IsNormal shape m e → 3 ≤ shape.precision
+pub below_is : (shape : Shape) (m : ℕ) (e : ℤ) → IsNormalAt shape m e → 3 ≤ shape.precision
     → lt_z e shape.min_exp ≡ ltb (quanta_at shape.min_exp m e) (2 ^ (shape.precision - 1))
 below_is shape m e n p =
     compares_as (lt_z e shape.min_exp) e shape.min_exp (ltb (quanta_at shape.min_exp m e) (2 ^ (shape.precision - 1)))

@@ -8,7 +8,7 @@ use Rattle.apfloat_base.specs.rounding.Standing.{StandsFor, up, down}
 use Rattle.apfloat_base.proofs.Fractions.{product_stands, quotient_stands}
 use Rattle.apfloat_unpacked.specs.declared.shape.Shape.{Shape}
 use Rattle.apfloat_unpacked.specs.Shapes.{IsShape, format_at}
-use Rattle.apfloat_unpacked.specs.Stored.{IsNormal, quanta_at}
+use Rattle.apfloat_unpacked.specs.Stored.{IsNormalAt, quanta_at}
 use Rattle.apfloat_unpacked.proofs.ShapeExponents.{scale_is, exponent_word}
 
 -- the exponent of a number that is stored, with bounds
@@ -17,7 +17,7 @@ pub record IsNear (e : ℤ) : Type 0 where
   pub far : neg_ℤ (pos 1048701) ≤ℤ e
   pub word : to_z w32 (of_z w32 e) ≡ e
 
-pub normal_near : (shape : Shape) (m : ℕ) (e : ℤ) → IsShape shape → IsNormal shape m e → IsNear e
+pub normal_near : (shape : Shape) (m : ℕ) (e : ℤ) → IsShape shape → IsNormalAt shape m e → IsNear e
 normal_near shape m e l n =
     let o = n.operand in
     let near : e ≤ℤ pos 1048576 = omega (arith, ints, l.max_exp_high, o.greatest) in
@@ -37,7 +37,7 @@ balanced_quotient : (precision places scale : ℕ) (min_exp x y r : ℤ) → 3 �
 balanced_quotient precision places scale min_exp x y r t l e = omega (arith, ints)
 
 -- the product of the significands stands for the product of the numbers, both in quanta
-pub product_is : (shape : Shape) (x y r : ℤ) (m n p : ℕ) → IsShape shape → IsNormal shape m x → IsNormal shape n y
+pub product_is : (shape : Shape) (x y r : ℤ) (m n p : ℕ) → IsShape shape → IsNormalAt shape m x → IsNormalAt shape n y
     → p ≡ m * n
     → r ≡ ((x +ℤ y) -ℤ pos (2 * (shape.precision - 1)))
     → quanta_at shape.min_exp m x * quanta_at shape.min_exp n y * 2 ^ down (r +ℤ pos (format_at shape).scale)
@@ -53,8 +53,8 @@ product_is shape x y r m n p l hx hy v e =
 
 -- the quotient of the significands stands for the quotient of the numbers
 pub quotient_is : (shape : Shape) (x y r : ℤ) (places q : ℕ) (loss : Loss) (m n : ℕ) → IsShape shape
-    → IsNormal shape m x
-    → IsNormal shape n y → r ≡ ((x -ℤ y) -ℤ pos places) → StandsFor q loss (m * 2 ^ places) n
+    → IsNormalAt shape m x
+    → IsNormalAt shape n y → r ≡ ((x -ℤ y) -ℤ pos places) → StandsFor q loss (m * 2 ^ places) n
     → StandsFor q loss (quanta_at shape.min_exp m x * 2 ^ (format_at shape).scale * 2 ^ down
     (r +ℤ pos (format_at shape).scale))
     (quanta_at shape.min_exp n y * 2 ^ up (r +ℤ pos (format_at shape).scale))
@@ -68,7 +68,7 @@ quotient_is shape x y r places q loss m n l hx hy e h =
     l.precision_low
     (scale_is shape l) e) h
 
-pub normal_some : (shape : Shape) (m : ℕ) (e : ℤ) → IsNormal shape m e → 0 < m
+pub normal_some : (shape : Shape) (m : ℕ) (e : ℤ) → IsNormalAt shape m e → 0 < m
 normal_some shape m e n = let p : 0 < 2 ^ (shape.precision - 1) = pow_pos (shape.precision - 1) in
     let f = n.operand.full in
     omega arith

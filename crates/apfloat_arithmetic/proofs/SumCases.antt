@@ -13,7 +13,7 @@ use Rattle.apfloat_base.specs.arithmetic.Sums.{IsSum, IsDifference}
 use Rattle.apfloat_unpacked.specs.declared.shape.Shape.{Shape}
 use Rattle.apfloat_unpacked.specs.declared.unpacked.Unpacked.{Unpacked}
 use Rattle.apfloat_unpacked.specs.Shapes.{format_at}
-use Rattle.apfloat_unpacked.specs.Stored.{IsNormal, IsStored, IsStoredBy, datum_at, datum_by, quanta_at}
+use Rattle.apfloat_unpacked.specs.Stored.{IsNormalAt, IsStored, IsStoredBy, datum_at, datum_by, quanta_at}
 use Rattle.apfloat_unpacked.specs.StoredBack.{quanta_some}
 use Rattle.apfloat_unpacked.proofs.StoredMembers.{member_is}
 use Rattle.apfloat_arithmetic.specs.Subtrahends.{added}
@@ -22,7 +22,7 @@ pub number_stored : (shape : Shape) (x : Unpacked) → x.category ≡ Normal →
     → IsFiniteOf (format_at shape) x.negative (quanta_at shape.min_exp x.significand x.exponent)
     × (0 < quanta_at shape.min_exp x.significand x.exponent)
 number_stored shape x e h =
-    let n : IsNormal shape x.significand x.exponent = subst (λ (k : Category). IsStoredBy k shape x) e h in (
+    let n : IsNormalAt shape x.significand x.exponent = subst (λ (k : Category). IsStoredBy k shape x) e h in (
       subst (λ (k : Category). IsMember (format_at shape) (datum_by k shape x)) e (member_is shape x h),
       quanta_some shape x.significand x.exponent n,
     )

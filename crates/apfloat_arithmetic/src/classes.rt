@@ -4,7 +4,7 @@ ghost use Rattle.std.specs.Prelude.{◌≡◌, ltb, true, false};
 ghost use Rattle.apfloat_base.specs.formats.Format.{smallest_normalized};
 ghost use Rattle.apfloat_base.specs.order.Classes.{is_denormal};
 ghost use Rattle.apfloat_unpacked.specs.Shapes.{IsShape, format_at};
-ghost use Rattle.apfloat_unpacked.specs.Stored.{IsStored, IsNormal, quanta_at, datum_at};
+ghost use Rattle.apfloat_unpacked.specs.Stored.{IsStored, IsNormal, quanta_of, datum_at};
 
 use apfloat_base::Category;
 use apfloat_unpacked::shape::Shape;
@@ -14,9 +14,8 @@ use apfloat_unpacked::unpacked::Unpacked;
 #[inline(always)]
 fn is_below_normal(shape: Shape, x: Unpacked) -> bool
     requires lawful { IsShape shape }
-    requires normal { IsNormal shape x.significand x.exponent }
-    ensures { result ≡ ltb (quanta_at shape.min_exp x.significand x.exponent)
-        (smallest_normalized (format_at shape)) }
+    requires normal { IsNormal shape x }
+    ensures { result ≡ ltb (quanta_of shape x) (smallest_normalized (format_at shape)) }
 {
     x.exponent < shape.min_exp
 }

@@ -3,12 +3,11 @@
 ghost use Rattle.std.specs.Prelude.{◌≡◌, ℕ, ◌<◌};
 ghost use Rattle.apfloat_base.specs.declared.kinds.NonfiniteBehavior.TheVariants.{IEEE754};
 ghost use Rattle.apfloat_base.specs.declared.kinds.Round.{Round};
-ghost use Rattle.apfloat_base.specs.rounding.Flags.{bits_of};
 ghost use Rattle.apfloat_base.specs.formats.Datum.{infinite};
 ghost use Rattle.apfloat_base.specs.rounding.Answer.{IsAnswer};
 ghost use Rattle.apfloat_base.specs.rounding.Rounding.{ok_bits, signed_quanta, IsDelivered};
 ghost use Rattle.apfloat_unpacked.specs.Shapes.{IsShape, format_at};
-ghost use Rattle.apfloat_unpacked.specs.Stored.{IsStored, datum_at};
+ghost use Rattle.apfloat_unpacked.specs.Stored.{IsStored, GivesAt};
 
 use apfloat_base::{Status, StatusAnd};
 use apfloat_unpacked::shape::Shape;
@@ -19,11 +18,10 @@ use apfloat_unpacked::unpacked::{Unpacked, infinity_of, zero_of};
 pub fn exact_zero(shape: Shape, negative: bool) -> StatusAnd<Unpacked>
     requires { IsShape shape }
     ensures stored { IsStored shape result.value }
-    ensures answer { IsAnswer (signed_quanta shape.nonfinite negative 0) ok_bits
-        (datum_at shape result.value) (bits_of result.status) }
+    ensures answer { GivesAt shape
+        (IsAnswer (signed_quanta shape.nonfinite negative 0) ok_bits) result }
     ensures delivered { (round : Round) (parts : ℕ) → 0 < parts
-        → IsDelivered (format_at shape) round negative 0 parts (datum_at shape result.value)
-        (bits_of result.status) }
+        → GivesAt shape (IsDelivered (format_at shape) round negative 0 parts) result }
 {
     Status::OK.and(zero_of(shape, negative))
 }
@@ -34,8 +32,7 @@ pub fn exact_infinity(shape: Shape, negative: bool) -> StatusAnd<Unpacked>
     requires lawful { IsShape shape }
     requires infinities { shape.nonfinite ≡ IEEE754 }
     ensures stored { IsStored shape result.value }
-    ensures answer { IsAnswer (infinite negative) ok_bits (datum_at shape result.value)
-        (bits_of result.status) }
+    ensures answer { GivesAt shape (IsAnswer (infinite negative) ok_bits) result }
 {
     Status::OK.and(infinity_of(shape, negative))
 }

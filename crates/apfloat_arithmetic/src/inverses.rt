@@ -1,6 +1,6 @@
 //! Exact inverses.
 
-ghost use Rattle.std.specs.Prelude.{◌≡◌, Option, Some, true, false};
+ghost use Rattle.std.specs.Prelude.{◌≡◌, Some, true, false};
 ghost use Rattle.std.specs.Option.{option_map};
 ghost use Rattle.apfloat_base.specs.arithmetic.Exponents.{IsExactInverse};
 ghost use Rattle.apfloat_unpacked.specs.Shapes.{IsShape, format_at};
@@ -15,7 +15,7 @@ use apfloat_unpacked::unpacked::Unpacked;
 #[inline(always)]
 fn is_invertible(shape: Shape, x: Unpacked) -> bool
     requires lawful { IsShape shape }
-    requires normal { IsNormal shape x.significand x.exponent }
+    requires normal { IsNormal shape x }
     ensures yes { result ≡ true → IsInvertible shape x.significand x.exponent }
     ensures no { result ≡ false → IsInvertible shape x.significand x.exponent → ⊥ }
 {

@@ -7,7 +7,7 @@ ghost use Rattle.apfloat_base.specs.declared.kinds.Category.TheVariants.{Normal}
 ghost use Rattle.apfloat_base.specs.order.Classes.{is_nan, same_datum};
 ghost use Rattle.apfloat_base.specs.order.Order.{number, compared, compared_magnitudes};
 ghost use Rattle.apfloat_unpacked.specs.declared.shape.Shape.{Shape};
-ghost use Rattle.apfloat_unpacked.specs.Stored.{IsNormal, IsStored, datum_at, quanta_at};
+ghost use Rattle.apfloat_unpacked.specs.Stored.{IsNormal, IsStored, datum_at, quanta_of};
 ghost use Rattle.apfloat_arithmetic.specs.Sides.{side};
 
 use apfloat_base::Category;
@@ -18,10 +18,8 @@ use std::cmp::Ordering;
 /// first.
 #[inline(always)]
 fn compare_significands(x: Unpacked, y: Unpacked) -> Ordering
-    ensures { (shape : Shape) → IsNormal shape x.significand x.exponent
-        → IsNormal shape y.significand y.exponent
-        → result ≡ nat_cmp (quanta_at shape.min_exp x.significand x.exponent)
-        (quanta_at shape.min_exp y.significand y.exponent) }
+    ensures { (shape : Shape) → IsNormal shape x → IsNormal shape y
+        → result ≡ nat_cmp (quanta_of shape x) (quanta_of shape y) }
 {
     x.exponent
         .cmp(&y.exponent)

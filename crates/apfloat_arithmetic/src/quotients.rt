@@ -1,7 +1,6 @@
 //! Quotients.
 
 ghost use Rattle.std.specs.Prelude.{◌≡◌, ◌+◌, ◌-◌, ◌*◌, ◌/◌, ◌^◌, ◌<◌, ◌≤◌, pos, neg_ℤ, ◌≤ℤ◌, ◌-ℤ◌};
-ghost use Rattle.apfloat_base.specs.rounding.Flags.{bits_of};
 ghost use Rattle.apfloat_base.specs.rounding.Answer.{IsAnswer};
 ghost use Rattle.apfloat_base.specs.formats.Constants.{infinity_of};
 ghost use Rattle.apfloat_base.specs.arithmetic.Exact.{product_sign};
@@ -9,7 +8,7 @@ ghost use Rattle.apfloat_base.specs.rounding.Rounding.{IsDelivered};
 ghost use Rattle.apfloat_base.specs.rounding.Standing.{StandsFor};
 ghost use Rattle.apfloat_base.specs.arithmetic.Quotients.{IsQuotient, div_by_zero_bit};
 ghost use Rattle.apfloat_unpacked.specs.Shapes.{IsShape, format_at};
-ghost use Rattle.apfloat_unpacked.specs.Stored.{IsStored, IsNormal, quanta_at, datum_at};
+ghost use Rattle.apfloat_unpacked.specs.Stored.{IsStored, IsNormal, quanta_of, datum_at, GivesAt};
 
 use crate::classes::are_normal;
 use crate::exact::{exact_infinity, exact_zero};
@@ -65,13 +64,12 @@ fn quotient_of(precision: u32, dividend: u128, divisor: u128) -> Quotient
 #[inline(always)]
 fn divide_numbers(shape: Shape, x: Unpacked, y: Unpacked, round: Round) -> StatusAnd<Unpacked>
     requires lawful { IsShape shape }
-    requires left { IsNormal shape x.significand x.exponent }
-    requires right { IsNormal shape y.significand y.exponent }
+    requires left { IsNormal shape x }
+    requires right { IsNormal shape y }
     ensures stored { IsStored shape result.value }
-    ensures delivered { IsDelivered (format_at shape) round (product_sign x.negative y.negative)
-        (quanta_at shape.min_exp x.significand x.exponent * 2 ^ (format_at shape).scale)
-        (quanta_at shape.min_exp y.significand y.exponent) (datum_at shape result.value)
-        (bits_of result.status) }
+    ensures delivered { GivesAt shape (IsDelivered (format_at shape) round
+        (product_sign x.negative y.negative) (quanta_of shape x * 2 ^ (format_at shape).scale)
+        (quanta_of shape y)) result }
 {
     let places = shape.precision + 1;
     let quotient = quotient_of(shape.precision, x.significand, y.significand);
@@ -90,8 +88,8 @@ fn divide_numbers(shape: Shape, x: Unpacked, y: Unpacked, round: Round) -> Statu
 fn divided_by_zero(shape: Shape, negative: bool) -> StatusAnd<Unpacked>
     requires { IsShape shape }
     ensures stored { IsStored shape result.value }
-    ensures answer { IsAnswer (infinity_of (format_at shape) negative) div_by_zero_bit
-        (datum_at shape result.value) (bits_of result.status) }
+    ensures answer { GivesAt shape
+        (IsAnswer (infinity_of (format_at shape) negative) div_by_zero_bit) result }
 {
     Status::DIV_BY_ZERO.and(infinity_of(shape, negative))
 }
@@ -104,8 +102,8 @@ fn divide_any(shape: Shape, x: Unpacked, y: Unpacked, round: Round) -> StatusAnd
     requires left { IsStored shape x }
     requires right { IsStored shape y }
     ensures stored { IsStored shape result.value }
-    ensures delivered { IsQuotient (format_at shape) round
-        (datum_at shape x) (datum_at shape y) (datum_at shape result.value) (bits_of result.status) }
+    ensures delivered { GivesAt shape
+        (IsQuotient (format_at shape) round (datum_at shape x) (datum_at shape y)) result }
 {
     let negative = product_sign(x.negative, y.negative);
     match x.category {
@@ -138,8 +136,8 @@ pub fn divide(shape: Shape, x: Unpacked, y: Unpacked, round: Round) -> StatusAnd
     requires left { IsStored shape x }
     requires right { IsStored shape y }
     ensures stored { IsStored shape result.value }
-    ensures delivered { IsQuotient (format_at shape) round
-        (datum_at shape x) (datum_at shape y) (datum_at shape result.value) (bits_of result.status) }
+    ensures delivered { GivesAt shape
+        (IsQuotient (format_at shape) round (datum_at shape x) (datum_at shape y)) result }
 {
     if are_normal(x, y) {
         divide_numbers(shape, x, y, round)

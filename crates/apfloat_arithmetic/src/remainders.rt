@@ -4,7 +4,7 @@
 //! a power of two that is not above what is left, so there is a turn for each digit that is one. A significand stands at
 //! a place, which is counted from that of the last digit of the least number whose significand has all its digits.
 
-ghost use Rattle.std.specs.Prelude.{◌≡◌, ℕ, ◌+◌, ◌-◌, ◌*◌, ◌/◌, ◌%◌, ◌^◌, ◌<◌, ◌≤◌, ◌⊎◌, false, true, eqb, count_ones, cond, ℤ, pos, ◌≤ℤ◌, ◌+ℤ◌, ◌-ℤ◌};
+ghost use Rattle.std.specs.Prelude.{◌≡◌, ℕ, ◌+◌, ◌-◌, ◌*◌, ◌/◌, ◌%◌, ◌^◌, ◌<◌, ◌≤◌, ◌⊎◌, false, eqb, count_ones, cond, ℤ, pos, ◌≤ℤ◌, ◌+ℤ◌, ◌-ℤ◌};
 ghost use Rattle.apfloat_base.specs.declared.kinds.Category.{Category};
 ghost use Rattle.apfloat_base.specs.declared.kinds.Round.{Round};
 ghost use Rattle.apfloat_base.specs.rounding.Flags.{bits_of};
@@ -12,7 +12,7 @@ ghost use Rattle.apfloat_base.specs.rounding.Rounding.{ok_bits, takes_above};
 ghost use Rattle.apfloat_base.specs.arithmetic.Exponents.{IsIlogb};
 ghost use Rattle.apfloat_base.specs.arithmetic.Remainders.{truncated_quotient, nearest_quotient, rest_of, IsRemainder, IsTruncatedRemainder, IsNearestRemainder, ones_of_quotient};
 ghost use Rattle.apfloat_unpacked.specs.Shapes.{IsShape, format_at};
-ghost use Rattle.apfloat_unpacked.specs.Stored.{IsOperandAt, IsNormal, IsStored, datum_at, quanta_at};
+ghost use Rattle.apfloat_unpacked.specs.Stored.{IsOperandAt, IsNormal, IsStored, datum_at, quanta_of, GivesAt};
 
 use crate::classes::are_normal;
 use apfloat_base::sig::digits;
@@ -247,16 +247,14 @@ fn in_quanta(precision: u32, point: Point) -> Point
 /// What is left of `x` by the quotient cut toward zero, in quanta.
 fn truncated_rest(shape: Shape, x: Unpacked, y: Unpacked) -> Rest
     requires lawful { IsShape shape }
-    requires x { IsNormal shape x.significand x.exponent }
-    requires y { IsNormal shape y.significand y.exponent }
+    requires x { IsNormal shape x }
+    requires y { IsNormal shape y }
     ensures fits { result.point.significand < 2 ^ shape.precision }
     ensures near { result.point.place ≤ 33554432 }
     ensures quanta { result.point.significand * 2 ^ result.point.place
-        ≡ quanta_at shape.min_exp x.significand x.exponent % quanta_at shape.min_exp
-        y.significand y.exponent }
-    ensures steps { result.steps ≡ count_ones
-        (truncated_quotient (quanta_at shape.min_exp x.significand x.exponent)
-        (quanta_at shape.min_exp y.significand y.exponent)) }
+        ≡ quanta_of shape x % quanta_of shape y }
+    ensures steps { result.steps
+        ≡ count_ones (truncated_quotient (quanta_of shape x) (quanta_of shape y)) }
 {
     let rest = rest_by(shape.precision, point_of(shape, x), point_of(shape, y));
     Rest {
@@ -269,15 +267,14 @@ fn truncated_rest(shape: Shape, x: Unpacked, y: Unpacked) -> Rest
 /// How far the nearest multiple of `y` is from `x`, in quanta, and whether it is above.
 fn nearest_rest(shape: Shape, x: Unpacked, y: Unpacked) -> Nearest
     requires lawful { IsShape shape }
-    requires x { IsNormal shape x.significand x.exponent }
-    requires y { IsNormal shape y.significand y.exponent }
+    requires x { IsNormal shape x }
+    requires y { IsNormal shape y }
     ensures fits { result.point.significand < 2 ^ shape.precision }
     ensures near { result.point.place ≤ 33554432 }
-    ensures past { let m = quanta_at shape.min_exp x.significand x.exponent in let n =
-        quanta_at shape.min_exp y.significand y.exponent in
-        result.past ≡ takes_above Round.NearestTiesToEven false (m % n) (n - m % n) (eqb (m / n % 2) 1) }
-    ensures quanta { let m = quanta_at shape.min_exp x.significand x.exponent in let n =
-        quanta_at shape.min_exp y.significand y.exponent in
+    ensures past { let m = quanta_of shape x in let n = quanta_of shape y in
+        result.past ≡ takes_above Round.NearestTiesToEven false (m % n) (n - m % n)
+        (eqb (m / n % 2) 1) }
+    ensures quanta { let m = quanta_of shape x in let n = quanta_of shape y in
         result.point.significand * 2 ^ result.point.place ≡ cond result.past (n - m % n) (m % n) }
 {
     let number = point_of(shape, x);
@@ -301,16 +298,15 @@ pub struct Remainder {
 /// The remainder of numbers by the quotient cut toward zero, which is the exact answer, and after how many subtractions.
 fn truncated_number(shape: Shape, x: Unpacked, y: Unpacked) -> Remainder
     requires lawful { IsShape shape }
-    requires x { IsNormal shape x.significand x.exponent }
-    requires y { IsNormal shape y.significand y.exponent }
+    requires x { IsNormal shape x }
+    requires y { IsNormal shape y }
     ensures stored { IsStored shape result.answer.value }
-    ensures value { let m = quanta_at shape.min_exp x.significand x.exponent in let n =
-        quanta_at shape.min_exp y.significand y.exponent in
-        datum_at shape result.answer.value ≡ rest_of shape.nonfinite x.negative m (n * truncated_quotient m n) }
+    ensures value { let m = quanta_of shape x in let n = quanta_of shape y in
+        datum_at shape result.answer.value ≡ rest_of shape.nonfinite x.negative m
+        (n * truncated_quotient m n) }
     ensures status { bits_of result.answer.status ≡ ok_bits }
-    ensures steps { result.steps ≡ count_ones
-        (truncated_quotient (quanta_at shape.min_exp x.significand x.exponent)
-        (quanta_at shape.min_exp y.significand y.exponent)) }
+    ensures steps { result.steps
+        ≡ count_ones (truncated_quotient (quanta_of shape x) (quanta_of shape y)) }
 {
     let Rest {
         point,
@@ -326,12 +322,12 @@ fn truncated_number(shape: Shape, x: Unpacked, y: Unpacked) -> Remainder
 /// The remainder of numbers by the whole number nearest to the quotient, which is the exact answer.
 fn nearest_number(shape: Shape, x: Unpacked, y: Unpacked) -> StatusAnd<Unpacked>
     requires lawful { IsShape shape }
-    requires x { IsNormal shape x.significand x.exponent }
-    requires y { IsNormal shape y.significand y.exponent }
+    requires x { IsNormal shape x }
+    requires y { IsNormal shape y }
     ensures stored { IsStored shape result.value }
-    ensures value { let m = quanta_at shape.min_exp x.significand x.exponent in let n =
-        quanta_at shape.min_exp y.significand y.exponent in
-        datum_at shape result.value ≡ rest_of shape.nonfinite x.negative m (n * nearest_quotient m n) }
+    ensures value { let m = quanta_of shape x in let n = quanta_of shape y in
+        datum_at shape result.value ≡ rest_of shape.nonfinite x.negative m
+        (n * nearest_quotient m n) }
     ensures status { bits_of result.status ≡ ok_bits }
 {
     let nearest = nearest_rest(shape, x, y);
@@ -352,8 +348,8 @@ fn special_divisor(shape: Shape, x: Unpacked, y: Unpacked) -> StatusAnd<Unpacked
     requires special { x.category ≡ Category.Normal → y.category ≡ Category.Normal → ⊥ }
     ensures stored { IsStored shape result.value }
     ensures delivered { (quotient : ℕ → ℕ → ℕ) → ((n : ℕ) → 0 < n → quotient 0 n ≡ 0)
-        → IsRemainder (format_at shape) quotient (datum_at shape x) (datum_at shape y)
-        (datum_at shape result.value) (bits_of result.status) }
+        → GivesAt shape (IsRemainder (format_at shape) quotient (datum_at shape x)
+        (datum_at shape y)) result }
 {
     match y.category {
         Category::NaN => propagated(shape, y),
@@ -371,8 +367,8 @@ fn special_remainder(shape: Shape, x: Unpacked, y: Unpacked) -> StatusAnd<Unpack
     requires special { x.category ≡ Category.Normal → y.category ≡ Category.Normal → ⊥ }
     ensures stored { IsStored shape result.value }
     ensures delivered { (quotient : ℕ → ℕ → ℕ) → ((n : ℕ) → 0 < n → quotient 0 n ≡ 0)
-        → IsRemainder (format_at shape) quotient (datum_at shape x) (datum_at shape y)
-        (datum_at shape result.value) (bits_of result.status) }
+        → GivesAt shape (IsRemainder (format_at shape) quotient (datum_at shape x)
+        (datum_at shape y)) result }
 {
     match x.category {
         Category::NaN => propagated_left(shape, x, y),
@@ -395,8 +391,8 @@ pub fn truncated_remainder(shape: Shape, x: Unpacked, y: Unpacked) -> Remainder
     requires x { IsStored shape x }
     requires y { IsStored shape y }
     ensures stored { IsStored shape result.answer.value }
-    ensures delivered { IsTruncatedRemainder (format_at shape) (datum_at shape x)
-        (datum_at shape y) (datum_at shape result.answer.value) (bits_of result.answer.status) }
+    ensures delivered { GivesAt shape (IsTruncatedRemainder (format_at shape) (datum_at shape x)
+        (datum_at shape y)) result.answer }
     ensures steps { result.steps ≡ ones_of_quotient (datum_at shape x) (datum_at shape y) }
     ensures few { (a b : ℤ) → IsIlogb (format_at shape) (datum_at shape x) a
         → IsIlogb (format_at shape) (datum_at shape y) b → 0 < result.steps
@@ -418,8 +414,8 @@ pub fn nearest_remainder(shape: Shape, x: Unpacked, y: Unpacked) -> StatusAnd<Un
     requires x { IsStored shape x }
     requires y { IsStored shape y }
     ensures stored { IsStored shape result.value }
-    ensures delivered { IsNearestRemainder (format_at shape) (datum_at shape x)
-        (datum_at shape y) (datum_at shape result.value) (bits_of result.status) }
+    ensures delivered { GivesAt shape
+        (IsNearestRemainder (format_at shape) (datum_at shape x) (datum_at shape y)) result }
 {
     if are_normal(x, y) {
         nearest_number(shape, x, y)

@@ -2,12 +2,11 @@
 
 ghost use Rattle.std.specs.Prelude.{◌≡◌, pos, ◌+ℤ◌};
 ghost use Rattle.apfloat_base.specs.arithmetic.Exact.{signed, IsRounded};
-ghost use Rattle.apfloat_base.specs.rounding.Flags.{bits_of};
 ghost use Rattle.apfloat_base.specs.formats.Datum.{finite, infinite};
 ghost use Rattle.apfloat_base.specs.arithmetic.Sums.{zero_sum_sign, IsSum, IsDifference};
 ghost use Rattle.apfloat_arithmetic.specs.Subtrahends.{added};
 ghost use Rattle.apfloat_unpacked.specs.Shapes.{IsShape, format_at};
-ghost use Rattle.apfloat_unpacked.specs.Stored.{IsNormal, IsStored, datum_at, quanta_at};
+ghost use Rattle.apfloat_unpacked.specs.Stored.{IsNormal, IsStored, datum_at, quanta_of, GivesAt};
 
 use crate::classes::are_normal;
 use crate::signs::negated;
@@ -22,7 +21,7 @@ use apfloat_unpacked::unpacked::{Unpacked, remade, zero_of};
 #[inline(always)]
 fn term_of(shape: Shape, x: Unpacked) -> Term
     requires lawful { IsShape shape }
-    requires normal { IsNormal shape x.significand x.exponent }
+    requires normal { IsNormal shape x }
     ensures negative { result.negative ≡ x.negative }
     ensures significand { result.significand ≡ x.significand }
     ensures exponent { (result.exponent +ℤ pos shape.precision) ≡ (x.exponent +ℤ pos 1) }
@@ -69,14 +68,12 @@ pub(crate) fn sign_of_total(total: Total, of_zero: bool) -> bool
 #[inline(always)]
 fn add_numbers(shape: Shape, x: Unpacked, y: Unpacked, round: Round) -> StatusAnd<Unpacked>
     requires lawful { IsShape shape }
-    requires x_normal { IsNormal shape x.significand x.exponent }
-    requires y_normal { IsNormal shape y.significand y.exponent }
+    requires x_normal { IsNormal shape x }
+    requires y_normal { IsNormal shape y }
     ensures stored { IsStored shape result.value }
-    ensures delivered { IsRounded (format_at shape) round
+    ensures delivered { GivesAt shape (IsRounded (format_at shape) round
         (zero_sum_sign round x.negative y.negative)
-        (signed x.negative (quanta_at shape.min_exp x.significand x.exponent) +ℤ signed
-        y.negative (quanta_at shape.min_exp y.significand y.exponent)) 1
-        (datum_at shape result.value) (bits_of result.status) }
+        (signed x.negative (quanta_of shape x) +ℤ signed y.negative (quanta_of shape y)) 1) result }
 {
     let total = add_terms(term_of(shape, x), term_of(shape, y));
     let of_zero = sign_of_zero(round, x.negative, y.negative);
@@ -100,8 +97,8 @@ fn add_to_infinity(shape: Shape, x: Unpacked, y: Unpacked) -> StatusAnd<Unpacked
     requires y_stored { IsStored shape y }
     ensures stored { IsStored shape result.value }
     ensures delivered { (mode : Round)
-        → IsSum (format_at shape) mode (infinite x.negative) (datum_at shape y)
-        (datum_at shape result.value) (bits_of result.status) }
+        → GivesAt shape (IsSum (format_at shape) mode (infinite x.negative) (datum_at shape y))
+        result }
 {
     match y.category {
         Category::NaN => propagated(shape, y),
@@ -123,8 +120,8 @@ fn add_to_zero(shape: Shape, x: Unpacked, y: Unpacked, round: Round) -> StatusAn
     requires lawful { IsShape shape }
     requires y_stored { IsStored shape y }
     ensures stored { IsStored shape result.value }
-    ensures delivered { IsSum (format_at shape) round (finite x.negative 0) (datum_at shape y)
-        (datum_at shape result.value) (bits_of result.status) }
+    ensures delivered { GivesAt shape
+        (IsSum (format_at shape) round (finite x.negative 0) (datum_at shape y)) result }
 {
     match y.category {
         Category::NaN => propagated(shape, y),
@@ -145,9 +142,8 @@ fn add_to_number(shape: Shape, x: Unpacked, y: Unpacked, round: Round) -> Status
     requires x_stored { IsStored shape x }
     requires y_stored { IsStored shape y }
     ensures stored { IsStored shape result.value }
-    ensures delivered { IsSum (format_at shape) round
-        (finite x.negative (quanta_at shape.min_exp x.significand x.exponent))
-        (datum_at shape y) (datum_at shape result.value) (bits_of result.status) }
+    ensures delivered { GivesAt shape (IsSum (format_at shape) round
+        (finite x.negative (quanta_of shape x)) (datum_at shape y)) result }
 {
     match y.category {
         Category::Normal => add_numbers(shape, x, y, round),
@@ -165,8 +161,8 @@ fn add_any(shape: Shape, x: Unpacked, y: Unpacked, round: Round) -> StatusAnd<Un
     requires x_stored { IsStored shape x }
     requires y_stored { IsStored shape y }
     ensures stored { IsStored shape result.value }
-    ensures delivered { IsSum (format_at shape) round (datum_at shape x) (datum_at shape y)
-        (datum_at shape result.value) (bits_of result.status) }
+    ensures delivered { GivesAt shape
+        (IsSum (format_at shape) round (datum_at shape x) (datum_at shape y)) result }
 {
     match x.category {
         Category::Normal => add_to_number(shape, x, y, round),
@@ -183,8 +179,8 @@ pub fn add(shape: Shape, x: Unpacked, y: Unpacked, round: Round) -> StatusAnd<Un
     requires x_stored { IsStored shape x }
     requires y_stored { IsStored shape y }
     ensures stored { IsStored shape result.value }
-    ensures delivered { IsSum (format_at shape) round
-        (datum_at shape x) (datum_at shape y) (datum_at shape result.value) (bits_of result.status) }
+    ensures delivered { GivesAt shape
+        (IsSum (format_at shape) round (datum_at shape x) (datum_at shape y)) result }
 {
     if are_normal(x, y) {
         add_numbers(shape, x, y, round)
@@ -213,8 +209,8 @@ pub fn subtract(shape: Shape, x: Unpacked, y: Unpacked, round: Round) -> StatusA
     requires x_stored { IsStored shape x }
     requires y_stored { IsStored shape y }
     ensures stored { IsStored shape result.value }
-    ensures delivered { IsDifference (format_at shape) round (datum_at shape x)
-        (datum_at shape y) (datum_at shape result.value) (bits_of result.status) }
+    ensures delivered { GivesAt shape
+        (IsDifference (format_at shape) round (datum_at shape x) (datum_at shape y)) result }
 {
     add(shape, x, added(shape, y), round)
 }

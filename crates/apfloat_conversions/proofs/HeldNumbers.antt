@@ -20,7 +20,7 @@ use Rattle.apfloat_base.proofs.SingleScalings.{scaled_stands}
 use Rattle.apfloat_base.proofs.Totals.{no_down}
 use Rattle.apfloat_unpacked.specs.declared.shape.Shape.{Shape}
 use Rattle.apfloat_unpacked.specs.Shapes.{IsShape, format_at}
-use Rattle.apfloat_unpacked.specs.Stored.{IsNormal, IsQuantaAt, quanta_at}
+use Rattle.apfloat_unpacked.specs.Stored.{IsNormalAt, IsQuantaAt, quanta_at}
 use Rattle.apfloat_unpacked.proofs.StoredNumbers.{quanta_is, whole_is}
 use Rattle.apfloat_unpacked.proofs.ShapeExponents.{scale_is, span_is}
 use Rattle.apfloat_conversions.specs.Held.{IsHeld, IsHeldAt, IsInside, IsReachedLevel}
@@ -76,7 +76,7 @@ held_within source target a from into h l =
 -- ---- a number
 
 held_quanta : (source target : Shape) (m : ℕ) (e : ℤ) → IsShape source → IsShape target → IsHeld source target
-    → IsNormal source m e
+    → IsNormalAt source m e
     → IsQuantaAt target.min_exp (m * 2 ^ (target.precision - source.precision)) e
     (quanta_at source.min_exp m e * 2 ^ finer source target)
 held_quanta source target m e from into h n =
@@ -93,8 +93,8 @@ held_quanta source target m e from into h n =
     omega (arith, q)
 
 held_normal : (source target : Shape) (m : ℕ) (e : ℤ) → IsShape source → IsShape target → IsHeld source target
-    → IsNormal source m e
-    → IsNormal target (m * 2 ^ (target.precision - source.precision)) e
+    → IsNormalAt source m e
+    → IsNormalAt target (m * 2 ^ (target.precision - source.precision)) e
 held_normal source target m e from into h n =
     let q = held_quanta source target m e from into h n in
     let x = scale_is source from in
@@ -146,8 +146,8 @@ inside_within source target m e from into h f =
     omega (arith, q)
 
 inside_normal : (source target : Shape) (m : ℕ) (e : ℤ) → IsShape source → IsShape target → IsInside source target e
-    → IsNormal source m e
-    → IsNormal target (m * 2 ^ (target.precision - source.precision)) e
+    → IsNormalAt source m e
+    → IsNormalAt target (m * 2 ^ (target.precision - source.precision)) e
 inside_normal source target m e from into h n =
     let p = h.precise in
     let q = inside_quanta source target m e h in
@@ -166,8 +166,8 @@ inside_normal source target m e from into h n =
     }
 
 pub normal_there : (source target : Shape) (m : ℕ) (e : ℤ) → IsShape source → IsShape target
-    → IsHeldAt source target e → IsNormal source m e
-    → IsNormal target (m * 2 ^ (target.precision - source.precision)) e
+    → IsHeldAt source target e → IsNormalAt source m e
+    → IsNormalAt target (m * 2 ^ (target.precision - source.precision)) e
 normal_there source target m e from into h n =
     ⊎_elim (λ o. held_normal source target m e from into o n) (λ o. inside_normal source target m e from into o n) h
 
@@ -191,8 +191,8 @@ some_there a zero f g p e = let q : 0 < a * 2 ^ g = mul-pos p (pow_pos g) in ome
 some_there a (suc b) f g p e = omega arith
 
 pub same_there : (source target : Shape) (m : ℕ) (e : ℤ) → IsShape source → IsShape target
-    → source.precision ≤ target.precision → IsNormal source m e
-    → IsNormal target (m * 2 ^ (target.precision - source.precision)) e
+    → source.precision ≤ target.precision → IsNormalAt source m e
+    → IsNormalAt target (m * 2 ^ (target.precision - source.precision)) e
     → quanta_at source.min_exp m e * 2 ^ (format_at target).scale
     ≡ quanta_at target.min_exp (m * 2 ^ (target.precision - source.precision)) e * 2 ^ (format_at source).scale
 same_there source target m e from into p n o =

@@ -5,7 +5,7 @@ use Rattle.apfloat_base.specs.formats.Format.{largest}
 use Rattle.apfloat_base.specs.rounding.Standing.{up}
 use Rattle.apfloat_unpacked.specs.declared.shape.Shape.{Shape}
 use Rattle.apfloat_unpacked.specs.Shapes.{format_at, IsShape}
-use Rattle.apfloat_unpacked.specs.Stored.{IsNormal}
+use Rattle.apfloat_unpacked.specs.Stored.{IsNormalAt}
 use Rattle.apfloat_unpacked.proofs.ShapeExponents.{scale_is}
 use Rattle.apfloat_conversions.proofs.StoredExponents.{scale_in_span, half_within, number_of}
 use Rattle.apfloat_conversions.proofs.Nexts.{logarithm_is, fraction_operand, fraction_quanta, fraction_low}
@@ -14,7 +14,7 @@ use Rattle.apfloat_conversions.proofs.Nexts.{logarithm_is, fraction_operand, fra
 abbrev pub fraction_at : Shape → ℕ → ℕ
 fraction_at s m = m * 2 ^ up (negsuc 0 -ℤ s.min_exp)
 
-pub fraction_size : (shape : Shape) (m : ℕ) (e : ℤ) → IsShape shape → IsNormal shape m e
+pub fraction_size : (shape : Shape) (m : ℕ) (e : ℤ) → IsShape shape → IsNormalAt shape m e
     → (2 ^ ((format_at shape).scale - 1) ≤ fraction_at shape m) × (fraction_at shape m < 2 ^ (format_at shape).scale)
 fraction_size shape m e law n =
     let o = fraction_operand shape.precision shape.min_exp shape.max_exp e m law.precision_low law.min_exp_high
@@ -26,7 +26,7 @@ fraction_size shape m e law n =
     law.precision_low
     (scale_is shape law) o q)
 
-pub fraction_number : (shape : Shape) (m : ℕ) (e : ℤ) → IsShape shape → IsNormal shape m e → IsNormal shape m (negsuc 0)
+pub fraction_number : (shape : Shape) (m : ℕ) (e : ℤ) → IsShape shape → IsNormalAt shape m e → IsNormalAt shape m (negsuc 0)
 fraction_number shape m e law n =
     let o = fraction_operand shape.precision shape.min_exp shape.max_exp e m law.precision_low law.min_exp_high
     law.max_exp_low

@@ -16,7 +16,7 @@ use Rattle.apfloat_base.proofs.Losses.{twice_half}
 use Rattle.apfloat_base.proofs.SingleScalings.{up_le, up_far, quanta_below}
 use Rattle.apfloat_unpacked.specs.declared.shape.Shape.{Shape}
 use Rattle.apfloat_unpacked.specs.Shapes.{IsShape, format_at}
-use Rattle.apfloat_unpacked.specs.Stored.{IsOperandAt, IsQuantaAt, IsNormal, quanta_at}
+use Rattle.apfloat_unpacked.specs.Stored.{IsOperandAt, IsQuantaAt, IsNormalAt, quanta_at}
 use Rattle.apfloat_unpacked.specs.StoredBack.{quanta_some}
 use Rattle.apfloat_unpacked.proofs.StoredNumbers.{quanta_is}
 use Rattle.apfloat_unpacked.proofs.ShapeExponents.{span_is}
@@ -27,7 +27,7 @@ some : (shape : Shape) → IsShape shape → 0 < shape.precision
 some shape law = let t = law.precision_low in omega (arith, t)
 
 -- a step at a stored number's last place
-pub step_fits : (shape : Shape) (m t : ℕ) (e : ℤ) → IsShape shape → IsNormal shape m e
+pub step_fits : (shape : Shape) (m t : ℕ) (e : ℤ) → IsShape shape → IsNormalAt shape m e
     → t ≡ 2 ^ down (e -ℤ shape.min_exp)
     → m + t < 2 ^ 128
 step_fits shape m t e law n i =
@@ -52,7 +52,7 @@ pub record IsAfter (shape : Shape) (n m : ℕ) (e : ℤ) : Type 0 where
   pub operand : IsOperandAt shape.precision shape.min_exp shape.max_exp m e
   pub quanta : IsQuantaAt shape.min_exp m e next
 
-above_of : (shape : Shape) (m : ℕ) (e : ℤ) → IsShape shape → IsNormal shape m e
+above_of : (shape : Shape) (m : ℕ) (e : ℤ) → IsShape shape → IsNormalAt shape m e
     → IsAbove shape.precision (quanta_at shape.min_exp m e + 2 ^ up (e -ℤ shape.min_exp))
     (quanta_at shape.min_exp m e + 1) 1
 above_of shape m e law n =
@@ -60,7 +60,7 @@ above_of shape m e law n =
     (some shape law)
     (one_side (e -ℤ shape.min_exp)) n.operand.fits n.operand.full n.whole
 
-pub after_stays : (shape : Shape) (m t : ℕ) (e : ℤ) → IsShape shape → IsNormal shape m e
+pub after_stays : (shape : Shape) (m t : ℕ) (e : ℤ) → IsShape shape → IsNormalAt shape m e
     → t ≡ 2 ^ down (e -ℤ shape.min_exp)
     → m + t < 2 ^ shape.precision → IsAfter shape (quanta_at shape.min_exp m e) (m + t) e
 after_stays shape m t e law n i f =
@@ -73,7 +73,7 @@ after_stays shape m t e law n i f =
           (down (e -ℤ shape.min_exp)) t i n.whole;
     }
 
-pub after_carries : (shape : Shape) (m t w : ℕ) (e r : ℤ) → IsShape shape → IsNormal shape m e
+pub after_carries : (shape : Shape) (m t w : ℕ) (e r : ℤ) → IsShape shape → IsNormalAt shape m e
     → quanta_at shape.min_exp m e < largest (format_at shape) → t ≡ 2 ^ down (e -ℤ shape.min_exp)
     → 2 ^ shape.precision ≤ m + t
     → w ≡ 2 ^ (shape.precision - 1) → r ≡ (e +ℤ pos 1) → IsAfter shape (quanta_at shape.min_exp m e) w r
@@ -99,7 +99,7 @@ after_carries shape m t w e r law n b i h j k =
 
 pub after_stored : (shape : Shape) (n m : ℕ) (e : ℤ) → IsShape shape → n < largest (format_at shape)
     → IsAfter shape n m e
-    → IsNormal shape m e
+    → IsNormalAt shape m e
 after_stored shape n m e law b h =
     number_of shape m e h.next h.operand h.quanta (next_within (format_at shape) n h.next (some shape law) b h.is_above)
 
@@ -118,7 +118,7 @@ pub record IsBefore (shape : Shape) (n m : ℕ) (e : ℤ) : Type 0 where
   pub operand : IsOperandAt shape.precision shape.min_exp shape.max_exp m e
   pub quanta : IsQuantaAt shape.min_exp m e next
 
-pub before_stays : (shape : Shape) (m t : ℕ) (e : ℤ) → IsShape shape → IsNormal shape m e
+pub before_stays : (shape : Shape) (m t : ℕ) (e : ℤ) → IsShape shape → IsNormalAt shape m e
     → t ≡ 2 ^ down (e -ℤ shape.min_exp)
     → 2 ^ (shape.precision - 1) < m → IsBefore shape (quanta_at shape.min_exp m e) (m - t) e
 before_stays shape m t e law n i h =
@@ -139,7 +139,7 @@ before_stays shape m t e law n i h =
       quanta = stepped_down_by m a (up (e -ℤ shape.min_exp)) (down (e -ℤ shape.min_exp)) t i (omega (arith, k)) n.whole;
     }
 
-pub before_lowers : (shape : Shape) (m w t : ℕ) (e r : ℤ) → IsShape shape → IsNormal shape m e
+pub before_lowers : (shape : Shape) (m w t : ℕ) (e r : ℤ) → IsShape shape → IsNormalAt shape m e
     → m ≡ 2 ^ (shape.precision - 1)
     → w ≡ 2 ^ shape.precision → r ≡ (e -ℤ pos 1) → ((shape.min_exp +ℤ pos 1) -ℤ pos shape.precision) ≤ℤ r
     → t ≡ 2 ^ down (r -ℤ shape.min_exp) → IsBefore shape (quanta_at shape.min_exp m e) (w - t) r
@@ -165,7 +165,7 @@ before_lowers shape m w t e r law n i j k low h =
     }
 
 pub before_stored : (shape : Shape) (n m : ℕ) (e : ℤ) → n ≤ largest (format_at shape) → IsBefore shape n m e
-    → IsNormal shape m e
+    → IsNormalAt shape m e
 before_stored shape n m e b h =
     let l = h.is_below.not_above in
     number_of shape m e h.next h.operand h.quanta (omega (arith, l, b))
@@ -183,7 +183,7 @@ before_is shape n m e b h =
           record { value_is = sym (signed_some shape.nonfinite true h.next p); status_is = refl };
     })
 
-pub before_least : (shape : Shape) (m : ℕ) (e : ℤ) → IsShape shape → IsNormal shape m e → m ≡ 2 ^ (shape.precision - 1)
+pub before_least : (shape : Shape) (m : ℕ) (e : ℤ) → IsShape shape → IsNormalAt shape m e → m ≡ 2 ^ (shape.precision - 1)
     → e ≡ ((shape.min_exp +ℤ pos 1) -ℤ pos shape.precision)
     → IsNextLess (format_at shape) (quanta_at shape.min_exp m e) (finite (zero_sign shape.nonfinite true) 0) 0
 before_least shape m e law n i k =
@@ -204,7 +204,7 @@ same_multiple m g w p =
     (λ (e : m ≡ g → ⊥). ne_eqb m g e ∙ sym (ne_eqb (m * w) (g * w) (λ h. e (eq_of_mul-eq-mul_right w p m g h))))
     (cases_eq m g)
 
-pub largest_at_top : (shape : Shape) (m g : ℕ) (e : ℤ) → IsShape shape → IsNormal shape m e → e ≡ shape.max_exp
+pub largest_at_top : (shape : Shape) (m g : ℕ) (e : ℤ) → IsShape shape → IsNormalAt shape m e → e ≡ shape.max_exp
     → g ≡ greatest_significand shape.nonfinite shape.precision
     → eqb m g ≡ eqb (quanta_at shape.min_exp m e) (largest (format_at shape))
 largest_at_top shape m g e law n i k =
@@ -222,7 +222,7 @@ largest_at_top shape m g e law n i k =
     d ∙ f ∙ ap (λ (z : ℕ). eqb z (largest (format_at shape)))
     (sym (quanta_is shape.min_exp m e (m * 2 ^ (format_at shape).span) q))
 
-pub below_top : (shape : Shape) (m : ℕ) (e : ℤ) → IsShape shape → IsNormal shape m e → (e ≡ shape.max_exp → ⊥)
+pub below_top : (shape : Shape) (m : ℕ) (e : ℤ) → IsShape shape → IsNormalAt shape m e → (e ≡ shape.max_exp → ⊥)
     → false ≡ eqb (quanta_at shape.min_exp m e) (largest (format_at shape))
 below_top shape m e law n h =
     let b = span_is shape law in

@@ -16,7 +16,7 @@ use Rattle.apfloat_base.proofs.Tables.{scaling_zero}
 use Rattle.apfloat_base.proofs.SingleScalings.{IsClamped, up_le, quanta_below, scaled_is, clamp_kept}
 use Rattle.apfloat_unpacked.specs.declared.shape.Shape.{Shape}
 use Rattle.apfloat_unpacked.specs.Shapes.{IsShape, format_at}
-use Rattle.apfloat_unpacked.specs.Stored.{IsOperandAt, IsQuantaAt, IsNormal, quanta_at}
+use Rattle.apfloat_unpacked.specs.Stored.{IsOperandAt, IsQuantaAt, IsNormalAt, quanta_at}
 use Rattle.apfloat_unpacked.specs.StoredBack.{quanta_some}
 use Rattle.apfloat_unpacked.proofs.ShapeExponents.{exponent_word, scale_is, span_is}
 use Rattle.apfloat_unpacked.proofs.StoredNumbers.{quanta_is, whole_is}
@@ -24,7 +24,7 @@ use Rattle.apfloat_conversions.proofs.Wholes.{up_of, places_up, places_down}
 
 -- ---- the number as a fraction, by the exponent of its last digit
 
-pub whole_places : (shape : Shape) (m : ℕ) (e r : ℤ) → IsShape shape → IsNormal shape m e
+pub whole_places : (shape : Shape) (m : ℕ) (e r : ℤ) → IsShape shape → IsNormalAt shape m e
     → r ≡ (to_z w32 (of_z w32 e) -ℤ pos (shape.precision - 1)) → pos 0 ≤ℤ r
     → quanta_at shape.min_exp m e ≡ m * 2 ^ up r * 2 ^ (format_at shape).scale
 whole_places shape m e r law n v l =
@@ -33,7 +33,7 @@ whole_places shape m e r law n v l =
     places_up (shape.precision - 1) (format_at shape).scale shape.min_exp e r m (quanta_at shape.min_exp m e) (up r)
     (scale_is shape law) v' (omega (arith, ints, k)) n.whole
 
-pub fraction_places : (shape : Shape) (m k : ℕ) (e r : ℤ) → IsShape shape → IsNormal shape m e
+pub fraction_places : (shape : Shape) (m k : ℕ) (e r : ℤ) → IsShape shape → IsNormalAt shape m e
     → r ≡ (to_z w32 (of_z w32 e) -ℤ pos (shape.precision - 1)) → pos k ≡ (pos 0 -ℤ r)
     → quanta_at shape.min_exp m e * 2 ^ k ≡ m * 2 ^ (format_at shape).scale
 fraction_places shape m k e r law n v h =
@@ -51,7 +51,7 @@ DeliversOf s mode negative m r v st =
     (parts * 2 ^ up (r +ℤ pos (format_at s).scale)) → IsDelivered (format_at s) mode negative amount parts v st
 
 pub scale_delivered : (shape : Shape) (m : ℕ) (e j near r : ℤ) (mode : Round) (negative : Bool) (v : Datum) (st : ℕ)
-    → IsShape shape → IsNormal shape m e → IsClamped 6000000 j near → r ≡ ((e +ℤ near) -ℤ pos (shape.precision - 1))
+    → IsShape shape → IsNormalAt shape m e → IsClamped 6000000 j near → r ≡ ((e +ℤ near) -ℤ pos (shape.precision - 1))
     → DeliversOf shape mode negative m r v st
     → IsDelivered (format_at shape) mode negative (quanta_at shape.min_exp m e * 2 ^ up j) (2 ^ down j) v st
 scale_delivered shape m e j near r mode negative v st law n c i d =
@@ -100,7 +100,7 @@ significand_small shape m law f =
 
 -- a number by its quanta
 pub number_of : (shape : Shape) (m : ℕ) (e : ℤ) (n : ℕ) → IsOperandAt shape.precision shape.min_exp shape.max_exp m e
-    → IsQuantaAt shape.min_exp m e n → n ≤ largest (format_at shape) → IsNormal shape m e
+    → IsQuantaAt shape.min_exp m e n → n ≤ largest (format_at shape) → IsNormalAt shape m e
 number_of shape m e n o q l =
     record { operand = o; whole = whole_is shape.min_exp m e n q; within = rw (quanta_is shape.min_exp m e n q) l }
 

@@ -10,7 +10,7 @@ ghost use Rattle.apfloat_base.specs.arithmetic.Conversions.{IsConversion, IsConv
 ghost use Rattle.apfloat_base.specs.formats.Members.{IsNanSignificand};
 ghost use Rattle.apfloat_base.specs.formats.Nan.{invalid_if, is_signaling};
 ghost use Rattle.apfloat_unpacked.specs.Shapes.{IsShape, format_at};
-ghost use Rattle.apfloat_unpacked.specs.Stored.{IsNan, IsNormal, IsStored, datum_at, quanta_at};
+ghost use Rattle.apfloat_unpacked.specs.Stored.{IsNan, IsNormal, IsStored, datum_at, quanta_of};
 
 use crate::held::{has, widened};
 use apfloat_base::sig::{Loss, low_digits};
@@ -37,11 +37,11 @@ pub struct Converted {
 fn converted_number(from: Shape, into: Shape, x: Unpacked, round: Round) -> Converted
     requires from { IsShape from }
     requires into { IsShape into }
-    requires x { IsNormal from x.significand x.exponent }
+    requires x { IsNormal from x }
     ensures stored { IsStored into result.answer.value }
     ensures converted { IsConvertedNumber (format_at from) (format_at into) round x.negative
-        (quanta_at from.min_exp x.significand x.exponent) (datum_at into result.answer.value)
-        (bits_of result.answer.status) result.loses_info }
+        (quanta_of from x) (datum_at into result.answer.value) (bits_of result.answer.status)
+        result.loses_info }
 {
     if has(from, into, x) {
         return Converted {
@@ -160,7 +160,7 @@ fn nan_loses(from: Shape, into: Shape, significand: u128) -> bool
 fn converted_nan(from: Shape, into: Shape, x: Unpacked) -> Converted
     requires from { IsShape from }
     requires into { IsShape into }
-    requires x { IsNan from x.significand x.exponent x.negative }
+    requires x { IsNan from x }
     ensures stored { IsStored into result.answer.value }
     ensures converted { IsConverted
         (converted_nan (format_at from) (format_at into) x.negative x.significand)

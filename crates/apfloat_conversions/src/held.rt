@@ -3,7 +3,7 @@
 ghost use Rattle.std.specs.Prelude.{◌≡◌, ◌-◌, ◌*◌, ◌^◌, ◌≤◌, true};
 ghost use Rattle.apfloat_base.specs.formats.Datum.{finite};
 ghost use Rattle.apfloat_unpacked.specs.Shapes.{IsShape, format_at};
-ghost use Rattle.apfloat_unpacked.specs.Stored.{IsNormal, IsStored, datum_at, quanta_at};
+ghost use Rattle.apfloat_unpacked.specs.Stored.{IsNormal, IsStored, datum_at, quanta_of};
 ghost use Rattle.apfloat_conversions.specs.Held.{IsHeld, IsHeldAt, IsInside, IsReached};
 
 use apfloat_base::{Category, ExpInt};
@@ -63,13 +63,11 @@ pub fn widened(from: Shape, into: Shape, x: Unpacked) -> Unpacked
     requires from { IsShape from }
     requires into { IsShape into }
     requires held { IsHeldAt from into x.exponent }
-    requires x { IsNormal from x.significand x.exponent }
+    requires x { IsNormal from x }
     ensures stored { IsStored into result }
-    ensures datum { datum_at into result ≡ finite x.negative
-        (quanta_at into.min_exp result.significand result.exponent) }
-    ensures same { quanta_at from.min_exp x.significand x.exponent * 2 ^ (format_at into).scale
-        ≡ quanta_at into.min_exp result.significand result.exponent
-        * 2 ^ (format_at from).scale }
+    ensures datum { datum_at into result ≡ finite x.negative (quanta_of into result) }
+    ensures same { quanta_of from x * 2 ^ (format_at into).scale
+        ≡ quanta_of into result * 2 ^ (format_at from).scale }
 {
     Unpacked {
         significand: x.significand << (into.precision - from.precision),

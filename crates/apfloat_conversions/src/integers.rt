@@ -6,7 +6,7 @@ ghost use Rattle.apfloat_base.specs.rounding.Flags.{bits_of};
 ghost use Rattle.apfloat_base.specs.whole_numbers.WholeNumbers.{IsFromUnsigned, inexact_unless};
 ghost use Rattle.apfloat_base.specs.whole_numbers.WholeNumbersOut.{IsToUnsigned};
 ghost use Rattle.apfloat_unpacked.specs.Shapes.{IsShape, format_at};
-ghost use Rattle.apfloat_unpacked.specs.Stored.{IsStored, IsNormal, quanta_at, datum_at};
+ghost use Rattle.apfloat_unpacked.specs.Stored.{IsStored, IsNormal, quanta_of, datum_at, GivesAt};
 
 use crate::whole::{Whole, whole_of};
 use apfloat_base::sig::Loss;
@@ -20,8 +20,7 @@ use apfloat_unpacked::unpacked::Unpacked;
 pub fn from_unsigned(shape: Shape, number: u128, round: Round) -> StatusAnd<Unpacked>
     requires { IsShape shape }
     ensures stored { IsStored shape result.value }
-    ensures delivered { IsFromUnsigned (format_at shape) round number
-        (datum_at shape result.value) (bits_of result.status) }
+    ensures delivered { GivesAt shape (IsFromUnsigned (format_at shape) round number) result }
 {
     deliver(shape, number, 0, Loss::ExactlyZero, round, false)
 }
@@ -81,12 +80,12 @@ fn limit_of(width: u32, negative: bool) -> u128
 #[inline(always)]
 fn number_to_unsigned(shape: Shape, x: Unpacked, width: u32, round: Round) -> Unsigned
     requires lawful { IsShape shape }
-    requires normal { IsNormal shape x.significand x.exponent }
+    requires normal { IsNormal shape x }
     requires low { 1 ≤ width }
     requires high { width ≤ 128 }
     ensures whole { IsToUnsigned (format_at shape) round width
-        (finite x.negative (quanta_at shape.min_exp x.significand x.exponent))
-        result.answer.value (bits_of result.answer.status) result.is_exact }
+        (finite x.negative (quanta_of shape x)) result.answer.value (bits_of result.answer.status)
+        result.is_exact }
     ensures fits { result.answer.value < 2 ^ width }
 {
     let limit = limit_of(width, x.negative);

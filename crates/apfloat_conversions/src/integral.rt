@@ -3,10 +3,9 @@
 ghost use Rattle.std.specs.Prelude.{◌≡◌, ◌%◌, ◌^◌, eqb};
 ghost use Rattle.apfloat_base.specs.order.Classes.{is_integer};
 ghost use Rattle.apfloat_base.specs.declared.kinds.Category.TheVariants.{Normal};
-ghost use Rattle.apfloat_base.specs.rounding.Flags.{bits_of};
 ghost use Rattle.apfloat_base.specs.whole_numbers.WholeNumbers.{IsRoundToIntegral};
 ghost use Rattle.apfloat_unpacked.specs.Shapes.{IsShape, format_at};
-ghost use Rattle.apfloat_unpacked.specs.Stored.{IsStored, IsNormal, quanta_at, datum_at};
+ghost use Rattle.apfloat_unpacked.specs.Stored.{IsStored, IsNormal, quanta_of, datum_at, GivesAt};
 
 use crate::integers::status_of;
 use crate::whole::round_fraction;
@@ -21,10 +20,10 @@ use apfloat_unpacked::unpacked::{Unpacked, quanta_of};
 fn round_number(shape: Shape, x: Unpacked, round: Round) -> StatusAnd<Unpacked>
     requires lawful { IsShape shape }
     requires number { x.category ≡ Normal }
-    requires normal { IsNormal shape x.significand x.exponent }
+    requires normal { IsNormal shape x }
     ensures stored { IsStored shape result.value }
-    ensures delivered { IsRoundToIntegral (format_at shape) round (datum_at shape x)
-        (datum_at shape result.value) (bits_of result.status) }
+    ensures delivered { GivesAt shape
+        (IsRoundToIntegral (format_at shape) round (datum_at shape x)) result }
 {
     let exponent = last_exponent(shape, x.exponent);
     if exponent >= 0 {
@@ -41,8 +40,8 @@ pub fn round_to_integral(shape: Shape, x: Unpacked, round: Round) -> StatusAnd<U
     requires lawful { IsShape shape }
     requires stored { IsStored shape x }
     ensures stored { IsStored shape result.value }
-    ensures delivered { IsRoundToIntegral (format_at shape) round (datum_at shape x)
-        (datum_at shape result.value) (bits_of result.status) }
+    ensures delivered { GivesAt shape
+        (IsRoundToIntegral (format_at shape) round (datum_at shape x)) result }
 {
     match x.category {
         Category::Normal => round_number(shape, x, round),
@@ -56,9 +55,8 @@ pub fn round_to_integral(shape: Shape, x: Unpacked, round: Round) -> StatusAnd<U
 #[inline(always)]
 fn is_whole_number(shape: Shape, x: Unpacked) -> bool
     requires lawful { IsShape shape }
-    requires normal { IsNormal shape x.significand x.exponent }
-    ensures { result ≡ eqb
-        (quanta_at shape.min_exp x.significand x.exponent % 2 ^ (format_at shape).scale) 0 }
+    requires normal { IsNormal shape x }
+    ensures { result ≡ eqb (quanta_of shape x % 2 ^ (format_at shape).scale) 0 }
 {
     let exponent = last_exponent(shape, x.exponent);
     if exponent >= 0 {

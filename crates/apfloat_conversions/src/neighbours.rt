@@ -3,11 +3,10 @@
 ghost use Rattle.std.specs.Prelude.{◌≡◌, ◌^◌, ◌<◌, eqb, pos, ◌+ℤ◌, ◌-ℤ◌, ◌≤ℤ◌};
 ghost use Rattle.apfloat_base.specs.declared.kinds.Category.TheVariants.{NaN};
 ghost use Rattle.apfloat_base.specs.arithmetic.Exact.{down};
-ghost use Rattle.apfloat_base.specs.rounding.Flags.{bits_of};
 ghost use Rattle.apfloat_base.specs.formats.Format.{largest};
 ghost use Rattle.apfloat_base.specs.arithmetic.NextUp.{IsNextGreater, IsNextLess, IsNextOfNumber, IsNextUp};
 ghost use Rattle.apfloat_unpacked.specs.Shapes.{IsShape, format_at};
-ghost use Rattle.apfloat_unpacked.specs.Stored.{IsStored, IsNormal, quanta_at, datum_at};
+ghost use Rattle.apfloat_unpacked.specs.Stored.{IsStored, IsNormal, quanta_of, datum_at, GivesAt};
 
 use crate::exponents::{lowered, raised};
 use apfloat_base::sig::{power_of_two, steps_between};
@@ -45,9 +44,8 @@ fn least_exponent(shape: Shape) -> ExpInt
 #[inline(always)]
 fn is_largest(shape: Shape, x: Unpacked) -> bool
     requires lawful { IsShape shape }
-    requires normal { IsNormal shape x.significand x.exponent }
-    ensures { result ≡ eqb (quanta_at shape.min_exp x.significand x.exponent)
-        (largest (format_at shape)) }
+    requires normal { IsNormal shape x }
+    ensures { result ≡ eqb (quanta_of shape x) (largest (format_at shape)) }
 {
     if x.exponent == shape.max_exp {
         x.significand == shape.greatest_significand()
@@ -60,11 +58,10 @@ fn is_largest(shape: Shape, x: Unpacked) -> bool
 #[inline(always)]
 fn next_greater(shape: Shape, x: Unpacked) -> Unpacked
     requires lawful { IsShape shape }
-    requires normal { IsNormal shape x.significand x.exponent }
-    requires below { quanta_at shape.min_exp x.significand x.exponent < largest (format_at shape) }
+    requires normal { IsNormal shape x }
+    requires below { quanta_of shape x < largest (format_at shape) }
     ensures stored { IsStored shape result }
-    ensures next { IsNextGreater (format_at shape)
-        (quanta_at shape.min_exp x.significand x.exponent) (datum_at shape result) 0 }
+    ensures next { IsNextGreater (format_at shape) (quanta_of shape x) (datum_at shape result) 0 }
 {
     let significand = x.significand + step(shape, x.exponent);
     if significand < power_of_two(shape.precision) {
@@ -88,10 +85,9 @@ fn next_greater(shape: Shape, x: Unpacked) -> Unpacked
 #[inline(always)]
 fn next_less(shape: Shape, x: Unpacked) -> Unpacked
     requires lawful { IsShape shape }
-    requires normal { IsNormal shape x.significand x.exponent }
+    requires normal { IsNormal shape x }
     ensures stored { IsStored shape result }
-    ensures next { IsNextLess (format_at shape)
-        (quanta_at shape.min_exp x.significand x.exponent) (datum_at shape result) 0 }
+    ensures next { IsNextLess (format_at shape) (quanta_of shape x) (datum_at shape result) 0 }
 {
     if x.significand > shape.integer_bit() {
         return Unpacked {
@@ -117,10 +113,10 @@ fn next_less(shape: Shape, x: Unpacked) -> Unpacked
 #[inline(always)]
 fn next_of_number(shape: Shape, x: Unpacked) -> Unpacked
     requires lawful { IsShape shape }
-    requires normal { IsNormal shape x.significand x.exponent }
+    requires normal { IsNormal shape x }
     ensures stored { IsStored shape result }
-    ensures next { IsNextOfNumber (format_at shape) x.negative
-        (quanta_at shape.min_exp x.significand x.exponent) (datum_at shape result) 0 }
+    ensures next { IsNextOfNumber (format_at shape) x.negative (quanta_of shape x)
+        (datum_at shape result) 0 }
 {
     if x.negative {
         next_less(shape, x)
@@ -138,8 +134,7 @@ fn next_of_nan(shape: Shape, x: Unpacked) -> StatusAnd<Unpacked>
     requires stored { IsStored shape x }
     requires nan { x.category ≡ NaN }
     ensures stored { IsStored shape result.value }
-    ensures next { IsNextUp (format_at shape) (datum_at shape x) (datum_at shape result.value)
-        (bits_of result.status) }
+    ensures next { GivesAt shape (IsNextUp (format_at shape) (datum_at shape x)) result }
 {
     if signals(shape, x.significand) {
         Status::INVALID_OP.and(nan_of(shape, x.negative, quiet_significand(shape, 0)))
@@ -154,8 +149,7 @@ pub fn next_up(shape: Shape, x: Unpacked) -> StatusAnd<Unpacked>
     requires lawful { IsShape shape }
     requires stored { IsStored shape x }
     ensures stored { IsStored shape result.value }
-    ensures next { IsNextUp (format_at shape) (datum_at shape x) (datum_at shape result.value)
-        (bits_of result.status) }
+    ensures next { GivesAt shape (IsNextUp (format_at shape) (datum_at shape x)) result }
 {
     match x.category {
         Category::Normal => Status::OK.and(next_of_number(shape, x)),

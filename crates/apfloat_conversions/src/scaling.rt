@@ -3,11 +3,10 @@
 ghost use Rattle.std.specs.Prelude.{◌≡◌, ◌⊎◌, ◌*◌, ◌^◌, pos, neg_ℤ, ◌+ℤ◌, ◌≤ℤ◌};
 ghost use Rattle.apfloat_base.specs.arithmetic.Exact.{up, down};
 ghost use Rattle.apfloat_base.specs.arithmetic.Exponents.{IsIlogb, IsFrexp, IsFraction};
-ghost use Rattle.apfloat_base.specs.rounding.Flags.{bits_of};
 ghost use Rattle.apfloat_base.specs.rounding.Rounding.{IsDelivered};
 ghost use Rattle.apfloat_base.specs.arithmetic.Scaling.{IsScaling};
 ghost use Rattle.apfloat_unpacked.specs.Shapes.{IsShape, format_at};
-ghost use Rattle.apfloat_unpacked.specs.Stored.{IsStored, IsNormal, quanta_at, datum_at};
+ghost use Rattle.apfloat_unpacked.specs.Stored.{IsStored, IsNormal, quanta_of, datum_at, GivesAt};
 
 use crate::exponents::raised;
 use apfloat_base::sig::Loss;
@@ -52,11 +51,10 @@ fn moved(exponent: ExpInt, places: ExpInt) -> ExpInt
 #[inline(always)]
 fn scale_number(shape: Shape, x: Unpacked, places: ExpInt, round: Round) -> StatusAnd<Unpacked>
     requires lawful { IsShape shape }
-    requires normal { IsNormal shape x.significand x.exponent }
+    requires normal { IsNormal shape x }
     ensures stored { IsStored shape result.value }
-    ensures delivered { IsDelivered (format_at shape) round x.negative
-        (quanta_at shape.min_exp x.significand x.exponent * 2 ^ up places) (2 ^ down places)
-        (datum_at shape result.value) (bits_of result.status) }
+    ensures delivered { GivesAt shape (IsDelivered (format_at shape) round x.negative
+        (quanta_of shape x * 2 ^ up places) (2 ^ down places)) result }
 {
     let near = clamped(places);
     let exponent = last_exponent(shape, moved(x.exponent, near));
@@ -115,11 +113,10 @@ pub struct Fraction {
 #[inline(always)]
 fn number_fraction(shape: Shape, x: Unpacked) -> Fraction
     requires lawful { IsShape shape }
-    requires normal { IsNormal shape x.significand x.exponent }
+    requires normal { IsNormal shape x }
     ensures stored { IsStored shape result.value }
-    ensures fraction { IsFraction (format_at shape) x.negative
-        (quanta_at shape.min_exp x.significand x.exponent) (datum_at shape result.value)
-        result.exponent }
+    ensures fraction { IsFraction (format_at shape) x.negative (quanta_of shape x)
+        (datum_at shape result.value) result.exponent }
 {
     Fraction {
         value: Unpacked {

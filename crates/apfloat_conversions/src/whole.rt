@@ -2,7 +2,7 @@
 
 ghost use Rattle.std.specs.Prelude.{◌≡◌, ℕ, ◌+◌, ◌*◌, ◌/◌, ◌^◌, ◌<◌, ◌≤◌};
 ghost use Rattle.apfloat_unpacked.specs.Shapes.{IsShape, format_at};
-ghost use Rattle.apfloat_unpacked.specs.Stored.{IsNormal, quanta_at};
+ghost use Rattle.apfloat_unpacked.specs.Stored.{IsNormal, quanta_of};
 ghost use Rattle.apfloat_conversions.specs.Wholes.{IsPicked, IsPickedWithin};
 
 use apfloat_base::Round;
@@ -58,9 +58,9 @@ fn raised(precision: u32, significand: u128, places: u32) -> u128
 #[inline(always)]
 pub fn whole_of(shape: Shape, x: Unpacked, round: Round) -> Option<Whole>
     requires lawful { IsShape shape }
-    requires normal { IsNormal shape x.significand x.exponent }
-    ensures { IsPickedWithin round x.negative (quanta_at shape.min_exp x.significand x.exponent)
-        (2 ^ (format_at shape).scale) result }
+    requires normal { IsNormal shape x }
+    ensures { IsPickedWithin round x.negative (quanta_of shape x) (2 ^ (format_at shape).scale)
+        result }
 {
     if x.exponent >= 128 {
         return None;

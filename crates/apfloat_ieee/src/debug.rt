@@ -23,7 +23,7 @@ struct Text {
 /// What is shown of a number: a denormal one without the zeros that follow its last digit.
 fn number_text(shape: Shape, x: Unpacked) -> Text
     requires lawful { IsShape shape }
-    requires normal { IsNormal shape x.significand x.exponent }
+    requires normal { IsNormal shape x }
 {
     if x.exponent < shape.min_exp {
         Text {

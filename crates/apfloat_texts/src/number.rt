@@ -1,10 +1,9 @@
 //! The number of a significand and an exponent.
 
-ghost use Rattle.std.specs.Prelude.{◌≡◌, ◌⊎◌, ℕ, ◌*◌, ◌^◌, ◌≤◌, ℤ, pos, neg_ℤ, ◌-ℤ◌, ◌+ℤ◌, ◌≤ℤ◌};
-ghost use Rattle.apfloat_base.specs.rounding.Flags.{bits_of};
+ghost use Rattle.std.specs.Prelude.{ℕ, ◌*◌, ◌^◌, ℤ, pos, neg_ℤ, ◌-ℤ◌, ◌+ℤ◌, ◌≤ℤ◌};
 ghost use Rattle.apfloat_base.specs.texts.Readings.{IsScaledDelivery};
 ghost use Rattle.apfloat_unpacked.specs.Shapes.{IsShape, format_at};
-ghost use Rattle.apfloat_unpacked.specs.Stored.{IsStored, datum_at};
+ghost use Rattle.apfloat_unpacked.specs.Stored.{IsStored, GivesAt};
 ghost use Rattle.apfloat_texts.specs.Scans.{IsKept};
 ghost use Rattle.apfloat_texts.specs.Saturation.{IsNear};
 
@@ -34,9 +33,8 @@ pub fn delivered(
     ensures delivered { (number : ℕ) (exact : ℤ)
         → IsKept number digits.significand digits.loss digits.cut
         → IsNear (2 ^ 96) exact exponent
-        → IsScaledDelivery (format_at shape) round negative number
-        ((exact -ℤ pos (4 * places)) +ℤ pos (format_at shape).scale)
-        (datum_at shape result.value) (bits_of result.status) }
+        → GivesAt shape (IsScaledDelivery (format_at shape) round negative number
+        ((exact -ℤ pos (4 * places)) +ℤ pos (format_at shape).scale)) result }
 {
     if digits.significand == 0 {
         return Status::OK.and(zero_of(shape, negative));

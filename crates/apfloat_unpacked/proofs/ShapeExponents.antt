@@ -4,7 +4,7 @@ use Rattle.std.proofs.lemmas.Int.{ints, to_z-of_z}
 use borrow.Author.Differences.{fits_in}
 use Rattle.apfloat_unpacked.specs.declared.shape.Shape.{Shape}
 use Rattle.apfloat_unpacked.specs.Shapes.{IsShape, format_at}
-use Rattle.apfloat_unpacked.specs.Stored.{IsNormal}
+use Rattle.apfloat_unpacked.specs.Stored.{IsNormalAt}
 
 -- the quantum is 2 ^ -scale
 pub scale_is : (shape : Shape) → IsShape shape
@@ -23,7 +23,7 @@ max_exp_word shape law =
     to_z-of_z w32 shape.max_exp (fits_in w32 shape.max_exp (omega (arith, ints, law.max_exp_low, law.max_exp_high)))
 
 -- the exponent of a number
-pub exponent_word : (shape : Shape) (m : ℕ) (e : ℤ) → IsShape shape → IsNormal shape m e → to_z w32 (of_z w32 e) ≡ e
+pub exponent_word : (shape : Shape) (m : ℕ) (e : ℤ) → IsShape shape → IsNormalAt shape m e → to_z w32 (of_z w32 e) ≡ e
 exponent_word shape m e law n =
     let o = n.operand in
     to_z-of_z w32 e (fits_in w32 e (omega (arith, ints, law, o)))

@@ -13,7 +13,7 @@ use Rattle.apfloat_base.proofs.Losses.{twice_half}
 use Rattle.apfloat_base.proofs.KeptDigits.{digits_le, some_digits, fits_shifted, full_shifted, same_quanta}
 use Rattle.apfloat_unpacked.specs.declared.shape.Shape.{Shape}
 use Rattle.apfloat_unpacked.specs.Shapes.{IsShape, format_at}
-use Rattle.apfloat_unpacked.specs.Stored.{IsQuantaAt, quanta_at, IsNormal}
+use Rattle.apfloat_unpacked.specs.Stored.{IsQuantaAt, quanta_at, IsNormalAt}
 
 -- the quotient is the number of quanta, where there is one
 pub quanta_is : (min_exp : ℤ) (s : ℕ) (e : ℤ) (n : ℕ) → IsQuantaAt min_exp s e n → quanta_at min_exp s e ≡ n
@@ -50,7 +50,7 @@ pub normal_at : (shape : Shape) (m place shift : ℕ) (e : ℤ) → IsShape shap
     → 2 ^ (shape.precision - 1) ≤ m * 2 ^ shift → shift < shape.precision
     → e ≡ (shape.min_exp +ℤ pos place) -ℤ pos shift → IsQuantaAt shape.min_exp (m * 2 ^ shift) e (m * 2 ^ place)
     → m * 2 ^ place ≤ greatest_significand shape.nonfinite shape.precision * 2 ^ (format_at shape).span
-    → IsNormal shape (m * 2 ^ shift) e
+    → IsNormalAt shape (m * 2 ^ shift) e
 normal_at shape m place shift e law fits full short is quanta within =
     let t : 2 * 2 ^ (shape.precision - 1) ≡ 2 ^ shape.precision =
     twice_half shape.precision (omega (arith, law.precision_low)) in
@@ -95,7 +95,7 @@ moved_up_quanta shape m digits place w e h = quanta_is shape.min_exp w e (m * 2 
 
 pub moved_up_normal : (shape : Shape) (m digits place w : ℕ) (e : ℤ) → IsShape shape
     → IsMovedUp shape m digits place w e
-    → IsNormal shape w e
+    → IsNormalAt shape w e
 moved_up_normal shape m digits place w e law h =
     let l : digits ≤ shape.precision = digits_le m digits shape.precision h.fits h.full in
     let d : 0 < digits = some_digits m digits h.below h.some in
@@ -124,7 +124,7 @@ quanta_low shape m e d p =
     let b : m * 1 ≡ m = omega arith in
     rw (a.0, a.1, b) refl
 
-pub quanta_low_below : (shape : Shape) (m : ℕ) (e : ℤ) (d : ℕ) → IsNormal shape m e → 3 ≤ shape.precision
+pub quanta_low_below : (shape : Shape) (m : ℕ) (e : ℤ) (d : ℕ) → IsNormalAt shape m e → 3 ≤ shape.precision
     → pos d ≡ shape.min_exp -ℤ e → 1 ≤ d → quanta_at shape.min_exp m e < 2 ^ (shape.precision - 1)
 quanta_low_below shape m e d n p k h =
     let q : ℕ = quanta_at shape.min_exp m e in

@@ -3,8 +3,10 @@ use Rattle.std.specs.Prelude.{◌≡◌, ℕ, ◌-◌, ◌*◌, ◌/◌, ◌^◌
 use Rattle.apfloat_base.specs.declared.kinds.Category.{Category}
 use Rattle.apfloat_base.specs.declared.kinds.Category.TheVariants.{Infinity, NaN, Normal, Zero}
 use Rattle.apfloat_base.specs.declared.kinds.NonfiniteBehavior.TheVariants.{IEEE754}
+use Rattle.apfloat_base.specs.declared.status.StatusAnd.{StatusAnd}
 use Rattle.apfloat_base.specs.formats.Format.{largest}
 use Rattle.apfloat_base.specs.formats.Datum.{Datum, finite, infinite, nan}
+use Rattle.apfloat_base.specs.rounding.Flags.{bits_of}
 use Rattle.apfloat_base.specs.rounding.Rounding.{zero_sign}
 use Rattle.apfloat_base.specs.formats.Members.{IsNanOf}
 use Rattle.apfloat_base.specs.arithmetic.Exact.{up, down}
@@ -31,40 +33,48 @@ unfoldable pub quanta_at : ℤ → ℕ → ℤ → ℕ
 quanta_at min_exp significand exponent = significand * 2 ^ up (exponent -ℤ min_exp) / 2 ^ down (exponent -ℤ min_exp)
 
 -- it is a whole number of quanta, and at most the largest value
-pub record IsNormal (s : Shape) (significand : ℕ) (exponent : ℤ) : Type 0 where
+pub record IsNormalAt (s : Shape) (significand : ℕ) (exponent : ℤ) : Type 0 where
   pub operand : IsOperandAt s.precision s.min_exp s.max_exp significand exponent
   pub whole : IsQuantaAt s.min_exp significand exponent (quanta_at s.min_exp significand exponent)
   pub within : quanta_at s.min_exp significand exponent ≤ largest (format_at s)
 
+-- the same of a value taken apart
+
+abbrev pub quanta_of : Shape → Unpacked → ℕ
+quanta_of s x = quanta_at s.min_exp x.significand x.exponent
+
+abbrev pub IsNormal : Shape → Unpacked → Type 0
+IsNormal s x = IsNormalAt s x.significand x.exponent
+
 -- ---- the other values: what they do not need is zero
 
-pub record IsZero (s : Shape) (significand : ℕ) (exponent : ℤ) (negative : Bool) : Type 0 where
-  pub significand_is : significand ≡ 0
-  pub exponent_is : exponent ≡ pos 0
-  pub sign_is : negative ≡ zero_sign s.nonfinite negative
+pub record IsZero (s : Shape) (x : Unpacked) : Type 0 where
+  pub significand_is : x.significand ≡ 0
+  pub exponent_is : x.exponent ≡ pos 0
+  pub sign_is : x.negative ≡ zero_sign s.nonfinite x.negative
 
-pub record IsInfinity (s : Shape) (significand : ℕ) (exponent : ℤ) : Type 0 where
-  pub significand_is : significand ≡ 0
-  pub exponent_is : exponent ≡ pos 0
+pub record IsInfinity (s : Shape) (x : Unpacked) : Type 0 where
+  pub significand_is : x.significand ≡ 0
+  pub exponent_is : x.exponent ≡ pos 0
   pub kind : s.nonfinite ≡ IEEE754
 
-pub record IsNan (s : Shape) (significand : ℕ) (exponent : ℤ) (negative : Bool) : Type 0 where
-  pub exponent_is : exponent ≡ pos 0
-  pub member : IsNanOf (format_at s) negative significand
+pub record IsNan (s : Shape) (x : Unpacked) : Type 0 where
+  pub exponent_is : x.exponent ≡ pos 0
+  pub member : IsNanOf (format_at s) x.negative x.significand
 
 -- ---- by category
 
 abbrev pub IsStoredBy : Category → Shape → Unpacked → Type 0
-IsStoredBy Normal s x = IsNormal s x.significand x.exponent
-IsStoredBy Zero s x = IsZero s x.significand x.exponent x.negative
-IsStoredBy Infinity s x = IsInfinity s x.significand x.exponent
-IsStoredBy NaN s x = IsNan s x.significand x.exponent x.negative
+IsStoredBy Normal s x = IsNormal s x
+IsStoredBy Zero s x = IsZero s x
+IsStoredBy Infinity s x = IsInfinity s x
+IsStoredBy NaN s x = IsNan s x
 
 abbrev pub IsStored : Shape → Unpacked → Type 0
 IsStored s x = IsStoredBy x.category s x
 
 abbrev pub datum_by : Category → Shape → Unpacked → Datum
-datum_by Normal s x = finite x.negative (quanta_at s.min_exp x.significand x.exponent)
+datum_by Normal s x = finite x.negative (quanta_of s x)
 datum_by Zero s x = finite x.negative 0
 datum_by Infinity s x = infinite x.negative
 datum_by NaN s x = nan x.negative x.significand
@@ -72,6 +82,10 @@ datum_by NaN s x = nan x.negative x.significand
 -- the datum that it stands for
 abbrev pub datum_at : Shape → Unpacked → Datum
 datum_at s x = datum_by x.category s x
+
+-- an answer whose datum and status are related as said
+abbrev pub GivesAt : Shape → (Datum → ℕ → Type 0) → StatusAnd Unpacked → Type 0
+GivesAt s Says answer = Says (datum_at s answer.value) (bits_of answer.status)
 
 -- ---- the way back
 

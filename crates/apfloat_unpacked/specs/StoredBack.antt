@@ -13,7 +13,7 @@ use Rattle.apfloat_unpacked.specs.declared.shape.Shape.{Shape}
 use Rattle.apfloat_unpacked.specs.declared.unpacked.Unpacked.{Unpacked}
 use Rattle.apfloat_base.specs.formats.Log.{log2}
 use Rattle.apfloat_base.proofs.Logarithms.{log2_is}
-use Rattle.apfloat_unpacked.specs.Stored.{quanta_at, IsNormal, IsStored, IsStoredBy, datum_at, datum_by, unpacked_of, unpacked_number, exponent_at}
+use Rattle.apfloat_unpacked.specs.Stored.{quanta_at, IsNormalAt, IsStored, IsStoredBy, datum_at, datum_by, unpacked_of, unpacked_number, exponent_at}
 
 -- ---- a number: n * 2 ^ d is s * 2 ^ u, and s has all its digits
 
@@ -71,7 +71,7 @@ some_digit : (precision m : ℕ) → m < 2 ^ precision → 0 < m → 0 < precisi
 some_digit zero m h p = absurd (omega arith)
 some_digit (suc precision) m h p = omega arith
 
-pub normal_full : (s : Shape) (m : ℕ) (e : ℤ) → IsNormal s m e
+pub normal_full : (s : Shape) (m : ℕ) (e : ℤ) → IsNormalAt s m e
     → IsFull s.precision m (quanta_at s.min_exp m e) (up (e -ℤ s.min_exp)) (down (e -ℤ s.min_exp))
 normal_full s m e h =
     let o = h.operand in
@@ -84,13 +84,13 @@ normal_full s m e h =
       same = h.whole;
     }
 
-pub top_is : (s : Shape) (m : ℕ) (e : ℤ) → IsNormal s m e
+pub top_is : (s : Shape) (m : ℕ) (e : ℤ) → IsNormalAt s m e
     → log2 (quanta_at s.min_exp m e) ≡ top_of s.precision (up (e -ℤ s.min_exp)) (down (e -ℤ s.min_exp))
 top_is s m e h =
     let f = normal_full s m e h in
     log2_is (quanta_at s.min_exp m e) _ (full_low _ _ _ _ _ f) (full_high _ _ _ _ _ f)
 
-pub quanta_some : (s : Shape) (m : ℕ) (e : ℤ) → IsNormal s m e → 0 < quanta_at s.min_exp m e
+pub quanta_some : (s : Shape) (m : ℕ) (e : ℤ) → IsNormalAt s m e → 0 < quanta_at s.min_exp m e
 quanta_some s m e h =
     let f = normal_full s m e h in
     let l = full_low _ _ _ _ _ f in
@@ -101,7 +101,7 @@ quanta_some s m e h =
 abbrev record_of : ℕ → ℤ → Category → Bool → Unpacked
 record_of m e k b = record { significand = m; exponent = e; category = k; negative = b }
 
-number_back : (s : Shape) (b : Bool) (m : ℕ) (e : ℤ) → IsNormal s m e
+number_back : (s : Shape) (b : Bool) (m : ℕ) (e : ℤ) → IsNormalAt s m e
     → unpacked_number s b (quanta_at s.min_exp m e)
     ≡ record { significand = m; exponent = e; category = Normal; negative = b }
 number_back s b m e h =

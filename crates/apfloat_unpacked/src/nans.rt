@@ -1,14 +1,14 @@
 //! NaNs: which of them signal, and the answers that are NaNs (IEEE 754-2008 6.2).
 
-ghost use Rattle.std.specs.Prelude.{◌≡◌, ℕ, ◌<◌, bit_and};
+ghost use Rattle.std.specs.Prelude.{◌≡◌};
 ghost use Rattle.apfloat_base.specs.declared.kinds.Category.TheVariants.{NaN};
 ghost use Rattle.apfloat_base.specs.rounding.Flags.{bits_of};
 ghost use Rattle.apfloat_base.specs.formats.Format.{nan_base, payload_mask, quiet_bits};
 ghost use Rattle.apfloat_base.specs.formats.Datum.{nan};
 ghost use Rattle.apfloat_base.specs.formats.Members.{IsNanSignificand};
-ghost use Rattle.apfloat_base.specs.formats.Nan.{quiet_bit, is_signaling, is_signaling_nan, quieted, quiet_significand, signaling_significand, cleared, with_payload, nan_sign, qnan, snan, invalid_if, IsOfNan, IsOfNans, IsInvalid};
+ghost use Rattle.apfloat_base.specs.formats.Nan.{quiet_bit, is_signaling, is_signaling_nan, quieted, quiet_significand, signaling_significand, with_payload, qnan, snan, invalid_if, IsOfNan, IsOfNans, IsInvalid};
 ghost use Rattle.apfloat_unpacked.specs.Shapes.{IsShape, format_at};
-ghost use Rattle.apfloat_unpacked.specs.Stored.{IsStored, datum_at};
+ghost use Rattle.apfloat_unpacked.specs.Stored.{IsStored, datum_at, GivesAt};
 
 use crate::shape::Shape;
 use crate::unpacked::{Unpacked, nan_of};
@@ -204,8 +204,7 @@ pub fn propagated(shape: Shape, x: Unpacked) -> StatusAnd<Unpacked>
     requires stored { IsStored shape x }
     requires nan { x.category ≡ NaN }
     ensures stored { IsStored shape result.value }
-    ensures delivered { IsOfNan (format_at shape) x.negative x.significand
-        (datum_at shape result.value) (bits_of result.status) }
+    ensures delivered { GivesAt shape (IsOfNan (format_at shape) x.negative x.significand) result }
 {
     status_of(signals(shape, x.significand)).and(quieted(shape, x))
 }
@@ -218,8 +217,8 @@ pub fn propagated_left(shape: Shape, x: Unpacked, y: Unpacked) -> StatusAnd<Unpa
     requires y_stored { IsStored shape y }
     requires nan { x.category ≡ NaN }
     ensures stored { IsStored shape result.value }
-    ensures delivered { IsOfNans (format_at shape) x.negative x.significand (datum_at shape y)
-        (datum_at shape result.value) (bits_of result.status) }
+    ensures delivered { GivesAt shape
+        (IsOfNans (format_at shape) x.negative x.significand (datum_at shape y)) result }
 {
     let signaling = signals(shape, x.significand) || is_signaling(shape, y);
     status_of(signaling).and(quieted(shape, x))
@@ -230,8 +229,7 @@ pub fn propagated_left(shape: Shape, x: Unpacked, y: Unpacked) -> StatusAnd<Unpa
 pub fn invalid(shape: Shape) -> StatusAnd<Unpacked>
     requires { IsShape shape }
     ensures stored { IsStored shape result.value }
-    ensures delivered { IsInvalid (format_at shape) (datum_at shape result.value)
-        (bits_of result.status) }
+    ensures delivered { GivesAt shape (IsInvalid (format_at shape)) result }
 {
     Status::INVALID_OP.and(quiet_nan(shape, 0))
 }

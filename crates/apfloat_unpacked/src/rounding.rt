@@ -3,15 +3,15 @@
 //! The significand is cut once. The place of the cut follows from its length, its exponent and the format; what is cut off
 //! decides together with the incoming loss, and at most one is added to what is kept.
 
-ghost use Rattle.std.specs.Prelude.{◌≡◌, ℕ, ◌+◌, ◌-◌, ◌*◌, ◌/◌, ◌%◌, ◌^◌, ◌<◌, ◌≤◌, ◌⊎◌, ltb, pos, neg_ℤ, ◌≤ℤ◌, ◌+ℤ◌, if◌then◌else◌, false};
+ghost use Rattle.std.specs.Prelude.{◌≡◌, ℕ, ◌+◌, ◌-◌, ◌*◌, ◌^◌, ◌<◌, ◌≤◌, ◌⊎◌, ltb, pos, neg_ℤ, ◌≤ℤ◌, ◌+ℤ◌, if◌then◌else◌, false};
 ghost use Rattle.apfloat_base.specs.rounding.Flags.{bits_of};
-ghost use Rattle.apfloat_base.specs.formats.Format.{Format, smallest_normalized, largest, nan_base};
+ghost use Rattle.apfloat_base.specs.formats.Format.{largest, nan_base};
 ghost use Rattle.apfloat_base.specs.formats.Datum.{finite};
 ghost use Rattle.apfloat_base.specs.rounding.Standing.{StandsFor, up, down};
 ghost use Rattle.apfloat_base.specs.rounding.Enclosure.{IsEnclosed, rounds_up};
 ghost use Rattle.apfloat_base.specs.rounding.Rounding.{takes_above, ok_bits, overflow_bit, underflow_bit, inexact_bit, IsPick, IsDelivered, leads_out, past_largest};
 ghost use Rattle.apfloat_unpacked.specs.Shapes.{IsShape, format_at};
-ghost use Rattle.apfloat_unpacked.specs.Stored.{IsStored, datum_at};
+ghost use Rattle.apfloat_unpacked.specs.Stored.{IsStored, datum_at, GivesAt};
 
 use crate::shape::Shape;
 use crate::unpacked::{Unpacked, infinity_of, largest_of, rounded_quanta_of};
@@ -262,8 +262,7 @@ fn finish(shape: Shape, kept: Kept, mode: Round, negative: bool) -> StatusAnd<Un
     ensures delivered { (amount parts : ℕ) → 0 < parts
         → IsEnclosed shape.precision (2 ^ (shape.precision - 1)) kept.significand kept.place
         amount parts → StandsFor kept.significand kept.loss amount (2 ^ kept.place * parts)
-        → IsDelivered (format_at shape) mode negative amount parts (datum_at shape result.value)
-        (bits_of result.status) }
+        → GivesAt shape (IsDelivered (format_at shape) mode negative amount parts) result }
 {
     let point = pick(shape.precision, kept, mode, negative);
     let greatest = shape.greatest_significand();
@@ -310,8 +309,7 @@ pub fn deliver(
     ensures stored { IsStored shape result.value }
     ensures delivered { let unit = exponent +ℤ pos (format_at shape).scale in (amount parts : ℕ)
         → 0 < parts → StandsFor significand loss (amount * 2 ^ down unit) (parts * 2 ^ up unit)
-        → IsDelivered (format_at shape) mode negative amount parts (datum_at shape result.value)
-        (bits_of result.status) }
+        → GivesAt shape (IsDelivered (format_at shape) mode negative amount parts) result }
 {
     let unit = unit_place(shape, exponent);
     let kept = keep(shape.precision, significand, unit, loss);

@@ -2,7 +2,7 @@ use Rattle.std.proofs.Common.{rules, sym, subst, ◌≡◌, ◌∙◌}
 use Rattle.apfloat_base.specs.declared.kinds.Category.{Category}
 use Rattle.apfloat_base.specs.order.Classes.{is_denormal}
 use Rattle.apfloat_unpacked.specs.Shapes.{format_at}
-use Rattle.apfloat_unpacked.specs.Stored.{IsStoredBy, IsNormal, quanta_at, datum_by}
+use Rattle.apfloat_unpacked.specs.Stored.{IsStoredBy, IsNormalAt, quanta_at, datum_by}
 use Rattle.apfloat_unpacked.specs.StoredBack.{quanta_some}
 use Rattle.apfloat_arithmetic.proofs.NumberClasses.{denormal_number}
 use Rattle.apfloat_arithmetic.proofs.classes.is_denormal.Goals as goal
@@ -11,7 +11,7 @@ pub returns-in-Normal : goal.returns-in-Normal
 returns-in-Normal c =
     let s = c.args.shape in
     let x = c.args.x in
-    let n : IsNormal s x.significand x.exponent =
+    let n : IsNormalAt s x.significand x.exponent =
     subst (λ (k : Category). IsStoredBy k s x) c.in-Normal.is c.requires.stored in
     subst (λ (k : Category). c.is_below_normal.result ≡ is_denormal (format_at s) (datum_by k s x))
     (sym c.in-Normal.is)

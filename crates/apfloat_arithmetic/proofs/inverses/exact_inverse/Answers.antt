@@ -5,7 +5,7 @@ use Rattle.apfloat_base.specs.formats.Datum.{finite}
 use Rattle.apfloat_base.specs.arithmetic.Exponents.{IsExactInverse}
 use Rattle.apfloat_unpacked.specs.declared.unpacked.Unpacked.{Unpacked}
 use Rattle.apfloat_unpacked.specs.Shapes.{format_at}
-use Rattle.apfloat_unpacked.specs.Stored.{IsStored, IsStoredBy, IsNormal, quanta_at, datum_by}
+use Rattle.apfloat_unpacked.specs.Stored.{IsStored, IsStoredBy, IsNormalAt, quanta_at, datum_by}
 use Rattle.apfloat_arithmetic.proofs.ProductExponents.{normal_near}
 use Rattle.apfloat_arithmetic.proofs.ExactInverses.{same_value, opposite_word, inverted_normal, inverse_answer, no_inverse_answer}
 use Rattle.apfloat_arithmetic.proofs.inverses.exact_inverse.Goals as goal
@@ -14,7 +14,7 @@ pub returns-then-is_invertible-clause-stored : goal.returns-then-is_invertible-c
 returns-then-is_invertible-clause-stored c = λ inverse h.
     let s = c.args.shape in
     let x = c.args.x in
-    let n : IsNormal s x.significand x.exponent =
+    let n : IsNormalAt s x.significand x.exponent =
     subst (λ (k : Category). IsStoredBy k s x) c.in-Normal.is c.requires.stored in
     let w = (normal_near s x.significand x.exponent c.requires.lawful n).word in
     let e = opposite_word s x.significand x.exponent c.requires.lawful n in
@@ -26,7 +26,7 @@ pub returns-then-is_invertible-clause-inverse : goal.returns-then-is_invertible-
 returns-then-is_invertible-clause-inverse c =
     let s = c.args.shape in
     let x = c.args.x in
-    let n : IsNormal s x.significand x.exponent =
+    let n : IsNormalAt s x.significand x.exponent =
     subst (λ (k : Category). IsStoredBy k s x) c.in-Normal.is c.requires.stored in
     let w = (normal_near s x.significand x.exponent c.requires.lawful n).word in
     let e = opposite_word s x.significand x.exponent c.requires.lawful n in
@@ -39,7 +39,7 @@ pub returns-else-is_invertible-clause-inverse : goal.returns-else-is_invertible-
 returns-else-is_invertible-clause-inverse c =
     let s = c.args.shape in
     let x = c.args.x in
-    let n : IsNormal s x.significand x.exponent =
+    let n : IsNormalAt s x.significand x.exponent =
     subst (λ (k : Category). IsStoredBy k s x) c.in-Normal.is c.requires.stored in
     subst (λ (k : Category). IsExactInverse (format_at s) (datum_by k s x) None) (sym c.in-Normal.is)
     (no_inverse_answer s x.negative x.significand x.exponent c.requires.lawful n

@@ -6,7 +6,7 @@ use Rattle.apfloat_base.specs.rounding.Flags.{bits_of}
 use Rattle.apfloat_base.specs.arithmetic.Products.{IsProduct}
 use Rattle.apfloat_unpacked.specs.StoredBack.{quanta_some}
 use Rattle.apfloat_unpacked.specs.Shapes.{format_at}
-use Rattle.apfloat_unpacked.specs.Stored.{quanta_at, datum_at, IsNormal, IsStoredBy}
+use Rattle.apfloat_unpacked.specs.Stored.{quanta_at, datum_at, IsNormalAt, IsStoredBy}
 use Rattle.apfloat_arithmetic.proofs.ZeroAnswers.{by_categories, zero_product, number_by_infinity, infinity_by_number}
 use Rattle.apfloat_arithmetic.proofs.SumCases.{datum_is}
 use Rattle.apfloat_arithmetic.proofs.products.multiply_any.Goals as goal
@@ -36,7 +36,7 @@ returns-in-Infinity-category-clause-delivered c =
     let x = c.args.x in
     let y = c.args.y in
     let z = c.exact_infinity.result in
-    let n : IsNormal s x.significand x.exponent =
+    let n : IsNormalAt s x.significand x.exponent =
     subst (λ (k : Category). IsStoredBy k s x) c.in-Normal.is c.requires.left in
     by_categories (λ (a : Datum) (b : Datum). IsProduct (format_at s) c.args.round a b (datum_at s z.value)
     (bits_of z.status)) s x y Normal Infinity c.in-Normal.is c.in-Infinity-category.is
@@ -62,7 +62,7 @@ returns-in-Normal-category-3-clause-delivered c =
     let x = c.args.x in
     let y = c.args.y in
     let z = c.exact_infinity-in-Normal-category-3.result in
-    let n : IsNormal s y.significand y.exponent =
+    let n : IsNormalAt s y.significand y.exponent =
     subst (λ (k : Category). IsStoredBy k s y) c.in-Normal-category-3.is c.requires.right in
     by_categories (λ (a : Datum) (b : Datum). IsProduct (format_at s) c.args.round a b (datum_at s z.value)
     (bits_of z.status)) s x y Infinity Normal c.in-Infinity.is c.in-Normal-category-3.is

@@ -2,7 +2,7 @@ use Rattle.std.proofs.Common.{subst}
 use Rattle.apfloat_base.specs.declared.kinds.Category.{Category}
 use Rattle.apfloat_base.specs.declared.kinds.Category.TheVariants.{Normal}
 use Rattle.apfloat_unpacked.specs.Shapes.{format_at}
-use Rattle.apfloat_unpacked.specs.Stored.{IsStoredBy, IsNormal, quanta_at}
+use Rattle.apfloat_unpacked.specs.Stored.{IsStoredBy, IsNormalAt, quanta_at}
 use Rattle.apfloat_unpacked.specs.StoredBack.{quanta_some}
 use Rattle.apfloat_arithmetic.proofs.ZeroAnswers.{some_quotient}
 use Rattle.apfloat_arithmetic.proofs.SumCases.{datum_is}
@@ -14,7 +14,7 @@ returns-then-are_normal-clause-delivered c =
     let x = c.args.x in
     let y = c.args.y in
     let both = c.are_normal.ensures.yes c.if-are_normal.true in
-    let n : IsNormal s y.significand y.exponent =
+    let n : IsNormalAt s y.significand y.exponent =
     subst (λ (k : Category). IsStoredBy k s y) both.1 c.requires.right in
     rw (datum_is Normal s x both.0, datum_is Normal s y both.1)
     (some_quotient (format_at s) c.args.round x.negative y.negative (quanta_at s.min_exp x.significand x.exponent)

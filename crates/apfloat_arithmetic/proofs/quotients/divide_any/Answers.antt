@@ -7,7 +7,7 @@ use Rattle.apfloat_base.specs.formats.Datum.{Datum}
 use Rattle.apfloat_base.specs.rounding.Flags.{bits_of}
 use Rattle.apfloat_base.specs.arithmetic.Quotients.{IsQuotient}
 use Rattle.apfloat_unpacked.specs.Shapes.{format_at}
-use Rattle.apfloat_unpacked.specs.Stored.{IsStoredBy, IsNormal, quanta_at, datum_at}
+use Rattle.apfloat_unpacked.specs.Stored.{IsStoredBy, IsNormalAt, quanta_at, datum_at}
 use Rattle.apfloat_unpacked.specs.StoredBack.{quanta_some}
 use Rattle.apfloat_arithmetic.proofs.ZeroAnswers.{by_categories, some_quotient, zero_quotient, number_by_zero}
 use Rattle.apfloat_arithmetic.proofs.quotients.divide_any.Goals as goal
@@ -18,7 +18,7 @@ returns-in-Normal-category-clause-delivered c =
     let x = c.args.x in
     let y = c.args.y in
     let z = c.divide_numbers.result in
-    let n : IsNormal s y.significand y.exponent =
+    let n : IsNormalAt s y.significand y.exponent =
     subst (λ (k : Category). IsStoredBy k s y) c.in-Normal-category.is c.requires.right in
     by_categories (λ (a : Datum) (b : Datum). IsQuotient (format_at s) c.args.round a b (datum_at s z.value)
     (bits_of z.status)) s x y Normal Normal c.in-Normal.is c.in-Normal-category.is
@@ -32,7 +32,7 @@ returns-in-Zero-category-clause-delivered c =
     let x = c.args.x in
     let y = c.args.y in
     let z = c.divided_by_zero.result in
-    let n : IsNormal s x.significand x.exponent =
+    let n : IsNormalAt s x.significand x.exponent =
     subst (λ (k : Category). IsStoredBy k s x) c.in-Normal.is c.requires.left in
     by_categories (λ (a : Datum) (b : Datum). IsQuotient (format_at s) c.args.round a b (datum_at s z.value)
     (bits_of z.status)) s x y Normal Zero c.in-Normal.is c.in-Zero-category.is
@@ -57,7 +57,7 @@ returns-in-Normal-category-2-clause-delivered c =
     let x = c.args.x in
     let y = c.args.y in
     let z = c.exact_zero-in-Normal-category-2.result in
-    let n : IsNormal s y.significand y.exponent =
+    let n : IsNormalAt s y.significand y.exponent =
     subst (λ (k : Category). IsStoredBy k s y) c.in-Normal-category-2.is c.requires.right in
     by_categories (λ (a : Datum) (b : Datum). IsQuotient (format_at s) c.args.round a b (datum_at s z.value)
     (bits_of z.status)) s x y Zero Normal c.in-Zero.is c.in-Normal-category-2.is

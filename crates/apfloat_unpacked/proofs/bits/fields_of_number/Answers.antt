@@ -6,7 +6,7 @@ use Rattle.apfloat_base.specs.bits.Interchange.{IsInterchange, AreFieldsOf}
 use Rattle.apfloat_base.proofs.EncodedOnce.{fields_with}
 use Rattle.apfloat_base.proofs.FieldsOf.{low_fields_of, high_fields_of}
 use Rattle.apfloat_unpacked.specs.Shapes.{format_at, IsShape}
-use Rattle.apfloat_unpacked.specs.Stored.{quanta_at, IsNormal}
+use Rattle.apfloat_unpacked.specs.Stored.{quanta_at, IsNormalAt}
 use Rattle.apfloat_unpacked.specs.declared.shape.Shape.{Shape}
 use Rattle.apfloat_unpacked.specs.declared.bits.Widths.{Widths}
 use Rattle.apfloat_unpacked.specs.StoredBack.{quanta_some}
@@ -71,7 +71,7 @@ overflow_sub-result c = omega (arith, c.requires.normal.operand.full)
 
 -- the fields of a number with its integer bit, by what is written of its significand
 high : (s : Shape) (widths : Widths) (b : Bool) (m j t : ℕ) (e : ℤ) → IsShape s
-    → IsInterchange (format_at s) (layout_at widths) → IsNormal s m e → pos j ≡ e -ℤ s.min_exp
+    → IsInterchange (format_at s) (layout_at widths) → IsNormalAt s m e → pos j ≡ e -ℤ s.min_exp
     → m - cond s.explicit_integer_bit 0 (smallest_normalized (format_at s)) ≡ t
     → AreFieldsOf (format_at s) (layout_at widths) (fields_with b (j + 1) t) (finite b (quanta_at s.min_exp m e))
 high s widths b m j t e law interchange n d w =
