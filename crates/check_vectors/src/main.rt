@@ -1,28 +1,17 @@
 //! Checks files of test vectors: rows of commands with their replies, and of calls with their answers.
 //!
-//! Rows come from the file that is named, or from standard input. `--help` says what they are, what is written and what
-//! the exit status tells; `docs/VECTORS.md` has more on the columns.
-//!
-//! Of the functions here only safety is proved, and that a row's columns are those of its line.
+//! Rows come from the file that is named, or from standard input. The crate `vector_rows` says what they are and what
+//! becomes of them, `--help` too.
 #![tactic(auto)]
 
-mod calls;
-mod check;
-mod command_row;
-mod failure;
-mod fault;
-mod help;
-mod progress;
-mod run;
-mod tally;
-#[cfg(test)]
-mod tests;
-
-use crate::run::run;
 use std::alloc::Alloc;
 use std::env::Env;
 use std::process::ExitCode;
 use std::{env, io};
+use vector_rows::run;
+
+#[cfg(test)]
+mod tests;
 
 fn main(rt: HostRuntime) -> ExitCode {
     ExitCode::from(run(

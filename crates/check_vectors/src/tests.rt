@@ -1,8 +1,5 @@
 //! Checks of short inputs, also where reading, writing or memory ends.
 
-use crate::check::Check;
-use crate::failure::Failure;
-use crate::run::{check_input, run};
 use crate::words_of_system;
 use bumpalo::Bump;
 use std::alloc::{AllocError, Global};
@@ -13,6 +10,7 @@ use std::rt::Clock;
 use std::test::Fail;
 use std::time::Duration;
 use std::{fs, io};
+use vector_rows::{Check, Failure, check_input, run};
 
 // Asserts what a check of an input writes, and its exit status.
 fn expect<R: Abort + Clock + AllocGlobal>(
