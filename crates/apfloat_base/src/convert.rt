@@ -18,8 +18,8 @@ pub trait FloatConvert<T: Float>: Float {
     /// The value in `T`, rounded once (IEEE 754-2008 5.4.2, convertFormat), and in `loses_info` whether information was
     /// lost.
     ///
-    /// A number loses information exactly where the status is not OK. A zero whose sign `T` does not have, and an
-    /// infinity where it has none, lose information with `INEXACT`. A NaN is made quiet, with `INVALID_OP` if it
+    /// A number loses information exactly where the status is not OK: where it is rounded, or a zero whose sign `T` does
+    /// not have. So does an infinity where `T` has none, with `INEXACT`. A NaN is made quiet, with `INVALID_OP` if it
     /// signaled; it loses information where a bit of its payload that was set, or all of the payload, does not come
     /// through, or the integer bit of a signaling one.
     fn convert_r(self, round: Round, loses_info: &mut bool) -> StatusAnd<T>

@@ -219,8 +219,8 @@ pub trait Float: Copy
 
     /// The quotient, rounded once (IEEE 754-2008 5.4.1, division).
     ///
-    /// A number divided by a zero is the infinity with the sign of the quotient, or the NaN in its place, with
-    /// `DIV_BY_ZERO` (7.3). A zero divided by a zero and an infinity by an infinity are invalid (7.2): the quiet NaN
+    /// A number that is not zero, divided by a zero, is the infinity with the sign of the quotient, or the NaN in its
+    /// place, with `DIV_BY_ZERO` (7.3). A zero divided by a zero and an infinity by an infinity are invalid (7.2): the quiet NaN
     /// without a payload, with `INVALID_OP`. A NaN operand is answered, made quiet (6.2.3).
     fn div_r(self, rhs: Self, round: Round) -> StatusAnd<Self>
         ensures { divides self rhs round result };
