@@ -192,7 +192,7 @@ pub opposite_word : (s : Shape) (m : ℕ) (e : ℤ) → IsShape s → IsNormalAt
 opposite_word s m e law n =
     let x = normal_near s m e law n in
     let z : pos 0 -ℤ e ≡ neg_ℤ e = omega (arith, ints) in
-    to_z-of_z w32 (pos 0 -ℤ e) (fits_in w32 (pos 0 -ℤ e) (omega (arith, ints, x.near, x.far))) ∙ z
+    to_z-of_z w32 (pos 0 -ℤ e) (fits_in w32 (pos 0 -ℤ e) (omega (arith, ints, x.within))) ∙ z
 
 -- what is answered of a number
 pub inverse_answer : (s : Shape) (b : Bool) (m : ℕ) (e : ℤ) → IsShape s → IsNormalAt s m e → IsInvertible s m e
