@@ -177,7 +177,7 @@ pub opposite_word : (shape : Shape) (m : ℕ) (e : ℤ) → IsShape shape → Is
 opposite_word shape m e law n =
     let x = normal_near shape m e law n in
     let z : pos 0 -ℤ e ≡ neg_ℤ e = omega (arith, ints) in
-    to_z-of_z w32 (pos 0 -ℤ e) (fits_in w32 (pos 0 -ℤ e) (omega (arith, ints, x.near, x.far))) ∙ z
+    to_z-of_z w32 (pos 0 -ℤ e) (fits_in w32 (pos 0 -ℤ e) (omega (arith, ints, x.within))) ∙ z
 
 -- what is answered of a number
 pub inverse_answer : (shape : Shape) (b : Bool) (m : ℕ) (e : ℤ) → IsShape shape → IsNormalAt shape m e

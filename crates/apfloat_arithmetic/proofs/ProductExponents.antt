@@ -1,9 +1,9 @@
 -- Products and quotients of stored numbers: their exponents, counted from the quantum's.
-use Rattle.std.proofs.Common.{◌≡◌, ℕ, ◌+◌, ◌-◌, ◌*◌, ◌^◌, ◌<◌, ◌≤◌, sym, ap, ◌∙◌, arith, ℤ, pos, ◌+ℤ◌, ◌-ℤ◌, ◌≤ℤ◌, to_z, of_z, w32}
-use Rattle.std.specs.Prelude.{neg_ℤ}
+use Rattle.std.proofs.Common.{◌≡◌, ℕ, ◌+◌, ◌-◌, ◌*◌, ◌^◌, ◌<◌, ◌≤◌, sym, ap, ◌∙◌, arith, ℤ, pos, ◌+ℤ◌, ◌-ℤ◌, to_z, of_z, w32}
 use Rattle.std.proofs.lemmas.Int.{ints}
 use Rattle.std.proofs.lemmas.Nat.{pow_pos}
 use Rattle.apfloat_base.specs.declared.sig.loss.Loss.{Loss}
+use Rattle.apfloat_base.specs.rounding.Bounds.{IsWithin, number_bound}
 use Rattle.apfloat_base.specs.rounding.Standing.{StandsFor, up, down}
 use Rattle.apfloat_base.proofs.Fractions.{product_stands, quotient_stands}
 use Rattle.apfloat_unpacked.specs.declared.shape.Shape.{Shape}
@@ -11,18 +11,18 @@ use Rattle.apfloat_unpacked.specs.Shapes.{IsShape, format_at}
 use Rattle.apfloat_unpacked.specs.Stored.{IsNormalAt, quanta_at}
 use Rattle.apfloat_unpacked.proofs.ShapeExponents.{scale_is, exponent_word}
 
--- the exponent of a number that is stored, with bounds
+-- the exponent of a number that is stored
 pub record IsNear (e : ℤ) : Type 0 where
-  pub near : e ≤ℤ pos 1048576
-  pub far : neg_ℤ (pos 1048701) ≤ℤ e
+  pub within : IsWithin number_bound e
   pub word : to_z w32 (of_z w32 e) ≡ e
 
 pub normal_near : (shape : Shape) (m : ℕ) (e : ℤ) → IsShape shape → IsNormalAt shape m e → IsNear e
 normal_near shape m e l n =
     let o = n.operand in
-    let near : e ≤ℤ pos 1048576 = omega (arith, ints, l.max_exp_high, o.greatest) in
-    let far : neg_ℤ (pos 1048701) ≤ℤ e = omega (arith, ints, l.min_exp_low, l.precision_high, o.least) in
-    record { near = near; far = far; word = exponent_word shape m e l n }
+    record {
+      within = record { low = omega (arith, ints, l, o); high = omega (arith, ints, l, o) };
+      word = exponent_word shape m e l n;
+    }
 
 balanced_product : (precision scale : ℕ) (min_exp x y r : ℤ) → 3 ≤ precision
     → pos scale ≡ pos (precision - 1) -ℤ min_exp → r ≡ ((x +ℤ y) -ℤ pos (2 * (precision - 1)))

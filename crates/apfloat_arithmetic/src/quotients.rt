@@ -1,9 +1,10 @@
 //! Quotients.
 
-ghost use Rattle.std.specs.Prelude.{◌≡◌, ◌+◌, ◌-◌, ◌*◌, ◌/◌, ◌^◌, ◌<◌, ◌≤◌, pos, neg_ℤ, ◌≤ℤ◌, ◌-ℤ◌};
+ghost use Rattle.std.specs.Prelude.{◌≡◌, ◌+◌, ◌-◌, ◌*◌, ◌/◌, ◌^◌, ◌<◌, ◌≤◌, pos, ◌-ℤ◌};
 ghost use Rattle.apfloat_base.specs.rounding.Answer.{IsAnswer};
 ghost use Rattle.apfloat_base.specs.formats.Constants.{infinity_of};
 ghost use Rattle.apfloat_base.specs.arithmetic.Exact.{product_sign};
+ghost use Rattle.apfloat_base.specs.rounding.Bounds.{IsWithin, number_bound, exponent_bound};
 ghost use Rattle.apfloat_base.specs.rounding.Rounding.{IsDelivered};
 ghost use Rattle.apfloat_base.specs.rounding.Standing.{StandsFor};
 ghost use Rattle.apfloat_base.specs.arithmetic.Quotients.{IsQuotient, div_by_zero_bit};
@@ -24,14 +25,11 @@ use apfloat_unpacked::unpacked::{Unpacked, infinity_of, remade};
 /// operands' integer bits.
 #[inline(always)]
 fn quotient_exponent(left: ExpInt, right: ExpInt, places: u32) -> ExpInt
-    requires left_near { left ≤ℤ pos 1048576 }
-    requires left_far { neg_ℤ (pos 1048701) ≤ℤ left }
-    requires right_near { right ≤ℤ pos 1048576 }
-    requires right_far { neg_ℤ (pos 1048701) ≤ℤ right }
+    requires left { IsWithin number_bound left }
+    requires right { IsWithin number_bound right }
     requires short { places ≤ 128 }
     ensures value { result ≡ (left -ℤ right) -ℤ pos places }
-    ensures near { result ≤ℤ pos 2097652 }
-    ensures far { neg_ℤ (pos 2097652) ≤ℤ result }
+    ensures within { IsWithin exponent_bound result }
 {
     left - right - places as ExpInt
 }

@@ -7,6 +7,7 @@
 ghost use Rattle.std.specs.Prelude.{◌≡◌, ℕ, ◌+◌, ◌-◌, ◌*◌, ◌/◌, ◌%◌, ◌^◌, ◌<◌, ◌≤◌, ◌⊎◌, false, eqb, count_ones, cond, ℤ, pos, ◌≤ℤ◌, ◌+ℤ◌, ◌-ℤ◌};
 ghost use Rattle.apfloat_base.specs.declared.kinds.Category.{Category};
 ghost use Rattle.apfloat_base.specs.declared.kinds.Round.{Round};
+ghost use Rattle.apfloat_base.specs.rounding.Bounds.{place_bound};
 ghost use Rattle.apfloat_base.specs.rounding.Flags.{bits_of};
 ghost use Rattle.apfloat_base.specs.rounding.Rounding.{ok_bits, takes_above};
 ghost use Rattle.apfloat_base.specs.arithmetic.Exponents.{IsIlogb};
@@ -97,7 +98,7 @@ fn rest_by(precision: u32, x: Point, y: Point) -> Rest
     requires x_full { 2 ^ (precision - 1) ≤ x.significand }
     requires y_fits { y.significand < 2 ^ precision }
     requires y_full { 2 ^ (precision - 1) ≤ y.significand }
-    requires near { x.place ≤ 33554432 }
+    requires near { x.place ≤ place_bound }
     ensures rest { result.point.significand * 2 ^ result.point.place
         ≡ x.significand * 2 ^ x.place % (y.significand * 2 ^ y.place) }
     ensures steps { result.steps
@@ -158,7 +159,7 @@ fn nearest_by(precision: u32, x: Point, y: Point) -> Nearest
     requires x_full { 2 ^ (precision - 1) ≤ x.significand }
     requires y_fits { y.significand < 2 ^ precision }
     requires y_full { 2 ^ (precision - 1) ≤ y.significand }
-    requires near { x.place ≤ 33554432 }
+    requires near { x.place ≤ place_bound }
     ensures past { result.past ≡ takes_above Round.NearestTiesToEven false
         (x.significand * 2 ^ x.place % (y.significand * 2 ^ y.place))
         (y.significand * 2 ^ y.place - x.significand * 2 ^ x.place
@@ -210,7 +211,7 @@ fn point_of(shape: Shape, x: Unpacked) -> Point
     ensures significand { result.significand ≡ x.significand }
     ensures place { pos result.place
         ≡ ((x.exponent -ℤ shape.min_exp) +ℤ pos (shape.precision - 1)) }
-    ensures near { result.place ≤ 33554432 }
+    ensures near { result.place ≤ place_bound }
 {
     Point {
         significand: x.significand,
@@ -250,7 +251,7 @@ fn truncated_rest(shape: Shape, x: Unpacked, y: Unpacked) -> Rest
     requires x { IsNormal shape x }
     requires y { IsNormal shape y }
     ensures fits { result.point.significand < 2 ^ shape.precision }
-    ensures near { result.point.place ≤ 33554432 }
+    ensures near { result.point.place ≤ place_bound }
     ensures quanta { result.point.significand * 2 ^ result.point.place
         ≡ quanta_of shape x % quanta_of shape y }
     ensures steps { result.steps
@@ -270,7 +271,7 @@ fn nearest_rest(shape: Shape, x: Unpacked, y: Unpacked) -> Nearest
     requires x { IsNormal shape x }
     requires y { IsNormal shape y }
     ensures fits { result.point.significand < 2 ^ shape.precision }
-    ensures near { result.point.place ≤ 33554432 }
+    ensures near { result.point.place ≤ place_bound }
     ensures past { let m = quanta_of shape x in let n = quanta_of shape y in
         result.past ≡ takes_above Round.NearestTiesToEven false (m % n) (n - m % n)
         (eqb (m / n % 2) 1) }

@@ -5,3 +5,4 @@ pub mod Negation
 pub mod Flags
 pub mod Standing
 pub mod Enclosure
+pub mod Bounds

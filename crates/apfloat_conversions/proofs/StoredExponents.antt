@@ -7,6 +7,7 @@ use Rattle.apfloat_base.specs.declared.kinds.Round.{Round}
 use Rattle.apfloat_base.specs.declared.sig.loss.Loss.TheVariants.{ExactlyZero}
 use Rattle.apfloat_base.specs.formats.Format.{Format, largest, greatest_significand}
 use Rattle.apfloat_base.specs.formats.Datum.{Datum, finite}
+use Rattle.apfloat_base.specs.rounding.Bounds.{scaling_bound}
 use Rattle.apfloat_base.specs.rounding.Rounding.{IsDelivered, zero_sign}
 use Rattle.apfloat_base.specs.arithmetic.Scaling.{IsScaling}
 use Rattle.apfloat_base.specs.rounding.Standing.{StandsFor, up, down}
@@ -51,7 +52,7 @@ DeliversOf s mode negative m r v st =
     (parts * 2 ^ up (r +ℤ pos (format_at s).scale)) → IsDelivered (format_at s) mode negative amount parts v st
 
 pub scale_delivered : (shape : Shape) (m : ℕ) (e j near r : ℤ) (mode : Round) (negative : Bool) (v : Datum) (st : ℕ)
-    → IsShape shape → IsNormalAt shape m e → IsClamped 6000000 j near → r ≡ ((e +ℤ near) -ℤ pos (shape.precision - 1))
+    → IsShape shape → IsNormalAt shape m e → IsClamped scaling_bound j near → r ≡ ((e +ℤ near) -ℤ pos (shape.precision - 1))
     → DeliversOf shape mode negative m r v st
     → IsDelivered (format_at shape) mode negative (quanta_at shape.min_exp m e * 2 ^ up j) (2 ^ down j) v st
 scale_delivered shape m e j near r mode negative v st law n c i d =
@@ -59,11 +60,11 @@ scale_delivered shape m e j near r mode negative v st law n c i d =
     let k = scale_is shape law in
     let w = span_is shape law in
     let o = n.operand in
-    let g : (e -ℤ shape.min_exp) ≤ℤ pos 2097152 = omega (arith, ints, law, o) in
-    let g' = up_le (e -ℤ shape.min_exp) 2097152 g in
-    let f : (format_at shape).span ≤ 2097152 = omega (arith, ints, law, w) in
+    let g : (e -ℤ shape.min_exp) ≤ℤ pos (2 ^ 21) = omega (arith, ints, law, o) in
+    let g' = up_le (e -ℤ shape.min_exp) (2 ^ 21) g in
+    let f : (format_at shape).span ≤ 2 ^ 21 = omega (arith, ints, law, w) in
     clamp_kept (format_at shape) mode negative (quanta_at shape.min_exp m e)
-    (shape.precision + up (e -ℤ shape.min_exp)) 6000000 j
+    (shape.precision + up (e -ℤ shape.min_exp)) scaling_bound j
     near v st (omega (arith, law)) (quanta_some shape m e n)
     (quanta_below shape.precision shape.min_exp e m (quanta_at shape.min_exp m e) o.fits n.whole)
     (omega (arith, f, law)) (omega (arith, g', law)) c

@@ -3,6 +3,7 @@
 ghost use Rattle.std.specs.Prelude.{◌≡◌, ◌⊎◌, ◌*◌, ◌^◌, pos, neg_ℤ, ◌+ℤ◌, ◌≤ℤ◌};
 ghost use Rattle.apfloat_base.specs.arithmetic.Exact.{up, down};
 ghost use Rattle.apfloat_base.specs.arithmetic.Exponents.{IsIlogb, IsFrexp, IsFraction};
+ghost use Rattle.apfloat_base.specs.rounding.Bounds.{IsWithin, number_bound, scaling_bound, integer_bit_bound};
 ghost use Rattle.apfloat_base.specs.rounding.Rounding.{IsDelivered};
 ghost use Rattle.apfloat_base.specs.arithmetic.Scaling.{IsScaling};
 ghost use Rattle.apfloat_unpacked.specs.Shapes.{IsShape, format_at};
@@ -19,10 +20,10 @@ use apfloat_unpacked::unpacked::Unpacked;
 /// The amount, or the farthest one on its side that rounding has to see: past it no answer changes.
 #[inline(always)]
 pub fn clamped(places: ExpInt) -> ExpInt
-    ensures low { neg_ℤ (pos 6000000) ≤ℤ result }
-    ensures high { result ≤ℤ pos 6000000 }
-    ensures is { (result ≡ places) ⊎ (((result ≡ pos 6000000) × (pos 6000000 ≤ℤ places))
-        ⊎ ((result ≡ neg_ℤ (pos 6000000)) × (places ≤ℤ neg_ℤ (pos 6000000)))) }
+    ensures within { IsWithin scaling_bound result }
+    ensures is { (result ≡ places)
+        ⊎ (((result ≡ pos scaling_bound) × (pos scaling_bound ≤ℤ places))
+        ⊎ ((result ≡ neg_ℤ (pos scaling_bound)) × (places ≤ℤ neg_ℤ (pos scaling_bound)))) }
 {
     if places > 6000000 {
         6000000
@@ -36,13 +37,10 @@ pub fn clamped(places: ExpInt) -> ExpInt
 /// The exponent of an integer bit that is moved up by so many places.
 #[inline(always)]
 fn moved(exponent: ExpInt, places: ExpInt) -> ExpInt
-    requires near { exponent ≤ℤ pos 1048576 }
-    requires far { neg_ℤ (pos 1048704) ≤ℤ exponent }
-    requires low { neg_ℤ (pos 6000000) ≤ℤ places }
-    requires high { places ≤ℤ pos 6000000 }
+    requires exponent { IsWithin number_bound exponent }
+    requires places { IsWithin scaling_bound places }
     ensures value { result ≡ exponent +ℤ places }
-    ensures near { result ≤ℤ pos 7340032 }
-    ensures far { neg_ℤ (pos 7340032) ≤ℤ result }
+    ensures within { IsWithin integer_bit_bound result }
 {
     exponent + places
 }

@@ -1,9 +1,10 @@
 //! A value of one format.
 
-ghost use Rattle.std.specs.Prelude.{◌≡◌, ℕ, ◌-◌, ◌*◌, ◌^◌, ◌<◌, ◌≤◌, ◌⊎◌, pos, neg_ℤ, ◌+ℤ◌, ◌≤ℤ◌, false};
+ghost use Rattle.std.specs.Prelude.{◌≡◌, ℕ, ◌-◌, ◌*◌, ◌^◌, ◌<◌, ◌≤◌, ◌⊎◌, pos, ◌+ℤ◌, ◌≤ℤ◌, false};
 ghost use Rattle.apfloat_base.specs.declared.sig.loss.Loss.{Loss};
 ghost use Rattle.apfloat_base.specs.order.Classes.{category_of};
 ghost use Rattle.apfloat_base.specs.formats.Members.{IsMember};
+ghost use Rattle.apfloat_base.specs.rounding.Bounds.{IsWithin, exponent_bound};
 ghost use Rattle.apfloat_base.specs.rounding.Flags.{Gives};
 ghost use Rattle.apfloat_base.specs.rounding.Rounding.{IsDelivered};
 ghost use Rattle.apfloat_base.specs.rounding.Standing.{StandsFor, up, down};
@@ -154,8 +155,7 @@ pub fn normalize<S: Semantics>(
     loss: Loss,
     round: Round,
 ) -> StatusAnd<IeeeFloat<S>>
-    requires near { exponent ≤ℤ pos 8388608 }
-    requires far { neg_ℤ (pos 8388608) ≤ℤ exponent }
+    requires within { IsWithin exponent_bound exponent }
     requires fine { (loss ≡ Loss.ExactlyZero)
         ⊎ (((exponent +ℤ pos (format_of S.Semantics).scale) ≤ℤ pos 0)
         ⊎ (2 ^ ((format_of S.Semantics).precision - 1) ≤ significand)) }

@@ -4,6 +4,7 @@ use Rattle.std.proofs.Common.{◌≡◌, ◌⊎◌, ℕ, ◌+◌, ◌-◌, ◌*�
 use Rattle.std.proofs.lemmas.Int.{ints}
 use Rattle.std.proofs.lemmas.Nat.{pow-add, pow_pos}
 use Rattle.std.proofs.Math.Nat.{mul-le-mul_right, mul-lt-mul_of_pos_right, pow-le-pow_right, mul-pos}
+use Rattle.apfloat_base.specs.rounding.Bounds.{text_bound}
 use Rattle.apfloat_base.specs.declared.kinds.Round.{Round}
 use Rattle.apfloat_base.specs.declared.sig.loss.Loss.{Loss}
 use Rattle.apfloat_base.specs.declared.sig.loss.Loss.TheVariants.{ExactlyZero}
@@ -68,7 +69,7 @@ pub record IsBounded (format : Format) : Type 0 where
 
 moved : (format : Format) (mode : Round) (negative : Bool) (number s cut : ℕ) (loss : Loss) (exact unit : ℤ) (v : Datum)
     (status : ℕ)
-    → IsBounded format → 0 < s → s < 2 ^ 128 → IsKept number s loss cut → IsNear 4194304 exact unit
+    → IsBounded format → 0 < s → s < 2 ^ 128 → IsKept number s loss cut → IsNear text_bound exact unit
     → IsScaledDelivery format mode negative number (power_at (4 * cut) format.scale unit) v status
     → IsScaledDelivery format mode negative number (power_at (4 * cut) format.scale exact) v status
 moved format mode negative number s cut loss exact unit v status b some small k (inl e) d =
@@ -119,7 +120,7 @@ stands_at number s k scale loss unit h =
 pub number_delivered : (format : Format) (mode : Round) (negative : Bool) (number s cut places : ℕ) (loss : Loss)
     (exact unit : ℤ) (v : Datum) (status : ℕ)
     → IsBounded format → 0 < s → s < 2 ^ 128 → IsKept number s loss cut
-    → IsNear 4194304 ((exact +ℤ pos (4 * cut)) -ℤ pos (4 * places)) unit
+    → IsNear text_bound ((exact +ℤ pos (4 * cut)) -ℤ pos (4 * places)) unit
     → ((amount parts : ℕ) → 0 < parts
     → StandsFor s loss (amount * 2 ^ down (unit +ℤ pos format.scale)) (parts * 2 ^ up (unit +ℤ pos format.scale))
     → IsDelivered format mode negative amount parts v status)

@@ -1,6 +1,7 @@
 -- Counts that are not counted on from where they decide.
 use Rattle.std.proofs.Common.{◌≡◌, ℕ, ◌+◌, ◌*◌, ◌^◌, ◌<◌, true, inl, inr, arith, List, ◌∷◌, ℤ, pos, ◌+ℤ◌, ◌-ℤ◌}
 use Rattle.std.proofs.lemmas.Int.{ints}
+use Rattle.apfloat_base.specs.rounding.Bounds.{text_bound}
 use Rattle.apfloat_base.specs.texts.Digits.{is_decimal, digit_value}
 use Rattle.apfloat_texts.specs.Saturation.{IsSaturated, IsNear, IsCounted}
 
@@ -18,8 +19,8 @@ count_goes digits left c counted after d step fits i =
 
 -- a sum with what is far is far
 pub near_sum : (exact e r : ℤ) (cut places : ℕ) → cut < 2 ^ 64 → places < 2 ^ 64 → IsNear (2 ^ 96) exact e
-    → IsNear 4194304 ((e +ℤ pos (4 * cut)) -ℤ pos (4 * places)) r
-    → IsNear 4194304 ((exact +ℤ pos (4 * cut)) -ℤ pos (4 * places)) r
+    → IsNear text_bound ((e +ℤ pos (4 * cut)) -ℤ pos (4 * places)) r
+    → IsNear text_bound ((exact +ℤ pos (4 * cut)) -ℤ pos (4 * places)) r
 near_sum exact e r cut places a b (inl x) y = rw x at y
 near_sum exact e r cut places a b (inr (inl x)) (inl y) =
     inr (inl (omega (arith, ints, x, y), omega (arith, ints, x, y)))

@@ -1,6 +1,7 @@
 //! The exponent of a hexadecimal text.
 
 ghost use Rattle.std.specs.Prelude.{◌≡◌, ℕ, ◌+◌, ◌*◌, ◌^◌, ◌<◌, ℤ, pos, neg_ℤ, ◌+ℤ◌, ◌-ℤ◌, ◌≤ℤ◌, drop, Some, None, MatchResult};
+ghost use Rattle.apfloat_base.specs.rounding.Bounds.{IsWithin, text_bound};
 ghost use Rattle.apfloat_base.specs.texts.Digits.{number};
 ghost use Rattle.apfloat_base.specs.texts.Specials.{behind_mark};
 ghost use Rattle.apfloat_base.specs.texts.Texts.{exponent_fault};
@@ -90,8 +91,7 @@ pub fn exponent_in(tail: &[u8], some: bool) -> Result<i128, Fault>
 /// The exponent of the last digit that is kept, of a number with `cut` digits less and with `places` digits behind its dot.
 #[inline(always)]
 fn unit_of(exponent: i128, cut: usize, places: usize) -> i128
-    requires high { exponent ≤ℤ pos (2 ^ 100) }
-    requires low { neg_ℤ (pos (2 ^ 100)) ≤ℤ exponent }
+    requires { IsWithin (2 ^ 100) exponent }
     ensures { result ≡ (exponent +ℤ pos (4 * cut)) -ℤ pos (4 * places) }
 {
     exponent + 4 * cut as i128 - 4 * places as i128
@@ -100,9 +100,8 @@ fn unit_of(exponent: i128, cut: usize, places: usize) -> i128
 /// The exponent, or the farthest one on its side.
 #[inline(always)]
 fn clamped(exponent: i128) -> ExpInt
-    ensures near { IsNear 4194304 exponent result }
-    ensures high { result ≤ℤ pos 4194304 }
-    ensures low { neg_ℤ (pos 4194304) ≤ℤ result }
+    ensures near { IsNear text_bound exponent result }
+    ensures within { IsWithin text_bound result }
 {
     if exponent > 4194304 {
         4194304
@@ -116,12 +115,10 @@ fn clamped(exponent: i128) -> ExpInt
 /// The exponent of the last digit that is kept, or one that is past every value on its side.
 #[inline(always)]
 pub fn unit_exponent(exponent: i128, cut: usize, places: usize) -> ExpInt
-    requires high { exponent ≤ℤ pos (2 ^ 100) }
-    requires low { neg_ℤ (pos (2 ^ 100)) ≤ℤ exponent }
+    requires { IsWithin (2 ^ 100) exponent }
     ensures near { (exact : ℤ) → IsNear (2 ^ 96) exact exponent
-        → IsNear 4194304 ((exact +ℤ pos (4 * cut)) -ℤ pos (4 * places)) result }
-    ensures high { result ≤ℤ pos 4194304 }
-    ensures low { neg_ℤ (pos 4194304) ≤ℤ result }
+        → IsNear text_bound ((exact +ℤ pos (4 * cut)) -ℤ pos (4 * places)) result }
+    ensures within { IsWithin text_bound result }
 {
     clamped(unit_of(exponent, cut, places))
 }

@@ -1,6 +1,7 @@
 //! The number of a significand and an exponent.
 
-ghost use Rattle.std.specs.Prelude.{ℕ, ◌*◌, ◌^◌, ℤ, pos, neg_ℤ, ◌-ℤ◌, ◌+ℤ◌, ◌≤ℤ◌};
+ghost use Rattle.std.specs.Prelude.{ℕ, ◌*◌, ◌^◌, ℤ, pos, ◌-ℤ◌, ◌+ℤ◌};
+ghost use Rattle.apfloat_base.specs.rounding.Bounds.{IsWithin};
 ghost use Rattle.apfloat_base.specs.texts.Readings.{IsScaledDelivery};
 ghost use Rattle.apfloat_unpacked.specs.Shapes.{IsShape, format_at};
 ghost use Rattle.apfloat_unpacked.specs.Stored.{IsStored, GivesAt};
@@ -27,8 +28,7 @@ pub fn delivered(
 ) -> StatusAnd<Unpacked>
     requires lawful { IsShape shape }
     requires kept { (number : ℕ) × IsKept number digits.significand digits.loss digits.cut }
-    requires high { exponent ≤ℤ pos (2 ^ 100) }
-    requires low { neg_ℤ (pos (2 ^ 100)) ≤ℤ exponent }
+    requires within { IsWithin (2 ^ 100) exponent }
     ensures stored { IsStored shape result.value }
     ensures delivered { (number : ℕ) (exact : ℤ)
         → IsKept number digits.significand digits.loss digits.cut

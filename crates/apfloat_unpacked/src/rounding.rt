@@ -4,6 +4,7 @@
 //! decides together with the incoming loss, and at most one is added to what is kept.
 
 ghost use Rattle.std.specs.Prelude.{◌≡◌, ℕ, ◌+◌, ◌-◌, ◌*◌, ◌^◌, ◌<◌, ◌≤◌, ◌⊎◌, ltb, pos, neg_ℤ, ◌≤ℤ◌, ◌+ℤ◌, if◌then◌else◌, false};
+ghost use Rattle.apfloat_base.specs.rounding.Bounds.{IsWithin, exponent_bound, unit_bound, place_bound};
 ghost use Rattle.apfloat_base.specs.rounding.Flags.{bits_of};
 ghost use Rattle.apfloat_base.specs.formats.Format.{largest, nan_base};
 ghost use Rattle.apfloat_base.specs.formats.Datum.{finite};
@@ -32,9 +33,8 @@ struct Kept {
 fn kept_place(precision: u32, digits: u32, unit: ExpInt) -> u32
     requires precise { precision ≤ 128 }
     requires short { digits ≤ 128 }
-    requires near { unit ≤ℤ pos 16777216 }
-    requires far { neg_ℤ (pos 16777216) ≤ℤ unit }
-    ensures near { result ≤ 33554431 }
+    requires within { IsWithin unit_bound unit }
+    ensures near { result < place_bound }
     ensures covers { digits + up unit ≤ result + precision + down unit }
     ensures reached { (result ≡ 0) ⊎ (digits + up unit ≡ result + precision + down unit) }
 {
@@ -50,8 +50,8 @@ fn kept_place(precision: u32, digits: u32, unit: ExpInt) -> u32
 #[inline(always)]
 fn steps_up(unit: ExpInt, place: u32) -> u32
     requires above { unit ≤ℤ pos place }
-    requires near { place ≤ 33554432 }
-    requires far { neg_ℤ (pos 16777216) ≤ℤ unit }
+    requires near { place ≤ place_bound }
+    requires far { neg_ℤ (pos unit_bound) ≤ℤ unit }
     ensures { result + up unit ≡ place + down unit }
 {
     (place as ExpInt - unit) as u32
@@ -71,13 +71,12 @@ fn steps_down(unit: ExpInt, place: u32) -> u32
 fn keep(precision: u32, significand: u128, unit: ExpInt, loss: Loss) -> Kept
     requires some { 0 < precision }
     requires precise { precision ≤ 125 }
-    requires near { unit ≤ℤ pos 16777216 }
-    requires far { neg_ℤ (pos 16777216) ≤ℤ unit }
+    requires within { IsWithin unit_bound unit }
     requires fine { (loss ≡ Loss.ExactlyZero)
         ⊎ ((unit ≤ℤ pos 0) ⊎ (2 ^ (precision - 1) ≤ significand)) }
     ensures fits { result.significand < 2 ^ precision }
     ensures full { (result.place ≡ 0) ⊎ (2 ^ (precision - 1) ≤ result.significand) }
-    ensures near { result.place ≤ 33554431 }
+    ensures near { result.place < place_bound }
     ensures enclosed { (amount parts : ℕ) → 0 < parts
         → StandsFor significand loss (amount * 2 ^ down unit) (parts * 2 ^ up unit)
         → IsEnclosed precision (2 ^ (precision - 1)) result.significand result.place amount
@@ -144,14 +143,14 @@ fn pick(precision: u32, kept: Kept, mode: Round, negative: bool) -> Point
     requires precise { precision ≤ 125 }
     requires fits { kept.significand < 2 ^ precision }
     requires full { (kept.place ≡ 0) ⊎ (2 ^ (precision - 1) ≤ kept.significand) }
-    requires near { kept.place ≤ 33554431 }
+    requires near { kept.place < place_bound }
     ensures picked { (amount parts : ℕ) → 0 < parts
         → IsEnclosed precision (2 ^ (precision - 1)) kept.significand kept.place amount parts
         → StandsFor kept.significand kept.loss amount (2 ^ kept.place * parts)
         → IsPick precision mode negative amount parts (result.significand * 2 ^ result.place) }
     ensures fits { result.significand < 2 ^ precision }
     ensures full { (result.place ≡ 0) ⊎ (2 ^ (precision - 1) ≤ result.significand) }
-    ensures near { result.place ≤ 33554432 }
+    ensures near { result.place ≤ place_bound }
 {
     let moved = moves_up(mode, negative, kept.loss, kept.significand % 2 == 1);
     let significand = if moved {
@@ -257,7 +256,7 @@ fn finish(shape: Shape, kept: Kept, mode: Round, negative: bool) -> StatusAnd<Un
     requires lawful { IsShape shape }
     requires fits { kept.significand < 2 ^ shape.precision }
     requires full { (kept.place ≡ 0) ⊎ (2 ^ (shape.precision - 1) ≤ kept.significand) }
-    requires near { kept.place ≤ 33554431 }
+    requires near { kept.place < place_bound }
     ensures stored { IsStored shape result.value }
     ensures delivered { (amount parts : ℕ) → 0 < parts
         → IsEnclosed shape.precision (2 ^ (shape.precision - 1)) kept.significand kept.place
@@ -278,11 +277,9 @@ fn finish(shape: Shape, kept: Kept, mode: Round, negative: bool) -> StatusAnd<Un
 #[inline(always)]
 fn unit_place(shape: Shape, exponent: ExpInt) -> ExpInt
     requires lawful { IsShape shape }
-    requires near { exponent ≤ℤ pos 8388608 }
-    requires far { neg_ℤ (pos 8388608) ≤ℤ exponent }
+    requires within { IsWithin exponent_bound exponent }
     ensures value { result ≡ exponent +ℤ pos (format_at shape).scale }
-    ensures near { result ≤ℤ pos 16777216 }
-    ensures far { neg_ℤ (pos 16777216) ≤ℤ result }
+    ensures within { IsWithin unit_bound result }
 {
     exponent + shape.scale() as ExpInt
 }
@@ -301,8 +298,7 @@ pub fn deliver(
     negative: bool,
 ) -> StatusAnd<Unpacked>
     requires lawful { IsShape shape }
-    requires near { exponent ≤ℤ pos 8388608 }
-    requires far { neg_ℤ (pos 8388608) ≤ℤ exponent }
+    requires within { IsWithin exponent_bound exponent }
     requires fine { (loss ≡ Loss.ExactlyZero)
         ⊎ (((exponent +ℤ pos (format_at shape).scale) ≤ℤ pos 0)
         ⊎ (2 ^ (shape.precision - 1) ≤ significand)) }

@@ -1,7 +1,8 @@
 //! What rounding reads of a format.
 
-ghost use Rattle.std.specs.Prelude.{◌≡◌, ◌-◌, ◌^◌, ◌<◌, ◌≤◌, pos, neg_ℤ, ◌-ℤ◌, ◌≤ℤ◌};
+ghost use Rattle.std.specs.Prelude.{◌≡◌, ◌-◌, ◌^◌, ◌<◌, ◌≤◌, pos, ◌-ℤ◌};
 ghost use Rattle.apfloat_base.specs.formats.Format.{greatest_significand};
+ghost use Rattle.apfloat_base.specs.rounding.Bounds.{IsWithin, integer_bit_bound, exponent_bound};
 ghost use Rattle.apfloat_unpacked.specs.Shapes.{IsShape};
 
 use apfloat_base::sig::power_of_two;
@@ -50,7 +51,7 @@ impl Shape {
     pub fn scale(self) -> u32
         requires { IsShape self }
         ensures value { result ≡ (format_at self).scale }
-        ensures bound { result ≤ 2097152 }
+        ensures bound { result ≤ 2 ^ 21 }
     {
         (self.precision as ExpInt - 1 - self.min_exp) as u32
     }
@@ -60,7 +61,7 @@ impl Shape {
     pub fn span(self) -> u32
         requires { IsShape self }
         ensures value { result ≡ (format_at self).span }
-        ensures bound { result ≤ 2097152 }
+        ensures bound { result ≤ 2 ^ 21 }
     {
         (self.max_exp - self.min_exp) as u32
     }
@@ -94,11 +95,9 @@ impl Shape {
 #[inline(always)]
 pub fn last_exponent(shape: Shape, exponent: ExpInt) -> ExpInt
     requires lawful { IsShape shape }
-    requires near { exponent ≤ℤ pos 7340032 }
-    requires far { neg_ℤ (pos 7340032) ≤ℤ exponent }
+    requires within { IsWithin integer_bit_bound exponent }
     ensures value { result ≡ exponent -ℤ pos (shape.precision - 1) }
-    ensures near { result ≤ℤ pos 8388608 }
-    ensures far { neg_ℤ (pos 8388608) ≤ℤ result }
+    ensures within { IsWithin exponent_bound result }
 {
     exponent - (shape.precision - 1) as ExpInt
 }

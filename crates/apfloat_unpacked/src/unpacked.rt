@@ -4,6 +4,7 @@ ghost use Rattle.std.specs.Prelude.{◌≡◌, ◌+◌, ◌*◌, ◌^◌, ◌<�
 ghost use Rattle.apfloat_base.specs.arithmetic.Exact.{up, down};
 ghost use Rattle.apfloat_base.specs.formats.Format.{largest};
 ghost use Rattle.apfloat_base.specs.formats.Datum.{finite, infinite, nan};
+ghost use Rattle.apfloat_base.specs.rounding.Bounds.{place_bound};
 ghost use Rattle.apfloat_base.specs.rounding.Rounding.{zero_sign, signed_quanta};
 ghost use Rattle.apfloat_base.specs.formats.Constants.{infinity_of, smallest_datum, smallest_normalized_datum};
 ghost use Rattle.apfloat_base.specs.formats.Members.{IsNanSignificand};
@@ -130,7 +131,7 @@ pub fn infinity_of(shape: Shape, negative: bool) -> Unpacked
 fn exponent_at(min_exp: ExpInt, place: u32, shift: u32) -> ExpInt
     requires least { neg_ℤ (pos (2 ^ 20)) ≤ℤ min_exp }
     requires below_one { min_exp ≤ℤ pos 0 }
-    requires near { place ≤ 33554432 }
+    requires near { place ≤ place_bound }
     requires short { shift ≤ 128 }
     ensures value { result ≡ (min_exp +ℤ pos place) -ℤ pos shift }
     ensures moved { shift + up (result -ℤ min_exp) ≡ place + down (result -ℤ min_exp) }
@@ -143,7 +144,7 @@ fn exponent_at(min_exp: ExpInt, place: u32, shift: u32) -> ExpInt
 pub fn quanta_of(shape: Shape, negative: bool, significand: u128, place: u32) -> Unpacked
     requires lawful { IsShape shape }
     requires fits { significand < 2 ^ shape.precision }
-    requires near { place ≤ 33554432 }
+    requires near { place ≤ place_bound }
     requires within { significand * 2 ^ place ≤ largest (format_at shape) }
     ensures stored { IsStored shape result }
     ensures datum { datum_at shape result
@@ -167,7 +168,7 @@ pub fn quanta_of(shape: Shape, negative: bool, significand: u128, place: u32) ->
 pub fn rounded_quanta_of(shape: Shape, negative: bool, significand: u128, place: u32) -> Unpacked
     requires lawful { IsShape shape }
     requires fits { significand < 2 ^ shape.precision }
-    requires near { place ≤ 33554432 }
+    requires near { place ≤ place_bound }
     requires within { significand * 2 ^ place ≤ largest (format_at shape) }
     ensures stored { IsStored shape result }
     ensures datum { datum_at shape result

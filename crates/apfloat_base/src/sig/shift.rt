@@ -1,6 +1,7 @@
 //! Shifts of a significand.
 
-ghost use Rattle.std.specs.Prelude.{◌≡◌, ℕ, ◌-◌, ◌*◌, ◌/◌, ◌%◌, ◌^◌, ◌<◌, ◌≤◌, pos, neg_ℤ, ◌-ℤ◌, ◌≤ℤ◌};
+ghost use Rattle.std.specs.Prelude.{◌≡◌, ℕ, ◌-◌, ◌*◌, ◌/◌, ◌%◌, ◌^◌, ◌<◌, ◌≤◌, pos, ◌-ℤ◌, ◌≤ℤ◌};
+ghost use Rattle.apfloat_base.specs.rounding.Bounds.{IsWithin, exponent_bound};
 ghost use Rattle.apfloat_base.specs.rounding.Standing.{StandsFor};
 
 use crate::kinds::ExpInt;
@@ -19,8 +20,8 @@ pub fn power_of_two(exponent: u32) -> u128
 #[inline(always)]
 pub fn steps_between(high: ExpInt, low: ExpInt) -> u32
     requires above { low ≤ℤ high }
-    requires near { high ≤ℤ pos 8388608 }
-    requires far { neg_ℤ (pos 8388608) ≤ℤ low }
+    requires high { IsWithin exponent_bound high }
+    requires low { IsWithin exponent_bound low }
     ensures { pos result ≡ high -ℤ low }
 {
     (high - low) as u32

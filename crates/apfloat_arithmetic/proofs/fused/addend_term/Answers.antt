@@ -10,11 +10,12 @@ overflow_mul-shape c = omega (arith, c.requires.lawful.precision_high)
 pub overflow_sub-shape : goal.overflow_sub-shape
 overflow_sub-shape c = omega (arith, c.requires.lawful.precision_low)
 
-pub lowered-requires-clause-near : goal.lowered-requires-clause-near
-lowered-requires-clause-near c = omega (arith, ints, c.requires.lawful, c.requires.normal.operand.greatest)
-
-pub lowered-requires-clause-far : goal.lowered-requires-clause-far
-lowered-requires-clause-far c = omega (arith, ints, c.requires.lawful, c.requires.normal.operand.least)
+pub lowered-requires-clause-within : goal.lowered-requires-clause-within
+lowered-requires-clause-within c =
+    record {
+      low = omega (arith, ints, c.requires.lawful, c.requires.normal.operand);
+      high = omega (arith, ints, c.requires.lawful, c.requires.normal.operand);
+    }
 
 pub lowered-requires-clause-short : goal.lowered-requires-clause-short
 lowered-requires-clause-short c = omega (arith, c.requires.short)
@@ -34,11 +35,16 @@ wide_addend-requires-clause-full c = c.requires.normal.operand.full
 pub returns-clause-negative : goal.returns-clause-negative
 returns-clause-negative c = refl
 
-pub returns-clause-near : goal.returns-clause-near
-returns-clause-near c = omega (arith, ints, c.lowered.ensures.near)
+pub returns-clause-exponent : goal.returns-clause-exponent
+returns-clause-exponent c =
+    omega (arith, ints, c.requires.lawful, c.requires.normal.operand, c.lowered.ensures.value)
 
-pub returns-clause-far : goal.returns-clause-far
-returns-clause-far c = omega (arith, ints, c.lowered.ensures.far)
+pub returns-clause-within : goal.returns-clause-within
+returns-clause-within c =
+    record {
+      low = omega (arith, ints, c.lowered.ensures.within);
+      high = omega (arith, ints, c.lowered.ensures.within);
+    }
 
 pub returns-clause-fits : goal.returns-clause-fits
 returns-clause-fits c = c.wide_addend.ensures.fits

@@ -2,6 +2,7 @@ use Rattle.std.proofs.Common.{◌≡◌, ◌-◌, ◌*◌, ◌^◌, ◌≤◌, �
 use Rattle.std.proofs.lemmas.Int.{ints}
 use Rattle.std.proofs.lemmas.Nat.{pow_pos}
 use Rattle.apfloat_base.specs.arithmetic.Exact.{product_sign, signed, sign_of, magnitude}
+use Rattle.apfloat_base.specs.rounding.Bounds.{exponent_bound}
 use Rattle.apfloat_base.specs.rounding.Flags.{bits_of}
 use Rattle.apfloat_base.specs.rounding.Rounding.{IsDelivered}
 use Rattle.apfloat_base.specs.arithmetic.Sums.{zero_sum_sign}
@@ -20,19 +21,27 @@ pub add_terms-total-requires-clause-y_room : goal.add_terms-total-requires-claus
 add_terms-total-requires-clause-y_room c =
     wide_room c.args.shape.precision c.addend_term.result.significand c.requires.short c.addend_term.ensures.fits
 
-pub deliver-requires-clause-near : goal.deliver-requires-clause-near
-deliver-requires-clause-near c =
-    omega (
-      arith,
-      ints,
-      c.add_terms-total.ensures.near,
-      c.product_term-product.ensures.near,
-      c.addend_term.ensures.near,
-    )
+pub add_terms-total-requires-clause-x : goal.add_terms-total-requires-clause-x
+add_terms-total-requires-clause-x c =
+    record {
+      low = omega (arith, ints, c.product_term-product.ensures.within);
+      high = omega (arith, ints, c.product_term-product.ensures.within);
+    }
 
-pub deliver-requires-clause-far : goal.deliver-requires-clause-far
-deliver-requires-clause-far c =
-    omega (arith, ints, c.add_terms-total.ensures.far, c.product_term-product.ensures.far, c.addend_term.ensures.far)
+pub add_terms-total-requires-clause-y : goal.add_terms-total-requires-clause-y
+add_terms-total-requires-clause-y c =
+    record {
+      low = omega (arith, ints, c.addend_term.ensures.within);
+      high = omega (arith, ints, c.addend_term.ensures.within);
+    }
+
+pub deliver-requires-clause-within : goal.deliver-requires-clause-within
+deliver-requires-clause-within c =
+    let x = c.product_term-product.ensures.within in
+    let y = c.addend_term.ensures.within in
+    let near = c.add_terms-total.ensures.near in
+    let far = c.add_terms-total.ensures.far in
+    record { low = omega (arith, ints, x, y, near, far); high = omega (arith, ints, x, y, near, far) }
 
 pub deliver-requires-clause-fine : goal.deliver-requires-clause-fine
 deliver-requires-clause-fine c =
@@ -62,10 +71,8 @@ returns-clause-delivered c =
       ints,
       c.add_terms-total.ensures.near,
       c.add_terms-total.ensures.far,
-      c.product_term-product.ensures.near,
-      c.product_term-product.ensures.far,
-      c.addend_term.ensures.near,
-      c.addend_term.ensures.far,
+      c.product_term-product.ensures.within,
+      c.addend_term.ensures.within,
     ) in
     let d = rw w at c.deliver.ensures.delivered in
     let g = rw (
@@ -73,10 +80,11 @@ returns-clause-delivered c =
       c.addend_term.ensures.negative,
     ) at c.add_terms-total.ensures.stands in
     let r : IsRepresented of_zero exact t.negative fine t.significand t.loss =
-    fused_read of_zero (format_at s).scale 2097780 c.product_term-product.result.exponent
+    fused_read of_zero (format_at s).scale exponent_bound c.product_term-product.result.exponent
     c.addend_term.result.exponent t.exponent fine sign z.negative t.negative
     c.product_term-product.result.significand c.addend_term.result.significand m n t.significand t.loss
-    c.product_term-product.ensures.far c.addend_term.ensures.far refl c.product_term-product.ensures.counted
+    c.product_term-product.ensures.within.low c.addend_term.ensures.within.low refl
+    c.product_term-product.ensures.counted
     c.addend_term.ensures.counted g in
     let o = rw c.product_term-product.ensures.negative at c.sign_of_zero-of_zero.ensures in
     let k = rw o at c.sign_of_total.ensures.zero in

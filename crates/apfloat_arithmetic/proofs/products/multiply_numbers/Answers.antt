@@ -23,28 +23,29 @@ full_product-requires-clause-right_short c =
 pub product_exponent-requires-clause-lawful : goal.product_exponent-requires-clause-lawful
 product_exponent-requires-clause-lawful c = c.requires.lawful
 
-pub product_exponent-requires-clause-left_near : goal.product_exponent-requires-clause-left_near
-product_exponent-requires-clause-left_near c =
-    omega (arith, ints, c.requires.lawful, c.requires.left.operand.greatest)
+pub product_exponent-requires-clause-left : goal.product_exponent-requires-clause-left
+product_exponent-requires-clause-left c =
+    record {
+      low = omega (arith, ints, c.requires.lawful, c.requires.left.operand);
+      high = omega (arith, ints, c.requires.lawful, c.requires.left.operand);
+    }
 
-pub product_exponent-requires-clause-left_far : goal.product_exponent-requires-clause-left_far
-product_exponent-requires-clause-left_far c = omega (arith, ints, c.requires.lawful, c.requires.left.operand.least)
-
-pub product_exponent-requires-clause-right_near : goal.product_exponent-requires-clause-right_near
-product_exponent-requires-clause-right_near c =
-    omega (arith, ints, c.requires.lawful, c.requires.right.operand.greatest)
-
-pub product_exponent-requires-clause-right_far : goal.product_exponent-requires-clause-right_far
-product_exponent-requires-clause-right_far c = omega (arith, ints, c.requires.lawful, c.requires.right.operand.least)
+pub product_exponent-requires-clause-right : goal.product_exponent-requires-clause-right
+product_exponent-requires-clause-right c =
+    record {
+      low = omega (arith, ints, c.requires.lawful, c.requires.right.operand);
+      high = omega (arith, ints, c.requires.lawful, c.requires.right.operand);
+    }
 
 pub deliver-requires-clause-lawful : goal.deliver-requires-clause-lawful
 deliver-requires-clause-lawful c = c.requires.lawful
 
-pub deliver-requires-clause-near : goal.deliver-requires-clause-near
-deliver-requires-clause-near c = omega (arith, ints, c.product_exponent.ensures.near)
-
-pub deliver-requires-clause-far : goal.deliver-requires-clause-far
-deliver-requires-clause-far c = omega (arith, ints, c.product_exponent.ensures.far)
+pub deliver-requires-clause-within : goal.deliver-requires-clause-within
+deliver-requires-clause-within c =
+    record {
+      low = omega (arith, ints, c.product_exponent.ensures.within);
+      high = omega (arith, ints, c.product_exponent.ensures.within);
+    }
 
 pub deliver-requires-clause-fine : goal.deliver-requires-clause-fine
 deliver-requires-clause-fine c = inl refl

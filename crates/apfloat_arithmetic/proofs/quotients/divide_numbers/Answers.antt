@@ -15,19 +15,19 @@ overflow_add-places c = omega (arith, c.requires.lawful.precision_high)
 pub quotient_of-quotient-requires-clause-some : goal.quotient_of-quotient-requires-clause-some
 quotient_of-quotient-requires-clause-some c = let l = c.requires.lawful.precision_low in omega arith
 
-pub quotient_exponent-requires-clause-left_near : goal.quotient_exponent-requires-clause-left_near
-quotient_exponent-requires-clause-left_near c =
-    omega (arith, ints, c.requires.lawful, c.requires.left.operand.greatest)
+pub quotient_exponent-requires-clause-left : goal.quotient_exponent-requires-clause-left
+quotient_exponent-requires-clause-left c =
+    record {
+      low = omega (arith, ints, c.requires.lawful, c.requires.left.operand);
+      high = omega (arith, ints, c.requires.lawful, c.requires.left.operand);
+    }
 
-pub quotient_exponent-requires-clause-left_far : goal.quotient_exponent-requires-clause-left_far
-quotient_exponent-requires-clause-left_far c = omega (arith, ints, c.requires.lawful, c.requires.left.operand.least)
-
-pub quotient_exponent-requires-clause-right_near : goal.quotient_exponent-requires-clause-right_near
-quotient_exponent-requires-clause-right_near c =
-    omega (arith, ints, c.requires.lawful, c.requires.right.operand.greatest)
-
-pub quotient_exponent-requires-clause-right_far : goal.quotient_exponent-requires-clause-right_far
-quotient_exponent-requires-clause-right_far c = omega (arith, ints, c.requires.lawful, c.requires.right.operand.least)
+pub quotient_exponent-requires-clause-right : goal.quotient_exponent-requires-clause-right
+quotient_exponent-requires-clause-right c =
+    record {
+      low = omega (arith, ints, c.requires.lawful, c.requires.right.operand);
+      high = omega (arith, ints, c.requires.lawful, c.requires.right.operand);
+    }
 
 pub quotient_exponent-requires-clause-short : goal.quotient_exponent-requires-clause-short
 quotient_exponent-requires-clause-short c = omega (arith, c.requires.lawful.precision_high)
@@ -35,11 +35,12 @@ quotient_exponent-requires-clause-short c = omega (arith, c.requires.lawful.prec
 pub deliver-requires-clause-lawful : goal.deliver-requires-clause-lawful
 deliver-requires-clause-lawful c = c.requires.lawful
 
-pub deliver-requires-clause-near : goal.deliver-requires-clause-near
-deliver-requires-clause-near c = omega (arith, ints, c.quotient_exponent.ensures.near)
-
-pub deliver-requires-clause-far : goal.deliver-requires-clause-far
-deliver-requires-clause-far c = omega (arith, ints, c.quotient_exponent.ensures.far)
+pub deliver-requires-clause-within : goal.deliver-requires-clause-within
+deliver-requires-clause-within c =
+    record {
+      low = omega (arith, ints, c.quotient_exponent.ensures.within);
+      high = omega (arith, ints, c.quotient_exponent.ensures.within);
+    }
 
 pub deliver-requires-clause-fine : goal.deliver-requires-clause-fine
 deliver-requires-clause-fine c =

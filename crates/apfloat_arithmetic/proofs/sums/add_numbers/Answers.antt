@@ -21,21 +21,19 @@ term_of-requires-2-clause-lawful c = c.requires.lawful
 pub term_of-requires-2-clause-normal : goal.term_of-requires-2-clause-normal
 term_of-requires-2-clause-normal c = c.requires.y_normal
 
-pub add_terms-total-requires-clause-x_near : goal.add_terms-total-requires-clause-x_near
-add_terms-total-requires-clause-x_near c =
-    omega (arith, ints, c.requires.lawful, c.term_of.ensures.exponent, c.requires.x_normal.operand.greatest)
+pub add_terms-total-requires-clause-x : goal.add_terms-total-requires-clause-x
+add_terms-total-requires-clause-x c =
+    record {
+      low = omega (arith, ints, c.requires.lawful, c.term_of.ensures.exponent, c.requires.x_normal.operand);
+      high = omega (arith, ints, c.requires.lawful, c.term_of.ensures.exponent, c.requires.x_normal.operand);
+    }
 
-pub add_terms-total-requires-clause-x_far : goal.add_terms-total-requires-clause-x_far
-add_terms-total-requires-clause-x_far c =
-    omega (arith, ints, c.requires.lawful, c.term_of.ensures.exponent, c.requires.x_normal.operand.least)
-
-pub add_terms-total-requires-clause-y_near : goal.add_terms-total-requires-clause-y_near
-add_terms-total-requires-clause-y_near c =
-    omega (arith, ints, c.requires.lawful, c.term_of-2.ensures.exponent, c.requires.y_normal.operand.greatest)
-
-pub add_terms-total-requires-clause-y_far : goal.add_terms-total-requires-clause-y_far
-add_terms-total-requires-clause-y_far c =
-    omega (arith, ints, c.requires.lawful, c.term_of-2.ensures.exponent, c.requires.y_normal.operand.least)
+pub add_terms-total-requires-clause-y : goal.add_terms-total-requires-clause-y
+add_terms-total-requires-clause-y c =
+    record {
+      low = omega (arith, ints, c.requires.lawful, c.term_of-2.ensures.exponent, c.requires.y_normal.operand);
+      high = omega (arith, ints, c.requires.lawful, c.term_of-2.ensures.exponent, c.requires.y_normal.operand);
+    }
 
 pub add_terms-total-requires-clause-x_room : goal.add_terms-total-requires-clause-x_room
 add_terms-total-requires-clause-x_room c =
@@ -50,33 +48,19 @@ add_terms-total-requires-clause-y_room c =
 pub deliver-requires-clause-lawful : goal.deliver-requires-clause-lawful
 deliver-requires-clause-lawful c = c.requires.lawful
 
-pub deliver-requires-clause-near : goal.deliver-requires-clause-near
-deliver-requires-clause-near c =
+pub deliver-requires-clause-within : goal.deliver-requires-clause-within
+deliver-requires-clause-within c =
     let l = c.requires.lawful in
-    omega (
-      arith,
-      ints,
-      l,
-      c.add_terms-total.ensures.near,
-      c.term_of.ensures.exponent,
-      c.term_of-2.ensures.exponent,
-      c.requires.x_normal.operand.greatest,
-      c.requires.y_normal.operand.greatest,
-    )
-
-pub deliver-requires-clause-far : goal.deliver-requires-clause-far
-deliver-requires-clause-far c =
-    let l = c.requires.lawful in
-    omega (
-      arith,
-      ints,
-      l,
-      c.add_terms-total.ensures.far,
-      c.term_of.ensures.exponent,
-      c.term_of-2.ensures.exponent,
-      c.requires.x_normal.operand.least,
-      c.requires.y_normal.operand.least,
-    )
+    let x = c.term_of.ensures.exponent in
+    let y = c.term_of-2.ensures.exponent in
+    let m = c.requires.x_normal.operand in
+    let n = c.requires.y_normal.operand in
+    let near = c.add_terms-total.ensures.near in
+    let far = c.add_terms-total.ensures.far in
+    record {
+      low = omega (arith, ints, l, x, y, m, n, near, far);
+      high = omega (arith, ints, l, x, y, m, n, near, far);
+    }
 
 pub deliver-requires-clause-fine : goal.deliver-requires-clause-fine
 deliver-requires-clause-fine c =

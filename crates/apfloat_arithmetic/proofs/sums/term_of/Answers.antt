@@ -5,11 +5,12 @@ use Rattle.apfloat_arithmetic.proofs.sums.term_of.Goals as goal
 pub last_exponent-requires-clause-lawful : goal.last_exponent-requires-clause-lawful
 last_exponent-requires-clause-lawful c = c.requires.lawful
 
-pub last_exponent-requires-clause-near : goal.last_exponent-requires-clause-near
-last_exponent-requires-clause-near c = omega (arith, ints, c.requires.lawful, c.requires.normal.operand.greatest)
-
-pub last_exponent-requires-clause-far : goal.last_exponent-requires-clause-far
-last_exponent-requires-clause-far c = omega (arith, ints, c.requires.lawful, c.requires.normal.operand.least)
+pub last_exponent-requires-clause-within : goal.last_exponent-requires-clause-within
+last_exponent-requires-clause-within c =
+    record {
+      low = omega (arith, ints, c.requires.lawful, c.requires.normal.operand);
+      high = omega (arith, ints, c.requires.lawful, c.requires.normal.operand);
+    }
 
 pub returns-clause-exponent : goal.returns-clause-exponent
 returns-clause-exponent c =

@@ -16,22 +16,22 @@ use Rattle.apfloat_conversions.proofs.between_formats.converted_number.Goals as 
 pub last_exponent-requires-clause-lawful : goal.last_exponent-requires-clause-lawful
 last_exponent-requires-clause-lawful c = c.requires.from
 
-pub last_exponent-requires-clause-near : goal.last_exponent-requires-clause-near
-last_exponent-requires-clause-near c =
-    omega (arith, ints, c.requires.from.max_exp_high, c.requires.x.operand.greatest)
-
-pub last_exponent-requires-clause-far : goal.last_exponent-requires-clause-far
-last_exponent-requires-clause-far c =
-    omega (arith, ints, c.requires.from.min_exp_low, c.requires.from.precision_high, c.requires.x.operand.least)
+pub last_exponent-requires-clause-within : goal.last_exponent-requires-clause-within
+last_exponent-requires-clause-within c =
+    record {
+      low = omega (arith, ints, c.requires.from, c.requires.x.operand);
+      high = omega (arith, ints, c.requires.from, c.requires.x.operand);
+    }
 
 pub deliver-answer-requires-clause-lawful : goal.deliver-answer-requires-clause-lawful
 deliver-answer-requires-clause-lawful c = c.requires.into
 
-pub deliver-answer-requires-clause-near : goal.deliver-answer-requires-clause-near
-deliver-answer-requires-clause-near c = omega (arith, ints, c.last_exponent.ensures.near)
-
-pub deliver-answer-requires-clause-far : goal.deliver-answer-requires-clause-far
-deliver-answer-requires-clause-far c = omega (arith, ints, c.last_exponent.ensures.far)
+pub deliver-answer-requires-clause-within : goal.deliver-answer-requires-clause-within
+deliver-answer-requires-clause-within c =
+    record {
+      low = omega (arith, ints, c.last_exponent.ensures.within);
+      high = omega (arith, ints, c.last_exponent.ensures.within);
+    }
 
 pub deliver-answer-requires-clause-fine : goal.deliver-answer-requires-clause-fine
 deliver-answer-requires-clause-fine c = inl refl

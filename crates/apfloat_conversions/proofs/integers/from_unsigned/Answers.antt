@@ -6,11 +6,9 @@ use Rattle.apfloat_conversions.proofs.integers.from_unsigned.Goals as goal
 pub deliver-requires-clause-lawful : goal.deliver-requires-clause-lawful
 deliver-requires-clause-lawful c = c.requires
 
-pub deliver-requires-clause-near : goal.deliver-requires-clause-near
-deliver-requires-clause-near c = omega (arith, ints)
-
-pub deliver-requires-clause-far : goal.deliver-requires-clause-far
-deliver-requires-clause-far c = omega (arith, ints)
+pub deliver-requires-clause-within : goal.deliver-requires-clause-within
+deliver-requires-clause-within c =
+    record { low = omega (arith, ints); high = omega (arith, ints) }
 
 pub deliver-requires-clause-fine : goal.deliver-requires-clause-fine
 deliver-requires-clause-fine c = inl refl

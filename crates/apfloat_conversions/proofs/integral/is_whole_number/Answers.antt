@@ -11,28 +11,26 @@ use Rattle.apfloat_conversions.proofs.integral.is_whole_number.Goals as goal
 pub last_exponent-exponent-requires-clause-lawful : goal.last_exponent-exponent-requires-clause-lawful
 last_exponent-exponent-requires-clause-lawful c = c.requires.lawful
 
-pub last_exponent-exponent-requires-clause-near : goal.last_exponent-exponent-requires-clause-near
-last_exponent-exponent-requires-clause-near c =
-    omega (arith, ints, c.requires.lawful.max_exp_high, c.requires.normal.operand.greatest)
-
-pub last_exponent-exponent-requires-clause-far : goal.last_exponent-exponent-requires-clause-far
-last_exponent-exponent-requires-clause-far c =
-    omega (
-      arith,
-      ints,
-      c.requires.lawful.min_exp_low,
-      c.requires.lawful.precision_high,
-      c.requires.normal.operand.least,
-    )
+pub last_exponent-exponent-requires-clause-within : goal.last_exponent-exponent-requires-clause-within
+last_exponent-exponent-requires-clause-within c =
+    record {
+      low = omega (arith, ints, c.requires.lawful, c.requires.normal.operand);
+      high = omega (arith, ints, c.requires.lawful, c.requires.normal.operand);
+    }
 
 pub steps_between-places-requires-clause-above : goal.steps_between-places-requires-clause-above
 steps_between-places-requires-clause-above c = omega (arith, ints)
 
-pub steps_between-places-requires-clause-near : goal.steps_between-places-requires-clause-near
-steps_between-places-requires-clause-near c = omega (arith, ints)
+pub steps_between-places-requires-clause-high : goal.steps_between-places-requires-clause-high
+steps_between-places-requires-clause-high c =
+    record { low = omega (arith, ints); high = omega (arith, ints) }
 
-pub steps_between-places-requires-clause-far : goal.steps_between-places-requires-clause-far
-steps_between-places-requires-clause-far c = omega (arith, ints, c.last_exponent-exponent.ensures.far)
+pub steps_between-places-requires-clause-low : goal.steps_between-places-requires-clause-low
+steps_between-places-requires-clause-low c =
+    record {
+      low = omega (arith, ints, c.last_exponent-exponent.ensures.within);
+      high = omega (arith, ints, c.last_exponent-exponent.ensures.within);
+    }
 
 pub returns-then-exponent-ge0 : goal.returns-then-exponent-ge0
 returns-then-exponent-ge0 c =

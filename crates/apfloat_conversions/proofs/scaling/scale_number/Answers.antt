@@ -6,51 +6,31 @@ use Rattle.apfloat_unpacked.proofs.ShapeExponents.{exponent_word}
 use Rattle.apfloat_conversions.proofs.StoredExponents.{scale_delivered}
 use Rattle.apfloat_conversions.proofs.scaling.scale_number.Goals as goal
 
-pub moved-requires-clause-near : goal.moved-requires-clause-near
-moved-requires-clause-near c = omega (arith, ints, c.requires.lawful.max_exp_high, c.requires.normal.operand.greatest)
+pub moved-requires-clause-exponent : goal.moved-requires-clause-exponent
+moved-requires-clause-exponent c =
+    record {
+      low = omega (arith, ints, c.requires.lawful, c.requires.normal.operand);
+      high = omega (arith, ints, c.requires.lawful, c.requires.normal.operand);
+    }
 
-pub moved-requires-clause-far : goal.moved-requires-clause-far
-moved-requires-clause-far c =
-    omega (
-      arith,
-      ints,
-      c.requires.lawful.min_exp_low,
-      c.requires.lawful.precision_high,
-      c.requires.normal.operand.least,
-    )
-
-pub moved-requires-clause-low : goal.moved-requires-clause-low
-moved-requires-clause-low c =
-    rw (to_z-of_z w32 c.clamped-near.result (record { sfits = c.clamped-near.type_inv })) c.clamped-near.ensures.low
-
-pub moved-requires-clause-high : goal.moved-requires-clause-high
-moved-requires-clause-high c =
-    rw (to_z-of_z w32 c.clamped-near.result (record { sfits = c.clamped-near.type_inv }))
-    c.clamped-near.ensures.high
+pub moved-requires-clause-places : goal.moved-requires-clause-places
+moved-requires-clause-places c =
+    rw (to_z-of_z w32 c.clamped-near.result (record { sfits = c.clamped-near.type_inv })) c.clamped-near.ensures.within
 
 pub last_exponent-exponent-requires-clause-lawful : goal.last_exponent-exponent-requires-clause-lawful
 last_exponent-exponent-requires-clause-lawful c = c.requires.lawful
 
-pub last_exponent-exponent-requires-clause-near : goal.last_exponent-exponent-requires-clause-near
-last_exponent-exponent-requires-clause-near c =
-    rw (to_z-of_z w32 c.moved.result (record { sfits = c.moved.type_inv })) c.moved.ensures.near
-
-pub last_exponent-exponent-requires-clause-far : goal.last_exponent-exponent-requires-clause-far
-last_exponent-exponent-requires-clause-far c =
-    rw (to_z-of_z w32 c.moved.result (record { sfits = c.moved.type_inv })) c.moved.ensures.far
+pub last_exponent-exponent-requires-clause-within : goal.last_exponent-exponent-requires-clause-within
+last_exponent-exponent-requires-clause-within c =
+    rw (to_z-of_z w32 c.moved.result (record { sfits = c.moved.type_inv })) c.moved.ensures.within
 
 pub deliver-requires-clause-lawful : goal.deliver-requires-clause-lawful
 deliver-requires-clause-lawful c = c.requires.lawful
 
-pub deliver-requires-clause-near : goal.deliver-requires-clause-near
-deliver-requires-clause-near c =
+pub deliver-requires-clause-within : goal.deliver-requires-clause-within
+deliver-requires-clause-within c =
     rw (to_z-of_z w32 c.last_exponent-exponent.result (record { sfits = c.last_exponent-exponent.type_inv }))
-    c.last_exponent-exponent.ensures.near
-
-pub deliver-requires-clause-far : goal.deliver-requires-clause-far
-deliver-requires-clause-far c =
-    rw (to_z-of_z w32 c.last_exponent-exponent.result (record { sfits = c.last_exponent-exponent.type_inv }))
-    c.last_exponent-exponent.ensures.far
+    c.last_exponent-exponent.ensures.within
 
 pub deliver-requires-clause-fine : goal.deliver-requires-clause-fine
 deliver-requires-clause-fine c = inl refl
@@ -78,5 +58,5 @@ returns-clause-delivered c =
     c.last_exponent-exponent.result c.args.round c.args.x.negative (datum_at s c.deliver.result.value)
     (bits_of c.deliver.result.status)
     c.requires.lawful c.requires.normal
-    (record { low = c.clamped-near.ensures.low; high = c.clamped-near.ensures.high; is = is }) v
+    (record { low = c.clamped-near.ensures.within.low; high = c.clamped-near.ensures.within.high; is = is }) v
     (rw el at c.deliver.ensures.delivered)

@@ -13,28 +13,26 @@ use Rattle.apfloat_conversions.proofs.whole.whole_of.Goals as goal
 pub last_exponent-exponent-requires-clause-lawful : goal.last_exponent-exponent-requires-clause-lawful
 last_exponent-exponent-requires-clause-lawful c = c.requires.lawful
 
-pub last_exponent-exponent-requires-clause-near : goal.last_exponent-exponent-requires-clause-near
-last_exponent-exponent-requires-clause-near c =
-    omega (arith, ints, c.requires.lawful.max_exp_high, c.requires.normal.operand.greatest)
-
-pub last_exponent-exponent-requires-clause-far : goal.last_exponent-exponent-requires-clause-far
-last_exponent-exponent-requires-clause-far c =
-    omega (
-      arith,
-      ints,
-      c.requires.lawful.min_exp_low,
-      c.requires.lawful.precision_high,
-      c.requires.normal.operand.least,
-    )
+pub last_exponent-exponent-requires-clause-within : goal.last_exponent-exponent-requires-clause-within
+last_exponent-exponent-requires-clause-within c =
+    record {
+      low = omega (arith, ints, c.requires.lawful, c.requires.normal.operand);
+      high = omega (arith, ints, c.requires.lawful, c.requires.normal.operand);
+    }
 
 pub steps_between-requires-clause-above : goal.steps_between-requires-clause-above
 steps_between-requires-clause-above c = omega (arith, ints)
 
-pub steps_between-requires-clause-near : goal.steps_between-requires-clause-near
-steps_between-requires-clause-near c = omega (arith, ints, c.last_exponent-exponent.ensures.near)
+pub steps_between-requires-clause-high : goal.steps_between-requires-clause-high
+steps_between-requires-clause-high c =
+    record {
+      low = omega (arith, ints, c.last_exponent-exponent.ensures.within);
+      high = omega (arith, ints, c.last_exponent-exponent.ensures.within);
+    }
 
-pub steps_between-requires-clause-far : goal.steps_between-requires-clause-far
-steps_between-requires-clause-far c = omega (arith, ints)
+pub steps_between-requires-clause-low : goal.steps_between-requires-clause-low
+steps_between-requires-clause-low c =
+    record { low = omega (arith, ints); high = omega (arith, ints) }
 
 pub raised-requires-clause-some : goal.raised-requires-clause-some
 raised-requires-clause-some c = omega (arith, c.requires.lawful.precision_low)
@@ -55,11 +53,16 @@ raised-requires-clause-near c =
 pub steps_between-requires-2-clause-above : goal.steps_between-requires-2-clause-above
 steps_between-requires-2-clause-above c = omega (arith, ints)
 
-pub steps_between-requires-2-clause-near : goal.steps_between-requires-2-clause-near
-steps_between-requires-2-clause-near c = omega (arith, ints)
+pub steps_between-requires-2-clause-high : goal.steps_between-requires-2-clause-high
+steps_between-requires-2-clause-high c =
+    record { low = omega (arith, ints); high = omega (arith, ints) }
 
-pub steps_between-requires-2-clause-far : goal.steps_between-requires-2-clause-far
-steps_between-requires-2-clause-far c = omega (arith, ints, c.last_exponent-exponent.ensures.far)
+pub steps_between-requires-2-clause-low : goal.steps_between-requires-2-clause-low
+steps_between-requires-2-clause-low c =
+    record {
+      low = omega (arith, ints, c.last_exponent-exponent.ensures.within);
+      high = omega (arith, ints, c.last_exponent-exponent.ensures.within);
+    }
 
 pub returns-then-x-ge128 : goal.returns-then-x-ge128
 returns-then-x-ge128 c =

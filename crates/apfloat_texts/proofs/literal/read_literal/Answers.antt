@@ -15,15 +15,11 @@ delivered-requires-clause-kept c =
     let s = c.in_ok-scan.ensures in
     (_, s.kept)
 
-pub delivered-requires-clause-high : goal.delivered-requires-clause-high
-delivered-requires-clause-high c =
+pub delivered-requires-clause-within : goal.delivered-requires-clause-within
+delivered-requires-clause-within c =
     let e = c.in_ok-exponent.ensures in
-    rw (to_z-of_z w128 c.in_ok-exponent.exponent (exponent_fits c.in_ok-exponent.exponent e.1 e.2)) e.1
-
-pub delivered-requires-clause-low : goal.delivered-requires-clause-low
-delivered-requires-clause-low c =
-    let e = c.in_ok-exponent.ensures in
-    rw (to_z-of_z w128 c.in_ok-exponent.exponent (exponent_fits c.in_ok-exponent.exponent e.1 e.2)) e.2
+    rw (to_z-of_z w128 c.in_ok-exponent.exponent (exponent_fits c.in_ok-exponent.exponent e.1 e.2))
+    (record { low = e.2; high = e.1 })
 
 pub returns : goal.returns
 returns c =

@@ -17,18 +17,19 @@ use Rattle.apfloat_unpacked.proofs.bits.fields_of_number.Goals as goal
 pub steps_between-requires-clause-above : goal.steps_between-requires-clause-above
 steps_between-requires-clause-above c = omega (arith, ints)
 
-pub steps_between-requires-clause-near : goal.steps_between-requires-clause-near
-steps_between-requires-clause-near c = omega (arith, ints, c.requires.lawful.min_exp_high)
+pub steps_between-requires-clause-high : goal.steps_between-requires-clause-high
+steps_between-requires-clause-high c =
+    record {
+      low = omega (arith, ints, c.requires.lawful.min_exp_low);
+      high = omega (arith, ints, c.requires.lawful.min_exp_high);
+    }
 
-pub steps_between-requires-clause-far : goal.steps_between-requires-clause-far
-steps_between-requires-clause-far c =
-    omega (
-      arith,
-      ints,
-      c.requires.lawful.min_exp_low,
-      c.requires.lawful.precision_high,
-      c.requires.normal.operand.least,
-    )
+pub steps_between-requires-clause-low : goal.steps_between-requires-clause-low
+steps_between-requires-clause-low c =
+    record {
+      low = omega (arith, ints, c.requires.lawful, c.requires.normal.operand);
+      high = omega (arith, ints, c.requires.lawful, c.requires.normal.operand);
+    }
 
 pub overflow_cast-result : goal.overflow_cast-result
 overflow_cast-result c = omega (arith, ints, c.requires.lawful.precision_high, c.requires.normal.operand.least)
@@ -53,12 +54,19 @@ returns-then-x-shape c =
 pub steps_between-requires-2-clause-above : goal.steps_between-requires-2-clause-above
 steps_between-requires-2-clause-above c = omega (arith, ints)
 
-pub steps_between-requires-2-clause-near : goal.steps_between-requires-2-clause-near
-steps_between-requires-2-clause-near c =
-    omega (arith, ints, c.requires.lawful.max_exp_high, c.requires.normal.operand.greatest)
+pub steps_between-requires-2-clause-high : goal.steps_between-requires-2-clause-high
+steps_between-requires-2-clause-high c =
+    record {
+      low = omega (arith, ints, c.requires.lawful, c.requires.normal.operand);
+      high = omega (arith, ints, c.requires.lawful, c.requires.normal.operand);
+    }
 
-pub steps_between-requires-2-clause-far : goal.steps_between-requires-2-clause-far
-steps_between-requires-2-clause-far c = omega (arith, ints, c.requires.lawful.min_exp_low)
+pub steps_between-requires-2-clause-low : goal.steps_between-requires-2-clause-low
+steps_between-requires-2-clause-low c =
+    record {
+      low = omega (arith, ints, c.requires.lawful.min_exp_low);
+      high = omega (arith, ints, c.requires.lawful.min_exp_high);
+    }
 
 pub overflow_add-result : goal.overflow_add-result
 overflow_add-result c = omega arith

@@ -33,11 +33,11 @@ returns-then-is_zero-clause-halved c = λ n d.
 pub sum_of-requires-clause-above : goal.sum_of-requires-clause-above
 sum_of-requires-clause-above c = omega (arith, ints, c.if-x-y.true)
 
-pub sum_of-requires-clause-near : goal.sum_of-requires-clause-near
-sum_of-requires-clause-near c = c.requires.x_near
+pub sum_of-requires-clause-high : goal.sum_of-requires-clause-high
+sum_of-requires-clause-high c = c.requires.x
 
-pub sum_of-requires-clause-far : goal.sum_of-requires-clause-far
-sum_of-requires-clause-far c = c.requires.y_far
+pub sum_of-requires-clause-low : goal.sum_of-requires-clause-low
+sum_of-requires-clause-low c = c.requires.y
 
 pub sum_of-requires-clause-high_room : goal.sum_of-requires-clause-high_room
 sum_of-requires-clause-high_room c = c.requires.x_room
@@ -73,11 +73,11 @@ returns-then-x-y-clause-far c = inr c.sum_of.ensures.far
 pub sum_of-total-requires-clause-above : goal.sum_of-total-requires-clause-above
 sum_of-total-requires-clause-above c = omega (arith, ints, c.if-x-y.false)
 
-pub sum_of-total-requires-clause-near : goal.sum_of-total-requires-clause-near
-sum_of-total-requires-clause-near c = c.requires.y_near
+pub sum_of-total-requires-clause-high : goal.sum_of-total-requires-clause-high
+sum_of-total-requires-clause-high c = c.requires.y
 
-pub sum_of-total-requires-clause-far : goal.sum_of-total-requires-clause-far
-sum_of-total-requires-clause-far c = c.requires.x_far
+pub sum_of-total-requires-clause-low : goal.sum_of-total-requires-clause-low
+sum_of-total-requires-clause-low c = c.requires.x
 
 pub sum_of-total-requires-clause-high_room : goal.sum_of-total-requires-clause-high_room
 sum_of-total-requires-clause-high_room c = c.requires.y_room
