@@ -91,6 +91,7 @@ held_quanta source target m e from into h n =
     (target.precision - source.precision) (up (e -ℤ target.min_exp)) (down (e -ℤ target.min_exp)) n.whole b in
     omega (arith, q)
 
+-- a number moved up by the digits that the other shape has more is stored as it wants it
 pub held_normal : (source target : Shape) (m : ℕ) (e : ℤ) → IsShape source → IsShape target → IsHeld source target
     → IsNormal source m e
     → IsNormal target (m * 2 ^ (target.precision - source.precision)) e
@@ -117,6 +118,7 @@ held_normal source target m e from into h n =
           (held_within source target (quanta_at source.min_exp m e) from into h n.within);
     }
 
+-- and it is the same number, in quanta of the other
 pub held_quanta_are : (source target : Shape) (m : ℕ) (e : ℤ) → IsShape source → IsShape target → IsHeld source target
     → IsNormal source m e
     → quanta_at target.min_exp (m * 2 ^ (target.precision - source.precision)) e
@@ -139,6 +141,7 @@ quantum_finer a k p q l e =
     let t : 2 ^ q ≡ 2 ^ k * 2 ^ p = ap (λ (x : ℕ). 2 ^ x) (omega arith) ∙ pow-add 2 k p in
     ap (λ (x : ℕ). a * x) t ∙ omega arith
 
+-- so that the conversion has no flag
 pub held_converted : (from into : Format) (mode : Round) (b : Bool) (a : ℕ) (v : Datum) (status : ℕ)
     → from.scale ≤ into.scale
     → 0 < a → v ≡ finite b (a * 2 ^ (into.scale - from.scale))
