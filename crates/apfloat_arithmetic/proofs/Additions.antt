@@ -18,6 +18,7 @@ use Rattle.apfloat_unpacked.specs.Stored.{IsQuantaAt}
 
 -- ---- a finer count of quanta
 
+-- a term counted from the base of a sum, in quanta
 pub quanta_counted : (min xe tx base : ℤ) (k mx m : ℕ) → base ≤ℤ tx → (tx +ℤ min) ≡ ((xe +ℤ base) +ℤ pos k)
     → IsQuantaAt min mx xe m → mx * 2 ^ up (tx -ℤ base) ≡ m * 2 ^ k
 quanta_counted min xe tx base k mx m l e i =
@@ -31,6 +32,7 @@ quanta_counted min xe tx base k mx m l e i =
     eq_of_mul-eq-mul_right (2 ^ down (xe -ℤ min)) (pow_pos (down (xe -ℤ min))) (mx * 2 ^ up (tx -ℤ base))
     (m * 2 ^ k) (omega arith)
 
+-- the sum of two multiples is that multiple of the sum
 pub scaled_sum : (s t : Bool) (m n w : ℕ) (y z : ℤ) → y ≡ (signed s (m * w) +ℤ signed t (n * w))
     → z ≡ (signed s m +ℤ signed t n) → up y + down z * w ≡ down y + up z * w
 scaled_sum true true m n w y z e d =
@@ -112,6 +114,7 @@ zero_amount q loss amount unit a b h =
     (subst (λ (x : Loss). StandsFor q x amount unit) b h) in
     omega (arith, s)
 
+-- the sum of two terms, as the sum of their numbers of quanta
 pub read_sum : (of_zero : Bool) (base e unit : ℤ) (k m n : ℕ) (s t negative : Bool) (q : ℕ) (loss : Loss)
     → e ≡ ((unit +ℤ base) +ℤ pos k)
     → StandsForSigned base (signed s (m * 2 ^ k) +ℤ signed t (n * 2 ^ k)) negative e q loss
@@ -132,6 +135,7 @@ read_sum of_zero base e unit k m n s t negative q loss d h =
           (not_zero_amount q loss h.amount (2 ^ up (e -ℤ base)) u x h.stands) b;
     }
 
+-- the sign of a sum, where a zero takes the sign that the mode gives it
 pub read_negative : (of_zero : Bool) (exact unit : ℤ) (negative answer : Bool) (significand : ℕ) (loss : Loss)
     → IsRepresented of_zero exact negative unit significand loss
     → (significand ≡ 0 → loss ≡ ExactlyZero → answer ≡ of_zero)
@@ -167,6 +171,7 @@ sum_read of_zero precision scale min xe ye tx ty e unit s t negative mx my m n q
     (subst (λ (z : ℕ). StandsForSigned base (signed s z +ℤ counted base t ty my) negative e q loss) x h) in
     read_sum of_zero base e unit k m n s t negative q loss (omega (arith, ints)) h'
 
+-- the least exponent and the scale, by the precision
 pub scale_is : (precision : ℕ) (min : ℤ) → 3 ≤ precision → min ≤ℤ negsuc 0
     → ((pos (unsigned_abs (pos (precision - 1) -ℤ min)) +ℤ min) +ℤ pos 1) ≡ pos precision
 scale_is precision min p h = omega (arith, ints)
@@ -189,6 +194,7 @@ sum_full precision mx my sx sy q loss p ex ey lx hx ly hy f =
     let t : 2 * 2 ^ (precision - 1) ≡ 2 ^ precision = twice_half precision p' in
     f (2 ^ (precision - 1)) (omega arith) (omega arith) (omega arith) (omega arith)
 
+-- one of two reasons is one of three
 pub fine_if : (loss : Loss) (A B : Type 0) → (loss ≡ ExactlyZero) ⊎ B → (loss ≡ ExactlyZero) ⊎ (A ⊎ B)
 fine_if loss A B (inl e) = inl e
 fine_if loss A B (inr b) = inr (inr b)

@@ -12,10 +12,10 @@ use Rattle.std.proofs.lemmas.Nat.{pow_pos}
 use Rattle.std.proofs.lemmas.Bool.{and_parts, eqb-true, eq-eqb}
 use Rattle.std.proofs.Math.Nat.{mul-lt-mul_of_pos_right, lt_of_mul-lt-mul_right, pow-le-pow_right, two-pow-succ}
 use Rattle.apfloat_base.proofs.Existence.{two_pos}
+use Rattle.apfloat_base.proofs.Choices.{same_sign_is, same_sign_self}
 use Rattle.apfloat_base.specs.declared.kinds.Category.{Category}
 use Rattle.apfloat_base.specs.declared.kinds.Category.TheVariants.{Infinity, NaN, Normal, Zero}
 use Rattle.apfloat_base.specs.formats.Datum.{Datum, finite, infinite, nan}
-use Rattle.apfloat_base.proofs.PredicatesAgree.{same_sign_is, same_sign_self}
 use Rattle.apfloat_base.specs.order.Classes.{is_nan, same_datum}
 use Rattle.apfloat_base.specs.order.Order.{number, compared}
 use Rattle.apfloat_unpacked.specs.declared.shape.Shape.{Shape}
@@ -59,6 +59,7 @@ at_one_exponent shape s t e m n =
     (λ c h. c ∙ nat_cmp_is _ _ Equal (ap (λ x. quanta_at shape.min_exp x e) h))
     (λ c h. c ∙ nat_cmp_is _ _ Greater (below_significand _ _ _ _ _ _ _ g f h))
 
+-- the order by exponents, and then by significands, is that of the numbers
 pub exponents_first : (shape : Shape) (s : ℕ) (d : ℤ) (t : ℕ) (e : ℤ) → IsNormalAt shape s d → IsNormalAt shape t e
     → ordering_then (int_cmp d e) (nat_cmp s t) ≡ nat_cmp (quanta_at shape.min_exp s d) (quanta_at shape.min_exp t e)
 exponents_first shape s d t e m n =
@@ -149,6 +150,7 @@ beside_negative shape x y e f h k s r g =
     (g b a ∙ both_negative (quanta_at shape.min_exp x.significand x.exponent)
     (quanta_at shape.min_exp y.significand y.exponent))
 
+-- two numbers above 0 are compared by their quanta
 pub beside_positive : (shape : Shape) (x y : Unpacked) → x.category ≡ Normal → x.negative ≡ false → IsStored shape x
     → IsStored shape y → side (datum_at shape x) ≡ side (datum_at shape y) → (r : Ordering)
     → (IsNormalAt shape x.significand x.exponent → IsNormalAt shape y.significand y.exponent
@@ -165,6 +167,7 @@ beside_positive shape x y e f h k s r g =
 
 -- ---- by the sides, and on one side by the numbers
 
+-- data on two sides are compared by those, and on one side by their numbers
 pub by_sides : (x y : Datum) (r : Ordering) → is_nan x ≡ false → is_nan y ≡ false
     → (side x ≡ side y → r ≡ int_cmp (number x) (number y))
     → Some (ordering_then (nat_cmp (side x) (side y)) r) ≡ compared x y
@@ -245,6 +248,7 @@ IsSameClass x y = (x.category ≡ y.category) × (x.negative ≡ y.negative)
 abbrev pub IsSameNumber : Unpacked → Unpacked → Type 0
 IsSameNumber x y = (x.significand ≡ y.significand) × (x.exponent ≡ y.exponent)
 
+-- values of one class are one datum where significands and exponents are equal
 pub same_both : (shape : Shape) (x y : Unpacked) (a b : Bool) → IsStored shape x → IsStored shape y
     → Decides a (IsSameClass x y) → Decides b (IsSameNumber x y) → a ≡ true
     → b ≡ same_datum (datum_at shape x) (datum_at shape y)
@@ -260,6 +264,7 @@ same_both shape x y a false h k c n e = off_by _ (λ t.
     ) in
     cc)
 
+-- values of other classes are different data
 pub other_class : (shape : Shape) (x y : Unpacked) (a : Bool) → IsStored shape x → IsStored shape y
     → Decides a (IsSameClass x y) → a ≡ false → a ≡ same_datum (datum_at shape x) (datum_at shape y)
 other_class shape x y a h k c e = e ∙ off_by _ (λ t.

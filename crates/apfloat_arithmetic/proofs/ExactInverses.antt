@@ -34,6 +34,7 @@ whole_from shape m e l =
     let a = above_zero (e -ℤ shape.min_exp) (steps_of shape e) (omega (arith, ints)) in
     rw (a.0, a.1) (omega arith)
 
+-- a power of two with an exponent of the format is within its largest value
 pub power_within : (shape : Shape) (e : ℤ) → IsShape shape → shape.min_exp ≤ℤ e → e ≤ℤ shape.max_exp
     → 2 ^ (shape.precision - 1) * 2 ^ steps_of shape e ≤ largest (format_at shape)
 power_within shape e law l h =
@@ -75,6 +76,7 @@ power_full half j =
 powers_product : (h j k w : ℕ) → (h + j) + (h + k) ≡ w + w → 2 ^ h * 2 ^ j * (2 ^ h * 2 ^ k) ≡ 2 ^ w * 2 ^ w
 powers_product h j k w e = sym (pow22 h j h k) ∙ ap (λ (x : ℕ). 2 ^ x) e ∙ pow-add 2 w w
 
+-- an invertible number and the one with the opposite exponent are inverse
 pub inverted_product : (shape : Shape) (m : ℕ) (e : ℤ) → IsShape shape → IsNormalAt shape m e → IsInvertible shape m e
     → AreInverse (format_at shape) (quanta_at shape.min_exp m e) (quanta_at shape.min_exp m (neg_ℤ e))
 inverted_product shape m e law n i =
@@ -141,6 +143,7 @@ not_low shape m i e law n h =
     (λ l. let k = quanta_low_is shape m e n law.precision_low l in let g = h.normal in absurd (omega arith))
     (λ l. l)
 
+-- a number with an exact inverse is invertible
 pub invertible_from : (shape : Shape) (m i : ℕ) (e : ℤ) → IsShape shape → IsNormalAt shape m e
     → AreInverse (format_at shape) (quanta_at shape.min_exp m e) i → IsInvertible shape m e
 invertible_from shape m i e law n h =
@@ -172,6 +175,7 @@ invertible_from shape m i e law n h =
       inverse_within = omega (arith, ints, long, c, l, law);
     }
 
+-- the opposite of an exponent is a number of its type
 pub opposite_word : (shape : Shape) (m : ℕ) (e : ℤ) → IsShape shape → IsNormalAt shape m e
     → to_z w32 (of_z w32 (pos 0 -ℤ e)) ≡ neg_ℤ e
 opposite_word shape m e law n =
@@ -186,6 +190,7 @@ pub inverse_answer : (shape : Shape) (b : Bool) (m : ℕ) (e : ℤ) → IsShape 
     (Some (finite b (quanta_at shape.min_exp m (neg_ℤ e))))
 inverse_answer shape b m e law n i = (quanta_at shape.min_exp m (neg_ℤ e), inverted_product shape m e law n i, refl)
 
+-- and one that is not invertible has none
 pub no_inverse_answer : (shape : Shape) (b : Bool) (m : ℕ) (e : ℤ) → IsShape shape → IsNormalAt shape m e
     → (IsInvertible shape m e → ⊥)
     → IsExactInverse (format_at shape) (finite b (quanta_at shape.min_exp m e)) None

@@ -40,6 +40,7 @@ zeros_rounded format mode b c d sign l m value status z e h =
     rw w (subst (λ (x : Bool). IsDelivered format mode x 0 (2 ^ format.scale) value status) e
     (h (2 ^ format.scale) (pow_pos format.scale)))
 
+-- equal operands and answers make an equal fused sum
 pub same_fused : (format : Format) (mode : Round) (x y z v d w : Datum) (i j : ℕ) → z ≡ d → v ≡ w → i ≡ j
     → IsFusedSum format mode x y d w j → IsFusedSum format mode x y z v i
 same_fused format mode x y z v d w i j p q r h = rw (p, q, r) h

@@ -20,6 +20,7 @@ use Rattle.apfloat_arithmetic.proofs.WholeQuotients.{below_divisor}
 abbrev pub upper : ℕ → ℕ → Bool → Bool
 upper r s odd = takes_above NearestTiesToEven false r s odd
 
+-- which multiple is nearest does not depend on the unit
 pub upper_scaled : (r s w : ℕ) (odd : Bool) → 0 < w → upper r s odd ≡ upper (r * w) (s * w) odd
 upper_scaled r s w odd p =
     ⊎_elim
@@ -38,6 +39,7 @@ upper_scaled r s w odd p =
     (cases_lt s r))
     (cases_lt r s)
 
+-- nor on the units that rest and divisor are counted in
 pub upper_level : (r d w s t : ℕ) (odd odd2 : Bool) → 0 < w → r * w ≡ s → d * w ≡ t → odd ≡ odd2
     → upper r (d - r) odd ≡ upper s (t - s) odd2
 upper_level r d w s t odd odd2 p e f o =
@@ -47,6 +49,7 @@ upper_level r d w s t odd odd2 p e f o =
     ∙ ap (λ (x : ℕ). upper s (x - s) odd) f
     ∙ ap (λ (x : Bool). upper s (t - s) x) o
 
+-- a rest below half of the divisor leaves the lower multiple
 pub lower_near : (r d : ℕ) (odd : Bool) → 2 * r < d → false ≡ upper r (d - r) odd
 lower_near r d odd l = let m : r < d - r = omega arith in sym (takes_less NearestTiesToEven false odd r (d - r) m)
 
@@ -64,11 +67,13 @@ one_below t p q e =
     let g : t * 2 ^ (p + 1) ≡ t * (2 * 2 ^ p) = ap (λ (x : ℕ). t * x) (twice_power p) in
     omega arith
 
+-- a rest in units is less where it is less by digits
 pub digits_less : (r d w s t : ℕ) → r * w ≡ s → d * w ≡ t → s < t → r < d
 digits_less r d w s t e f l = let m : r * w < d * w = omega arith in lt_of_mul-lt-mul_right w m
 
 -- ---- other units
 
+-- the rest of a division in other units
 pub rest_scaled : (a b w : ℕ) → 0 < w → a * w % (b * w) ≡ a % b * w
 rest_scaled a b w p =
     let q : a * w / (b * w) ≡ a / b = mul-div-mul_right a b p in
@@ -77,6 +82,7 @@ rest_scaled a b w p =
     let g : (a % b + a / b * b) * w ≡ a * w = ap (λ (x : ℕ). x * w) (mod-add-div' a b) in
     omega arith
 
+-- and its quotient, which has no unit
 pub quotient_scaled : (a b w : ℕ) → 0 < w → a * w / (b * w) ≡ a / b
 quotient_scaled a b w p = mul-div-mul_right a b p
 
@@ -103,6 +109,7 @@ quotient_in x y a b w p e f = ap (λ (z : ℕ). z / y) e ∙ ap (λ (z : ℕ). a
 
 -- ---- what is left, with its sign
 
+-- a multiple below the dividend leaves a rest of its sign
 pub rest_within : (kind : NonfiniteBehavior) (negative : Bool) (a taken n : ℕ) → taken ≤ a → a - taken ≡ n
     → signed_quanta kind negative n ≡ rest_of kind negative a taken
 rest_within kind negative a taken n l e =
@@ -110,6 +117,7 @@ rest_within kind negative a taken n l e =
     sym (ap (λ (x : Bool). cond x (signed_quanta kind (not negative) (taken - a))
     (signed_quanta kind negative (a - taken))) (le-ltb a taken l))
 
+-- and one above it a rest of the other sign
 pub rest_past : (kind : NonfiniteBehavior) (negative : Bool) (a taken n : ℕ) → a < taken → taken - a ≡ n
     → signed_quanta kind (not negative) n ≡ rest_of kind negative a taken
 rest_past kind negative a taken n l e =
@@ -142,6 +150,7 @@ nearest_is : (a b : ℕ) (past : Bool) → past ≡ upper (a % b) (b - a % b) (e
 nearest_is a b past e =
     ap (λ (x : Bool). cond (eqb (a % b) 0) (a / b) (cond x (a / b + 1) (a / b))) (upper_is a b ∙ sym e)
 
+-- the upper multiple is nearest only where the rest is at least half of the divisor
 pub upper_far : (r d : ℕ) (odd : Bool) → true ≡ upper r (d - r) odd → d - r ≤ r
 upper_far r d odd e =
     ⊎_elim
@@ -190,6 +199,7 @@ past_in past x y a b w p e f h =
     sym (ap (λ (z : ℕ). eqb (z % 2) 1) (quotient_in x y a b w p e f)) in
     h ∙ sym (upper_level (a % b) b w (x % y) y (eqb (a / b % 2) 1) (eqb (x / y % 2) 1) p r (sym f) o)
 
+-- the distance from the nearest multiple, in other units
 pub distance_in : (past : Bool) (x y a b w d : ℕ) → 0 < w → x ≡ a * w → y ≡ b * w
     → d ≡ cond past (y - x % y) (x % y) → d ≡ cond past (b - a % b) (a % b) * w
 distance_in true x y a b w d p e f h =

@@ -18,11 +18,13 @@ pub compares_as : (t : Bool) (a b : ℤ) (x : Bool) → lt_z a b ≡ t → (a <�
 compares_as true a b x e f g = sym (f (lt_z_yes (subst T (sym e) tt)))
 compares_as false a b x e f g = sym (g (lt_z_no (subst (λ (y : Bool). T (not y)) (sym e) tt)))
 
+-- with an exponent below the least one, a number has fewer digits
 pub quanta_low_is : (shape : Shape) (m : ℕ) (e : ℤ) → IsNormalAt shape m e → 3 ≤ shape.precision → e <ℤ shape.min_exp
     → quanta_at shape.min_exp m e < 2 ^ (shape.precision - 1)
 quanta_low_is shape m e n p l =
     quanta_low_below shape m e (unsigned_abs (shape.min_exp -ℤ e)) n p (omega (arith, ints)) (omega (arith, ints))
 
+-- from there on it is its significand moved up
 pub quanta_high_is : (shape : Shape) (m : ℕ) (e : ℤ) → shape.min_exp ≤ℤ e
     → quanta_at shape.min_exp m e ≡ m * 2 ^ unsigned_abs (e -ℤ shape.min_exp)
 quanta_high_is shape m e l = quanta_high shape m e (unsigned_abs (e -ℤ shape.min_exp)) (omega (arith, ints))
@@ -36,6 +38,7 @@ quanta_full shape m e n l =
     let a : m * 1 ≤ m * 2 ^ unsigned_abs (e -ℤ shape.min_exp) = mul-le-mul_left m o in
     omega arith
 
+-- so its exponent tells which of the two it is
 pub below_is : (shape : Shape) (m : ℕ) (e : ℤ) → IsNormalAt shape m e → 3 ≤ shape.precision
     → lt_z e shape.min_exp ≡ ltb (quanta_at shape.min_exp m e) (2 ^ (shape.precision - 1))
 below_is shape m e n p =

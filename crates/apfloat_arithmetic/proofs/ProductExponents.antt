@@ -16,6 +16,7 @@ pub record IsNear (e : ℤ) : Type 0 where
   pub within : IsWithin number_bound e
   pub word : to_z w32 (of_z w32 e) ≡ e
 
+-- the exponent of a number is far within the range of its type
 pub normal_near : (shape : Shape) (m : ℕ) (e : ℤ) → IsShape shape → IsNormalAt shape m e → IsNear e
 normal_near shape m e l n =
     let o = n.operand in

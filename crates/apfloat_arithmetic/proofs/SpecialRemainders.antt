@@ -44,6 +44,7 @@ zero_by_number shape quotient x y value status u t q h =
     u.sign_is in
     by_number shape quotient x y 0 value status t (subst (λ (d : Datum). IsAnswer d ok_bits value status) e h)
 
+-- a dividend of 0 is the remainder
 pub of_zero : (shape : Shape) (quotient : ℕ → ℕ → ℕ) (first second : Category) (x y : Unpacked) (value : Datum)
     (status : ℕ)
     → (first ≡ Zero) ⊎ (first ≡ Normal) → (first ≡ Normal → ⊥) → second ≡ Normal
@@ -58,6 +59,7 @@ of_zero shape quotient first second x y value status (inl z) n e t u q h =
 
 -- ---- both numbers other than zero
 
+-- of two numbers it is the remainder by quanta
 pub of_numbers : (shape : Shape) (quotient : ℕ → ℕ → ℕ) (first second : Category) (x y : Unpacked) (value : Datum)
     (status : ℕ)
     → first ≡ Normal → second ≡ Normal → IsStoredBy second shape y
@@ -77,6 +79,7 @@ number_ones shape x y m t =
     let p = quanta_some shape y.significand y.exponent t in
     rw (ne_eqb (quanta_at shape.min_exp y.significand y.exponent) 0 (λ z. omega (arith, z, p))) refl
 
+-- the ones of the quotient of two numbers
 pub ones_of_numbers : (shape : Shape) (first second : Category) (x y : Unpacked) → first ≡ Normal → second ≡ Normal
     → IsStoredBy second shape y
     → count_ones (quanta_at shape.min_exp x.significand x.exponent / quanta_at shape.min_exp y.significand y.exponent)
@@ -100,6 +103,7 @@ zero_ones : (n : ℕ) → 0 ≡ (if eqb n 0 then 0 else count_ones (0 / n))
 unfolding lib.Count.ones
 zero_ones n = zero_if (eqb n 0) (count_ones (0 / n)) (ap count_ones (zero-div n))
 
+-- and none where one of them is no number
 pub no_ones : (shape : Shape) (first second : Category) (x y : Unpacked) → (first ≡ Normal → second ≡ Normal → ⊥)
     → 0 ≡ ones_of_quotient (datum_by first shape x) (datum_by second shape y)
 no_ones shape Normal Normal x y h = absurd (h refl refl)

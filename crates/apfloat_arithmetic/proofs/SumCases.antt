@@ -18,6 +18,7 @@ use Rattle.apfloat_unpacked.specs.StoredBack.{quanta_some}
 use Rattle.apfloat_unpacked.proofs.StoredMembers.{member_is}
 use Rattle.apfloat_arithmetic.specs.Subtrahends.{added}
 
+-- a stored number is one of the format, and not 0
 pub number_stored : (shape : Shape) (x : Unpacked) → x.category ≡ Normal → IsStored shape x
     → IsFiniteOf (format_at shape) x.negative (quanta_at shape.min_exp x.significand x.exponent)
     × (0 < quanta_at shape.min_exp x.significand x.exponent)
@@ -27,6 +28,7 @@ number_stored shape x e h =
       quanta_some shape x.significand x.exponent n,
     )
 
+-- equal operands and answers make an equal sum
 pub same_sum : (format : Format) (mode : Round) (x y v a b d : Datum) (i j : ℕ) → x ≡ a → y ≡ b → v ≡ d → i ≡ j
     → IsSum format mode a b d j → IsSum format mode x y v i
 same_sum format mode x y v a b d i j p q r e h = rw (p, q, r, e) h
@@ -39,6 +41,7 @@ not_signaling : (format : Format) (kind : NonfiniteBehavior) (b : Bool) (n : ℕ
     → is_signaling_nan format (negated kind (finite b n)) ≡ false
 not_signaling format kind b n = search rules
 
+-- a difference is the sum with the negated operand
 pub difference_is : (format : Format) (mode : Round) (x y v : Datum) (i : ℕ)
     → IsSum format mode x (added format.nonfinite y) v i
     → IsDifference format mode x y v i

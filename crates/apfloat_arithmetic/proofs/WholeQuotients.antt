@@ -12,15 +12,19 @@ pub record IsTurn (d r s k : ℕ) : Type 0 where
   pub taken : r ≡ s + 2 ^ k * d
   pub below : s < 2 ^ k * d
 
+-- a turn leaves the remainder
 pub turn_rest : (d r s k : ℕ) → IsTurn d r s k → r % d ≡ s % d
 turn_rest d r s k t = ap (λ (x : ℕ). x % d) t.taken ∙ add-mul-mod_self_right s (2 ^ k) d
 
+-- and takes its power of two off the quotient
 pub turn_quotient : (d r s k : ℕ) → 0 < d → IsTurn d r s k → r / d ≡ s / d + 2 ^ k
 turn_quotient d r s k p t = ap (λ (x : ℕ). x / d) t.taken ∙ add-mul-div_right s (2 ^ k) p
 
+-- what is left of the quotient is below that power
 pub turn_small : (d r s k : ℕ) → 0 < d → IsTurn d r s k → s / d < 2 ^ k
 turn_small d r s k p t = (div-lt_iff_lt-mul p).1 t.below
 
+-- so that the quotient has one binary one less
 pub turn_ones : (d r s k : ℕ) → 0 < d → IsTurn d r s k → count_ones (r / d) ≡ 1 + count_ones (s / d)
 unfolding ones ones_in
 turn_ones d r s k p t =
@@ -29,12 +33,14 @@ turn_ones d r s k p t =
     let e : r / d ≡ 1 * 2 ^ k + s / d = omega arith in
     ap count_ones e ∙ ones_cat k 1 (s / d) l
 
+-- the last turn takes the last digit
 pub turn_odd : (d r s : ℕ) → 0 < d → IsTurn d r s 0 → r / d ≡ 1
 turn_odd d r s p t =
     let q = turn_quotient d r s 0 p t in
     let l = turn_small d r s 0 p t in
     omega arith
 
+-- each other turn leaves it
 pub turn_even : (d r s k : ℕ) → 0 < d → 0 < k → IsTurn d r s k → r / d % 2 ≡ s / d % 2
 turn_even d r s k p g t =
     let q = turn_quotient d r s k p t in
@@ -100,6 +106,7 @@ one_lower r t p z l =
     let h : (2 * r - t + t) * 2 ^ (p - 1) ≡ 2 * r * 2 ^ (p - 1) = ap (λ (x : ℕ). x * 2 ^ (p - 1)) g in
     omega arith
 
+-- a turn makes the rest less
 pub turn_less : (d r s k : ℕ) → 0 < d → IsTurn d r s k → s < r
 turn_less d r s k p t =
     let a = t.taken in
@@ -108,15 +115,18 @@ turn_less d r s k p t =
 
 -- ---- less than the divisor is left
 
+-- a rest below the divisor is the remainder
 pub left_all : (d r : ℕ) → r < d → r ≡ r % d
 left_all d r l = sym (mod-eq_of_lt l)
 
+-- and its quotient has no ones
 pub none_set : (d r : ℕ) → r < d → 0 ≡ count_ones (r / d)
 none_set d r l =
     let e : count_ones (r / d) ≡ count_ones 0 = ap count_ones (div-eq_of_lt l) in
     let z : count_ones 0 ≤ 0 = ones-le 0 0 (lit< tt) in
     omega arith
 
+-- and is not odd
 pub not_odd : (d r : ℕ) → r < d → false ≡ eqb (r / d % 2) 1
 not_odd d r l = sym (ap (λ (q : ℕ). eqb (q % 2) 1) (div-eq_of_lt l))
 
@@ -133,8 +143,10 @@ divisor_pos precision t q l =
 pub last_turn : (d r s k : ℕ) → k ≡ 0 → IsTurn d r s k → IsTurn d r s 0
 last_turn d r s k e t = subst (λ (x : ℕ). IsTurn d r s x) e t
 
+-- after the last turn the rest is below the divisor
 pub last_below : (d r s : ℕ) → IsTurn d r s 0 → s < d
 last_below d r s t = let b = t.below in omega arith
 
+-- and the quotient was odd
 pub last_odd : (d r s x : ℕ) → 0 < d → IsTurn d r s 0 → r / d % 2 ≡ x / d % 2 → true ≡ eqb (x / d % 2) 1
 last_odd d r s x p t e = ap (λ (q : ℕ). eqb (q % 2) 1) (sym (turn_odd d r s p t)) ∙ ap (λ (q : ℕ). eqb q 1) e

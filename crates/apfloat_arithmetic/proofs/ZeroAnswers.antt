@@ -25,6 +25,7 @@ by_categories P shape x y first second d e h =
     subst (λ (a : Category). P (datum_by a shape x) (datum_at shape y)) (sym d)
     (subst (λ (b : Category). P (datum_by first shape x) (datum_by b shape y)) (sym e) h)
 
+-- a product with a factor of 0
 pub zero_product : (format : Format) (mode : Round) (b c sign : Bool) (m n : ℕ) (value : Datum) (status : ℕ)
     → sign ≡ product_sign b c → m * n ≡ 0
     → ((parts : ℕ) → 0 < parts → IsDelivered format mode sign 0 parts value status)
@@ -55,11 +56,13 @@ number_by_zero format mode b c sign m value status p e h =
     rw (ne_eqb m 0 (λ z. omega (arith, z, p)))
     (subst (λ (x : Bool). IsAnswer (infinity_of format x) div_by_zero_bit value status) e h)
 
+-- a quotient of two numbers
 pub some_quotient : (format : Format) (mode : Round) (b c : Bool) (m n : ℕ) (value : Datum) (status : ℕ) → 0 < n
     → IsDelivered format mode (product_sign b c) (m * 2 ^ format.scale) n value status
     → IsQuotient format mode (finite b m) (finite c n) value status
 some_quotient format mode b c m n value status p h = rw (ne_eqb n 0 (λ z. omega (arith, z, p))) h
 
+-- a quotient of 0
 pub zero_quotient : (format : Format) (mode : Round) (b c sign : Bool) (n : ℕ) (value : Datum) (status : ℕ) → 0 < n
     → sign ≡ product_sign b c
     → ((parts : ℕ) → 0 < parts → IsDelivered format mode sign 0 parts value status)

@@ -11,15 +11,28 @@ use Rattle.apfloat_base.specs.arithmetic.Exact.{same_sign}
 pub eqb_self : (n : ℕ) → eqb n n ≡ true
 eqb_self n = eq-eqb n n refl
 
--- two signs are equal where the model says that they are the same
+-- ---- signs that are the same
+
+-- as the language compares them and as the model does
 pub same_beq : (left right : Bool) → beq left right ≡ same_sign left right
 same_beq true true = refl
 same_beq true false = refl
 same_beq false true = refl
 same_beq false false = refl
 
+pub same_sign_is : (left right : Bool) → same_sign left right ≡ true → left ≡ right
+same_sign_is true true e = refl
+same_sign_is true false e = cc
+same_sign_is false true e = cc
+same_sign_is false false e = refl
+
+pub same_sign_self : (sign : Bool) → same_sign sign sign ≡ true
+same_sign_self true = refl
+same_sign_self false = refl
+
 -- ---- a number chosen by a test
 
+-- a factor goes into both choices
 pub cond_times : (test : Bool) (x y factor : ℕ) → (cond test x y) * factor ≡ cond test (x * factor) (y * factor)
 cond_times true x y factor = refl
 cond_times false x y factor = refl
@@ -28,7 +41,7 @@ pub cond_same : (test : Bool) (x : ℕ) → x ≡ cond test x x
 cond_same true x = refl
 cond_same false x = refl
 
--- a test that turns out true chooses no smaller one of two numbers
+-- a test that holds wherever another one does chooses no smaller number
 pub cond_grows : (first second : Bool) (high low : ℕ) → low ≤ high → (first ≡ true → second ≡ true)
     → cond first high low ≤ cond second high low
 cond_grows true true high low h f = omega arith
@@ -62,30 +75,36 @@ pub if_case : {A : Type 0} (P : A → Type 0) {x y : A} (test : Bool) → (test 
 if_case P true l r = l refl
 if_case P false l r = r refl
 
+-- where both choices are false, so is what is chosen
 pub either_false : (test x y : Bool) → x ≡ false → y ≡ false → cond test x y ≡ false
 either_false true x y e g = e
 either_false false x y e g = g
 
 -- ---- an option chosen by one test, by two, or by three
 
+-- a test that holds leaves the choice to the other test
 pub passed : (test other : Bool) (x : Option ℕ) → test ≡ true
     → (if test && other then x else None) ≡ (if other then x else None)
 passed true other x h = refl
 passed false other x h = cc
 
+-- a test that fails chooses none
 pub refused : (test other : Bool) (x : Option ℕ) → test ≡ false → (if test && other then x else None) ≡ None
 refused true other x h = cc
 refused false other x h = refl
 
+-- of three tests, one that holds leaves the choice to the other two
 pub first_holds : (b e l : Bool) (x : Option ℕ) → b ≡ true
     → (if b && e && l then x else None) ≡ (if e && l then x else None)
 first_holds true e l x h = refl
 first_holds false e l x h = cc
 
+-- and one that fails chooses none, the first of three
 pub first_fails : (b e l : Bool) (x : Option ℕ) → b ≡ false → (if b && e && l then x else None) ≡ None
 first_fails true e l x h = cc
 first_fails false e l x h = refl
 
+-- or the last of two
 pub last_fails : (e l : Bool) (x : Option ℕ) → l ≡ false → (if e && l then x else None) ≡ None
 last_fails true true x h = cc
 last_fails true false x h = refl

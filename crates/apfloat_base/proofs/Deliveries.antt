@@ -23,12 +23,14 @@ four precision h =
     let k : 2 ^ 2 ≤ 2 ^ (precision - 1) = pow-le-pow_right two_pos l in
     k
 
+-- whether a pick is past the largest value, by the parts of that value
 pub past_is : (format : Format) (top place p : ℕ) (b v : Bool)
     → top ≡ greatest_significand format.nonfinite format.precision
     → place ≡ format.span → b ≡ ltb (top * 2 ^ place) p → b ≡ v → ltb (largest format) p ≡ v
 past_is format top place p b v e d h k =
     ap (λ (x : ℕ). ltb (x * 2 ^ format.span) p) (sym e) ∙ ap (λ (x : ℕ). ltb (top * 2 ^ x) p) (sym d) ∙ sym h ∙ k
 
+-- a number of quanta that is not 0 keeps its sign in each kind of format
 pub signed_some : (kind : NonfiniteBehavior) (negative : Bool) (p : ℕ) → 0 < p
     → signed_quanta kind negative p ≡ finite negative p
 signed_some kind negative p h = let e : eqb p 0 ≡ false = ne_eqb p 0 (λ z. omega arith) in rw e refl
@@ -67,6 +69,7 @@ loss_cases LessThanHalf = inr (λ e. cc)
 loss_cases ExactlyHalf = inr (λ e. cc)
 loss_cases MoreThanHalf = inr (λ e. cc)
 
+-- where nothing was lost, the pick is the magnitude
 pub exact_if : (precision : ℕ) (mode : Round) (negative : Bool) (half m c amount parts p : ℕ) (loss : Loss)
     → loss ≡ ExactlyZero → 0 < parts → IsEnclosed precision half m c amount parts
     → StandsFor m loss amount (2 ^ c * parts) → IsPick precision mode negative amount parts p → p * parts ≡ amount
@@ -78,6 +81,7 @@ exact_if precision mode negative half m c amount parts p loss z l i h x =
     (pick_is precision mode negative half m c amount parts ExactlyZero l i h') in
     ap (λ (y : ℕ). y * parts) e ∙ omega (arith, h')
 
+-- where something was lost, the pick is not the magnitude
 pub inexact_if : (precision : ℕ) (mode : Round) (negative : Bool) (half m c amount parts p : ℕ) (loss : Loss)
     → (loss ≡ ExactlyZero → ⊥) → 0 < parts → IsEnclosed precision half m c amount parts
     → StandsFor m loss amount (2 ^ c * parts) → IsPick precision mode negative amount parts p → p * parts ≡ amount
@@ -143,6 +147,7 @@ tiny_after half s place f =
     (λ (l : half ≤ s). le-ltb s half l ∙ sym (le-ltb (s * 2 ^ place) half (large_after half s place l)))
     (cases_lt s half)
 
+-- whether the magnitude is tiny, by the digits that were kept, before rounding or after it
 pub tiny_is : (format : Format) (m c amount parts s place : ℕ) (b : Bool) → 0 < parts
     → IsEnclosed format.precision (2 ^ (format.precision - 1)) m c amount parts
     → (place ≡ 0) ⊎ (2 ^ (format.precision - 1) ≤ s)

@@ -41,6 +41,7 @@ same_answer {A} r s e d =
     ap (λ (v : A). record { status = r.status; value = v }) e
     ∙ ap (λ (b : ℕ). record { status = record { 0 = b }; value = s.value }) d
 
+-- a relation with one answer has one answer with its flags taken as a status
 pub gives_once : {A : Type 0} (Says : A → ℕ → Type 0) → Once Says
     → Determines (λ (answer : StatusAnd A). Gives Says answer)
 gives_once {A} Says once r s h k =
@@ -65,12 +66,14 @@ is_once given a b h k = h ∙ sym k
 are_once : {A B : Type 0} (given : A) (other : B) → DeterminesBoth (λ (a : A) (b : B). (a ≡ given) × (b ≡ other))
 are_once given other a c b d h k = (h.0 ∙ sym k.0, h.1 ∙ sym k.1)
 
+-- the exponent of a datum is determined
 pub exponent_once : (format : Format) (x : Datum) → Determines (IsIlogb format x)
 exponent_once format (nan b s) = is_once _
 exponent_once format (infinite b) = is_once _
 exponent_once format (finite b n) = match_determines (eqb n 0) _ (IsLogarithm format n) (is_once _)
     (logarithm_once format n)
 
+-- a fraction and its exponent are determined
 pub frexp_once : (format : Format) (x : Datum) → 0 < format.scale → DeterminesBoth (IsFrexp format x)
 frexp_once format (nan b s) p = are_once _ _
 frexp_once format (infinite b) p = are_once _ _
@@ -78,6 +81,7 @@ frexp_once format (finite b n) p =
     match_determines_both (eqb n 0) _ (IsFraction format b n) (are_once _ _)
     (λ v w d e. fraction_once format b n v w d e p)
 
+-- there is one exact inverse, or none
 pub exact_inverse_once : (format : Format) (x : Datum) → Determines (IsExactInverse format x)
 exact_inverse_once format (finite b n) (Some v) (Some w) h k =
     let i : AreInverse format n h.0 = h.1 in
@@ -119,12 +123,14 @@ meant_once format mode (infinity negative) = answer_once _ _
 meant_once format mode (not_a_number negative signaling payload) = answer_once _ _
 meant_once format mode (hexadecimal negative h places e) = rounded_once format mode negative _ _
 
+-- a text that is read has one value and one status
 pub reading_once : (format : Format) (mode : Round) (text : List ℕ) → Once (IsReading format mode text)
 reading_once format mode text v w r s h k =
     let e = one_meaning text k.meaning h.meaning k.means h.means in
     meant_once format mode h.meaning v w r s h.is_meant
     (subst (λ (m : Meaning). IsMeant format mode m w s) e k.is_meant)
 
+-- a refusal has the words of the first fault
 pub refusal_once : (text : List ℕ) → Determines (IsRefusal text)
 refusal_once text r s h k =
     h.says ∙ ap (λ (o : Option Fault). words (unwrap_or o h.fault)) (sym h.is_first ∙ k.is_first) ∙ sym k.says
@@ -135,6 +141,7 @@ pub reading_or_refusal : (format : Format) (mode : Round) (text said : List ℕ)
 reading_or_refusal format mode text said v s h k =
     none-some _ (sym (meaning_no_fault text h.meaning h.means) ∙ k.is_first)
 
+-- what is answered to a text is determined, be it a reading or a refusal
 pub read_once : (format : Format) (mode : Round) (text : List ℕ) (answer other : Result (StatusAnd Datum) ParseError)
     → IsRead format mode text answer → IsRead format mode text other → AreOneReading answer other
 read_once format mode text (Ok r) (Ok s) h k = gives_once (IsReading format mode text)
@@ -157,6 +164,7 @@ scale_some constants law =
 
 -- of a format of positive scale, with its bits if it has any
 
+-- all relations of a format determine their answers
 pub determined : (format : Format) (layout : Layout) (precision bits : ℕ) (mode : Round) → 0 < format.scale
     → (precision < bits → IsInterchange format layout)
     → IsDetermined mode precision bits

@@ -22,6 +22,7 @@ trailing_by : (explicit : Bool) (precision : ℕ) → 1 ≤ precision
 trailing_by true precision h = refl
 trailing_by false precision h = omega arith
 
+-- a lawful format with more bits than digits has an interchange layout
 pub lawful_interchange : (constants : Constants) → IsLawful constants → constants.precision < constants.bits
     → IsInterchange (format_with constants) (layout_with constants)
 lawful_interchange constants law wide =

@@ -9,9 +9,9 @@ use Rattle.apfloat_base.specs.formats.Datum.{Datum, finite, infinite, nan}
 use Rattle.apfloat_base.specs.rounding.Rounding.{ok_bits, zero_sign, signed_quanta}
 use Rattle.apfloat_base.specs.formats.Members.{IsFiniteOf}
 use Rattle.apfloat_base.specs.arithmetic.Conversions.{IsConversion, IsConverted, IsConvertedNumber, IsExactlyConverted, loses_zero_sign, IsKept}
-use Rattle.apfloat_base.proofs.PredicatesAgree.{same_sign_self}
 use Rattle.apfloat_base.proofs.Deliveries.{signed_some}
 use Rattle.apfloat_base.proofs.Laws.{exact_delivered, delivered_once}
+use Rattle.apfloat_base.proofs.Choices.{same_sign_self}
 
 -- neither number is zero where the other is not
 both_some : (m n p q : ℕ) → n * 2 ^ p ≡ m * 2 ^ q → 0 < m → 0 < n
@@ -58,6 +58,7 @@ no_quanta (suc n) p q e =
     let a : 0 < suc n * 2 ^ p = mul-pos (omega arith) (pow_pos p) in
     absurd (omega arith)
 
+-- whatever answers the conversion, it keeps such a number and raises no flag
 pub exactly_converted : (from into : Format) (mode : Round) (x value : Datum) (status : ℕ) (loses_info : Bool)
     → IsConversion from into mode x value status loses_info → IsExactlyConverted from into x value status loses_info
 exactly_converted from into mode (nan b s) value status loses_info h = tt

@@ -28,6 +28,7 @@ pub record IsFarBelow (amount parts : ℕ) : Type 0 where
 
 -- ---- above
 
+-- the largest value is below the power of two that is past all numbers
 pub largest_below : (format : Format) → largest format < 2 ^ (format.precision + format.span)
 largest_below format =
     let e : 2 ^ (format.precision + format.span) ≡ 2 ^ format.precision * 2 ^ format.span =
@@ -99,6 +100,7 @@ little_enclosed precision amount parts h x =
 pub little_pick : Round → Bool → ℕ
 little_pick mode negative = kept mode negative LessThanHalf 0 * 2 ^ 0
 
+-- a magnitude below half a quantum picks 0 or one quantum, by its side alone
 pub picks_little : (precision : ℕ) (mode : Round) (negative : Bool) (amount parts : ℕ) → 0 < precision
     → IsFarBelow amount parts → IsPick precision mode negative amount parts (little_pick mode negative)
 unfolding little_pick

@@ -73,6 +73,7 @@ low_canonical : (explicit : Bool) (format : Format) (layout : Layout) (b : Bool)
 low_canonical true format layout b n e h = rw (e, lt-ltb n (smallest_normalized format) h) refl
 low_canonical false format layout b n e h = refl
 
+-- the fields of zeros and denormal numbers
 pub low_fields_of : (format : Format) (layout : Layout) (b : Bool) (n : ℕ) → IsInterchange format layout
     → n < smallest_normalized format → MayHaveSign format.nonfinite b n
     → AreFieldsOf format layout (fields_with b 0 n) (finite b n)
@@ -189,6 +190,7 @@ module _ (format : Format) (layout : Layout) (law : IsInterchange format layout)
       (cases_eq (j + 1) (all_ones layout.exponent_bits))
   no_special NanNegativeZero j m k low top high = ne_eqb (j + 1) 0 (λ q. omega (arith, q))
 
+  -- the fields of numbers whose significand has all its digits
   pub high_fields_of : (b : Bool) (j m : ℕ) → smallest_normalized format ≤ m → m < 2 ^ format.precision
       → m * 2 ^ j ≤ largest format
       → AreFieldsOf format layout (fields_with b (j + 1)
@@ -232,6 +234,7 @@ width_of_infinity : (explicit : Bool) (p : ℕ) → 1 ≤ p → cond explicit (2
 width_of_infinity true p h = let t = twice_half p h in let q : 0 < 2 ^ (p - 1) = pow_pos (p - 1) in omega arith
 width_of_infinity false p h = pow_pos (p - 1)
 
+-- the fields of infinities
 pub infinity_fields_of : (format : Format) (layout : Layout) (b : Bool) → IsInterchange format layout
     → format.nonfinite ≡ IEEE754
     → AreFieldsOf format layout (fields_with b (all_ones layout.exponent_bits)

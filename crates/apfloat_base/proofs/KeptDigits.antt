@@ -13,6 +13,7 @@ use Rattle.apfloat_base.proofs.Losses.{stands_from, stands_to, twice_half}
 
 -- ---- the number of digits
 
+-- a number is below the power of two of its count of digits
 pub digits_below : (n : ℕ) → n < 2 ^ 128 → n < 2 ^ (128 - count_leading_zeros 128 n)
 digits_below n h =
     let r = leading_length 128 n h in
@@ -20,6 +21,7 @@ digits_below n h =
     let e : r.0 ≡ 128 - count_leading_zeros 128 n = omega (arith, e₀) in
     subst (λ (x : ℕ). n < 2 ^ x) e r.2
 
+-- and not below the power before it
 pub digits_full : (n : ℕ) → n < 2 ^ 128 → 0 < 128 - count_leading_zeros 128 n
     → 2 ^ ((128 - count_leading_zeros 128 n) - 1) ≤ n
 digits_full n h p =
@@ -33,6 +35,7 @@ digits_full n h p =
 
 -- ---- units
 
+-- a common factor of amount and unit leaves what a significand stands for
 pub stands_cancel : (s : ℕ) (loss : Loss) (amount unit w : ℕ) → 0 < w → StandsFor s loss (amount * w) (unit * w)
     → StandsFor s loss amount unit
 stands_cancel s ExactlyZero amount unit w p h = eq_of_mul-eq-mul_right w p amount (s * unit) (omega (arith, h))
@@ -60,6 +63,7 @@ stands_times s MoreThanHalf amount unit w p h =
     let b : amount * w < (s + 1) * unit * w = mul-lt-mul_of_pos_right h.1 p in
     (omega arith, omega arith)
 
+-- a unit, k places up, is that of the place which is aimed at
 pub same_unit : (parts k up down place : ℕ) → k + up ≡ place + down
     → 2 ^ k * (parts * 2 ^ up) ≡ 2 ^ place * parts * 2 ^ down
 same_unit parts k up down place e =
@@ -70,12 +74,14 @@ same_unit parts k up down place e =
     let g : 2 ^ k * 2 ^ up * parts ≡ 2 ^ place * 2 ^ down * parts = ap (λ (x : ℕ). x * parts) f in
     omega arith
 
+-- what is kept after a cut stands for the amount in quanta
 pub kept_stands : (q : ℕ) (loss : Loss) (amount parts k up down place : ℕ) → k + up ≡ place + down
     → StandsFor q loss (amount * 2 ^ down) (2 ^ k * (parts * 2 ^ up)) → StandsFor q loss amount (2 ^ place * parts)
 kept_stands q loss amount parts k up down place e h =
     stands_cancel q loss amount (2 ^ place * parts) (2 ^ down) (pow_pos down)
     (subst (λ (x : ℕ). StandsFor q loss (amount * 2 ^ down) x) (same_unit parts k up down place e) h)
 
+-- what is moved up, with nothing lost, stands for the amount in quanta
 pub shifted_stands : (s : ℕ) (loss : Loss) (amount parts j up down place : ℕ) → loss ≡ ExactlyZero
     → place + down + j ≡ up → StandsFor s loss (amount * 2 ^ down) (parts * 2 ^ up)
     → StandsFor (s * 2 ^ j) loss amount (2 ^ place * parts)
@@ -93,6 +99,7 @@ shifted_stands s loss amount parts j up down place z e h =
 
 -- ---- what is kept has at most the format's digits, and all of them above the last place
 
+-- with all digits past the precision cut off, a significand fits
 pub fits_cut : (s digits k precision : ℕ) → s < 2 ^ digits → digits ≤ k + precision → s / 2 ^ k < 2 ^ precision
 fits_cut s digits k precision h l =
     let a : 2 ^ digits ≤ 2 ^ (precision + k) = pow-le-pow_right two_pos (omega arith) in
@@ -100,6 +107,7 @@ fits_cut s digits k precision h l =
     let d : s < 2 ^ precision * 2 ^ k = omega arith in
     (div-lt_iff_lt-mul (pow_pos k)).1 d
 
+-- and with no more cut off, it has all its digits
 pub full_cut : (s digits k precision : ℕ) → 0 < precision → (0 < digits → 2 ^ (digits - 1) ≤ s)
     → digits ≡ k + precision → 2 ^ (precision - 1) ≤ s / 2 ^ k
 full_cut s digits k precision p h e =
@@ -109,6 +117,7 @@ full_cut s digits k precision p h e =
     let b : 2 ^ (digits - 1) ≡ 2 ^ (precision - 1) * 2 ^ k = ap (λ (x : ℕ). 2 ^ x) w ∙ pow-add 2 (precision - 1) k in
     (le-div_iff_mul-le (pow_pos k)).1 (omega arith)
 
+-- moved up to at most the precision, a significand fits
 pub fits_shifted : (s digits j precision : ℕ) → s < 2 ^ digits → digits + j ≤ precision → s * 2 ^ j < 2 ^ precision
 fits_shifted s digits j precision h l =
     let a : s * 2 ^ j < 2 ^ digits * 2 ^ j = mul-lt-mul_of_pos_right h (pow_pos j) in
@@ -116,6 +125,7 @@ fits_shifted s digits j precision h l =
     let d : 2 ^ (digits + j) ≤ 2 ^ precision = pow-le-pow_right two_pos l in
     omega arith
 
+-- moved up to the precision, it has all its digits
 pub full_shifted : (s digits j precision : ℕ) → 0 < digits → (0 < digits → 2 ^ (digits - 1) ≤ s)
     → digits + j ≡ precision → 2 ^ (precision - 1) ≤ s * 2 ^ j
 full_shifted s digits j precision p h e =
@@ -126,6 +136,7 @@ full_shifted s digits j precision p h e =
     ap (λ (x : ℕ). 2 ^ x) w in
     omega arith
 
+-- a significand that fits and stands for the amount, full or at the lowest place, encloses it
 pub enclosed_from : (precision q c : ℕ) (loss : Loss) (amount parts : ℕ) → 0 < precision → 0 < parts
     → q < 2 ^ precision → (c ≡ 0) ⊎ (2 ^ (precision - 1) ≤ q) → StandsFor q loss amount (2 ^ c * parts)
     → IsEnclosed precision (2 ^ (precision - 1)) q c amount parts
@@ -137,6 +148,7 @@ enclosed_from precision q c loss amount parts p u l f h =
 
 -- ---- the three ways to keep digits
 
+-- the digits that a cut keeps enclose the magnitude
 pub cut_kept : (precision s q digits k place up down : ℕ) (loss : Loss) (amount parts : ℕ) → 0 < precision
     → 0 < parts → s < 2 ^ digits → (0 < digits → 2 ^ (digits - 1) ≤ s)
     → digits + up ≤ place + precision + down → (place ≡ 0) ⊎ (digits + up ≡ place + precision + down)
@@ -169,6 +181,7 @@ shift_kept_at precision s digits j place up down loss amount parts p u b f d c r
     ⊎_elim (λ y. inl y) (λ y. inr (full_shifted s digits j precision d f (omega (arith, y)))) r in
     (enclosed_from precision (s * 2 ^ j) place loss amount parts p u l full g, g)
 
+-- what is moved up stays within the machine word
 pub shift_whole : (precision s digits j place up down : ℕ) → precision ≤ 125 → s < 2 ^ digits
     → digits + up ≤ place + precision + down → place + down + j ≡ up → s * 2 ^ j ≡ s * 2 ^ j % 2 ^ 128
 shift_whole precision s digits j place up down p b c e =
@@ -183,6 +196,7 @@ pub some_digits : (s digits : ℕ) → s < 2 ^ digits → (s ≡ 0 → ⊥) → 
 some_digits s zero h n = absurd (n (omega arith))
 some_digits s (suc d) h n = omega arith
 
+-- the digits that were moved up enclose the magnitude
 pub shift_kept : (precision s digits j place up down : ℕ) (loss : Loss) (amount parts : ℕ) → 0 < precision
     → precision ≤ 125 → 0 < parts → s < 2 ^ digits → (0 < digits → 2 ^ (digits - 1) ≤ s) → (s ≡ 0 → ⊥)
     → digits + up ≤ place + precision + down → (place ≡ 0) ⊎ (digits + up ≡ place + precision + down)
@@ -196,6 +210,7 @@ shift_kept precision s digits j place up down loss amount parts p p' u b f n c r
     (shift_whole precision s digits j place up down p' b c e)
     (shift_kept_at precision s digits j place up down loss amount parts p u b f (some_digits s digits b n) c r e z h)
 
+-- a significand with all its digits has no room to move up
 pub too_full : (s digits j precision : ℕ) → s < 2 ^ digits → 0 < j → digits + j ≤ precision
     → 2 ^ (precision - 1) ≤ s → ⊥
 too_full s digits j precision b p l h =
@@ -203,6 +218,7 @@ too_full s digits j precision b p l h =
     let k : 2 ^ digits ≤ 2 ^ (precision - 1) = pow-le-pow_right two_pos d in
     omega arith
 
+-- a significand of 0 with nothing lost stays as it is
 pub zero_kept : (precision s up down : ℕ) (loss : Loss) (amount parts : ℕ) → 0 < precision → 0 < parts → s ≡ 0
     → loss ≡ ExactlyZero
     → StandsFor s loss (amount * 2 ^ down) (parts * 2 ^ up)
@@ -226,6 +242,7 @@ exact_zero s precision loss A z (inr (inl a)) n = absurd (n a)
 exact_zero s precision loss A z (inr (inr l)) n = let p : 0 < 2 ^ (precision - 1) = pow_pos (precision - 1) in
     absurd (omega arith)
 
+-- what is moved up has nothing lost below it: what has lost something is full already
 pub exact_shift : (s digits j place up down precision : ℕ) (loss : Loss) (A : Type 0) → s < 2 ^ digits → 0 < j
     → digits + up ≤ place + precision + down → place + down + j ≡ up
     → (loss ≡ ExactlyZero) ⊎ (A ⊎ (2 ^ (precision - 1) ≤ s)) → (A → ⊥) → loss ≡ ExactlyZero
@@ -237,12 +254,14 @@ exact_shift s digits j place up down precision loss A b p c e (inr (inr l)) n =
 
 -- ---- the same, whatever is lost
 
+-- by the place that a delivery aims at: what is cut fits
 pub cut_fits : (precision s q digits k place up down : ℕ) → s < 2 ^ digits → digits + up ≤ place + precision + down
     → k + up ≡ place + down → q ≡ s / 2 ^ k → q < 2 ^ precision
 cut_fits precision s q digits k place up down b c e w =
     let l₀ : digits ≤ k + precision = omega arith in
     subst (λ (x : ℕ). x < 2 ^ precision) (sym w) (fits_cut s digits k precision b l₀)
 
+-- and has all its digits, above the lowest place
 pub cut_full : (precision s q digits k place up down : ℕ) → 0 < precision → (0 < digits → 2 ^ (digits - 1) ≤ s)
     → (place ≡ 0) ⊎ (digits + up ≡ place + precision + down) → k + up ≡ place + down → q ≡ s / 2 ^ k
     → (place ≡ 0) ⊎ (2 ^ (precision - 1) ≤ q)
@@ -251,6 +270,7 @@ cut_full precision s q digits k place up down p f r e w =
     (λ z. inr (subst (λ (x : ℕ). 2 ^ (precision - 1) ≤ x) (sym w)
     (full_cut s digits k precision p f (omega (arith, z))))) r
 
+-- likewise what is moved up fits
 pub shift_fits : (precision s digits j place up down : ℕ) → precision ≤ 125 → s < 2 ^ digits
     → digits + up ≤ place + precision + down → place + down + j ≡ up → s * 2 ^ j % 2 ^ 128 < 2 ^ precision
 shift_fits precision s digits j place up down p' b c e =
@@ -258,6 +278,7 @@ shift_fits precision s digits j place up down p' b c e =
     subst (λ (x : ℕ). x < 2 ^ precision) (shift_whole precision s digits j place up down p' b c e)
     (fits_shifted s digits j precision b l₀)
 
+-- and has all its digits, above the lowest place
 pub shift_full : (precision s digits j place up down : ℕ) → precision ≤ 125 → s < 2 ^ digits
     → (0 < digits → 2 ^ (digits - 1) ≤ s) → (s ≡ 0 → ⊥) → digits + up ≤ place + precision + down
     → (place ≡ 0) ⊎ (digits + up ≡ place + precision + down) → place + down + j ≡ up
@@ -269,6 +290,7 @@ shift_full precision s digits j place up down p' b f n c r e =
 
 -- ---- all digits
 
+-- a significand that fits has no more digits than the precision
 pub digits_le : (s digits precision : ℕ) → s < 2 ^ precision → (0 < digits → 2 ^ (digits - 1) ≤ s)
     → digits ≤ precision
 digits_le s digits precision h f =
@@ -282,6 +304,7 @@ digits_le s digits precision h f =
     (λ (l : digits ≤ precision). l)
     (cases_lt precision digits)
 
+-- a whole number moved up from its unit to a place is the same number of quanta
 pub same_quanta : (s j place up down whole : ℕ) → s * 2 ^ j ≡ whole → j + up ≡ place + down
     → whole * 2 ^ up ≡ s * 2 ^ place * 2 ^ down
 same_quanta s j place up down whole w e =

@@ -15,6 +15,7 @@ every-append test (c ∷ xs) ys h =
     let q = every-append test xs ys p.1 in
     (and_from (test c) (every test xs) p.0 q.0, q.1)
 
+-- and then those of the joined list do
 pub append-every : (test : ℕ → Bool) (xs ys : List ℕ) → every test xs ≡ true → every test ys ≡ true
     → every test (xs ++ ys) ≡ true
 append-every test [] ys h g = g
@@ -41,6 +42,7 @@ run_through test (c ∷ xs) rest h b =
     let p = and_parts (test c) (every test xs) h in
     rw p.0 (ap (λ (t : List ℕ). c ∷ t) (run_through test xs rest p.1 b))
 
+-- and what stands behind the run is the next list
 pub behind_run_through : (test : ℕ → Bool) (xs rest : List ℕ) → every test xs ≡ true → begins test rest ≡ false
     → behind_run test (xs ++ rest) ≡ rest
 behind_run_through test [] [] h b = refl
@@ -51,6 +53,7 @@ behind_run_through test (c ∷ xs) rest h b =
 
 -- ---- filters
 
+-- what passes the filter whole is left whole
 pub filter_all : (test : ℕ → Bool) (xs : List ℕ) → every test xs ≡ true → filter test xs ≡ xs
 filter_all test [] h = refl
 filter_all test (c ∷ xs) h =

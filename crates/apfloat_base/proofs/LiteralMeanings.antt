@@ -14,6 +14,7 @@ by_parts body rest e x =
     let i : IsHexadecimal body x.h x.f x.e = x.is in
     rw (← m.h_is, ← m.f_is, ← m.e_is) i
 
+-- it means the number of its digits, the places behind its dot, and its exponent
 pub literal_meaning : (text : List ℕ) → begins_literal (behind_mark text) ≡ true
     → behind_prefix_fault (drop 2 (behind_mark text)) ≡ None
     → Means text (hexadecimal (is_minus (mark_of text)) (digits_number (drop 2 (behind_mark text)))

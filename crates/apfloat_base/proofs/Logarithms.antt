@@ -11,6 +11,7 @@ lt_pow : (n : ℕ) → n < 2 ^ n
 lt_pow zero = omega arith
 lt_pow (suc n) = omega (arith, lt_pow n, two-pow-succ n)
 
+-- a number is at least the power of its logarithm, and below twice that power
 pub log2_bounds : (n : ℕ) → 0 < n → (2 ^ log2 n ≤ n) × (n < 2 * 2 ^ log2 n)
 unfolding log2
 log2_bounds n h =

@@ -7,12 +7,14 @@ use Rattle.apfloat_base.specs.declared.sig.loss.Loss.{Loss}
 use Rattle.apfloat_base.specs.declared.sig.loss.Loss.TheVariants.{ExactlyZero, LessThanHalf, ExactlyHalf, MoreThanHalf}
 use Rattle.apfloat_base.specs.rounding.Standing.{StandsFor}
 
+-- the amount is not below what the significand stands for
 pub stands_from : (s : ℕ) (loss : Loss) (amount unit : ℕ) → StandsFor s loss amount unit → s * unit ≤ amount
 stands_from s ExactlyZero amount unit h = omega (arith, h)
 stands_from s LessThanHalf amount unit h = let a = h.0 in omega (arith, a)
 stands_from s ExactlyHalf amount unit h = omega (arith, h)
 stands_from s MoreThanHalf amount unit h = let a = h.0 in omega (arith, a)
 
+-- and is below what the next significand would stand for
 pub stands_to : (s : ℕ) (loss : Loss) (amount unit : ℕ) → 0 < unit → StandsFor s loss amount unit
     → amount < (s + 1) * unit
 stands_to s ExactlyZero amount unit u h = omega (arith, h)
@@ -20,6 +22,7 @@ stands_to s LessThanHalf amount unit u h = let a = h.1 in omega (arith, a)
 stands_to s ExactlyHalf amount unit u h = omega (arith, h)
 stands_to s MoreThanHalf amount unit u h = let a = h.1 in omega (arith, a)
 
+-- where something was lost, it is above what the significand stands for
 pub stands_past : (s : ℕ) (loss : Loss) (amount unit : ℕ) → 0 < unit → (loss ≡ ExactlyZero → ⊥)
     → StandsFor s loss amount unit → s * unit < amount
 stands_past s ExactlyZero amount unit u n h = absurd (n refl)
@@ -37,6 +40,7 @@ less_start q half rest loss amount unit u (inr n) h =
     let a : (q * (2 * half) + rest) * unit < amount = stands_past _ loss amount unit u n h in
     omega arith
 
+-- a rest below half of what is cut off, with what was lost before, is less than half
 pub cut_less : (q half rest : ℕ) (loss : Loss) (amount unit : ℕ) → 0 < unit → rest < half
     → (0 < rest) ⊎ (loss ≡ ExactlyZero → ⊥) → StandsFor (q * (2 * half) + rest) loss amount unit
     → StandsFor q LessThanHalf amount (2 * half * unit)
@@ -60,6 +64,7 @@ more_start q half rest loss amount unit u (inr n) h =
     let k : half * unit ≤ rest * unit = mul-le-mul_right unit n.1 in
     omega arith
 
+-- a rest above half of it, or of half and something lost before, is more than half
 pub cut_more : (q half rest : ℕ) (loss : Loss) (amount unit : ℕ) → 0 < unit → rest < 2 * half
     → (half < rest) ⊎ ((loss ≡ ExactlyZero → ⊥) × (half ≤ rest))
     → StandsFor (q * (2 * half) + rest) loss amount unit → StandsFor q MoreThanHalf amount (2 * half * unit)
@@ -126,6 +131,7 @@ cut_all s places loss amount unit l b u n h =
     cut_less 0 (2 ^ (places - 1)) s loss amount unit u s' n g in
     subst (λ (x : ℕ). StandsFor 0 LessThanHalf amount (x * unit)) (twice_half places p) r
 
+-- nothing is left of a machine word when more places are cut off than it has
 pub zero_beyond : (s places : ℕ) → 128 < places → s < 2 ^ 128 → 0 ≡ s / 2 ^ places
 zero_beyond s places l b =
     let k : 2 ^ 128 < 2 ^ places = pow_below 128 places l in

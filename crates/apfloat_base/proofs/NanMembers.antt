@@ -28,6 +28,7 @@ or_no_power s i j apart e =
     let z : 0 < 2 ^ j = pow_pos j in
     omega (arith, a, pow_apart i j apart, z)
 
+-- a NaN made quiet has a significand of a NaN
 pub or_member : (kind : NonfiniteBehavior) (e : Bool) (p s : ℕ) → 3 ≤ p → IsNanSignificand kind e p s
     → IsNanSignificand kind e p (bit_or s (quiet_bit_of kind p))
 or_member IEEE754 false p s h (some, below) =
@@ -65,6 +66,7 @@ quiet_kinds NanOnly e p payload h = let b = nan_base_of NanOnly p in
     rw (and_zero_r payload) rw (or_zero_r (bit_or b 0)) rw (or_zero_r b) refl
 quiet_kinds NanNegativeZero e p payload h = rw (and_zero_r payload) refl
 
+-- so has a quiet NaN made of a payload
 pub quiet_member : (format : Format) (payload : ℕ) → 3 ≤ format.precision
     → IsNanSignificand format.nonfinite format.explicit_integer_bit format.precision (quiet_significand format payload)
 quiet_member format payload h = quiet_kinds format.nonfinite format.explicit_integer_bit format.precision payload h
@@ -123,6 +125,7 @@ signaling_kinds NanNegativeZero e p q h m =
     (λ _. subst (λ (x : ℕ). IsNanSignificand NanNegativeZero e p x) (sym (or_nothing q)) m)
     (λ _. subst (λ (x : ℕ). IsNanSignificand NanNegativeZero e p x) (sym (less_nothing q)) m)
 
+-- and a signaling one
 pub signaling_member : (format : Format) (payload : ℕ) → 3 ≤ format.precision
     → IsNanSignificand format.nonfinite format.explicit_integer_bit format.precision
     (signaling_significand format payload)

@@ -163,6 +163,7 @@ some_quanta : (n : ℕ) → ltb 0 n ≡ true → 0 < n
 some_quanta n h =
     ⊎_elim (λ (k : 0 < n). k) (λ (k : n ≤ 0). absurd (false≢true (sym (le-ltb 0 n k) ∙ h))) (cases_lt 0 n)
 
+-- of a number that is not 0, in a format with infinities
 pub next_back : (format : Format) (x v : Datum) (st : ℕ) → format.nonfinite ≡ IEEE754 → 1 < 2 ^ format.precision
     → IsMember format x
     → is_finite_non_zero x ≡ true → IsNextUp format x v st → IsNextDown format v x 0

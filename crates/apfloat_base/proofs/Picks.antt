@@ -12,6 +12,7 @@ use Rattle.apfloat_base.proofs.Choices.{cond_times, cond_same}
 use Rattle.std.proofs.Math.Nat.{mul-div_cancel, mul-pos}
 use Rattle.std.proofs.lemmas.Nat.{pow_pos}
 
+-- below the middle a mode takes the neighbour that it takes at 1 to 2
 pub takes_less : (mode : Round) (negative odd : Bool) (x y : ℕ) → x < y
     → takes_above mode negative x y odd ≡ takes_above mode negative 1 2 odd
 takes_less NearestTiesToEven negative odd x y h = grind arith
@@ -20,6 +21,7 @@ takes_less TowardNegative negative odd x y h = refl
 takes_less TowardZero negative odd x y h = refl
 takes_less NearestTiesToAway negative odd x y h = grind arith
 
+-- in the middle, that of 1 to 1
 pub takes_half : (mode : Round) (negative odd : Bool) (x y : ℕ) → x ≡ y
     → takes_above mode negative x y odd ≡ takes_above mode negative 1 1 odd
 takes_half NearestTiesToEven negative odd x y h = grind arith
@@ -28,6 +30,7 @@ takes_half TowardNegative negative odd x y h = refl
 takes_half TowardZero negative odd x y h = refl
 takes_half NearestTiesToAway negative odd x y h = grind arith
 
+-- above the middle, that of 2 to 1
 pub takes_more : (mode : Round) (negative odd : Bool) (x y : ℕ) → y < x
     → takes_above mode negative x y odd ≡ takes_above mode negative 2 1 odd
 takes_more NearestTiesToEven negative odd x y h = grind arith
@@ -92,6 +95,7 @@ pick_is precision mode negative half m c amount parts MoreThanHalf p i s =
     inexact_pick precision mode negative half m c amount parts (takes_above mode negative 2 1 (eqb (m % 2) 1)) i
     (omega (arith, a)) (takes_more mode negative (eqb (m % 2) 1) _ _ (omega (arith, a, b)))
 
+-- one magnitude is picked
 pub pick_unique : (precision : ℕ) (mode : Round) (negative : Bool) (amount parts p q : ℕ)
     → IsPick precision mode negative amount parts p → IsPick precision mode negative amount parts q → p ≡ q
 pick_unique precision mode negative amount parts p q x y =

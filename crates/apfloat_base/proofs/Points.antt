@@ -18,14 +18,17 @@ room n precision p h =
     let a : 2 ^ precision ≤ 2 ^ 125 = pow-le-pow_right two_pos p in
     omega arith
 
+-- where the mode moves up, the next significand is kept
 pub kept_moved : (mode : Round) (negative : Bool) (loss : Loss) (m : ℕ) (moved : Bool)
     → moved ≡ rounds_up mode negative loss (eqb (m % 2) 1) → moved ≡ true → m + 1 ≡ kept mode negative loss m
 kept_moved mode negative loss m moved e t = ap (λ (b : Bool). cond b (m + 1) m) (sym t ∙ e)
 
+-- and else the significand itself
 pub kept_stayed : (mode : Round) (negative : Bool) (loss : Loss) (m : ℕ) (moved : Bool)
     → moved ≡ rounds_up mode negative loss (eqb (m % 2) 1) → moved ≡ false → m ≡ kept mode negative loss m
 kept_stayed mode negative loss m moved e t = ap (λ (b : Bool). cond b (m + 1) m) (sym t ∙ e)
 
+-- the significand that is kept, at its place, is picked
 pub pick_stays : (precision : ℕ) (mode : Round) (negative : Bool) (half m c amount parts : ℕ) (loss : Loss) (s : ℕ)
     → s ≡ kept mode negative loss m → 0 < parts → IsEnclosed precision half m c amount parts
     → StandsFor m loss amount (2 ^ c * parts) → IsPick precision mode negative amount parts (s * 2 ^ c)
@@ -33,6 +36,7 @@ pick_stays precision mode negative half m c amount parts loss s e p i h =
     subst (λ (x : ℕ). IsPick precision mode negative amount parts (x * 2 ^ c)) (sym e)
     (pick_is precision mode negative half m c amount parts loss p i h)
 
+-- a significand that becomes a power of two is picked as half of it, one place up
 pub pick_carries : (precision : ℕ) (mode : Round) (negative : Bool) (m c amount parts : ℕ) (loss : Loss)
     (s whole half : ℕ) → 0 < precision → s ≡ kept mode negative loss m → s ≡ whole → whole ≡ 2 ^ precision
     → half ≡ 2 ^ (precision - 1) → 0 < parts
@@ -54,6 +58,7 @@ ltb_times a b u p =
     (λ (h : b ≤ a). le-ltb a b h ∙ sym (le-ltb (a * u) (b * u) (mul-le-mul_right u h)))
     (cases_lt a b)
 
+-- at the last place, a point is past the largest value where its significand is past the greatest one
 pub past_same : (s place greatest span : ℕ) → place ≡ span
     → ltb greatest s ≡ ltb (greatest * 2 ^ span) (s * 2 ^ place)
 past_same s place greatest span e =
@@ -68,6 +73,7 @@ past_above half s place greatest span g (inr f) l =
     let p : 0 < 2 ^ span = pow_pos span in
     omega arith
 
+-- at another place, where the place is past the last one
 pub past_other : (precision s place greatest span : ℕ) → 0 < precision → s < 2 ^ precision
     → (place ≡ 0) ⊎ (2 ^ (precision - 1) ≤ s) → greatest < 2 ^ precision → 2 ^ (precision - 1) ≤ greatest
     → (place ≡ span → ⊥) → ltb span place ≡ ltb (greatest * 2 ^ span) (s * 2 ^ place)

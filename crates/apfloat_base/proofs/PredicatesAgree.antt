@@ -15,6 +15,7 @@ use Rattle.apfloat_base.specs.arithmetic.Exact.{same_sign}
 use Rattle.apfloat_base.specs.order.Classes.{is_finite, is_infinite, is_nan, is_negative, is_zero, is_denormal, is_normal, is_finite_non_zero, is_smallest, is_smallest_normalized, is_largest, quanta_of, same_datum, category_of, is_nan_category, is_number_category}
 use Rattle.apfloat_base.specs.order.Order.{compared, min_num, max_num, minimum, maximum}
 use Rattle.apfloat_base.specs.order.Predicates.{is_finite_category, is_infinite_category, is_zero_category, min_by, max_by, minimum_by, maximum_by, signed_like}
+use Rattle.apfloat_base.proofs.Choices.{same_sign_is, same_sign_self}
 
 zero_or_not : (b : Bool) → is_zero_category (if b then Zero else Normal) ≡ b
 zero_or_not true = refl
@@ -73,6 +74,7 @@ at_least n m h =
     (λ (l : m ≤ n). rw (lt-ltb 0 n (omega (arith, h, l)), le-ltb n m l, le-leb m n l) refl)
     (cases_lt n m)
 
+-- a number that is not denormal is normal
 pub normal_agrees : (format : Format) (x : Datum)
     → (is_number_category (category_of x) && not (is_denormal format x)) ≡ is_normal format x
 normal_agrees format (finite b n) = rw (number_or_not n)
@@ -80,19 +82,15 @@ normal_agrees format (finite b n) = rw (number_or_not n)
 normal_agrees format (infinite b) = refl
 normal_agrees format (nan b s) = refl
 
+-- the lesser by order, with a NaN left out
 pub min_agrees : (x y : Datum) → min_by category_of compared x y ≡ min_num x y
 min_agrees x y = rw (nan_agrees x, nan_agrees y) refl
 
+-- the greater by order, with a NaN left out
 pub max_agrees : (x y : Datum) → max_by category_of compared x y ≡ max_num x y
 max_agrees x y = rw (nan_agrees x, nan_agrees y) refl
 
 -- zeros of one sign are one datum, so that it plays no part which of them is the answer
-
-pub same_sign_is : (a b : Bool) → same_sign a b ≡ true → a ≡ b
-same_sign_is true true e = refl
-same_sign_is true false e = cc
-same_sign_is false true e = cc
-same_sign_is false false e = refl
 
 one_zero : (x y : Datum) → is_zero x ≡ true → is_zero y ≡ true → same_sign (is_negative x) (is_negative y) ≡ true
     → x ≡ y
@@ -131,12 +129,14 @@ no_nan true m x y p q h = refl
 no_nan false true x y p q h = refl
 no_nan false false x y p q h = h refl refl
 
+-- the lesser by order, with -0 below +0 and NaNs kept
 pub minimum_agrees : (x y : Datum) → minimum_by category_of is_negative compared x y ≡ minimum x y
 minimum_agrees x y =
     rw (nan_agrees x, nan_agrees y, zero_agrees x, zero_agrees y) (no_nan (is_nan x) (is_nan y) x y _ _ (λ n m.
     rw (n, m) (chosen (is_zero x) (is_zero y) (same_sign (is_negative x) (is_negative y)) _ _
     (λ e f s. lesser_zero x y (partial_lt compared y x) e f s))))
 
+-- the greater by order, with -0 below +0 and NaNs kept
 pub maximum_agrees : (x y : Datum) → maximum_by category_of is_negative compared x y ≡ maximum x y
 maximum_agrees x y =
     rw (nan_agrees x, nan_agrees y, zero_agrees x, zero_agrees y) (no_nan (is_nan x) (is_nan y) x y _ _ (λ n m.
@@ -144,10 +144,6 @@ maximum_agrees x y =
     (λ e f s. greater_zero x y (partial_lt compared x y) e f s))))
 
 -- a named magnitude that is not zero, with the sign of the value
-
-pub same_sign_self : (b : Bool) → same_sign b b ≡ true
-same_sign_self true = refl
-same_sign_self false = refl
 
 turned_number : (kind : NonfiniteBehavior) (b : Bool) (m : ℕ) → 0 < m
     → signed_like is_negative (negated kind) (finite false m) (finite b m) ≡ finite b m
@@ -159,6 +155,7 @@ sign_alone : (kind : NonfiniteBehavior) (m : ℕ) (x y : Datum) → is_negative 
     ≡ signed_like is_negative (negated kind) (finite false m) y
 sign_alone kind m x y e = rw e refl
 
+-- a datum is the number m with its own sign where it is finite and has m quanta
 pub magnitude_agrees : (kind : NonfiniteBehavior) (m : ℕ) (x : Datum) → 0 < m
     → same_datum x (signed_like is_negative (negated kind) (finite false m) x)
     ≡ (is_finite x && eqb (quanta_of x) m)

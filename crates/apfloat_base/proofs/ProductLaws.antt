@@ -36,6 +36,7 @@ opposite_numbers format mode b c (suc m) n value status l h x y =
     subst (λ (left : Datum). IsProduct format (swapped mode) left (finite c n) (negated format.nonfinite value) status)
     (sym (negated_some format.nonfinite b m)) d
 
+-- the product with one factor negated, in the swapped mode, is the negated product
 pub opposite_product : (format : Format) (mode : Round) (x y value : Datum) (status : ℕ) → 0 < largest format
     → IsProduct format mode x y value status → IsOpposite format mode x y value status
 opposite_product format mode (nan b s) y value status l h p q = absurd (false≢true p)

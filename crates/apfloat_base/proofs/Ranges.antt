@@ -53,6 +53,7 @@ one_within format precise =
     let p : 2 ^ 2 ≤ 2 ^ (format.precision - 1) = pow-le-pow_right two_pos d in
     low_within format 1 precise (omega (arith, p))
 
+-- the least number with all digits is within the largest value
 pub half_within : (format : Format) → 3 ≤ format.precision → 2 ^ (format.precision - 1) * 1 ≤ largest format
 half_within format precise =
     let t : 2 * 2 ^ (format.precision - 1) ≡ 2 ^ format.precision = twice_half format.precision (omega arith) in

@@ -103,6 +103,7 @@ module _ (precision : ℕ) (mode : Round) (negative : Bool) (m c amount parts : 
     is = refl;
   }
 
+-- a rounding is proved by the enclosing significand, and by the value and the status that follow from it
 pub rounded : {format : Format} {mode : Round} {negative : Bool} {amount parts : ℕ} {value : Datum} {status : ℕ}
     (m c : ℕ) → encloses format.precision m c amount parts ≡ true
     → value ≡ delivered_value format mode negative (picked mode negative m c amount parts)

@@ -19,11 +19,13 @@ swapped_back TowardNegative = refl
 swapped_back TowardZero = refl
 swapped_back NearestTiesToAway = refl
 
+-- a number from 0 up is taken in as the unsigned one
 pub signed_above : (format : Format) (mode : Round) (n : ℕ) (v : Datum) (s : ℕ) → IsFromUnsigned format mode n v s
     → IsFromSigned format mode (pos n) v s
 signed_above format mode zero v s h = h
 signed_above format mode (suc n) v s h = rw (magnitude_signed false (suc n)) h
 
+-- a negative number is taken in as its magnitude in the swapped mode, negated
 pub signed_below : (format : Format) (mode : Round) (n : ℕ) (v : Datum) (s : ℕ) → 0 < largest format → 0 < n
     → IsFromUnsigned format (swapped mode) n v s
     → IsFromSigned format mode (neg_ℤ (pos n)) (negated format.nonfinite v) s

@@ -13,12 +13,14 @@ pub no_sign : (b : Bool) → signed b 0 ≡ pos 0
 no_sign true = refl
 no_sign false = refl
 
+-- a number made of a sign and a magnitude that is not 0 has that sign
 pub sign_signed : (of_zero negative : Bool) (n : ℕ) → 0 < n → sign_of of_zero (signed negative n) ≡ negative
 sign_signed of_zero true zero p = absurd (omega arith)
 sign_signed of_zero false zero p = absurd (omega arith)
 sign_signed of_zero true (suc n) p = refl
 sign_signed of_zero false (suc n) p = refl
 
+-- and that magnitude
 pub magnitude_signed : (negative : Bool) (n : ℕ) → magnitude (signed negative n) ≡ n
 magnitude_signed true n = omega (arith, ints)
 magnitude_signed false n = omega (arith, ints)
@@ -47,6 +49,7 @@ one_side (negsuc n) = inl refl
 
 -- ---- a number that is not zero is delivered as its sign and magnitude
 
+-- the rounding of a magnitude is that of the signed number
 pub rounded_signed : (format : Format) (mode : Round) (of_zero s : Bool) (m parts : ℕ) (z : ℤ) (value : Datum)
     (status : ℕ) → z ≡ signed s m → 0 < m → IsDelivered format mode s m parts value status
     → IsRounded format mode of_zero z parts value status

@@ -12,6 +12,7 @@ use Rattle.apfloat_base.proofs.Existence.{two_pos}
 use Rattle.apfloat_base.proofs.Powers.{pow3}
 use Rattle.apfloat_base.proofs.FarMagnitudes.{IsFarAbove, IsFarBelow, far_above, far_below}
 
+-- two fractions are equal where their places add up alike
 pub scaled_stands : (s a di ui uj dj u d : ℕ) → a * 2 ^ di ≡ s * 2 ^ ui → ui + uj + d ≡ di + dj + u
     → a * 2 ^ uj * 2 ^ d ≡ s * (2 ^ dj * 2 ^ u)
 scaled_stands s a di ui uj dj u d h e =
@@ -31,6 +32,7 @@ balanced_scaling : (digits scale : ℕ) (min_exp x j r : ℤ) → pos scale ≡ 
     → up (x -ℤ min_exp) + up j + down (r +ℤ pos scale) ≡ down (x -ℤ min_exp) + down j + up (r +ℤ pos scale)
 balanced_scaling digits scale min_exp x j r k e = omega (arith, ints)
 
+-- a number times a power of two, in quanta: by its significand and its exponent from the last digit
 pub scaled_is : (digits scale : ℕ) (min_exp x j r : ℤ) (s a : ℕ) → pos scale ≡ pos digits -ℤ min_exp
     → r ≡ ((x +ℤ j) -ℤ pos digits)
     → a * 2 ^ down (x -ℤ min_exp) ≡ s * 2 ^ up (x -ℤ min_exp)
@@ -46,6 +48,7 @@ balanced_conversion : (digits scale digits' scale' : ℕ) (min min' x r : ℤ) �
     → up (x -ℤ min) + scale' + down (r +ℤ pos scale') ≡ down (x -ℤ min) + scale + up (r +ℤ pos scale')
 balanced_conversion digits scale digits' scale' min min' x r k k' e = omega (arith, ints)
 
+-- a number in quanta of another format: by its significand and its exponent from the last digit
 pub converted_is : (digits scale digits' scale' : ℕ) (min min' x r : ℤ) (s a : ℕ) → pos scale ≡ pos digits -ℤ min
     → pos scale' ≡ pos digits' -ℤ min' → r ≡ (x -ℤ pos digits)
     → a * 2 ^ down (x -ℤ min) ≡ s * 2 ^ up (x -ℤ min)
@@ -99,14 +102,17 @@ far_down a k bound u d h b l m z = record {
       rw e (omega (arith, p, q, b));
 }
 
+-- the part of an exponent above 0 is within its bound
 pub up_le : (z : ℤ) (n : ℕ) → z ≤ℤ pos n → up z ≤ n
 up_le (pos k) n h = let l : k ≤ n = omega (arith, ints) in l
 up_le (negsuc k) n h = let l : 0 ≤ n = omega arith in l
 
+-- an exponent far above 0 has its part above 0 far, and none below
 pub up_far : (j : ℤ) (bound : ℕ) → pos bound ≤ℤ j → (bound ≤ up j) × (down j ≡ 0)
 up_far (pos k) bound h = let l : bound ≤ k = omega (arith, ints) in (l, refl)
 up_far (negsuc k) bound h = absurd (omega (arith, ints))
 
+-- an exponent far below 0 has its part below 0 far, and none above
 pub down_far : (j : ℤ) (bound : ℕ) → j ≤ℤ neg_ℤ (pos bound) → (bound ≤ down j) × (up j ≡ 0)
 down_far (pos k) bound h =
     let l : bound ≤ 0 = omega (arith, ints) in

@@ -60,6 +60,7 @@ swap_sides : (A B : Type 0) → A ⊎ B → B ⊎ A
 swap_sides A B (inl a) = inr a
 swap_sides A B (inr b) = inl b
 
+-- the difference of two grid numbers within a factor of two is on the grid
 pub close_on_grid : (precision m n d : ℕ) → IsOnGrid precision m → IsOnGrid precision n → (m ≡ n + d) ⊎ (n ≡ m + d)
     → m ≤ 2 * n → n ≤ 2 * m → IsOnGrid precision d
 close_on_grid precision m n d x y e a b =
@@ -122,6 +123,7 @@ exactly kind of_zero (negsuc n) v s h e =
       status_is = e;
     }
 
+-- the difference of two numbers within a factor of two is exact
 pub nearby_numbers : (format : Format) (mode : Round) (of_zero : Bool) (m n : ℕ) (v : Datum) (s : ℕ)
     → IsFiniteOf format false m → IsFiniteOf format false n → m ≤ 2 * n → n ≤ 2 * m
     → IsRounded format mode of_zero (pos m -ℤ pos n) 1 v s → IsExactly (pos m -ℤ pos n) v s
@@ -276,6 +278,7 @@ grows_at format mode s t x y v w i j e (zeros b c) d g =
     let q = zero_is format mode c w j e g in
     rw (p, q) (zeros_ordered b c)
 
+-- a greater sum is not rounded to a lesser value
 pub sum_grows : (format : Format) (mode : Round) (of_zero of_other : Bool) (a b : ℤ) (v w : Datum) (i j : ℕ)
     → format.nonfinite ≡ IEEE754 → a ≤ℤ b → IsRounded format mode of_zero a 1 v i
     → IsRounded format mode of_other b 1 w j

@@ -16,6 +16,7 @@ use Rattle.apfloat_base.proofs.KeptDigits.{stands_times}
 
 -- ---- more units, and fewer
 
+-- whole units added to an amount are added to its significand
 pub stands_more : (q high : ℕ) (loss : Loss) (amount unit : ℕ) → StandsFor q loss amount unit
     → StandsFor (high + q) loss (high * unit + amount) unit
 stands_more q high ExactlyZero amount unit h = omega (arith, h)
@@ -58,10 +59,12 @@ zero_stands MoreThanHalf unit q p h = let a = h.0 in absurd (omega (arith, a))
 
 -- ---- signs
 
+-- magnitudes of one sign are added
 pub like_signs : (s : Bool) (a b : ℕ) → signed s (a + b) ≡ (signed s a +ℤ signed s b)
 like_signs true a b = omega (arith, ints)
 like_signs false a b = omega (arith, ints)
 
+-- of two signs, the difference of the magnitudes has the sign of the greater one
 pub unlike_signs : (s t flipped : Bool) (a b n : ℕ) → (s ≡ t → ⊥) → Balances flipped n a b
     → signed (cond flipped t s) n ≡ (signed s a +ℤ signed t b)
 unlike_signs true true flipped a b n d h = absurd (d refl)
@@ -86,6 +89,7 @@ pub no_down : (z : ℤ) → pos 0 ≤ℤ z → down z ≡ 0
 no_down (pos n) h = refl
 no_down (negsuc n) h = absurd (omega (arith, ints))
 
+-- a number with an exponent greater by k has 2 ^ k times as many units
 pub raised : (base e h : ℤ) (k : ℕ) → base ≤ℤ e → (e +ℤ pos k) ≡ h
     → (base ≤ℤ h) × (2 ^ up (h -ℤ base) ≡ 2 ^ k * 2 ^ up (e -ℤ base))
 raised base e h k l q =
@@ -97,6 +101,7 @@ raised base e h k l q =
 
 -- ---- the two sums
 
+-- the sum of two terms of one sign
 pub together_stands : (base eh el : ℤ) (s t : Bool) (mh ml gap q : ℕ) (loss : Loss) → base ≤ℤ el
     → (el +ℤ pos gap) ≡ eh → s ≡ t → StandsFor q loss (mh * 2 ^ gap + ml) (2 ^ gap)
     → StandsForSigned base (counted base s eh mh +ℤ counted base t el ml) s eh q loss
@@ -119,6 +124,7 @@ balances_times : (flipped : Bool) (n a b w : ℕ) → Balances flipped n a b →
 balances_times true n a b w h = ap (λ (x : ℕ). x * w) h ∙ omega arith
 balances_times false n a b w h = ap (λ (x : ℕ). x * w) h ∙ omega arith
 
+-- the sum of two terms of different signs, from the difference of their magnitudes
 pub apart_stands : (base eh el er : ℤ) (s t flipped : Bool) (mh ml gap q : ℕ) (loss : Loss) → base ≤ℤ el
     → (el +ℤ pos gap) ≡ eh → (el +ℤ pos (gap - 1)) ≡ er → (s ≡ t → ⊥)
     → IsApart (mh * 2 ^ gap) ml flipped q loss (2 ^ (gap - 1))
@@ -159,6 +165,7 @@ exact_difference flipped n a b unit loss z h = record {
   stands = subst (λ (x : Loss). StandsFor n x (n * unit) unit) (sym z) refl;
 }
 
+-- the difference of two magnitudes with one exponent
 pub level_difference : (flipped : Bool) (n high low gap : ℕ) (loss : Loss) → gap ≡ 0 → loss ≡ ExactlyZero
     → Balances flipped n high low → IsApart (high * 2 ^ gap) low flipped n loss (2 ^ (gap - 1))
 level_difference flipped n high low gap loss z e h =
@@ -180,6 +187,7 @@ cut_alone s q k loss f =
     let d : 2 ^ k * 1 ≡ 2 ^ k = omega arith in
     subst (λ (x : ℕ). StandsFor q loss s x) d (f s 1 (omega arith) e)
 
+-- where nothing of the finer one was lost
 pub even_difference : (flipped : Bool) (n q high low gap : ℕ) (lost loss : Loss) → 0 < gap → lost ≡ ExactlyZero
     → loss ≡ ExactlyZero → StandsFor q lost low (2 ^ (gap - 1)) → Balances flipped n (high * 2) q
     → IsApart (high * 2 ^ gap) low flipped n loss (2 ^ (gap - 1))
@@ -192,6 +200,7 @@ even_difference flipped n q high low gap lost loss p z e h b =
     exact_difference flipped n (high * 2 ^ gap) low (2 ^ (gap - 1)) loss e
     (subst (λ (x : ℕ). Balances flipped (n * 2 ^ (gap - 1)) (high * 2 ^ gap) x) (sym h') b₁)
 
+-- where something of the finer one was lost, one unit is borrowed
 pub borrowed_difference : (q high low gap : ℕ) (lost loss : Loss) → 0 < gap → (lost ≡ ExactlyZero → ⊥)
     → q < high * 2 → StandsFor q lost low (2 ^ (gap - 1))
     → ((quotient left amount rest unit : ℕ) → (lost ≡ ExactlyZero → ⊥) → StandsFor quotient lost amount unit
@@ -214,6 +223,7 @@ borrowed_difference q high low gap lost loss p n l h f =
       stands = f q (high * 2 - q - 1) low (high * 2 ^ gap - low) (2 ^ (gap - 1)) n h (r ∙ sym w');
     }
 
+-- where the finer one is the greater
 pub reversed_difference : (q high low gap : ℕ) (lost : Loss) → 0 < gap → high * 2 ≤ q
     → StandsFor q lost low (2 ^ (gap - 1)) → IsApart (high * 2 ^ gap) low true (q - high * 2) lost (2 ^ (gap - 1))
 reversed_difference q high low gap lost p l h =
@@ -243,6 +253,7 @@ lossy_small q (suc k) low half loss n h l =
 
 -- ---- exponents and signs of the answer
 
+-- the exponent of a difference, by those of its terms
 pub exponent_is : (eh el er : ℤ) (gap : ℕ) → (el +ℤ pos gap) ≡ eh → (gap ≡ 0 → er ≡ eh)
     → (0 < gap → (er +ℤ pos 1) ≡ eh) → (el +ℤ pos (gap - 1)) ≡ er
 exponent_is eh el er gap e f g =
@@ -251,6 +262,7 @@ exponent_is eh el er gap e f g =
     (λ (p : gap ≤ 0). let z : gap ≡ 0 = omega arith in let h : er ≡ eh = f z in omega (arith, ints))
     (cases_lt 0 gap)
 
+-- a sum in the other order, where a zero may have either sign
 pub resigned : (base a b : ℤ) (n t : Bool) (e : ℤ) (q : ℕ) (loss : Loss)
     → (n ≡ t) ⊎ ((q ≡ 0) × (loss ≡ ExactlyZero)) → StandsForSigned base (a +ℤ b) n e q loss
     → StandsForSigned base (b +ℤ a) t e q loss

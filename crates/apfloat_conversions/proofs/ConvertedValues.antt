@@ -33,6 +33,7 @@ number_converted from into mode x value status loses_info t h =
     let p = quanta_some from x.significand x.exponent t in
     rw (ne_eqb (quanta_at from.min_exp x.significand x.exponent) 0 (λ z. omega (arith, z, p))) h
 
+-- a number is converted as its quanta say
 pub of_number : (from into : Shape) (mode : Round) (category : Category) (x : Unpacked) (value : Datum) (status : ℕ)
     (loses_info : Bool) → category ≡ Normal → IsStoredBy category from x
     → IsConvertedNumber (format_at from) (format_at into) mode x.negative
@@ -42,6 +43,7 @@ of_number from into mode category x value status loses_info e t h =
     subst (λ (o : Category). IsStoredBy o from x → Says from into mode o x value status loses_info) (sym e)
     (λ t. number_converted from into mode x value status loses_info t h) t
 
+-- a zero keeps its sign where the format has both
 pub of_zero : (from into : Shape) (mode : Round) (category : Category) (x : Unpacked) (value : Datum) (status : ℕ)
     (loses_info : Bool) → category ≡ Zero
     → IsKept (finite (zero_sign into.nonfinite x.negative) 0) (loses_zero_sign (format_at into) x.negative) value
@@ -52,6 +54,7 @@ of_zero from into mode category x value status loses_info e h =
 
 -- ---- NaNs
 
+-- the significand of a NaN has no more digits than the precision
 pub nan_fits : (kind : NonfiniteBehavior) (explicit : Bool) (precision s : ℕ) → 3 ≤ precision
     → IsNanSignificand kind explicit precision s → s < 2 ^ precision
 nan_fits IEEE754 false precision s l h =

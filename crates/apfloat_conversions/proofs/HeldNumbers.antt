@@ -1,4 +1,4 @@
--- Numbers of a shape in another that has them all.
+-- Numbers of a shape in another that has them: all of its numbers, or those of one exponent.
 use Rattle.std.proofs.Common.{◌≡◌, ℕ, zero, suc, ◌+◌, ◌-◌, ◌*◌, ◌%◌, ◌^◌, ◌<◌, ◌≤◌, Bool, false, ℤ, ◌-ℤ◌, sym, refl, ap, ◌∙◌, ⊎_elim, arith}
 use Rattle.std.proofs.Math.Nat.{mul-le-mul_right, mul-pos, pow-le-pow_right, mod-eq_of_lt, eq_of_mul-eq-mul_right}
 use Rattle.std.proofs.lemmas.Nat.{pow-add, pow_pos}
@@ -92,6 +92,7 @@ held_quanta source target m e from into h n =
     (target.precision - source.precision) (up (e -ℤ target.min_exp)) (down (e -ℤ target.min_exp)) n.whole b in
     omega (arith, q)
 
+-- a number moved up by the digits that the other shape has more is stored as it wants it
 held_normal : (source target : Shape) (m : ℕ) (e : ℤ) → IsShape source → IsShape target → IsHeld source target
     → IsNormalAt source m e
     → IsNormalAt target (m * 2 ^ (target.precision - source.precision)) e
@@ -118,7 +119,7 @@ held_normal source target m e from into h n =
           (held_within source target (quanta_at source.min_exp m e) from into h n.within);
     }
 
--- a number of another shape whose exponent lies inside
+-- so is one whose exponent lies inside the other shape
 inside_quanta : (source target : Shape) (m : ℕ) (e : ℤ) → IsInside source target e
     → IsQuantaAt target.min_exp (m * 2 ^ (target.precision - source.precision)) e
     (m * 2 ^ (target.precision - source.precision) * 2 ^ up (e -ℤ target.min_exp))
@@ -165,6 +166,7 @@ inside_normal source target m e from into h n =
           (inside_within source target m e from into h n.operand.fits);
     }
 
+-- either way it is stored as the other shape wants it
 pub normal_there : (source target : Shape) (m : ℕ) (e : ℤ) → IsShape source → IsShape target
     → IsHeldAt source target e → IsNormalAt source m e
     → IsNormalAt target (m * 2 ^ (target.precision - source.precision)) e
@@ -186,10 +188,12 @@ same_quanta m a b f g k d u d' u' h h' e =
     let t : m * 2 ^ k * 2 ^ u' * 2 ^ f ≡ m * (2 ^ f * 2 ^ (k + u')) = rw (pow-add 2 k u') (omega arith) in
     eq_of_mul-eq-mul_right (2 ^ d') (pow_pos d') (a * 2 ^ g) (b * 2 ^ f) (l ∙ sym (q ∙ r ∙ t))
 
+-- and it is not zero there either
 some_there : (a b f g : ℕ) → 0 < a → a * 2 ^ g ≡ b * 2 ^ f → 0 < b
 some_there a zero f g p e = let q : 0 < a * 2 ^ g = mul-pos p (pow_pos g) in omega arith
 some_there a (suc b) f g p e = omega arith
 
+-- it stands for so many quanta more, or less, as the quantum is finer, or coarser
 pub same_there : (source target : Shape) (m : ℕ) (e : ℤ) → IsShape source → IsShape target
     → source.precision ≤ target.precision → IsNormalAt source m e
     → IsNormalAt target (m * 2 ^ (target.precision - source.precision)) e
@@ -214,6 +218,7 @@ held_shift s t m p q f =
 
 -- ---- its conversion rounds nothing
 
+-- so that the conversion has no flag
 pub same_converted : (f g : Format) (mode : Round) (negative : Bool) (a b : ℕ) (v : Datum) (status : ℕ) → 0 < a
     → a * 2 ^ g.scale ≡ b * 2 ^ f.scale → v ≡ finite negative b → IsFiniteOf g negative b → status ≡ ok_bits
     → IsConvertedNumber f g mode negative a v status false

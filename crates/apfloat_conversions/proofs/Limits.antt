@@ -11,6 +11,7 @@ use Rattle.apfloat_base.specs.arithmetic.Exact.{signed}
 use Rattle.apfloat_base.specs.whole_numbers.WholeNumbers.{whole_pick, whole_quanta, inexact_unless}
 use Rattle.apfloat_base.specs.whole_numbers.WholeNumbersOut.{IsToUnsigned, ranged, exact_or_not}
 
+-- a word shifted to so many digits has them all set
 pub greatest_is : (width : ℕ) → width ≤ 128 → (2 ^ 128 - 1) / 2 ^ (128 - width) ≡ 2 ^ width - 1
 greatest_is width h =
     let e : width + (128 - width) ≡ 128 = omega arith in
@@ -54,6 +55,7 @@ no_zero true false = refl
 no_zero false true = refl
 no_zero false false = refl
 
+-- a number in range is given as it is
 pub ranged_in : (width : ℕ) (b : Bool) (mag : ℕ) (exact : Bool) → mag ≤ limit width b
     → ranged (pos 0) (pos (2 ^ width - 1)) (signed b mag) (exact_or_not (signed b mag) exact (b && false))
     ≡ record { number = pos mag; status = inexact_unless exact; is_exact = exact }
@@ -63,6 +65,7 @@ ranged_in width b mag exact h =
     less_not (pos (2 ^ width - 1)) (pos mag) (limit_high b width mag h) in
     rw (signed_in b width mag h, low, high, no_zero b exact) refl
 
+-- and is the answer
 pub in_range : (format : Format) (mode : Round) (width : ℕ) (b : Bool) (n mag st : ℕ) (exact : Bool) → 0 < n
     → mag ≡ whole_pick mode b n (2 ^ format.scale) → exact ≡ eqb (whole_quanta format mode b n) n → mag ≤ limit width b
     → st ≡ inexact_unless exact
@@ -72,6 +75,7 @@ in_range format mode width b n mag st exact p i x h t =
     let r = ranged_in width b mag exact h in
     rw (z, ← x, ← i, r) (record { number_is = refl; status_is = t; is_exact_is = refl })
 
+-- one out of range is replaced by the end of the range
 pub ranged_out : (width : ℕ) (b : Bool) (mag : ℕ) (exact : Bool) → limit width b < mag
     → ranged (pos 0) (pos (2 ^ width - 1)) (signed b mag) (exact_or_not (signed b mag) exact (b && false))
     ≡ record { number = pos (limit width b); status = 1; is_exact = false }
@@ -84,6 +88,7 @@ ranged_out width false mag exact h =
     less_so (pos (2 ^ width - 1)) (pos mag) (omega (arith, ints, h)) in
     rw (low, high) refl
 
+-- and the answer is that end, with INVALID_OP
 pub out_of_range : (format : Format) (mode : Round) (width : ℕ) (b : Bool) (n number st : ℕ) (exact : Bool) → 0 < n
     → limit width b < whole_pick mode b n (2 ^ format.scale) → number ≡ limit width b → st ≡ 1 → exact ≡ false
     → IsToUnsigned format mode width (finite b n) number st exact

@@ -21,9 +21,11 @@ use Rattle.apfloat_conversions.proofs.Wholes.{up_of}
 
 -- ---- one step at the last place
 
+-- a step of one quantum, or of one unit of the last digit
 pub stepped : (s a u d : ℕ) → a * 2 ^ d ≡ s * 2 ^ u → (a + 2 ^ u) * 2 ^ d ≡ (s + 2 ^ d) * 2 ^ u
 stepped s a u d h = omega arith
 
+-- and the same step down
 pub stepped_down : (s a u d : ℕ) → 2 ^ d ≤ s → a * 2 ^ d ≡ s * 2 ^ u → (a - 2 ^ u) * 2 ^ d ≡ (s - 2 ^ d) * 2 ^ u
 stepped_down s a u d l h =
     let k : 2 ^ d * 2 ^ u ≤ s * 2 ^ u = mul-le-mul_right (2 ^ u) l in
@@ -76,6 +78,7 @@ above_at p half m c a e f g h =
           omega arith;
     }
 
+-- one step up from a number with all digits is the neighbour above
 pub next_is : (p s a u d : ℕ) → 0 < p → (u ≡ 0) ⊎ (d ≡ 0) → s < 2 ^ p → 2 ^ (p - 1) ≤ s → a * 2 ^ d ≡ s * 2 ^ u
     → IsAbove p (a + 2 ^ u) (a + 1) 1
 next_is p s a u d q (inr z) f g h =
@@ -99,6 +102,7 @@ below_at p half m c a e f g h =
     record { double = e; fits = f; full = g; from = omega arith; to = omega arith } in
     subst (λ (x : ℕ). IsBelow p x (a - 1) 1) n (below_is p half m c (a - 1) 1 i)
 
+-- one step down is the neighbour below
 pub less_is : (p s a u d : ℕ) → 0 < p → (u ≡ 0) ⊎ (d ≡ 0) → s ≤ 2 ^ p → 2 ^ (p - 1) < s → a * 2 ^ d ≡ s * 2 ^ u
     → IsBelow p (a - 2 ^ u) (a - 1) 1
 less_is p s a u d q (inr z) f g h =
@@ -120,6 +124,7 @@ less_is p s a u d q (inl z) f g h =
 
 -- ---- the same number by half or twice the significand
 
+-- half of a significand, one exponent higher, is the same number
 pub quanta_halved : (min_exp x : ℤ) (s h n : ℕ) → s ≡ 2 * h → IsQuantaAt min_exp s x n
     → IsQuantaAt min_exp h (x +ℤ pos 1) n
 quanta_halved min_exp x s h n e q =
@@ -129,6 +134,7 @@ quanta_halved min_exp x s h n e q =
     ap (λ (z : ℕ). z * (2 ^ 0 * 2 ^ up ((x +ℤ pos 1) -ℤ min_exp))) e in
     omega (arith, g, k)
 
+-- and twice of it, one exponent lower
 pub quanta_doubled : (min_exp x : ℤ) (s h n : ℕ) → s ≡ 2 * h → IsQuantaAt min_exp h x n
     → IsQuantaAt min_exp s (x -ℤ pos 1) n
 quanta_doubled min_exp x s h n e q =
@@ -150,6 +156,7 @@ pub down_le : (z : ℤ) (n : ℕ) → neg_ℤ (pos n) ≤ℤ z → down z ≤ n
 down_le (pos k) n h = let l : 0 ≤ n = omega arith in l
 down_le (negsuc k) n h = let l : k + 1 ≤ n = omega (arith, ints) in omega (arith, l)
 
+-- an exponent of the format is less than the precision below the least one
 pub operand_down : (precision : ℕ) (min_exp max_exp x : ℤ) → 3 ≤ precision
     → ((min_exp +ℤ pos 1) -ℤ pos precision) ≤ℤ x → down (x -ℤ min_exp) ≤ precision - 1
 operand_down precision min_exp max_exp x t l = down_le (x -ℤ min_exp) (precision - 1) (omega (arith, ints))
@@ -201,11 +208,13 @@ largest_on_grid format h =
       is = refl;
     }
 
+-- the neighbour above a number below the largest is within it
 pub next_within : (format : Format) (a next : ℕ) → 0 < format.precision → a < largest format
     → IsAbove format.precision next (a + 1) 1
     → next ≤ largest format
 next_within format a next h b i = i.least (largest format) (largest_on_grid format h) (omega arith)
 
+-- there is room for a step in the word
 pub step_room : (p s d : ℕ) → p ≤ 125 → s < 2 ^ p → d ≤ p - 1 → s + 2 ^ d < 2 ^ 128
 step_room p s d h f l =
     let l' : d ≤ 125 = omega arith in
@@ -215,10 +224,12 @@ step_room p s d h f l =
 
 -- ---- the answers
 
+-- a step that keeps the count of digits keeps the exponent
 pub stays_operand : (p : ℕ) (min max x : ℤ) (s t : ℕ) → IsOperandAt p min max s x → t < 2 ^ p → 2 ^ (p - 1) ≤ t
     → IsOperandAt p min max t x
 stays_operand p min max x s t o f g = record { fits = f; full = g; least = o.least; greatest = o.greatest }
 
+-- one that carries has half of the significand, one exponent higher
 pub carries_operand : (p : ℕ) (min max x y : ℤ) (s t : ℕ) → 0 < p → IsOperandAt p min max s x → t ≡ 2 ^ (p - 1)
     → y ≡ (x +ℤ pos 1) → (x +ℤ pos 1) ≤ℤ max → IsOperandAt p min max t y
 carries_operand p min max x y s t q o e i r =
@@ -233,6 +244,7 @@ carries_operand p min max x y s t q o e i r =
           omega (arith, ints, r, i);
     }
 
+-- and is the same number
 pub carried_quanta : (p : ℕ) (min x y : ℤ) (s t n : ℕ) → 0 < p → s ≡ 2 ^ p → t ≡ 2 ^ (p - 1) → y ≡ (x +ℤ pos 1)
     → IsQuantaAt min s x n → IsQuantaAt min t y n
 carried_quanta p min x y s t n q e i j h =
@@ -250,6 +262,7 @@ stepped_down_by s a u d t e l h = stepped_down s a u d l h ∙ ap (λ (x : ℕ).
 pub step_small : (p d : ℕ) → d ≤ p → 2 ^ d ≤ 2 ^ p
 step_small p d l = pow-le-pow_right two_pos l
 
+-- a step below a power of two starts from twice of it, one exponent lower
 pub lowered_quanta : (p : ℕ) (min x y : ℤ) (s t n : ℕ) → 0 < p → s ≡ 2 ^ (p - 1) → t ≡ 2 ^ p → y ≡ (x -ℤ pos 1)
     → IsQuantaAt min s x n → IsQuantaAt min t y n
 lowered_quanta p min x y s t n q e i j h =
@@ -276,6 +289,7 @@ least_less p min x s a t e f h =
     let r : a - 1 ≡ 0 = omega (arith, k) in
     subst (λ (z : ℕ). IsBelow p 0 z 1) (sym r) (zero_below p)
 
+-- and leaves a number with all digits
 pub lowered_operand : (p : ℕ) (min max x y : ℤ) (s t w d : ℕ) → 0 < p → IsOperandAt p min max s x → t ≡ 2 ^ p
     → w ≡ 2 ^ d → d ≤ p - 1 → y ≡ (x -ℤ pos 1) → ((min +ℤ pos 1) -ℤ pos p) ≤ℤ y → IsOperandAt p min max (t - w) y
 lowered_operand p min max x y s t w d q o e i j r l =
@@ -307,6 +321,7 @@ logarithm_high p s a k u d e f h =
     let r : a * 2 ^ d < 2 ^ k * 2 ^ d = omega (arith, w, g, h) in
     lt_of_mul-lt-mul_right (2 ^ d) r
 
+-- the exponent of a number with all digits is its logarithm
 pub logarithm_is : (format : Format) (p : ℕ) (min max x : ℤ) (s a : ℕ) → 3 ≤ p → pos format.scale ≡ pos (p - 1) -ℤ min
     → IsOperandAt p min max s x → IsQuantaAt min s x a → IsLogarithm format a x
 logarithm_is format p min max x s a t z o h =
@@ -322,17 +337,20 @@ logarithm_is format p min max x s a t z o h =
       is = omega (arith, ints, q);
     }
 
+-- its significand with exponent -1 is a number of the format
 pub fraction_operand : (p : ℕ) (min max x : ℤ) (s : ℕ) → 3 ≤ p → min ≤ℤ negsuc 0 → pos p ≤ℤ max
     → IsOperandAt p min max s x → IsOperandAt p min max s (negsuc 0)
 fraction_operand p min max x s t b w o =
     record { fits = o.fits; full = o.full; least = omega (arith, ints, t, b); greatest = omega (arith, ints, t, w) }
 
+-- with no digit lost
 pub fraction_quanta : (min : ℤ) (s : ℕ) → min ≤ℤ negsuc 0 → IsQuantaAt min s (negsuc 0) (s * 2 ^ up (negsuc 0 -ℤ min))
 fraction_quanta min s b =
     let w = up_far (negsuc 0 -ℤ min) 0 (omega (arith, ints, b)) in
     let e : 2 ^ down (negsuc 0 -ℤ min) ≡ 1 = ap (λ (x : ℕ). 2 ^ x) w.1 in
     ap (λ (x : ℕ). s * 2 ^ up (negsuc 0 -ℤ min) * x) e ∙ omega arith
 
+-- and times the power of two of its exponent it is the number
 pub fraction_same : (min x y : ℤ) (s a : ℕ) → min ≤ℤ negsuc 0 → y ≡ (x +ℤ pos 1) → IsQuantaAt min s x a
     → a * 2 ^ down y ≡ s * 2 ^ up (negsuc 0 -ℤ min) * 2 ^ up y
 fraction_same min x y s a b e h =
@@ -342,6 +360,7 @@ fraction_same min x y s a b e h =
     (omega (arith, ints, e, w₁)) in
     omega (arith, g)
 
+-- a number with exponent -1 lies in [1/2, 1)
 pub fraction_low : (format : Format) (a : ℕ) (logarithm : IsLogarithm format a (negsuc 0))
     → (2 ^ (format.scale - 1) ≤ a) × (a < 2 ^ format.scale)
 fraction_low format a logarithm =

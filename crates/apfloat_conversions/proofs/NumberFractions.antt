@@ -14,6 +14,7 @@ use Rattle.apfloat_conversions.proofs.Nexts.{logarithm_is, fraction_operand, fra
 abbrev pub fraction_at : Shape → ℕ → ℕ
 fraction_at s m = m * 2 ^ up (negsuc 0 -ℤ s.min_exp)
 
+-- it lies in [1/2, 1)
 pub fraction_size : (shape : Shape) (m : ℕ) (e : ℤ) → IsShape shape → IsNormalAt shape m e
     → (2 ^ ((format_at shape).scale - 1) ≤ fraction_at shape m) × (fraction_at shape m < 2 ^ (format_at shape).scale)
 fraction_size shape m e law n =
@@ -26,6 +27,7 @@ fraction_size shape m e law n =
     law.precision_low
     (scale_is shape law) o q)
 
+-- and is stored as the format wants it
 pub fraction_number : (shape : Shape) (m : ℕ) (e : ℤ) → IsShape shape → IsNormalAt shape m e → IsNormalAt shape m (negsuc 0)
 fraction_number shape m e law n =
     let o = fraction_operand shape.precision shape.min_exp shape.max_exp e m law.precision_low law.min_exp_high

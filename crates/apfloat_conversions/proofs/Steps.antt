@@ -35,6 +35,7 @@ step_fits shape m t e law n i =
     subst (λ (x : ℕ). m + x < 2 ^ 128) (sym i)
     (step_room shape.precision m (down (e -ℤ shape.min_exp)) law.precision_high n.operand.fits l)
 
+-- a step is no greater than the number
 pub step_below : (shape : Shape) (m t : ℕ) (e : ℤ) → IsShape shape
     → ((shape.min_exp +ℤ pos 1) -ℤ pos shape.precision) ≤ℤ e
     → 2 ^ (shape.precision - 1) ≤ m → t ≡ 2 ^ down (e -ℤ shape.min_exp) → t ≤ m
@@ -60,6 +61,7 @@ above_of shape m e law n =
     (some shape law)
     (one_side (e -ℤ shape.min_exp)) n.operand.fits n.operand.full n.whole
 
+-- the neighbour above, where no digit is added
 pub after_stays : (shape : Shape) (m t : ℕ) (e : ℤ) → IsShape shape → IsNormalAt shape m e
     → t ≡ 2 ^ down (e -ℤ shape.min_exp)
     → m + t < 2 ^ shape.precision → IsAfter shape (quanta_at shape.min_exp m e) (m + t) e
@@ -73,6 +75,7 @@ after_stays shape m t e law n i f =
           (down (e -ℤ shape.min_exp)) t i n.whole;
     }
 
+-- where one is added, it is a power of two
 pub after_carries : (shape : Shape) (m t w : ℕ) (e r : ℤ) → IsShape shape → IsNormalAt shape m e
     → quanta_at shape.min_exp m e < largest (format_at shape) → t ≡ 2 ^ down (e -ℤ shape.min_exp)
     → 2 ^ shape.precision ≤ m + t
@@ -97,12 +100,14 @@ after_carries shape m t w e r law n b i h j k =
       quanta = carried_quanta shape.precision shape.min_exp e r (m + t) w (a + 2 ^ up (e -ℤ shape.min_exp)) p y j k q;
     }
 
+-- it is stored as the format wants it
 pub after_stored : (shape : Shape) (n m : ℕ) (e : ℤ) → IsShape shape → n < largest (format_at shape)
     → IsAfter shape n m e
     → IsNormalAt shape m e
 after_stored shape n m e law b h =
     number_of shape m e h.next h.operand h.quanta (next_within (format_at shape) n h.next (some shape law) b h.is_above)
 
+-- and is what the model asks for
 pub after_is : (shape : Shape) (n m : ℕ) (e : ℤ) → IsAfter shape n m e
     → IsNextGreater (format_at shape) n (finite false (quanta_at shape.min_exp m e)) 0
 after_is shape n m e h =
@@ -118,6 +123,7 @@ pub record IsBefore (shape : Shape) (n m : ℕ) (e : ℤ) : Type 0 where
   pub operand : IsOperandAt shape.precision shape.min_exp shape.max_exp m e
   pub quanta : IsQuantaAt shape.min_exp m e next
 
+-- the neighbour below, where no digit is lost
 pub before_stays : (shape : Shape) (m t : ℕ) (e : ℤ) → IsShape shape → IsNormalAt shape m e
     → t ≡ 2 ^ down (e -ℤ shape.min_exp)
     → 2 ^ (shape.precision - 1) < m → IsBefore shape (quanta_at shape.min_exp m e) (m - t) e
@@ -139,6 +145,7 @@ before_stays shape m t e law n i h =
       quanta = stepped_down_by m a (up (e -ℤ shape.min_exp)) (down (e -ℤ shape.min_exp)) t i (omega (arith, k)) n.whole;
     }
 
+-- below a power of two the step is half as large
 pub before_lowers : (shape : Shape) (m w t : ℕ) (e r : ℤ) → IsShape shape → IsNormalAt shape m e
     → m ≡ 2 ^ (shape.precision - 1)
     → w ≡ 2 ^ shape.precision → r ≡ (e -ℤ pos 1) → ((shape.min_exp +ℤ pos 1) -ℤ pos shape.precision) ≤ℤ r
@@ -164,12 +171,14 @@ before_lowers shape m w t e r law n i j k low h =
           (down (r -ℤ shape.min_exp)) t h (omega (arith, y, j, z, o)) q;
     }
 
+-- it is stored as the format wants it
 pub before_stored : (shape : Shape) (n m : ℕ) (e : ℤ) → n ≤ largest (format_at shape) → IsBefore shape n m e
     → IsNormalAt shape m e
 before_stored shape n m e b h =
     let l = h.is_below.not_above in
     number_of shape m e h.next h.operand h.quanta (omega (arith, l, b))
 
+-- and is what the model asks for
 pub before_is : (shape : Shape) (n m : ℕ) (e : ℤ) → n ≤ largest (format_at shape) → IsBefore shape n m e
     → IsNextLess (format_at shape) n (finite true (quanta_at shape.min_exp m e)) 0
 before_is shape n m e b h =
@@ -183,6 +192,7 @@ before_is shape n m e b h =
           record { value_is = sym (signed_some shape.nonfinite true h.next p); status_is = refl };
     })
 
+-- below the least number stands the zero
 pub before_least : (shape : Shape) (m : ℕ) (e : ℤ) → IsShape shape → IsNormalAt shape m e → m ≡ 2 ^ (shape.precision - 1)
     → e ≡ ((shape.min_exp +ℤ pos 1) -ℤ pos shape.precision)
     → IsNextLess (format_at shape) (quanta_at shape.min_exp m e) (finite (zero_sign shape.nonfinite true) 0) 0
@@ -204,6 +214,7 @@ same_multiple m g w p =
     (λ (e : m ≡ g → ⊥). ne_eqb m g e ∙ sym (ne_eqb (m * w) (g * w) (λ h. e (eq_of_mul-eq-mul_right w p m g h))))
     (cases_eq m g)
 
+-- at the greatest exponent a number is the largest where its significand is the greatest
 pub largest_at_top : (shape : Shape) (m g : ℕ) (e : ℤ) → IsShape shape → IsNormalAt shape m e → e ≡ shape.max_exp
     → g ≡ greatest_significand shape.nonfinite shape.precision
     → eqb m g ≡ eqb (quanta_at shape.min_exp m e) (largest (format_at shape))
@@ -222,6 +233,7 @@ largest_at_top shape m g e law n i k =
     d ∙ f ∙ ap (λ (z : ℕ). eqb z (largest (format_at shape)))
     (sym (quanta_is shape.min_exp m e (m * 2 ^ (format_at shape).span) q))
 
+-- below the greatest exponent no number is the largest
 pub below_top : (shape : Shape) (m : ℕ) (e : ℤ) → IsShape shape → IsNormalAt shape m e → (e ≡ shape.max_exp → ⊥)
     → false ≡ eqb (quanta_at shape.min_exp m e) (largest (format_at shape))
 below_top shape m e law n h =

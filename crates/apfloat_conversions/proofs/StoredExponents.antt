@@ -25,6 +25,7 @@ use Rattle.apfloat_conversions.proofs.Wholes.{up_of, places_up, places_down}
 
 -- ---- the number as a fraction, by the exponent of its last digit
 
+-- a number without fraction, by its significand and its exponent from the last digit
 pub whole_places : (shape : Shape) (m : ℕ) (e r : ℤ) → IsShape shape → IsNormalAt shape m e
     → r ≡ (to_z w32 (of_z w32 e) -ℤ pos (shape.precision - 1)) → pos 0 ≤ℤ r
     → quanta_at shape.min_exp m e ≡ m * 2 ^ up r * 2 ^ (format_at shape).scale
@@ -34,6 +35,7 @@ whole_places shape m e r law n v l =
     places_up (shape.precision - 1) (format_at shape).scale shape.min_exp e r m (quanta_at shape.min_exp m e) (up r)
     (scale_is shape law) v' (omega (arith, ints, k)) n.whole
 
+-- a number with a fraction, likewise
 pub fraction_places : (shape : Shape) (m k : ℕ) (e r : ℤ) → IsShape shape → IsNormalAt shape m e
     → r ≡ (to_z w32 (of_z w32 e) -ℤ pos (shape.precision - 1)) → pos k ≡ (pos 0 -ℤ r)
     → quanta_at shape.min_exp m e * 2 ^ k ≡ m * 2 ^ (format_at shape).scale
@@ -51,6 +53,7 @@ DeliversOf s mode negative m r v st =
     → StandsFor m ExactlyZero (amount * 2 ^ down (r +ℤ pos (format_at s).scale))
     (parts * 2 ^ up (r +ℤ pos (format_at s).scale)) → IsDelivered (format_at s) mode negative amount parts v st
 
+-- a number times a power of two is delivered with the clamped exponent
 pub scale_delivered : (shape : Shape) (m : ℕ) (e j near r : ℤ) (mode : Round) (negative : Bool) (v : Datum) (st : ℕ)
     → IsShape shape → IsNormalAt shape m e → IsClamped scaling_bound j near → r ≡ ((e +ℤ near) -ℤ pos (shape.precision - 1))
     → DeliversOf shape mode negative m r v st
@@ -87,6 +90,7 @@ half_within shape m k law h l =
     mul-le-mul_left (greatest_significand shape.nonfinite shape.precision) b in
     omega (arith, a, c)
 
+-- the scale of a shape is less than its span
 pub scale_in_span : (shape : Shape) → IsShape shape → (format_at shape).scale + 1 ≤ (format_at shape).span
 scale_in_span shape law =
     let a = scale_is shape law in
@@ -107,6 +111,7 @@ number_of shape m e n o q l =
 
 -- ---- a zero times a power of two
 
+-- a zero times a power of two is that zero
 pub zero_scaled : (format : Format) (mode : Round) (negative : Bool) (j : ℤ)
     → negative ≡ zero_sign format.nonfinite negative
     → IsScaling format mode (finite negative 0) j (finite negative 0)

@@ -26,6 +26,7 @@ use Rattle.apfloat_conversions.proofs.Wholes.{whole_exactly}
 
 -- ---- of a value without a minus sign: one binary digit less
 
+-- of a number without minus sign, with one digit less
 pub to_signed_above : (format : Format) (mode : Round) (width : ℕ) (x : Datum) (number st : ℕ) (exact : Bool)
     → is_negative x ≡ false → IsToUnsigned format mode (width - 1) x number st exact
     → IsToSigned format mode width x (pos number) st exact
@@ -52,6 +53,7 @@ takes_swapped TowardNegative x y odd = refl
 takes_swapped TowardZero x y odd = refl
 takes_swapped NearestTiesToAway x y odd = refl
 
+-- the swapped mode picks the same magnitude below zero
 pub pick_swapped : (mode : Round) (n p : ℕ) → whole_pick (swapped mode) false n p ≡ whole_pick mode true n p
 pick_swapped mode n p =
     ap (λ (b : Bool). cond (eqb (n % p) 0) (n / p) (cond b (n / p + 1) (n / p))) (takes_swapped mode _ _ _)
@@ -177,6 +179,7 @@ minus_number format mode width n number st exact value status is_exact z w h g =
     (r.0 ∙ i.status_is) (r.1.1 ∙ and-true exact ∙ i.is_exact_is))
     (cases_lt (2 ^ (width - 1)) (whole_pick mode true n (2 ^ format.scale)))
 
+-- of a number with a minus sign, by the swapped mode, negated
 pub to_signed_below : (format : Format) (mode : Round) (width : ℕ) (x : Datum) (number st : ℕ) (exact : Bool)
     (value : ℤ)
     (status : ℕ) (is_exact : Bool) → is_negative x ≡ true → 2 ≤ width

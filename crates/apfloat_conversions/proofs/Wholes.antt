@@ -45,6 +45,7 @@ between_is mode negative q amount parts loss n h =
     (whole_odd q)
     ∙ ap (λ (b : Bool). cond b (q + 1) q) (takes_at mode negative (eqb (q % 2) 1) q amount parts loss n h)
 
+-- a whole amount is picked itself
 pub whole_exactly : (mode : Round) (negative : Bool) (q amount parts : ℕ) → 0 < parts → amount ≡ q * parts
     → whole_pick mode negative amount parts ≡ q
 whole_exactly mode negative q amount parts p e =
@@ -53,6 +54,7 @@ whole_exactly mode negative q amount parts p e =
     let d : amount / parts ≡ q = ap (λ (x : ℕ). x / parts) e ∙ mul-div_cancel q p in
     rw z d
 
+-- of another one what the mode keeps of its whole part
 pub whole_inexactly : (mode : Round) (negative : Bool) (q amount parts : ℕ) (loss : Loss) → 0 < parts
     → (loss ≡ ExactlyZero → ⊥) → StandsFor q loss amount parts
     → whole_pick mode negative amount parts ≡ kept mode negative loss q
@@ -71,12 +73,14 @@ whole_inexactly mode negative q amount parts loss p n h =
     between_is mode negative q amount parts loss n h in
     rw z w
 
+-- a whole amount is told to be exact
 pub exactly_so : (mode : Round) (negative : Bool) (q amount parts : ℕ) → 0 < parts → amount ≡ q * parts
     → true ≡ eqb (whole_pick mode negative amount parts * parts) amount
 exactly_so mode negative q amount parts p e =
     let w = whole_exactly mode negative q amount parts p e in
     sym (eq-eqb (whole_pick mode negative amount parts * parts) amount (ap (λ (x : ℕ). x * parts) w ∙ sym e))
 
+-- and another one is not
 pub inexactly_so : (mode : Round) (negative : Bool) (q amount parts : ℕ) (loss : Loss) → 0 < parts
     → (loss ≡ ExactlyZero → ⊥) → StandsFor q loss amount parts
     → false ≡ eqb (whole_pick mode negative amount parts * parts) amount
@@ -89,6 +93,7 @@ inexactly_so mode negative q amount parts loss p n h =
 
 -- ---- by cases of what was lost
 
+-- the number that is picked, by what was lost
 pub whole_at : (mode : Round) (negative : Bool) (q amount parts : ℕ) (loss : Loss) → 0 < parts
     → StandsFor q loss amount parts → whole_pick mode negative amount parts ≡ kept mode negative loss q
 whole_at mode negative q amount parts ExactlyZero p h = whole_exactly mode negative q amount parts p h
@@ -99,6 +104,7 @@ whole_at mode negative q amount parts ExactlyHalf p h =
 whole_at mode negative q amount parts MoreThanHalf p h =
     whole_inexactly mode negative q amount parts MoreThanHalf p (λ e. cc) h
 
+-- and whether it is exact
 pub exact_at : (mode : Round) (negative : Bool) (q amount parts : ℕ) (loss : Loss) (b : Bool) → 0 < parts
     → StandsFor q loss amount parts → (b ≡ true → loss ≡ ExactlyZero) → (b ≡ false → loss ≡ ExactlyZero → ⊥)
     → b ≡ eqb (whole_pick mode negative amount parts * parts) amount
@@ -127,6 +133,7 @@ places_down digits scale min_exp x r s a k z e f h =
     (omega (arith, ints, z, e, f)) in
     omega (arith, g)
 
+-- a number with an exponent from the last digit of at least 0 is whole
 pub places_up : (digits scale : ℕ) (min_exp x r : ℤ) (s a k : ℕ) → pos scale ≡ pos digits -ℤ min_exp
     → r ≡ (x -ℤ pos digits) → pos k ≡ (r -ℤ pos 0) → a * 2 ^ down (x -ℤ min_exp) ≡ s * 2 ^ up (x -ℤ min_exp)
     → a ≡ s * 2 ^ k * 2 ^ scale
@@ -146,6 +153,7 @@ shifted_past digits s k f h =
     let b : 2 ^ 128 ≤ 2 ^ (digits + k) = pow-le-pow_right two_pos h in
     omega (arith, e, a, b)
 
+-- a whole number of so many digits fits the word
 pub shifted_within : (precision s k : ℕ) → s < 2 ^ precision → precision + k ≤ 128 → s * 2 ^ k < 2 ^ 128
 shifted_within precision s k f h =
     let e : 2 ^ (precision + k) ≡ 2 ^ precision * 2 ^ k = pow-add 2 precision k in
@@ -186,6 +194,7 @@ whole_fits p s k mag q f l h =
 
 -- ---- a number rounded to a whole number
 
+-- a number rounded to a whole one, by its magnitude
 pub integral_picked : (format : Format) (mode : Round) (b : Bool) (n mag : ℕ) (exact : Bool) (v : Datum) (st : ℕ)
     → mag ≡ whole_pick mode b n (2 ^ format.scale) → exact ≡ eqb (whole_quanta format mode b n) n
     → v ≡ signed_quanta format.nonfinite b (mag * 2 ^ format.scale) → st ≡ inexact_unless exact
@@ -195,6 +204,7 @@ integral_picked format mode b n mag exact v st i x w t = record {
   status_is = t ∙ ap (λ (k : Bool). inexact_unless k) x;
 }
 
+-- a whole number stays as it is
 pub integral_stays : (format : Format) (mode : Round) (b : Bool) (n q : ℕ) → 0 < n → n ≡ q * 2 ^ format.scale
     → IsRoundToIntegral format mode (finite b n) (finite b n) 0
 integral_stays format mode b n q p e =
@@ -205,6 +215,7 @@ integral_stays format mode b n q p e =
 
 -- ---- toward zero a whole number stays, and no other does
 
+-- toward zero, a number is exact where no rest is left
 pub whole_toward_zero : (negative : Bool) (amount parts : ℕ) → 0 < parts
     → eqb (whole_pick TowardZero negative amount parts * parts) amount ≡ eqb (amount % parts) 0
 whole_toward_zero negative amount parts p =
@@ -219,5 +230,6 @@ whole_toward_zero negative amount parts p =
     rw z (ne_eqb (amount / parts * parts) amount (λ q. e (omega (arith, m, q)))))
     (cases_eq (amount % parts) 0)
 
+-- of a whole amount no rest is left
 pub whole_multiple : (q amount parts : ℕ) → amount ≡ q * parts → true ≡ eqb (amount % parts) 0
 whole_multiple q amount parts e = sym (eq-eqb (amount % parts) 0 (ap (λ (x : ℕ). x % parts) e ∙ mul-mod_left q parts))

@@ -32,6 +32,7 @@ by_category : (b t : Bool) (x : Pair) → ((a : Bool) → a ≡ t → IsDenormal
 by_category true t x f = f t refl
 by_category false t x f = refl
 
+-- what the function says meets the relation
 pub is_denormal_is : (x : Pair) → IsDenormalPair x (is_denormal_pair x)
 is_denormal_is x =
     let n = nearest_sum_is x.high x.low in
@@ -39,5 +40,6 @@ is_denormal_is x =
     (is_denormal double x.high || not (is_equal x.high (nearest_sum x.high x.low))) x
     (λ a e. record { sum = nearest_sum x.high x.low; status = n.0; is_sum = n.1; is = e })
 
+-- and what meets the relation is what the function says
 pub is_denormal_at : (x : Pair) (answer : Bool) → IsDenormalPair x answer → is_denormal_pair x ≡ answer
 is_denormal_at x answer d = pair_denormal_once x (is_denormal_pair x) answer (is_denormal_is x) d

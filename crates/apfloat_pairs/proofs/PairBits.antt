@@ -80,6 +80,7 @@ lower_fields bits =
     same_fields _ _ _ _ _ _ (ap (λ (i : ℕ). eqb i 1) (field-mod bits 0 1 63)) (field-mod bits 1 11 52)
     (mod-mod bits 12 52)
 
+-- a double is read from the lower 64 bits alone
 pub lower_bits : (bits : ℕ) → double_of (bits % 2 ^ 64) ≡ double_of bits
 lower_bits bits =
     ap (λ (x : Fields). datum_of_fields double (layout_with double_constants) x) (lower_fields bits)
@@ -92,6 +93,7 @@ pair_of_halves bits x h l =
 
 -- ---- the encoding of a pair
 
+-- the bits of the low part above those of the high part are bits of the pair
 pub pair_encoded : (h l : ℕ) (x : Pair) → IsDoubleEncodedBy h x.high → IsDoubleEncodedBy l x.low
     → IsPairEncodedBy (h + 2 ^ 64 * l) x
 pair_encoded h l x a b = record {
@@ -100,6 +102,7 @@ pair_encoded h l x a b = record {
   low = subst (λ (i : ℕ). IsDoubleEncodedBy i x.low) (sym (upper_half 64 h l a.below)) b;
 }
 
+-- also where they are joined by or
 pub pair_encoded_by_or : (h l : ℕ) (x : Pair) → IsDoubleEncodedBy h x.high → IsDoubleEncodedBy l x.low
     → IsPairEncodedBy (bit_or h (l * 2 ^ 64 % 2 ^ 128)) x
 pair_encoded_by_or h l x a b =

@@ -159,6 +159,7 @@ some_rest b m high low status p f s =
     (small_rest b m n s.is_wide r) d s.low_is in
     subst (λ (i : Datum). low ≡ left_over (finite b m) i) (sym e) z
 
+-- the steps leave what the model calls left over
 pub rest_by_steps : (x high low : Datum) (status : ℕ) → is_finite_non_zero high ≡ true
     → IsRestBySteps x high low status → low ≡ left_over x high
 rest_by_steps (finite b zero) high low status f s =
@@ -176,6 +177,7 @@ rest_by_steps (nan b q) high low status f s =
 abbrev pub has_rest : Datum → ℕ → Bool
 has_rest high status = is_finite_non_zero high && not (eqb status ok_bits)
 
+-- a split whose low part is what the steps leave
 pub split_with_rest : (x : Datum) (answer : Pair) (status : ℕ) → is_finite_non_zero answer.high ≡ true
     → eqb status ok_bits ≡ false → IsRestBySteps x answer.high answer.low status → IsSplit x answer
 split_with_rest x answer status f e s =
@@ -187,6 +189,7 @@ split_with_rest x answer status f e s =
       low_is = rw (f, e) l;
     }
 
+-- a split with nothing left over
 pub split_alone : (x : Datum) (answer : Pair) (status : ℕ) (loses_info : Bool)
     → IsConversion wide double NearestTiesToEven x answer.high status loses_info
     → has_rest answer.high status ≡ false → answer.low ≡ positive_zero → IsSplit x answer

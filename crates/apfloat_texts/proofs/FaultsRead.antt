@@ -27,6 +27,7 @@ fault_free : (rest tail : List ℕ) (significand : ℕ) (loss : Loss) (cut place
     → behind_prefix_fault rest ≡ None
 fault_free rest tail significand loss cut places some n s f = rw (n, s.one_dot, s.empty_is, s.tail_is) f
 
+-- the number behind the prefix, where no fault was found
 pub literal_read : (shape : Shape) (mode : Round) (negative : Bool) (rest tail : List ℕ) (significand : ℕ)
     (loss : Loss) (cut places : ℕ) (some : Bool) (answer : StatusAnd Unpacked)
     → is_empty rest ≡ false → IsScanned rest tail significand loss cut places some → fault_behind some tail ≡ None

@@ -16,6 +16,7 @@ even cut p =
     let e : 4 * cut ≡ 1 + (4 * cut - 1) = omega arith in
     ap (λ (k : ℕ). 2 ^ k) e ∙ pow-add 2 1 (4 * cut - 1)
 
+-- one more digit is cut off, where some are already
 pub with_next_cut : (number significand digit cut : ℕ) (loss after : Loss) → 0 < cut → 2 ^ 124 ≤ significand
     → IsKept number significand loss cut
     → ((half : ℕ) → 0 < half → StandsFor significand loss number (2 * half)
@@ -33,6 +34,7 @@ with_next_cut number significand digit cut loss after p full k step =
       full = inr full;
     }
 
+-- the first digit is cut off
 pub with_first_cut : (number significand digit cut : ℕ) (loss after : Loss) → cut ≡ 0 → 2 ^ 124 ≤ significand
     → IsKept number significand loss cut
     → ((quotient amount unit : ℕ) → 0 < unit → StandsFor (quotient * (2 * 8) + digit) ExactlyZero amount unit

@@ -25,6 +25,7 @@ last_of c d ys =
     let e : length (c ∷ d ∷ ys) - 1 ≡ length (d ∷ ys) = omega arith in
     ap (λ (n : ℕ). get_or (c ∷ d ∷ ys) n 0) e
 
+-- a text in parentheses is what stands inside
 pub within : (xs : List ℕ) → 2 ≤ length xs → get_or xs 0 0 ≡ 40 → get_or xs (length xs - 1) 0 ≡ 41
     → payload_of xs ≡ plain_payload (inside xs)
 within [] h p q = absurd (omega (arith, h))
@@ -33,6 +34,7 @@ within (c ∷ d ∷ ys) h p q =
     let l : get_or (d ∷ ys) (length ys) 0 ≡ 41 = sym (last_of c d ys) ∙ q in
     cond-true _ _ _ (by_ends c d ys ∙ rw (eq-eqb c 40 p, eq-eqb (get_or (d ∷ ys) (length ys) 0) 41 l) refl)
 
+-- without the first one it is plain
 pub without_start : (xs : List ℕ) → 2 ≤ length xs → (get_or xs 0 0 ≡ 40 → ⊥) → payload_of xs ≡ plain_payload xs
 without_start [] h p = absurd (omega (arith, h))
 without_start (c ∷ []) h p = absurd (omega (arith, h))
@@ -40,6 +42,7 @@ without_start (c ∷ d ∷ ys) h p =
     cond-false _ _ _
     (by_ends c d ys ∙ ap (λ (b : Bool). b && eqb (get_or (d ∷ ys) (length ys) 0) 41) (ne_eqb c 40 p))
 
+-- without the last one it is plain
 pub without_end : (xs : List ℕ) → 2 ≤ length xs → (get_or xs (length xs - 1) 0 ≡ 41 → ⊥)
     → payload_of xs ≡ plain_payload xs
 without_end [] h p = absurd (omega (arith, h))
@@ -49,6 +52,7 @@ without_end (c ∷ d ∷ ys) h p =
     (by_ends c d ys ∙
     and_right (eqb c 40) _ (ne_eqb (get_or (d ∷ ys) (length ys) 0) 41 (λ e. p (last_of c d ys ∙ e))))
 
+-- and so is one too short for both
 pub too_short : (xs : List ℕ) → 1 ≤ length xs → length xs < 2 → payload_of xs ≡ plain_payload xs
 too_short [] h l = absurd (omega (arith, h))
 too_short (c ∷ []) h l = cond-false _ _ _ (and_right (eqb c 40) false refl)

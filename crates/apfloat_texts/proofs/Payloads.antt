@@ -50,10 +50,12 @@ goes radix n c m digits true true p q e =
 
 -- ---- all of them
 
+-- a character that is no digit, or one too many, leaves no payload
 pub payload_stops : (radix : Radix) (digits left : List ℕ) (n c : ℕ) → IsPayloadRead radix digits (c ∷ left) n
     → next radix n c ≡ None → payload_of_digits radix digits ≡ None
 payload_stops radix digits left n c i e = i.read ∙ stops radix n c left _ _ refl refl e
 
+-- another one is read
 pub payload_goes : (radix : Radix) (digits left : List ℕ) (n c m : ℕ) → IsPayloadRead radix digits (c ∷ left) n
     → next radix n c ≡ Some m → IsPayloadRead radix digits left m
 payload_goes radix digits left n c m i e =

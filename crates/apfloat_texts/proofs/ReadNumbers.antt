@@ -117,6 +117,7 @@ stands_at number s k scale loss unit h =
     ap (λ (x : ℕ). 2 ^ x) (balanced k scale unit) ∙ pow-add 2 (down p) (up u) in
     rw (b, c) at a
 
+-- a rounding of the kept digits, with a clamped exponent, is that of the number
 pub number_delivered : (format : Format) (mode : Round) (negative : Bool) (number s cut places : ℕ) (loss : Loss)
     (exact unit : ℤ) (v : Datum) (status : ℕ)
     → IsBounded format → 0 < s → s < 2 ^ 128 → IsKept number s loss cut
@@ -138,6 +139,7 @@ number_delivered format mode negative number s cut places loss exact unit v stat
 
 -- ---- nothing
 
+-- digits that are all 0 stand for 0
 pub nothing_read : (number cut : ℕ) (loss : Loss) → IsKept number 0 loss cut → number ≡ 0
 nothing_read number cut loss k =
     ⊎_elim
@@ -148,6 +150,7 @@ nothing_read number cut loss k =
     (λ (l : 2 ^ 124 ≤ 0). absurd (omega (arith, l)))
     k.full
 
+-- and then the zero of the sign is delivered
 pub zero_delivered : (format : Format) (mode : Round) (negative : Bool) (number s cut : ℕ) (loss : Loss) (power : ℤ)
     (v : Datum) (status : ℕ) → s ≡ 0 → IsKept number s loss cut
     → v ≡ finite (zero_sign format.nonfinite negative) 0 → status ≡ 0
@@ -158,6 +161,7 @@ zero_delivered format mode negative number s cut loss power v status z k e o =
 
 -- ---- for the kernel
 
+-- a number that lost digits keeps at least as many as a format has
 pub fine_digits : {A : Type 0} (precision number s cut : ℕ) (loss : Loss) → precision ≤ 125
     → IsKept number s loss cut → (loss ≡ ExactlyZero) ⊎ (A ⊎ (2 ^ (precision - 1) ≤ s))
 fine_digits precision number s cut loss p k =

@@ -5,6 +5,7 @@ use Rattle.apfloat_base.specs.rounding.Bounds.{text_bound}
 use Rattle.apfloat_base.specs.texts.Digits.{is_decimal, digit_value}
 use Rattle.apfloat_texts.specs.Saturation.{IsSaturated, IsNear, IsCounted}
 
+-- one more decimal digit is counted
 pub count_goes : (digits left : List ℕ) (c counted after : ℕ) → is_decimal c ≡ true
     → ((exact : ℕ) → IsSaturated exact counted → IsSaturated (exact * 10 + digit_value c) after) → after < 2 ^ 100
     → IsCounted digits (c ∷ left) counted → IsCounted digits left after

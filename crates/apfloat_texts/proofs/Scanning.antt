@@ -39,6 +39,7 @@ refused_by (Err y) e P Q is q = subst Q (sym is) q
 
 -- ---- a scan as it is made anew
 
+-- a scan made anew of its parts says the same
 pub scan_remade : (rest left : List ℕ) (next made : Scan) → made ≡ next
     → IsScan rest left next.digits.significand next.digits.loss next.digits.cut next.places next.pointed next.some
     → IsScan rest left made.digits.significand made.digits.loss made.digits.cut made.places made.pointed made.some
@@ -68,6 +69,7 @@ only_not : (b : Bool) → (not b && true) ≡ not b
 only_not true = refl
 only_not false = refl
 
+-- a scan that reaches no further digit or dot is that of the significand
 pub scan_ended : (rest left : List ℕ) (significand : ℕ) (loss : Loss) (cut places : ℕ) (pointed some : Bool)
     → IsScan rest left significand loss cut places pointed some → begins is_digit_or_dot left ≡ false
     → IsScanned rest left significand loss cut places some

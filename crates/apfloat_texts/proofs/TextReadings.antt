@@ -30,6 +30,7 @@ means_special text negative Infinity e = e
 means_special text negative (Quiet payload) e = e
 means_special text negative (Signaling payload) e = e
 
+-- an infinity or a NaN, as the text means it
 pub special_read : (shape : Shape) (mode : Round) (text : List ℕ) (negative : Bool) (special : Special)
     (value : Unpacked) (answer : StatusAnd Unpacked)
     → special_of text ≡ Some (meaning_of negative special) → IsStored shape value
@@ -92,6 +93,7 @@ text_of_literal shape mode text answer l r =
       };
     }
 
+-- a number, or the first fault behind the prefix
 pub literal_text : (shape : Shape) (mode : Round) (text rest : List ℕ) (negative : Bool)
     (result : Result (StatusAnd Unpacked) Fault)
     → is_empty text ≡ false → is_empty (behind_mark text) ≡ false → begins_literal (behind_mark text) ≡ true

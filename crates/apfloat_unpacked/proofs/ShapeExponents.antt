@@ -11,13 +11,16 @@ pub scale_is : (shape : Shape) → IsShape shape
     → pos (format_at shape).scale ≡ pos (shape.precision - 1) -ℤ shape.min_exp
 scale_is shape law = omega (arith, ints, law.precision_low, law.min_exp_high)
 
+-- the span is that from the least to the greatest exponent
 pub span_is : (shape : Shape) → IsShape shape → pos (format_at shape).span ≡ shape.max_exp -ℤ shape.min_exp
 span_is shape law = omega (arith, ints, law)
 
+-- the least exponent is a number of its type
 pub min_exp_word : (shape : Shape) → IsShape shape → to_z w32 (of_z w32 shape.min_exp) ≡ shape.min_exp
 min_exp_word shape law =
     to_z-of_z w32 shape.min_exp (fits_in w32 shape.min_exp (omega (arith, ints, law.min_exp_low, law.min_exp_high)))
 
+-- and so is the greatest one
 pub max_exp_word : (shape : Shape) → IsShape shape → to_z w32 (of_z w32 shape.max_exp) ≡ shape.max_exp
 max_exp_word shape law =
     to_z-of_z w32 shape.max_exp (fits_in w32 shape.max_exp (omega (arith, ints, law.max_exp_low, law.max_exp_high)))

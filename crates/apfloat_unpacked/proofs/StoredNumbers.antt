@@ -88,11 +88,13 @@ moved_quanta shape m digits place w e h =
     (down (e -ℤ shape.min_exp)) w (sym h.moved)
     h.same)
 
+-- a significand that was moved up stands for the same number of quanta
 pub moved_up_quanta : (shape : Shape) (m digits place w : ℕ) (e : ℤ) → IsMovedUp shape m digits place w e
     → quanta_at shape.min_exp w e ≡ m * 2 ^ place
 moved_up_quanta shape m digits place w e h = quanta_is shape.min_exp w e (m * 2 ^ place)
     (moved_quanta shape m digits place w e h)
 
+-- and is stored as the format wants it
 pub moved_up_normal : (shape : Shape) (m digits place w : ℕ) (e : ℤ) → IsShape shape
     → IsMovedUp shape m digits place w e
     → IsNormalAt shape w e
@@ -116,6 +118,7 @@ below_zero z (suc d) e = rw (← e) (refl, refl)
 pub above_zero : (z : ℤ) (j : ℕ) → pos j ≡ z → (up z ≡ j) × (down z ≡ 0)
 above_zero z j e = rw (← e) (refl, refl)
 
+-- below the least exponent the count of quanta is the significand cut
 pub quanta_low : (shape : Shape) (m : ℕ) (e : ℤ) (d : ℕ) → pos d ≡ shape.min_exp -ℤ e
     → quanta_at shape.min_exp m e ≡ m / 2 ^ d
 unfolding quanta_at
@@ -124,6 +127,7 @@ quanta_low shape m e d p =
     let b : m * 1 ≡ m = omega arith in
     rw (a.0, a.1, b) refl
 
+-- and is below that of numbers with all digits
 pub quanta_low_below : (shape : Shape) (m : ℕ) (e : ℤ) (d : ℕ) → IsNormalAt shape m e → 3 ≤ shape.precision
     → pos d ≡ shape.min_exp -ℤ e → 1 ≤ d → quanta_at shape.min_exp m e < 2 ^ (shape.precision - 1)
 quanta_low_below shape m e d n p k h =
@@ -138,6 +142,7 @@ quanta_low_below shape m e d n p k h =
     let f = n.operand.fits in
     omega arith
 
+-- from the least exponent up it is the significand moved up
 pub quanta_high : (shape : Shape) (m : ℕ) (e : ℤ) (j : ℕ) → pos j ≡ e -ℤ shape.min_exp
     → quanta_at shape.min_exp m e ≡ m * 2 ^ j
 unfolding quanta_at

@@ -19,6 +19,7 @@ pub record IsNamedTo (status : ℕ) (table : List (List ℕ × ℕ)) (place : �
   pub separator_is : separator ≡ bar_after (raised_names status (take place table))
   pub written : Appends old new (join_with_byte bar (raised_names status (take place table)))
 
+-- no name is written at the start
 pub name_none : (status : ℕ) (table : List (List ℕ × ℕ)) (old : Option (List ℕ)) → IsNamedTo status table 0 [] old old
 name_none status table old = record { separator_is = refl; written = Appends-nil old }
 
@@ -83,6 +84,7 @@ at_place : {A : Type 0} (row : A → List ℕ × ℕ) (items : List A) (place : 
     → get_or (map row items) place (row d) ≡ row (get_or items place d)
 at_place row items place d within = get_or-map row items place d (row d) within
 
+-- a flag that is raised is written behind those before it
 pub name_more : {A : Type 0} (row : A → List ℕ × ℕ) (items : List A) (d : A) (status place : ℕ)
     (separator name : List ℕ) (old now new : Option (List ℕ))
     → place < length items → is_raised status (row (get_or items place d)) ≡ true
@@ -95,6 +97,7 @@ name_more row items d status place separator name old now new within raised name
     (at_place row items place d within) raised so_far
     (subst (λ l. Appends now new (separator ++ l)) name_is more_is)
 
+-- and one that is not leaves what is written
 pub name_same : {A : Type 0} (row : A → List ℕ × ℕ) (items : List A) (d : A) (status place : ℕ) (separator : List ℕ)
     (old now : Option (List ℕ))
     → place < length items → is_raised status (row (get_or items place d)) ≡ false

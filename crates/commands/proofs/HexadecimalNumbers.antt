@@ -57,11 +57,13 @@ pub read_none : (word : List ℕ) → IsReadTo word 0 0
 unfolding read_on
 read_none word = record { small = lit< tt; read = refl }
 
+-- a character that is no digit ends the reading
 pub read_stops : (word : List ℕ) (n place : ℕ) → place < length word → IsReadTo word n place
     → value_of (get_or word place 0) ≡ None → number_of word ≡ None
 read_stops word n place within so_far e = so_far.read ∙ at_drop_more (read_on n) word place 0 within ∙
     stops n _ _ _ refl e
 
+-- a digit is read
 pub read_goes : (word : List ℕ) (n d place : ℕ) → place < length word → IsReadTo word n place
     → value_of (get_or word place 0) ≡ Some d → d < 16
     → IsReadTo word (n * 16 + d) (place + 1)
@@ -70,6 +72,7 @@ read_goes word n d place within so_far e digit = record {
   read = so_far.read ∙ at_drop_more (read_on n) word place 0 within ∙ goes n _ d _ _ refl e;
 }
 
+-- at the end of the word its number was read
 pub read_to_end : (word : List ℕ) (n place : ℕ) → length word ≤ place → IsReadTo word n place
     → number_of word ≡ Some n
 unfolding read_on

@@ -26,6 +26,7 @@ rest_more number rest place e =
     let longer : 16 ^ place * 16 ≡ 16 ^ (place + 1) = rw (add-one place) (sym (pow-suc 16 place)) in
     ap (λ n. n / 16) e ∙ div-div-eq-div-mul number (16 ^ place) 16 ∙ ap (λ n. number / n) longer
 
+-- nothing is written at the start
 pub write_none : (number : ℕ) (text : List ℕ) → length text ≡ 32 → IsWrittenTo number number 0 text
 write_none number text size = record {
   size = size;
@@ -48,6 +49,7 @@ digits_more number rest place digit text within so_far digit_is =
     ∙ ap (λ d. d ∷ hexadecimal_text number place) (digit_is ∙ ap (λ n. hexadecimal_digit (n % 16)) so_far.rest_is)
     ∙ sym (text_more number place)
 
+-- one more digit is written in front
 pub write_more : (number rest place digit : ℕ) (text : List ℕ) → place < 32 → IsWrittenTo number rest place text
     → digit ≡ hexadecimal_digit (rest % 16) → IsWrittenTo number (rest / 16) (place + 1) (set text (31 - place) digit)
 write_more number rest place digit text within so_far digit_is = record {

@@ -79,17 +79,20 @@ from_first (c ∷ digits) some = refl
 pub read_none : (word : List ℕ) → (length word == 0) ≡ false → IsReadTo word 0 0
 read_none word some = record { small = lit< tt; read = from_first word some }
 
+-- a character that is no digit, or one too many, ends the reading
 pub read_stops : (word : List ℕ) (n place : ℕ) → place < length word → IsReadTo word n place
     → next n (get_or word place 0) ≡ None → whole_number_of word ≡ None
 read_stops word n place within so_far e =
     so_far.read ∙ at_drop_more (read_on n) word place 0 within ∙ stops n _ _ _ _ refl refl e
 
+-- a digit is read
 pub read_goes : (word : List ℕ) (n m place : ℕ) → place < length word → IsReadTo word n place
     → next n (get_or word place 0) ≡ Some m → IsReadTo word m (place + 1)
 read_goes word n m place within so_far e =
     let step = goes n _ m _ _ _ refl refl e in
     record { small = step.0; read = so_far.read ∙ at_drop_more (read_on n) word place 0 within ∙ step.1 }
 
+-- at the end of the word its number was read
 pub read_to_end : (word : List ℕ) (n place : ℕ) → length word ≤ place → IsReadTo word n place
     → whole_number_of word ≡ Some n
 read_to_end word n place past so_far = so_far.read ∙ at_drop_all (read_on n) word place past ∙

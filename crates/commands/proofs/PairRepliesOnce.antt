@@ -31,6 +31,7 @@ pair_call_once (from_text text) mode = pair_reading_once mode text
 
 -- ---- one line
 
+-- the line of a pair is the only one
 pub only_pair_line : (value : Pair) (status bits width : ℕ) → IsPairEncodedBy bits value → width ≡ bits_in of_pairs
     → IsOnly (IsPairLineOf value status) (line bits (width / 4) status)
 only_pair_line value status bits width encoded width_is =
@@ -59,6 +60,7 @@ only_pair_answer mode call value status reply answers is_line = record {
       is_line.only other (line_of h.value value h.status status other same.0 same.1 h.is_line);
 }
 
+-- an operation on two pairs has one reply
 pub only_pair_of_two : (arithmetic : Arithmetic) (mode : Round) (left right : List ℕ) (x y : ℕ) (a b value : Pair)
     (status : ℕ) (reply : Reply)
     → bits_of_word (bits_in of_pairs) left ≡ Some x → bits_of_word (bits_in of_pairs) right ≡ Some y
@@ -71,6 +73,7 @@ only_pair_of_two arithmetic mode left right x y a b value status reply first sec
     only_with_two of_pairs arithmetic mode left right x y reply first second
     (only_pair_answer mode (of_two arithmetic x y) value status reply of_both is_line)
 
+-- a whole number taken in has one reply
 pub only_pair_whole_number : (mode : Round) (word : List ℕ) (number : ℕ) (value : Pair) (status : ℕ) (reply : Reply)
     → whole_number_of word ≡ Some number → IsPairFromUnsigned mode number value status
     → IsOnly (IsPairLineOf value status) reply
@@ -79,6 +82,7 @@ only_pair_whole_number mode word number value status reply read answers is_line 
     only_with_whole_number of_pairs mode word number reply read
     (only_pair_answer mode (from_whole_number number) value status reply answers is_line)
 
+-- a text has one reply
 pub only_pair_text : (mode : Round) (text : List ℕ) (value : Pair) (status : ℕ) (reply : Reply)
     → IsPairReading mode text value status → IsOnly (IsPairLineOf value status) reply
     → IsOnly (IsReplyTo (requested of_pairs mode (with_text text))) reply

@@ -56,22 +56,26 @@ only_answer constants mode call value status reply answers line = record {
 
 -- ---- the reply to operands, of any kind of values
 
+-- a command with two operands has the one reply of its call
 pub only_with_two : (kind : Kind) (arithmetic : Arithmetic) (mode : Round) (left right : List ℕ) (x y : ℕ)
     (reply : Reply) → bits_of_word (bits_in kind) left ≡ Some x → bits_of_word (bits_in kind) right ≡ Some y
     → IsOnly (IsAnsweredIn kind mode (of_two arithmetic x y)) reply
     → IsOnly (IsReplyTo (requested kind mode (with_two (bits_in kind) arithmetic left right))) reply
 only_with_two kind arithmetic mode left right x y reply first second only = rw (first, second) only
 
+-- likewise one with a whole number
 pub only_with_whole_number : (kind : Kind) (mode : Round) (word : List ℕ) (number : ℕ) (reply : Reply)
     → whole_number_of word ≡ Some number → IsOnly (IsAnsweredIn kind mode (from_whole_number number)) reply
     → IsOnly (IsReplyTo (requested kind mode (with_whole_number word))) reply
 only_with_whole_number kind mode word number reply read only = rw (read) only
 
+-- and one with a text that means something
 pub only_with_text : (kind : Kind) (mode : Round) (text : List ℕ) (meaning : Meaning) (reply : Reply)
     → Means text meaning → IsOnly (IsAnsweredIn kind mode (from_text text)) reply
     → IsOnly (IsReplyTo (requested kind mode (with_text text))) reply
 only_with_text kind mode text meaning reply means only = rw (meaning_no_fault text meaning means) only
 
+-- a text with a fault is refused by its words alone
 pub only_refusal : (kind : Kind) (mode : Round) (text word : List ℕ) → IsRefusal text word
     → IsOnly (IsReplyTo (requested kind mode (with_text text))) (refused word)
 only_refusal kind mode text word refusal =
@@ -79,6 +83,7 @@ only_refusal kind mode text word refusal =
 
 -- ---- the reply to operands, of a format
 
+-- an operation on two values has one reply
 pub only_of_two : (constants : Constants) (arithmetic : Arithmetic) (mode : Round) (left right : List ℕ) (x y : ℕ)
     (a b value : Datum) (status : ℕ) (reply : Reply)
     → bits_of_word constants.bits left ≡ Some x → bits_of_word constants.bits right ≡ Some y → a ≡ value_of constants x
@@ -92,6 +97,7 @@ only_of_two constants arithmetic mode left right x y a b value status reply firs
     only_with_two (of_format constants) arithmetic mode left right x y reply first second
     (only_answer constants mode (of_two arithmetic x y) value status reply of_both line)
 
+-- a fused sum has one reply
 pub only_fused_sum : (constants : Constants) (mode : Round) (left right addend : List ℕ) (x y z : ℕ)
     (a b d value : Datum)
     (status : ℕ) (reply : Reply)
@@ -110,6 +116,7 @@ only_fused_sum constants mode left right addend x y z a b d value status reply f
     of_second in
     rw (first, second, third) (only_answer constants mode (fused_sum x y z) value status reply of_all line)
 
+-- a whole number taken in has one reply
 pub only_whole_number : (constants : Constants) (mode : Round) (word : List ℕ) (number : ℕ) (value : Datum) (status : ℕ)
     (reply : Reply) → whole_number_of word ≡ Some number
     → IsFromUnsigned (format_with constants) mode number value status
@@ -119,6 +126,7 @@ only_whole_number constants mode word number value status reply read answers lin
     only_with_whole_number (of_format constants) mode word number reply read
     (only_answer constants mode (from_whole_number number) value status reply answers line)
 
+-- a text has one reply
 pub only_text : (constants : Constants) (mode : Round) (text : List ℕ) (value : Datum) (status : ℕ) (reply : Reply)
     → IsReading (format_with constants) mode text value status → IsOnly (IsLineOf constants value status) reply
     → IsOnly (IsReplyTo (requested (of_format constants) mode (with_text text))) reply

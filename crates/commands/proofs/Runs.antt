@@ -4,6 +4,7 @@ use Rattle.std.specs.Io.KnownBytes.{Appends}
 use Rattle.std.proofs.KnownBytes.{Appends-nil}
 use Rattle.commands.specs.Replies.{line, refused, IsOnly, IsReply, IsRun, line_text, refusal_text}
 
+-- a reply is written as its line
 pub line_run : {T E : Type 0} (command : List (List ℕ)) (out out' err : Option (List ℕ))
     (bits digits status exit : ℕ) (written : Result T E)
     → IsOnly (IsReply command) (line bits digits status)
@@ -18,6 +19,7 @@ line_run command out out' err bits digits status exit (Ok x) reply text exit_is 
 }
 line_run command out out' err bits digits status exit (Err e) reply text exit_is some = absurd (some exit_is)
 
+-- and a refusal as its word
 pub refusal_run : {T E : Type 0} (command : List (List ℕ)) (out err err' : Option (List ℕ)) (word : List ℕ)
     (exit : ℕ) (written : Result T E)
     → IsOnly (IsReply command) (refused word) → OnOk written (Appends err err' (refusal_text word))

@@ -19,6 +19,7 @@ enclosed precision amount parts spacing h p spaced =
     (subst (λ (x : ℕ). amount < 2 ^ precision * (parts * x)) spaced.is spaced.few)
     (subst (λ (x : ℕ). (spaced.place ≡ 0) ⊎ (2 ^ (precision - 1) * (parts * x) ≤ amount)) spaced.is spaced.many)
 
+-- the greatest multiple that is not above the magnitude is its neighbour below
 pub floor_is : (precision amount parts spacing : ℕ) → 0 < precision → 0 < parts
     → IsSpacing precision amount parts spacing
     → IsBelow precision (amount / (parts * spacing) * spacing) amount parts
@@ -44,6 +45,7 @@ ceiling_of precision half c amount parts p i =
     (above_is_same precision half (amount / (parts * 2 ^ c)) c amount parts p i (omega arith)))
     (cases_lt 0 (amount % (parts * 2 ^ c)))
 
+-- the least one that is not below it is its neighbour above
 pub ceiling_is : (precision amount parts spacing : ℕ) → 0 < precision → 0 < parts
     → IsSpacing precision amount parts spacing
     → IsAbove precision (div_ceil amount (parts * spacing) * spacing) amount parts
@@ -60,6 +62,7 @@ above_to precision above amount parts place h i l =
     let q : 1 ≤ 2 ^ (precision - 1) = pow_pos (precision - 1) in
     i.least (2 ^ place) (record { significand = 1; place = place; fits = omega arith; is = omega arith }) l
 
+-- a power of two above a magnitude is above its neighbour
 pub above_bound : (precision above amount parts place : ℕ) → 0 < precision → 0 < parts
     → IsAbove precision above amount parts → amount ≤ 2 ^ place → above ≤ 2 ^ place
 above_bound precision above amount parts place h p i l =

@@ -24,6 +24,7 @@ too_many : (precision amount parts spacing : ℕ) → 0 < parts → IsReached pr
 too_many precision amount parts spacing h r l =
     (le-div_iff_mul-le (divisor_some precision amount parts spacing h r)).0 l
 
+-- a magnitude with too many of a spacing has at least half of its digits with twice of it
 pub doubled : (precision amount parts spacing : ℕ) → 0 < precision → 0 < parts
     → IsReached precision amount parts spacing → 2 ^ precision ≤ amount / (parts * spacing)
     → IsReached precision amount parts (spacing * 2)
@@ -36,6 +37,7 @@ doubled precision amount parts spacing p h r l =
     ap (λ (x : ℕ). x * (parts * spacing)) t in
     record { place = r.place + 1; is = omega arith; many = inr (omega arith) }
 
+-- such a spacing is below the magnitude
 pub spacing_below : (precision amount parts spacing : ℕ) → 0 < precision → 0 < parts
     → IsReached precision amount parts spacing → 2 ^ precision ≤ amount / (parts * spacing) → spacing < amount
 spacing_below precision amount parts spacing p h r l =

@@ -25,6 +25,7 @@ single reach x s = record { is_finite = s.is_finite; low_is = refl }
 
 -- ---- two doubles
 
+-- of two doubles nothing is lost
 pub two_exactly : (x y : Datum) (p q answer : Pair) → p ≡ alone x → q ≡ alone y → IsSummand sum_reach x
     → IsSummand sum_reach y → IsErrorFreeSum p q answer → IsExactPair (number x +ℤ number y) 1 answer
 two_exactly x y p q answer e f s t law =
@@ -82,6 +83,7 @@ close_by m n p q answer e f close =
     subst (λ (i : ℤ). IsClosePair (n +ℤ i) 1 103 (magnitude n + magnitude i) answer) f
     (subst (λ (i : ℤ). IsClosePair (i +ℤ p) 1 103 (magnitude i + magnitude p) answer) e close)
 
+-- of three doubles little is lost
 pub three_closely : (x y z : Datum) (s t answer : Pair) → t ≡ alone z → IsMember double z
     → IsSummand reach_of_three x → IsSummand reach_of_three y → IsSummand reach_of_three z
     → IsExactPair (number x +ℤ number y) 1 s → IsAccurateSum s t answer

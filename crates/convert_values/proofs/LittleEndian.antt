@@ -33,6 +33,7 @@ one_more_fits number byte place small digit within =
     let all : 256 ^ (place + 1) ≤ 256 ^ 16 = pow-le-pow_right base places in
     omega arith
 
+-- one more byte is read in front
 pub read_more : (bytes : List ℕ) (number byte place : ℕ) → place < length bytes → IsReadDown bytes number place
     → byte ≡ get_or bytes (length bytes - 1 - place) 0 → byte < 256
     → IsReadDown bytes (number * 256 + byte) (place + 1)
@@ -55,6 +56,7 @@ read_more bytes number byte place within so_far is small =
           ≡ byte + 256 * number_of (drop (length bytes - place) bytes) = omega arith in known) ∙ sym told;
     }
 
+-- all bytes were read
 pub read_to_end : (bytes : List ℕ) (number place : ℕ) → place ≡ length bytes → IsReadDown bytes number place
     → number ≡ number_of bytes
 read_to_end bytes number place all so_far =
@@ -98,6 +100,7 @@ cut n power wider rest number scale so_far =
     let joined : power * (rest % 256 + 256 * (rest / 256)) ≡ power * rest = ap (λ k. power * k) parts in
     omega arith
 
+-- one more byte is written behind
 pub write_more : (number rest place : ℕ) (bytes : List ℕ) → place < length bytes → IsWrittenUp number rest place bytes
     → IsWrittenUp number (rest / 256) (place + 1) (set bytes place (rest % 256))
 write_more number rest place bytes within so_far =
@@ -120,6 +123,7 @@ none_left n power (suc rest) number told small =
     let more : power * suc rest ≡ power * rest + power = mul-suc power rest in
     absurd (omega arith)
 
+-- all bytes are written, and stand for the number
 pub write_to_end : (number rest place : ℕ) (bytes : List ℕ) → place ≡ length bytes → number < 256 ^ length bytes
     → IsWrittenUp number rest place bytes
     → number_of bytes ≡ number
@@ -140,6 +144,7 @@ bytes_of_bits (suc n) =
     ∙ sym (pow-add 2 (8 * n) 8)
     ∙ ap (λ k. 2 ^ k) (sym (mul-suc 8 n))
 
+-- a number of so many bits fits as many bytes
 pub fits : (number bits places : ℕ) → number < 2 ^ bits → bits ≤ 8 * places → number < 256 ^ places
 fits number bits places small room =
     let base : 0 < 2 = lit< tt in

@@ -22,6 +22,7 @@ count_push test outcomes outcome =
     sum_by-append (λ x. if test x then 1 else 0) outcomes (outcome ∷ [])
     ∙ ap (λ n. count_by test outcomes + n) (zero-add (one_if (test outcome)))
 
+-- one more outcome is counted
 pub counts_push : (outcomes : List Outcome) (outcome : Outcome)
     → with_outcome (counts_of outcomes) outcome ≡ counts_of (outcomes ++ outcome ∷ [])
 counts_push outcomes outcome =
@@ -43,6 +44,7 @@ place_below index later width before =
     let one_more : suc index * width ≡ index * width + width = suc-mul index width in
     omega arith
 
+-- the bytes of each value are as many as its width
 pub place_size : (width index count : ℕ) (bytes : List ℕ) → index < count → length bytes ≡ count * width
     → length (value_at width index bytes) ≡ width
 place_size width index count bytes before size =
@@ -116,6 +118,7 @@ pub block_none : (Holds : List ℕ → List ℕ → Outcome → Type 0) (source 
 block_none Holds source target input output = record
     { outcomes = []; size = refl; each = λ index. tt; counted = refl }
 
+-- one more value is converted in its place
 pub block_more : (Holds : List ℕ → List ℕ → Outcome → Type 0) (source target index count : ℕ)
     (input output new : List ℕ) (counts : Counts) (outcome : Outcome)
     → index < count → length output ≡ count * target → length new ≡ target

@@ -107,6 +107,7 @@ fraction_turned x value exponent normal member h =
 
 -- ---- the pair
 
+-- the fraction of the high part, and the low part scaled by the opposite exponent
 pub fraction_by_parts : (mode : Round) (x : Pair) (high low : Datum) (exponent turned : ℤ)
     → category_of x.high ≡ Normal
     → IsFrexp double x.high high exponent → turned ≡ neg_ℤ exponent → IsScaling double mode x.low turned low

@@ -27,6 +27,7 @@ use Rattle.apfloat_pairs.proofs.PairSumLaws.{error_free_sum, accurate_sum, plain
 use Rattle.apfloat_pairs.proofs.DifferenceLaws.{error_free_difference, accurate_difference, plain_difference}
 use Rattle.apfloat_pairs.proofs.PairProductLaws.{error_free_product, accurate_product}
 
+-- the product of two pairs of numbers
 pub product_by_steps : (mode : Round) (x y : Pair) (a c t tau : Datum) (t_flags tau_flags flags : ℕ)
     (is_number : Bool)
     (answer : Pair) (status : ℕ) → a ≡ x.high → c ≡ y.high → IsProduct double mode a c t t_flags
@@ -53,6 +54,7 @@ product_by_steps mode x y a c t tau t_flags tau_flags flags is_number answer sta
           });
     }
 
+-- whether a pair is denormal, by the sum of its parts
 pub denormal_at_sum : (x : Pair) (sum : Datum) (status : ℕ) (is_number is_denormal_high answer : Bool)
     → is_number ≡ is_number_category (category_of x.high) → is_number ≡ true
     → is_denormal_high ≡ is_denormal double x.high → is_denormal_high ≡ false
@@ -65,6 +67,7 @@ denormal_at_sum x sum status is_number is_denormal_high answer n t d f s a =
     ap (λ (b : Bool). b && (is_denormal double x.high || not (is_equal x.high sum))) e ∙
     ap (λ (b : Bool). true && (b || not (is_equal x.high sum))) g)
 
+-- the sum of two infinities of one sign
 pub infinities_of_one_sign : (x y answer : Pair) (status : ℕ) (first second : Bool) → first ≡ is_negative x.high
     → second ≡ is_negative y.high → beq first second ≡ true → answer ≡ x → status ≡ ok_bits
     → IsSumOfInfinities x y answer status
@@ -118,6 +121,7 @@ pub record IsClosedAnew (mode : Round) (x y : Pair) (big small z : Datum) (flags
 two_joined : (a b c ab abc : ℕ) → ab ≡ a ∪ b → abc ≡ ab ∪ c → abc ≡ a ∪ b ∪ c
 two_joined a b c ab abc e f = f ∙ ap (λ (i : ℕ). i ∪ c) e
 
+-- where it is not finite it stands alone
 pub anew_beyond : (mode : Round) (x y : Pair) (big small z : Datum) (flags : ℕ) (is_within : Bool) (answer : Pair)
     (status : ℕ) → IsOpenedAnew mode x y big small z flags → is_within ≡ is_finite_category (category_of z)
     → is_within ≡ false → answer ≡ alone z → status ≡ flags → IsSumAnew mode x y answer status
@@ -147,6 +151,7 @@ anew_beyond mode x y big small z flags is_within answer status o w e v s =
           });
     }
 
+-- and else with what was lost of it
 pub anew_within : (mode : Round) (x y : Pair) (big small z low : Datum) (flags all_flags : ℕ) (is_within : Bool)
     (answer : Pair) (status : ℕ) → IsOpenedAnew mode x y big small z flags
     → is_within ≡ is_finite_category (category_of z) → is_within ≡ true
@@ -206,6 +211,7 @@ answered P value answer flags status e s p =
 
 -- ---- pairs in the wide format
 
+-- a pair of numbers in the wide format
 pub joined_by_sum : (x : Pair) (high low answer : Datum) (status : ℕ) (is_number : Bool)
     → is_number ≡ is_number_category (category_of x.high) → is_number ≡ true → IsWidened x.high high
     → IsWidened x.low low → IsSum wide NearestTiesToEven high low answer status → IsJoined x answer
@@ -214,6 +220,7 @@ joined_by_sum x high low answer status is_number n e h l s =
     (sym (number_agrees x.high) ∙ sym n ∙ e)
     (record { high = high; low = low; status = status; high_is = h; low_is = l; is_sum = s })
 
+-- and another pair, by its high part
 pub joined_alone : (x : Pair) (high : Datum) (is_number : Bool) → is_number ≡ is_number_category (category_of x.high)
     → is_number ≡ false → IsWidened x.high high → IsJoined x high
 joined_alone x high is_number n e h =
@@ -222,11 +229,13 @@ joined_alone x high is_number n e h =
 
 -- ---- calls in the wide format
 
+-- the answer of a call in the wide format, split into a pair
 pub wide_of_none : (call : Datum → ℕ → Type 0) (value : Datum) (flags : ℕ) (answer : Pair) (status : ℕ)
     → call value flags → status ≡ flags → IsSplit value answer → IsSplitAnswer call answer status
 wide_of_none call value flags answer status h e s =
     record { value = value; is_value = subst (λ (t : ℕ). call value t) (sym e) h; is_split = s }
 
+-- of two pairs
 pub wide_of_two : (call : Datum → Datum → Datum → ℕ → Type 0) (x y : Pair) (left right value : Datum) (flags : ℕ)
     (answer : Pair) (status : ℕ) → IsJoined x left → IsJoined y right → call left right value flags → status ≡ flags
     → IsSplit value answer → IsWideAnswerOfTwo call x y answer status
@@ -239,6 +248,7 @@ wide_of_two call x y left right value flags answer status i j h e s =
       is_answer = wide_of_none (call left right) value flags answer status h e s;
     }
 
+-- of one pair
 pub wide_of_one : (call : Datum → Datum → ℕ → Type 0) (x : Pair) (joined value : Datum) (flags : ℕ) (answer : Pair)
     (status : ℕ) → IsJoined x joined → call joined value flags → status ≡ flags → IsSplit value answer
     → IsWideAnswer call x answer status
@@ -265,6 +275,7 @@ product_by_categories mode x y first second answer status i j s =
     subst (λ (k : Category). IsProductOfCategories k (pair_category y) mode x y answer status) i
     (subst (λ (k : Category). IsProductOfCategories first k mode x y answer status) j s)
 
+-- a difference is the sum with the negated pair
 pub difference_by_negation : (mode : Round) (x y z answer : Pair) (status : ℕ) → z ≡ negated_pair y
     → IsPairSum mode x z answer status → IsPairDifference mode x y answer status
 difference_by_negation mode x y z answer status e s = subst (λ (p : Pair). IsPairSum mode x p answer status) e s
