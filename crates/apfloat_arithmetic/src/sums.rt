@@ -6,7 +6,7 @@ ghost use Rattle.apfloat_base.specs.formats.Datum.{finite, infinite};
 ghost use Rattle.apfloat_base.specs.arithmetic.Sums.{zero_sum_sign, IsSum, IsDifference};
 ghost use Rattle.apfloat_arithmetic.specs.Subtrahends.{added};
 ghost use Rattle.apfloat_unpacked.specs.Shapes.{IsShape, format_at};
-ghost use Rattle.apfloat_unpacked.specs.Stored.{IsNormal, IsStored, datum_at, quanta_of, GivesAt};
+ghost use Rattle.apfloat_unpacked.specs.Stored.{IsNormal, IsStored, datum_at, number_of, quanta_of, GivesAt};
 
 use crate::classes::are_normal;
 use crate::signs::negated;
@@ -143,7 +143,7 @@ fn add_to_number(shape: Shape, x: Unpacked, y: Unpacked, round: Round) -> Status
     requires y_stored { IsStored shape y }
     ensures stored { IsStored shape result.value }
     ensures delivered { GivesAt shape (IsSum (format_at shape) round
-        (finite x.negative (quanta_of shape x)) (datum_at shape y)) result }
+        (number_of shape x) (datum_at shape y)) result }
 {
     match y.category {
         Category::Normal => add_numbers(shape, x, y, round),

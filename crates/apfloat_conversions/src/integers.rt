@@ -6,7 +6,7 @@ ghost use Rattle.apfloat_base.specs.rounding.Flags.{bits_of};
 ghost use Rattle.apfloat_base.specs.whole_numbers.WholeNumbers.{IsFromUnsigned, inexact_unless};
 ghost use Rattle.apfloat_base.specs.whole_numbers.WholeNumbersOut.{IsToUnsigned};
 ghost use Rattle.apfloat_unpacked.specs.Shapes.{IsShape, format_at};
-ghost use Rattle.apfloat_unpacked.specs.Stored.{IsStored, IsNormal, quanta_of, datum_at, GivesAt};
+ghost use Rattle.apfloat_unpacked.specs.Stored.{IsStored, IsNormal, datum_at, number_of, GivesAt};
 
 use crate::whole::{Whole, whole_of};
 use apfloat_base::sig::Loss;
@@ -84,7 +84,7 @@ fn number_to_unsigned(shape: Shape, x: Unpacked, width: u32, round: Round) -> Un
     requires low { 1 ≤ width }
     requires high { width ≤ 128 }
     ensures whole { IsToUnsigned (format_at shape) round width
-        (finite x.negative (quanta_of shape x)) result.answer.value (bits_of result.answer.status)
+        (number_of shape x) result.answer.value (bits_of result.answer.status)
         result.is_exact }
     ensures fits { result.answer.value < 2 ^ width }
 {

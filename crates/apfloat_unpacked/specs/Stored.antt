@@ -46,6 +46,9 @@ quanta_of s x = quanta_at s.min_exp x.significand x.exponent
 abbrev pub IsNormal : Shape → Unpacked → Type 0
 IsNormal s x = IsNormalAt s x.significand x.exponent
 
+abbrev pub number_of : Shape → Unpacked → Datum
+number_of s x = finite x.negative (quanta_of s x)
+
 -- ---- the other values: what they do not need is zero
 
 pub record IsZero (s : Shape) (x : Unpacked) : Type 0 where
@@ -74,7 +77,7 @@ abbrev pub IsStored : Shape → Unpacked → Type 0
 IsStored s x = IsStoredBy x.category s x
 
 abbrev pub datum_by : Category → Shape → Unpacked → Datum
-datum_by Normal s x = finite x.negative (quanta_of s x)
+datum_by Normal s x = number_of s x
 datum_by Zero s x = finite x.negative 0
 datum_by Infinity s x = infinite x.negative
 datum_by NaN s x = nan x.negative x.significand

@@ -7,7 +7,7 @@ ghost use Rattle.apfloat_base.specs.bits.Layout.{all_ones, trailing_bits, fields
 ghost use Rattle.apfloat_base.specs.formats.Datum.{finite, nan};
 ghost use Rattle.apfloat_base.specs.bits.Interchange.{IsInterchange, AreWithin, AreFieldsOf, bits_of_fields};
 ghost use Rattle.apfloat_unpacked.specs.Shapes.{IsShape, format_at};
-ghost use Rattle.apfloat_unpacked.specs.Stored.{IsStored, IsNormal, IsNan, quanta_of, datum_at};
+ghost use Rattle.apfloat_unpacked.specs.Stored.{IsStored, IsNormal, IsNan, quanta_of, datum_at, number_of};
 ghost use Rattle.apfloat_unpacked.specs.Encoded.{layout_at, fields_at};
 
 use crate::shape::Shape;
@@ -227,7 +227,7 @@ fn fields_of_number(shape: Shape, widths: Widths, x: Unpacked) -> Fields
     requires interchange { IsInterchange (format_at shape) (layout_at widths) }
     requires normal { IsNormal shape x }
     ensures { AreFieldsOf (format_at shape) (layout_at widths) (fields_at result)
-        (finite x.negative (quanta_of shape x)) }
+        (number_of shape x) }
 {
     if x.exponent < shape.min_exp {
         return Fields {
