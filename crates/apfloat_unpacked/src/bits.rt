@@ -4,7 +4,7 @@ ghost use Rattle.std.specs.Prelude.{◌≡◌, ℕ, ◌+◌, ◌-◌, ◌*◌, �
 ghost use Rattle.apfloat_base.specs.formats.Format.{largest, smallest_normalized};
 ghost use Rattle.apfloat_base.specs.rounding.Rounding.{zero_sign};
 ghost use Rattle.apfloat_base.specs.bits.Layout.{all_ones, trailing_bits, fields_of, implied_number, implied_datum, written_number, written_datum, datum_of, IsEncodedBy};
-ghost use Rattle.apfloat_base.specs.formats.Datum.{finite, nan};
+ghost use Rattle.apfloat_base.specs.formats.Datum.{nan};
 ghost use Rattle.apfloat_base.specs.bits.Interchange.{IsInterchange, AreWithin, AreFieldsOf, bits_of_fields};
 ghost use Rattle.apfloat_unpacked.specs.Shapes.{IsShape, format_at};
 ghost use Rattle.apfloat_unpacked.specs.Stored.{IsStored, IsNormal, IsNan, quanta_of, datum_at, number_of};
