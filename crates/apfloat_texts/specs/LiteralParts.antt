@@ -2,20 +2,19 @@
 use Rattle.std.specs.Prelude.{◌≡◌, ◌*◌, pos, ◌+ℤ◌, ◌-ℤ◌, ℕ, Bool, List, None}
 use Rattle.apfloat_base.specs.declared.kinds.Round.{Round}
 use Rattle.apfloat_base.specs.declared.status.StatusAnd.{StatusAnd}
-use Rattle.apfloat_base.specs.rounding.Flags.{bits_of}
 use Rattle.apfloat_base.specs.texts.Texts.{behind_prefix_fault}
 use Rattle.apfloat_base.specs.texts.Literals.{digits_number, places_behind_dot, exponent_text, exponent_number}
 use Rattle.apfloat_base.specs.texts.Readings.{IsScaledDelivery}
 use Rattle.apfloat_unpacked.specs.declared.shape.Shape.{Shape}
 use Rattle.apfloat_unpacked.specs.declared.unpacked.Unpacked.{Unpacked}
 use Rattle.apfloat_unpacked.specs.Shapes.{format_at}
-use Rattle.apfloat_unpacked.specs.Stored.{IsStored, datum_at}
+use Rattle.apfloat_unpacked.specs.Stored.{IsStored, GivesAt}
 
 -- nothing is wrong with it, and it is rounded once
 pub record IsLiteralRead (shape : Shape) (mode : Round) (negative : Bool) (rest : List ℕ)
     (answer : StatusAnd Unpacked) : Type 0 where
   pub no_fault : behind_prefix_fault rest ≡ None
   pub stored : IsStored shape answer.value
-  pub delivered : IsScaledDelivery (format_at shape) mode negative (digits_number rest)
-      ((exponent_number (exponent_text rest) -ℤ pos (4 * places_behind_dot rest)) +ℤ pos (format_at shape).scale)
-      (datum_at shape answer.value) (bits_of answer.status)
+  pub delivered : GivesAt shape (IsScaledDelivery (format_at shape) mode negative (digits_number rest)
+      ((exponent_number (exponent_text rest) -ℤ pos (4 * places_behind_dot rest)) +ℤ pos (format_at shape).scale))
+      answer

@@ -2,13 +2,12 @@
 use Rattle.std.specs.Prelude.{List, ℕ}
 use Rattle.apfloat_base.specs.declared.kinds.Round.{Round}
 use Rattle.apfloat_base.specs.declared.status.StatusAnd.{StatusAnd}
-use Rattle.apfloat_base.specs.rounding.Flags.{bits_of}
 use Rattle.apfloat_base.specs.texts.Readings.{IsReading}
 use Rattle.apfloat_unpacked.specs.declared.shape.Shape.{Shape}
 use Rattle.apfloat_unpacked.specs.declared.unpacked.Unpacked.{Unpacked}
 use Rattle.apfloat_unpacked.specs.Shapes.{format_at}
-use Rattle.apfloat_unpacked.specs.Stored.{IsStored, datum_at}
+use Rattle.apfloat_unpacked.specs.Stored.{IsStored, GivesAt}
 
 pub record IsTextRead (shape : Shape) (mode : Round) (text : List ℕ) (answer : StatusAnd Unpacked) : Type 0 where
   pub stored : IsStored shape answer.value
-  pub reading : IsReading (format_at shape) mode text (datum_at shape answer.value) (bits_of answer.status)
+  pub reading : GivesAt shape (IsReading (format_at shape) mode text) answer
