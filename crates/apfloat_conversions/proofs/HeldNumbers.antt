@@ -26,6 +26,7 @@ use Rattle.apfloat_conversions.specs.Held.{IsHeld, IsReachedLevel}
 
 -- ---- the largest value: g * 2 ^ m quanta, and h * 2 ^ n of the other, finer by k places
 
+-- within the largest value, where the last exponents are equal
 level : (a g h m n k d : ℕ) → a ≤ g * 2 ^ m → g * 2 ^ d ≤ h → m + k ≡ n + d → a * 2 ^ k ≤ h * 2 ^ n
 level a g h m n k d l r e =
     let p : 2 ^ m * 2 ^ k ≡ 2 ^ n * 2 ^ d = sym (pow-add 2 m k) ∙ ap (λ (x : ℕ). 2 ^ x) e ∙ pow-add 2 n d in
@@ -34,6 +35,7 @@ level a g h m n k d l r e =
     let q : g * (2 ^ m * 2 ^ k) ≡ g * (2 ^ n * 2 ^ d) = ap (λ (x : ℕ). g * x) p in
     omega arith
 
+-- and where that of the other shape is greater
 higher : (a g h m n k p q : ℕ) → a ≤ g * 2 ^ m → g < 2 ^ p → 2 ^ q ≤ h → p + m + k ≤ q + n → a * 2 ^ k ≤ h * 2 ^ n
 higher a g h m n k p q l f r e =
     let b : a * 2 ^ k ≤ g * 2 ^ m * 2 ^ k = mul-le-mul_right (2 ^ k) l in
@@ -48,6 +50,7 @@ higher a g h m n k p q l f r e =
 abbrev finer : Shape → Shape → ℕ
 finer s t = (format_at t).scale - (format_at s).scale
 
+-- a number within the largest value of one is within that of the other
 held_within : (source target : Shape) (a : ℕ) → IsShape source → IsShape target → IsHeld source target
     → a ≤ largest (format_at source)
     → a * 2 ^ finer source target ≤ largest (format_at target)
@@ -74,6 +77,7 @@ held_within source target a from into h l =
 
 -- ---- a number
 
+-- and it is counted in the finer quanta
 held_quanta : (source target : Shape) (m : ℕ) (e : ℤ) → IsShape source → IsShape target → IsHeld source target
     → IsNormal source m e
     → IsQuantaAt target.min_exp (m * 2 ^ (target.precision - source.precision)) e
@@ -104,7 +108,7 @@ held_normal source target m e from into h n =
     record {
       operand = record {
         fits = fits_shifted m source.precision (target.precision - source.precision) target.precision n.operand.fits
-        (omega arith);
+            (omega arith);
         full = full_shifted m source.precision (target.precision - source.precision) target.precision
             (omega (arith, from.precision_low)) (λ _. n.operand.full) (omega arith);
         least = omega (arith, ints, n.operand.least, from.precision_low);
@@ -136,6 +140,7 @@ held_shift s t m p q f =
 
 -- ---- its conversion rounds nothing
 
+-- a number of quanta in a finer quantum
 quantum_finer : (a k p q : ℕ) → p ≤ q → k ≡ q - p → a * 2 ^ q ≡ a * 2 ^ k * 2 ^ p
 quantum_finer a k p q l e =
     let t : 2 ^ q ≡ 2 ^ k * 2 ^ p = ap (λ (x : ℕ). 2 ^ x) (omega arith) ∙ pow-add 2 k p in

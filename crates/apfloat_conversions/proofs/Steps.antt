@@ -53,6 +53,7 @@ pub record IsAfter (shape : Shape) (n m : ℕ) (e : ℤ) : Type 0 where
   pub operand : IsOperandAt shape.precision shape.min_exp shape.max_exp m e
   pub quanta : IsQuantaAt shape.min_exp m e next
 
+-- one unit of its last digit above a number stands the neighbour
 above_of : (shape : Shape) (m : ℕ) (e : ℤ) → IsShape shape → IsNormal shape m e
     → IsAbove shape.precision (quanta_at shape.min_exp m e + 2 ^ up (e -ℤ shape.min_exp))
     (quanta_at shape.min_exp m e + 1) 1
@@ -72,7 +73,7 @@ after_stays shape m t e law n i f =
       is_above = above_of shape m e law n;
       operand = stays_operand shape.precision shape.min_exp shape.max_exp e m (m + t) n.operand f (omega (arith, g));
       quanta = stepped_by m (quanta_at shape.min_exp m e) (up (e -ℤ shape.min_exp))
-      (down (e -ℤ shape.min_exp)) t i n.whole;
+          (down (e -ℤ shape.min_exp)) t i n.whole;
     }
 
 -- where one is added, it is a power of two
@@ -165,10 +166,10 @@ before_lowers shape m w t e r law n i j k low h =
           (down (r -ℤ shape.min_exp)) p (one_side (r -ℤ shape.min_exp))
           (omega (arith, j)) (omega (arith, j, z, o)) q;
       operand = lowered_operand shape.precision shape.min_exp shape.max_exp e r m w t (down (r -ℤ shape.min_exp)) p
-      n.operand j h l
+          n.operand j h l
           k low;
       quanta = stepped_down_by w a (up (r -ℤ shape.min_exp))
-      (down (r -ℤ shape.min_exp)) t h (omega (arith, y, j, z, o)) q;
+          (down (r -ℤ shape.min_exp)) t h (omega (arith, y, j, z, o)) q;
     }
 
 -- it is stored as the format wants it
