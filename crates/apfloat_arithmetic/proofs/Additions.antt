@@ -84,6 +84,7 @@ pub record IsRepresented (of_zero : Bool) (exact : ℤ) (negative : Bool) (unit 
   pub zero_sign : significand ≡ 0 → loss ≡ ExactlyZero → of_zero ≡ sign_of of_zero exact
   pub other_sign : (significand ≡ 0 → loss ≡ ExactlyZero → ⊥) → negative ≡ sign_of of_zero exact
 
+-- what a significand stands for, counted from the quantum
 read_stands : (base e unit : ℤ) (k amount whole q : ℕ) (loss : Loss) → base ≤ℤ e → e ≡ ((unit +ℤ base) +ℤ pos k)
     → amount ≡ whole * 2 ^ k → StandsFor q loss amount (2 ^ up (e -ℤ base))
     → StandsFor q loss (whole * 2 ^ down unit) (1 * 2 ^ up unit)
@@ -101,11 +102,13 @@ read_stands base e unit k amount whole q loss l d a h =
     (subst (λ (x : ℕ). StandsFor q loss x (1 * 2 ^ up unit * 2 ^ k)) w
     (subst (λ (x : ℕ). StandsFor q loss (amount * 2 ^ down unit) x) p' t))
 
+-- what is not 0, or lost something, stands for an amount above 0
 not_zero_amount : (q : ℕ) (loss : Loss) (amount unit : ℕ) → 0 < unit → (q ≡ 0 → loss ≡ ExactlyZero → ⊥)
     → StandsFor q loss amount unit → 0 < amount
 not_zero_amount q loss zero unit p n h = let r = zero_stands loss unit q p h in absurd (n r.0 r.1)
 not_zero_amount q loss (suc a) unit p n h = omega arith
 
+-- and 0 with nothing lost stands for 0
 zero_amount : (q : ℕ) (loss : Loss) (amount unit : ℕ) → q ≡ 0 → loss ≡ ExactlyZero → StandsFor q loss amount unit
     → amount ≡ 0
 zero_amount q loss amount unit a b h =

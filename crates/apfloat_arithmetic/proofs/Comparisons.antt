@@ -26,6 +26,7 @@ use Rattle.apfloat_arithmetic.specs.Sides.{number_side, side}
 
 -- ---- two numbers with all their digits: the exponents come first
 
+-- a number whose first digit stands lower is less
 below_top : (precision s n u d t m v e : ℕ) → IsFull precision s n u d → IsFull precision t m v e
     → top_of precision u d < top_of precision v e → n < m
 below_top precision s n u d t m v e f g h =
@@ -34,6 +35,7 @@ below_top precision s n u d t m v e f g h =
     let c : 2 ^ suc (top_of precision u d) ≤ 2 ^ top_of precision v e = pow-le-pow_right two_pos h in
     omega (arith, a, b, c, two-pow-succ (top_of precision u d))
 
+-- a number with a lower exponent is less
 below_exponent : (shape : Shape) (s : ℕ) (d : ℤ) (t : ℕ) (e : ℤ) → IsNormalAt shape s d → IsNormalAt shape t e → d <ℤ e
     → quanta_at shape.min_exp s d < quanta_at shape.min_exp t e
 below_exponent shape s d t e m n h =
@@ -41,6 +43,7 @@ below_exponent shape s d t e m n h =
     let g = normal_full shape t e n in
     below_top _ _ _ _ _ _ _ _ _ f g (omega (arith, ints, h, f.short, g.short))
 
+-- at one exponent, one with a lesser significand is less
 below_significand : (precision s n t m u d : ℕ) → IsFull precision s n u d → IsFull precision t m u d → s < t → n < m
 below_significand precision s n t m u d f g h =
     let a : s * 2 ^ u < t * 2 ^ u = mul-lt-mul_of_pos_right h (pow_pos u) in
@@ -49,6 +52,7 @@ below_significand precision s n t m u d f g h =
     let l : n * 2 ^ d < m * 2 ^ d = omega arith in
     lt_of_mul-lt-mul_right (2 ^ d) l
 
+-- so that at one exponent the significands decide
 at_one_exponent : (shape : Shape) (s t : ℕ) (e : ℤ) → IsNormalAt shape s e → IsNormalAt shape t e
     → nat_cmp s t ≡ nat_cmp (quanta_at shape.min_exp s e) (quanta_at shape.min_exp t e)
 at_one_exponent shape s t e m n =
@@ -230,6 +234,7 @@ off_by : (r : Bool) → (r ≡ true → ⊥) → false ≡ r
 off_by true h = absurd (h refl)
 off_by false h = refl
 
+-- values with equal parts are equal
 parts_same : (x y : Unpacked) → x.significand ≡ y.significand → x.exponent ≡ y.exponent → x.category ≡ y.category
     → x.negative ≡ y.negative → x ≡ y
 parts_same x y a b c d = rw (sym a, sym b, sym c, sym d) refl

@@ -100,6 +100,7 @@ inverted_product shape m e law n i =
 
 -- ---- a number with an exact inverse is such a power of two
 
+-- the significand of a number with an inverse divides a power of two
 power_factor : (q i m d u w : ℕ) → q * 2 ^ d ≡ m * 2 ^ u → q * i ≡ 2 ^ w * 2 ^ w → m * (2 ^ u * i) ≡ 2 ^ (w + w + d)
 power_factor q i m d u w h e =
     let a : m * 2 ^ u * i ≡ q * 2 ^ d * i = ap (λ (x : ℕ). x * i) (sym h) in
@@ -107,6 +108,7 @@ power_factor q i m d u w h e =
     let c : 2 ^ (w + w + d) ≡ 2 ^ w * 2 ^ w * 2 ^ d = pow3 w w d in
     omega arith
 
+-- so it is a power of two
 is_power : (shape : Shape) (m i : ℕ) (e : ℤ) → IsShape shape → IsNormalAt shape m e
     → AreInverse (format_at shape) (quanta_at shape.min_exp m e) i → m ≡ 2 ^ (shape.precision - 1)
 is_power shape m i e law n h =
@@ -126,6 +128,7 @@ short_inverse h j w i l e =
     let k : 2 ^ (h + j + h) ≤ 2 ^ (w + w) = omega arith in
     exponent_at_most (h + j + h) (w + w) k
 
+-- the inverse of a number far from 1 has an exponent as far on the other side
 long_inverse : (h j w i p span : ℕ) → i < 2 ^ p * 2 ^ span → 2 ^ h * 2 ^ j * i ≡ 2 ^ w * 2 ^ w
     → w + w < h + j + (p + span)
 long_inverse h j w i p span l e =
@@ -136,6 +139,7 @@ long_inverse h j w i p span l e =
     let k : 2 ^ (w + w) < 2 ^ (h + j + (p + span)) = omega arith in
     exponent_below (w + w) (h + j + (p + span)) k
 
+-- a number with an inverse is not denormal
 not_low : (shape : Shape) (m i : ℕ) (e : ℤ) → IsShape shape → IsNormalAt shape m e
     → AreInverse (format_at shape) (quanta_at shape.min_exp m e) i → shape.min_exp ≤ℤ e
 not_low shape m i e law n h =

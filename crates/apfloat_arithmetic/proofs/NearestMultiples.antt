@@ -158,6 +158,7 @@ upper_far r d odd e =
     (λ (l : d - r ≤ r). l)
     (cases_lt r (d - r))
 
+-- the rest from the upper multiple
 nearest_past : (kind : NonfiniteBehavior) (negative : Bool) (a b n : ℕ) → 0 < b
     → true ≡ upper (a % b) (b - a % b) (eqb (a / b % 2) 1) → n ≡ b - a % b
     → signed_quanta kind (not negative) n ≡ rest_of kind negative a (b * nearest_quotient a b)
@@ -173,6 +174,7 @@ nearest_past kind negative a b n p t e =
     subst (λ (x : ℕ). signed_quanta kind (not negative) n ≡ rest_of kind negative a x) (sym g)
     (rest_past kind negative a (b * (a / b + 1)) n h (omega arith))
 
+-- the rest from the lower multiple
 nearest_within : (kind : NonfiniteBehavior) (negative : Bool) (a b n : ℕ)
     → false ≡ upper (a % b) (b - a % b) (eqb (a / b % 2) 1) → n ≡ a % b
     → signed_quanta kind negative n ≡ rest_of kind negative a (b * nearest_quotient a b)

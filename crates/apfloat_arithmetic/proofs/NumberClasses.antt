@@ -29,6 +29,7 @@ pub quanta_high_is : (shape : Shape) (m : ℕ) (e : ℤ) → shape.min_exp ≤�
     → quanta_at shape.min_exp m e ≡ m * 2 ^ unsigned_abs (e -ℤ shape.min_exp)
 quanta_high_is shape m e l = quanta_high shape m e (unsigned_abs (e -ℤ shape.min_exp)) (omega (arith, ints))
 
+-- from the least exponent on a number has all its digits
 quanta_full : (shape : Shape) (m : ℕ) (e : ℤ) → IsNormalAt shape m e → shape.min_exp ≤ℤ e
     → 2 ^ (shape.precision - 1) ≤ quanta_at shape.min_exp m e
 quanta_full shape m e n l =

@@ -25,12 +25,14 @@ normal_near shape m e l n =
       word = exponent_word shape m e l n;
     }
 
+-- the places of a product add up alike on both sides
 balanced_product : (precision scale : ℕ) (min_exp x y r : ℤ) → 3 ≤ precision
     → pos scale ≡ pos (precision - 1) -ℤ min_exp → r ≡ ((x +ℤ y) -ℤ pos (2 * (precision - 1)))
     → up (x -ℤ min_exp) + up (y -ℤ min_exp) + down (r +ℤ pos scale)
     ≡ down (x -ℤ min_exp) + down (y -ℤ min_exp) + (scale + up (r +ℤ pos scale))
 balanced_product precision scale min_exp x y r t l e = omega (arith, ints)
 
+-- and so do those of a quotient
 balanced_quotient : (precision places scale : ℕ) (min_exp x y r : ℤ) → 3 ≤ precision
     → pos scale ≡ pos (precision - 1) -ℤ min_exp → r ≡ ((x -ℤ y) -ℤ pos places)
     → down (x -ℤ min_exp) + places + up (y -ℤ min_exp) + up (r +ℤ pos scale)

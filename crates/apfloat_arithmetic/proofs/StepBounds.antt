@@ -10,6 +10,7 @@ use Rattle.apfloat_base.specs.arithmetic.Exponents.{IsIlogb, IsLogarithm}
 use Rattle.apfloat_base.specs.arithmetic.Remainders.{ones_of_quotient}
 use Rattle.apfloat_base.proofs.Existence.{two_pos}
 
+-- a quotient below 1 has no ones
 none : (m n : ℕ) → m < n → 0 < count_ones (m / n) → ⊥
 none m n l p =
     let e : count_ones (m / n) ≡ count_ones 0 = ap count_ones (div-eq_of_lt l) in
@@ -24,6 +25,7 @@ few m n p q d f l g =
     let b : 2 ^ (p + 1 - q) * 2 ^ q ≤ 2 ^ (p + 1 - q) * n = mul-le-mul_left (2 ^ (p + 1 - q)) l in
     ones-le (p + 1 - q) (m / n) ((div-lt_iff_lt-mul d).1 (omega arith))
 
+-- the ones of a quotient of two numbers, by their logarithms
 of_numbers : (format : Format) (m n : ℕ) (a b : ℤ) → 0 < n → IsLogarithm format m a → IsLogarithm format n b
     → 0 < count_ones (m / n) → pos (count_ones (m / n)) ≤ℤ ((a -ℤ b) +ℤ pos 1)
 of_numbers format m n a b d h k p =

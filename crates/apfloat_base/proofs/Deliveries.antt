@@ -98,6 +98,7 @@ inexact_if precision mode negative half m c amount parts p loss n l i h x q =
 
 -- ---- tiny
 
+-- a significand below the half shows an amount below it
 small_before : (precision half m c amount parts : ℕ) → 0 < parts → m < half
     → IsEnclosed precision half m c amount parts → amount < half * parts
 small_before precision half m c amount parts p l i =
@@ -110,6 +111,7 @@ small_before precision half m c amount parts p l i =
     (λ (f : half ≤ m). absurd (omega arith))
     i.full
 
+-- one from the half on shows an amount from it on
 large_before : (precision half m c amount parts : ℕ) → half ≤ m → IsEnclosed precision half m c amount parts
     → half * parts ≤ amount
 large_before precision half m c amount parts l i =
@@ -120,6 +122,7 @@ large_before precision half m c amount parts l i =
     let f : m * 2 ^ c * parts ≤ amount = i.from in
     omega arith
 
+-- so the kept significand tells whether the amount is tiny before rounding
 tiny_before : (precision half m c amount parts : ℕ) → 0 < parts → IsEnclosed precision half m c amount parts
     → ltb m half ≡ ltb amount (half * parts)
 tiny_before precision half m c amount parts p i =
@@ -130,6 +133,7 @@ tiny_before precision half m c amount parts p i =
     sym (le-ltb amount (half * parts) (large_before precision half m c amount parts l i)))
     (cases_lt m half)
 
+-- the significand that was picked tells whether the pick is tiny
 small_after : (half s place : ℕ) → s < half → (place ≡ 0) ⊎ (half ≤ s) → s * 2 ^ place < half
 small_after half s place l (inl z) = subst (λ (x : ℕ). s * 2 ^ x < half) (sym z) (omega arith)
 small_after half s place l (inr f) = absurd (omega arith)

@@ -184,6 +184,7 @@ module _ (format : Format) (layout : Layout) (precise : 3 ≤ format.precision) 
 
 -- ---- any layout
 
+-- fields that are canonical are those of the datum that they stand for
 by_layout : (explicit : Bool) (format : Format) (layout : Layout) (b : Bool) (e t : ℕ)
     → format.explicit_integer_bit ≡ explicit → IsInterchange format layout → AreWithin format layout (fields_with b e t)
     → IsTrue (is_canonical format layout (fields_with b e t))

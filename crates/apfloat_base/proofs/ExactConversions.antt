@@ -20,6 +20,7 @@ both_some m zero p q e l =
     absurd (omega arith)
 both_some m (suc n) p q e l = omega arith
 
+-- a number that both formats have
 number_exactly : (from into : Format) (mode : Round) (b : Bool) (m n : ℕ) (value : Datum) (status : ℕ)
     (loses_info : Bool)
     → 0 < m → n * 2 ^ from.scale ≡ m * 2 ^ into.scale → IsFiniteOf into b n
@@ -38,6 +39,7 @@ number_exactly from into mode b m n value status loses_info l e t h =
       loses_is = h.loses_is ∙ ap (λ (s : ℕ). not (eqb s ok_bits)) o.1;
     }
 
+-- a zero whose sign the format keeps
 zero_exactly : (format : Format) (b : Bool) (value : Datum) (status : ℕ) (loses_info : Bool)
     → b ≡ zero_sign format.nonfinite b
     → IsKept (finite (zero_sign format.nonfinite b) 0) (loses_zero_sign format b) value status loses_info

@@ -58,10 +58,12 @@ picks_past format mode negative amount parts p h x i =
     let d : i.below ≤ p = c.1 in
     lt-ltb (largest format) p (omega (arith, a, b, d))
 
+-- all picks past the largest value deliver one value
 value_past : (format : Format) (mode : Round) (negative : Bool) (p q : ℕ) → ltb (largest format) p ≡ true
     → ltb (largest format) q ≡ true → delivered_value format mode negative p ≡ delivered_value format mode negative q
 value_past format mode negative p q a b = rw (a, b) refl
 
+-- and one status
 status_past : (format : Format) (mode : Round) (negative : Bool) (amount parts p amount' parts' q : ℕ)
     → ltb (largest format) p ≡ true → ltb (largest format) q ≡ true
     → delivered_status format mode negative amount parts p ≡ delivered_status format mode negative amount' parts' q
@@ -84,6 +86,7 @@ far_above format mode negative amount parts amount' parts' v s h x y d =
 
 -- ---- below
 
+-- below half a quantum the significand is 0
 little_enclosed : (precision amount parts : ℕ) → 0 < precision → IsFarBelow amount parts
     → IsEnclosed precision (2 ^ (precision - 1)) 0 0 amount parts
 little_enclosed precision amount parts h x =
@@ -118,11 +121,13 @@ little_within : (mode : Round) (negative : Bool) → little_pick mode negative �
 unfolding little_pick
 little_within mode negative = cond_little (rounds_up mode negative LessThanHalf (eqb 0 1))
 
+-- neither 0 nor one quantum is the magnitude
 off_little : (p amount parts : ℕ) → p ≤ 1 → 0 < amount → 2 * amount < parts → p * parts ≡ amount → ⊥
 off_little zero amount parts h k l e = omega arith
 off_little (suc zero) amount parts h k l e = omega arith
 off_little (suc (suc p)) amount parts h k l e = omega arith
 
+-- so the pick is not exact
 inexact_little : (amount parts p : ℕ) → IsFarBelow amount parts → p ≤ 1 → eqb (p * parts) amount ≡ false
 inexact_little amount parts p x h = ne_eqb (p * parts) amount (off_little p amount parts h x.some x.to)
 
@@ -134,6 +139,7 @@ before_little format amount parts x =
     let a : 1 * parts ≤ 2 ^ (format.precision - 1) * parts = mul-le-mul_right parts w in
     lt-ltb amount (smallest_normalized format * parts) (omega (arith, l, a))
 
+-- all such magnitudes are tiny, or none is
 tiny_little : (format : Format) (amount parts amount' parts' p : ℕ) → IsFarBelow amount parts
     → IsFarBelow amount' parts'
     → is_tiny format amount parts p ≡ is_tiny format amount' parts' p
@@ -142,6 +148,7 @@ tiny_little format amount parts amount' parts' p x y =
     let b = before_little format amount' parts' y in
     ap (λ (z : Bool). cond format.tiny_before_rounding z (ltb p (smallest_normalized format))) (a ∙ sym b)
 
+-- and they deliver one status
 status_little : (format : Format) (mode : Round) (negative : Bool) (amount parts amount' parts' p : ℕ) → p ≤ 1
     → IsFarBelow amount parts → IsFarBelow amount' parts'
     → delivered_status format mode negative amount parts p ≡ delivered_status format mode negative amount' parts' p

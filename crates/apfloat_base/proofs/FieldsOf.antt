@@ -55,6 +55,7 @@ width_high false p m o h = let t = twice_half p o in let q : 0 < 2 ^ (p - 1) = p
 abbrev pub MayHaveSign : NonfiniteBehavior → Bool → ℕ → Type 0
 MayHaveSign kind b n = n ≡ 0 → b ≡ zero_sign kind b
 
+-- the fields of a number with fewer digits are read as that number
 low_is : (explicit : Bool) (kind : NonfiniteBehavior) (format : Format) (layout : Layout) (b : Bool) (n : ℕ)
     → eqb 0 (all_ones layout.exponent_bits) ≡ false → MayHaveSign kind b n
     → cond explicit (written_datum format layout (fields_with b 0 n))
@@ -67,6 +68,7 @@ low_is false NanNegativeZero format layout false n e h = refl
 low_is false NanNegativeZero format layout true n e h =
     ⊎_elim (λ (z : n ≡ 0). absurd (true≢false (h z))) (λ (k : n ≡ 0 → ⊥). rw (ne_eqb n 0 k) refl) (cases_eq n 0)
 
+-- and are canonical
 low_canonical : (explicit : Bool) (format : Format) (layout : Layout) (b : Bool) (n : ℕ)
     → eqb 0 (all_ones layout.exponent_bits) ≡ false → n < smallest_normalized format
     → cond explicit (is_canonical_written format layout (fields_with b 0 n)) true ≡ true
@@ -103,6 +105,7 @@ IsNoSpecial NanNegativeZero f layout e m = eqb e 0 ≡ false
 significand_back : (half m : ℕ) → half ≤ m → half + (m - half) ≡ m
 significand_back half m h = omega arith
 
+-- the fields of a number with all digits are read as that number
 high_is : (explicit : Bool) (kind : NonfiniteBehavior) (format : Format) (layout : Layout) (b : Bool) (j m : ℕ)
     → MayBeExplicit kind explicit → smallest_normalized format ≤ m → IsNoSpecial kind format layout (j + 1) m
     → cond explicit (written_datum format layout
@@ -128,6 +131,7 @@ high_is false NanNegativeZero format layout false j m may low n =
     let y : j + 1 - 1 ≡ j = omega arith in
     rw (n, significand_back (smallest_normalized format) m low, y) refl
 
+-- and are canonical
 high_canonical : (explicit : Bool) (kind : NonfiniteBehavior) (format : Format) (layout : Layout) (b : Bool) (j m : ℕ)
     → MayBeExplicit kind explicit → smallest_normalized format ≤ m → IsNoSpecial kind format layout (j + 1) m
     → cond explicit (is_canonical_written format layout
@@ -162,6 +166,7 @@ module _ (format : Format) (layout : Layout) (law : IsInterchange format layout)
       (λ (h : j ≤ format.span). h)
       (cases_lt format.span j)
 
+  -- the biased exponent fits its field
   exponent_fits : (kind : NonfiniteBehavior) (j : ℕ) → format.nonfinite ≡ kind → j ≤ format.span
       → j + 1 < 2 ^ layout.exponent_bits
   exponent_fits IEEE754 j k h = let s : format.span + 3 ≡ 2 ^ layout.exponent_bits + 0 = rw k at law.span in omega arith
@@ -169,6 +174,7 @@ module _ (format : Format) (layout : Layout) (law : IsInterchange format layout)
   exponent_fits NanNegativeZero j k h = let s : format.span + 3 ≡ 2 ^ layout.exponent_bits + 1 = rw k at law.span in
       omega arith
 
+  -- the fields of a number are not those of an infinity or a NaN
   no_special : (kind : NonfiniteBehavior) (j m : ℕ) → format.nonfinite ≡ kind → smallest_normalized format ≤ m
       → m * 2 ^ j ≤ largest format → j ≤ format.span → IsNoSpecial kind format layout (j + 1) m
   no_special IEEE754 j m k low top high =
@@ -249,6 +255,7 @@ infinity_fields_of format layout b law k = record {
   is = infinity_is format.explicit_integer_bit format.nonfinite format layout b k;
 }
 
+-- the fields of a NaN are read as that NaN
 nan_is : (explicit : Bool) (kind : NonfiniteBehavior) (format : Format) (layout : Layout) (b : Bool) (s : ℕ)
     → format.nonfinite ≡ kind → (kind ≡ NanNegativeZero → ⊥) → MayBeExplicit kind explicit
     → IsNanSignificand kind explicit format.precision s
@@ -263,6 +270,7 @@ nan_is false NanOnly format layout b s k n may h =
     rw (eqb_self (all_ones layout.exponent_bits), eq-eqb s (all_ones (format.precision - 1)) h, k) (ap (nan b) (sym h))
 nan_is explicit NanNegativeZero format layout b s k n may h = absurd (n refl)
 
+-- the significand of a NaN fits its field
 width_of_nan : (explicit : Bool) (kind : NonfiniteBehavior) (p s : ℕ) → (kind ≡ NanNegativeZero → ⊥)
     → MayBeExplicit kind explicit → IsNanSignificand kind explicit p s → s < 2 ^ cond explicit p (p - 1)
 width_of_nan true IEEE754 p s n may h = h.0
@@ -286,6 +294,7 @@ nan_fields_of format layout b s law n h = record {
   is = nan_is format.explicit_integer_bit format.nonfinite format layout b s refl n law.explicit h;
 }
 
+-- where -0 is the NaN, its fields are read as the NaN
 one_nan_is : (explicit : Bool) (kind : NonfiniteBehavior) (format : Format) (layout : Layout) → format.nonfinite ≡ kind
     → kind ≡ NanNegativeZero → MayBeExplicit kind explicit
     → cond explicit (written_datum format layout (fields_with true 0 0))
@@ -295,6 +304,7 @@ one_nan_is explicit NanOnly format layout k e may = cc
 one_nan_is true NanNegativeZero format layout k e may = absurd (true≢false may)
 one_nan_is false NanNegativeZero format layout k e may = rw k refl
 
+-- and are canonical
 one_canonical : (explicit : Bool) (kind : NonfiniteBehavior) (format : Format) (layout : Layout)
     → kind ≡ NanNegativeZero
     → MayBeExplicit kind explicit → cond explicit (is_canonical_written format layout (fields_with true 0 0)) true

@@ -19,6 +19,7 @@ pub mod Once
 pub mod Exists
 pub mod Scaled
 pub mod Powers
+pub mod MoreDigits
 pub mod Fractions
 pub mod Divisions
 pub mod ProductLaws

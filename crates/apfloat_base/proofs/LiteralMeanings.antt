@@ -6,6 +6,7 @@ use Rattle.apfloat_base.specs.texts.Literals.{digits_number, places_behind_dot, 
 use Rattle.apfloat_base.proofs.OneMeaning.{literal_of_hexadecimal, IsLiteral}
 use Rattle.apfloat_base.proofs.EachText.{literal_from, begun_of, IsAnyHexadecimal}
 
+-- the parts of a hexadecimal number are those that are read behind its prefix
 by_parts : (body rest : List ℕ) → drop 2 body ≡ rest → IsAnyHexadecimal body
     → IsHexadecimal body (digits_number rest) (places_behind_dot rest) (exponent_number (exponent_text rest))
 by_parts body rest e x =

@@ -30,6 +30,7 @@ stands_past s LessThanHalf amount unit u n h = h.0
 stands_past s ExactlyHalf amount unit u n h = omega (arith, h)
 stands_past s MoreThanHalf amount unit u n h = let a = h.0 in omega (arith, a)
 
+-- a rest above 0, or something lost, leaves the amount above the multiple
 less_start : (q half rest : ℕ) (loss : Loss) (amount unit : ℕ) → 0 < unit → (0 < rest) ⊎ (loss ≡ ExactlyZero → ⊥)
     → StandsFor (q * (2 * half) + rest) loss amount unit → q * (2 * half) * unit < amount
 less_start q half rest loss amount unit u (inl r) h =
@@ -51,6 +52,7 @@ cut_less q half rest loss amount unit u l n h =
     let k : (rest + 1) * unit ≤ half * unit = mul-le-mul_right unit l' in
     (omega arith, omega arith)
 
+-- a rest above the half, or something lost at it, leaves the amount above the middle
 more_start : (q half rest : ℕ) (loss : Loss) (amount unit : ℕ) → 0 < unit
     → (half < rest) ⊎ ((loss ≡ ExactlyZero → ⊥) × (half ≤ rest))
     → StandsFor (q * (2 * half) + rest) loss amount unit → (q * (2 * half) + half) * unit < amount

@@ -80,6 +80,7 @@ less_nothing q = let e : bit_and q 0 ≡ 0 = and_zero_r q in omega (arith, e)
 or_nothing : (q : ℕ) → bit_or (q - bit_and q 0) (0 / 2) ≡ q
 or_nothing q = ap (λ (x : ℕ). bit_or x 0) (less_nothing q) ∙ or_zero_r q
 
+-- a significand without its quiet bit, and with the bit below where nothing else is set
 signaling_kinds : (kind : NonfiniteBehavior) (e : Bool) (p q : ℕ) → 3 ≤ p → IsNanSignificand kind e p q →
     IsNanSignificand kind e p (let c = q - bit_and q (quiet_bit_of kind p) in
     if eqb (bit_and c (payload_mask_of kind p)) 0

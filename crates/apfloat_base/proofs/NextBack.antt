@@ -21,6 +21,7 @@ negated_number kind b n p = rw (no_zero n p) refl
 
 -- ---- the greatest below the least above, and the other way round
 
+-- below the neighbour above stands the number
 below_above : (precision n next : ℕ) → IsOnGrid precision n → IsAbove precision next (n + 1) 1
     → IsBelow precision n (next - 1) 1
 below_above precision n next g a =
@@ -33,6 +34,7 @@ below_above precision n next g a =
           absurd (omega (arith, m, h, l))) (λ (k : other ≤ n). k) (cases_lt n other);
     }
 
+-- above the neighbour below stands the number
 above_below : (precision n next : ℕ) → 0 < n → IsOnGrid precision n → IsBelow precision next (n - 1) 1
     → IsAbove precision n (next + 1) 1
 above_below precision n next p g b =
@@ -50,6 +52,7 @@ above_below precision n next p g b =
 infinite_past : (kind : NonfiniteBehavior) (base : ℕ) → kind ≡ IEEE754 → past_largest kind base false ≡ infinite false
 infinite_past kind base e = rw e refl
 
+-- below the infinity stands the largest number
 next_down_infinite : (format : Format) (n : ℕ) (v : Datum) → 0 < n → n ≡ largest format → v ≡ infinite false
     → IsNextDown format v (finite false n) 0
 next_down_infinite format n v p e w =
@@ -62,6 +65,7 @@ next_down_infinite format n v p e w =
           sym (negated_number format.nonfinite true n p);
     })
 
+-- below the next greater number stands the number
 next_down_greater : (format : Format) (n next : ℕ) (v : Datum) → 0 < n → IsOnGrid format.precision n
     → IsAbove format.precision next (n + 1) 1 → v ≡ finite false next → IsNextDown format v (finite false n) 0
 next_down_greater format n next v p g a w =
@@ -89,6 +93,7 @@ next_down_greater format n next v p g a w =
 zero_negated : (kind : NonfiniteBehavior) → kind ≡ IEEE754 → negated kind (signed_quanta kind true 0) ≡ finite false 0
 zero_negated kind e = rw e refl
 
+-- below the zero stands the least number
 next_down_zero : (format : Format) (n : ℕ) (v : Datum) → format.nonfinite ≡ IEEE754 → n ≡ 1
     → v ≡ signed_quanta format.nonfinite true 0 → IsNextDown format v (finite true n) 0
 next_down_zero format n v k e w =
@@ -103,6 +108,7 @@ next_down_zero format n v k e w =
       is = sym (negated_number format.nonfinite false n p);
     })
 
+-- below the next number of less magnitude stands the number
 next_down_less : (format : Format) (n next : ℕ) (v : Datum) → 0 < n → 0 < next → n ≤ largest format
     → IsOnGrid format.precision n
     → IsBelow format.precision next (n - 1) 1 → v ≡ finite true next → IsNextDown format v (finite true n) 0
@@ -130,6 +136,7 @@ next_down_less format n next v p q m g b w =
 one_on_grid : (precision : ℕ) → 1 < 2 ^ precision → IsOnGrid precision 1
 one_on_grid precision h = record { significand = 1; place = 0; fits = h; is = refl }
 
+-- a number below 0
 negative_back : (format : Format) (n : ℕ) (v : Datum) (st : ℕ) → format.nonfinite ≡ IEEE754 → 1 < 2 ^ format.precision
     → 0 < n
     → IsFiniteOf format true n → IsNextLess format n v st → IsNextDown format v (finite true n) 0
@@ -146,6 +153,7 @@ negative_back format n v st k s p m u =
     next_down_zero format n v k o (u.is.value_is ∙ ap (λ (j : ℕ). signed_quanta format.nonfinite true j) e))
     (cases_lt 0 u.next)
 
+-- a number above 0
 positive_back : (format : Format) (n : ℕ) (v : Datum) (st : ℕ) → format.nonfinite ≡ IEEE754 → 0 < n
     → IsFiniteOf format false n
     → IsNextOfNumber format false n v st → IsNextDown format v (finite false n) 0

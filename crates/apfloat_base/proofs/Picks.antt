@@ -48,6 +48,7 @@ odd_is m c =
 abbrev pub kept : Round → Bool → Loss → ℕ → ℕ
 kept mode negative loss m = cond (rounds_up mode negative loss (eqb (m % 2) 1)) (m + 1) m
 
+-- between two neighbours the mode decides
 inexact_pick : (precision : ℕ) (mode : Round) (negative : Bool) (half m c amount parts : ℕ) (up : Bool)
     → IsEnclosed precision half m c amount parts → m * 2 ^ c * parts < amount
     → takes_above mode negative (amount - m * 2 ^ c * parts) ((m + 1) * 2 ^ c * parts - amount) (eqb (m % 2) 1) ≡ up
@@ -65,6 +66,7 @@ inexact_pick precision mode negative half m c amount parts up i h e = record {
       cond_times up (m + 1) m (2 ^ c) ∙ ap (λ (b : Bool). cond b ((m + 1) * 2 ^ c) (m * 2 ^ c)) (sym e');
 }
 
+-- the amount itself is picked
 exact_pick : (precision : ℕ) (mode : Round) (negative : Bool) (half m c amount parts : ℕ) → 0 < parts
     → IsEnclosed precision half m c amount parts → amount ≡ m * 2 ^ c * parts
     → IsPick precision mode negative amount parts (m * 2 ^ c)

@@ -64,6 +64,7 @@ pub past_same : (s place greatest span : ℕ) → place ≡ span
 past_same s place greatest span e =
     ltb_times greatest s (2 ^ span) (pow_pos span) ∙ ap (λ (x : ℕ). ltb (greatest * 2 ^ span) (s * 2 ^ x)) (sym e)
 
+-- a place past the last one is past the largest value
 past_above : (half s place greatest span : ℕ) → greatest < 2 * half → (place ≡ 0) ⊎ (half ≤ s) → span < place
     → greatest * 2 ^ span < s * 2 ^ place
 past_above half s place greatest span g (inl z) l = absurd (omega arith)

@@ -92,6 +92,7 @@ max_agrees x y = rw (nan_agrees x, nan_agrees y) refl
 
 -- zeros of one sign are one datum, so that it plays no part which of them is the answer
 
+-- two zeros of one sign are one
 one_zero : (x y : Datum) → is_zero x ≡ true → is_zero y ≡ true → same_sign (is_negative x) (is_negative y) ≡ true
     → x ≡ y
 one_zero (finite a m) (finite b n) e f s = rw (same_sign_is a b s, eqb-true m 0 e, eqb-true n 0 f) refl
@@ -111,18 +112,21 @@ chosen true false s p r h = refl
 chosen true true false p r h = refl
 chosen true true true p r h = sym (h refl refl refl)
 
+-- of two zeros of one sign either is the lesser
 lesser_zero : (x y : Datum) (below : Bool) → is_zero x ≡ true → is_zero y ≡ true
     → same_sign (is_negative x) (is_negative y) ≡ true → (if is_negative x then x else y) ≡ (if below then y else x)
 lesser_zero x y below e f s =
     let q = one_zero x y e f s in
     either (is_negative x) x y q ∙ q ∙ sym (either below y x (sym q))
 
+-- and either is the greater
 greater_zero : (x y : Datum) (below : Bool) → is_zero x ≡ true → is_zero y ≡ true
     → same_sign (is_negative x) (is_negative y) ≡ true → (if is_negative x then y else x) ≡ (if below then y else x)
 greater_zero x y below e f s =
     let q = one_zero x y e f s in
     either (is_negative x) y x (sym q) ∙ sym (either below y x (sym q))
 
+-- what is chosen behind two tests for NaN
 no_nan : (n m : Bool) (x y p q : Datum) → (n ≡ false → m ≡ false → p ≡ q)
     → (if n then x else (if m then y else p)) ≡ (if n then x else (if m then y else q))
 no_nan true m x y p q h = refl

@@ -21,6 +21,7 @@ negated_some : (kind : NonfiniteBehavior) (b : Bool) (m : ℕ)
     → negated kind (finite b (suc m)) ≡ finite (not b) (suc m)
 negated_some kind b m = rw (ne_eqb (suc m) 0 (λ z. omega (arith, z))) refl
 
+-- for two numbers
 opposite_numbers : (format : Format) (mode : Round) (b c : Bool) (m n : ℕ) (value : Datum) (status : ℕ)
     → 0 < largest format
     → IsProduct format mode (finite b m) (finite c n) value status

@@ -27,6 +27,7 @@ scaled_stands s a di ui uj dj u d h e =
 
 -- ---- by a power of two, in a format whose quantum is 2 to the power of minus `scale`
 
+-- the places of a scaled number add up alike on both sides
 balanced_scaling : (digits scale : ℕ) (min_exp x j r : ℤ) → pos scale ≡ pos digits -ℤ min_exp
     → r ≡ ((x +ℤ j) -ℤ pos digits)
     → up (x -ℤ min_exp) + up j + down (r +ℤ pos scale) ≡ down (x -ℤ min_exp) + down j + up (r +ℤ pos scale)
@@ -43,6 +44,7 @@ scaled_is digits scale min_exp x j r s a k e h =
 
 -- ---- from one format into another
 
+-- and so do those of a converted one
 balanced_conversion : (digits scale digits' scale' : ℕ) (min min' x r : ℤ) → pos scale ≡ pos digits -ℤ min
     → pos scale' ≡ pos digits' -ℤ min' → r ≡ (x -ℤ pos digits)
     → up (x -ℤ min) + scale' + down (r +ℤ pos scale') ≡ down (x -ℤ min) + scale + up (r +ℤ pos scale')
@@ -78,6 +80,7 @@ quanta_below precision min_exp x s a f h =
     let c : a * 1 ≤ a * 2 ^ down (x -ℤ min_exp) = mul-le-mul_left a w in
     omega (arith, e, b, c, h)
 
+-- a number moved up by the bound is far above the format
 far_up : (format : Format) (a bound u d : ℕ) → 0 < a → format.precision + format.span ≤ bound → bound ≤ u → d ≡ 0
     → IsFarAbove format (a * 2 ^ u) (2 ^ d)
 far_up format a bound u d h l k z = record {
@@ -90,6 +93,7 @@ far_up format a bound u d h l k z = record {
       rw e (omega (arith, p, q));
 }
 
+-- a number moved down by the bound is far below it
 far_down : (a k bound u d : ℕ) → 0 < a → a < 2 ^ k → k + 1 ≤ bound → bound ≤ d → u ≡ 0
     → IsFarBelow (a * 2 ^ u) (2 ^ d)
 far_down a k bound u d h b l m z = record {

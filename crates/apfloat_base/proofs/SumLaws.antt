@@ -36,6 +36,7 @@ raised_place t p j l =
     let a : 2 ^ j ≡ 2 ^ (j - p) * 2 ^ p = ap (λ (x : ℕ). 2 ^ x) e ∙ pow-add 2 (j - p) p in
     ap (λ (x : ℕ). t * x) a ∙ omega arith
 
+-- the difference of two multiples of a unit is one
 left_over : (a s u d : ℕ) → 0 < u → a * u ≡ s * u + d → d ≡ (a - s) * u
 left_over a s u d p e =
     let l' : s * u ≤ a * u = omega arith in
@@ -86,6 +87,7 @@ far_apart m n =
     (λ (z : down (pos m -ℤ pos n) ≡ 0). inl (omega (arith, ints)))
     (one_side (pos m -ℤ pos n))
 
+-- the distance of two numbers is at most the greater one
 far_below : (m n d top : ℕ) → (m ≡ n + d) ⊎ (n ≡ m + d) → m ≤ top → n ≤ top → d ≤ top
 far_below m n d top (inl e) a b = omega arith
 far_below m n d top (inr e) a b = omega arith
@@ -173,6 +175,7 @@ value_is format mode negative p e =
     (cond (leads_out mode negative) (infinite negative) (finite negative (largest format))) v)
     (signed_quanta_is negative p)
 
+-- with a sign of plus the delivered value grows with the pick
 up_grows : (b d out : Bool) (top p q : ℕ) → ltb top p ≡ b → ltb top q ≡ d → p ≤ q
     → AtMost (at b out false top p) (at d out false top q)
 up_grows true true true top p q x y l = inr refl
@@ -182,6 +185,7 @@ up_grows false true true top p q x y l = refl
 up_grows false true false top p q x y l = let h : p ≤ top = grind arith in omega (arith, ints)
 up_grows false false out top p q x y l = omega (arith, ints)
 
+-- with a sign of minus it falls
 down_grows : (b d out : Bool) (top p q : ℕ) → ltb top p ≡ b → ltb top q ≡ d → q ≤ p
     → AtMost (at b out true top p) (at d out true top q)
 down_grows true true true top p q x y l = inl refl
@@ -236,6 +240,7 @@ zeros_ordered true false = omega (arith, ints)
 zeros_ordered false true = omega (arith, ints)
 zeros_ordered false false = omega (arith, ints)
 
+-- a magnitude of 0 is delivered as the zero of its sign
 zero_is : (format : Format) (mode : Round) (s : Bool) (v : Datum) (i : ℕ) → format.nonfinite ≡ IEEE754
     → IsDelivered format mode s 0 1 v i → v ≡ finite s 0
 zero_is format mode s v i e d =
@@ -243,6 +248,7 @@ zero_is format mode s v i e d =
     (zero_delivered format mode s 1 0 (omega arith) refl) in
     x.0 ∙ ap (λ (k : NonfiniteBehavior). signed_quanta k s 0) e
 
+-- of two signed magnitudes in order the delivered values are in order
 grows_at : (format : Format) (mode : Round) (s t : Bool) (x y : ℕ) (v w : Datum) (i j : ℕ) → format.nonfinite ≡ IEEE754
     → Ordered s x t y → IsDelivered format mode s x 1 v i → IsDelivered format mode t y 1 w j → AtMost v w
 grows_at format mode s t x y v w i j e (both_up a b l) d g =
@@ -290,6 +296,7 @@ sum_grows format mode of_zero of_other a b v w i j e l d g =
 more_together : (a b z : ℤ) → a ≤ℤ b → (a +ℤ z) ≤ℤ (b +ℤ z)
 more_together a b z l = omega (arith, ints)
 
+-- a sum grows with its first operand
 grows_to : (format : Format) (mode : Round) (b d : Bool) (m n : ℕ) (v : Datum) (s : ℕ)
     → IsSum format mode (finite b m) (finite d n) v s → format.nonfinite ≡ IEEE754
     → (y greater : Datum) (status : ℕ) → IsTrue (is_finite y) → signed b m ≤ℤ number y

@@ -157,6 +157,7 @@ balances_one : (flipped : Bool) (n a b : ℕ) → Balances flipped n a b → Bal
 balances_one true n a b h = omega (arith, h)
 balances_one false n a b h = omega (arith, h)
 
+-- a difference in whole units has nothing lost
 exact_difference : (flipped : Bool) (n a b unit : ℕ) (loss : Loss) → loss ≡ ExactlyZero
     → Balances flipped (n * unit) a b → IsApart a b flipped n loss unit
 exact_difference flipped n a b unit loss z h = record {

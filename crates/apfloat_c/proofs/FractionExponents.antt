@@ -45,6 +45,7 @@ past_all constants law =
     omega (arith, ints, law.precision_low, law.min_exp_high, law.max_exp_low) in
     omega (arith, ints, law.precision_high, law.min_exp_low, law.max_exp_high, scale, span)
 
+-- the exponent of the fraction of a finite value fits 32 bits
 number_fits : (constants : Constants) → IsLawful constants → (b : Bool) (n : ℕ) (none : Bool) (value : Datum) (e : ℤ)
     → eqb n 0 ≡ none
     → n ≤ largest (format_with constants)

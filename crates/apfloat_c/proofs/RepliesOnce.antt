@@ -43,6 +43,7 @@ OnceAnswer Holds = (a b : Answer) → Holds a → Holds b → SameAnswer a b
 
 -- ---- answers without a value
 
+-- a relation with one answer leaves one, be it a whole number
 unsigned_once : (Holds : ℕ → ℕ → Bool → Type 0) → OnceWhole Holds → OnceAnswer (IsUnsigned Holds)
 unsigned_once Holds once a b x y =
     let same = once (whole a.bits) (whole b.bits) a.status b.status x.is_exact y.is_exact x.holds y.holds in
@@ -52,6 +53,7 @@ unsigned_once Holds once a b x y =
       number = x.number_is ∙ ap one_if same.2 ∙ sym y.number_is;
     }
 
+-- one with a sign
 signed_once : (Holds : ℤ → ℕ → Bool → Type 0) → OnceWhole Holds → OnceAnswer (IsSigned Holds)
 signed_once Holds once a b x y =
     let same = once x.integer y.integer a.status b.status x.is_exact y.is_exact x.holds y.holds in
@@ -61,6 +63,7 @@ signed_once Holds once a b x y =
       number = x.number_is ∙ ap one_if same.2 ∙ sym y.number_is;
     }
 
+-- a number alone
 number_once : (Holds : ℤ → Type 0) → Determines Holds → OnceAnswer (IsNumber Holds)
 number_once Holds once a b x y = record {
   bits = x.bits_are ∙ sym y.bits_are;
@@ -89,21 +92,25 @@ module _ (constants : Constants) (has : HasLaw constants) where
         number = x.number_is ∙ number_is ∙ sym y.number_is;
       }
 
+  -- a value with its status
   value_once : (Holds : Datum → ℕ → Type 0) → Once Holds → OnceAnswer (IsValue constants Holds)
   value_once Holds once a b x y =
       let same = once x.value y.value x.status y.status x.holds y.holds in
       written_once x.value y.value x.status y.status _ _ a b same.0 same.1 refl x.is_written y.is_written
 
+  -- a value alone
   untold_once : (Holds : Datum → Type 0) → Determines Holds → OnceAnswer (IsUntold constants Holds)
   untold_once Holds once a b x y =
       let same = once x.value y.value x.holds y.holds in
       written_once x.value y.value _ _ _ _ a b same refl refl x.is_written y.is_written
 
+  -- a fraction and its exponent
   fraction_once : (Holds : Datum → ℤ → Type 0) → DeterminesBoth Holds → OnceAnswer (IsFractionOf constants Holds)
   fraction_once Holds once a b x y =
       let same = once x.value y.value x.exponent y.exponent x.holds y.holds in
       written_once x.value y.value _ _ x.exponent y.exponent a b same.0 refl same.1 x.is_written y.is_written
 
+  -- a value in another format
   converted_once : (Holds : Datum → ℕ → Bool → Type 0) → OnceWith Holds → OnceAnswer (IsConvertedTo constants Holds)
   converted_once Holds once a b x y =
       let same = once x.value y.value x.status y.status x.loses y.loses x.holds y.holds in
@@ -164,6 +171,7 @@ conversion_answer_once constants mode x (Some target) = converted_in_once consta
 
 -- ---- one answer in a format
 
+-- a call on values of a format has one answer
 answer_once : (constants : Constants) → HasLaw constants → (mode : Round) (call : Call)
     → OnceAnswer (IsAnswer constants mode call)
 answer_once constants has mode (OfTwo arithmetic x y) =
@@ -200,6 +208,7 @@ answer_once constants has mode (Text text) = value_once constants has _
 
 -- ---- one answer of pairs
 
+-- pairs that are equal are written as one answer
 pair_written_once : (v w : Pair) (s t : ℕ) (i j : ℤ) (a b : Answer) → v ≡ w → s ≡ t → i ≡ j
     → IsPairWritten v s i a → IsPairWritten w t j b → SameAnswer a b
 pair_written_once v w s t i j a b value_is status_is number_is x y = record {
@@ -209,16 +218,19 @@ pair_written_once v w s t i j a b value_is status_is number_is x y = record {
   number = x.number_is ∙ number_is ∙ sym y.number_is;
 }
 
+-- a pair with its status
 pair_value_once : (Holds : Pair → ℕ → Type 0) → OncePair Holds → OnceAnswer (IsPairValue Holds)
 pair_value_once Holds once a b x y =
     let same = once x.value y.value x.status y.status x.holds y.holds in
     pair_written_once x.value y.value x.status y.status _ _ a b same.0 same.1 refl x.is_written y.is_written
 
+-- a pair alone
 pair_untold_once : (Holds : Pair → Type 0) → Determines Holds → OnceAnswer (IsPairUntold Holds)
 pair_untold_once Holds once a b x y =
     let same = once x.value y.value x.holds y.holds in
     pair_written_once x.value y.value _ _ _ _ a b same refl refl x.is_written y.is_written
 
+-- a fraction of a pair and its exponent
 pair_fraction_answer_once : (Holds : Pair → ℤ → Type 0) → DeterminesBoth Holds
     → OnceAnswer (IsPairFractionOf Holds)
 pair_fraction_answer_once Holds once a b x y =
@@ -254,6 +266,7 @@ pair_answer_once mode (Text text) = pair_value_once _ (pair_reading_once mode te
 
 -- ---- one reply
 
+-- a call on values of any kind has one answer
 kind_once : (kind : Kind) → KindHasLaw kind → (mode : Round) (call : Call) → OnceAnswer (IsAnswerOf kind mode call)
 kind_once (of_format c) has mode call = answer_once c has mode call
 kind_once of_pairs has mode call = pair_answer_once mode call
@@ -268,6 +281,7 @@ unchanged old a b a_is b_is =
       number = ap (λ (x : Answer). x.number) same;
     }
 
+-- and one code
 without_once : (fault : Option ℕ) (known : Format) (mode : Round) (call : Call) (old a b : Answer) (code other : ℕ)
     → IsReply (without fault (record { kind = kind_of known; mode = mode; call = call })) old a code
     → IsReply (without fault (record { kind = kind_of known; mode = mode; call = call })) old b other
@@ -288,6 +302,7 @@ reply_once (Some known) (Some mode) call old a b code other x y =
 
 -- ---- answers as C holds them, whose halves have 64 bits
 
+-- two halves that say one number have one upper half
 high_once : (a b : Halves) → a.low < 2 ^ 64 → b.low < 2 ^ 64 → whole a ≡ whole b → a.high ≡ b.high
 high_once a b a_fits b_fits same =
     ⊎_elim
@@ -299,6 +314,7 @@ high_once a b a_fits b_fits same =
     (cases_lt b.high a.high))
     (cases_lt a.high b.high)
 
+-- and then one lower half
 low_once : (a b : Halves) → a.high ≡ b.high → whole a ≡ whole b → a.low ≡ b.low
 low_once a b high same = omega arith
 
@@ -306,6 +322,7 @@ halves_of : (a b : Halves) → a.low ≡ b.low → a.high ≡ b.high → a ≡ b
 halves_of a b low high =
     ap (λ (n : ℕ). record { low = n; high = a.high }) low ∙ ap (λ (n : ℕ). record { low = b.low; high = n }) high
 
+-- so the halves are the same
 halves_once : (a b : Halves) → a.low < 2 ^ 64 → b.low < 2 ^ 64 → whole a ≡ whole b → a ≡ b
 halves_once a b a_fits b_fits same =
     let high = high_once a b a_fits b_fits same in

@@ -24,6 +24,7 @@ abbrev Says : Shape → Shape → Round → Category → Unpacked → Datum → 
 Says from into mode k x value status loses_info =
     IsConversion (format_at from) (format_at into) mode (datum_by k from x) value status loses_info
 
+-- a number, by its quanta
 number_converted : (from into : Shape) (mode : Round) (x : Unpacked) (value : Datum) (status : ℕ)
     (loses_info : Bool) → IsStoredBy Normal from x
     → IsConvertedNumber (format_at from) (format_at into) mode x.negative

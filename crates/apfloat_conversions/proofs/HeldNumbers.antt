@@ -27,6 +27,7 @@ use Rattle.apfloat_conversions.specs.Held.{IsHeld, IsHeldAt, IsInside, IsReached
 
 -- ---- the largest value: g * 2 ^ m quanta, and h * 2 ^ n of the other, finer by k places
 
+-- within the largest value, where the last exponents are equal
 level : (a g h m n k d : ℕ) → a ≤ g * 2 ^ m → g * 2 ^ d ≤ h → m + k ≡ n + d → a * 2 ^ k ≤ h * 2 ^ n
 level a g h m n k d l r e =
     let p : 2 ^ m * 2 ^ k ≡ 2 ^ n * 2 ^ d = sym (pow-add 2 m k) ∙ ap (λ (x : ℕ). 2 ^ x) e ∙ pow-add 2 n d in
@@ -35,6 +36,7 @@ level a g h m n k d l r e =
     let q : g * (2 ^ m * 2 ^ k) ≡ g * (2 ^ n * 2 ^ d) = ap (λ (x : ℕ). g * x) p in
     omega arith
 
+-- and where that of the other shape is greater
 higher : (a g h m n k p q : ℕ) → a ≤ g * 2 ^ m → g < 2 ^ p → 2 ^ q ≤ h → p + m + k ≤ q + n → a * 2 ^ k ≤ h * 2 ^ n
 higher a g h m n k p q l f r e =
     let b : a * 2 ^ k ≤ g * 2 ^ m * 2 ^ k = mul-le-mul_right (2 ^ k) l in
@@ -49,6 +51,7 @@ higher a g h m n k p q l f r e =
 abbrev finer : Shape → Shape → ℕ
 finer source target = (format_at target).scale - (format_at source).scale
 
+-- a number within the largest value of one is within that of the other
 held_within : (source target : Shape) (a : ℕ) → IsShape source → IsShape target → IsHeld source target
     → a ≤ largest (format_at source)
     → a * 2 ^ finer source target ≤ largest (format_at target)
@@ -75,6 +78,7 @@ held_within source target a from into h l =
 
 -- ---- a number
 
+-- and it is counted in the finer quanta
 held_quanta : (source target : Shape) (m : ℕ) (e : ℤ) → IsShape source → IsShape target → IsHeld source target
     → IsNormalAt source m e
     → IsQuantaAt target.min_exp (m * 2 ^ (target.precision - source.precision)) e

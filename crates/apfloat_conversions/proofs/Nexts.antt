@@ -64,6 +64,7 @@ step_above p s a u d l (inl z) f h =
 
 -- ---- the neighbours
 
+-- the next multiple of its unit is the neighbour above a grid number
 above_at : (p half m c a : ℕ) → 2 ^ p ≡ 2 * half → m < 2 ^ p → (c ≡ 0) ⊎ (half ≤ m) → a ≡ m * 2 ^ c
     → IsAbove p (a + 2 ^ c) (a + 1) 1
 above_at p half m c a e f g h =
@@ -93,6 +94,7 @@ next_is p s a u d q (inl z) f g h =
     above_at p (2 ^ (p - 1)) a u a (sym (twice_half p q)) (omega arith) (inl z)
     (let k₂ : a * 2 ^ u ≡ a * 1 = ap (λ (x : ℕ). a * x) e in omega (arith, k₂))
 
+-- and the one before it the neighbour below
 below_at : (p half m c a : ℕ) → 2 ^ p ≡ 2 * half → m < 2 ^ p → (c ≡ 0) ⊎ (half ≤ m) → a ≡ (m + 1) * 2 ^ c
     → IsBelow p (a - 2 ^ c) (a - 1) 1
 below_at p half m c a e f g h =
@@ -166,6 +168,7 @@ room_cases x m (pos zero) e l = inr (omega (arith, ints, e, l))
 room_cases x m (pos (suc k)) e l = inl (omega (arith, ints, e, l))
 room_cases x m (negsuc k) e l = absurd (omega (arith, ints, e, l))
 
+-- at the greatest exponent, a number whose step carries is the largest
 at_top : (format : Format) (precision : ℕ) (min_exp max_exp : ℤ) (s a : ℕ) → format.precision ≡ precision
     → pos format.span ≡ max_exp -ℤ min_exp → IsQuantaAt min_exp s max_exp a
     → 2 ^ precision ≤ s + 2 ^ down (max_exp -ℤ min_exp) → largest format ≤ a
@@ -307,6 +310,7 @@ lowered_operand p min max x y s t w d q o e i j r l =
 
 -- ---- the logarithm and the fraction
 
+-- a number with all digits is at least the power of its exponent
 logarithm_low : (q s a k u d : ℕ) → k + d ≡ q + u → 2 ^ q ≤ s → a * 2 ^ d ≡ s * 2 ^ u → 2 ^ k ≤ a
 logarithm_low q s a k u d e f h =
     let w : 2 ^ k * 2 ^ d ≡ 2 ^ q * 2 ^ u = sym (pow-add 2 k d) ∙ ap (λ (x : ℕ). 2 ^ x) e ∙ pow-add 2 q u in
@@ -314,6 +318,7 @@ logarithm_low q s a k u d e f h =
     let r : 2 ^ k * 2 ^ d ≤ a * 2 ^ d = omega (arith, w, g, h) in
     le_of_mul-le-mul_right r (pow_pos d)
 
+-- and below the next power
 logarithm_high : (p s a k u d : ℕ) → k + d ≡ p + u → s < 2 ^ p → a * 2 ^ d ≡ s * 2 ^ u → a < 2 ^ k
 logarithm_high p s a k u d e f h =
     let w : 2 ^ k * 2 ^ d ≡ 2 ^ p * 2 ^ u = sym (pow-add 2 k d) ∙ ap (λ (x : ℕ). 2 ^ x) e ∙ pow-add 2 p u in

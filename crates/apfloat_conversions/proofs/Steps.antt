@@ -53,6 +53,7 @@ pub record IsAfter (shape : Shape) (n m : ℕ) (e : ℤ) : Type 0 where
   pub operand : IsOperandAt shape.precision shape.min_exp shape.max_exp m e
   pub quanta : IsQuantaAt shape.min_exp m e next
 
+-- one unit of its last digit above a number stands the neighbour
 above_of : (shape : Shape) (m : ℕ) (e : ℤ) → IsShape shape → IsNormalAt shape m e
     → IsAbove shape.precision (quanta_at shape.min_exp m e + 2 ^ up (e -ℤ shape.min_exp))
     (quanta_at shape.min_exp m e + 1) 1

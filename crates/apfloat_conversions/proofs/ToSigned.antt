@@ -71,6 +71,7 @@ no_whole mode b scale = whole_exactly mode b 0 0 (2 ^ scale) (pow_pos scale) (om
 no_quanta : (scale : ℕ) → eqb (0 * 2 ^ scale) 0 ≡ true
 no_quanta scale = eq-eqb (0 * 2 ^ scale) 0 (omega arith)
 
+-- 0 is in each range that has it
 zero_ranged : (low high : ℤ) (answer : Whole) → low ≤ℤ pos 0 → pos 0 ≤ℤ high → ranged low high (pos 0) answer ≡ answer
 zero_ranged low high answer l h = rw (less_not (pos 0) low l, less_not high (pos 0) h) refl
 
@@ -94,6 +95,7 @@ zero_unsigned NanOnly format mode width number st exact h = zero_unsigned_of for
 zero_unsigned NanNegativeZero format mode width number st exact h =
     zero_unsigned_of format mode width number st true exact h
 
+-- -0 is 0, and not exact
 minus_zero : (format : Format) (mode : Round) (width : ℕ) (value : ℤ) (status : ℕ) (is_exact : Bool) → value ≡ pos 0
     → status ≡ 0 → is_exact ≡ false → IsToSigned format mode width (finite true 0) value status is_exact
 minus_zero format mode width value status is_exact v t e =
@@ -122,6 +124,7 @@ minus_within format mode width n value status is_exact z l v t e =
     (omega (arith, ints)) in
     rw (z, a, b) (record { number_is = v; status_is = t; is_exact_is = e ∙ sym (and-true _) })
 
+-- a number below the range is replaced by its end
 minus_past : (format : Format) (mode : Round) (width n : ℕ) (value : ℤ) (status : ℕ) (is_exact : Bool)
     → 2 ^ (width - 1) < whole_pick mode true n (2 ^ format.scale) → value ≡ neg_ℤ (pos (2 ^ (width - 1))) → status ≡ 1
     → is_exact ≡ false → IsToSigned format mode width (finite true n) value status is_exact
@@ -138,6 +141,7 @@ wider width h =
     let a : 2 ^ 1 ≤ 2 ^ (width - 1) = pow-le-pow_right two_pos l in
     omega (arith, t, a)
 
+-- a number below 0, by its magnitude in the swapped mode
 minus_number : (format : Format) (mode : Round) (width n number st : ℕ) (exact : Bool) (value : ℤ) (status : ℕ)
     (is_exact : Bool) → eqb n 0 ≡ false → 2 ≤ width
     → IsToUnsigned format (swapped mode) width (finite false n) number st exact

@@ -27,6 +27,7 @@ whole_odd q =
     let d : q + 1 - q ≡ 1 = omega arith in
     ap (λ (x : ℕ). eqb (q / x % 2) 1) d ∙ ap (λ (x : ℕ). eqb (x % 2) 1) (div-one q)
 
+-- whether the mode takes the number above, by what was lost
 takes_at : (mode : Round) (negative odd : Bool) (q amount parts : ℕ) (loss : Loss) → (loss ≡ ExactlyZero → ⊥)
     → StandsFor q loss amount parts
     → takes_above mode negative (amount - q * parts) ((q + 1) * parts - amount) odd
@@ -38,6 +39,7 @@ takes_at mode negative odd q amount parts ExactlyHalf n h = takes_half mode nega
 takes_at mode negative odd q amount parts MoreThanHalf n h = let a = h.0 in let b = h.1 in
     takes_more mode negative odd _ _ (omega (arith, a, b))
 
+-- so that what is kept is picked
 between_is : (mode : Round) (negative : Bool) (q amount parts : ℕ) (loss : Loss) → (loss ≡ ExactlyZero → ⊥)
     → StandsFor q loss amount parts → pick_between mode negative q (q + 1) amount parts ≡ kept mode negative loss q
 between_is mode negative q amount parts loss n h =
@@ -146,6 +148,7 @@ pub up_of : (z : ℤ) → pos 0 ≤ℤ z → pos (up z) ≡ z
 up_of (pos k) h = refl
 up_of (negsuc k) h = absurd (omega (arith, ints))
 
+-- a number with more digits than the word is past it
 shifted_past : (digits s k : ℕ) → 2 ^ digits ≤ s → 128 ≤ digits + k → 2 ^ 128 ≤ s * 2 ^ k
 shifted_past digits s k f h =
     let e : 2 ^ (digits + k) ≡ 2 ^ digits * 2 ^ k = pow-add 2 digits k in

@@ -27,6 +27,7 @@ denormal_by_sum x sum status s =
     ap (λ (d : Datum). is_finite_non_zero x.high && (is_denormal double x.high || not (is_equal x.high d)))
     (nearest_sum_at x.high x.low sum status s)
 
+-- where the pair is a number, the sum of its parts decides
 by_category : (b t : Bool) (x : Pair) → ((a : Bool) → a ≡ t → IsDenormalByParts x a)
     → MatchBool b (IsDenormalByParts x (b && t)) ((b && t) ≡ false)
 by_category true t x f = f t refl

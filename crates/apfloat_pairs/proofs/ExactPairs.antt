@@ -10,6 +10,7 @@ use Rattle.apfloat_pairs.specs.PairCalls.{IsPairQuotient, IsPairTruncatedRemaind
 use Rattle.apfloat_pairs.specs.PairAccuracy.{IsExactAnswerOfTwo, IsExactQuotient, IsExactTruncatedRemainder, IsExactNearestRemainder}
 use Rattle.apfloat_pairs.proofs.SplitLaws.{exact_split}
 
+-- of a call of two pairs
 exact_answer_of_two : (call : Datum → Datum → Datum → ℕ → Type 0) (x y answer : Pair) (status : ℕ)
     → IsWideAnswerOfTwo call x y answer status → IsExactAnswerOfTwo call x y answer status
 exact_answer_of_two call x y answer status a = record {

@@ -47,6 +47,7 @@ upper_half : (k h l : ℕ) → h < 2 ^ k → (h + 2 ^ k * l) / 2 ^ k ≡ l
 upper_half k h l b =
     let e : h + 2 ^ k * l ≡ l * 2 ^ k + h = omega arith in ap (λ (i : ℕ). i / 2 ^ k) e ∙ shr_high l k h b
 
+-- two halves are below the square of the bound of one
 both_below : (k h l : ℕ) → h < 2 ^ k → l < 2 ^ k → h + 2 ^ k * l < 2 ^ (k + k)
 both_below k h l a b =
     let e : h + 2 ^ k * l ≡ l * 2 ^ k + h = omega arith in
@@ -57,6 +58,7 @@ both_below k h l a b =
 halves_joined : (k n : ℕ) → n ≡ n % 2 ^ k + 2 ^ k * (n / 2 ^ k)
 halves_joined k n = let e : n / 2 ^ k * 2 ^ k + n % 2 ^ k ≡ n = shr_split n k in omega arith
 
+-- halves joined by or are halves added
 or_halves : (k h l : ℕ) → h < 2 ^ k → l < 2 ^ k → bit_or h (l * 2 ^ k % 2 ^ (k + k)) ≡ h + 2 ^ k * l
 or_halves k h l a b =
     ap (λ (i : ℕ). bit_or h i) (shl_whole l k k (k + k) b (omega arith)) ∙ or_comm h (l * 2 ^ k) ∙

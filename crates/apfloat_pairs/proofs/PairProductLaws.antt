@@ -31,6 +31,7 @@ use Rattle.apfloat_pairs.proofs.ProductAnswers.{IsFactor, product_numbers}
 
 -- ---- two doubles: nothing comes from low parts that are zero
 
+-- less than one unit is none
 none_left : (p u v e : ℕ) → 0 < p → 0 < u → 2 * (p * e) ≤ p * u → v * u ≤ e → v ≡ 0
 none_left p u v e q w h l =
     let a : p * (2 * e) ≤ p * u = omega arith in
@@ -42,6 +43,7 @@ none_left p u v e q w h l =
 nothing : (v : ℤ) → magnitude v ≡ 0 → v ≡ pos 0
 nothing v h = omega (arith, ints, h)
 
+-- what is close to 0 is 0
 zero_close : (precision parts : ℕ) (exact v : ℤ) → 0 < parts → magnitude exact ≡ 0
     → IsCloseFraction precision parts exact v → v ≡ pos 0
 zero_close precision parts exact v u z h =
@@ -84,6 +86,7 @@ high_alone a b e = omega (arith, ints, e)
 no_low : (z : ℤ) (n : ℕ) → z ≡ pos 0 → 64 * magnitude z ≤ n
 no_low z n e = let m : magnitude z ≡ 0 = ap magnitude e in omega (arith, m)
 
+-- a double alone is a factor of the laws
 single_factor : (x : Pair) → IsDoubleAlone x → is_finite_non_zero x.high ≡ true → IsFactor x
 single_factor x s n = record {
   is_number = n;
@@ -123,9 +126,11 @@ error_free_product x y answer status mx my k s t e =
 
 -- ---- two normalised pairs
 
+-- the low part of a normalised pair is small beside the pair
 low_below : (p k m s : ℕ) → 128 ≤ p → p * k ≤ s → s ≤ m + k → 64 * k ≤ m
 low_below p k m s w h l = let b : 128 * k ≤ p * k = mul-le-mul_right k w in omega arith
 
+-- and the high part is at least half of it
 half_of : (m s k : ℕ) → m ≤ s + k → 64 * k ≤ m → m ≤ 2 * s
 half_of m s k h l = omega arith
 
@@ -151,6 +156,7 @@ low_quanta x n =
 half_high : (x : Pair) → IsNormalised x → size x.high ≤ 2 * magnitude (pair_number x)
 half_high x n = half_of _ _ _ (first_most (number x.high) (number x.low)) (low_quanta x n)
 
+-- a normalised pair is a factor of the laws
 normalised_factor : (x : Pair) → IsNormalised x → is_finite_non_zero x.high ≡ true → IsFactor x
 normalised_factor x s n = record { is_number = n; finite_low = s.finite_low; small = low_quanta x s }
 

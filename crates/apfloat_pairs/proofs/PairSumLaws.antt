@@ -38,6 +38,7 @@ reach_within t l n h k = omega arith
 no_sevenths : (t : ℕ) (z : ℤ) → z ≡ pos 0 → 7 * magnitude z ≤ t
 no_sevenths t z e = let m : magnitude z ≡ 0 = ap magnitude e in omega arith
 
+-- a double alone is a summand of the laws
 single_summand : (x : Pair) → IsDoubleAlone x → quanta_of x.high ≤ sum_reach → IsPairSummand x
 single_summand x s r = record {
   finite_high = s.is_finite;
@@ -91,6 +92,7 @@ close_in_quanta p s digits size h = subst (λ (i : ℤ). magnitude (i -ℤ s) * 
 highs_alone : (a aa c cc p s : ℤ) → aa ≡ pos 0 → cc ≡ pos 0 → p ≡ s → s ≡ (a +ℤ c) → p ≡ ((a +ℤ aa) +ℤ (c +ℤ cc))
 highs_alone a aa c cc p s e g h k = omega (arith, ints)
 
+-- of two doubles the sum loses nothing
 summed_exactly : (x y answer : Pair) (status : ℕ) → IsDoubleAlone x → IsDoubleAlone y → IsSummed x y answer status
     → IsExactPair (pair_number x +ℤ pair_number y) 1 answer
 summed_exactly x y answer status s t m =
@@ -104,6 +106,7 @@ summed_exactly x y answer status s t m =
           (single_low x s) (single_low y t) m.number_is o.0);
     }
 
+-- and neither does an answer that is one of the operands
 given_exactly : (x y given answer : Pair) → answer ≡ given → IsNormalised given
     → pair_number given ≡ (pair_number x +ℤ pair_number y) → IsExactPair (pair_number x +ℤ pair_number y) 1 answer
 given_exactly x y given answer e n s =
@@ -141,6 +144,7 @@ error_free_sum x y answer status mx my k s t r =
 low_enough : (t h l : ℕ) → 7 * l ≤ h → h ≤ t → 7 * l ≤ t
 low_enough t h l a b = omega arith
 
+-- a normalised pair is a summand of the laws
 normalised_summand : (x : Pair) → IsNormalised x → quanta_of x.high ≤ sum_reach → IsPairSummand x
 normalised_summand x s r =
     let w : magnitude (number x.high) ≤ sum_reach = within_quanta x.high s.finite_high r in
@@ -169,6 +173,7 @@ low_zero h l a e = let m : magnitude h ≡ 0 = ap magnitude e in omega (arith, i
 no_error : (p s : ℤ) (a b : ℕ) → p ≡ s → magnitude (p -ℤ s) * 2 ^ 103 ≤ a + b
 no_error p s a b e = let m : magnitude (p -ℤ s) ≡ 0 = omega (arith, ints, one_side (p -ℤ s)) in omega arith
 
+-- an answer that is one of the operands is exact, so it is close
 given_closely : (x y given answer : Pair) → answer ≡ given → IsNormalised given
     → pair_number given ≡ (pair_number x +ℤ pair_number y)
     → IsClosePair (pair_number x +ℤ pair_number y) 1 103 (total_size x y) answer
@@ -184,6 +189,7 @@ given_closely x y given answer e n s =
 small_error : (d s : ℕ) → 2 ^ 53 * (2 ^ 53 * d) ≤ 8 * s → d * 2 ^ 103 ≤ s
 small_error d s h = omega arith
 
+-- the sum of two normalised pairs is close
 summed_closely : (x y answer : Pair) (status : ℕ) → IsNormalised x → IsNormalised y → IsSummed x y answer status
     → IsClosePair (pair_number x +ℤ pair_number y) 1 103 (total_size x y) answer
 summed_closely x y answer status s t m =

@@ -53,6 +53,7 @@ more_digits n g = let powers : 2 ^ double.precision ≤ 2 ^ wide.precision = lit
   is = g.is;
 }
 
+-- a double in the wide format is the same datum
 widened_same : (b : Bool) (n : ℕ) (value : Datum) → IsFiniteOf double b n → IsWidened (finite b n) value
     → value ≡ finite b n
 widened_same b n value m w =
@@ -86,6 +87,7 @@ difference_rounded b m n value status d =
     (subst (λ (e : ℤ). IsRounded wide NearestTiesToEven (zero_sum_sign NearestTiesToEven b (not b)) e 1 value status)
     (plus_negated b m n) s)
 
+-- a difference that the wide format has is exact
 difference_exactly : (b : Bool) (m n : ℕ) (value : Datum) (status : ℕ)
     → IsGridNumber wide.precision (signed b m -ℤ signed b n) → magnitude (signed b m -ℤ signed b n) ≤ largest wide
     → IsDifference wide NearestTiesToEven (finite b m) (finite b n) value status
@@ -107,6 +109,7 @@ record IsSmallRest (b : Bool) (m n : ℕ) : Type 0 where
 eighth_within : (e m l w : ℕ) → 8 * e ≤ m → m ≤ w → w ≤ 8 * l → e ≤ l
 eighth_within e m l w h k i = omega arith
 
+-- what is left over has few enough digits for a double
 small_rest : (b : Bool) (m n : ℕ) → IsFiniteOf wide b m → IsRoundedTo double.precision (signed b m) (finite b n)
     → IsSmallRest b m n
 small_rest b m n t r =
@@ -141,6 +144,7 @@ finite_high x (finite c n) low status f = refl
 finite_high x (infinite c) low status f = f
 finite_high x (nan c s) low status f = f
 
+-- for a number other than 0
 some_rest : (b : Bool) (m : ℕ) (high low : Datum) (status : ℕ) → 0 < m → is_finite high ≡ true
     → IsRestBySteps (finite b m) high low status → low ≡ left_over (finite b m) high
 some_rest b m high low status p f s =

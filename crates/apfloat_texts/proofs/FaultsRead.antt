@@ -21,6 +21,7 @@ use Rattle.apfloat_texts.specs.LiteralParts.{IsLiteralRead}
 
 -- ---- the number behind the prefix
 
+-- what was scanned, with an exponent behind it, has no fault
 fault_free : (rest tail : List ℕ) (significand : ℕ) (loss : Loss) (cut places : ℕ) (some : Bool)
     → is_empty rest ≡ false
     → IsScanned rest tail significand loss cut places some → fault_behind some tail ≡ None

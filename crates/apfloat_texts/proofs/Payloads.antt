@@ -23,6 +23,7 @@ fold_grows radix n (c ∷ digits) =
     let one = grown radix n c in
     omega (arith, more, one)
 
+-- a character that is no digit, or leads past the bound, ends the reading
 stops : (radix : Radix) (n c : ℕ) (digits : List ℕ) (b l : Bool) → is_digit_of radix c ≡ b
     → ltb (longer radix n c) (2 ^ 128) ≡ l
     → (if b && l then Some (longer radix n c) else None) ≡ None → read_on radix n (c ∷ digits) ≡ None
@@ -34,6 +35,7 @@ stops radix n c digits true false p q e =
     ∙ last_fails (every (is_digit_of radix) digits) _ _ (le-ltb _ _ (omega (arith, g, f)))
 stops radix n c digits true true p q e = cc
 
+-- another one goes on with the longer number
 goes : (radix : Radix) (n c m : ℕ) (digits : List ℕ) (b l : Bool) → is_digit_of radix c ≡ b
     → ltb (longer radix n c) (2 ^ 128) ≡ l
     → (if b && l then Some (longer radix n c) else None) ≡ Some m

@@ -26,6 +26,7 @@ use Rattle.apfloat_texts.specs.Saturation.{IsNear}
 
 -- ---- far magnitudes, by the place z of the lowest digit that is kept
 
+-- an exponent that was clamped from above leads far above the format
 far_up : (format : Format) (number s k : ℕ) (z p : ℤ) → 0 < s → s * 2 ^ k ≤ number → p ≡ z -ℤ pos k
     → pos (format.precision + format.span) ≤ℤ z
     → IsFarAbove format (number * 2 ^ up p) (2 ^ down p)
@@ -40,6 +41,7 @@ far_up format number s k z p some from e far =
     let j : 2 ^ (k + up p) ≡ 2 ^ k * 2 ^ up p = pow-add 2 k (up p) in
     record { some = pow_pos (down p); from = omega (arith, c, h, i, j) }
 
+-- and one clamped from below far below it
 far_down : (number s k : ℕ) (z p : ℤ) → 0 < number → s < 2 ^ 128 → number < (s + 1) * 2 ^ k → p ≡ z -ℤ pos k
     → z ≤ℤ neg_ℤ (pos 129)
     → IsFarBelow (number * 2 ^ up p) (2 ^ down p)
@@ -67,6 +69,7 @@ pub record IsBounded (format : Format) : Type 0 where
   pub above : format.precision + format.span ≤ 4000000
   pub below : format.scale ≤ 4000000
 
+-- a delivery with the clamped exponent is that with the exact one
 moved : (format : Format) (mode : Round) (negative : Bool) (number s cut : ℕ) (loss : Loss) (exact unit : ℤ) (v : Datum)
     (status : ℕ)
     → IsBounded format → 0 < s → s < 2 ^ 128 → IsKept number s loss cut → IsNear text_bound exact unit

@@ -72,11 +72,13 @@ no_special text b =
     (λ (p : body ≡ codes "0X" ++ rest). ap meaning p ∙ no_capital_special (mark_of text) rest)
     (begun_of body b)
 
+-- the fault of a literal is the one behind its prefix
 literal_fault_is : (text : List ℕ) → is_empty text ≡ false → is_empty (behind_mark text) ≡ false
     → special_of text ≡ None → begins_literal (behind_mark text) ≡ true
     → fault_of text ≡ behind_prefix_fault (drop 2 (behind_mark text))
 literal_fault_is text t b s l = rw (t, b, s, l) refl
 
+-- a text whose literal was read was read
 text_of_literal : (shape : Shape) (mode : Round) (text : List ℕ) (answer : StatusAnd Unpacked)
     → begins_literal (behind_mark text) ≡ true
     → IsLiteralRead shape mode (is_minus (mark_of text)) (drop 2 (behind_mark text)) answer

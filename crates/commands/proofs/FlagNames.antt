@@ -50,6 +50,7 @@ names_more status place table flag d b within e raised =
     ∙ ap (λ v. filter (is_raised status) (take place table) ++ cond v (flag ∷ []) []) raised)
     ∙ map-append _ (filter (is_raised status) (take place table)) (cond b (flag ∷ []) [])
 
+-- a raised flag is named behind those before it
 named : (status place : ℕ) (table : List (List ℕ × ℕ)) (flag d : List ℕ × ℕ) (separator : List ℕ)
     (old now new : Option (List ℕ))
     → place < length table → get_or table place d ≡ flag → is_raised status flag ≡ true
@@ -67,6 +68,7 @@ named status place table flag d separator old now new within e raised so_far mor
       written = subst (Appends old new) (sym text) (Appends-trans old now new _ _ so_far.written more_is);
     }
 
+-- a flag that is not raised is passed over
 passed : (status place : ℕ) (table : List (List ℕ × ℕ)) (flag d : List ℕ × ℕ) (separator : List ℕ)
     (old now : Option (List ℕ))
     → place < length table → get_or table place d ≡ flag → is_raised status flag ≡ false

@@ -1,9 +1,9 @@
 -- Hexadecimal digits read one by one.
-use Rattle.std.proofs.Common.{◌≡◌, ℕ, ◌+◌, ◌*◌, ◌^◌, ◌<◌, ◌≤◌, Bool, true, false, if◌then◌else◌, List, ◌∷◌, drop, length, get_or, fold, Option, Some, None, refl, ap, ◌∙◌, arith, lit<, pow-add}
-use Rattle.std.proofs.Math.Nat.{pow-le-pow_right}
+use Rattle.std.proofs.Common.{◌≡◌, ℕ, ◌+◌, ◌*◌, ◌^◌, ◌<◌, ◌≤◌, Bool, true, false, if◌then◌else◌, List, ◌∷◌, drop, length, get_or, fold, Option, Some, None, refl, ap, ◌∙◌, lit<}
 use Rattle.std.proofs.lemmas.List.{at_drop_more, at_drop_all}
 use Rattle.rustc_apfloat.specs.Digits.{every, is_hexadecimal, digit_value, number}
 use Rattle.apfloat_base.proofs.Choices.{passed, refused}
+use Rattle.apfloat_base.proofs.MoreDigits.{digit_more, digit_fits}
 
 -- a number with one more digit behind it
 abbrev pub longer : ℕ → ℕ → ℕ
@@ -26,12 +26,14 @@ read_on-cons : (n c : ℕ) (digits : List ℕ) → is_hexadecimal c ≡ true
 unfolding read_on
 read_on-cons n c digits e = passed (is_hexadecimal c) (every is_hexadecimal digits) _ e
 
+-- a character that is no digit ends the reading
 stops : (n c : ℕ) (digits : List ℕ) (b : Bool) → is_hexadecimal c ≡ b
     → (if b then Some (digit_value c) else None) ≡ None → read_on n (c ∷ digits) ≡ None
 unfolding read_on
 stops n c digits true p e = cc
 stops n c digits false p e = refused (is_hexadecimal c) (every is_hexadecimal digits) _ p
 
+-- a digit goes on with the longer number
 goes : (n c d : ℕ) (digits : List ℕ) (b : Bool) → is_hexadecimal c ≡ b
     → (if b then Some (digit_value c) else None) ≡ Some d
     → read_on n (c ∷ digits) ≡ read_on (n * 16 + d) digits
@@ -39,12 +41,6 @@ goes n c d digits true p e =
     let same : digit_value c ≡ d = cc in
     read_on-cons n c digits p ∙ ap (λ k. read_on (n * 16 + k) digits) same
 goes n c d digits false p e = cc
-
--- one digit more
-scaled : (n d place : ℕ) → n < 16 ^ place → d < 16 → n * 16 + d < 16 ^ (place + 1)
-scaled n d place small digit =
-    let more : 16 ^ (place + 1) ≡ 16 ^ place * 16 = pow-add 16 place 1 in
-    omega arith
 
 -- ---- at a place of a word
 
@@ -68,7 +64,7 @@ pub read_goes : (word : List ℕ) (n d place : ℕ) → place < length word → 
     → value_of (get_or word place 0) ≡ Some d → d < 16
     → IsReadTo word (n * 16 + d) (place + 1)
 read_goes word n d place within so_far e digit = record {
-  small = scaled n d place so_far.small digit;
+  small = digit_more 16 n d place so_far.small digit;
   read = so_far.read ∙ at_drop_more (read_on n) word place 0 within ∙ goes n _ d _ _ refl e;
 }
 
@@ -80,9 +76,4 @@ read_to_end word n place past so_far = so_far.read ∙ at_drop_all (read_on n) w
 
 -- a number of at most 32 digits is below 2 ^ 128
 pub one_more_fits : (n d place : ℕ) → n < 16 ^ place → d < 16 → place < 32 → n * 16 + d < 2 ^ 128
-one_more_fits n d place small digit within =
-    let more = scaled n d place small digit in
-    let base : 0 < 16 = lit< tt in
-    let places : place + 1 ≤ 32 = omega arith in
-    let all : 16 ^ (place + 1) ≤ 16 ^ 32 = pow-le-pow_right base places in
-    omega arith
+one_more_fits n d place small digit within = digit_fits 16 n d place 32 small digit within

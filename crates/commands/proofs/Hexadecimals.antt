@@ -34,6 +34,7 @@ write_none number text size = record {
   digits = (let short : length text ≤ 32 = omega arith in drop_of_length-le text short) ∙ sym (text_none number);
 }
 
+-- one more digit in front is the text of one more place
 digits_more : (number rest place digit : ℕ) (text : List ℕ) → place < 32 → IsWrittenTo number rest place text
     → digit ≡ hexadecimal_digit (rest % 16)
     → drop (32 - (place + 1)) (set text (31 - place) digit) ≡ hexadecimal_text number (place + 1)

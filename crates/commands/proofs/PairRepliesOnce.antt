@@ -50,6 +50,7 @@ line_of v w s t reply value_is status_is is_line =
 
 -- ---- one reply
 
+-- the only line of an answer is the only reply
 only_pair_answer : (mode : Round) (call : Call) (value : Pair) (status : ℕ) (reply : Reply)
     → IsPairAnswerOf call mode value status → IsOnly (IsPairLineOf value status) reply
     → IsOnly (IsAnsweredInPairs mode call) reply

@@ -11,6 +11,7 @@ use Rattle.apfloat_base.proofs.Neighbours.{below_is, above_is_same, above_is_nex
 use Rattle.apfloat_base.proofs.Existence.{enclosed_by_quotient}
 use Rattle.conformance.specs.Plain.{IsSpacing}
 
+-- a spacing that leaves few enough multiples encloses the magnitude
 enclosed : (precision amount parts spacing : ℕ) → 0 < precision → 0 < parts
     → (spaced : IsSpacing precision amount parts spacing)
     → IsEnclosed precision (2 ^ (precision - 1)) (amount / (parts * 2 ^ spaced.place)) spaced.place amount parts
@@ -28,6 +29,7 @@ floor_is precision amount parts spacing h p s =
     (below_is precision (2 ^ (precision - 1)) (amount / (parts * 2 ^ s.place)) s.place amount parts
     (enclosed precision amount parts spacing h p s))
 
+-- the least multiple that is not below the magnitude
 ceiling_of : (precision half c amount parts : ℕ) → 0 < parts
     → IsEnclosed precision half (amount / (parts * 2 ^ c)) c amount parts
     → IsAbove precision (div_ceil amount (parts * 2 ^ c) * 2 ^ c) amount parts

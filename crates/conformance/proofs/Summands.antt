@@ -76,6 +76,7 @@ third_reach : (z : Datum) → IsSummand reach_of_three z → quanta_of z ≤ sum
 third_reach z s = subst (λ (i : ℕ). quanta_of z ≤ i) four_times
     (widened_reach reach_of_three (quanta_of z) s.within)
 
+-- a close answer to equal summands
 close_by : (m n p q : ℤ) (answer : Pair) → m ≡ n → p ≡ q
     → IsClosePair (m +ℤ p) 1 103 (magnitude m + magnitude p) answer
     → IsClosePair (n +ℤ q) 1 103 (magnitude n + magnitude q) answer

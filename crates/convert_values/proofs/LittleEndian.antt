@@ -4,6 +4,7 @@ use Rattle.std.proofs.Math.Nat.{pow-le-pow_right, pow-suc, mul_assoc, mul_comm, 
 use Rattle.std.proofs.Math.ListN.{drop_of_length-le}
 use Rattle.std.proofs.lemmas.List.{drop_more, take_more_set, take_all, length-take-le}
 use Rattle.convert_values.specs.Bytes.{number_of}
+use Rattle.apfloat_base.proofs.MoreDigits.{digit_more, digit_fits}
 
 -- ---- reading, from the last byte down
 
@@ -18,20 +19,10 @@ read_none bytes = record {
   read = ap number_of (sym (let all : length bytes ≤ length bytes - 0 = omega arith in drop_of_length-le bytes all));
 }
 
-scaled : (number byte place : ℕ) → number < 256 ^ place → byte < 256 → number * 256 + byte < 256 ^ (place + 1)
-scaled number byte place small digit =
-    let more : 256 ^ (place + 1) ≡ 256 ^ place * 256 = pow-add 256 place 1 in
-    omega arith
-
 -- a number of at most 16 bytes is below 2 ^ 128
 pub one_more_fits : (number byte place : ℕ) → number < 256 ^ place → byte < 256 → place < 16
     → number * 256 + byte < 2 ^ 128
-one_more_fits number byte place small digit within =
-    let more = scaled number byte place small digit in
-    let base : 0 < 256 = lit< tt in
-    let places : place + 1 ≤ 16 = omega arith in
-    let all : 256 ^ (place + 1) ≤ 256 ^ 16 = pow-le-pow_right base places in
-    omega arith
+one_more_fits number byte place small digit within = digit_fits 256 number byte place 16 small digit within
 
 -- one more byte is read in front
 pub read_more : (bytes : List ℕ) (number byte place : ℕ) → place < length bytes → IsReadDown bytes number place
@@ -51,7 +42,7 @@ read_more bytes number byte place within so_far is small =
     ap number_of split in
     let last : number ≡ number_of (drop (length bytes - place) bytes) = so_far.read in
     record {
-      below = scaled number byte place so_far.below small;
+      below = digit_more 256 number byte place so_far.below small;
       read = (let known : number * 256 + byte
           ≡ byte + 256 * number_of (drop (length bytes - place) bytes) = omega arith in known) ∙ sym told;
     }
@@ -65,6 +56,7 @@ read_to_end bytes number place all so_far =
 
 -- ---- writing, from the first byte up
 
+-- one more byte in its place
 shifted : (first n more power wider byte : ℕ) → more ≡ n + power * byte → wider ≡ power * 256
     → first + 256 * more ≡ first + 256 * n + wider * byte
 shifted first n more power wider byte told scale =
@@ -89,6 +81,7 @@ pub record IsWrittenUp (number rest place : ℕ) (bytes : List ℕ) : Type 0 whe
 pub write_none : (number : ℕ) (bytes : List ℕ) → IsWrittenUp number number 0 bytes
 write_none number bytes = record { written = omega arith }
 
+-- one byte taken off a number
 cut : (n power wider rest number : ℕ) → wider ≡ power * 256 → n + power * rest ≡ number
     → n + power * (rest % 256) + wider * (rest / 256) ≡ number
 cut n power wider rest number scale so_far =

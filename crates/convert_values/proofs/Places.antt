@@ -84,6 +84,7 @@ latest width index bytes new within size =
 
 -- ---- what is said of an index
 
+-- the values before stay as they are
 kept_of : (Holds : List ℕ → List ℕ → Outcome → Type 0) (source old new : List ℕ) (outcomes more : List Outcome)
     (k : ℕ) → k < length outcomes → new ≡ old
     → IfSome (slice_get outcomes k) (λ o. Holds source old o)
@@ -93,6 +94,7 @@ kept_of Holds source old new outcomes more k within same said =
     let Of : Option Outcome → Type 0 = λ found. IfSome found (λ o. Holds source new o) in
     subst Of (sym (get_left outcomes more k within)) (subst At (sym same) said)
 
+-- the last value is the one that was converted
 last_of : (Holds : List ℕ → List ℕ → Outcome → Type 0) (source new now : List ℕ) (outcomes : List Outcome)
     (outcome : Outcome) (index : ℕ) → length outcomes ≡ index
     → now ≡ new → Holds source new outcome
@@ -104,6 +106,7 @@ last_of Holds source new now outcomes outcome index size same here =
     ap (slice_get (outcomes ++ outcome ∷ [])) (sym size) ∙ get_last outcomes outcome in
     subst Of (sym found) (subst At (sym same) here)
 
+-- behind them stands none
 none_of : (Holds : List ℕ → List ℕ → Outcome → Type 0) (source now : List ℕ) (outcomes : List Outcome) (k : ℕ)
     → length outcomes ≤ k
     → IfSome (slice_get outcomes k) (λ o. Holds source now o)

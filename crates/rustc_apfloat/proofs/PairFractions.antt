@@ -1,9 +1,9 @@
 -- The fraction of a pair: its exponent is a machine number, and so is its negation, by which the low part is scaled.
 use Rattle.std.proofs.Common.{◌≡◌, ℕ, zero, suc, ◌*◌, ◌-◌, ◌^◌, ◌<◌, ◌≤◌, Bool, w32, to_z, of_z, sym, ap, ◌∙◌, subst, ⊎_elim, lit<, arith, FitsSigned}
 use Rattle.std.specs.Prelude.{ℤ, pos, neg_ℤ, ◌-ℤ◌, ◌≤ℤ◌}
-use Rattle.std.proofs.Math.Nat.{mul-le-mul_right, pow-le-pow_right}
+use Rattle.std.proofs.Math.Nat.{mul-le-mul_right}
 use Rattle.std.proofs.lemmas.Nat.{pow_pos}
-use Rattle.std.proofs.lemmas.Bool.{MatchBool-at_false, cases_lt, ne_eqb}
+use Rattle.std.proofs.lemmas.Bool.{MatchBool-at_false, ne_eqb}
 use Rattle.std.proofs.lemmas.Int.{to_z-of_z, ints}
 use Rattle.apfloat_base.specs.declared.kinds.Category.TheVariants.{Normal}
 use Rattle.apfloat_base.specs.declared.kinds.Round.{Round}
@@ -15,9 +15,9 @@ use Rattle.apfloat_base.specs.arithmetic.Exact.{up, down}
 use Rattle.apfloat_base.specs.arithmetic.Exponents.{IsFraction, IsFrexp}
 use Rattle.apfloat_base.specs.formats.Members.{IsMember}
 use Rattle.apfloat_base.specs.arithmetic.Scaling.{IsScaling}
-use Rattle.apfloat_base.proofs.Existence.{two_pos}
 use Rattle.apfloat_base.proofs.Signs.{one_side}
 use Rattle.apfloat_base.proofs.Choices.{match_true}
+use Rattle.apfloat_base.proofs.Powers.{exponent_below}
 use Rattle.apfloat_pairs.specs.PairFormats.{double}
 use Rattle.apfloat_pairs.specs.Pairs.{Pair}
 use Rattle.apfloat_pairs.specs.PairParts.{IsPairFraction}
@@ -25,11 +25,7 @@ use Rattle.apfloat_pairs.specs.PairParts.{IsPairFraction}
 -- ---- the exponent of a fraction
 
 power_below : (a n b : ℕ) → 2 ^ a ≤ n → n < 2 ^ b → a ≤ b
-power_below a n b l h =
-    ⊎_elim
-    (λ (k : b < a). let p : 2 ^ b ≤ 2 ^ a = pow-le-pow_right two_pos (omega arith) in absurd (omega arith))
-    (λ (k : a ≤ b). k)
-    (cases_lt b a)
+power_below a n b l h = let e = exponent_below a b (omega arith) in omega arith
 
 -- n * 2 ^ d is a number of less than 2 ^ scale
 few_places : (n fraction scale d u : ℕ) → 0 < n → fraction < 2 ^ scale → u ≡ 0 → n * 2 ^ d ≡ fraction * 2 ^ u
@@ -53,6 +49,7 @@ record IsNear (scale top : ℕ) (exponent : ℤ) : Type 0 where
   low : neg_ℤ (pos scale) ≤ℤ exponent
   high : exponent ≤ℤ pos top
 
+-- the exponent of a fraction is within the exponents of the format
 near : (format : Format) (negative : Bool) (n top : ℕ) (value : Datum) (exponent : ℤ) → 0 < n → n < 2 ^ top
     → IsFraction format negative n value exponent → IsNear format.scale top exponent
 near format negative n top value exponent p h x =
@@ -71,6 +68,7 @@ some_quanta : (b : Bool) (n : ℕ) → category_of (finite b n) ≡ Normal → 0
 some_quanta b zero e = cc
 some_quanta b (suc n) e = omega arith
 
+-- and so is that of a double
 double_near : (x value : Datum) (exponent : ℤ) → category_of x ≡ Normal → IsMember double x
     → IsFrexp double x value exponent → IsNear 1074 2098 exponent
 double_near (finite b n) value exponent normal member h =

@@ -118,6 +118,7 @@ pub record IsClosedAnew (mode : Round) (x y : Pair) (big small z : Datum) (flags
   pub lesser_joined : flags_with_lesser ≡ flags_with_left ∪ with_lesser_flags
   pub flags_are : all_flags ≡ flags_with_lesser ∪ low_flags
 
+-- three sets of flags, joined one after another
 two_joined : (a b c ab abc : ℕ) → ab ≡ a ∪ b → abc ≡ ab ∪ c → abc ≡ a ∪ b ∪ c
 two_joined a b c ab abc e f = f ∙ ap (λ (i : ℕ). i ∪ c) e
 
