@@ -16,12 +16,10 @@ mod output;
 mod pairs;
 mod reply;
 mod row;
-#[cfg(test)]
-mod tests;
 mod text_buffer;
 mod words;
 
-pub use output::{run, run_given, write_status};
+pub use output::{run, run_given, write_line, write_status};
 pub use reply::{Reply, command};
 pub use row::agrees;
 pub use words::{bits_of, mode_named, number_of};

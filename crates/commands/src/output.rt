@@ -76,8 +76,8 @@ fn status_after(written: io::Result<()>, status: u8) -> u8
     }
 }
 
-// Writes bits and flags by one call.
-pub(crate) fn write_line<W: Write>(
+/// Writes the line of an answer, so many digits of its bits and its flags, by one call.
+pub fn write_line<W: Write>(
     bits: u128,
     digits: usize,
     status: Status,

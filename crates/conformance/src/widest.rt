@@ -127,34 +127,18 @@ impl Semantics for WidestFusedSumsS {
     ghost lawful = { lawful_from_test _ refl };
 }
 
-// The square of a value of the widest format that has products.
-fn square(x: IeeeFloat<WidestProductsS>, round: Round) -> StatusAnd<IeeeFloat<WidestProductsS>> {
+/// The square of a value of the widest format that has products.
+pub fn square(
+    x: IeeeFloat<WidestProductsS>,
+    round: Round,
+) -> StatusAnd<IeeeFloat<WidestProductsS>> {
     x.mul_r(x, round)
 }
 
-// The square of a value of the widest format that has fused sums, plus the value.
-fn square_and_itself(
+/// The square of a value of the widest format that has fused sums, plus the value.
+pub fn square_and_itself(
     x: IeeeFloat<WidestFusedSumsS>,
     round: Round,
 ) -> StatusAnd<IeeeFloat<WidestFusedSumsS>> {
     x.mul_add_r(x, x, round)
-}
-
-#[test]
-fn products_of_64_digits(rt: HostRuntime) {
-    let x = IeeeFloat::from_u128((1 << 40) + 1).value;
-    let above = square(x, Round::TowardPositive);
-    assert_eq!(rt; above.status, Status::INEXACT);
-    assert_eq!(rt;
-        above.value.to_u128(128).value,
-        (1 << 80) + (1 << 41) + (1 << 17)
-    );
-}
-
-#[test]
-fn fused_sums_of_63_digits(rt: HostRuntime) {
-    let x = IeeeFloat::from_u128((1 << 40) + 1).value;
-    let nearest = square_and_itself(x, Round::NearestTiesToEven);
-    assert_eq!(rt; nearest.status, Status::INEXACT);
-    assert_eq!(rt; nearest.value.to_u128(128).value, (1 << 80) + (3 << 40));
 }

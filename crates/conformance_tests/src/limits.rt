@@ -2,10 +2,10 @@
 
 ghost use Rattle.std.specs.Prelude.{◌<◌};
 
-use crate::own_formats::{
+use crate::tables::{EVEN, INEXACT, OK, OVERFLOW_INEXACT, ZERO};
+use conformance::own_formats::{
     BroadS, DeepS, LeastFinite, LeastFiniteS, LeastS, PreciseS, Ten, TenS, VastS, WrittenBitS,
 };
-use crate::tables::{EVEN, INEXACT, OK, OVERFLOW_INEXACT, ZERO};
 use rustc_apfloat::ieee::{IeeeFloat, Semantics};
 use rustc_apfloat::{Category, Flags, Float, Round};
 use std::cmp::Ordering;

@@ -3,16 +3,16 @@
 
 ghost use Rattle.std.specs.Prelude.{◌<◌, ◌≤◌};
 
-use crate::laws::{
+use crate::tables::MODES;
+use conformance::laws::{
     near_difference, opposite_products, sums_in_order, there_and_back, through_bits, through_value,
     up_and_down,
 };
-use crate::own_formats::{
+use conformance::own_formats::{
     BroadS, DeepS, HalfTinyBeforeS, LeastFiniteS, LeastS, PreciseS, SevenS, TenS, VastS,
     WrittenBitS,
 };
-use crate::tables::MODES;
-use crate::widest::{WidestFusedSumsS, WidestProductsS};
+use conformance::widest::{WidestFusedSumsS, WidestProductsS};
 use rustc_apfloat::ieee::{IeeeFloat, NonfiniteBehavior, Semantics};
 use rustc_apfloat::{Float, Status};
 use std::process::Abort;

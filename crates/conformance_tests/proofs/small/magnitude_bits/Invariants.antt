@@ -1,5 +1,5 @@
 use Rattle.std.proofs.Common.{◌+◌, ◌≤◌}
-use Rattle.conformance.proofs.small.magnitude_bits.Given as goal
+use Rattle.conformance_tests.proofs.small.magnitude_bits.Given as goal
 
 abbrev pub invariant-loop-significand : goal.invariant-loop-significand
 invariant-loop-significand l = l.exponent + l.significand ≤ l.quanta

@@ -3,12 +3,12 @@
 
 ghost use Rattle.std.specs.Prelude.{◌<◌};
 
-use crate::laws::up_and_down;
 use crate::small::{
     Class, Expected, Layout, Small, answered, decoded, exactly, is_nan, layout_of, past_bits,
     patterns_of, signals,
 };
 use crate::tables::INVALID_OP;
+use conformance::laws::up_and_down;
 use rustc_apfloat::Float;
 use rustc_apfloat::ieee::{
     Float8E4M3FNS, Float8E4M3FNUZS, Float8E5M2S, HalfS, NonfiniteBehavior, Semantics,

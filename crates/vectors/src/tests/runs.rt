@@ -1,7 +1,6 @@
 //! Runs of the program on writers that a test reads, or that fail.
 
-use crate::output::{run, run_given, write_line};
-use crate::reply::{Reply, command};
+use commands::{Reply, command, run, run_given, write_line};
 use rustc_apfloat::{Flags, Status};
 use std::alloc::{AllocError, Global};
 use std::io;

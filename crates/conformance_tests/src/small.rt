@@ -3,8 +3,8 @@
 
 ghost use Rattle.std.specs.Prelude.{◌*◌, ◌^◌, ◌<◌, ◌≤◌};
 
-use crate::plain::{Answer, Bounds, deliver, whole};
 use crate::tables::{DIV_BY_ZERO, INEXACT, INVALID_OP, OK};
+use conformance::plain::{Answer, Bounds, deliver, whole};
 use rustc_apfloat::ieee::{IeeeFloat, NonfiniteBehavior, Semantics};
 use rustc_apfloat::{Flags, Float, Round, StatusAnd};
 

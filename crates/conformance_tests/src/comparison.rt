@@ -4,11 +4,11 @@ ghost use Rattle.std.specs.Prelude.{◌*◌, ◌^◌, ◌<◌, ◌≤◌, pos, n
 ghost use Rattle.rustc_apfloat.specs.Types.{format_of};
 ghost use Rattle.conformance.specs.Plain.{HasBounds};
 
-use crate::own_formats::{HalfTinyBeforeS, SevenS};
-use crate::plain::{Answer, Bounds, deliver};
 use crate::small::magnitude_bits;
 use crate::tables::MODES;
 use apfloat_base::sig::Loss;
+use conformance::own_formats::{HalfTinyBeforeS, SevenS};
+use conformance::plain::{Answer, Bounds, deliver};
 use rustc_apfloat::ieee::{Half, HalfS, NonfiniteBehavior, Semantics, normalize};
 use rustc_apfloat::{ExpInt, Float, Round};
 use std::process::Abort;
