@@ -15,10 +15,10 @@ use rustc_apfloat::{Flags, Status};
 use std::io;
 use std::io::{ErrorKind, Write};
 
-// The longest line has 32 digits and all five flags, which is 83 bytes.
+/// The longest line has 32 digits and all five flags, which is 83 bytes.
 const LINE_ROOM: usize = 96;
 
-// Of what one call writes to a pipe, the system itself parts no more than so much from what others write (`PIPE_BUF`).
+/// Of what one call writes to a pipe, the system itself parts no more than so much from what others write (`PIPE_BUF`).
 const REFUSAL_ROOM: usize = 4096;
 
 /// Runs a command, the words without the program's own name: writes a line to `out` or a refusal to `err`.
@@ -57,7 +57,7 @@ pub fn run_given<W: Write, V: Write>(given: io::Result<Vec<String>>, out: &mut W
     }
 }
 
-// Says that there is no memory for the words. Answers the exit status: 3, or 1 where a write failed.
+/// Says that there is no memory for the words. Answers the exit status: 3, or 1 where a write failed.
 fn refuse_memory<V: Write>(err: &mut V) -> u8
     ensures status { result ≢ 1 → result ≡ 3 }
     ensures text { result ≢ 1
@@ -66,7 +66,7 @@ fn refuse_memory<V: Write>(err: &mut V) -> u8
     status_after(write_refusal("memory", err), 3)
 }
 
-// The exit status behind a write.
+/// The exit status behind a write.
 fn status_after(written: io::Result<()>, status: u8) -> u8
     ensures { result ≡ (if is_ok written then status else 1) }
 {
@@ -108,7 +108,7 @@ fn write_line_parts<W: Write>(
     out.write_all(b"\n")
 }
 
-// Writes the word of a refusal, by one call where there is room for it.
+/// Writes the word of a refusal, by one call where there is room for it.
 fn write_refusal<W: Write>(word: &str, err: &mut W) -> io::Result<()>
     ensures { OnOk result
         (Appends (W.contents err.old) (W.contents err.new) (refusal_text word.now)) }
@@ -129,7 +129,7 @@ fn write_refusal_parts<W: Write>(word: &str, err: &mut W) -> io::Result<()>
     err.write_all(b"\n")
 }
 
-// Writes the last digits of a number.
+/// Writes the last digits of a number.
 fn write_hexadecimal<W: Write>(number: u128, digits: usize, out: &mut W) -> io::Result<()>
     requires { digits ≤ 32 }
     ensures { OnOk result
@@ -139,7 +139,7 @@ fn write_hexadecimal<W: Write>(number: u128, digits: usize, out: &mut W) -> io::
     out.write_all(&text[text.len() - digits..])
 }
 
-// All digits of a number.
+/// All digits of a number.
 fn hexadecimal(number: u128) -> [u8; 32]
     ensures { result ≡ hexadecimal_text number 32 }
 {
@@ -181,7 +181,7 @@ pub fn write_status<W: Write>(status: Status, out: &mut W) -> io::Result<()>
     Ok(())
 }
 
-// Writes a name behind a separator.
+/// Writes a name behind a separator.
 fn write_name<W: Write>(separator: &[u8], name: &str, out: &mut W) -> io::Result<()>
     ensures { OnOk result
         (Appends (W.contents out.old) (W.contents out.new) (separator.now ++ name.now)) }

@@ -25,7 +25,7 @@ pub fn answer_in_pairs<'a>(operation: &'a str, mode: &'a str, operands: &'a [Str
     answer_to(known, operation, round, operands)
 }
 
-// The answer of an operation, which has this name, to its operands.
+/// The answer of an operation, which has this name, to its operands.
 fn answer_to<'a>(
     operation: Operation,
     name: &'a str,
@@ -48,7 +48,7 @@ fn answer_to<'a>(
     }
 }
 
-// An operation on two pairs.
+/// An operation on two pairs.
 fn of_two<'a>(operation: Arithmetic, round: Round, left: &'a str, right: &'a str) -> Reply<'a>
     ensures reply { IsOnly
         (IsReplyTo (requested of_pairs round
@@ -66,7 +66,7 @@ fn of_two<'a>(operation: Arithmetic, round: Round, left: &'a str, right: &'a str
     line(answer_of_two(operation, round, x, y))
 }
 
-// The answer of an operation on two pairs.
+/// The answer of an operation on two pairs.
 fn answer_of_two(
     operation: Arithmetic,
     round: Round,
@@ -85,7 +85,7 @@ fn answer_of_two(
     }
 }
 
-// A whole number, rounded to a pair.
+/// A whole number, rounded to a pair.
 fn from_whole_number<'a>(round: Round, word: &'a str) -> Reply<'a>
     ensures reply { IsOnly
         (IsReplyTo (requested of_pairs round (with_whole_number word.now)))
@@ -98,7 +98,7 @@ fn from_whole_number<'a>(round: Round, word: &'a str) -> Reply<'a>
     line(DoubleDouble::from_u128_r(number, round))
 }
 
-// The pair that a text means.
+/// The pair that a text means.
 fn from_text<'a>(round: Round, text: &'a str) -> Reply<'a>
     ensures reply { IsOnly
         (IsReplyTo (requested of_pairs round (with_text text.now)))
@@ -111,7 +111,7 @@ fn from_text<'a>(round: Round, text: &'a str) -> Reply<'a>
     }
 }
 
-// The bits and the flags of a pair.
+/// The bits and the flags of a pair.
 fn line<'a>(answer: StatusAnd<DoubleDouble>) -> Reply<'a>
     ensures line { IsOnly
         (IsPairLineOf answer.value (bits_of answer.status))

@@ -41,7 +41,7 @@ pub fn command(words: &[String]) -> Reply<'_>
     )
 }
 
-// The answer in the format of this name.
+/// The answer in the format of this name.
 fn answer<'a>(
     format: &'a str,
     operation: &'a str,
@@ -68,7 +68,7 @@ fn answer<'a>(
     }
 }
 
-// The answer of the operation of this name in a format.
+/// The answer of the operation of this name in a format.
 fn answer_in<'a, S: Semantics>(
     operation: &'a str,
     mode: &'a str,
@@ -91,7 +91,7 @@ fn answer_in<'a, S: Semantics>(
     answer_to::<S>(known, round, operands)
 }
 
-// The answer of an operation to its operands.
+/// The answer of an operation to its operands.
 fn answer_to<'a, S: Semantics>(
     operation: Operation,
     round: Round,
@@ -119,7 +119,7 @@ fn answer_to<'a, S: Semantics>(
     }
 }
 
-// An operation on two values.
+/// An operation on two values.
 fn of_two<'a, S: Semantics>(
     operation: Arithmetic,
     round: Round,
@@ -142,7 +142,7 @@ fn of_two<'a, S: Semantics>(
     line(answer_of_two(operation, round, S::from_bits(x), S::from_bits(y)))
 }
 
-// A product plus a third value, rounded once.
+/// A product plus a third value, rounded once.
 fn fused_sum<'a, S: Semantics>(
     round: Round,
     left: &'a str,
@@ -169,7 +169,7 @@ fn fused_sum<'a, S: Semantics>(
     line(S::from_bits(x).mul_add_r(S::from_bits(y), S::from_bits(z), round))
 }
 
-// A whole number, rounded to a format.
+/// A whole number, rounded to a format.
 fn from_whole_number<'a, S: Semantics>(round: Round, word: &'a str) -> Reply<'a>
     requires { S.PRECISION < S.BITS }
     ensures reply { let c = constants_of S.Semantics in IsOnly
@@ -183,7 +183,7 @@ fn from_whole_number<'a, S: Semantics>(round: Round, word: &'a str) -> Reply<'a>
     line(IeeeFloat::<S>::from_u128_r(number, round))
 }
 
-// The value that a text means.
+/// The value that a text means.
 fn from_text<'a, S: Semantics>(round: Round, text: &'a str) -> Reply<'a>
     requires { S.PRECISION < S.BITS }
     ensures reply { let c = constants_of S.Semantics in IsOnly
@@ -197,7 +197,7 @@ fn from_text<'a, S: Semantics>(round: Round, text: &'a str) -> Reply<'a>
     }
 }
 
-// The bits and the flags of an answer.
+/// The bits and the flags of an answer.
 fn line<'a, S: Semantics>(answer: StatusAnd<IeeeFloat<S>>) -> Reply<'a>
     requires { S.PRECISION < S.BITS }
     ensures line { IsOnly

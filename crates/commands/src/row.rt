@@ -21,7 +21,7 @@ pub fn agrees(alloc: Global, words: &[String], reply: &str) -> bool
     }
 }
 
-// Whether bytes are a text with the end of a line behind it.
+/// Whether bytes are a text with the end of a line behind it.
 fn is_line(written: &[u8], text: &str) -> bool
     ensures { result ≡ true → written.now ≡ text.now ++ codes "\n" }
 {

@@ -9,7 +9,7 @@ ghost use Rattle.commands.specs.Commands.{bits_of_digits, bits_of_word, found, m
 use crate::operation::{Arithmetic, Operation};
 use rustc_apfloat::Round;
 
-// The operation of this name.
+/// The operation of this name.
 fn operation_named(word: &str) -> Option<Operation>
     ensures { result ≡ found operations word.now }
 {
@@ -80,7 +80,7 @@ pub fn number_of(word: &str) -> Option<u128>
     Some(number)
 }
 
-// A number with one more decimal digit behind it.
+/// A number with one more decimal digit behind it.
 fn with_digit(number: u128, byte: u8) -> Option<u128>
     ensures { let longer = number * 10 + digit_value byte in
         result ≡ (if is_decimal byte && nat_lt longer (2 ^ 128) then Some longer else None) }
@@ -100,7 +100,7 @@ pub fn bits_of(word: &str, width: usize) -> Option<u128>
     bits_of_digits(bytes.strip_prefix(b"0x").unwrap_or(bytes), width)
 }
 
-// The number that hexadecimal digits stand for, if there are 1 to 32 of them and it is below `2^width`.
+/// The number that hexadecimal digits stand for, if there are 1 to 32 of them and it is below `2^width`.
 fn bits_of_digits(digits: &[u8], width: usize) -> Option<u128>
     ensures { result ≡ bits_of_digits width digits.now }
 {
@@ -115,7 +115,7 @@ fn bits_of_digits(digits: &[u8], width: usize) -> Option<u128>
     }
 }
 
-// The number that hexadecimal digits stand for.
+/// The number that hexadecimal digits stand for.
 fn hexadecimal_number(digits: &[u8]) -> Option<u128>
     requires { length digits.now ≤ 32 }
     ensures { result ≡ (if every is_hexadecimal digits.now then Some (number 16 digits.now) else None) }
@@ -127,14 +127,14 @@ fn hexadecimal_number(digits: &[u8]) -> Option<u128>
     Some(number)
 }
 
-// Whether a number is below `2^width`.
+/// Whether a number is below `2^width`.
 fn is_within(number: u128, width: usize) -> bool
     ensures { result ≡ nat_lt number (2 ^ width) }
 {
     width >= 128 || number < 1 << width
 }
 
-// The value of a hexadecimal digit.
+/// The value of a hexadecimal digit.
 fn hexadecimal_value(byte: u8) -> Option<u8>
     ensures small { IfSome result (λ digit. digit < 16) }
     ensures value { result ≡ (if is_hexadecimal byte then Some (digit_value byte) else None) }

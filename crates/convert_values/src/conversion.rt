@@ -64,7 +64,7 @@ impl Conversion {
         }
     }
 
-    // The same from a format that is known.
+    /// The same from a format that is known.
     fn from_format<S: Semantics>(self, count: usize, input: &[u8], output: &mut [u8]) -> Counts
         requires read { S.PRECISION < S.BITS }
         requires input { length input.now ≡ count * source_width self }

@@ -38,7 +38,7 @@ fn main(rt: HostRuntime) -> ExitCode {
     ExitCode::from(status)
 }
 
-// The words without the program's own name.
+/// The words without the program's own name.
 fn words_of_system<R: Env + Alloc>(rt: &R) -> io::Result<Vec<String<R::A>, R::A>> {
     let words = env::args(rt)?.skip(1).collect(rt.alloc())?;
     Ok(words)

@@ -31,7 +31,7 @@ pub fn run<R: Read, W: Write, V: Write>(
     }
 }
 
-// The exit status, or the error of a write to `err` or of the help.
+/// The exit status, or the error of a write to `err` or of the help.
 fn answer<R: Read, W: Write, V: Write>(
     alloc: Global,
     words: &[String],
@@ -58,7 +58,7 @@ fn answer<R: Read, W: Write, V: Write>(
     }
 }
 
-// Says why there are no words.
+/// Says why there are no words.
 fn refuse_words<V: Write>(error: io::Error, err: &mut V) -> io::Result<u8> {
     match error.kind() {
         ErrorKind::OutOfMemory => {
@@ -72,7 +72,7 @@ fn refuse_words<V: Write>(error: io::Error, err: &mut V) -> io::Result<u8> {
     }
 }
 
-// Says what was counted, and whether the stream ended inside a value.
+/// Says what was counted, and whether the stream ended inside a value.
 fn tell<V: Write>(summary: Summary, err: &mut V) -> io::Result<u8> {
     tell_counts(summary.counts, err)?;
     let bytes = summary.left_over;
@@ -101,7 +101,7 @@ fn tell_counts<V: Write>(counts: Counts, err: &mut V) -> io::Result<()> {
     )
 }
 
-// Says what failed.
+/// Says what failed.
 fn tell_failure<V: Write>(failure: Failure, err: &mut V) -> io::Result<u8> {
     match failure {
         Failure::Memory => {

@@ -55,7 +55,7 @@ pub fn requested(words: &[String]) -> Option<Request> {
     }
 }
 
-// The conversion of these names.
+/// The conversion of these names.
 fn conversion(
     extended: Extended,
     source: &String,
@@ -70,7 +70,7 @@ fn conversion(
     }))
 }
 
-// The layout of this option.
+/// The layout of this option.
 fn extended_named(option: &str) -> Option<Extended> {
     match option {
         "--x87-bytes=10" => Some(Extended::Packed),

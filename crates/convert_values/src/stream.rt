@@ -11,7 +11,7 @@ use std::alloc::{AllocError, Global};
 use std::io;
 use std::io::{ErrorKind, Read, Write};
 
-// How many values are converted at a time.
+/// How many values are converted at a time.
 const BLOCK: usize = 1 << 14;
 
 /// What a stream held.
@@ -61,7 +61,7 @@ pub fn convert_stream<R: Read, W: Write>(
     )
 }
 
-// The same through buffers with room for a block.
+/// The same through buffers with room for a block.
 fn convert_through<R: Read, W: Write>(
     conversion: Conversion,
     read: &mut [u8],
@@ -96,7 +96,7 @@ fn convert_through<R: Read, W: Write>(
     Err(Failure::TooLong)
 }
 
-// What was made of bytes.
+/// What was made of bytes.
 #[derive(Clone, Copy)]
 struct Block {
     // The counts of the values.
@@ -107,7 +107,7 @@ struct Block {
     left_over: usize,
 }
 
-// Converts the values that stand whole in the bytes read, each in its place.
+/// Converts the values that stand whole in the bytes read, each in its place.
 fn convert_whole(conversion: Conversion, read: &[u8], written: &mut [u8]) -> Block
     requires read { length read.now ≤ BLOCK * source_width conversion }
     requires written { length written.old ≡ BLOCK * target_width conversion }
@@ -133,7 +133,7 @@ fn convert_whole(conversion: Conversion, read: &[u8], written: &mut [u8]) -> Blo
     }
 }
 
-// Reads until the buffer is full or the stream is at its end, and answers how many bytes came.
+/// Reads until the buffer is full or the stream is at its end, and answers how many bytes came.
 fn fill<R: Read>(input: &mut R, buffer: &mut [u8]) -> io::Result<usize>
     ensures { IfOk result (λ filled. filled ≤ length buffer.new) }
 {

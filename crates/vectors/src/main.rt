@@ -19,7 +19,7 @@ fn main(rt: HostRuntime) -> ExitCode {
     ExitCode::from(run_given(words_of_system(&rt), &mut rt.stdout(), &mut rt.stderr()))
 }
 
-// The words without the program's own name.
+/// The words without the program's own name.
 fn words_of_system<R: Env + Alloc>(rt: &R) -> io::Result<Vec<String<R::A>, R::A>> {
     let words = env::args(rt)?.skip(1).collect(rt.alloc())?;
     Ok(words)

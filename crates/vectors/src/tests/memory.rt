@@ -7,10 +7,10 @@ use std::alloc::{AllocError, Global};
 use std::env::{Env, FillError};
 use std::test::Fail;
 
-// The arguments of a program, its name first.
+/// The arguments of a program, its name first.
 const ARGUMENTS: [&str; 5] = ["vectors", "half", "int", "even", "464"];
 
-// A system that gives these arguments.
+/// A system that gives these arguments.
 #[derive(Drop)]
 struct System;
 
@@ -35,8 +35,8 @@ impl Env for System {
     }
 }
 
-// An arena with so many bytes left, and no more to come. A second chunk is begun, since only the blocks of a first one are used
-// again: so each growth of memory takes bytes of its own.
+/// An arena with so many bytes left, and no more to come. A second chunk is begun, since only the blocks of a first one are used
+/// again: so each growth of memory takes bytes of its own.
 fn arena_with(alloc: Global, bytes: usize) -> Result<Bump, AllocError> {
     let arena = Bump::try_with_capacity(alloc, 4000)?;
     arena.try_alloc_slice_fill_clone(arena.chunk_capacity(), 0u8)?;

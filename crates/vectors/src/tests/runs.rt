@@ -8,7 +8,7 @@ use std::io::{ErrorKind, Write};
 use std::process::Abort;
 use std::test::Fail;
 
-// The words of a command that parts them by single spaces.
+/// The words of a command that parts them by single spaces.
 fn words_of(alloc: Global, command: &str) -> Result<Vec<String>, AllocError> {
     let mut words = Vec::new(alloc);
     for word in command.split(' ') {
@@ -17,7 +17,7 @@ fn words_of(alloc: Global, command: &str) -> Result<Vec<String>, AllocError> {
     Ok(words)
 }
 
-// What is written to a writer for it, as a line, if anything.
+/// What is written to a writer for it, as a line, if anything.
 fn line_of(alloc: Global, text: &str) -> Result<String, AllocError> {
     if text.is_empty() {
         return Ok(String::new(alloc));
@@ -25,7 +25,7 @@ fn line_of(alloc: Global, text: &str) -> Result<String, AllocError> {
     format!(in alloc; "{text}\n")
 }
 
-// Asserts that a run of a command writes its reply, to the right writer alone, and answers the status of it.
+/// Asserts that a run of a command writes its reply, to the right writer alone, and answers the status of it.
 fn expect_reply<R: Abort + AllocGlobal>(rt: &R, command: &str, reply: &str) -> Result<(), Fail> {
     let words = words_of(rt.alloc(), command)?;
     let mut out = Vec::new(rt.alloc());
@@ -105,7 +105,7 @@ fn reads_long_operands(rt: HostRuntime) -> Result<(), Fail> {
     Ok(())
 }
 
-// A writer with room for so many bytes, which takes one at each write.
+/// A writer with room for so many bytes, which takes one at each write.
 #[derive(Drop)]
 struct Failing {
     room: usize,
@@ -134,7 +134,7 @@ impl Write for Failing {
     }
 }
 
-// A writer that takes all of what each call brings, and counts the calls.
+/// A writer that takes all of what each call brings, and counts the calls.
 #[derive(Drop)]
 struct Counting {
     calls: usize,
@@ -161,7 +161,7 @@ impl Write for Counting {
     }
 }
 
-// Asserts that a run on what the system gives calls its writers so often, and leaves these texts.
+/// Asserts that a run on what the system gives calls its writers so often, and leaves these texts.
 fn expect_calls<R: Abort + AllocGlobal>(
     rt: &R,
     command: &str,
@@ -218,7 +218,7 @@ fn has_room_for_the_longest_line(rt: HostRuntime) -> Result<(), Fail> {
     Ok(())
 }
 
-// What the system gives: the words of a command, or of an empty one no memory for them.
+/// What the system gives: the words of a command, or of an empty one no memory for them.
 fn given_for(alloc: Global, command: &str) -> Result<io::Result<Vec<String>>, AllocError> {
     if command.is_empty() {
         return Ok(Err(io::Error::from(ErrorKind::OutOfMemory)));
@@ -226,8 +226,8 @@ fn given_for(alloc: Global, command: &str) -> Result<io::Result<Vec<String>>, Al
     Ok(Ok(words_of(alloc, command)?))
 }
 
-// Asserts that a run on writers with room for so many bytes leaves the first bytes of `on_out` and of `on_err` that fit, and
-// answers the status, or 1 where not all fit.
+/// Asserts that a run on writers with room for so many bytes leaves the first bytes of `on_out` and of `on_err` that fit, and
+/// answers the status, or 1 where not all fit.
 fn expect_first_bytes<R: Abort + AllocGlobal>(
     rt: &R,
     command: &str,
