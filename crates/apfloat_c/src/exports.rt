@@ -24,7 +24,8 @@ pub extern "C" fn apfloat_add(
     answer: &mut Answer,
 ) -> u32
     ensures { let call = OfTwo Sum (whole x) (whole y) in
-        IsReply (asked (found formats format) (found modes mode) call) answer.old answer.new result }
+        IsReply (asked (found formats format) (found modes mode) call)
+        answer.old answer.new result }
 {
     reply(
         format,
@@ -44,7 +45,8 @@ pub extern "C" fn apfloat_sub(
     answer: &mut Answer,
 ) -> u32
     ensures { let call = OfTwo Difference (whole x) (whole y) in
-        IsReply (asked (found formats format) (found modes mode) call) answer.old answer.new result }
+        IsReply (asked (found formats format) (found modes mode) call)
+        answer.old answer.new result }
 {
     reply(
         format,
@@ -64,7 +66,8 @@ pub extern "C" fn apfloat_mul(
     answer: &mut Answer,
 ) -> u32
     ensures { let call = OfTwo Product (whole x) (whole y) in
-        IsReply (asked (found formats format) (found modes mode) call) answer.old answer.new result }
+        IsReply (asked (found formats format) (found modes mode) call)
+        answer.old answer.new result }
 {
     reply(
         format,
@@ -84,7 +87,8 @@ pub extern "C" fn apfloat_div(
     answer: &mut Answer,
 ) -> u32
     ensures { let call = OfTwo Quotient (whole x) (whole y) in
-        IsReply (asked (found formats format) (found modes mode) call) answer.old answer.new result }
+        IsReply (asked (found formats format) (found modes mode) call)
+        answer.old answer.new result }
 {
     reply(
         format,
@@ -98,7 +102,8 @@ pub extern "C" fn apfloat_div(
 #[unsafe(no_mangle)]
 pub extern "C" fn apfloat_rem(format: u32, x: Halves, y: Halves, answer: &mut Answer) -> u32
     ensures { let call = OfTwo NearestRemainder (whole x) (whole y) in
-        IsReply (asked (found formats format) (Some NearestTiesToEven) call) answer.old answer.new result }
+        IsReply (asked (found formats format) (Some NearestTiesToEven) call)
+        answer.old answer.new result }
 {
     reply(
         format,
@@ -112,7 +117,8 @@ pub extern "C" fn apfloat_rem(format: u32, x: Halves, y: Halves, answer: &mut An
 #[unsafe(no_mangle)]
 pub extern "C" fn apfloat_mod(format: u32, x: Halves, y: Halves, answer: &mut Answer) -> u32
     ensures { let call = OfTwo TruncatedRemainder (whole x) (whole y) in
-        IsReply (asked (found formats format) (Some NearestTiesToEven) call) answer.old answer.new result }
+        IsReply (asked (found formats format) (Some NearestTiesToEven) call)
+        answer.old answer.new result }
 {
     reply(
         format,
@@ -133,7 +139,8 @@ pub extern "C" fn apfloat_fma(
     answer: &mut Answer,
 ) -> u32
     ensures { let call = FusedSum (whole x) (whole y) (whole z) in
-        IsReply (asked (found formats format) (found modes mode) call) answer.old answer.new result }
+        IsReply (asked (found formats format) (found modes mode) call)
+        answer.old answer.new result }
 {
     reply(
         format,
@@ -153,7 +160,8 @@ pub extern "C" fn apfloat_convert(
     answer: &mut Answer,
 ) -> u32
     ensures { let call = Conversion (whole x) (found formats to) in
-        IsReply (asked (found formats format) (found modes mode) call) answer.old answer.new result }
+        IsReply (asked (found formats format) (found modes mode) call)
+        answer.old answer.new result }
 {
     reply(
         format,
@@ -172,7 +180,8 @@ pub extern "C" fn apfloat_from_u128(
     answer: &mut Answer,
 ) -> u32
     ensures { let call = FromUnsigned (whole number) in
-        IsReply (asked (found formats format) (found modes mode) call) answer.old answer.new result }
+        IsReply (asked (found formats format) (found modes mode) call)
+        answer.old answer.new result }
 {
     reply(
         format,
@@ -191,7 +200,8 @@ pub extern "C" fn apfloat_from_i128(
     answer: &mut Answer,
 ) -> u32
     ensures { let call = FromSigned (cast_signed w128 (whole number)) in
-        IsReply (asked (found formats format) (found modes mode) call) answer.old answer.new result }
+        IsReply (asked (found formats format) (found modes mode) call)
+        answer.old answer.new result }
 {
     reply(
         format,
@@ -211,7 +221,8 @@ pub extern "C" fn apfloat_to_u128(
     answer: &mut Answer,
 ) -> u32
     ensures { let call = ToUnsigned (whole x) width in
-        IsReply (asked (found formats format) (found modes mode) call) answer.old answer.new result }
+        IsReply (asked (found formats format) (found modes mode) call)
+        answer.old answer.new result }
 {
     reply(
         format,
@@ -232,7 +243,8 @@ pub extern "C" fn apfloat_to_i128(
     answer: &mut Answer,
 ) -> u32
     ensures { let call = ToSigned (whole x) width in
-        IsReply (asked (found formats format) (found modes mode) call) answer.old answer.new result }
+        IsReply (asked (found formats format) (found modes mode) call)
+        answer.old answer.new result }
 {
     reply(
         format,
@@ -251,7 +263,8 @@ pub extern "C" fn apfloat_round_to_integral(
     answer: &mut Answer,
 ) -> u32
     ensures { let call = RoundToIntegral (whole x) in
-        IsReply (asked (found formats format) (found modes mode) call) answer.old answer.new result }
+        IsReply (asked (found formats format) (found modes mode) call)
+        answer.old answer.new result }
 {
     reply(
         format,
@@ -271,7 +284,8 @@ pub extern "C" fn apfloat_scalbn(
     answer: &mut Answer,
 ) -> u32
     ensures { let call = Scaling (whole x) power in
-        IsReply (asked (found formats format) (found modes mode) call) answer.old answer.new result }
+        IsReply (asked (found formats format) (found modes mode) call)
+        answer.old answer.new result }
 {
     reply(
         format,
@@ -285,7 +299,8 @@ pub extern "C" fn apfloat_scalbn(
 #[unsafe(no_mangle)]
 pub extern "C" fn apfloat_ilogb(format: u32, x: Halves, answer: &mut Answer) -> u32
     ensures { let call = Exponent (whole x) in
-        IsReply (asked (found formats format) (Some NearestTiesToEven) call) answer.old answer.new result }
+        IsReply (asked (found formats format) (Some NearestTiesToEven) call)
+        answer.old answer.new result }
 {
     reply(
         format,
@@ -299,7 +314,8 @@ pub extern "C" fn apfloat_ilogb(format: u32, x: Halves, answer: &mut Answer) -> 
 #[unsafe(no_mangle)]
 pub extern "C" fn apfloat_frexp(format: u32, mode: u32, x: Halves, answer: &mut Answer) -> u32
     ensures { let call = Fraction (whole x) in
-        IsReply (asked (found formats format) (found modes mode) call) answer.old answer.new result }
+        IsReply (asked (found formats format) (found modes mode) call)
+        answer.old answer.new result }
 {
     reply(format, mode_of(mode), Call::Fraction(x.number()), answer)
 }
@@ -308,7 +324,8 @@ pub extern "C" fn apfloat_frexp(format: u32, mode: u32, x: Halves, answer: &mut 
 #[unsafe(no_mangle)]
 pub extern "C" fn apfloat_next_up(format: u32, x: Halves, answer: &mut Answer) -> u32
     ensures { let call = NextUp (whole x) in
-        IsReply (asked (found formats format) (Some NearestTiesToEven) call) answer.old answer.new result }
+        IsReply (asked (found formats format) (Some NearestTiesToEven) call)
+        answer.old answer.new result }
 {
     reply(
         format,
@@ -322,7 +339,8 @@ pub extern "C" fn apfloat_next_up(format: u32, x: Halves, answer: &mut Answer) -
 #[unsafe(no_mangle)]
 pub extern "C" fn apfloat_next_down(format: u32, x: Halves, answer: &mut Answer) -> u32
     ensures { let call = NextDown (whole x) in
-        IsReply (asked (found formats format) (Some NearestTiesToEven) call) answer.old answer.new result }
+        IsReply (asked (found formats format) (Some NearestTiesToEven) call)
+        answer.old answer.new result }
 {
     reply(
         format,
@@ -336,7 +354,8 @@ pub extern "C" fn apfloat_next_down(format: u32, x: Halves, answer: &mut Answer)
 #[unsafe(no_mangle)]
 pub extern "C" fn apfloat_compare(format: u32, x: Halves, y: Halves, answer: &mut Answer) -> u32
     ensures { let call = Comparison (whole x) (whole y) in
-        IsReply (asked (found formats format) (Some NearestTiesToEven) call) answer.old answer.new result }
+        IsReply (asked (found formats format) (Some NearestTiesToEven) call)
+        answer.old answer.new result }
 {
     reply(
         format,
@@ -350,7 +369,8 @@ pub extern "C" fn apfloat_compare(format: u32, x: Halves, y: Halves, answer: &mu
 #[unsafe(no_mangle)]
 pub extern "C" fn apfloat_classify(format: u32, x: Halves, answer: &mut Answer) -> u32
     ensures { let call = Class (whole x) in
-        IsReply (asked (found formats format) (Some NearestTiesToEven) call) answer.old answer.new result }
+        IsReply (asked (found formats format) (Some NearestTiesToEven) call)
+        answer.old answer.new result }
 {
     reply(
         format,
@@ -364,7 +384,8 @@ pub extern "C" fn apfloat_classify(format: u32, x: Halves, answer: &mut Answer) 
 #[unsafe(no_mangle)]
 pub extern "C" fn apfloat_parse(format: u32, mode: u32, text: &[u8], answer: &mut Answer) -> u32
     ensures { let call = Text text.entry in
-        IsReply (asked (found formats format) (found modes mode) call) answer.old answer.new result }
+        IsReply (asked (found formats format) (found modes mode) call)
+        answer.old answer.new result }
 {
     reply(format, mode_of(mode), Call::Text(text), answer)
 }

@@ -101,7 +101,8 @@ pub trait Semantics: Copy {
         ensures back { let c = constants_with BITS EXP_BITS PRECISION NONFINITE_BEHAVIOR MAX_EXP
             IEEE_MAX_EXP MIN_EXP IEEE_MIN_EXP NAN_SIGNIFICAND_BASE NAN_PAYLOAD_MASK
             QNAN_SIGNIFICAND EXPLICIT_INTEGER_BIT TINY_BEFORE_ROUNDING in
-            EXPLICIT_INTEGER_BIT ≡ false → bits < 2 ^ BITS → IsEncodedBy (format_with c) (layout_with c) bits result }
+            EXPLICIT_INTEGER_BIT ≡ false → bits < 2 ^ BITS
+            → IsEncodedBy (format_with c) (layout_with c) bits result }
         ensures once { let c = constants_with BITS EXP_BITS PRECISION NONFINITE_BEHAVIOR MAX_EXP
             IEEE_MAX_EXP MIN_EXP IEEE_MIN_EXP NAN_SIGNIFICAND_BASE NAN_PAYLOAD_MASK
             QNAN_SIGNIFICAND EXPLICIT_INTEGER_BIT TINY_BEFORE_ROUNDING in

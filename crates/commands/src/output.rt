@@ -85,7 +85,8 @@ pub fn write_line<W: Write>(
 ) -> io::Result<()>
     requires { digits ≤ 32 }
     ensures { OnOk result
-        (Appends (W.contents out.old) (W.contents out.new) (line_text bits digits (bits_of status))) }
+        (Appends (W.contents out.old) (W.contents out.new)
+        (line_text bits digits (bits_of status))) }
 {
     let mut line = TextBuffer::<LINE_ROOM>::new();
     write_line_parts(bits, digits, status, &mut line)?;
@@ -100,7 +101,8 @@ fn write_line_parts<W: Write>(
 ) -> io::Result<()>
     requires { digits ≤ 32 }
     ensures { OnOk result
-        (Appends (W.contents out.old) (W.contents out.new) (line_text bits digits (bits_of status))) }
+        (Appends (W.contents out.old) (W.contents out.new)
+        (line_text bits digits (bits_of status))) }
 {
     write_hexadecimal(bits, digits, out)?;
     out.write_all(b" ")?;

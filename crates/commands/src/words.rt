@@ -118,7 +118,8 @@ fn bits_of_digits(digits: &[u8], width: usize) -> Option<u128>
 /// The number that hexadecimal digits stand for.
 fn hexadecimal_number(digits: &[u8]) -> Option<u128>
     requires { length digits.now ≤ 32 }
-    ensures { result ≡ (if every is_hexadecimal digits.now then Some (number 16 digits.now) else None) }
+    ensures { result ≡ (if every is_hexadecimal digits.now
+        then Some (number 16 digits.now) else None) }
 {
     let mut number = 0;
     for byte in digits {
