@@ -1,9 +1,9 @@
 //! Calls whose operands are values, and whose answer is a value, by itself or with a status.
 
 use crate::calls::answer::{Answer, Extra};
-use crate::calls::call::Operator;
+use crate::calls::call::{Direction, Operator, Quotient};
 use crate::calls::row::Row;
-use crate::calls::values::{value_of, word_of};
+use crate::calls::values::{one_value, two_values, word_of};
 use crate::fault::Fault;
 use rustc_apfloat::{Float, Round, StatusAnd};
 use std::fmt::Debug;
@@ -21,8 +21,7 @@ pub fn operated<F: Float + Debug>(
     round: Option<Round>,
     row: Row<'_>,
 ) -> Result<Answer, Fault<'_>> {
-    let (first, second) = row.two_operands()?;
-    let (x, y) = (value_of::<F>(first)?, value_of::<F>(second)?);
+    let (x, y) = two_values::<F>(row)?;
     let answer = match round {
         Some(round) => rounded(operator, round, x, y),
         None => by_operator(operator, x, y),
@@ -56,8 +55,8 @@ fn by_operator<F: Float>(operator: Operator, x: F, y: F) -> Option<StatusAnd<F>>
 
 /// The answer of an operator that changes its left operand.
 pub fn assigned<F: Float + Debug>(operator: Operator, row: Row<'_>) -> Result<Answer, Fault<'_>> {
-    let (first, second) = row.two_operands()?;
-    match changed::<F>(operator, value_of(first)?, value_of(second)?) {
+    let (x, y) = two_values::<F>(row)?;
+    match changed(operator, x, y) {
         Some(value) => Ok(Answer::silent(word_of(value, row))),
         None => Err(row.support_fault()),
     }
@@ -76,18 +75,14 @@ fn changed<F: Float>(operator: Operator, x: F, y: F) -> Option<F> {
     Some(value)
 }
 
-/// The answer of the remainder by the nearest quotient.
-pub fn nearest_remainder<F: Float + Debug>(row: Row<'_>) -> Result<Answer, Fault<'_>> {
-    let (first, second) = row.two_operands()?;
-    let (x, y) = (value_of::<F>(first)?, value_of::<F>(second)?);
-    Ok(valued(x.ieee_rem(y), row))
-}
-
-/// The answer of the remainder by the quotient cut toward zero.
-pub fn truncated_remainder<F: Float + Debug>(row: Row<'_>) -> Result<Answer, Fault<'_>> {
-    let (first, second) = row.two_operands()?;
-    let (x, y) = (value_of::<F>(first)?, value_of::<F>(second)?);
-    Ok(valued(x.c_fmod(y), row))
+/// The answer of a remainder that has a name.
+pub fn remainder<F: Float + Debug>(quotient: Quotient, row: Row<'_>) -> Result<Answer, Fault<'_>> {
+    let (x, y) = two_values::<F>(row)?;
+    let answer = match quotient {
+        Quotient::Nearest => x.ieee_rem(y),
+        Quotient::Truncated => x.c_fmod(y),
+    };
+    Ok(valued(answer, row))
 }
 
 /// The answer of rounding to a whole number.
@@ -95,21 +90,22 @@ pub fn to_integral<F: Float + Debug>(
     round: Option<Round>,
     row: Row<'_>,
 ) -> Result<Answer, Fault<'_>> {
-    let x = value_of::<F>(row.one_operand()?)?;
+    let x = one_value::<F>(row)?;
     match round {
         Some(round) => Ok(valued(x.round_to_integral(round), row)),
         None => Err(Fault::Mode(row.mode)),
     }
 }
 
-/// The answer of the next value upward.
-pub fn next_up<F: Float + Debug>(row: Row<'_>) -> Result<Answer, Fault<'_>> {
-    let x = value_of::<F>(row.one_operand()?)?;
-    Ok(valued(x.next_up(), row))
-}
-
-/// The answer of the next value downward.
-pub fn next_down<F: Float + Debug>(row: Row<'_>) -> Result<Answer, Fault<'_>> {
-    let x = value_of::<F>(row.one_operand()?)?;
-    Ok(valued(x.next_down(), row))
+/// The answer of the next value upward or downward.
+pub fn neighbour<F: Float + Debug>(
+    direction: Direction,
+    row: Row<'_>,
+) -> Result<Answer, Fault<'_>> {
+    let x = one_value::<F>(row)?;
+    let answer = match direction {
+        Direction::Up => x.next_up(),
+        Direction::Down => x.next_down(),
+    };
+    Ok(valued(answer, row))
 }

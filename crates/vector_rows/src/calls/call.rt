@@ -3,7 +3,7 @@
 use crate::calls::constants::Constant;
 use crate::calls::order::Comparison;
 use crate::calls::parts::Choice;
-use crate::calls::predicates::Predicate;
+use crate::calls::questions::Question;
 
 /// An operation that has an operator.
 #[derive(Clone, Copy)]
@@ -15,6 +15,36 @@ pub enum Operator {
     Remainder,
 }
 
+/// The quotient of a remainder, as a whole number.
+#[derive(Clone, Copy)]
+pub enum Quotient {
+    Nearest,
+    Truncated,
+}
+
+/// A way to a neighbour.
+#[derive(Clone, Copy)]
+pub enum Direction {
+    Up,
+    Down,
+}
+
+/// A kind of NaN.
+#[derive(Clone, Copy)]
+pub enum NaN {
+    Quiet,
+    Signaling,
+}
+
+/// What becomes of a value.
+#[derive(Clone, Copy)]
+pub enum Change {
+    Negated,
+    Absolute,
+    // To a whole number of 128 digits and back.
+    ThroughInteger,
+}
+
 /// A call. Where it has a form with a mode and one without, the row's column of modes tells which one is meant.
 #[derive(Clone, Copy)]
 pub enum Call {
@@ -22,13 +52,11 @@ pub enum Call {
     Constant(Constant),
     // Of values, answered by a value with a status.
     Arithmetic(Operator),
-    NearestRemainder,
-    TruncatedRemainder,
+    Remainder(Quotient),
     CountedRemainder,
     FusedSum,
     RoundToIntegral,
-    NextUp,
-    NextDown,
+    Neighbour(Direction),
     Converted,
     // Of whole numbers, or answered by them.
     FromUnsigned,
@@ -44,20 +72,14 @@ pub enum Call {
     Fraction,
     Inverse,
     Bits,
-    QuietNaN,
-    SignalingNaN,
-    Negated,
-    Absolute,
-    ThroughInteger,
+    NaN(NaN),
+    Changed(Change),
     Chosen(Choice),
     Joined,
     // Answered by something else.
-    Predicate(Predicate),
+    Asked(Question),
     Compared(Comparison),
     MagnitudesCompared,
-    Exponent,
-    Shown,
-    Category,
 }
 
 /// The call of this name that has a mode.
@@ -85,8 +107,8 @@ pub fn call_with_mode(name: &str) -> Option<Call> {
 pub fn call_without_mode(name: &str) -> Option<Call> {
     if let Some(constant) = Constant::named(name) {
         Some(Call::Constant(constant))
-    } else if let Some(predicate) = Predicate::named(name) {
-        Some(Call::Predicate(predicate))
+    } else if let Some(question) = Question::named(name) {
+        Some(Call::Asked(question))
     } else if let Some(choice) = Choice::named(name) {
         Some(Call::Chosen(choice))
     } else if let Some(comparison) = Comparison::named(name) {
@@ -104,12 +126,12 @@ fn operation_without_mode(name: &str) -> Option<Call> {
         return Some(Call::Assigned(operator));
     }
     match name {
-        "ieee_rem" => Some(Call::NearestRemainder),
-        "c_fmod" => Some(Call::TruncatedRemainder),
+        "ieee_rem" => Some(Call::Remainder(Quotient::Nearest)),
+        "c_fmod" => Some(Call::Remainder(Quotient::Truncated)),
         "c_fmod_steps" => Some(Call::CountedRemainder),
         "mul_add" => Some(Call::FusedSum),
-        "next_up" => Some(Call::NextUp),
-        "next_down" => Some(Call::NextDown),
+        "next_up" => Some(Call::Neighbour(Direction::Up)),
+        "next_down" => Some(Call::Neighbour(Direction::Down)),
         "convert" => Some(Call::Converted),
         "from_u128" => Some(Call::FromUnsigned),
         "from_i128" => Some(Call::FromSigned),
@@ -126,16 +148,13 @@ fn call_of_one_form(name: &str) -> Option<Call> {
     match name {
         "get_exact_inverse" => Some(Call::Inverse),
         "to_bits" => Some(Call::Bits),
-        "qnan" => Some(Call::QuietNaN),
-        "snan" => Some(Call::SignalingNaN),
-        "neg" => Some(Call::Negated),
-        "abs" => Some(Call::Absolute),
-        "through_i128" => Some(Call::ThroughInteger),
+        "qnan" => Some(Call::NaN(NaN::Quiet)),
+        "snan" => Some(Call::NaN(NaN::Signaling)),
+        "neg" => Some(Call::Changed(Change::Negated)),
+        "abs" => Some(Call::Changed(Change::Absolute)),
+        "through_i128" => Some(Call::Changed(Change::ThroughInteger)),
         "from" => Some(Call::Joined),
         "cmp_abs_normal" => Some(Call::MagnitudesCompared),
-        "ilogb" => Some(Call::Exponent),
-        "debug" => Some(Call::Shown),
-        "category" => Some(Call::Category),
         _ => None,
     }
 }

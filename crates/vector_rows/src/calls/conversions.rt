@@ -3,7 +3,7 @@
 use crate::calls::answer::{Answer, Extra};
 use crate::calls::call::Call;
 use crate::calls::row::Row;
-use crate::calls::values::{value_of, word_of};
+use crate::calls::values::{one_value, word_of};
 use crate::fault::Fault;
 use rustc_apfloat::ieee::{IeeeFloat, Semantics};
 use rustc_apfloat::{FloatConvert, Round, StatusAnd};
@@ -17,7 +17,7 @@ pub fn converted<S: Semantics, T: Semantics>(
     if !matches!(call, Call::Converted) {
         return Err(row.support_fault());
     }
-    let x = value_of::<IeeeFloat<S>>(row.one_operand()?)?;
+    let x = one_value::<IeeeFloat<S>>(row)?;
     let mut loses_info = false;
     let answer: StatusAnd<IeeeFloat<T>> = match round {
         Some(round) => x.convert_r(round, &mut loses_info),

@@ -5,7 +5,7 @@ use crate::calls::call::Call;
 use crate::calls::conversions::converted;
 use crate::calls::row::Row;
 use crate::calls::{
-    arithmetic, constants, ieee, order, pairs, parts, predicates, texts, whole_numbers,
+    arithmetic, constants, ieee, order, pairs, parts, questions, texts, whole_numbers,
 };
 use crate::fault::Fault;
 use conformance::own_formats::{
@@ -101,21 +101,16 @@ fn of_type<F: Float + Debug>(
     match call {
         Call::Constant(constant) => constants::answer::<F>(constant, row),
         Call::Arithmetic(operator) => arithmetic::operated::<F>(operator, round, row),
-        Call::NearestRemainder => arithmetic::nearest_remainder::<F>(row),
-        Call::TruncatedRemainder => arithmetic::truncated_remainder::<F>(row),
+        Call::Remainder(quotient) => arithmetic::remainder::<F>(quotient, row),
         Call::RoundToIntegral => arithmetic::to_integral::<F>(round, row),
-        Call::NextUp => arithmetic::next_up::<F>(row),
-        Call::NextDown => arithmetic::next_down::<F>(row),
+        Call::Neighbour(direction) => arithmetic::neighbour::<F>(direction, row),
         Call::Assigned(operator) => arithmetic::assigned::<F>(operator, row),
         Call::FromUnsigned => whole_numbers::from_unsigned::<F>(round, row),
         Call::FromSigned => whole_numbers::from_signed::<F>(round, row),
         Call::ToUnsigned => whole_numbers::to_unsigned::<F>(round, row),
         Call::ToSigned => whole_numbers::to_signed::<F>(round, row),
-        Call::Exponent => whole_numbers::exponent::<F>(row),
         Call::Read => texts::read::<F>(round, row),
         Call::Parsed => texts::parsed::<F>(row),
-        Call::Shown => texts::text::<F>(row),
-        Call::Category => texts::category::<F>(row),
         _ => part_of_type::<F>(call, round, row),
     }
 }
@@ -131,13 +126,10 @@ fn part_of_type<F: Float + Debug>(
         Call::Fraction => parts::fraction::<F>(round, row),
         Call::Inverse => parts::inverse::<F>(row),
         Call::Bits => parts::bits::<F>(row),
-        Call::QuietNaN => parts::quiet_nan::<F>(row),
-        Call::SignalingNaN => parts::signaling_nan::<F>(row),
-        Call::Negated => parts::negated::<F>(row),
-        Call::Absolute => parts::absolute::<F>(row),
-        Call::ThroughInteger => parts::through_integer::<F>(row),
+        Call::NaN(kind) => parts::nan_of_payload::<F>(kind, row),
+        Call::Changed(change) => parts::changed::<F>(change, row),
         Call::Chosen(choice) => parts::chosen::<F>(choice, row),
-        Call::Predicate(predicate) => predicates::answer::<F>(predicate, row),
+        Call::Asked(question) => questions::answer::<F>(question, row),
         Call::Compared(comparison) => order::answer::<F>(comparison, row),
         _ => Err(row.support_fault()),
     }

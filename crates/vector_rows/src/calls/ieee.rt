@@ -3,18 +3,14 @@
 use crate::calls::answer::{Answer, Extra, Word};
 use crate::calls::arithmetic::valued;
 use crate::calls::row::Row;
-use crate::calls::values::{value_of, word_of};
+use crate::calls::values::{two_values, value_of, word_of};
 use crate::fault::Fault;
 use rustc_apfloat::ieee::{IeeeFloat, Semantics};
 use rustc_apfloat::{Category, ExpInt, Float, Round};
 
 /// A remainder, with how many steps it takes and the most that it can take.
 pub fn counted_remainder<S: Semantics>(row: Row<'_>) -> Result<Answer, Fault<'_>> {
-    let (first, second) = row.two_operands()?;
-    let (x, y) = (
-        value_of::<IeeeFloat<S>>(first)?,
-        value_of::<IeeeFloat<S>>(second)?,
-    );
+    let (x, y) = two_values::<IeeeFloat<S>>(row)?;
     let (answer, taken) = x.c_fmod_steps(y);
     let extra = Extra::Steps(taken, step_bound(x, y));
     Ok(Answer::raised(word_of(answer.value, row), answer.status, extra))
@@ -27,11 +23,7 @@ fn step_bound<S: Semantics>(x: IeeeFloat<S>, y: IeeeFloat<S>) -> ExpInt {
 
 /// The order of the magnitudes of two numbers that are not zero.
 pub fn order_of_magnitudes<S: Semantics>(row: Row<'_>) -> Result<Answer, Fault<'_>> {
-    let (first, second) = row.two_operands()?;
-    let (x, y) = (
-        value_of::<IeeeFloat<S>>(first)?,
-        value_of::<IeeeFloat<S>>(second)?,
-    );
+    let (x, y) = two_values::<IeeeFloat<S>>(row)?;
     match (x.category(), y.category()) {
         (Category::Normal, Category::Normal) => {
             Ok(Answer::silent(Word::Order(Some(x.cmp_abs_normal(y)))))

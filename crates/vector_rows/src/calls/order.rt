@@ -2,7 +2,7 @@
 
 use crate::calls::answer::{Answer, Word};
 use crate::calls::row::Row;
-use crate::calls::values::value_of;
+use crate::calls::values::two_values;
 use crate::fault::Fault;
 use rustc_apfloat::Float;
 use std::cmp::Ordering;
@@ -29,9 +29,8 @@ impl Comparison {
 
 /// The answer of a comparison.
 pub fn answer<F: Float>(comparison: Comparison, row: Row<'_>) -> Result<Answer, Fault<'_>> {
-    let (first, second) = row.two_operands()?;
-    let word = compared::<F>(comparison, value_of(first)?, value_of(second)?);
-    Ok(Answer::silent(word))
+    let (x, y) = two_values::<F>(row)?;
+    Ok(Answer::silent(compared(comparison, x, y)))
 }
 
 fn compared<F: Float>(comparison: Comparison, x: F, y: F) -> Word {

@@ -6,7 +6,7 @@ ghost use Rattle.rustc_apfloat.specs.PairParts.{CanComparePairMagnitudes};
 use crate::calls::answer::{Answer, Word};
 use crate::calls::call::Call;
 use crate::calls::row::Row;
-use crate::calls::values::{value_of, word_of};
+use crate::calls::values::{one_value, two_values, word_of};
 use crate::fault::Fault;
 use rustc_apfloat::Float;
 use rustc_apfloat::ieee::{Double, FallbackS, IeeeFloat};
@@ -21,7 +21,7 @@ pub fn joined(call: Call, row: Row<'_>) -> Result<Answer, Fault<'_>> {
     if !matches!(call, Call::Joined) {
         return Err(row.support_fault());
     }
-    let x = value_of::<DoubleDouble>(row.one_operand()?)?;
+    let x = one_value::<DoubleDouble>(row)?;
     Ok(Answer::silent(word_of(Fallback::from(x), row)))
 }
 
@@ -30,14 +30,14 @@ pub fn split(call: Call, row: Row<'_>) -> Result<Answer, Fault<'_>> {
     if !matches!(call, Call::Joined) {
         return Err(row.support_fault());
     }
-    let x = value_of::<Fallback>(row.one_operand()?)?;
+    let x = one_value::<Fallback>(row)?;
     Ok(Answer::silent(word_of(DoubleDouble::from(x), row)))
 }
 
 /// The order of the magnitudes of two pairs that can be compared.
 pub fn order_of_magnitudes(row: Row<'_>) -> Result<Answer, Fault<'_>> {
-    let (first, second) = row.two_operands()?;
-    match order_of(value_of(first)?, value_of(second)?) {
+    let (x, y) = two_values(row)?;
+    match order_of(x, y) {
         Some(order) => Ok(Answer::silent(Word::Order(Some(order)))),
         None => Err(row.support_fault()),
     }

@@ -1,8 +1,9 @@
 //! Calls whose answer is a value without a status.
 
 use crate::calls::answer::{Answer, Extra, Word};
+use crate::calls::call::{Change, NaN};
 use crate::calls::row::Row;
-use crate::calls::values::{value_of, word_of};
+use crate::calls::values::{one_value, two_values, value_of, word_of};
 use crate::fault::Fault;
 use commands::bits_of;
 use rustc_apfloat::{ExpInt, Float, Round};
@@ -34,9 +35,8 @@ impl Choice {
 
 /// The answer of a choice.
 pub fn chosen<F: Float + Debug>(choice: Choice, row: Row<'_>) -> Result<Answer, Fault<'_>> {
-    let (first, second) = row.two_operands()?;
-    let value = choice_of::<F>(choice, value_of(first)?, value_of(second)?);
-    Ok(Answer::silent(word_of(value, row)))
+    let (x, y) = two_values::<F>(row)?;
+    Ok(Answer::silent(word_of(choice_of(choice, x, y), row)))
 }
 
 fn choice_of<F: Float>(choice: Choice, x: F, y: F) -> F {
@@ -51,7 +51,7 @@ fn choice_of<F: Float>(choice: Choice, x: F, y: F) -> F {
 
 /// The fraction and the exponent of a value.
 pub fn fraction<F: Float + Debug>(round: Option<Round>, row: Row<'_>) -> Result<Answer, Fault<'_>> {
-    let x = value_of::<F>(row.one_operand()?)?;
+    let x = one_value::<F>(row)?;
     let mut exponent = 0;
     let fraction = match round {
         Some(round) => x.frexp_r(&mut exponent, round),
@@ -80,7 +80,7 @@ pub fn scaled<F: Float + Debug>(round: Option<Round>, row: Row<'_>) -> Result<An
 
 /// The exact inverse of a value, or none.
 pub fn inverse<F: Float + Debug>(row: Row<'_>) -> Result<Answer, Fault<'_>> {
-    let x = value_of::<F>(row.one_operand()?)?;
+    let x = one_value::<F>(row)?;
     Ok(Answer::silent(match x.get_exact_inverse() {
         Some(inverse) => word_of(inverse, row),
         None => Word::Nothing,
@@ -90,22 +90,20 @@ pub fn inverse<F: Float + Debug>(row: Row<'_>) -> Result<Answer, Fault<'_>> {
 /// The canonical bits of the value of bits.
 pub fn bits<F: Float>(row: Row<'_>) -> Result<Answer, Fault<'_>> {
     if F::PRECISION < F::BITS {
-        let x = value_of::<F>(row.one_operand()?)?;
+        let x = one_value::<F>(row)?;
         Ok(Answer::silent(Word::Bits(x.to_bits(), F::BITS)))
     } else {
         Err(row.support_fault())
     }
 }
 
-/// The quiet NaN of a payload, which may be none.
-pub fn quiet_nan<F: Float + Debug>(row: Row<'_>) -> Result<Answer, Fault<'_>> {
-    let value = F::qnan(payload_of(row)?);
-    Ok(Answer::silent(word_of(value, row)))
-}
-
-/// The signaling NaN of a payload, which may be none.
-pub fn signaling_nan<F: Float + Debug>(row: Row<'_>) -> Result<Answer, Fault<'_>> {
-    let value = F::snan(payload_of(row)?);
+/// The NaN of a payload, which may be none.
+pub fn nan_of_payload<F: Float + Debug>(kind: NaN, row: Row<'_>) -> Result<Answer, Fault<'_>> {
+    let payload = payload_of(row)?;
+    let value = match kind {
+        NaN::Quiet => F::qnan(payload),
+        NaN::Signaling => F::snan(payload),
+    };
     Ok(Answer::silent(word_of(value, row)))
 }
 
@@ -120,21 +118,13 @@ fn payload_of(row: Row<'_>) -> Result<Option<u128>, Fault<'_>> {
     }
 }
 
-/// A value with the other sign.
-pub fn negated<F: Float + Debug>(row: Row<'_>) -> Result<Answer, Fault<'_>> {
-    let x = value_of::<F>(row.one_operand()?)?;
-    Ok(Answer::silent(word_of(-x, row)))
-}
-
-/// A value without its sign.
-pub fn absolute<F: Float + Debug>(row: Row<'_>) -> Result<Answer, Fault<'_>> {
-    let x = value_of::<F>(row.one_operand()?)?;
-    Ok(Answer::silent(word_of(x.abs(), row)))
-}
-
-/// A value to a whole number of 128 digits and back.
-pub fn through_integer<F: Float + Debug>(row: Row<'_>) -> Result<Answer, Fault<'_>> {
-    let x = value_of::<F>(row.one_operand()?)?;
-    let value = F::from_i128(x.to_i128(128).value).value;
+/// A value changed.
+pub fn changed<F: Float + Debug>(change: Change, row: Row<'_>) -> Result<Answer, Fault<'_>> {
+    let x = one_value::<F>(row)?;
+    let value = match change {
+        Change::Negated => -x,
+        Change::Absolute => x.abs(),
+        Change::ThroughInteger => F::from_i128(x.to_i128(128).value).value,
+    };
     Ok(Answer::silent(word_of(value, row)))
 }

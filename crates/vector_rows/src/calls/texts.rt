@@ -1,10 +1,10 @@
 //! Calls with texts.
 
-use crate::calls::answer::{Answer, Word};
+use crate::calls::answer::Answer;
 use crate::calls::arithmetic::valued;
 use crate::calls::row::Row;
 use crate::calls::text::Text;
-use crate::calls::values::{shown, value_of, word_of};
+use crate::calls::values::word_of;
 use crate::fault::Fault;
 use rustc_apfloat::{Float, ParseError, Round};
 use std::fmt::{Debug, Write};
@@ -34,16 +34,4 @@ fn refused(error: ParseError) -> Answer {
     // There is room for each.
     let _ = reason.write_str(error.0);
     Answer::refused(reason)
-}
-
-/// What is shown of a value.
-pub fn text<F: Float + Debug>(row: Row<'_>) -> Result<Answer, Fault<'_>> {
-    let x = value_of::<F>(row.one_operand()?)?;
-    Ok(Answer::silent(Word::Text(shown(x))))
-}
-
-/// The category of a value.
-pub fn category<F: Float>(row: Row<'_>) -> Result<Answer, Fault<'_>> {
-    let x = value_of::<F>(row.one_operand()?)?;
-    Ok(Answer::silent(Word::Category(x.category())))
 }

@@ -14,6 +14,17 @@ pub fn value_of<F: Float>(word: &str) -> Result<F, Fault<'_>> {
     value_named(word).ok_or(Fault::Operands(word))
 }
 
+/// The value of the only operand of a row.
+pub fn one_value<F: Float>(row: Row<'_>) -> Result<F, Fault<'_>> {
+    value_of(row.one_operand()?)
+}
+
+/// The values of the two operands of a row.
+pub fn two_values<F: Float>(row: Row<'_>) -> Result<(F, F), Fault<'_>> {
+    let (first, second) = row.two_operands()?;
+    Ok((value_of(first)?, value_of(second)?))
+}
+
 fn value_named<F: Float>(word: &str) -> Option<F> {
     if F::PRECISION < F::BITS {
         Some(F::from_bits(bits_of(word, F::BITS)?))

@@ -11,12 +11,6 @@ use commands::number_of;
 use rustc_apfloat::{Float, Round, StatusAnd};
 use std::fmt::Debug;
 
-/// The exponent of a value.
-pub fn exponent<F: Float>(row: Row<'_>) -> Result<Answer, Fault<'_>> {
-    let x = value_of::<F>(row.one_operand()?)?;
-    Ok(Answer::silent(Word::Signed(i128::from(x.ilogb()))))
-}
-
 /// The value of a whole number without a sign.
 pub fn from_unsigned<F: Float + Debug>(
     round: Option<Round>,

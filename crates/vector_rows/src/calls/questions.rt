@@ -2,15 +2,20 @@
 
 use crate::calls::answer::{Answer, Word};
 use crate::calls::row::Row;
-use crate::calls::values::value_of;
+use crate::calls::values::{one_value, shown};
 use crate::fault::Fault;
 use rustc_apfloat::Float;
+use std::fmt::Debug;
 
 /// What is asked.
 #[derive(Clone, Copy)]
-pub enum Predicate {
+pub enum Question {
     Class(Class),
     Signed(Signed),
+    Exponent,
+    Category,
+    // What `Debug` shows.
+    Text,
 }
 
 /// What is asked of a value, whatever its sign.
@@ -41,12 +46,20 @@ pub enum Signed {
     Negative,
 }
 
-impl Predicate {
+impl Question {
     /// What the call of this name asks.
-    pub fn named(name: &str) -> Option<Predicate> {
-        match Class::named(name) {
-            Some(class) => Some(Predicate::Class(class)),
-            None => Some(Predicate::Signed(Signed::named(name)?)),
+    pub fn named(name: &str) -> Option<Question> {
+        if let Some(class) = Class::named(name) {
+            return Some(Question::Class(class));
+        }
+        if let Some(signed) = Signed::named(name) {
+            return Some(Question::Signed(signed));
+        }
+        match name {
+            "ilogb" => Some(Question::Exponent),
+            "category" => Some(Question::Category),
+            "debug" => Some(Question::Text),
+            _ => None,
         }
     }
 }
@@ -85,14 +98,16 @@ impl Signed {
     }
 }
 
-/// The answer of a predicate.
-pub fn answer<F: Float>(predicate: Predicate, row: Row<'_>) -> Result<Answer, Fault<'_>> {
-    let x = value_of::<F>(row.one_operand()?)?;
-    let holds = match predicate {
-        Predicate::Class(class) => is_of(class, x),
-        Predicate::Signed(signed) => is_signed(signed, x),
-    };
-    Ok(Answer::silent(Word::Truth(holds)))
+/// The answer of a question.
+pub fn answer<F: Float + Debug>(question: Question, row: Row<'_>) -> Result<Answer, Fault<'_>> {
+    let x = one_value::<F>(row)?;
+    Ok(Answer::silent(match question {
+        Question::Class(class) => Word::Truth(is_of(class, x)),
+        Question::Signed(signed) => Word::Truth(is_signed(signed, x)),
+        Question::Exponent => Word::Signed(i128::from(x.ilogb())),
+        Question::Category => Word::Category(x.category()),
+        Question::Text => Word::Text(shown(x)),
+    }))
 }
 
 fn is_of<F: Float>(class: Class, x: F) -> bool {
