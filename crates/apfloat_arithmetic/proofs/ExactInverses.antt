@@ -157,8 +157,7 @@ invertible_from shape m i e law n h =
     let j : ℕ = steps_of shape e in
     let w : ℕ = (format_at shape).scale in
     let q : quanta_at shape.min_exp m e ≡ 2 ^ (shape.precision - 1) * 2 ^ steps_of shape e =
-    quanta_high_is shape m e l ∙
-    ap (λ (x : ℕ). x * 2 ^ steps_of shape e) p in
+    quanta_high_is shape m e l ∙ ap (λ (x : ℕ). x * 2 ^ steps_of shape e) p in
     let g : 2 ^ (shape.precision - 1) * 2 ^ steps_of shape e * i
     ≡ 2 ^ (format_at shape).scale * 2 ^ (format_at shape).scale =
     ap (λ (x : ℕ). x * i) (sym q) ∙ h.product in
@@ -189,15 +188,13 @@ opposite_word shape m e law n =
 
 -- what is answered of a number
 pub inverse_answer : (shape : Shape) (b : Bool) (m : ℕ) (e : ℤ) → IsShape shape → IsNormal shape m e
-    → IsInvertible shape m e
-    → IsExactInverse (format_at shape) (finite b (quanta_at shape.min_exp m e))
+    → IsInvertible shape m e → IsExactInverse (format_at shape) (finite b (quanta_at shape.min_exp m e))
     (Some (finite b (quanta_at shape.min_exp m (neg_ℤ e))))
 inverse_answer shape b m e law n i = (quanta_at shape.min_exp m (neg_ℤ e), inverted_product shape m e law n i, refl)
 
 -- and one that is not invertible has none
 pub no_inverse_answer : (shape : Shape) (b : Bool) (m : ℕ) (e : ℤ) → IsShape shape → IsNormal shape m e
-    → (IsInvertible shape m e → ⊥)
-    → IsExactInverse (format_at shape) (finite b (quanta_at shape.min_exp m e)) None
+    → (IsInvertible shape m e → ⊥) → IsExactInverse (format_at shape) (finite b (quanta_at shape.min_exp m e)) None
 no_inverse_answer shape b m e law n i = λ inverse h. i (invertible_from shape m inverse e law n h)
 
 abbrev value_or : Unpacked → Option Unpacked → Unpacked

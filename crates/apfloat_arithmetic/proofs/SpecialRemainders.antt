@@ -21,8 +21,7 @@ Says s quotient k l x y value status =
 
 -- a number other than zero on the right
 pub by_number : (shape : Shape) (quotient : ℕ → ℕ → ℕ) (x y : Unpacked) (m : ℕ) (value : Datum) (status : ℕ)
-    → IsStoredBy Normal shape y
-    → IsAnswer (rest_of shape.nonfinite x.negative m
+    → IsStoredBy Normal shape y → IsAnswer (rest_of shape.nonfinite x.negative m
     (quanta_at shape.min_exp y.significand y.exponent * quotient m (quanta_at shape.min_exp y.significand y.exponent)))
     ok_bits value status
     → IsRemainder (format_at shape) quotient (finite x.negative m) (datum_by Normal shape y) value status
@@ -48,8 +47,7 @@ zero_by_number shape quotient x y value status u t q h =
 
 -- a dividend of 0 is the remainder
 pub of_zero : (shape : Shape) (quotient : ℕ → ℕ → ℕ) (first second : Category) (x y : Unpacked) (value : Datum)
-    (status : ℕ)
-    → (first ≡ Zero) ⊎ (first ≡ Normal) → (first ≡ Normal → ⊥) → second ≡ Normal
+    (status : ℕ) → (first ≡ Zero) ⊎ (first ≡ Normal) → (first ≡ Normal → ⊥) → second ≡ Normal
     → IsStoredBy first shape x → IsStoredBy second shape y → ((n : ℕ) → 0 < n → quotient 0 n ≡ 0)
     → IsAnswer (datum_by first shape x) ok_bits value status → Says shape quotient first second x y value status
 of_zero shape quotient first second x y value status (inr z) n e t u q h = absurd (n z)
@@ -63,8 +61,7 @@ of_zero shape quotient first second x y value status (inl z) n e t u q h =
 
 -- of two numbers it is the remainder by quanta
 pub of_numbers : (shape : Shape) (quotient : ℕ → ℕ → ℕ) (first second : Category) (x y : Unpacked) (value : Datum)
-    (status : ℕ)
-    → first ≡ Normal → second ≡ Normal → IsStoredBy second shape y
+    (status : ℕ) → first ≡ Normal → second ≡ Normal → IsStoredBy second shape y
     → IsAnswer (rest_of shape.nonfinite x.negative (quanta_at shape.min_exp x.significand x.exponent)
     (quanta_at shape.min_exp y.significand y.exponent * quotient (quanta_at shape.min_exp x.significand x.exponent)
     (quanta_at shape.min_exp y.significand y.exponent))) ok_bits value status

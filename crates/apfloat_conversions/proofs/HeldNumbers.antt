@@ -52,8 +52,7 @@ finer s t = (format_at t).scale - (format_at s).scale
 
 -- a number within the largest value of one is within that of the other
 held_within : (source target : Shape) (a : ℕ) → IsShape source → IsShape target → IsHeld source target
-    → a ≤ largest (format_at source)
-    → a * 2 ^ finer source target ≤ largest (format_at target)
+    → a ≤ largest (format_at source) → a * 2 ^ finer source target ≤ largest (format_at target)
 held_within source target a from into h l =
     let x = scale_is source from in
     let y = scale_is target into in
@@ -79,8 +78,7 @@ held_within source target a from into h l =
 
 -- and it is counted in the finer quanta
 held_quanta : (source target : Shape) (m : ℕ) (e : ℤ) → IsShape source → IsShape target → IsHeld source target
-    → IsNormal source m e
-    → IsQuantaAt target.min_exp (m * 2 ^ (target.precision - source.precision)) e
+    → IsNormal source m e → IsQuantaAt target.min_exp (m * 2 ^ (target.precision - source.precision)) e
     (quanta_at source.min_exp m e * 2 ^ finer source target)
 held_quanta source target m e from into h n =
     let x = scale_is source from in
@@ -97,8 +95,7 @@ held_quanta source target m e from into h n =
 
 -- a number moved up by the digits that the other shape has more is stored as it wants it
 pub held_normal : (source target : Shape) (m : ℕ) (e : ℤ) → IsShape source → IsShape target → IsHeld source target
-    → IsNormal source m e
-    → IsNormal target (m * 2 ^ (target.precision - source.precision)) e
+    → IsNormal source m e → IsNormal target (m * 2 ^ (target.precision - source.precision)) e
 held_normal source target m e from into h n =
     let q = held_quanta source target m e from into h n in
     let x = scale_is source from in
@@ -124,8 +121,7 @@ held_normal source target m e from into h n =
 
 -- and it is the same number, in quanta of the other
 pub held_quanta_are : (source target : Shape) (m : ℕ) (e : ℤ) → IsShape source → IsShape target → IsHeld source target
-    → IsNormal source m e
-    → quanta_at target.min_exp (m * 2 ^ (target.precision - source.precision)) e
+    → IsNormal source m e → quanta_at target.min_exp (m * 2 ^ (target.precision - source.precision)) e
     ≡ quanta_at source.min_exp m e * 2 ^ finer source target
 held_quanta_are source target m e from into h n =
     quanta_is target.min_exp (m * 2 ^ (target.precision - source.precision)) e _
@@ -148,8 +144,7 @@ quantum_finer a k p q l e =
 
 -- so that the conversion has no flag
 pub held_converted : (from into : Format) (mode : Round) (b : Bool) (a : ℕ) (v : Datum) (status : ℕ)
-    → from.scale ≤ into.scale
-    → 0 < a → v ≡ finite b (a * 2 ^ (into.scale - from.scale))
+    → from.scale ≤ into.scale → 0 < a → v ≡ finite b (a * 2 ^ (into.scale - from.scale))
     → IsFiniteOf into b (a * 2 ^ (into.scale - from.scale)) → status ≡ ok_bits
     → IsConvertedNumber from into mode b a v status false
 held_converted from into mode b a v status l p d t s =

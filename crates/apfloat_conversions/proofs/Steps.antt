@@ -28,8 +28,7 @@ some shape law = let t = law.precision_low in omega (arith, t)
 
 -- a step at a stored number's last place
 pub step_fits : (shape : Shape) (m t : ℕ) (e : ℤ) → IsShape shape → IsNormal shape m e
-    → t ≡ 2 ^ down (e -ℤ shape.min_exp)
-    → m + t < 2 ^ 128
+    → t ≡ 2 ^ down (e -ℤ shape.min_exp) → m + t < 2 ^ 128
 step_fits shape m t e law n i =
     let l = operand_down shape.precision shape.min_exp shape.max_exp e law.precision_low n.operand.least in
     subst (λ (x : ℕ). m + x < 2 ^ 128) (sym i)
@@ -59,8 +58,7 @@ above_of : (shape : Shape) (m : ℕ) (e : ℤ) → IsShape shape → IsNormal sh
     (quanta_at shape.min_exp m e + 1) 1
 above_of shape m e law n =
     next_is shape.precision m (quanta_at shape.min_exp m e) (up (e -ℤ shape.min_exp)) (down (e -ℤ shape.min_exp))
-    (some shape law)
-    (one_side (e -ℤ shape.min_exp)) n.operand.fits n.operand.full n.whole
+    (some shape law) (one_side (e -ℤ shape.min_exp)) n.operand.fits n.operand.full n.whole
 
 -- the neighbour above, where no digit is added
 pub after_stays : (shape : Shape) (m t : ℕ) (e : ℤ) → IsShape shape → IsNormal shape m e
@@ -103,8 +101,7 @@ after_carries shape m t w e r law n b i h j k =
 
 -- it is stored as the format wants it
 pub after_stored : (shape : Shape) (n m : ℕ) (e : ℤ) → IsShape shape → n < largest (format_at shape)
-    → IsAfter shape n m e
-    → IsNormal shape m e
+    → IsAfter shape n m e → IsNormal shape m e
 after_stored shape n m e law b h =
     number_of shape m e h.next h.operand h.quanta (next_within (format_at shape) n h.next (some shape law) b h.is_above)
 
@@ -166,8 +163,7 @@ before_lowers shape m w t e r law n i j k low h =
           (down (r -ℤ shape.min_exp)) p (one_side (r -ℤ shape.min_exp))
           (omega (arith, j)) (omega (arith, j, z, o)) q;
       operand = lowered_operand shape.precision shape.min_exp shape.max_exp e r m w t (down (r -ℤ shape.min_exp)) p
-          n.operand j h l
-          k low;
+          n.operand j h l k low;
       quanta = stepped_down_by w a (up (r -ℤ shape.min_exp))
           (down (r -ℤ shape.min_exp)) t h (omega (arith, y, j, z, o)) q;
     }
