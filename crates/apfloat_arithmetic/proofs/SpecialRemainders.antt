@@ -1,5 +1,5 @@
 -- Remainders of operands that are not both numbers other than zero, by their categories.
-use Rattle.std.proofs.Common.{◌≡◌, ◌⊎◌, inl, inr, ℕ, Bool, true, false, eqb, if◌then◌else◌, count_ones, ◌*◌, ◌/◌, ◌<◌, refl, sym, ap, subst, arith}
+use Rattle.std.proofs.Common.{◌≡◌, ◌⊎◌, inl, inr, ℕ, Bool, eqb, if◌then◌else◌, count_ones, ◌*◌, ◌/◌, ◌<◌, refl, sym, ap, subst, arith}
 use Rattle.std.proofs.Math.Nat.{zero-div}
 use Rattle.std.proofs.lemmas.Bool.{ne_eqb}
 use Rattle.apfloat_base.specs.declared.kinds.Category.{Category}
@@ -9,6 +9,7 @@ use Rattle.apfloat_base.specs.formats.Datum.{Datum, finite}
 use Rattle.apfloat_base.specs.rounding.Answer.{IsAnswer}
 use Rattle.apfloat_base.specs.rounding.Rounding.{ok_bits, zero_sign}
 use Rattle.apfloat_base.specs.arithmetic.Remainders.{IsRemainder, ones_of_quotient, rest_of}
+use Rattle.apfloat_base.proofs.Choices.{zero_if}
 use Rattle.apfloat_unpacked.specs.declared.shape.Shape.{Shape}
 use Rattle.apfloat_unpacked.specs.declared.unpacked.Unpacked.{Unpacked}
 use Rattle.apfloat_unpacked.specs.Shapes.{format_at}
@@ -93,10 +94,6 @@ ones_of_numbers shape first second x y e f u =
     (λ u. number_ones shape x y (quanta_at shape.min_exp x.significand x.exponent) u) u)
 
 -- ---- not both numbers other than zero
-
-zero_if : (b : Bool) (m : ℕ) → m ≡ 0 → 0 ≡ (if b then 0 else m)
-zero_if true m e = refl
-zero_if false m e = sym e
 
 zero_ones : (n : ℕ) → 0 ≡ (if eqb n 0 then 0 else count_ones (0 / n))
 unfolding lib.Count.ones
