@@ -12,7 +12,7 @@ use Rattle.std.proofs.lemmas.Nat.{pow_pos}
 use Rattle.std.proofs.lemmas.Bool.{and_parts, eqb-true, eq-eqb}
 use Rattle.std.proofs.Math.Nat.{mul-lt-mul_of_pos_right, lt_of_mul-lt-mul_right, pow-le-pow_right, two-pow-succ}
 use Rattle.apfloat_base.proofs.Existence.{two_pos}
-use Rattle.apfloat_base.proofs.Choices.{same_sign_is, same_sign_self}
+use Rattle.apfloat_base.proofs.Choices.{same_sign_is, same_sign_self, off_by}
 use Rattle.apfloat_base.specs.declared.kinds.Category.{Category}
 use Rattle.apfloat_base.specs.declared.kinds.Category.TheVariants.{Infinity, NaN, Normal, Zero}
 use Rattle.apfloat_base.specs.formats.Datum.{Datum, finite, infinite, nan}
@@ -229,10 +229,6 @@ same_of : (x : Datum) → same_datum x x ≡ true
 same_of (finite a m) = rw (same_sign_self a, eq-eqb m m refl) refl
 same_of (infinite a) = same_sign_self a
 same_of (nan a s) = rw (same_sign_self a, eq-eqb s s refl) refl
-
-off_by : (r : Bool) → (r ≡ true → ⊥) → false ≡ r
-off_by true h = absurd (h refl)
-off_by false h = refl
 
 -- values with equal parts are equal
 parts_same : (x y : Unpacked) → x.significand ≡ y.significand → x.exponent ≡ y.exponent → x.category ≡ y.category

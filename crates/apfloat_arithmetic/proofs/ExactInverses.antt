@@ -157,8 +157,7 @@ invertible_from shape m i e law n h =
     let j : ℕ = steps_of shape e in
     let w : ℕ = (format_at shape).scale in
     let q : quanta_at shape.min_exp m e ≡ 2 ^ (shape.precision - 1) * 2 ^ steps_of shape e =
-    quanta_high_is shape m e l ∙
-    ap (λ (x : ℕ). x * 2 ^ steps_of shape e) p in
+    quanta_high_is shape m e l ∙ ap (λ (x : ℕ). x * 2 ^ steps_of shape e) p in
     let g : 2 ^ (shape.precision - 1) * 2 ^ steps_of shape e * i
     ≡ 2 ^ (format_at shape).scale * 2 ^ (format_at shape).scale =
     ap (λ (x : ℕ). x * i) (sym q) ∙ h.product in

@@ -44,8 +44,7 @@ pub below_is : (shape : Shape) (m : ℕ) (e : ℤ) → IsNormalAt shape m e → 
     → lt_z e shape.min_exp ≡ ltb (quanta_at shape.min_exp m e) (2 ^ (shape.precision - 1))
 below_is shape m e n p =
     compares_as (lt_z e shape.min_exp) e shape.min_exp (ltb (quanta_at shape.min_exp m e) (2 ^ (shape.precision - 1)))
-    refl
-    (λ l. lt-ltb (quanta_at shape.min_exp m e) (2 ^ (shape.precision - 1)) (quanta_low_is shape m e n p l))
+    refl (λ l. lt-ltb (quanta_at shape.min_exp m e) (2 ^ (shape.precision - 1)) (quanta_low_is shape m e n p l))
     (λ l. le-ltb (quanta_at shape.min_exp m e) (2 ^ (shape.precision - 1)) (quanta_full shape m e n l))
 
 pub denormal_number : (format : Format) (b : Bool) (n : ℕ) → 0 < n

@@ -51,16 +51,14 @@ product_is shape x y r m n p l hx hy v e =
     (up (y -ℤ shape.min_exp)) (down (x -ℤ shape.min_exp)) (down (y -ℤ shape.min_exp)) (format_at shape).scale (up unit)
     (down unit)
     hx.whole hy.whole (balanced_product shape.precision (format_at shape).scale shape.min_exp x y r l.precision_low
-    (scale_is shape l) e)
-    ∙ ap (λ (z : ℕ). z * (2 ^ (format_at shape).scale * 2 ^ up unit)) (sym v)
+    (scale_is shape l) e) ∙ ap (λ (z : ℕ). z * (2 ^ (format_at shape).scale * 2 ^ up unit)) (sym v)
 
 -- the quotient of the significands stands for the quotient of the numbers
 pub quotient_is : (shape : Shape) (x y r : ℤ) (places q : ℕ) (loss : Loss) (m n : ℕ) → IsShape shape
     → IsNormalAt shape m x
     → IsNormalAt shape n y → r ≡ ((x -ℤ y) -ℤ pos places) → StandsFor q loss (m * 2 ^ places) n
     → StandsFor q loss (quanta_at shape.min_exp m x * 2 ^ (format_at shape).scale * 2 ^ down
-    (r +ℤ pos (format_at shape).scale))
-    (quanta_at shape.min_exp n y * 2 ^ up (r +ℤ pos (format_at shape).scale))
+    (r +ℤ pos (format_at shape).scale)) (quanta_at shape.min_exp n y * 2 ^ up (r +ℤ pos (format_at shape).scale))
 quotient_is shape x y r places q loss m n l hx hy e h =
     let unit : ℤ = r +ℤ pos (format_at shape).scale in
     quotient_stands q loss m n (quanta_at shape.min_exp m x)
@@ -68,8 +66,7 @@ quotient_is shape x y r places q loss m n l hx hy e h =
     (up (y -ℤ shape.min_exp)) (down (x -ℤ shape.min_exp)) (down (y -ℤ shape.min_exp)) (format_at shape).scale (up unit)
     (down unit)
     hx.whole hy.whole (balanced_quotient shape.precision places (format_at shape).scale shape.min_exp x y r
-    l.precision_low
-    (scale_is shape l) e) h
+    l.precision_low (scale_is shape l) e) h
 
 pub normal_some : (shape : Shape) (m : ℕ) (e : ℤ) → IsNormalAt shape m e → 0 < m
 normal_some shape m e n = let p : 0 < 2 ^ (shape.precision - 1) = pow_pos (shape.precision - 1) in

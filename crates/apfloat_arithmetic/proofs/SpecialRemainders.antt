@@ -1,5 +1,5 @@
 -- Remainders of operands that are not both numbers other than zero, by their categories.
-use Rattle.std.proofs.Common.{◌≡◌, ◌⊎◌, inl, inr, ℕ, Bool, true, false, eqb, if◌then◌else◌, count_ones, ◌*◌, ◌/◌, ◌<◌, refl, sym, ap, subst, arith}
+use Rattle.std.proofs.Common.{◌≡◌, ◌⊎◌, inl, inr, ℕ, Bool, eqb, if◌then◌else◌, count_ones, ◌*◌, ◌/◌, ◌<◌, refl, sym, ap, subst, arith}
 use Rattle.std.proofs.Math.Nat.{zero-div}
 use Rattle.std.proofs.lemmas.Bool.{ne_eqb}
 use Rattle.apfloat_base.specs.declared.kinds.Category.{Category}
@@ -9,6 +9,7 @@ use Rattle.apfloat_base.specs.formats.Datum.{Datum, finite}
 use Rattle.apfloat_base.specs.rounding.Answer.{IsAnswer}
 use Rattle.apfloat_base.specs.rounding.Rounding.{ok_bits, zero_sign}
 use Rattle.apfloat_base.specs.arithmetic.Remainders.{IsRemainder, ones_of_quotient, rest_of}
+use Rattle.apfloat_base.proofs.Choices.{zero_if}
 use Rattle.apfloat_unpacked.specs.declared.shape.Shape.{Shape}
 use Rattle.apfloat_unpacked.specs.declared.unpacked.Unpacked.{Unpacked}
 use Rattle.apfloat_unpacked.specs.Shapes.{format_at}
@@ -21,8 +22,7 @@ Says s quotient k l x y value status =
 
 -- a number other than zero on the right
 pub by_number : (shape : Shape) (quotient : ℕ → ℕ → ℕ) (x y : Unpacked) (m : ℕ) (value : Datum) (status : ℕ)
-    → IsStoredBy Normal shape y
-    → IsAnswer (rest_of shape.nonfinite x.negative m
+    → IsStoredBy Normal shape y → IsAnswer (rest_of shape.nonfinite x.negative m
     (quanta_at shape.min_exp y.significand y.exponent * quotient m (quanta_at shape.min_exp y.significand y.exponent)))
     ok_bits value status
     → IsRemainder (format_at shape) quotient (finite x.negative m) (datum_by Normal shape y) value status
@@ -48,8 +48,7 @@ zero_by_number shape quotient x y value status u t q h =
 
 -- a dividend of 0 is the remainder
 pub of_zero : (shape : Shape) (quotient : ℕ → ℕ → ℕ) (first second : Category) (x y : Unpacked) (value : Datum)
-    (status : ℕ)
-    → (first ≡ Zero) ⊎ (first ≡ Normal) → (first ≡ Normal → ⊥) → second ≡ Normal
+    (status : ℕ) → (first ≡ Zero) ⊎ (first ≡ Normal) → (first ≡ Normal → ⊥) → second ≡ Normal
     → IsStoredBy first shape x → IsStoredBy second shape y → ((n : ℕ) → 0 < n → quotient 0 n ≡ 0)
     → IsAnswer (datum_by first shape x) ok_bits value status → Says shape quotient first second x y value status
 of_zero shape quotient first second x y value status (inr z) n e t u q h = absurd (n z)
@@ -63,8 +62,7 @@ of_zero shape quotient first second x y value status (inl z) n e t u q h =
 
 -- of two numbers it is the remainder by quanta
 pub of_numbers : (shape : Shape) (quotient : ℕ → ℕ → ℕ) (first second : Category) (x y : Unpacked) (value : Datum)
-    (status : ℕ)
-    → first ≡ Normal → second ≡ Normal → IsStoredBy second shape y
+    (status : ℕ) → first ≡ Normal → second ≡ Normal → IsStoredBy second shape y
     → IsAnswer (rest_of shape.nonfinite x.negative (quanta_at shape.min_exp x.significand x.exponent)
     (quanta_at shape.min_exp y.significand y.exponent * quotient (quanta_at shape.min_exp x.significand x.exponent)
     (quanta_at shape.min_exp y.significand y.exponent))) ok_bits value status
@@ -96,10 +94,6 @@ ones_of_numbers shape first second x y e f u =
     (λ u. number_ones shape x y (quanta_at shape.min_exp x.significand x.exponent) u) u)
 
 -- ---- not both numbers other than zero
-
-zero_if : (b : Bool) (m : ℕ) → m ≡ 0 → 0 ≡ (if b then 0 else m)
-zero_if true m e = refl
-zero_if false m e = sym e
 
 zero_ones : (n : ℕ) → 0 ≡ (if eqb n 0 then 0 else count_ones (0 / n))
 unfolding lib.Count.ones

@@ -48,8 +48,7 @@ of_numbers format m n a b d h k p =
     (cases_lt m n)
 
 pub few_steps : (format : Format) (x y : Datum) (a b : ℤ) → IsIlogb format x a → IsIlogb format y b
-    → 0 < ones_of_quotient x y
-    → pos (ones_of_quotient x y) ≤ℤ ((a -ℤ b) +ℤ pos 1)
+    → 0 < ones_of_quotient x y → pos (ones_of_quotient x y) ≤ℤ ((a -ℤ b) +ℤ pos 1)
 few_steps format (finite s zero) (finite t zero) a b h k p = absurd (omega (arith, p))
 few_steps format (finite s zero) (finite t (suc n)) a b h k p =
     let e : eqb (suc n) 0 ≡ false = ne_eqb (suc n) 0 (λ z. absurd (omega (arith, z))) in

@@ -18,8 +18,7 @@ use Rattle.apfloat_unpacked.specs.Stored.{datum_at, datum_by}
 
 -- what is said of two data is said of what two values stand for
 pub by_categories : (P : Datum → Datum → Type 0) (shape : Shape) (x y : Unpacked) (first second : Category)
-    → x.category ≡ first
-    → y.category ≡ second → P (datum_by first shape x) (datum_by second shape y)
+    → x.category ≡ first → y.category ≡ second → P (datum_by first shape x) (datum_by second shape y)
     → P (datum_at shape x) (datum_at shape y)
 by_categories P shape x y first second d e h =
     subst (λ (a : Category). P (datum_by a shape x) (datum_at shape y)) (sym d)

@@ -1,5 +1,5 @@
 -- Truth values, and what is chosen by them.
-use Rattle.std.proofs.Common.{◌≡◌, ℕ, ◌+◌, ◌*◌, ◌<◌, ◌≤◌, Bool, true, false, cond, ◌&&◌, eqb, if◌then◌else◌, Option, Some, None, refl, sym, arith}
+use Rattle.std.proofs.Common.{◌≡◌, ℕ, ◌+◌, ◌*◌, ◌<◌, ◌≤◌, Bool, true, false, cond, not, ◌&&◌, eqb, if◌then◌else◌, Option, Some, None, refl, sym, arith}
 use mathlib.Core.Bool.{beq}
 use Rattle.std.specs.Bool.{MatchBool}
 use Rattle.std.proofs.lemmas.Bool.{eq-eqb, false≢true}
@@ -10,6 +10,23 @@ use Rattle.apfloat_base.specs.arithmetic.Exact.{same_sign}
 
 pub eqb_self : (n : ℕ) → eqb n n ≡ true
 eqb_self n = eq-eqb n n refl
+
+-- what is not true is false
+pub off_by : (test : Bool) → (test ≡ true → ⊥) → false ≡ test
+off_by true h = absurd (h refl)
+off_by false h = refl
+
+-- nothing holds together with its own negation
+pub not_itself : (test : Bool) → (test && not (test && true)) ≡ false
+not_itself true = refl
+not_itself false = refl
+
+-- what cannot be takes nothing away
+pub no_zero : (test exact : Bool) → (exact && not (test && false)) ≡ exact
+no_zero true true = refl
+no_zero true false = refl
+no_zero false true = refl
+no_zero false false = refl
 
 -- ---- signs that are the same
 
@@ -40,6 +57,11 @@ cond_times false x y factor = refl
 pub cond_same : (test : Bool) (x : ℕ) → x ≡ cond test x x
 cond_same true x = refl
 cond_same false x = refl
+
+-- 0, or what is 0
+pub zero_if : (test : Bool) (m : ℕ) → m ≡ 0 → 0 ≡ (if test then 0 else m)
+zero_if true m e = refl
+zero_if false m e = sym e
 
 -- a test that holds wherever another one does chooses no smaller number
 pub cond_grows : (first second : Bool) (high low : ℕ) → low ≤ high → (first ≡ true → second ≡ true)

@@ -124,8 +124,8 @@ module _ (format : Format) (layout : Layout) (law : IsInterchange format layout)
       rw z at b)
 
   -- the bits of the fields of bits
-  pub bits_back : (bits : ℕ) → bits < 2 ^ layout.bits → bits_of_fields format layout (fields_of format layout bits)
-      ≡ bits
+  pub bits_back : (bits : ℕ) → bits < 2 ^ layout.bits
+      → bits_of_fields format layout (fields_of format layout bits) ≡ bits
   bits_back bits low =
       let w = trailing_bits format in
       let e : layout.bits ≡ suc (trailing_bits format + layout.exponent_bits) = omega (arith, law.bits) in

@@ -22,8 +22,7 @@ both_some m (suc n) p q e l = omega arith
 
 -- a number that both formats have
 number_exactly : (from into : Format) (mode : Round) (b : Bool) (m n : ℕ) (value : Datum) (status : ℕ)
-    (loses_info : Bool)
-    → 0 < m → n * 2 ^ from.scale ≡ m * 2 ^ into.scale → IsFiniteOf into b n
+    (loses_info : Bool) → 0 < m → n * 2 ^ from.scale ≡ m * 2 ^ into.scale → IsFiniteOf into b n
     → IsConvertedNumber from into mode b m value status loses_info
     → IsConverted (finite b n) ok_bits false value status loses_info
 number_exactly from into mode b m n value status loses_info l e t h =

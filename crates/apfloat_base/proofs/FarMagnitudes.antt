@@ -33,8 +33,8 @@ pub largest_below : (format : Format) → largest format < 2 ^ (format.precision
 largest_below format =
     let e : 2 ^ (format.precision + format.span) ≡ 2 ^ format.precision * 2 ^ format.span =
     pow-add 2 format.precision format.span in
-    let a : greatest_significand format.nonfinite format.precision * 2 ^ format.span < 2 ^ format.precision * 2 ^
-    format.span =
+    let a : greatest_significand format.nonfinite format.precision * 2 ^ format.span
+    < 2 ^ format.precision * 2 ^ format.span =
     mul-lt-mul_of_pos_right (greatest_fits format.nonfinite format.precision) (pow_pos format.span) in
     subst (λ (x : ℕ). greatest_significand format.nonfinite format.precision * 2 ^ format.span < x) (sym e) a
 
@@ -141,8 +141,7 @@ before_little format amount parts x =
 
 -- all such magnitudes are tiny, or none is
 tiny_little : (format : Format) (amount parts amount' parts' p : ℕ) → IsFarBelow amount parts
-    → IsFarBelow amount' parts'
-    → is_tiny format amount parts p ≡ is_tiny format amount' parts' p
+    → IsFarBelow amount' parts' → is_tiny format amount parts p ≡ is_tiny format amount' parts' p
 tiny_little format amount parts amount' parts' p x y =
     let a = before_little format amount parts x in
     let b = before_little format amount' parts' y in

@@ -157,8 +157,8 @@ module _ (format : Format) (layout : Layout) (law : IsInterchange format layout)
       let c : smallest_normalized format * 2 ^ j ≤ m * 2 ^ j = mul-le-mul_right (2 ^ j) low in
       let d : 2 ^ (format.precision - 1) * (2 ^ format.span * 2) ≤ 2 ^ (format.precision - 1) * 2 ^ j =
       mul-le-mul_left (2 ^ (format.precision - 1)) (omega arith) in
-      let e : greatest_significand format.nonfinite format.precision * 2 ^ format.span < 2 ^ format.precision * 2 ^
-      format.span =
+      let e : greatest_significand format.nonfinite format.precision * 2 ^ format.span
+      < 2 ^ format.precision * 2 ^ format.span =
       mul-lt-mul_of_pos_right g (pow_pos format.span) in
       let k : 2 ^ format.precision * 2 ^ format.span ≡ 2 * 2 ^ (format.precision - 1) * 2 ^ format.span =
       ap (λ (x : ℕ). x * 2 ^ format.span) (sym t) in
@@ -198,8 +198,7 @@ module _ (format : Format) (layout : Layout) (law : IsInterchange format layout)
 
   -- the fields of numbers whose significand has all its digits
   pub high_fields_of : (b : Bool) (j m : ℕ) → smallest_normalized format ≤ m → m < 2 ^ format.precision
-      → m * 2 ^ j ≤ largest format
-      → AreFieldsOf format layout (fields_with b (j + 1)
+      → m * 2 ^ j ≤ largest format → AreFieldsOf format layout (fields_with b (j + 1)
       (m - cond format.explicit_integer_bit 0 (smallest_normalized format)))
       (finite b (m * 2 ^ j))
   high_fields_of b j m low high top =
@@ -218,8 +217,7 @@ module _ (format : Format) (layout : Layout) (law : IsInterchange format layout)
 -- ---- infinities and NaNs
 
 infinity_is : (explicit : Bool) (kind : NonfiniteBehavior) (format : Format) (layout : Layout) (b : Bool)
-    → kind ≡ IEEE754
-    → cond explicit (written_datum format layout
+    → kind ≡ IEEE754 → cond explicit (written_datum format layout
     (fields_with b (all_ones layout.exponent_bits) (cond explicit (smallest_normalized format) 0)))
     (implied_datum kind format layout
     (fields_with b (all_ones layout.exponent_bits) (cond explicit (smallest_normalized format) 0))) ≡ infinite b
@@ -242,8 +240,7 @@ width_of_infinity false p h = pow_pos (p - 1)
 
 -- the fields of infinities
 pub infinity_fields_of : (format : Format) (layout : Layout) (b : Bool) → IsInterchange format layout
-    → format.nonfinite ≡ IEEE754
-    → AreFieldsOf format layout (fields_with b (all_ones layout.exponent_bits)
+    → format.nonfinite ≡ IEEE754 → AreFieldsOf format layout (fields_with b (all_ones layout.exponent_bits)
     (cond format.explicit_integer_bit (smallest_normalized format) 0)) (infinite b)
 infinity_fields_of format layout b law k = record {
   within = record {
@@ -307,8 +304,8 @@ one_nan_is false NanNegativeZero format layout k e may = rw k refl
 -- and are canonical
 one_canonical : (explicit : Bool) (kind : NonfiniteBehavior) (format : Format) (layout : Layout)
     → kind ≡ NanNegativeZero
-    → MayBeExplicit kind explicit → cond explicit (is_canonical_written format layout (fields_with true 0 0)) true
-    ≡ true
+    → MayBeExplicit kind explicit
+    → cond explicit (is_canonical_written format layout (fields_with true 0 0)) true ≡ true
 one_canonical explicit IEEE754 format layout e may = cc
 one_canonical explicit NanOnly format layout e may = cc
 one_canonical true NanNegativeZero format layout e may = absurd (true≢false may)
@@ -316,8 +313,7 @@ one_canonical false NanNegativeZero format layout e may = refl
 
 -- in place of the negative zero
 pub one_nan_fields_of : (format : Format) (layout : Layout) → IsInterchange format layout
-    → format.nonfinite ≡ NanNegativeZero
-    → AreFieldsOf format layout (fields_with true 0 0) (nan false 0)
+    → format.nonfinite ≡ NanNegativeZero → AreFieldsOf format layout (fields_with true 0 0) (nan false 0)
 one_nan_fields_of format layout law k = record {
   within = record { biased_exponent = pow_pos layout.exponent_bits; trailing = pow_pos (trailing_bits format) };
   canonical = one_canonical format.explicit_integer_bit format.nonfinite format layout k law.explicit;

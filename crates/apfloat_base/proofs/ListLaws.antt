@@ -1,12 +1,13 @@
--- Lists whose members pass a test, their runs, and what filters leave of them.
+-- Lists: members that pass a test, runs, what filters leave, and items by their places.
 use mathlib.Core.Bool.{Bool}
-use Rattle.std.proofs.Common.{◌≡◌, ℕ, true, false, refl, sym, ap, ◌∙◌, List, [], ◌∷◌, ◌++◌, filter, append_assoc}
+use Rattle.std.proofs.Common.{◌≡◌, ℕ, true, false, refl, sym, ap, ◌∙◌, List, [], ◌∷◌, ◌++◌, length, filter, zero, suc, ◌<◌, Some, arith, append_assoc}
+use Rattle.std.specs.Prelude.{slice_get}
 use Rattle.std.proofs.lemmas.Bool.{and_parts, and_from}
 use Rattle.apfloat_base.specs.texts.Digits.{every, begins, run, behind_run}
 
 -- ---- members that pass
 
--- members of joined lists pass a test where those of both lists do
+-- where a joined list passes a test, both lists do
 pub every-append : (test : ℕ → Bool) (xs ys : List ℕ) → every test (xs ++ ys) ≡ true
     → (every test xs ≡ true) × (every test ys ≡ true)
 every-append test [] ys h = (refl, h)
@@ -15,7 +16,7 @@ every-append test (c ∷ xs) ys h =
     let q = every-append test xs ys p.1 in
     (and_from (test c) (every test xs) p.0 q.0, q.1)
 
--- and then those of the joined list do
+-- and where both do, so does the joined list
 pub append-every : (test : ℕ → Bool) (xs ys : List ℕ) → every test xs ≡ true → every test ys ≡ true
     → every test (xs ++ ys) ≡ true
 append-every test [] ys h g = g
@@ -23,7 +24,7 @@ append-every test (c ∷ xs) ys h g =
     let p = and_parts (test c) (every test xs) h in
     and_from (test c) (every test (xs ++ ys)) p.0 (append-every test xs ys p.1 g)
 
--- what passes a test passes a weaker one
+-- a list that passes a test passes a weaker one
 pub every_weaker : (test other : ℕ → Bool) → ((c : ℕ) → test c ≡ true → other c ≡ true) → (xs : List ℕ)
     → every test xs ≡ true → every other xs ≡ true
 every_weaker test other w [] h = refl
@@ -76,3 +77,16 @@ pub regroup : (whole point fraction tail : List ℕ)
 regroup whole point fraction tail =
     ap (λ (t : List ℕ). whole ++ t) (sym (append_assoc point fraction tail)) ∙
     sym (append_assoc whole (point ++ fraction) tail)
+
+-- ---- items by their places
+
+-- the items of the first list keep their places
+pub get_left : {X : Type 0} (xs ys : List X) (k : ℕ) → k < length xs → slice_get (xs ++ ys) k ≡ slice_get xs k
+get_left [] ys k within = absurd (omega arith)
+get_left (x ∷ xs) ys zero within = refl
+get_left (x ∷ xs) ys (suc k) within = get_left xs ys k (omega arith)
+
+-- and the one item of the second stands behind them
+pub get_last : {X : Type 0} (xs : List X) (y : X) → slice_get (xs ++ y ∷ []) (length xs) ≡ Some y
+get_last [] y = refl
+get_last (x ∷ xs) y = get_last xs y

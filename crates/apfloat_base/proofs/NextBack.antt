@@ -138,8 +138,7 @@ one_on_grid precision h = record { significand = 1; place = 0; fits = h; is = re
 
 -- a number below 0
 negative_back : (format : Format) (n : ℕ) (v : Datum) (st : ℕ) → format.nonfinite ≡ IEEE754 → 1 < 2 ^ format.precision
-    → 0 < n
-    → IsFiniteOf format true n → IsNextLess format n v st → IsNextDown format v (finite true n) 0
+    → 0 < n → IsFiniteOf format true n → IsNextLess format n v st → IsNextDown format v (finite true n) 0
 negative_back format n v st k s p m u =
     ⊎_elim
     (λ (q : 0 < u.next). next_down_less format n u.next v p q m.within m.on_grid u.is_below
@@ -155,8 +154,7 @@ negative_back format n v st k s p m u =
 
 -- a number above 0
 positive_back : (format : Format) (n : ℕ) (v : Datum) (st : ℕ) → format.nonfinite ≡ IEEE754 → 0 < n
-    → IsFiniteOf format false n
-    → IsNextOfNumber format false n v st → IsNextDown format v (finite false n) 0
+    → IsFiniteOf format false n → IsNextOfNumber format false n v st → IsNextDown format v (finite false n) 0
 positive_back format n v st k p m u =
     ⊎_elim
     (λ (e : n ≡ largest format).
@@ -173,8 +171,7 @@ some_quanta n h =
 
 -- of a number that is not 0, in a format with infinities
 pub next_back : (format : Format) (x v : Datum) (st : ℕ) → format.nonfinite ≡ IEEE754 → 1 < 2 ^ format.precision
-    → IsMember format x
-    → is_finite_non_zero x ≡ true → IsNextUp format x v st → IsNextDown format v x 0
+    → IsMember format x → is_finite_non_zero x ≡ true → IsNextUp format x v st → IsNextDown format v x 0
 next_back format (finite true n) v st k s m z u =
     let p = some_quanta n z in
     negative_back format n v st k s p m (rw (no_zero n p) at u)

@@ -15,7 +15,7 @@ use Rattle.apfloat_base.specs.arithmetic.Exact.{same_sign}
 use Rattle.apfloat_base.specs.order.Classes.{is_finite, is_infinite, is_nan, is_negative, is_zero, is_denormal, is_normal, is_finite_non_zero, is_smallest, is_smallest_normalized, is_largest, quanta_of, same_datum, category_of, is_nan_category, is_number_category}
 use Rattle.apfloat_base.specs.order.Order.{compared, min_num, max_num, minimum, maximum}
 use Rattle.apfloat_base.specs.order.Predicates.{is_finite_category, is_infinite_category, is_zero_category, min_by, max_by, minimum_by, maximum_by, signed_like}
-use Rattle.apfloat_base.proofs.Choices.{same_sign_is, same_sign_self}
+use Rattle.apfloat_base.proofs.Choices.{same_sign_is, same_sign_self, not_itself}
 
 zero_or_not : (b : Bool) → is_zero_category (if b then Zero else Normal) ≡ b
 zero_or_not true = refl
@@ -62,15 +62,11 @@ number_agrees (finite b n) = number_or_not n
 number_agrees (infinite b) = refl
 number_agrees (nan b s) = refl
 
-nothing : (b : Bool) → (b && not (b && true)) ≡ false
-nothing true = refl
-nothing false = refl
-
 -- what is not below a number that is not zero is not zero
 at_least : (n m : ℕ) → 0 < m → (ltb 0 n && not (ltb 0 n && ltb n m)) ≡ leb m n
 at_least n m h =
     ⊎_elim
-    (λ (l : n < m). rw (lt-ltb n m l, lt-leb m n l) (nothing (ltb 0 n)))
+    (λ (l : n < m). rw (lt-ltb n m l, lt-leb m n l) (not_itself (ltb 0 n)))
     (λ (l : m ≤ n). rw (lt-ltb 0 n (omega (arith, h, l)), le-ltb n m l, le-leb m n l) refl)
     (cases_lt n m)
 

@@ -23,16 +23,14 @@ negated_some kind b m = rw (ne_eqb (suc m) 0 (λ z. omega (arith, z))) refl
 
 -- for two numbers
 opposite_numbers : (format : Format) (mode : Round) (b c : Bool) (m n : ℕ) (value : Datum) (status : ℕ)
-    → 0 < largest format
-    → IsProduct format mode (finite b m) (finite c n) value status
+    → 0 < largest format → IsProduct format mode (finite b m) (finite c n) value status
     → IsOpposite format mode (finite b m) (finite c n) value status
 opposite_numbers format mode b c zero n value status l h x y = absurd (false≢true x)
 opposite_numbers format mode b c (suc m) n value status l h x y =
     let d : IsDelivered format (swapped mode) (product_sign (not b) c) (suc m * n) (2 ^ format.scale)
     (negated format.nonfinite value) status =
     subst (λ (sign : Bool). IsDelivered format (swapped mode) sign (suc m * n) (2 ^ format.scale)
-    (negated format.nonfinite value)
-    status) (other_sign b c)
+    (negated format.nonfinite value) status) (other_sign b c)
     (delivered_swapped format mode (product_sign b c) (suc m * n) (2 ^ format.scale) value status l h) in
     subst (λ (left : Datum). IsProduct format (swapped mode) left (finite c n) (negated format.nonfinite value) status)
     (sym (negated_some format.nonfinite b m)) d

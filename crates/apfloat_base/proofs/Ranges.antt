@@ -74,8 +74,7 @@ ieee_within format layout m e law k a b n =
 
 -- with one NaN of each sign any but the last significand at the greatest exponent
 pub nan_only_within : (format : Format) (layout : Layout) (m e : ℕ) → IsInterchange format layout
-    → format.nonfinite ≡ NanOnly
-    → 1 ≤ e → m < 2 ^ format.precision → e < 2 ^ layout.exponent_bits
+    → format.nonfinite ≡ NanOnly → 1 ≤ e → m < 2 ^ format.precision → e < 2 ^ layout.exponent_bits
     → ((e ≡ all_ones layout.exponent_bits) → (m ≡ 2 ^ format.precision - 1) → ⊥) → m * 2 ^ (e - 1) ≤ largest format
 nan_only_within format layout m e law k o a b n =
     let s : format.span + 3 ≡ 2 ^ layout.exponent_bits + 1 = rw k at law.span in

@@ -127,8 +127,7 @@ down_far (negsuc k) bound h = let l : bound ≤ k + 1 = omega (arith, ints) in (
 -- no answer changes where the clamp changes the amount
 pub clamp_kept : (format : Format) (mode : Round) (negative : Bool) (a k bound : ℕ) (j near : ℤ) (v : Datum) (s : ℕ)
     → 0 < format.precision → 0 < a → a < 2 ^ k → format.precision + format.span ≤ bound → k + 1 ≤ bound
-    → IsClamped bound j near
-    → IsDelivered format mode negative (a * 2 ^ up near) (2 ^ down near) v s
+    → IsClamped bound j near → IsDelivered format mode negative (a * 2 ^ up near) (2 ^ down near) v s
     → IsDelivered format mode negative (a * 2 ^ up j) (2 ^ down j) v s
 clamp_kept format mode negative a k bound j near v s p h b l m c d =
     ⊎_elim

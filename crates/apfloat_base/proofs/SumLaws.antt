@@ -252,32 +252,29 @@ zero_is format mode s v i e d =
 grows_at : (format : Format) (mode : Round) (s t : Bool) (x y : ℕ) (v w : Datum) (i j : ℕ) → format.nonfinite ≡ IEEE754
     → Ordered s x t y → IsDelivered format mode s x 1 v i → IsDelivered format mode t y 1 w j → AtMost v w
 grows_at format mode s t x y v w i j e (both_up a b l) d g =
-    let k : d.pick ≤ g.pick = pick_grows format.precision mode false a b 1 d.pick g.pick (lit< tt) l d.is_pick g.is_pick
-    in
+    let k : d.pick ≤ g.pick =
+    pick_grows format.precision mode false a b 1 d.pick g.pick (lit< tt) l d.is_pick g.is_pick in
     let h = up_grows (ltb (largest format) d.pick) (ltb (largest format) g.pick) (leads_out mode false)
-    (largest format) d.pick
-    g.pick refl refl k in
+    (largest format) d.pick g.pick refl refl k in
     subst (λ (z : Datum). AtMost z w) (sym (d.value_is ∙ value_is format mode false d.pick e))
     (subst (λ (z : Datum). AtMost (at (ltb (largest format) d.pick)
     (leads_out mode false) false (largest format) d.pick)
     z) (sym (g.value_is ∙ value_is format mode false g.pick e)) h)
 grows_at format mode s t x y v w i j e (both_down a b l) d g =
-    let k : g.pick ≤ d.pick = pick_grows format.precision mode true b a 1 g.pick d.pick (lit< tt) l g.is_pick d.is_pick
-    in
+    let k : g.pick ≤ d.pick =
+    pick_grows format.precision mode true b a 1 g.pick d.pick (lit< tt) l g.is_pick d.is_pick in
     let h = down_grows (ltb (largest format) d.pick) (ltb (largest format) g.pick) (leads_out mode true)
-    (largest format) d.pick
-    g.pick refl refl k in
+    (largest format) d.pick g.pick refl refl k in
     subst (λ (z : Datum). AtMost z w) (sym (d.value_is ∙ value_is format mode true d.pick e))
-    (subst (λ (z : Datum). AtMost (at (ltb (largest format) d.pick) (leads_out mode true) true (largest format) d.pick)
-    z)
+    (subst
+    (λ (z : Datum). AtMost (at (ltb (largest format) d.pick) (leads_out mode true) true (largest format) d.pick) z)
     (sym (g.value_is ∙ value_is format mode true g.pick e)) h)
 grows_at format mode s t x y v w i j e (apart a b) d g =
     let h = across (ltb (largest format) d.pick) (ltb (largest format) g.pick) (leads_out mode true)
-    (leads_out mode false)
-    (largest format) d.pick g.pick in
+    (leads_out mode false) (largest format) d.pick g.pick in
     subst (λ (z : Datum). AtMost z w) (sym (d.value_is ∙ value_is format mode true d.pick e))
-    (subst (λ (z : Datum). AtMost (at (ltb (largest format) d.pick) (leads_out mode true) true (largest format) d.pick)
-    z)
+    (subst
+    (λ (z : Datum). AtMost (at (ltb (largest format) d.pick) (leads_out mode true) true (largest format) d.pick) z)
     (sym (g.value_is ∙ value_is format mode false g.pick e)) h)
 grows_at format mode s t x y v w i j e (zeros b c) d g =
     let p = zero_is format mode b v i e d in

@@ -1,8 +1,5 @@
 //! Why a text is no number.
 
-ghost use Rattle.std.specs.Prelude.{◌≡◌};
-ghost use Rattle.apfloat_base.specs.texts.Texts.{words};
-
 /// The refusal of a text, by what is wrong with it first from the left.
 #[derive(Clone, Copy, PartialEq, Eq, Debug)]
 pub struct ParseError(pub &'static str);

@@ -1,8 +1,5 @@
 //! What the reading of texts tells apart: the mark in front, and the base of a payload.
 
-ghost use Rattle.std.specs.Prelude.{◌≡◌};
-ghost use Rattle.apfloat_base.specs.texts.Specials.{is_minus, base_of};
-
 /// The mark in front of a text or of an exponent: a sign that is written, or none.
 #[derive(Clone, Copy, PartialEq, Eq, Debug)]
 pub enum Mark {
@@ -19,6 +16,7 @@ impl Mark {
     ghost use Rattle.apfloat_base.specs.texts.Specials.{is_minus};
 
     /// Whether it is a minus.
+    #[inline]
     pub fn is_minus(self) -> bool
         ensures { result ≡ is_minus self }
     {

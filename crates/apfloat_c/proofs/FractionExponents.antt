@@ -47,8 +47,7 @@ past_all constants law =
 
 -- the exponent of the fraction of a finite value fits 32 bits
 number_fits : (constants : Constants) → IsLawful constants → (b : Bool) (n : ℕ) (none : Bool) (value : Datum) (e : ℤ)
-    → eqb n 0 ≡ none
-    → n ≤ largest (format_with constants)
+    → eqb n 0 ≡ none → n ≤ largest (format_with constants)
     → MatchBool none ((value ≡ finite b n) × (e ≡ pos 0)) (IsFraction (format_with constants) b n value e)
     → FitsSigned w32 e
 number_fits constants law b n true value e test within h =
@@ -62,8 +61,7 @@ number_fits constants law b (suc n) false value e test within h =
 
 -- the number of the exponent of a value of the format
 pub frexp_fits : (constants : Constants) → IsLawful constants → (x value : Datum) (e : ℤ)
-    → IsMember (format_with constants) x
-    → IsFrexp (format_with constants) x value e → FitsSigned w32 e
+    → IsMember (format_with constants) x → IsFrexp (format_with constants) x value e → FitsSigned w32 e
 frexp_fits constants law (nan b s) value e member h = subst (λ (z : ℤ). FitsSigned w32 z) (sym h.1)
     (record { sfits = lit< tt })
 frexp_fits constants law (infinite b) value e member h =

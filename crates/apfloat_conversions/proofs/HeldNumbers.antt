@@ -53,8 +53,7 @@ finer source target = (format_at target).scale - (format_at source).scale
 
 -- a number within the largest value of one is within that of the other
 held_within : (source target : Shape) (a : ℕ) → IsShape source → IsShape target → IsHeld source target
-    → a ≤ largest (format_at source)
-    → a * 2 ^ finer source target ≤ largest (format_at target)
+    → a ≤ largest (format_at source) → a * 2 ^ finer source target ≤ largest (format_at target)
 held_within source target a from into h l =
     let x = scale_is source from in
     let y = scale_is target into in
@@ -223,14 +222,17 @@ held_shift s t m p q f =
 -- ---- its conversion rounds nothing
 
 -- so that the conversion has no flag
-pub same_converted : (f g : Format) (mode : Round) (negative : Bool) (a b : ℕ) (v : Datum) (status : ℕ) → 0 < a
-    → a * 2 ^ g.scale ≡ b * 2 ^ f.scale → v ≡ finite negative b → IsFiniteOf g negative b → status ≡ ok_bits
-    → IsConvertedNumber f g mode negative a v status false
-same_converted f g mode negative a b v status p e d t s =
-    let o : 0 < b = some_there a b f.scale g.scale p e in
+pub same_converted : (from into : Format) (mode : Round) (negative : Bool) (a b : ℕ) (v : Datum) (status : ℕ)
+    → 0 < a
+    → a * 2 ^ into.scale ≡ b * 2 ^ from.scale → v ≡ finite negative b → IsFiniteOf into negative b
+    → status ≡ ok_bits
+    → IsConvertedNumber from into mode negative a v status false
+same_converted from into mode negative a b v status p e d t s =
+    let o : 0 < b = some_there a b from.scale into.scale p e in
     record {
-      is_delivered = rw (d, s, ← signed_some g.nonfinite negative b o)
-          (exact_delivered g mode negative b (a * 2 ^ g.scale) (2 ^ f.scale) (pow_pos f.scale) t.on_grid t.within
+      is_delivered = rw (d, s, ← signed_some into.nonfinite negative b o)
+          (exact_delivered into mode negative b (a * 2 ^ into.scale) (2 ^ from.scale) (pow_pos from.scale) t.on_grid
+          t.within
           e);
       loses_is = rw s refl;
     }

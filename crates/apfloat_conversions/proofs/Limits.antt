@@ -1,5 +1,5 @@
 -- Whole numbers of so many binary digits, and the ends of their range.
-use Rattle.std.proofs.Common.{◌≡◌, ℕ, ◌+◌, ◌-◌, ◌*◌, ◌/◌, ◌^◌, ◌<◌, ◌≤◌, Bool, true, false, cond, not, ◌&&◌, eqb, sym, refl, ap, ◌∙◌, arith, ℤ, pos, neg_ℤ, ◌≤ℤ◌, ◌<ℤ◌, int_lt}
+use Rattle.std.proofs.Common.{◌≡◌, ℕ, ◌+◌, ◌-◌, ◌*◌, ◌/◌, ◌^◌, ◌<◌, ◌≤◌, Bool, true, false, cond, ◌&&◌, eqb, sym, refl, ap, ◌∙◌, arith, ℤ, pos, neg_ℤ, ◌≤ℤ◌, ◌<ℤ◌, int_lt}
 use Rattle.std.proofs.Math.Nat.{div-eq_of_lt-le}
 use Rattle.std.proofs.lemmas.Nat.{pow-add, pow_pos}
 use Rattle.std.proofs.lemmas.Int.{ints}
@@ -10,6 +10,7 @@ use Rattle.apfloat_base.specs.formats.Datum.{finite}
 use Rattle.apfloat_base.specs.arithmetic.Exact.{signed}
 use Rattle.apfloat_base.specs.whole_numbers.WholeNumbers.{whole_pick, whole_quanta, inexact_unless}
 use Rattle.apfloat_base.specs.whole_numbers.WholeNumbersOut.{IsToUnsigned, ranged, exact_or_not}
+use Rattle.apfloat_base.proofs.Choices.{no_zero}
 
 -- a word shifted to so many digits has them all set
 pub greatest_is : (width : ℕ) → width ≤ 128 → (2 ^ 128 - 1) / 2 ^ (128 - width) ≡ 2 ^ width - 1
@@ -48,12 +49,6 @@ signed_in false width mag h = refl
 limit_high : (b : Bool) (width mag : ℕ) → mag ≤ limit width b → pos mag ≤ℤ pos (2 ^ width - 1)
 limit_high true width mag h = omega (arith, ints)
 limit_high false width mag h = omega (arith, ints)
-
-no_zero : (b exact : Bool) → (exact && not (b && false)) ≡ exact
-no_zero true true = refl
-no_zero true false = refl
-no_zero false true = refl
-no_zero false false = refl
 
 -- a number in range is given as it is
 pub ranged_in : (width : ℕ) (b : Bool) (mag : ℕ) (exact : Bool) → mag ≤ limit width b

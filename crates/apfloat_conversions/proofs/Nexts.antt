@@ -213,8 +213,7 @@ largest_on_grid format h =
 
 -- the neighbour above a number below the largest is within it
 pub next_within : (format : Format) (a next : ℕ) → 0 < format.precision → a < largest format
-    → IsAbove format.precision next (a + 1) 1
-    → next ≤ largest format
+    → IsAbove format.precision next (a + 1) 1 → next ≤ largest format
 next_within format a next h b i = i.least (largest format) (largest_on_grid format h) (omega arith)
 
 -- there is room for a step in the word

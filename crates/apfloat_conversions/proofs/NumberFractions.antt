@@ -19,20 +19,17 @@ pub fraction_size : (shape : Shape) (m : ℕ) (e : ℤ) → IsShape shape → Is
     → (2 ^ ((format_at shape).scale - 1) ≤ fraction_at shape m) × (fraction_at shape m < 2 ^ (format_at shape).scale)
 fraction_size shape m e law n =
     let o = fraction_operand shape.precision shape.min_exp shape.max_exp e m law.precision_low law.min_exp_high
-    law.max_exp_low
-    n.operand in
+    law.max_exp_low n.operand in
     let q = fraction_quanta shape.min_exp m law.min_exp_high in
     fraction_low (format_at shape) (fraction_at shape m)
     (logarithm_is (format_at shape) shape.precision shape.min_exp shape.max_exp (negsuc 0) m (fraction_at shape m)
-    law.precision_low
-    (scale_is shape law) o q)
+    law.precision_low (scale_is shape law) o q)
 
 -- and is stored as the format wants it
 pub fraction_number : (shape : Shape) (m : ℕ) (e : ℤ) → IsShape shape → IsNormalAt shape m e → IsNormalAt shape m (negsuc 0)
 fraction_number shape m e law n =
     let o = fraction_operand shape.precision shape.min_exp shape.max_exp e m law.precision_low law.min_exp_high
-    law.max_exp_low
-    n.operand in
+    law.max_exp_low n.operand in
     let q = fraction_quanta shape.min_exp m law.min_exp_high in
     let b = fraction_size shape m e law n in
     let b₁ = b.1 in

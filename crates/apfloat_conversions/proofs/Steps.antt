@@ -59,8 +59,7 @@ above_of : (shape : Shape) (m : ℕ) (e : ℤ) → IsShape shape → IsNormalAt 
     (quanta_at shape.min_exp m e + 1) 1
 above_of shape m e law n =
     next_is shape.precision m (quanta_at shape.min_exp m e) (up (e -ℤ shape.min_exp)) (down (e -ℤ shape.min_exp))
-    (some shape law)
-    (one_side (e -ℤ shape.min_exp)) n.operand.fits n.operand.full n.whole
+    (some shape law) (one_side (e -ℤ shape.min_exp)) n.operand.fits n.operand.full n.whole
 
 -- the neighbour above, where no digit is added
 pub after_stays : (shape : Shape) (m t : ℕ) (e : ℤ) → IsShape shape → IsNormalAt shape m e
@@ -166,8 +165,7 @@ before_lowers shape m w t e r law n i j k low h =
           (down (r -ℤ shape.min_exp)) p (one_side (r -ℤ shape.min_exp))
           (omega (arith, j)) (omega (arith, j, z, o)) q;
       operand = lowered_operand shape.precision shape.min_exp shape.max_exp e r m w t (down (r -ℤ shape.min_exp)) p
-          n.operand j h l
-          k low;
+          n.operand j h l k low;
       quanta = stepped_down_by w a (up (r -ℤ shape.min_exp))
           (down (r -ℤ shape.min_exp)) t h (omega (arith, y, j, z, o)) q;
     }

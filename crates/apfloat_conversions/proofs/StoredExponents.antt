@@ -42,8 +42,7 @@ pub fraction_places : (shape : Shape) (m k : ℕ) (e r : ℤ) → IsShape shape 
 fraction_places shape m k e r law n v h =
     let v' = rw (exponent_word shape m e law n) at v in
     places_down (shape.precision - 1) (format_at shape).scale shape.min_exp e r m (quanta_at shape.min_exp m e) k
-    (scale_is shape law)
-    v' h n.whole
+    (scale_is shape law) v' h n.whole
 
 -- ---- times a power of two
 

@@ -185,8 +185,7 @@ minus_number format mode width n number st exact value status is_exact z w h g =
 
 -- of a number with a minus sign, by the swapped mode, negated
 pub to_signed_below : (format : Format) (mode : Round) (width : ℕ) (x : Datum) (number st : ℕ) (exact : Bool)
-    (value : ℤ)
-    (status : ℕ) (is_exact : Bool) → is_negative x ≡ true → 2 ≤ width
+    (value : ℤ) (status : ℕ) (is_exact : Bool) → is_negative x ≡ true → 2 ≤ width
     → IsToUnsigned format (swapped mode) width (negated format.nonfinite x) number st exact
     → IsNegatedWhole (is_zero_category (category_of x)) width number st exact value status is_exact
     → IsToSigned format mode width x value status is_exact

@@ -28,8 +28,7 @@ use Rattle.apfloat_texts.specs.Saturation.{IsNear}
 
 -- an exponent that was clamped from above leads far above the format
 far_up : (format : Format) (number s k : ℕ) (z p : ℤ) → 0 < s → s * 2 ^ k ≤ number → p ≡ z -ℤ pos k
-    → pos (format.precision + format.span) ≤ℤ z
-    → IsFarAbove format (number * 2 ^ up p) (2 ^ down p)
+    → pos (format.precision + format.span) ≤ℤ z → IsFarAbove format (number * 2 ^ up p) (2 ^ down p)
 far_up format number s k z p some from e far =
     let a : 1 * 2 ^ k ≤ s * 2 ^ k = mul-le-mul_right (2 ^ k) some in
     let b : 2 ^ k ≤ number = omega (arith, a, from) in

@@ -66,8 +66,7 @@ fn nan(body: &[u8]) -> Option<Special>
 #[cold]
 #[inline(never)]
 pub fn special_of(mark: Mark, body: &[u8]) -> Option<Special>
-    ensures { meaning_at (is_minus mark) result
-        ≡ special_meaning mark body.now }
+    ensures { meaning_at (is_minus mark) result ≡ special_meaning mark body.now }
 {
     if names_infinity(mark, body) {
         return Some(Special::Infinity);

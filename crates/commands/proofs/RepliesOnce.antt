@@ -99,8 +99,7 @@ only_of_two constants arithmetic mode left right x y a b value status reply firs
 
 -- a fused sum has one reply
 pub only_fused_sum : (constants : Constants) (mode : Round) (left right addend : List ℕ) (x y z : ℕ)
-    (a b d value : Datum)
-    (status : ℕ) (reply : Reply)
+    (a b d value : Datum) (status : ℕ) (reply : Reply)
     → bits_of_word constants.bits left ≡ Some x → bits_of_word constants.bits right ≡ Some y
     → bits_of_word constants.bits addend ≡ Some z
     → a ≡ value_of constants x → b ≡ value_of constants y → d ≡ value_of constants z
@@ -112,8 +111,7 @@ only_fused_sum constants mode left right addend x y z a b d value status reply f
     let of_second = subst (λ e. IsFusedSum (format_with constants) mode (value_of constants x) e d value status) b_is
     of_first in
     let of_all = subst (λ e. IsFusedSum (format_with constants) mode (value_of constants x)
-    (value_of constants y) e value status) d_is
-    of_second in
+    (value_of constants y) e value status) d_is of_second in
     rw (first, second, third) (only_answer constants mode (fused_sum x y z) value status reply of_all line)
 
 -- a whole number taken in has one reply

@@ -1,5 +1,5 @@
 -- One more value in its place.
-use Rattle.std.proofs.Common.{◌≡◌, ℕ, zero, suc, ◌+◌, ◌-◌, ◌*◌, ◌<◌, ◌≤◌, Bool, ⊎_elim, if◌then◌else◌, List, [], ◌∷◌, ◌++◌, length, drop, Option, Some, refl, sym, ◌∙◌, ap, subst, arith, zero-add}
+use Rattle.std.proofs.Common.{◌≡◌, ℕ, suc, ◌+◌, ◌-◌, ◌*◌, ◌<◌, ◌≤◌, Bool, ⊎_elim, if◌then◌else◌, List, [], ◌∷◌, ◌++◌, length, drop, Option, Some, refl, sym, ◌∙◌, ap, subst, arith, zero-add}
 use Rattle.std.specs.Prelude.{slice_get, IfSome, count_by}
 use Rattle.std.proofs.Math.Nat.{mul-le-mul_right, suc-mul}
 use Rattle.std.proofs.lemmas.Bool.{cases_lt, cases_eq}
@@ -13,6 +13,7 @@ use Rattle.convert_values.specs.declared.counts.Outcome.{Outcome}
 use Rattle.convert_values.specs.declared.counts.Counts.{Counts}
 use Rattle.convert_values.specs.Outcomes.{counts_of, with_outcome, one_if, raised, became_nan}
 use Rattle.convert_values.specs.Blocks.{IsBlock, value_at}
+use Rattle.apfloat_base.proofs.ListLaws.{get_left, get_last}
 
 -- ---- counts
 
@@ -52,15 +53,6 @@ place_size width index count bytes before size =
     let within : index * width + width ≤ length bytes = omega arith in
     length-between bytes (index * width) (index * width + width) within
     ∙ (let all : index * width + width - index * width ≡ width = omega arith in all)
-
-get_left : {X : Type 0} (xs ys : List X) (k : ℕ) → k < length xs → slice_get (xs ++ ys) k ≡ slice_get xs k
-get_left [] ys k within = absurd (omega arith)
-get_left (x ∷ xs) ys zero within = refl
-get_left (x ∷ xs) ys (suc k) within = get_left xs ys k (omega arith)
-
-get_last : {X : Type 0} (xs : List X) (y : X) → slice_get (xs ++ y ∷ []) (length xs) ≡ Some y
-get_last [] y = refl
-get_last (x ∷ xs) y = get_last xs y
 
 -- a write to the place of a value leaves the earlier ones
 earlier : (width index later : ℕ) (bytes new : List ℕ) → index < later → later * width ≤ length bytes
