@@ -96,19 +96,12 @@ pub fn compare(x: Unpacked, y: Unpacked) -> Option<Ordering>
     Some(side(x).cmp(&side(y)).then(compare_beside(x, y)))
 }
 
-#[inline(always)]
-fn same_category(x: Category, y: Category) -> bool
-    ensures { Decides result (x ≡ y) }
-{
-    x == y
-}
-
 /// Whether two values have one class and one sign.
 #[inline(always)]
 fn same_class(x: Unpacked, y: Unpacked) -> bool
     ensures { Decides result ((x.category ≡ y.category) × (x.negative ≡ y.negative)) }
 {
-    same_category(x.category, y.category) && x.negative == y.negative
+    x.category == y.category && x.negative == y.negative
 }
 
 /// Whether two values have one significand and one exponent.

@@ -20,7 +20,7 @@ use apfloat_base::sig::digits;
 use apfloat_base::{Category, ExpInt, Status, StatusAnd};
 use apfloat_unpacked::nans::{invalid, propagated, propagated_left};
 use apfloat_unpacked::shape::Shape;
-use apfloat_unpacked::unpacked::{Unpacked, quanta_of};
+use apfloat_unpacked::unpacked::{Unpacked, from_quanta};
 
 /// `significand * 2^place` units.
 #[derive(Clone, Copy, Debug)]
@@ -315,7 +315,7 @@ fn truncated_number(shape: Shape, x: Unpacked, y: Unpacked) -> Remainder
         odd: _,
     } = truncated_rest(shape, x, y);
     Remainder {
-        answer: Status::OK.and(quanta_of(shape, x.negative, point.significand, point.place)),
+        answer: Status::OK.and(from_quanta(shape, x.negative, point.significand, point.place)),
         steps,
     }
 }
@@ -332,7 +332,7 @@ fn nearest_number(shape: Shape, x: Unpacked, y: Unpacked) -> StatusAnd<Unpacked>
     ensures status { bits_of result.status ≡ ok_bits }
 {
     let nearest = nearest_rest(shape, x, y);
-    Status::OK.and(quanta_of(
+    Status::OK.and(from_quanta(
         shape,
         x.negative != nearest.past,
         nearest.point.significand,

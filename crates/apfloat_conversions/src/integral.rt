@@ -13,7 +13,7 @@ use apfloat_base::sig::steps_between;
 use apfloat_base::{Category, Round, Status, StatusAnd};
 use apfloat_unpacked::nans::propagated;
 use apfloat_unpacked::shape::{Shape, last_exponent};
-use apfloat_unpacked::unpacked::{Unpacked, quanta_of};
+use apfloat_unpacked::unpacked::{Unpacked, from_quanta};
 
 /// A finite number that is not zero, rounded to a whole number.
 #[inline(always)]
@@ -31,7 +31,7 @@ fn round_number(shape: Shape, x: Unpacked, round: Round) -> StatusAnd<Unpacked>
     }
     let places = steps_between(0, exponent);
     let whole = round_fraction(x.significand, places, round, x.negative);
-    status_of(whole.exact).and(quanta_of(shape, x.negative, whole.magnitude, shape.scale()))
+    status_of(whole.exact).and(from_quanta(shape, x.negative, whole.magnitude, shape.scale()))
 }
 
 /// A value rounded to a whole number of its format (IEEE 754-2008 5.9, roundToIntegralExact).

@@ -11,7 +11,7 @@ ghost use Rattle.apfloat_unpacked.specs.Stored.{IsStored, IsNormal, IsNan, quant
 ghost use Rattle.apfloat_unpacked.specs.Encoded.{layout_at, fields_at};
 
 use crate::shape::Shape;
-use crate::unpacked::{Unpacked, infinity_of, nan_of, quanta_of};
+use crate::unpacked::{Unpacked, from_quanta, infinity_of, nan_of};
 use apfloat_base::sig::{low_digits, power_of_two, steps_between};
 use apfloat_base::{Category, NonfiniteBehavior};
 
@@ -109,9 +109,9 @@ fn implied_number(shape: Shape, widths: Widths, fields: Fields) -> Unpacked
     ensures datum { datum_at shape result ≡ implied_number (format_at shape) (fields_at fields) }
 {
     if fields.biased_exponent == 0 {
-        quanta_of(shape, fields.negative, fields.trailing, 0)
+        from_quanta(shape, fields.negative, fields.trailing, 0)
     } else {
-        quanta_of(
+        from_quanta(
             shape,
             fields.negative,
             shape.integer_bit() + fields.trailing,
@@ -171,9 +171,9 @@ fn written_number(shape: Shape, widths: Widths, fields: Fields) -> Unpacked
     ensures datum { datum_at shape result ≡ written_number (format_at shape) (fields_at fields) }
 {
     if fields.biased_exponent == 0 {
-        quanta_of(shape, fields.negative, fields.trailing, 0)
+        from_quanta(shape, fields.negative, fields.trailing, 0)
     } else if shape.integer_bit() <= fields.trailing {
-        quanta_of(
+        from_quanta(
             shape,
             fields.negative,
             fields.trailing,

@@ -15,7 +15,7 @@ ghost use Rattle.apfloat_unpacked.specs.Shapes.{IsShape, format_at};
 ghost use Rattle.apfloat_unpacked.specs.Stored.{IsStored, datum_at, GivesAt};
 
 use crate::shape::Shape;
-use crate::unpacked::{Unpacked, infinity_of, largest_of, rounded_quanta_of};
+use crate::unpacked::{Unpacked, from_rounded_quanta, infinity_of, largest_of};
 use apfloat_base::sig::{Loss, digits, power_of_two, shift_right};
 use apfloat_base::{ExpInt, Flags, Round, Status, StatusAnd};
 
@@ -270,7 +270,7 @@ fn finish(shape: Shape, kept: Kept, mode: Round, negative: bool) -> StatusAnd<Un
     }
     let tiny = is_tiny(shape, kept.significand, point.significand);
     let status = status_within(kept.loss, tiny);
-    status.and(rounded_quanta_of(shape, negative, point.significand, point.place))
+    status.and(from_rounded_quanta(shape, negative, point.significand, point.place))
 }
 
 /// The exponent of a unit, counted from the quantum's.

@@ -141,7 +141,7 @@ fn exponent_at(min_exp: ExpInt, place: u32, shift: u32) -> ExpInt
 
 /// `significand * 2^place` quanta with that sign.
 #[inline(always)]
-pub fn quanta_of(shape: Shape, negative: bool, significand: u128, place: u32) -> Unpacked
+pub fn from_quanta(shape: Shape, negative: bool, significand: u128, place: u32) -> Unpacked
     requires lawful { IsShape shape }
     requires fits { significand < 2 ^ shape.precision }
     requires near { place ≤ place_bound }
@@ -165,7 +165,7 @@ pub fn quanta_of(shape: Shape, negative: bool, significand: u128, place: u32) ->
 /// `significand * 2^place` quanta with that sign, after a rounding: most of these significands have all their digits, and
 /// need not be normalized again.
 #[inline(always)]
-pub fn rounded_quanta_of(shape: Shape, negative: bool, significand: u128, place: u32) -> Unpacked
+pub fn from_rounded_quanta(shape: Shape, negative: bool, significand: u128, place: u32) -> Unpacked
     requires lawful { IsShape shape }
     requires fits { significand < 2 ^ shape.precision }
     requires near { place ≤ place_bound }
@@ -182,7 +182,7 @@ pub fn rounded_quanta_of(shape: Shape, negative: bool, significand: u128, place:
             negative,
         };
     }
-    quanta_of(shape, negative, significand, place)
+    from_quanta(shape, negative, significand, place)
 }
 
 /// The greatest finite value, with that sign.
@@ -192,7 +192,7 @@ pub fn largest_of(shape: Shape, negative: bool) -> Unpacked
     ensures stored { IsStored shape result }
     ensures datum { datum_at shape result ≡ finite negative (largest (format_at shape)) }
 {
-    quanta_of(shape, negative, shape.greatest_significand(), shape.span())
+    from_quanta(shape, negative, shape.greatest_significand(), shape.span())
 }
 
 /// One quantum.
@@ -202,7 +202,7 @@ pub fn smallest_of(shape: Shape) -> Unpacked
     ensures stored { IsStored shape result }
     ensures datum { datum_at shape result ≡ smallest_datum }
 {
-    quanta_of(shape, false, 1, 0)
+    from_quanta(shape, false, 1, 0)
 }
 
 /// The smallest positive value that is not denormal.
@@ -212,5 +212,5 @@ pub fn smallest_normalized_of(shape: Shape) -> Unpacked
     ensures stored { IsStored shape result }
     ensures datum { datum_at shape result ≡ smallest_normalized_datum (format_at shape) }
 {
-    quanta_of(shape, false, shape.integer_bit(), 0)
+    from_quanta(shape, false, shape.integer_bit(), 0)
 }

@@ -8,4 +8,4 @@ returns-clause-value c =
     let q = quanta_some c.args.shape _ _ c.requires.y in
     let v = nearest_value c.args.shape.nonfinite c.args.x.negative c.nearest_rest-nearest.result.past _ _ _ q
     c.nearest_rest-nearest.ensures.past c.nearest_rest-nearest.ensures.quanta in
-    rw c.and.ensures.value (c.quanta_of.ensures.datum ∙ v)
+    rw c.and.ensures.value (c.from_quanta.ensures.datum ∙ v)

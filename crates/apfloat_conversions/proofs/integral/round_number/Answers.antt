@@ -41,14 +41,14 @@ returns-then-exponent-ge0-clause-stored c = rw (c.and.ensures.value, c.requires.
 pub scale-requires : goal.scale-requires
 scale-requires c = c.requires.lawful
 
-pub quanta_of-requires-clause-lawful : goal.quanta_of-requires-clause-lawful
-quanta_of-requires-clause-lawful c = c.requires.lawful
+pub from_quanta-requires-clause-lawful : goal.from_quanta-requires-clause-lawful
+from_quanta-requires-clause-lawful c = c.requires.lawful
 
-pub quanta_of-requires-clause-near : goal.quanta_of-requires-clause-near
-quanta_of-requires-clause-near c = omega (arith, ints, c.scale.ensures.value, c.requires.lawful)
+pub from_quanta-requires-clause-near : goal.from_quanta-requires-clause-near
+from_quanta-requires-clause-near c = omega (arith, ints, c.scale.ensures.value, c.requires.lawful)
 
 pub returns-clause-stored : goal.returns-clause-stored
-returns-clause-stored c = rw c.and-2.ensures.value c.quanta_of.ensures.stored
+returns-clause-stored c = rw c.and-2.ensures.value c.from_quanta.ensures.stored
 
 pub returns-then-exponent-ge0-clause-delivered : goal.returns-then-exponent-ge0-clause-delivered
 returns-then-exponent-ge0-clause-delivered c =
@@ -82,8 +82,8 @@ half_bound c =
     c.round_fraction-whole.result.magnitude (omega (arith, three)) c.requires.normal.operand.fits l
     c.round_fraction-whole.ensures.bound
 
-pub quanta_of-requires-clause-fits : goal.quanta_of-requires-clause-fits
-quanta_of-requires-clause-fits c =
+pub from_quanta-requires-clause-fits : goal.from_quanta-requires-clause-fits
+from_quanta-requires-clause-fits c =
     let s = c.args.shape in
     let h = half_bound c in
     let three = c.requires.lawful.precision_low in
@@ -91,8 +91,8 @@ quanta_of-requires-clause-fits c =
     let p : 0 < 2 ^ (s.precision - 1) = pow_pos (s.precision - 1) in
     omega (arith, h, t, p)
 
-pub quanta_of-requires-clause-within : goal.quanta_of-requires-clause-within
-quanta_of-requires-clause-within c =
+pub from_quanta-requires-clause-within : goal.from_quanta-requires-clause-within
+from_quanta-requires-clause-within c =
     let s = c.args.shape in
     let h = half_bound c in
     let r = scale_in_span s c.requires.lawful in
@@ -114,8 +114,8 @@ returns-clause-delivered c =
     let i = c.round_fraction-whole.ensures.picked a (2 ^ (format_at s).scale) (pow_pos (format_at s).scale)
     (fraction_places s m c.steps_between-places.result x r c.requires.lawful n
     c.last_exponent-exponent.ensures.value k) in
-    let d = rw c.scale.ensures.value at c.quanta_of.ensures.datum in
+    let d = rw c.scale.ensures.value at c.from_quanta.ensures.datum in
     rw (c.and-2.ensures.value, c.and-2.ensures.status, c.requires.number)
     (integral_picked (format_at s) c.args.round c.args.x.negative a c.round_fraction-whole.result.magnitude
-    c.round_fraction-whole.result.exact (datum_at s c.quanta_of.result) _ i.magnitude_is i.exact_is d
+    c.round_fraction-whole.result.exact (datum_at s c.from_quanta.result) _ i.magnitude_is i.exact_is d
     c.status_of.ensures)

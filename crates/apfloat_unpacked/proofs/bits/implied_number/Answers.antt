@@ -10,36 +10,36 @@ use Rattle.apfloat_unpacked.specs.Shapes.{format_at}
 use Rattle.apfloat_base.proofs.Losses.{twice_half}
 use Rattle.apfloat_unpacked.proofs.bits.implied_number.Goals as goal
 
-pub quanta_of-requires-clause-lawful : goal.quanta_of-requires-clause-lawful
-quanta_of-requires-clause-lawful c = c.requires.lawful
+pub from_quanta-requires-clause-lawful : goal.from_quanta-requires-clause-lawful
+from_quanta-requires-clause-lawful c = c.requires.lawful
 
-pub quanta_of-requires-clause-fits : goal.quanta_of-requires-clause-fits
-quanta_of-requires-clause-fits c =
+pub from_quanta-requires-clause-fits : goal.from_quanta-requires-clause-fits
+from_quanta-requires-clause-fits c =
     let t = twice_half c.args.shape.precision (omega (arith, c.requires.lawful.precision_low)) in
     omega (arith, t, c.requires.trailing)
 
-pub quanta_of-requires-clause-near : goal.quanta_of-requires-clause-near
-quanta_of-requires-clause-near c = omega arith
+pub from_quanta-requires-clause-near : goal.from_quanta-requires-clause-near
+from_quanta-requires-clause-near c = omega arith
 
 pub integer_bit-requires : goal.integer_bit-requires
 integer_bit-requires c = c.requires.lawful
 
-pub quanta_of-requires-else-fields-eq0-clause-lawful : goal.quanta_of-requires-else-fields-eq0-clause-lawful
-quanta_of-requires-else-fields-eq0-clause-lawful c = c.requires.lawful
+pub from_quanta-requires-else-fields-eq0-clause-lawful : goal.from_quanta-requires-else-fields-eq0-clause-lawful
+from_quanta-requires-else-fields-eq0-clause-lawful c = c.requires.lawful
 
-pub quanta_of-requires-else-fields-eq0-clause-fits : goal.quanta_of-requires-else-fields-eq0-clause-fits
-quanta_of-requires-else-fields-eq0-clause-fits c =
+pub from_quanta-requires-else-fields-eq0-clause-fits : goal.from_quanta-requires-else-fields-eq0-clause-fits
+from_quanta-requires-else-fields-eq0-clause-fits c =
     let t = twice_half c.args.shape.precision (omega (arith, c.requires.lawful.precision_low)) in
     omega (arith, t, c.requires.trailing, c.integer_bit.ensures)
 
 pub returns-then-fields-eq0-clause-stored : goal.returns-then-fields-eq0-clause-stored
-returns-then-fields-eq0-clause-stored c = c.quanta_of.ensures.stored
+returns-then-fields-eq0-clause-stored c = c.from_quanta.ensures.stored
 
 pub returns-else-fields-eq0-clause-stored : goal.returns-else-fields-eq0-clause-stored
-returns-else-fields-eq0-clause-stored c = c.quanta_of-else-fields-eq0.ensures.stored
+returns-else-fields-eq0-clause-stored c = c.from_quanta-else-fields-eq0.ensures.stored
 
-pub quanta_of-requires-clause-within : goal.quanta_of-requires-clause-within
-quanta_of-requires-clause-within c =
+pub from_quanta-requires-clause-within : goal.from_quanta-requires-clause-within
+from_quanta-requires-clause-within c =
     low_within (format_at c.args.shape) c.args.fields.trailing c.requires.lawful.precision_low c.requires.trailing
 
 pub overflow_add-integer_bit : goal.overflow_add-integer_bit
@@ -55,5 +55,5 @@ returns-else-fields-eq0-clause-datum c =
     let s : 0 < smallest_normalized f = pow_pos (c.args.shape.precision - 1) in
     let p : 0 < (smallest_normalized f + c.args.fields.trailing) * 2 ^ (c.args.fields.biased_exponent - 1) =
     mul-pos (omega arith) (pow_pos (c.args.fields.biased_exponent - 1)) in
-    rw (e, c.quanta_of-else-fields-eq0.ensures.datum, c.integer_bit.ensures)
+    rw (e, c.from_quanta-else-fields-eq0.ensures.datum, c.integer_bit.ensures)
     (signed_some c.args.shape.nonfinite c.args.fields.negative _ p)

@@ -5,38 +5,38 @@ use Rattle.apfloat_unpacked.specs.Shapes.{format_at}
 use Rattle.apfloat_unpacked.specs.Encoded.{layout_at}
 use Rattle.apfloat_unpacked.proofs.bits.written_number.Goals as goal
 
-pub quanta_of-requires-clause-lawful : goal.quanta_of-requires-clause-lawful
-quanta_of-requires-clause-lawful c = c.requires.lawful
+pub from_quanta-requires-clause-lawful : goal.from_quanta-requires-clause-lawful
+from_quanta-requires-clause-lawful c = c.requires.lawful
 
-pub quanta_of-requires-clause-near : goal.quanta_of-requires-clause-near
-quanta_of-requires-clause-near c = omega arith
+pub from_quanta-requires-clause-near : goal.from_quanta-requires-clause-near
+from_quanta-requires-clause-near c = omega arith
 
 pub integer_bit-requires : goal.integer_bit-requires
 integer_bit-requires c = c.requires.lawful
 
-pub quanta_of-requires-then-integer_bit-fields-clause-lawful :
-    goal.quanta_of-requires-then-integer_bit-fields-clause-lawful
-quanta_of-requires-then-integer_bit-fields-clause-lawful c = c.requires.lawful
+pub from_quanta-requires-then-integer_bit-fields-clause-lawful :
+    goal.from_quanta-requires-then-integer_bit-fields-clause-lawful
+from_quanta-requires-then-integer_bit-fields-clause-lawful c = c.requires.lawful
 
-pub quanta_of-requires-clause-fits : goal.quanta_of-requires-clause-fits
-quanta_of-requires-clause-fits c = rw c.requires.explicit at c.requires.within.trailing
+pub from_quanta-requires-clause-fits : goal.from_quanta-requires-clause-fits
+from_quanta-requires-clause-fits c = rw c.requires.explicit at c.requires.within.trailing
 
-pub quanta_of-requires-then-integer_bit-fields-clause-fits :
-    goal.quanta_of-requires-then-integer_bit-fields-clause-fits
-quanta_of-requires-then-integer_bit-fields-clause-fits c = rw c.requires.explicit at c.requires.within.trailing
+pub from_quanta-requires-then-integer_bit-fields-clause-fits :
+    goal.from_quanta-requires-then-integer_bit-fields-clause-fits
+from_quanta-requires-then-integer_bit-fields-clause-fits c = rw c.requires.explicit at c.requires.within.trailing
 
 pub returns-then-fields-eq0-clause-stored : goal.returns-then-fields-eq0-clause-stored
-returns-then-fields-eq0-clause-stored c = c.quanta_of.ensures.stored
+returns-then-fields-eq0-clause-stored c = c.from_quanta.ensures.stored
 
 pub returns-then-integer_bit-fields-clause-stored : goal.returns-then-integer_bit-fields-clause-stored
-returns-then-integer_bit-fields-clause-stored c = c.quanta_of-then-integer_bit-fields.ensures.stored
+returns-then-integer_bit-fields-clause-stored c = c.from_quanta-then-integer_bit-fields.ensures.stored
 
 pub returns-else-integer_bit-fields-clause-stored : goal.returns-else-integer_bit-fields-clause-stored
 returns-else-integer_bit-fields-clause-stored c = c.nan_of.ensures.stored
 
-pub quanta_of-requires-then-integer_bit-fields-clause-within :
-    goal.quanta_of-requires-then-integer_bit-fields-clause-within
-quanta_of-requires-then-integer_bit-fields-clause-within c =
+pub from_quanta-requires-then-integer_bit-fields-clause-within :
+    goal.from_quanta-requires-then-integer_bit-fields-clause-within
+from_quanta-requires-then-integer_bit-fields-clause-within c =
     let k = explicit_kind c.args.shape.nonfinite c.args.shape.explicit_integer_bit c.requires.interchange.explicit
     c.requires.explicit in
     let w : c.args.fields.trailing < 2 ^ c.args.shape.precision =

@@ -23,7 +23,7 @@ returns-clause-delivered c = λ amount parts u i h.
     let is = c.pick-point.ensures.picked amount parts u i h in
     let a = past_is f c.greatest_significand-greatest.result c.span.result p c.is_past.result false
     c.greatest_significand-greatest.ensures.value c.span.ensures.value c.is_past.ensures c.if-is_past.false in
-    let v = ap (datum_at c.args.shape) c.and.ensures.value ∙ c.rounded_quanta_of.ensures.datum in
+    let v = ap (datum_at c.args.shape) c.and.ensures.value ∙ c.from_rounded_quanta.ensures.datum in
     let s = ap bits_of c.and.ensures.status in
     ⊎_elim
     (λ (z : c.args.kept.loss ≡ ExactlyZero).

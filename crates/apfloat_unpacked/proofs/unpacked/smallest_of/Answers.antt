@@ -5,10 +5,10 @@ use Rattle.apfloat_base.proofs.Ranges.{one_within}
 use Rattle.apfloat_unpacked.specs.Shapes.{format_at}
 use Rattle.apfloat_unpacked.proofs.unpacked.smallest_of.Goals as goal
 
-pub quanta_of-requires-clause-fits : goal.quanta_of-requires-clause-fits
-quanta_of-requires-clause-fits c =
+pub from_quanta-requires-clause-fits : goal.from_quanta-requires-clause-fits
+from_quanta-requires-clause-fits c =
     let p : 2 ^ 3 ≤ 2 ^ c.args.shape.precision = pow-le-pow_right two_pos c.requires.precision_low in
     omega (arith, p)
 
-pub quanta_of-requires-clause-within : goal.quanta_of-requires-clause-within
-quanta_of-requires-clause-within c = one_within (format_at c.args.shape) c.requires.precision_low
+pub from_quanta-requires-clause-within : goal.from_quanta-requires-clause-within
+from_quanta-requires-clause-within c = one_within (format_at c.args.shape) c.requires.precision_low

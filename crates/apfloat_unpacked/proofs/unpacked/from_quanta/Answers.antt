@@ -5,7 +5,7 @@ use Rattle.std.proofs.lemmas.Nat.{pow_pos}
 use Rattle.apfloat_base.proofs.KeptDigits.{digits_le, shift_whole}
 use Rattle.apfloat_base.proofs.Deliveries.{signed_some}
 use Rattle.apfloat_unpacked.proofs.StoredNumbers.{IsMovedUp, moved_up_quanta, moved_up_normal}
-use Rattle.apfloat_unpacked.proofs.unpacked.quanta_of.Goals as goal
+use Rattle.apfloat_unpacked.proofs.unpacked.from_quanta.Goals as goal
 
 pub overflow_sub-shift : goal.overflow_sub-shift
 overflow_sub-shift c =

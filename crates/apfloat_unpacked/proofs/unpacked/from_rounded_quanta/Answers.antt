@@ -4,7 +4,7 @@ use Rattle.std.proofs.Math.Nat.{mul-pos}
 use Rattle.std.proofs.lemmas.Nat.{pow_pos}
 use Rattle.apfloat_base.proofs.Deliveries.{signed_some}
 use Rattle.apfloat_unpacked.proofs.StoredNumbers.{IsMovedUp, moved_up_quanta, moved_up_normal}
-use Rattle.apfloat_unpacked.proofs.unpacked.rounded_quanta_of.Goals as goal
+use Rattle.apfloat_unpacked.proofs.unpacked.from_rounded_quanta.Goals as goal
 
 -- a significand with all its digits is moved up by none
 full : (c : goal.After-exponent_at)
