@@ -99,7 +99,7 @@ impl Encoding {
         low << 64 | high
     }
 
-    // A normal number with an exponent near 0.
+    /// A normal number with an exponent near 0.
     fn moderate(self, is_negative: bool, digits: u128, generator: &mut Generator) -> u128 {
         let span = self.span();
         self.normal_bits(
@@ -109,14 +109,14 @@ impl Encoding {
         )
     }
 
-    // A denormal number of any count of digits, not zero.
+    /// A denormal number of any count of digits, not zero.
     fn denormal(self, is_negative: bool, digits: u128, generator: &mut Generator) -> u128 {
         let length = generator.exponent(1, self.precision.saturating_sub(1));
         let first = shifted(1, width(length.saturating_sub(1)));
         self.bits_of(is_negative, 0, digits & ones(width(length)) | first)
     }
 
-    // The exponents of moderate numbers reach from minus this number to it.
+    /// The exponents of moderate numbers reach from minus this number to it.
     fn span(self) -> i32 {
         let half_the_digits = (self.precision / 2).saturating_add(2);
         half_the_digits
@@ -148,17 +148,17 @@ impl Encoding {
     }
 }
 
-// A count of bits.
+/// A count of bits.
 fn width(digits: i32) -> usize {
     usize::try_from(digits).unwrap_or(0)
 }
 
-// As many ones.
+/// As many ones.
 fn ones(count: usize) -> u128 {
     shifted(1, count).wrapping_sub(1)
 }
 
-// A number with as many zeros after it.
+/// A number with as many zeros after it.
 fn shifted(number: u128, zeros: usize) -> u128 {
     if zeros < 128 { number << zeros } else { 0 }
 }

@@ -50,7 +50,7 @@ fn time_of_reading(rt: &(impl Clock + AllocGlobal), digits: u64) -> io::Result<N
     Ok(Nanoseconds::of_each(times.with_answers(answers)))
 }
 
-// A text with so many digits after the point, a multiple of 8.
+/// A text with so many digits after the point, a multiple of 8.
 fn long_text(alloc: Global, digits: u64) -> Result<String, AllocError> {
     let mut text = String::from_str(alloc, "0x1.")?;
     for _ in 0..digits / 8 {
@@ -118,7 +118,7 @@ fn divide<S: Semantics>(
     }
 }
 
-// Pairs of normal numbers whose exponents differ by so much.
+/// Pairs of normal numbers whose exponents differ by so much.
 fn apart<S: Semantics>(alloc: Global, difference: i32) -> Result<Vec<[IeeeFloat<S>; 2]>, AllocError>
     requires { S.PRECISION < S.BITS }
 {

@@ -39,7 +39,7 @@ fn main(rt: HostRuntime) -> ExitCode {
     }
 }
 
-// The exit status.
+/// The exit status.
 fn answer(rt: &(impl Env + Clock + Print + Eprint + AllocGlobal)) -> io::Result<u8> {
     let words = words_of_system(rt)?;
     match subject_of(words.as_slice()) {
@@ -54,7 +54,7 @@ fn answer(rt: &(impl Env + Clock + Print + Eprint + AllocGlobal)) -> io::Result<
     Ok(0)
 }
 
-// What is printed.
+/// What is printed.
 #[derive(Clone, Copy, Debug)]
 enum Subject {
     Checksums,
@@ -74,7 +74,7 @@ fn subject_of(words: &[String]) -> Option<Subject> {
     }
 }
 
-// The words without the program's own name.
+/// The words without the program's own name.
 fn words_of_system(rt: &(impl Env + AllocGlobal)) -> io::Result<Vec<String>> {
     let words = env::args(rt)?.skip(1).collect(rt.alloc())?;
     Ok(words)

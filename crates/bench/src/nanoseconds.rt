@@ -34,7 +34,7 @@ impl Nanoseconds {
 }
 
 impl fmt::Display for Nanoseconds {
-    // Two decimals below 10, one below 100, and none from there on.
+    /// Two decimals below 10, one below 100, and none from there on.
     fn fmt<W: fmt::Write>(&self, f: &mut fmt::Formatter<W>) -> fmt::Result {
         let whole = self.hundredths / 100;
         let rest = self.hundredths % 100;

@@ -55,7 +55,7 @@ fn print_line(
     println!(rt; "")
 }
 
-// The checksums of an operation in each mode, or one where it has no mode.
+/// The checksums of an operation in each mode, or one where it has no mode.
 fn sums_of(
     rt: &(impl Clock + AllocGlobal),
     kind: Kind,

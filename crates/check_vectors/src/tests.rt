@@ -12,7 +12,7 @@ use std::time::Duration;
 use std::{fs, io};
 use vector_rows::{Check, Failure, check_input, run};
 
-// Asserts what a check of an input writes, and its exit status.
+/// Asserts what a check of an input writes, and its exit status.
 fn expect<R: Abort + Clock + AllocGlobal>(
     rt: &R,
     mut input: &[u8],
@@ -137,7 +137,7 @@ fn shows_each_kind_of_answer(rt: HostRuntime) {
     }
 }
 
-// Asserts that the one row of an input differs, and is shown with its answers.
+/// Asserts that the one row of an input differs, and is shown with its answers.
 fn expect_one<R: Abort + Clock + AllocGlobal>(rt: &R, row: &str, expected: &str, given: &str) {
     let input = format!(in rt.alloc(); "{row}\t{expected}");
     let tally = "0 rows agree, 1 differ, 0 malformed; 0 lines skipped";
@@ -216,7 +216,7 @@ fn tells_what_is_malformed(rt: HostRuntime) {
     }
 }
 
-// Asserts that the first of two lines is malformed, and that the second one is checked.
+/// Asserts that the first of two lines is malformed, and that the second one is checked.
 fn expect_fault<R: Abort + Clock + AllocGlobal>(rt: &R, line: &str, fault: &str) {
     let input = format!(in rt.alloc(); "{line}\nhalf int even 464\t5f40 OK\n");
     let text = format!(in rt.alloc();
@@ -263,7 +263,7 @@ fn wants_a_row(rt: HostRuntime) {
     }
 }
 
-// A reader that gives so many bytes of a text, one at a time, and then an error.
+/// A reader that gives so many bytes of a text, one at a time, and then an error.
 #[derive(Drop)]
 struct Broken<'a> {
     rest: &'a [u8],
@@ -321,7 +321,7 @@ fn names_a_read_that_fails(rt: HostRuntime) -> Result<(), Fail> {
     Ok(())
 }
 
-// A writer with room for so many bytes, which takes one at each write.
+/// A writer with room for so many bytes, which takes one at each write.
 #[derive(Drop)]
 struct Failing {
     room: usize,
@@ -373,7 +373,7 @@ fn answers_4_where_a_write_fails(rt: HostRuntime) {
     }
 }
 
-// A clock that goes on by a second each time that it is asked.
+/// A clock that goes on by a second each time that it is asked.
 #[derive(Drop)]
 struct Ticking {
     seconds: std::cell::Cell<u64>,
@@ -417,7 +417,7 @@ fn tells_how_far_it_is(rt: HostRuntime) -> Result<(), Fail> {
     Ok(())
 }
 
-// Asserts what the program answers to words, and how what it writes begins.
+/// Asserts what the program answers to words, and how what it writes begins.
 fn expect_run<R: Abort + std::rt::Files + Clock + Input + AllocGlobal>(
     rt: &R,
     words: &[&str],
@@ -461,7 +461,7 @@ fn does_what_its_words_say(rt: HostRuntime) -> Result<(), Fail> {
     Ok(())
 }
 
-// A system that gives these arguments.
+/// A system that gives these arguments.
 #[derive(Drop)]
 struct System;
 
@@ -486,8 +486,8 @@ impl Env for System {
     }
 }
 
-// An arena with so many bytes left, and no more to come. A second chunk is begun, since only the blocks
-// of a first one are used again: so each growth of memory takes bytes of its own.
+/// An arena with so many bytes left, and no more to come. A second chunk is begun, since only the blocks
+/// of a first one are used again: so each growth of memory takes bytes of its own.
 fn arena_with(alloc: Global, bytes: usize) -> Result<Bump, AllocError> {
     let arena = Bump::try_with_capacity(alloc, 4000)?;
     arena.try_alloc_slice_fill_clone(arena.chunk_capacity(), 0u8)?;

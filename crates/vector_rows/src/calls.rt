@@ -39,7 +39,7 @@ pub fn agrees(row: Row<'_>) -> Result<bool, Fault<'_>> {
     Ok(all_agree)
 }
 
-// What the call of a row answers.
+/// What the call of a row answers.
 fn answer_of(row: Row<'_>) -> Result<Answer, Fault<'_>> {
     formats::answer(row.asked()?, row.round()?, row)
 }
@@ -60,7 +60,7 @@ pub fn write_answers<W: Write>(row: Row<'_>, out: &mut W) -> io::Result<()> {
     Ok(())
 }
 
-// Writes what is given for a row, behind the mode's name, if that is not what is expected.
+/// Writes what is given for a row, behind the mode's name, if that is not what is expected.
 fn write_given<W: Write>(row: Row<'_>, mode: &str, out: &mut W) -> io::Result<()> {
     let Ok(answer) = answer_of(row) else {
         return Ok(());

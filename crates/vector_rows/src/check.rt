@@ -115,14 +115,14 @@ impl Check {
         }
     }
 
-    // Counts a row that differs, and names it.
+    /// Counts a row that differs, and names it.
     fn take_difference<W: Write>(&mut self, text: &str, out: &mut W) -> Result<(), Failure> {
         self.tally.differing = self.tally.differing.saturating_add(1);
         let number = self.tally.lines();
         written(writeln!(out, "line {number} differs: {text}"))
     }
 
-    // Counts a line that is no row, and says why.
+    /// Counts a line that is no row, and says why.
     fn take_fault<W: Write>(&mut self, fault: Fault<'_>, out: &mut W) -> Result<(), Failure> {
         self.tally.malformed = self.tally.malformed.saturating_add(1);
         let number = self.tally.lines();
@@ -130,7 +130,7 @@ impl Check {
     }
 }
 
-// What a text says.
+/// What a text says.
 fn line_of(text: &str) -> Result<Line<'_>, Fault<'_>> {
     if text.starts_with('#') || text.trim().is_empty() {
         return Ok(Line::Skipped);
@@ -146,7 +146,7 @@ fn line_of(text: &str) -> Result<Line<'_>, Fault<'_>> {
     }
 }
 
-// A line without the characters that end it.
+/// A line without the characters that end it.
 fn without_end(line: &[u8]) -> &[u8] {
     let line = line.strip_suffix(b"\n").unwrap_or(line);
     line.strip_suffix(b"\r").unwrap_or(line)

@@ -27,7 +27,7 @@ impl<'a> CommandRow<'a> {
     }
 }
 
-// Whether a text is a refusal, or bits and flags.
+/// Whether a text is a refusal, or bits and flags.
 fn is_reply(reply: &str) -> bool {
     if reply.starts_with("refused: ") {
         return true;
@@ -38,7 +38,7 @@ fn is_reply(reply: &str) -> bool {
     }
 }
 
-// Whether a text is 1 to 32 hexadecimal digits in lower case.
+/// Whether a text is 1 to 32 hexadecimal digits in lower case.
 fn are_digits(bits: &str) -> bool {
     if bits.is_empty() || bits.len() > 32 {
         return false;
@@ -87,7 +87,7 @@ impl Words {
         Ok(false)
     }
 
-    // Whether a text is the reply, without the end of its line.
+    /// Whether a text is the reply, without the end of its line.
     fn is_replied(&self, reply: &str) -> bool {
         let written = if self.line.is_empty() {
             self.refusal.as_slice()
@@ -110,7 +110,7 @@ impl Words {
         &words[..self.count.min(words.len())]
     }
 
-    // Takes the words of a command.
+    /// Takes the words of a command.
     fn take(&mut self, command: &str) -> Result<(), AllocError> {
         self.count = 0;
         for word in command.split(' ') {
@@ -131,7 +131,7 @@ impl Words {
         Ok(())
     }
 
-    // Replies to the words.
+    /// Replies to the words.
     fn reply(&mut self) -> Result<(), AllocError> {
         self.line.clear();
         self.refusal.clear();

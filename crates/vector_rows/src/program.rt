@@ -67,7 +67,7 @@ fn refuse_usage<V: Write>(err: &mut V) -> u8 {
     }
 }
 
-// Says what the system gave in place of words.
+/// Says what the system gave in place of words.
 fn refuse_words<V: Write>(error: io::Error, err: &mut V) -> u8 {
     match error.kind() {
         ErrorKind::OutOfMemory => say("arguments", &Failure::Memory, err),
@@ -126,7 +126,7 @@ pub fn check_input<R: Clock + AllocGlobal, B: BufRead, W: Write, V: Write>(
     }
 }
 
-// Ends a check of all lines of an input.
+/// Ends a check of all lines of an input.
 fn conclude<W: Write, V: Write>(name: &str, tally: Tally, out: &mut W, err: &mut V) -> u8 {
     match write_tally(tally, out) {
         Ok(()) if tally.is_empty() => refuse_empty(name, err),
@@ -147,8 +147,8 @@ fn refuse_empty<V: Write>(name: &str, err: &mut V) -> u8 {
     }
 }
 
-// Says what ended the program. Answers the exit status, that of a failure to write where it cannot be
-// said.
+/// Says what ended the program. Answers the exit status, that of a failure to write where it cannot be
+/// said.
 fn say<V: Write>(name: &str, failure: &Failure, err: &mut V) -> u8 {
     match writeln!(err, "check_vectors: {name}: {failure}") {
         Ok(()) => failure.status(),

@@ -4,10 +4,10 @@ use std::io::Write;
 use std::rt::Clock;
 use std::time::Instant;
 
-// How many seconds pass before the first message, and between two of them.
+/// How many seconds pass before the first message, and between two of them.
 const SECONDS: u64 = 3;
 
-// How many lines are read between two looks at the clock.
+/// How many lines are read between two looks at the clock.
 const LINES: u64 = 1024;
 
 /// When the next message is due.

@@ -31,7 +31,7 @@ impl Tally {
         self.rows().saturating_add(self.skipped)
     }
 
-    // How many lines there were that are not skipped.
+    /// How many lines there were that are not skipped.
     fn rows(self) -> u64 {
         self.agreeing
             .saturating_add(self.differing)

@@ -117,7 +117,7 @@ impl Answer {
 }
 
 impl Word {
-    // Whether this is what a word stands for, if that is a word of its kind.
+    /// Whether this is what a word stands for, if that is a word of its kind.
     fn is_named(&self, word: &str) -> Option<bool> {
         match *self {
             Word::Bits(_, _) | Word::Quanta(_) if word == "None" => Some(false),
@@ -135,7 +135,7 @@ impl Word {
         }
     }
 
-    // Writes the word for this, which may be that of a row.
+    /// Writes the word for this, which may be that of a row.
     fn write<W: Write>(&self, of_row: &str, out: &mut W) -> io::Result<()> {
         match *self {
             Word::Bits(bits, width) => write_bits(bits, width, out),
@@ -153,7 +153,7 @@ impl Word {
 }
 
 impl Outcome {
-    // Whether this is what a word stands for, if that is a word of a status.
+    /// Whether this is what a word stands for, if that is a word of a status.
     fn is_named(self, word: &str) -> Option<bool> {
         match (self, word) {
             (Outcome::Refused, "ParseError") => Some(true),
@@ -178,7 +178,7 @@ impl Outcome {
 }
 
 impl Extra {
-    // Whether this is what a word stands for, if that is a word of its kind; a `-` states nothing.
+    /// Whether this is what a word stands for, if that is a word of its kind; a `-` states nothing.
     fn is_named(self, word: &str) -> Option<bool> {
         if word == "-" {
             return Some(true);
@@ -196,7 +196,7 @@ impl Extra {
         }
     }
 
-    // Writes what is answered where a row states it.
+    /// Writes what is answered where a row states it.
     fn write<W: Write>(self, of_row: &str, out: &mut W) -> io::Result<()> {
         if of_row == "-" {
             return out.write_all(b"-");
@@ -218,7 +218,7 @@ impl Extra {
     }
 }
 
-// Whether a remainder takes as many steps as a word says, and they are within the bound that it may have.
+/// Whether a remainder takes as many steps as a word says, and they are within the bound that it may have.
 fn are_steps(taken: u32, bound: ExpInt, word: &str) -> Option<bool> {
     let counted = word.strip_prefix("steps=")?;
     let (steps, is_bounded) = match counted.split_once(" bound=") {
@@ -231,7 +231,7 @@ fn are_steps(taken: u32, bound: ExpInt, word: &str) -> Option<bool> {
     Some(taken == steps.parse::<u32>().ok()? && is_bounded)
 }
 
-// Writes bits as hexadecimal digits, with leading zeros.
+/// Writes bits as hexadecimal digits, with leading zeros.
 fn write_bits<W: Write>(bits: u128, width: usize, out: &mut W) -> io::Result<()> {
     let digits = width.div_ceil(4).max(1).min(32);
     for i in 0..32usize {
@@ -259,7 +259,7 @@ pub fn status_named(word: &str) -> Option<Status> {
     Some(status)
 }
 
-// The flag of this name.
+/// The flag of this name.
 fn flag_named(name: &str) -> Option<Status> {
     match name {
         "INVALID_OP" => Some(Status::INVALID_OP),
@@ -271,12 +271,12 @@ fn flag_named(name: &str) -> Option<Status> {
     }
 }
 
-// The truth value that stands behind a name.
+/// The truth value that stands behind a name.
 fn truth_behind(name: &str, word: &str) -> Option<bool> {
     truth_of(word.strip_prefix(name)?)
 }
 
-// The truth value of this name.
+/// The truth value of this name.
 fn truth_of(word: &str) -> Option<bool> {
     match word {
         "true" => Some(true),

@@ -92,7 +92,7 @@ fn of_format<S: Semantics>(
     }
 }
 
-// The answer of a call that each type has.
+/// The answer of a call that each type has.
 fn of_type<F: Float + Debug>(
     call: Call,
     round: Option<Round>,
@@ -115,7 +115,7 @@ fn of_type<F: Float + Debug>(
     }
 }
 
-// The answer of a call that each type has, where it is a value without a status, or less.
+/// The answer of a call that each type has, where it is a value without a status, or less.
 fn part_of_type<F: Float + Debug>(
     call: Call,
     round: Option<Round>,

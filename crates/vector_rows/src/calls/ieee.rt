@@ -16,7 +16,7 @@ pub fn counted_remainder<S: Semantics>(row: Row<'_>) -> Result<Answer, Fault<'_>
     Ok(Answer::raised(word_of(answer.value, row), answer.status, extra))
 }
 
-// The most steps that a remainder of two numbers can take.
+/// The most steps that a remainder of two numbers can take.
 fn step_bound<S: Semantics>(x: IeeeFloat<S>, y: IeeeFloat<S>) -> ExpInt {
     x.ilogb().saturating_sub(y.ilogb()).saturating_add(1).max(0)
 }

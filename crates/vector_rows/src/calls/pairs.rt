@@ -43,7 +43,7 @@ pub fn order_of_magnitudes(row: Row<'_>) -> Result<Answer, Fault<'_>> {
     }
 }
 
-// The order of the magnitudes of two pairs that can be compared.
+/// The order of the magnitudes of two pairs that can be compared.
 fn order_of(x: DoubleDouble, y: DoubleDouble) -> Option<Ordering> {
     if can_compare_magnitudes(x, y) {
         Some(x.cmp_abs_normal(y))
@@ -52,7 +52,7 @@ fn order_of(x: DoubleDouble, y: DoubleDouble) -> Option<Ordering> {
     }
 }
 
-// Whether the high parts are numbers and not zero, and where their magnitudes tie the low parts too.
+/// Whether the high parts are numbers and not zero, and where their magnitudes tie the low parts too.
 fn can_compare_magnitudes(x: DoubleDouble, y: DoubleDouble) -> bool
     ensures { result ≡ true → CanComparePairMagnitudes x y }
 {
@@ -64,7 +64,7 @@ fn can_compare_magnitudes(x: DoubleDouble, y: DoubleDouble) -> bool
     a.cmp_abs_normal(c) != Ordering::Equal || (aa.is_finite_non_zero() && cc.is_finite_non_zero())
 }
 
-// The high part and the low one.
+/// The high part and the low one.
 fn parts_of(x: DoubleDouble) -> (Double, Double)
     ensures high { result.0 ≡ x.high }
     ensures low { result.1 ≡ x.low }

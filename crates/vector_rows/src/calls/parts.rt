@@ -107,7 +107,7 @@ pub fn nan_of_payload<F: Float + Debug>(kind: NaN, row: Row<'_>) -> Result<Answe
     Ok(Answer::silent(word_of(value, row)))
 }
 
-// The payload that a row has as its operand, which may be none.
+/// The payload that a row has as its operand, which may be none.
 fn payload_of(row: Row<'_>) -> Result<Option<u128>, Fault<'_>> {
     if row.operands == "None" {
         return Ok(None);

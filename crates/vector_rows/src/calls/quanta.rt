@@ -20,7 +20,7 @@ pub struct Quanta {
     magnitude: Magnitude,
 }
 
-// The magnitude of a word.
+/// The magnitude of a word.
 #[derive(Clone, Copy)]
 enum Magnitude {
     Infinity,
@@ -31,7 +31,7 @@ enum Magnitude {
     Quanta(Count),
 }
 
-// A number times a power of two. The number of a word is odd.
+/// A number times a power of two. The number of a word is odd.
 #[derive(Clone, Copy)]
 struct Count {
     number: u128,
@@ -71,7 +71,7 @@ pub fn quanta_of<F: Float>(x: F) -> Option<Quanta> {
     })
 }
 
-// The count of a positive number: its significand as a whole number, and the exponent of the last digit of it.
+/// The count of a positive number: its significand as a whole number, and the exponent of the last digit of it.
 fn count_of<F: Float>(x: F) -> Option<Count> {
     let digits = ExpInt::try_from(F::PRECISION).ok()?;
     let last = x
@@ -84,7 +84,7 @@ fn count_of<F: Float>(x: F) -> Option<Count> {
     Some(odd_count(number, last.checked_sub(of_quantum)?)?)
 }
 
-// The positive value of a magnitude, if there is one.
+/// The positive value of a magnitude, if there is one.
 fn with_magnitude<F: Float>(magnitude: Magnitude) -> Option<F> {
     match magnitude {
         Magnitude::Infinity => Some(F::infinity()),
@@ -98,7 +98,7 @@ fn with_magnitude<F: Float>(magnitude: Magnitude) -> Option<F> {
     }
 }
 
-// Whether a positive value has this magnitude.
+/// Whether a positive value has this magnitude.
 fn has_magnitude<F: Float>(x: F, magnitude: Magnitude) -> Option<bool> {
     match magnitude {
         Magnitude::Infinity => Some(x.is_infinite()),
@@ -109,21 +109,21 @@ fn has_magnitude<F: Float>(x: F, magnitude: Magnitude) -> Option<bool> {
     }
 }
 
-// Whether a value is so many quanta: the odd part of the count is what is left of it as it is scaled to a whole number.
+/// Whether a value is so many quanta: the odd part of the count is what is left of it as it is scaled to a whole number.
 fn is_quanta<F: Float>(x: F, count: Count) -> Option<bool> {
     let exponent = exponent_of::<F>(count)?;
     let whole = x.scalbn(exponent.checked_neg()?).to_u128(128);
     Some(x.is_finite_non_zero() && whole.status.is_empty() && whole.value == count.number)
 }
 
-// The exponent of the last digit of so many quanta.
+/// The exponent of the last digit of so many quanta.
 fn exponent_of<F: Float>(count: Count) -> Option<ExpInt> {
     let digits = ExpInt::try_from(F::PRECISION).ok()?;
     let of_quantum = F::MIN_EXP.checked_sub(digits)?.checked_add(1)?;
     of_quantum.checked_add(count.power)
 }
 
-// The sign of a word and its magnitude.
+/// The sign of a word and its magnitude.
 fn parts_of(word: &str) -> Option<(bool, Magnitude)> {
     match word.strip_prefix('-') {
         Some(magnitude) => Some((true, magnitude_of(magnitude)?)),
@@ -143,7 +143,7 @@ fn magnitude_of(word: &str) -> Option<Magnitude> {
     }
 }
 
-// The magnitude of a count, as `12` or `3*2^70`.
+/// The magnitude of a count, as `12` or `3*2^70`.
 fn magnitude_of_count(count: &str) -> Option<Magnitude> {
     let (number, power) = match count.split_once("*2^") {
         None => (number_of(count)?, 0),
@@ -155,7 +155,7 @@ fn magnitude_of_count(count: &str) -> Option<Magnitude> {
     Some(Magnitude::Quanta(odd_count(number, power)?))
 }
 
-// A number that is not zero times a power of two, with its last zeros in the power.
+/// A number that is not zero times a power of two, with its last zeros in the power.
 fn odd_count(number: u128, power: ExpInt) -> Option<Count> {
     let zeros = number.trailing_zeros();
     Some(Count {
@@ -187,7 +187,7 @@ impl Count {
         }
     }
 
-    // The count as one number, if that is not long.
+    /// The count as one number, if that is not long.
     fn short(self) -> Option<u64> {
         let power = u32::try_from(self.power).ok()?;
         let number = u64::try_from(self.number).ok()?;

@@ -53,7 +53,7 @@ pub fn row_of(line: &str) -> Option<Row<'_>>
     })
 }
 
-// The first column, and the text behind its tab.
+/// The first column, and the text behind its tab.
 fn cut_column(text: &str) -> Option<(&str, &str)>
     ensures { IfSome result (λ parts. text.now ≡ parts.0.now ++ 9 ∷ parts.1.now) }
 {

@@ -28,7 +28,7 @@ pub fn parsed<F: Float + Debug>(row: Row<'_>) -> Result<Answer, Fault<'_>> {
     }
 }
 
-// The answer that a refusal is.
+/// The answer that a refusal is.
 fn refused(error: ParseError) -> Answer {
     let mut reason = Text::new();
     // There is room for each.
