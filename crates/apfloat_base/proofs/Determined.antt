@@ -26,7 +26,7 @@ use Rattle.apfloat_base.specs.whole_numbers.WholeNumbersOut.{IsToUnsigned, IsToS
 use Rattle.apfloat_base.specs.arithmetic.NextUp.{IsNextUp, IsNextDown}
 use Rattle.apfloat_base.specs.arithmetic.Exponents.{IsIlogb, IsLogarithm, IsFraction, IsFrexp, AreInverse, IsExactInverse}
 use Rattle.apfloat_base.specs.texts.Specials.{Meaning, infinity, not_a_number, hexadecimal}
-use Rattle.apfloat_base.specs.texts.Texts.{words}
+use Rattle.apfloat_base.specs.texts.Faults.{words}
 use Rattle.apfloat_base.specs.texts.Readings.{IsMeant, IsReading, IsRefusal}
 use Rattle.apfloat_base.specs.texts.Parsing.{IsRead}
 use Rattle.apfloat_base.specs.Determined.{Determines, DeterminesBoth, AreOneReading, IsDetermined}

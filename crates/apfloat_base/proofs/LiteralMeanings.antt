@@ -1,7 +1,8 @@
 -- What a hexadecimal text without a fault means, by its parts.
 use Rattle.std.proofs.Common.{◌≡◌, ℕ, true, refl, inl, inr, ⊎_elim, List, ◌++◌, drop, codes, None}
 use Rattle.apfloat_base.specs.texts.Specials.{hexadecimal, mark_of, behind_mark, is_minus}
-use Rattle.apfloat_base.specs.texts.Texts.{IsHexadecimal, Means, begins_literal, behind_prefix_fault}
+use Rattle.apfloat_base.specs.texts.Texts.{IsHexadecimal, Means}
+use Rattle.apfloat_base.specs.texts.Faults.{begins_literal, behind_prefix_fault}
 use Rattle.apfloat_base.specs.texts.Literals.{digits_number, places_behind_dot, exponent_text, exponent_number}
 use Rattle.apfloat_base.proofs.OneMeaning.{literal_of_hexadecimal, IsLiteral}
 use Rattle.apfloat_base.proofs.EachText.{literal_from, begun_of, IsAnyHexadecimal}

@@ -31,7 +31,7 @@ pub enum Fault {
 
 impl Fault {
     ghost use Rattle.std.specs.Prelude.{◌≡◌};
-    ghost use Rattle.apfloat_base.specs.texts.Texts.{words};
+    ghost use Rattle.apfloat_base.specs.texts.Faults.{words};
 
     /// The refusal that says so.
     pub fn refusal(self) -> ParseError

@@ -5,7 +5,7 @@ use Rattle.rustc_apfloat.specs.declared.Round.TheVariants.{NearestTiesToEven, To
 use Rattle.std.specs.Char.{is_ascii}
 use Rattle.rustc_apfloat.specs.Lawful.{Constants}
 use Rattle.rustc_apfloat.specs.Digits.{every}
-use Rattle.rustc_apfloat.specs.Texts.{fault_of}
+use Rattle.rustc_apfloat.specs.Faults.{fault_of}
 use Rattle.rustc_apfloat.specs.Formats.{half_constants, single_constants, double_constants, quad_constants, bfloat_constants, e5m2_constants, e4m3fn_constants, e4m3fnuz_constants, x87_constants}
 use Rattle.apfloat_c.specs.declared.codes.Format.{Format}
 use Rattle.apfloat_c.specs.declared.codes.Format.TheVariants.{Half, Single, Double, Quad, BFloat, E5M2, E4M3FN, E4M3FNUZ, X87, DoubleDouble}

@@ -8,7 +8,7 @@ use Rattle.apfloat_base.specs.declared.status.StatusAnd.{StatusAnd}
 use Rattle.apfloat_base.specs.declared.sig.loss.Loss.{Loss}
 use Rattle.apfloat_base.specs.rounding.Flags.{bits_of}
 use Rattle.apfloat_base.specs.texts.Digits.{is_empty}
-use Rattle.apfloat_base.specs.texts.Texts.{behind_prefix_fault}
+use Rattle.apfloat_base.specs.texts.Faults.{behind_prefix_fault}
 use Rattle.apfloat_base.specs.texts.Literals.{digits_number, exponent_number}
 use Rattle.apfloat_base.specs.texts.Readings.{IsScaledDelivery}
 use Rattle.apfloat_unpacked.specs.declared.shape.Shape.{Shape}

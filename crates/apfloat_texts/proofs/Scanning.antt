@@ -4,7 +4,7 @@ use Rattle.std.proofs.lemmas.List.{take_all}
 use Rattle.std.specs.Prelude.{Result, Ok, Err, IsErrAnd, MatchResult}
 use Rattle.apfloat_base.specs.declared.sig.loss.Loss.{Loss}
 use Rattle.apfloat_base.specs.texts.Digits.{begins}
-use Rattle.apfloat_base.specs.texts.Texts.{is_digit_or_dot, significand_of, behind_significand}
+use Rattle.apfloat_base.specs.texts.Faults.{is_digit_or_dot, significand_of, behind_significand}
 use Rattle.apfloat_texts.specs.declared.significand.Scan.{Scan}
 use Rattle.apfloat_texts.specs.Scans.{IsKept, IsScan, IsScanned}
 

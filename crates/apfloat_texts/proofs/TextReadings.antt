@@ -9,7 +9,8 @@ use Rattle.apfloat_base.specs.declared.status.StatusAnd.{StatusAnd}
 use Rattle.apfloat_base.specs.rounding.Flags.{bits_of}
 use Rattle.apfloat_base.specs.texts.Digits.{is_empty}
 use Rattle.apfloat_base.specs.texts.Specials.{hexadecimal, mark_of, behind_mark, is_minus, special_meaning, special_of}
-use Rattle.apfloat_base.specs.texts.Texts.{Means, begins_literal, behind_prefix_fault, fault_of}
+use Rattle.apfloat_base.specs.texts.Texts.{Means}
+use Rattle.apfloat_base.specs.texts.Faults.{begins_literal, behind_prefix_fault, fault_of}
 use Rattle.apfloat_base.specs.texts.Literals.{digits_number, places_behind_dot, exponent_text, exponent_number}
 use Rattle.apfloat_base.specs.texts.Readings.{IsMeant}
 use Rattle.apfloat_base.proofs.EachText.{begun_of}

@@ -2,7 +2,7 @@
 use Rattle.std.specs.Prelude.{◌≡◌, ◌*◌, pos, ◌+ℤ◌, ◌-ℤ◌, ℕ, Bool, List, None}
 use Rattle.apfloat_base.specs.declared.kinds.Round.{Round}
 use Rattle.apfloat_base.specs.declared.status.StatusAnd.{StatusAnd}
-use Rattle.apfloat_base.specs.texts.Texts.{behind_prefix_fault}
+use Rattle.apfloat_base.specs.texts.Faults.{behind_prefix_fault}
 use Rattle.apfloat_base.specs.texts.Literals.{digits_number, places_behind_dot, exponent_text, exponent_number}
 use Rattle.apfloat_base.specs.texts.Readings.{IsScaledDelivery}
 use Rattle.apfloat_unpacked.specs.declared.shape.Shape.{Shape}

@@ -3,7 +3,7 @@ use Rattle.std.specs.Prelude.{◌≡◌, ◌⊎◌, ℕ, ◌+◌, ◌*◌, ◌^�
 use Rattle.apfloat_base.specs.declared.parse_error.Fault.{Fault}
 use Rattle.apfloat_base.specs.declared.parse_error.Fault.TheVariants.{WrongInSignificand, NoDigits}
 use Rattle.apfloat_base.specs.texts.Digits.{every, begins, is_empty, is_decimal, digit_value, number}
-use Rattle.apfloat_base.specs.texts.Texts.{is_p, tail_fault}
+use Rattle.apfloat_base.specs.texts.Faults.{is_p, tail_fault}
 
 -- a count from 0 up, or one of those that are too many
 abbrev pub IsSaturated : ℕ → ℕ → Type 0

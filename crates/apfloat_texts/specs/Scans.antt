@@ -3,7 +3,7 @@ use Rattle.std.specs.Prelude.{◌≡◌, ◌⊎◌, ℕ, ◌+◌, ◌*◌, ◌^�
 use Rattle.apfloat_base.specs.declared.sig.loss.Loss.{Loss}
 use Rattle.apfloat_base.specs.declared.sig.loss.Loss.TheVariants.{ExactlyZero}
 use Rattle.apfloat_base.specs.texts.Digits.{is_empty, is_hexadecimal, digit_value}
-use Rattle.apfloat_base.specs.texts.Texts.{is_dot, significand_of, behind_significand}
+use Rattle.apfloat_base.specs.texts.Faults.{is_dot, significand_of, behind_significand}
 use Rattle.apfloat_base.specs.texts.Literals.{digits_number, places_behind_dot}
 use Rattle.apfloat_base.specs.rounding.Standing.{StandsFor}
 

@@ -2,7 +2,7 @@
 
 ghost use Rattle.std.specs.Prelude.{◌≡◌, ◌<◌, IsTrue};
 ghost use Rattle.apfloat_base.specs.texts.Digits.{is_decimal, is_octal, is_hexadecimal, digit_value};
-ghost use Rattle.apfloat_base.specs.texts.Texts.{is_digit_or_dot};
+ghost use Rattle.apfloat_base.specs.texts.Faults.{is_digit_or_dot};
 
 /// 0 to 9.
 #[inline(always)]

@@ -4,7 +4,7 @@ ghost use Rattle.std.specs.Prelude.{◌≡◌, ℕ, ◌+◌, ◌*◌, ◌^◌, �
 ghost use Rattle.apfloat_base.specs.rounding.Bounds.{IsWithin, text_bound};
 ghost use Rattle.apfloat_base.specs.texts.Digits.{number};
 ghost use Rattle.apfloat_base.specs.texts.Specials.{behind_mark};
-ghost use Rattle.apfloat_base.specs.texts.Texts.{exponent_fault};
+ghost use Rattle.apfloat_base.specs.texts.Faults.{exponent_fault};
 ghost use Rattle.apfloat_base.specs.texts.Literals.{exponent_number};
 ghost use Rattle.apfloat_texts.specs.Saturation.{IsSaturated, IsNear, fault_behind};
 

@@ -1,7 +1,7 @@
 //! Hexadecimal numbers, behind their prefix.
 
 ghost use Rattle.std.specs.Prelude.{◌≡◌, Some, None, MatchResult};
-ghost use Rattle.apfloat_base.specs.texts.Texts.{behind_prefix_fault};
+ghost use Rattle.apfloat_base.specs.texts.Faults.{behind_prefix_fault};
 ghost use Rattle.apfloat_unpacked.specs.Shapes.{IsShape};
 ghost use Rattle.apfloat_texts.specs.LiteralParts.{IsLiteralRead};
 

@@ -3,7 +3,7 @@
 ghost use Rattle.std.specs.Prelude.{◌≡◌, Some, true, false, drop, MatchOption, MatchResult};
 ghost use Rattle.apfloat_base.specs.declared.kinds.Round.{Round};
 ghost use Rattle.apfloat_base.specs.rounding.Rounding.{ok_bits};
-ghost use Rattle.apfloat_base.specs.texts.Texts.{begins_literal, fault_of};
+ghost use Rattle.apfloat_base.specs.texts.Faults.{begins_literal, fault_of};
 ghost use Rattle.apfloat_base.specs.texts.Readings.{IsMeant, IsRefusal};
 ghost use Rattle.apfloat_unpacked.specs.Shapes.{IsShape, format_at};
 ghost use Rattle.apfloat_unpacked.specs.Stored.{IsStored, datum_at};

@@ -3,7 +3,7 @@
 ghost use Rattle.std.specs.Prelude.{◌≡◌, ℕ, ◌+◌, ◌*◌, ◌^◌, ◌<◌, ◌≤◌, true, false, ltb, length, filter, MatchResult, IsTrue};
 ghost use Rattle.apfloat_base.specs.rounding.Standing.{StandsFor};
 ghost use Rattle.apfloat_base.specs.texts.Digits.{is_hexadecimal, digit_value};
-ghost use Rattle.apfloat_base.specs.texts.Texts.{is_dot, is_digit_or_dot, significand_of, behind_significand};
+ghost use Rattle.apfloat_base.specs.texts.Faults.{is_dot, is_digit_or_dot, significand_of, behind_significand};
 ghost use Rattle.apfloat_base.specs.texts.Literals.{digits_number, places_behind_dot};
 ghost use Rattle.apfloat_texts.specs.Scans.{IsKept, IsScan, IsScanned};
 ghost use Rattle.apfloat_base.specs.declared.parse_error.Fault.TheVariants.{SecondDot};
@@ -112,7 +112,7 @@ pub struct Scan {
 impl Scan {
     ghost use Rattle.std.specs.Prelude.{◌≡◌, ℕ, ◌+◌, ◌<◌, List, ◌∷◌, length, filter, ltb, true, IsTrue, MatchResult};
     ghost use Rattle.apfloat_base.specs.texts.Digits.{is_hexadecimal};
-    ghost use Rattle.apfloat_base.specs.texts.Texts.{is_dot, is_digit_or_dot, significand_of};
+    ghost use Rattle.apfloat_base.specs.texts.Faults.{is_dot, is_digit_or_dot, significand_of};
     ghost use Rattle.apfloat_texts.specs.Scans.{IsScan};
     ghost use Rattle.apfloat_base.specs.declared.parse_error.Fault.{Fault};
     ghost use Rattle.apfloat_base.specs.declared.parse_error.Fault.TheVariants.{SecondDot};

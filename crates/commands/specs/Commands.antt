@@ -6,7 +6,7 @@ use Rattle.rustc_apfloat.specs.Digits.{same, every, is_empty, is_decimal, is_hex
 use Rattle.rustc_apfloat.specs.Lawful.{Constants}
 use Rattle.rustc_apfloat.specs.Formats.{half_constants, single_constants, double_constants, quad_constants, bfloat_constants, e5m2_constants, e4m3fn_constants, e4m3fnuz_constants, x87_constants}
 use Rattle.apfloat_base.specs.declared.parse_error.Fault.{Fault}
-use Rattle.rustc_apfloat.specs.Texts.{fault_of, words}
+use Rattle.rustc_apfloat.specs.Faults.{fault_of, words}
 use Rattle.commands.specs.declared.operation.Operation.{Operation}
 use Rattle.commands.specs.declared.operation.Operation.TheVariants.{OfTwo, FusedSum, WholeNumber, Text}
 use Rattle.commands.specs.declared.operation.Arithmetic.{Arithmetic}

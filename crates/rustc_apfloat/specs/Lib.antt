@@ -34,6 +34,7 @@ pub use Rattle.apfloat_base.specs.formats.Formats
 pub use Rattle.apfloat_base.specs.texts.Digits
 pub use Rattle.apfloat_base.specs.texts.Specials
 pub use Rattle.apfloat_base.specs.texts.Texts
+pub use Rattle.apfloat_base.specs.texts.Faults
 pub use Rattle.apfloat_base.specs.texts.Readings
 pub use Rattle.apfloat_base.specs.texts.Literals
 pub use Rattle.apfloat_base.specs.texts.Parsing

@@ -2,7 +2,8 @@
 use Rattle.std.specs.Prelude.{ℕ, ℤ, List, length, drop, filter}
 use Rattle.apfloat_base.specs.texts.Digits.{behind_run, is_hexadecimal, number}
 use Rattle.apfloat_base.specs.texts.Specials.{mark_of, behind_mark}
-use Rattle.apfloat_base.specs.texts.Texts.{marked, significand_of, behind_significand}
+use Rattle.apfloat_base.specs.texts.Texts.{marked}
+use Rattle.apfloat_base.specs.texts.Faults.{significand_of, behind_significand}
 
 -- the digits on both sides of the dot, as one number
 abbrev pub digits_number : List ℕ → ℕ

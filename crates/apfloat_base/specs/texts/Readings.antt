@@ -10,7 +10,8 @@ use Rattle.apfloat_base.specs.rounding.Answer.{IsAnswer}
 use Rattle.apfloat_base.specs.formats.Nan.{quiet_significand, signaling_significand, nan_sign}
 use Rattle.apfloat_base.specs.arithmetic.Exact.{up, down}
 use Rattle.apfloat_base.specs.texts.Specials.{Meaning, infinity, not_a_number, hexadecimal}
-use Rattle.apfloat_base.specs.texts.Texts.{Means, words, fault_of}
+use Rattle.apfloat_base.specs.texts.Texts.{Means}
+use Rattle.apfloat_base.specs.texts.Faults.{words, fault_of}
 
 abbrev pub read_nan : Format → Bool → Bool → ℕ → Datum
 read_nan f negative signaling payload =

@@ -2,7 +2,7 @@ use Rattle.std.proofs.Common.{◌∙◌, List, ℕ, drop, sym, ap}
 use Rattle.apfloat_base.specs.rounding.Flags.{bits_of}
 use Rattle.apfloat_base.specs.texts.Digits.{is_empty}
 use Rattle.apfloat_base.specs.texts.Specials.{is_minus}
-use Rattle.apfloat_base.specs.texts.Texts.{begins_literal}
+use Rattle.apfloat_base.specs.texts.Faults.{begins_literal}
 use Rattle.apfloat_texts.proofs.FaultsRead.{some_text}
 use Rattle.apfloat_texts.proofs.TextReadings.{special_read, literal_text}
 use Rattle.apfloat_texts.proofs.reading.read_bytes.Goals as goal

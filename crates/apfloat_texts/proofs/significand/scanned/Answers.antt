@@ -1,5 +1,5 @@
 use Rattle.std.proofs.Common.{List, ℕ, sym, rules}
-use Rattle.apfloat_base.specs.texts.Texts.{is_digit_or_dot}
+use Rattle.apfloat_base.specs.texts.Faults.{is_digit_or_dot}
 use Rattle.apfloat_texts.specs.Scans.{IsScan}
 use Rattle.apfloat_texts.proofs.Scanning.{parted, begins_empty, begins_first, refused_by, scan_remade, scan_ended}
 use Rattle.apfloat_texts.proofs.significand.scanned.Goals as goal

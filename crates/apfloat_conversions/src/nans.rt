@@ -1,0 +1,85 @@
+//! NaNs of one format in another: made quiet, and with as much of the payload as the other format has (IEEE 754-2008
+//! 6.2.3).
+
+ghost use Rattle.std.specs.Prelude.{◌≡◌, ◌-◌, ◌*◌, ◌/◌, ◌^◌, ◌<◌};
+ghost use Rattle.apfloat_base.specs.rounding.Flags.{bits_of};
+ghost use Rattle.apfloat_base.specs.arithmetic.Conversions.{IsConverted, places_out, nan_loses, converted_nan};
+ghost use Rattle.apfloat_base.specs.formats.Members.{IsNanSignificand};
+ghost use Rattle.apfloat_base.specs.formats.Nan.{invalid_if, is_signaling};
+ghost use Rattle.apfloat_unpacked.specs.Shapes.{IsShape, format_at};
+ghost use Rattle.apfloat_unpacked.specs.Stored.{IsNan, IsStored, datum_at};
+
+use crate::between_formats::Converted;
+use apfloat_base::sig::low_digits;
+use apfloat_unpacked::nans::{
+    payload_mask, quiet_significand, quieted_significand, signals, status_of,
+};
+use apfloat_unpacked::shape::Shape;
+use apfloat_unpacked::unpacked::{Unpacked, nan_of};
+
+/// How many last bits a NaN's significand loses: where there is a payload, its first bit stays the first.
+#[inline(always)]
+fn places_out(from: Shape, into: Shape) -> u32
+    requires { IsShape from }
+    ensures value { result ≡ places_out (format_at from) (format_at into) }
+    ensures short { result < 128 }
+{
+    if payload_mask(from) == 0 {
+        0
+    } else {
+        from.precision.saturating_sub(into.precision)
+    }
+}
+
+/// The payload for the other format of a NaN with that significand.
+#[inline(always)]
+fn carried_payload(from: Shape, into: Shape, significand: u128) -> u128
+    requires from { IsShape from }
+    requires into { IsShape into }
+    requires fits { significand < 2 ^ from.precision }
+    ensures { result ≡ significand * 2 ^ (into.precision - from.precision) / 2 ^ places_out
+        (format_at from) (format_at into) }
+{
+    let places_in = into.precision.saturating_sub(from.precision);
+    (significand << places_in) >> places_out(from, into)
+}
+
+/// Whether a NaN loses information: a bit that was set, or the integer bit of a signaling NaN, or the whole payload.
+#[inline(always)]
+fn nan_loses(from: Shape, into: Shape, significand: u128) -> bool
+    requires from { IsShape from }
+    requires into { IsShape into }
+    requires nan { IsNanSignificand from.nonfinite from.explicit_integer_bit from.precision
+        significand }
+    ensures { result ≡ nan_loses (format_at from) (format_at into) significand }
+{
+    let cut = low_digits(
+        quieted_significand(from, significand),
+        places_out(from, into),
+    );
+    let hides_integer_bit = from.explicit_integer_bit && !into.explicit_integer_bit;
+    let drops_payload = payload_mask(from) != 0 && payload_mask(into) == 0;
+    cut != 0 || ((hides_integer_bit && signals(from, significand)) || drops_payload)
+}
+
+/// A NaN, made quiet, with as much of its payload as the other format has (IEEE 754-2008 6.2.3).
+#[inline(always)]
+pub(crate) fn converted_nan(from: Shape, into: Shape, x: Unpacked) -> Converted
+    requires from { IsShape from }
+    requires into { IsShape into }
+    requires x { IsNan from x }
+    ensures stored { IsStored into result.answer.value }
+    ensures converted { IsConverted
+        (converted_nan (format_at from) (format_at into) x.negative x.significand)
+        (invalid_if (is_signaling (format_at from) x.significand))
+        (nan_loses (format_at from) (format_at into) x.significand)
+        (datum_at into result.answer.value) (bits_of result.answer.status) result.loses_info }
+{
+    let quieted = quieted_significand(from, x.significand);
+    let payload = carried_payload(from, into, quieted);
+    let value = nan_of(into, x.negative, quiet_significand(into, payload));
+    Converted {
+        answer: status_of(signals(from, x.significand)).and(value),
+        loses_info: nan_loses(from, into, x.significand),
+    }
+}
