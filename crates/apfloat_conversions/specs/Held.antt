@@ -19,7 +19,7 @@ pub record IsHeld (from into : Shape) : Type 0 where
   pub fine : (format_at from).scale ≤ (format_at into).scale
   pub reached : IsReached from into
 
--- the other shape has as many digits, and all of them at this exponent, which is none of its greatest numbers'
+-- the other shape has as many digits, all of them at this exponent, and larger numbers at the next one
 pub record IsInside (from into : Shape) (exponent : ℤ) : Type 0 where
   pub precise : from.precision ≤ into.precision
   pub least : into.min_exp ≤ℤ exponent
