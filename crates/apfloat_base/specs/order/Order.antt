@@ -40,7 +40,7 @@ AtMost (nan b s) y = ⊥
 AtMost x (nan c t) = ⊥
 
 -- both are finite and not zero
-pub record AreNumbers (x y : Datum) : Type 0 where
+pub record AreFiniteNonZero (x y : Datum) : Type 0 where
   pub left : category_of x ≡ Normal
   pub right : category_of y ≡ Normal
 
