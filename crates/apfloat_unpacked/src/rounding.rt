@@ -66,7 +66,7 @@ fn steps_down(unit: ExpInt, place: u32) -> u32
     (unit - place as ExpInt) as u32
 }
 
-/// Cuts a significand once, to the digits that the format keeps.
+/// Cuts a significand once, to the digits that a format keeps.
 #[inline(always)]
 fn keep(precision: u32, significand: u128, unit: ExpInt, loss: Loss) -> Kept
     requires some { 0 < precision }
