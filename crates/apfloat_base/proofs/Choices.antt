@@ -137,3 +137,16 @@ pub left_none : {A : Type 0} (test : Bool) (a : A) (other : Option A) → cond t
     → (test ≡ false) × (other ≡ None)
 left_none true a other h = absurd (none-some a (sym h))
 left_none false a other h = (refl, h)
+
+-- what a test says of two truth values
+pub like : (s t : Bool) → beq s t ≡ true → s ≡ t
+like true true e = refl
+like false false e = refl
+like true false e = absurd (false≢true e)
+like false true e = absurd (false≢true e)
+
+pub unlike : (s t : Bool) → beq s t ≡ false → s ≡ t → ⊥
+unlike true true e d = absurd (false≢true (sym e))
+unlike false false e d = absurd (false≢true (sym e))
+unlike true false e d = false≢true (sym d)
+unlike false true e d = false≢true d

@@ -13,7 +13,7 @@ use Rattle.apfloat_base.specs.rounding.Standing.{StandsFor}
 use Rattle.apfloat_base.specs.rounding.Enclosure.{IsEnclosed, rounds_up}
 use Rattle.apfloat_base.specs.rounding.Rounding.{IsPick, IsDelivered, past_largest, signed_quanta, leads_out, is_tiny}
 use Rattle.apfloat_base.proofs.Picks.{kept, pick_is, pick_unique}
-use Rattle.apfloat_base.proofs.Existence.{two_pos}
+use Rattle.apfloat_base.proofs.Powers.{two_pos}
 use Rattle.apfloat_base.proofs.Losses.{stands_past, stands_to}
 use Rattle.apfloat_base.proofs.Choices.{off_both}
 

@@ -11,7 +11,7 @@ use Rattle.apfloat_base.specs.rounding.Grid.{IsOnGrid}
 use Rattle.apfloat_base.specs.rounding.Rounding.{IsPick, IsDelivered, delivered_value, delivered_status, is_tiny}
 use Rattle.apfloat_base.specs.rounding.Enclosure.{IsEnclosed, rounds_up}
 use Rattle.apfloat_base.proofs.Losses.{twice_half}
-use Rattle.apfloat_base.proofs.Existence.{two_pos}
+use Rattle.apfloat_base.proofs.Powers.{two_pos}
 use Rattle.apfloat_base.proofs.Greatest.{greatest_fits}
 use Rattle.apfloat_base.proofs.Picks.{kept, pick_is, pick_unique}
 use Rattle.apfloat_base.proofs.Laws.{pick_within, delivered_exists}

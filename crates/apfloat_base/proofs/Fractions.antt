@@ -4,9 +4,8 @@ use Rattle.std.proofs.Math.Nat.{mul-le-mul_left, pow-le-pow_right, eq_of_mul-eq-
 use Rattle.std.proofs.lemmas.Nat.{pow_pos}
 use Rattle.apfloat_base.specs.declared.sig.loss.Loss.{Loss}
 use Rattle.apfloat_base.specs.rounding.Standing.{StandsFor}
-use Rattle.apfloat_base.proofs.Existence.{two_pos}
 use Rattle.apfloat_base.proofs.KeptDigits.{stands_cancel, stands_times}
-use Rattle.apfloat_base.proofs.Powers.{pow3, pow4, pow22}
+use Rattle.apfloat_base.proofs.Powers.{pow3, pow4, pow22, two_pos}
 
 regroup_product : (sx sy pui puj pd : ℕ) → (sx * pui) * (sy * puj) * pd ≡ sx * sy * (pui * puj * pd)
 regroup_product sx sy pui puj pd = omega arith

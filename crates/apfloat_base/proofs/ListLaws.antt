@@ -1,8 +1,9 @@
 -- Lists: members that pass a test, runs, what filters leave, and items by their places.
 use mathlib.Core.Bool.{Bool}
-use Rattle.std.proofs.Common.{◌≡◌, ℕ, true, false, refl, sym, ap, ◌∙◌, List, [], ◌∷◌, ◌++◌, length, filter, zero, suc, ◌<◌, Some, arith, append_assoc}
+use Rattle.std.proofs.Common.{◌≡◌, ℕ, true, false, refl, sym, ap, ◌∙◌, List, [], ◌∷◌, ◌++◌, length, take, drop, get_or, filter, zero, suc, ◌-◌, ◌<◌, ◌≤◌, Some, subst, arith, append_assoc}
 use Rattle.std.specs.Prelude.{slice_get}
 use Rattle.std.proofs.lemmas.Bool.{and_parts, and_from}
+use Rattle.std.proofs.lemmas.List.{take_all}
 use Rattle.apfloat_base.specs.texts.Digits.{every, begins, run, behind_run}
 
 -- ---- members that pass
@@ -90,3 +91,25 @@ get_left (x ∷ xs) ys (suc k) within = get_left xs ys k (omega arith)
 pub get_last : {X : Type 0} (xs : List X) (y : X) → slice_get (xs ++ y ∷ []) (length xs) ≡ Some y
 get_last [] y = refl
 get_last (x ∷ xs) y = get_last xs y
+
+-- ---- first items
+
+-- a list with a first item, as a pattern takes it apart
+pub parted : (P : List ℕ → Type 0) (xs : List ℕ) → 1 ≤ length xs → P xs
+    → P (get_or xs 0 0 ∷ take (length xs - 1) (drop 1 xs))
+parted P [] h p = absurd (omega (arith, h))
+parted P (x ∷ xs) h p =
+    let e : length (x ∷ xs) - 1 ≡ length xs = omega arith in
+    let t : take (length (x ∷ xs) - 1) xs ≡ xs = ap (λ (n : ℕ). take n xs) e ∙
+    take_all (length xs) xs (omega arith) in
+    subst (λ (l : List ℕ). P (x ∷ l)) (sym t) p
+
+-- a list without items, or whose first item fails a test, does not begin with one that passes it
+pub begins_empty : (test : ℕ → Bool) (xs : List ℕ) → length xs < 1 → begins test xs ≡ false
+begins_empty test [] h = refl
+begins_empty test (x ∷ xs) h = absurd (omega (arith, h))
+
+pub begins_first : (test : ℕ → Bool) (xs : List ℕ) → 1 ≤ length xs → test (get_or xs 0 0) ≡ false
+    → begins test xs ≡ false
+begins_first test [] h e = refl
+begins_first test (x ∷ xs) h e = e

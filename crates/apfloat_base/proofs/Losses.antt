@@ -2,7 +2,7 @@
 use Rattle.std.proofs.Common.{◌≡◌, ℕ, ◌+◌, ◌-◌, ◌*◌, ◌/◌, ◌%◌, ◌^◌, ◌<◌, ◌≤◌, ◌⊎◌, sym, refl, ap, ◌∙◌, subst, inl, inr, arith}
 use Rattle.std.proofs.Math.Nat.{mul-le-mul_right, pow-le-pow_right, div-eq_of_lt, div-add-mod'}
 use Rattle.std.proofs.lemmas.Nat.{pow-add, pow_below}
-use Rattle.apfloat_base.proofs.Existence.{two_pos}
+use Rattle.apfloat_base.proofs.Powers.{two_pos}
 use Rattle.apfloat_base.specs.declared.sig.loss.Loss.{Loss}
 use Rattle.apfloat_base.specs.declared.sig.loss.Loss.TheVariants.{ExactlyZero, LessThanHalf, ExactlyHalf, MoreThanHalf}
 use Rattle.apfloat_base.specs.rounding.Standing.{StandsFor}

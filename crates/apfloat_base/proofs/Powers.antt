@@ -4,6 +4,9 @@ use Rattle.std.proofs.Math.Nat.{pow-le-pow_right}
 use Rattle.std.proofs.lemmas.Nat.{pow-add, pow_pos}
 use Rattle.std.proofs.lemmas.Bool.{cases_lt}
 
+pub two_pos : 0 < 2
+two_pos = lit< tt
+
 pub pow3 : (a b c : ℕ) → 2 ^ (a + b + c) ≡ 2 ^ a * 2 ^ b * 2 ^ c
 pow3 a b c = pow-add 2 (a + b) c ∙ ap (λ (x : ℕ). x * 2 ^ c) (pow-add 2 a b)
 
@@ -22,7 +25,7 @@ pub exponent_at_most : (a b : ℕ) → 2 ^ a ≤ 2 ^ b → a ≤ b
 exponent_at_most a b h =
     ⊎_elim
     (λ (c : b < a).
-    let k : 2 ^ (b + 1) ≤ 2 ^ a = pow-le-pow_right (lit< tt) (omega arith) in
+    let k : 2 ^ (b + 1) ≤ 2 ^ a = pow-le-pow_right two_pos (omega arith) in
     let t : 2 ^ (b + 1) ≡ 2 * 2 ^ b = twice_power b in
     let p : 0 < 2 ^ b = pow_pos b in
     absurd (omega arith))
@@ -34,5 +37,5 @@ pub exponent_below : (a b : ℕ) → 2 ^ a < 2 ^ b → a < b
 exponent_below a b h =
     ⊎_elim
     (λ (c : a < b). c)
-    (λ (c : b ≤ a). let k : 2 ^ b ≤ 2 ^ a = pow-le-pow_right (lit< tt) c in absurd (omega arith))
+    (λ (c : b ≤ a). let k : 2 ^ b ≤ 2 ^ a = pow-le-pow_right two_pos c in absurd (omega arith))
     (cases_lt a b)

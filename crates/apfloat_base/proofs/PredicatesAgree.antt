@@ -12,7 +12,7 @@ use Rattle.apfloat_base.specs.rounding.Negation.{negated}
 use Rattle.apfloat_base.specs.declared.kinds.Category.TheVariants.{Normal, Zero}
 use Rattle.apfloat_base.specs.formats.Datum.{Datum, finite, infinite, nan}
 use Rattle.apfloat_base.specs.arithmetic.Exact.{same_sign}
-use Rattle.apfloat_base.specs.order.Classes.{is_finite, is_infinite, is_nan, is_negative, is_zero, is_denormal, is_normal, is_finite_non_zero, is_smallest, is_smallest_normalized, is_largest, quanta_of, same_datum, category_of, is_nan_category, is_number_category}
+use Rattle.apfloat_base.specs.order.Classes.{is_finite, is_infinite, is_nan, is_negative, is_zero, is_denormal, is_normal, is_finite_non_zero, is_smallest, is_smallest_normalized, is_largest, quanta_of, same_datum, category_of, is_nan_category, is_finite_non_zero_category}
 use Rattle.apfloat_base.specs.order.Order.{compared, min_num, max_num, minimum, maximum}
 use Rattle.apfloat_base.specs.order.Predicates.{is_finite_category, is_infinite_category, is_zero_category, min_by, max_by, minimum_by, maximum_by, signed_like}
 use Rattle.apfloat_base.proofs.Choices.{same_sign_is, same_sign_self, not_itself}
@@ -53,11 +53,11 @@ finite_agrees (finite b n) = always_finite (eqb n 0)
 finite_agrees (infinite b) = refl
 finite_agrees (nan b s) = refl
 
-number_or_not : (n : ℕ) → is_number_category (if eqb n 0 then Zero else Normal) ≡ ltb 0 n
+number_or_not : (n : ℕ) → is_finite_non_zero_category (if eqb n 0 then Zero else Normal) ≡ ltb 0 n
 number_or_not zero = refl
 number_or_not (suc n) = rw (ne_eqb (suc n) 0 (λ z. omega (arith, z)), lt-ltb 0 (suc n) (omega arith)) refl
 
-pub number_agrees : (x : Datum) → is_number_category (category_of x) ≡ is_finite_non_zero x
+pub number_agrees : (x : Datum) → is_finite_non_zero_category (category_of x) ≡ is_finite_non_zero x
 number_agrees (finite b n) = number_or_not n
 number_agrees (infinite b) = refl
 number_agrees (nan b s) = refl
@@ -72,7 +72,7 @@ at_least n m h =
 
 -- a number that is not denormal is normal
 pub normal_agrees : (format : Format) (x : Datum)
-    → (is_number_category (category_of x) && not (is_denormal format x)) ≡ is_normal format x
+    → (is_finite_non_zero_category (category_of x) && not (is_denormal format x)) ≡ is_normal format x
 normal_agrees format (finite b n) = rw (number_or_not n)
     (at_least n (smallest_normalized format) (pow_pos (format.precision - 1)))
 normal_agrees format (infinite b) = refl

@@ -8,8 +8,7 @@ use Rattle.apfloat_base.specs.formats.Format.{Format}
 use Rattle.apfloat_base.specs.formats.Datum.{Datum}
 use Rattle.apfloat_base.specs.rounding.Standing.{up, down}
 use Rattle.apfloat_base.specs.rounding.Rounding.{IsDelivered}
-use Rattle.apfloat_base.proofs.Existence.{two_pos}
-use Rattle.apfloat_base.proofs.Powers.{pow3}
+use Rattle.apfloat_base.proofs.Powers.{pow3, two_pos}
 use Rattle.apfloat_base.proofs.FarMagnitudes.{IsFarAbove, IsFarBelow, far_above, far_below}
 
 -- two fractions are equal where their places add up alike

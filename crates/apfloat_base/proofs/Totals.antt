@@ -10,7 +10,7 @@ use Rattle.apfloat_base.specs.declared.sig.loss.Loss.TheVariants.{ExactlyZero, L
 use Rattle.apfloat_base.specs.arithmetic.Exact.{up, down, signed}
 use Rattle.apfloat_base.specs.rounding.Standing.{StandsFor}
 use Rattle.apfloat_base.specs.arithmetic.Totals.{counted, StandsForSigned, Balances, IsApart}
-use Rattle.apfloat_base.proofs.Existence.{two_pos}
+use Rattle.apfloat_base.proofs.Powers.{two_pos}
 use Rattle.apfloat_base.proofs.Losses.{twice_half, stands_from, stands_to}
 use Rattle.apfloat_base.proofs.KeptDigits.{stands_times}
 
@@ -285,17 +285,3 @@ resigned base a b n t e q loss (inr d) h =
           swapped_sum a b;
       stands = h.stands;
     }
-
--- ---- tests of signs
-
-pub like : (s t : Bool) → beq s t ≡ true → s ≡ t
-like true true e = refl
-like false false e = refl
-like true false e = absurd (false≢true e)
-like false true e = absurd (false≢true e)
-
-pub unlike : (s t : Bool) → beq s t ≡ false → s ≡ t → ⊥
-unlike true true e d = absurd (false≢true (sym e))
-unlike false false e d = absurd (false≢true (sym e))
-unlike true false e d = false≢true (sym d)
-unlike false true e d = false≢true d

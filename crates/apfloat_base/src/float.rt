@@ -8,7 +8,7 @@ ghost use Rattle.apfloat_base.specs.rounding.Negation.{swapped};
 ghost use Rattle.apfloat_base.specs.declared.kinds.Category.{Category};
 ghost use Rattle.apfloat_base.specs.declared.kinds.Round.{Round};
 ghost use Rattle.apfloat_base.specs.declared.kinds.Round.TheVariants.{NearestTiesToEven, TowardZero};
-ghost use Rattle.apfloat_base.specs.order.Classes.{is_nan_category, is_number_category};
+ghost use Rattle.apfloat_base.specs.order.Classes.{is_nan_category, is_finite_non_zero_category};
 ghost use Rattle.apfloat_base.specs.declared.parse_error.ParseError.{ParseError};
 ghost use Rattle.apfloat_base.specs.order.Predicates.{is_zero_category, is_infinite_category, is_finite_category, min_by, max_by, minimum_by, maximum_by, signed_like};
 ghost use Rattle.apfloat_base.specs.declared.status.StatusAnd.{StatusAnd};
@@ -63,6 +63,7 @@ pub trait Float: Copy
     /// Whether the type has products: their digits, twice the precision, fit in one integer type of the machine.
     const MULTIPLIES: bool;
 
+    // The constants, for contracts.
     ghost BITS: { ℕ };
 
     ghost PRECISION: { ℕ };
@@ -73,93 +74,88 @@ pub trait Float: Copy
 
     ghost MULTIPLIES: { Bool };
 
-    // The named values.
+    // Particular values, and the NaNs with a payload.
     ghost the_zero: { Self };
-
-    ghost the_smallest: { Self };
 
     ghost the_infinity: { Self };
 
-    ghost the_largest: { Self };
-
-    ghost the_smallest_normalized: { Self };
-
-    // The quiet and the signaling NaN with a payload.
     ghost quiet_nan_of: { ℕ → Self };
 
     ghost signaling_nan_of: { ℕ → Self };
 
-    // Sums and differences.
+    ghost the_largest: { Self };
+
+    ghost the_smallest: { Self };
+
+    ghost the_smallest_normalized: { Self };
+
+    // Sums, differences, products and quotients.
     ghost adds: { Self → Self → Round → StatusAnd Self → Type 0 };
 
     ghost subtracts: { Self → Self → Round → StatusAnd Self → Type 0 };
 
-    // The negated value.
-    ghost negated: { Self → Self };
-
-    // What a value is: its category, its sign, whether it signals, whether it is denormal.
-    ghost category_of: { Self → Category };
-
-    ghost sign_of: { Self → Bool };
-
-    ghost signals: { Self → Bool };
-
-    ghost denormal: { Self → Bool };
-
-    // Products and quotients.
     ghost multiplies: { Self → Self → Round → StatusAnd Self → Type 0 };
 
     ghost divides: { Self → Self → Round → StatusAnd Self → Type 0 };
 
-    // The exact inverse.
-    ghost inverts: { Self → Option Self → Type 0 };
-
-    // Remainders: by the quotient cut toward zero, and by the whole number nearest to the quotient.
-    ghost leaves: { Self → Self → StatusAnd Self → Type 0 };
-
+    // Remainders: by the quotient rounded to the nearest integer, and by the quotient cut toward zero.
     ghost leaves_nearest: { Self → Self → StatusAnd Self → Type 0 };
 
-    // Whether two values are the same, and the order of magnitudes where they can be compared.
-    ghost same: { Self → Self → Bool };
+    ghost leaves: { Self → Self → StatusAnd Self → Type 0 };
 
-    ghost can_compare_magnitudes: { Self → Self → Type 0 };
-
-    ghost magnitude_order: { Self → Self → Ordering };
-
-    // The value of a bit pattern, and the bit pattern of a value.
-    ghost value_of_bits: { ℕ → Self };
-
-    ghost writes_bits: { Self → ℕ → Type 0 };
-
-    // Whole numbers as values.
-    ghost converts_unsigned: { ℕ → Round → StatusAnd Self → Type 0 };
-
-    ghost converts_signed: { ℤ → Round → StatusAnd Self → Type 0 };
-
-    // Rounding to a whole number, as a value and as an integer with a given count of binary digits; whether a value is
-    // whole.
+    // A value rounded to an integer.
     ghost rounds_to_integral: { Self → Round → StatusAnd Self → Type 0 };
 
-    ghost is_whole: { Self → Bool };
-
-    ghost converts_to_unsigned: { Self → ℕ → Round → StatusAnd ℕ → Bool → Type 0 };
-
-    ghost converts_to_signed: { Self → ℕ → Round → StatusAnd ℤ → Bool → Type 0 };
-
-    // The next values above and below.
+    // The neighbours above and below.
     ghost steps_up: { Self → StatusAnd Self → Type 0 };
 
     ghost steps_down: { Self → StatusAnd Self → Type 0 };
 
-    // A value times a power of two, its exponent, and its fraction with an exponent.
-    ghost scales: { Self → ℤ → Round → Self → Type 0 };
+    // The value with the other sign.
+    ghost negated: { Self → Self };
+
+    // Values from bits, from signed and unsigned integers, and from texts.
+    ghost value_of_bits: { ℕ → Self };
+
+    ghost converts_signed: { ℤ → Round → StatusAnd Self → Type 0 };
+
+    ghost converts_unsigned: { ℕ → Round → StatusAnd Self → Type 0 };
+
+    ghost reads: { List ℕ → Round → Result (StatusAnd Self) ParseError → Type 0 };
+
+    // Bits of values, and integers of a given width from them.
+    ghost writes_bits: { Self → ℕ → Type 0 };
+
+    ghost converts_to_signed: { Self → ℕ → Round → StatusAnd ℤ → Bool → Type 0 };
+
+    ghost converts_to_unsigned: { Self → ℕ → Round → StatusAnd ℕ → Bool → Type 0 };
+
+    // The order of magnitudes, where they can be compared, and whether two values are the same.
+    ghost can_compare_magnitudes: { Self → Self → Type 0 };
+
+    ghost magnitude_order: { Self → Self → Ordering };
+
+    ghost same: { Self → Self → Bool };
+
+    // What a value is.
+    ghost sign_of: { Self → Bool };
+
+    ghost denormal: { Self → Bool };
+
+    ghost signals: { Self → Bool };
+
+    ghost category_of: { Self → Category };
+
+    ghost is_whole: { Self → Bool };
+
+    // The exact inverse, the exponent, a value times a power of two, and a fraction with its exponent.
+    ghost inverts: { Self → Option Self → Type 0 };
 
     ghost has_exponent: { Self → ℤ → Type 0 };
 
-    ghost has_fraction: { Self → Round → Self → ℤ → Type 0 };
+    ghost scales: { Self → ℤ → Round → Self → Type 0 };
 
-    // What reading a text returns.
-    ghost reads: { List ℕ → Round → Result (StatusAnd Self) ParseError → Type 0 };
+    ghost has_fraction: { Self → Round → Self → ℤ → Type 0 };
 
     /// +0.
     fn zero() -> Self
@@ -476,7 +472,7 @@ pub trait Float: Copy
 
     /// Whether the value is a nonzero number that is not denormal (IEEE 754-2008 5.7.2, isNormal).
     fn is_normal(self) -> bool
-        ensures { result ≡ (is_number_category (category_of self) && not (denormal self)) }
+        ensures { result ≡ (is_finite_non_zero_category (category_of self) && not (denormal self)) }
     {
         self.is_finite_non_zero() && !self.is_denormal()
     }
@@ -532,7 +528,7 @@ pub trait Float: Copy
 
     /// Whether the value is a nonzero number.
     fn is_finite_non_zero(self) -> bool
-        ensures { result ≡ is_number_category (category_of self) }
+        ensures { result ≡ is_finite_non_zero_category (category_of self) }
     {
         match self.category() {
             Category::Normal => true,
@@ -636,7 +632,8 @@ pub trait Float: Copy
 
     ghost neg_law: { (x r : Self) → Self.neg_gives x r → r ≡ negated x };
 
-    // The binary operators are the calls, rounded to nearest, ties to even; a remainder is exact.
+    // The other operators are the calls, rounded to the nearest value, a tie to the even one; a remainder is exact.
+
     ghost can_add_law: { (x y : Self) → Self.can_add x y };
 
     ghost add_law: { (x y : Self) (r : StatusAnd Self) → Self.add_gives x y r

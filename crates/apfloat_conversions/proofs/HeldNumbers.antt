@@ -11,11 +11,10 @@ use Rattle.apfloat_base.specs.formats.Format.{Format, largest, greatest_signific
 use Rattle.apfloat_base.specs.formats.Members.{IsFiniteOf}
 use Rattle.apfloat_base.specs.rounding.Rounding.{ok_bits}
 use Rattle.apfloat_base.proofs.Deliveries.{signed_some}
-use Rattle.apfloat_base.proofs.Existence.{two_pos}
 use Rattle.apfloat_base.proofs.Greatest.{greatest_fits, greatest_full}
 use Rattle.apfloat_base.proofs.KeptDigits.{fits_shifted, full_shifted}
 use Rattle.apfloat_base.proofs.Laws.{exact_delivered}
-use Rattle.apfloat_base.proofs.Powers.{pow3}
+use Rattle.apfloat_base.proofs.Powers.{pow3, two_pos}
 use Rattle.apfloat_base.proofs.SingleScalings.{scaled_stands}
 use Rattle.apfloat_base.proofs.Totals.{no_down}
 use Rattle.apfloat_unpacked.specs.declared.shape.Shape.{Shape}

@@ -10,7 +10,7 @@ use Rattle.apfloat_base.specs.rounding.Grid.{IsOnGrid, IsBelow, IsAbove}
 use Rattle.apfloat_base.specs.rounding.Enclosure.{IsEnclosed}
 use Rattle.apfloat_base.specs.arithmetic.Exponents.{IsLogarithm}
 use Rattle.apfloat_base.specs.rounding.Standing.{up, down}
-use Rattle.apfloat_base.proofs.Existence.{two_pos}
+use Rattle.apfloat_base.proofs.Powers.{two_pos}
 use Rattle.apfloat_base.proofs.Laws.{exact_below, zero_on_grid}
 use Rattle.apfloat_base.proofs.Losses.{twice_half}
 use Rattle.apfloat_base.proofs.Neighbours.{next_multiple, next_on_grid, none_between, below_is}

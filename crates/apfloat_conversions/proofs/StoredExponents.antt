@@ -11,7 +11,7 @@ use Rattle.apfloat_base.specs.rounding.Bounds.{scaling_bound}
 use Rattle.apfloat_base.specs.rounding.Rounding.{IsDelivered, zero_sign}
 use Rattle.apfloat_base.specs.arithmetic.Scaling.{IsScaling}
 use Rattle.apfloat_base.specs.rounding.Standing.{StandsFor, up, down}
-use Rattle.apfloat_base.proofs.Existence.{two_pos}
+use Rattle.apfloat_base.proofs.Powers.{two_pos}
 use Rattle.apfloat_base.proofs.Greatest.{greatest_full}
 use Rattle.apfloat_base.proofs.Tables.{scaling_zero}
 use Rattle.apfloat_base.proofs.SingleScalings.{IsClamped, up_le, quanta_below, scaled_is, clamp_kept}

@@ -11,7 +11,7 @@ ghost use Rattle.apfloat_unpacked.specs.Shapes.{IsShape, format_at};
 ghost use Rattle.apfloat_unpacked.specs.Stored.{IsNormal, IsStored, datum_at, quanta_of};
 
 use crate::held::{has, widened};
-use crate::nans::converted_nan;
+use crate::payloads::converted_nan;
 use apfloat_base::sig::Loss;
 use apfloat_base::{Category, NonfiniteBehavior, Round, Status, StatusAnd};
 use apfloat_unpacked::rounding::deliver;

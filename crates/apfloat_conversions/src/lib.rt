@@ -10,7 +10,7 @@ pub mod exponents;
 mod held;
 pub mod integers;
 pub mod integral;
-mod nans;
 pub mod neighbours;
+mod payloads;
 pub mod scaling;
 pub mod whole;

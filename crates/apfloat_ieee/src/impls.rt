@@ -11,7 +11,7 @@ ghost use Rattle.apfloat_base.specs.arithmetic.Exponents.{IsExactInverse, IsIlog
 ghost use Rattle.apfloat_base.specs.formats.Members.{IsMember};
 ghost use Rattle.apfloat_base.specs.declared.kinds.NonfiniteBehavior.TheVariants.{IEEE754};
 ghost use Rattle.apfloat_base.specs.order.Classes.{category_of, is_negative, is_denormal, is_finite_non_zero, is_integer, same_datum};
-ghost use Rattle.apfloat_base.specs.order.Order.{AreNumbers, compared_magnitudes};
+ghost use Rattle.apfloat_base.specs.order.Order.{AreFiniteNonZero, compared_magnitudes};
 ghost use Rattle.apfloat_base.specs.arithmetic.Products.{IsProduct, IsOpposite};
 ghost use Rattle.apfloat_base.specs.arithmetic.Quotients.{IsQuotient};
 ghost use Rattle.std.proofs.lemmas.Bool.{leb-true};
@@ -80,32 +80,22 @@ impl<S: Semantics> Float for IeeeFloat<S> {
 
     ghost the_zero = { zero_datum };
 
-    ghost the_smallest = { smallest_datum };
-
     ghost the_infinity = { infinity_datum (format_of S.Semantics) };
-
-    ghost the_largest = { largest_datum (format_of S.Semantics) };
-
-    ghost the_smallest_normalized = { smallest_normalized_datum (format_of S.Semantics) };
 
     ghost quiet_nan_of = { qnan (format_of S.Semantics) };
 
     ghost signaling_nan_of = { snan (format_of S.Semantics) };
 
+    ghost the_largest = { largest_datum (format_of S.Semantics) };
+
+    ghost the_smallest = { smallest_datum };
+
+    ghost the_smallest_normalized = { smallest_normalized_datum (format_of S.Semantics) };
+
     ghost adds = { λ x y mode answer. Gives (IsSum (format_of S.Semantics) mode x y) answer };
 
     ghost subtracts = { λ x y mode answer. Gives (IsDifference (format_of S.Semantics) mode x y)
         answer };
-
-    ghost negated = { negated (format_of S.Semantics).nonfinite };
-
-    ghost category_of = { category_of };
-
-    ghost sign_of = { is_negative };
-
-    ghost signals = { is_signaling_nan (format_of S.Semantics) };
-
-    ghost denormal = { is_denormal (format_of S.Semantics) };
 
     ghost multiplies = { λ x y mode answer. Gives (IsProduct (format_of S.Semantics) mode x y)
         answer };
@@ -113,54 +103,64 @@ impl<S: Semantics> Float for IeeeFloat<S> {
     ghost divides = { λ x y mode answer. Gives (IsQuotient (format_of S.Semantics) mode x y)
         answer };
 
-    ghost inverts = { IsExactInverse (format_of S.Semantics) };
+    ghost leaves_nearest = { λ x y answer. Gives (IsNearestRemainder (format_of S.Semantics) x y)
+        answer };
 
     ghost leaves = { λ x y answer. Gives (IsTruncatedRemainder (format_of S.Semantics) x y)
         answer };
 
-    ghost leaves_nearest = { λ x y answer. Gives (IsNearestRemainder (format_of S.Semantics) x y)
-        answer };
-
-    ghost same = { same_datum };
-
-    ghost can_compare_magnitudes = { AreNumbers };
-
-    ghost magnitude_order = { compared_magnitudes };
-
-    ghost value_of_bits = { datum_of (format_of S.Semantics) (layout_of S.Semantics) };
-
-    ghost writes_bits = { λ x bits. IsEncodedBy (format_of S.Semantics) (layout_of S.Semantics)
-        bits x };
-
-    ghost converts_unsigned = { λ number mode answer. Gives
-        (IsFromUnsigned (format_of S.Semantics) mode number) answer };
-
-    ghost converts_signed = { λ number mode answer. Gives
-        (IsFromSigned (format_of S.Semantics) mode number) answer };
-
     ghost rounds_to_integral = { λ x mode answer. Gives
         (IsRoundToIntegral (format_of S.Semantics) mode x) answer };
-
-    ghost is_whole = { is_integer (format_of S.Semantics) };
-
-    ghost converts_to_unsigned = { λ x width mode answer exact. IsToUnsigned
-        (format_of S.Semantics) mode width x answer.value (bits_of answer.status) exact };
-
-    ghost converts_to_signed = { λ x width mode answer exact. IsToSigned (format_of S.Semantics)
-        mode width x answer.value (bits_of answer.status) exact };
 
     ghost steps_up = { λ x answer. Gives (IsNextUp (format_of S.Semantics) x) answer };
 
     ghost steps_down = { λ x answer. Gives (IsNextDown (format_of S.Semantics) x) answer };
 
-    ghost scales = { λ x places mode value. IsScaling (format_of S.Semantics) mode x places value };
+    ghost negated = { negated (format_of S.Semantics).nonfinite };
+
+    ghost value_of_bits = { datum_of (format_of S.Semantics) (layout_of S.Semantics) };
+
+    ghost converts_signed = { λ number mode answer. Gives
+        (IsFromSigned (format_of S.Semantics) mode number) answer };
+
+    ghost converts_unsigned = { λ number mode answer. Gives
+        (IsFromUnsigned (format_of S.Semantics) mode number) answer };
+
+    ghost reads = { λ text mode answer. IsRead (format_of S.Semantics) mode text answer };
+
+    ghost writes_bits = { λ x bits. IsEncodedBy (format_of S.Semantics) (layout_of S.Semantics)
+        bits x };
+
+    ghost converts_to_signed = { λ x width mode answer exact. IsToSigned (format_of S.Semantics)
+        mode width x answer.value (bits_of answer.status) exact };
+
+    ghost converts_to_unsigned = { λ x width mode answer exact. IsToUnsigned
+        (format_of S.Semantics) mode width x answer.value (bits_of answer.status) exact };
+
+    ghost can_compare_magnitudes = { AreFiniteNonZero };
+
+    ghost magnitude_order = { compared_magnitudes };
+
+    ghost same = { same_datum };
+
+    ghost sign_of = { is_negative };
+
+    ghost denormal = { is_denormal (format_of S.Semantics) };
+
+    ghost signals = { is_signaling_nan (format_of S.Semantics) };
+
+    ghost category_of = { category_of };
+
+    ghost is_whole = { is_integer (format_of S.Semantics) };
+
+    ghost inverts = { IsExactInverse (format_of S.Semantics) };
 
     ghost has_exponent = { λ x exponent. IsIlogb (format_of S.Semantics) x exponent };
 
+    ghost scales = { λ x places mode value. IsScaling (format_of S.Semantics) mode x places value };
+
     ghost has_fraction = { λ x mode value exponent. IsFrexp (format_of S.Semantics) x value
         exponent };
-
-    ghost reads = { λ text mode answer. IsRead (format_of S.Semantics) mode text answer };
 
     #[inline]
     fn zero() -> Self {

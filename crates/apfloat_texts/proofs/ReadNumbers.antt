@@ -14,7 +14,7 @@ use Rattle.apfloat_base.specs.arithmetic.Exact.{up, down}
 use Rattle.apfloat_base.specs.rounding.Standing.{StandsFor}
 use Rattle.apfloat_base.specs.rounding.Rounding.{IsDelivered, zero_sign}
 use Rattle.apfloat_base.specs.texts.Readings.{IsScaledDelivery}
-use Rattle.apfloat_base.proofs.Existence.{two_pos}
+use Rattle.apfloat_base.proofs.Powers.{two_pos}
 use Rattle.apfloat_base.proofs.Losses.{stands_from, stands_to}
 use Rattle.apfloat_base.proofs.KeptDigits.{stands_times}
 use Rattle.apfloat_base.proofs.FarMagnitudes.{IsFarAbove, IsFarBelow, far_above, far_below}

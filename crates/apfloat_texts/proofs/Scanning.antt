@@ -1,33 +1,11 @@
 -- A significand is read to its end.
 use Rattle.std.proofs.Common.{◌≡◌, ℕ, ◌+◌, ◌-◌, ◌<◌, ◌≤◌, Bool, true, false, not, ◌&&◌, if◌then◌else◌, refl, sym, ap, ◌∙◌, subst, arith, List, [], ◌∷◌, length, take, drop, get_or, ltb}
-use Rattle.std.proofs.lemmas.List.{take_all}
 use Rattle.std.specs.Prelude.{Result, Ok, Err, IsErrAnd, MatchResult}
 use Rattle.apfloat_base.specs.declared.sig.loss.Loss.{Loss}
 use Rattle.apfloat_base.specs.texts.Digits.{begins}
 use Rattle.apfloat_base.specs.texts.Faults.{is_digit_or_dot, significand_of, behind_significand}
 use Rattle.apfloat_texts.specs.declared.significand.Scan.{Scan}
 use Rattle.apfloat_texts.specs.Scans.{IsKept, IsScan, IsScanned}
-
--- ---- lists
-
--- a list with a first item, as a pattern takes it apart
-pub parted : (P : List ℕ → Type 0) (xs : List ℕ) → 1 ≤ length xs → P xs
-    → P (get_or xs 0 0 ∷ take (length xs - 1) (drop 1 xs))
-parted P [] h p = absurd (omega (arith, h))
-parted P (x ∷ xs) h p =
-    let e : length (x ∷ xs) - 1 ≡ length xs = omega arith in
-    let t : take (length (x ∷ xs) - 1) xs ≡ xs = ap (λ (n : ℕ). take n xs) e ∙
-    take_all (length xs) xs (omega arith) in
-    subst (λ (l : List ℕ). P (x ∷ l)) (sym t) p
-
-pub begins_empty : (test : ℕ → Bool) (xs : List ℕ) → length xs < 1 → begins test xs ≡ false
-begins_empty test [] h = refl
-begins_empty test (x ∷ xs) h = absurd (omega (arith, h))
-
-pub begins_first : (test : ℕ → Bool) (xs : List ℕ) → 1 ≤ length xs → test (get_or xs 0 0) ≡ false
-    → begins test xs ≡ false
-begins_first test [] h e = refl
-begins_first test (x ∷ xs) h e = e
 
 -- ---- results
 

@@ -9,7 +9,7 @@ use Rattle.apfloat_base.specs.declared.kinds.Category.TheVariants.{Normal}
 use Rattle.apfloat_base.specs.declared.kinds.Round.{Round}
 use Rattle.apfloat_base.specs.formats.Format.{Format, largest}
 use Rattle.apfloat_base.specs.formats.Datum.{Datum, finite, infinite, nan}
-use Rattle.apfloat_base.specs.order.Classes.{category_of, is_finite_non_zero, is_number_category}
+use Rattle.apfloat_base.specs.order.Classes.{category_of, is_finite_non_zero, is_finite_non_zero_category}
 use Rattle.apfloat_base.proofs.PredicatesAgree.{number_agrees}
 use Rattle.apfloat_base.specs.arithmetic.Exact.{up, down}
 use Rattle.apfloat_base.specs.arithmetic.Exponents.{IsFraction, IsFrexp}
@@ -115,6 +115,6 @@ fraction_by_parts mode x high low exponent turned normal h e s =
       high_is = h;
       low_is =
           match_true (is_finite_non_zero x.high) (IsScaling double mode x.low (neg_ℤ exponent) low) (low ≡ x.low)
-          (sym (number_agrees x.high) ∙ ap is_number_category normal)
+          (sym (number_agrees x.high) ∙ ap is_finite_non_zero_category normal)
           (subst (λ (i : ℤ). IsScaling double mode x.low i low) e s);
     }

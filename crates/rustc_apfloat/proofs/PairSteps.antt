@@ -4,7 +4,7 @@ use mathlib.Core.Bool.{beq}
 use Rattle.apfloat_base.specs.declared.kinds.Category.{Category}
 use Rattle.apfloat_base.specs.declared.kinds.Round.{Round}
 use Rattle.apfloat_base.specs.formats.Datum.{Datum}
-use Rattle.apfloat_base.specs.order.Classes.{category_of, is_finite, is_finite_non_zero, is_negative, is_number_category, is_denormal}
+use Rattle.apfloat_base.specs.order.Classes.{category_of, is_finite, is_finite_non_zero, is_negative, is_finite_non_zero_category, is_denormal}
 use Rattle.apfloat_base.specs.arithmetic.Exact.{same_sign}
 use Rattle.apfloat_base.specs.formats.Nan.{invalid_bit}
 use Rattle.apfloat_base.specs.rounding.Rounding.{ok_bits}
@@ -31,7 +31,7 @@ use Rattle.apfloat_pairs.proofs.PairProductLaws.{error_free_product, accurate_pr
 pub product_by_steps : (mode : Round) (x y : Pair) (a c t tau : Datum) (t_flags tau_flags flags : ℕ)
     (is_number : Bool)
     (answer : Pair) (status : ℕ) → a ≡ x.high → c ≡ y.high → IsProduct double mode a c t t_flags
-    → is_number ≡ is_number_category (category_of t) → is_number ≡ true
+    → is_number ≡ is_finite_non_zero_category (category_of t) → is_number ≡ true
     → IsLostOfProduct mode x.high x.low y.high y.low t tau tau_flags → flags ≡ t_flags ∪ tau_flags
     → IsClosed mode t tau flags answer status → IsProductOfNumbers mode x y answer status
 product_by_steps mode x y a c t tau t_flags tau_flags flags is_number answer status i j product e some lost joined
@@ -56,7 +56,7 @@ product_by_steps mode x y a c t tau t_flags tau_flags flags is_number answer sta
 
 -- whether a pair is denormal, by the sum of its parts
 pub denormal_at_sum : (x : Pair) (sum : Datum) (status : ℕ) (is_number is_denormal_high answer : Bool)
-    → is_number ≡ is_number_category (category_of x.high) → is_number ≡ true
+    → is_number ≡ is_finite_non_zero_category (category_of x.high) → is_number ≡ true
     → is_denormal_high ≡ is_denormal double x.high → is_denormal_high ≡ false
     → IsSum double NearestTiesToEven x.high x.low sum status → answer ≡ not (is_equal x.high sum)
     → answer ≡ is_denormal_pair x
@@ -214,7 +214,7 @@ answered P value answer flags status e s p =
 
 -- a pair of numbers in the wide format
 pub joined_by_sum : (x : Pair) (high low answer : Datum) (status : ℕ) (is_number : Bool)
-    → is_number ≡ is_number_category (category_of x.high) → is_number ≡ true → IsWidened x.high high
+    → is_number ≡ is_finite_non_zero_category (category_of x.high) → is_number ≡ true → IsWidened x.high high
     → IsWidened x.low low → IsSum wide NearestTiesToEven high low answer status → IsJoined x answer
 joined_by_sum x high low answer status is_number n e h l s =
     match_true (is_finite_non_zero x.high) (IsSumOfParts x answer) (IsWidened x.high answer)
@@ -222,7 +222,7 @@ joined_by_sum x high low answer status is_number n e h l s =
     (record { high = high; low = low; status = status; high_is = h; low_is = l; is_sum = s })
 
 -- and another pair, by its high part
-pub joined_alone : (x : Pair) (high : Datum) (is_number : Bool) → is_number ≡ is_number_category (category_of x.high)
+pub joined_alone : (x : Pair) (high : Datum) (is_number : Bool) → is_number ≡ is_finite_non_zero_category (category_of x.high)
     → is_number ≡ false → IsWidened x.high high → IsJoined x high
 joined_alone x high is_number n e h =
     match_false (is_finite_non_zero x.high) (IsSumOfParts x high) (IsWidened x.high high)

@@ -70,12 +70,12 @@ category_of (finite b n) = if eqb n 0 then Zero else Normal
 category_of (infinite b) = Infinity
 category_of (nan b s) = NaN
 
--- finite and nonzero
-abbrev pub is_number_category : Category → Bool
-is_number_category Normal = true
-is_number_category Zero = false
-is_number_category Infinity = false
-is_number_category NaN = false
+-- finite and not zero
+abbrev pub is_finite_non_zero_category : Category → Bool
+is_finite_non_zero_category Normal = true
+is_finite_non_zero_category Zero = false
+is_finite_non_zero_category Infinity = false
+is_finite_non_zero_category NaN = false
 
 abbrev pub is_nan_category : Category → Bool
 is_nan_category Infinity = false

@@ -73,78 +73,78 @@ impl Float for DoubleFloat {
 
     ghost the_zero = { pair_zero };
 
-    ghost the_smallest = { pair_smallest };
-
     ghost the_infinity = { pair_infinity };
-
-    ghost the_largest = { pair_largest };
-
-    ghost the_smallest_normalized = { pair_smallest_normalized };
 
     ghost quiet_nan_of = { pair_qnan };
 
     ghost signaling_nan_of = { pair_snan };
 
+    ghost the_largest = { pair_largest };
+
+    ghost the_smallest = { pair_smallest };
+
+    ghost the_smallest_normalized = { pair_smallest_normalized };
+
     ghost adds = { λ x y round answer. Gives (IsPairSum round x y) answer };
 
     ghost subtracts = { λ x y round answer. Gives (IsPairDifference round x y) answer };
-
-    ghost negated = { negated_pair };
-
-    ghost category_of = { pair_category };
-
-    ghost sign_of = { is_negative_pair };
-
-    ghost signals = { is_signaling_pair };
-
-    ghost denormal = { is_denormal_pair };
 
     ghost multiplies = { λ x y round answer. Gives (IsPairProduct round x y) answer };
 
     ghost divides = { λ x y round answer. Gives (IsPairQuotient round x y) answer };
 
-    ghost inverts = { IsPairExactInverse };
+    ghost leaves_nearest = { λ x y answer. Gives (IsPairNearestRemainder x y) answer };
 
     ghost leaves = { λ x y answer. Gives (IsPairTruncatedRemainder x y) answer };
 
-    ghost leaves_nearest = { λ x y answer. Gives (IsPairNearestRemainder x y) answer };
-
-    ghost same = { same_pair };
-
-    ghost magnitude_order = { compared_pair_magnitudes };
-
-    ghost can_compare_magnitudes = { CanComparePairMagnitudes };
-
-    ghost value_of_bits = { pair_of };
-
-    ghost writes_bits = { λ x bits. IsPairEncodedBy bits x };
-
-    ghost converts_unsigned = { λ number round answer. Gives (IsPairFromUnsigned round number)
-        answer };
-
-    ghost converts_signed = { λ number round answer. Gives (IsPairFromSigned round number) answer };
-
     ghost rounds_to_integral = { λ x round answer. Gives (IsPairRoundToIntegral round x) answer };
-
-    ghost is_whole = { is_integer_pair };
-
-    ghost converts_to_unsigned = { λ x width round answer exact.
-        IsPairToUnsigned round width x answer.value (bits_of answer.status) exact };
-
-    ghost converts_to_signed = { λ x width round answer exact. IsPairToSigned round width x
-        answer.value (bits_of answer.status) exact };
 
     ghost steps_up = { λ x answer. Gives (IsPairNextUp x) answer };
 
     ghost steps_down = { λ x answer. Gives (IsPairNextDown x) answer };
 
-    ghost scales = { λ x power round answer. IsPairScaling round x power answer };
+    ghost negated = { negated_pair };
+
+    ghost value_of_bits = { pair_of };
+
+    ghost converts_signed = { λ number round answer. Gives (IsPairFromSigned round number) answer };
+
+    ghost converts_unsigned = { λ number round answer. Gives (IsPairFromUnsigned round number)
+        answer };
+
+    ghost reads = { λ text round answer. IsPairRead round text answer };
+
+    ghost writes_bits = { λ x bits. IsPairEncodedBy bits x };
+
+    ghost converts_to_signed = { λ x width round answer exact. IsPairToSigned round width x
+        answer.value (bits_of answer.status) exact };
+
+    ghost converts_to_unsigned = { λ x width round answer exact.
+        IsPairToUnsigned round width x answer.value (bits_of answer.status) exact };
+
+    ghost can_compare_magnitudes = { CanComparePairMagnitudes };
+
+    ghost magnitude_order = { compared_pair_magnitudes };
+
+    ghost same = { same_pair };
+
+    ghost sign_of = { is_negative_pair };
+
+    ghost denormal = { is_denormal_pair };
+
+    ghost signals = { is_signaling_pair };
+
+    ghost category_of = { pair_category };
+
+    ghost is_whole = { is_integer_pair };
+
+    ghost inverts = { IsPairExactInverse };
 
     ghost has_exponent = { IsPairIlogb };
 
-    ghost has_fraction = { λ x round answer exponent. IsPairFraction round x answer exponent };
+    ghost scales = { λ x places round value. IsPairScaling round x places value };
 
-    ghost reads = { λ text round answer. IsPairRead round text answer };
+    ghost has_fraction = { λ x round value exponent. IsPairFraction round x value exponent };
 
     #[inline]
     fn zero() -> Self {

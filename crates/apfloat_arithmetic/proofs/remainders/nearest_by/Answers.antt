@@ -1,7 +1,7 @@
 use Rattle.std.proofs.Common.{◌≡◌, ℕ, eqb, ◌-◌, ◌*◌, ◌/◌, ◌%◌, ◌^◌, ◌<◌, ◌≤◌, sym, ap, ◌∙◌, subst, arith}
 use Rattle.std.proofs.Math.Nat.{mod-lt, pow-le-pow_right}
 use Rattle.std.proofs.lemmas.Nat.{pow_pos}
-use Rattle.apfloat_base.proofs.Existence.{two_pos}
+use Rattle.apfloat_base.proofs.Powers.{two_pos}
 use Rattle.apfloat_base.proofs.Scaled.{less_scaled}
 use Rattle.apfloat_arithmetic.proofs.NearestMultiples.{upper, upper_level, lower_near, far_below, one_below, digits_less}
 use Rattle.apfloat_arithmetic.proofs.WholeQuotients.{divisor_pos}

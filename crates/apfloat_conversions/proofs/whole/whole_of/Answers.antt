@@ -2,7 +2,7 @@ use Rattle.std.proofs.Common.{◌≡◌, ◌-◌, ◌*◌, ◌^◌, ◌≤◌, s
 use Rattle.std.proofs.Math.Nat.{pow-le-pow_right}
 use Rattle.std.proofs.lemmas.Int.{ints, to_z-of_z}
 use Rattle.std.proofs.lemmas.Nat.{pow_pos}
-use Rattle.apfloat_base.proofs.Existence.{two_pos}
+use Rattle.apfloat_base.proofs.Powers.{two_pos}
 use Rattle.apfloat_unpacked.specs.Shapes.{format_at}
 use Rattle.apfloat_unpacked.specs.Stored.{quanta_at}
 use Rattle.apfloat_unpacked.proofs.ShapeExponents.{exponent_word, scale_is}

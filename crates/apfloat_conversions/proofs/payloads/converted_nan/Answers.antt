@@ -1,6 +1,6 @@
 use Rattle.apfloat_conversions.proofs.ConvertedValues.{nan_fits}
 use Rattle.std.proofs.Common.{refl}
-use Rattle.apfloat_conversions.proofs.nans.converted_nan.Goals as goal
+use Rattle.apfloat_conversions.proofs.payloads.converted_nan.Goals as goal
 
 pub carried_payload-payload-requires-clause-fits :
     goal.carried_payload-payload-requires-clause-fits
