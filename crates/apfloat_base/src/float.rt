@@ -98,20 +98,20 @@ pub trait Float: Copy
 
     ghost divides: { Self → Self → Round → StatusAnd Self → Type 0 };
 
-    // Remainders: by the quotient rounded to the nearest integer, and by the quotient cut toward zero.
+    // Remainders: by the whole number nearest to the quotient, and by the quotient cut toward zero.
     ghost leaves_nearest: { Self → Self → StatusAnd Self → Type 0 };
 
     ghost leaves: { Self → Self → StatusAnd Self → Type 0 };
 
-    // A value rounded to an integer.
+    // Rounding to a whole number.
     ghost rounds_to_integral: { Self → Round → StatusAnd Self → Type 0 };
 
-    // The neighbours above and below.
+    // The next values above and below.
     ghost steps_up: { Self → StatusAnd Self → Type 0 };
 
     ghost steps_down: { Self → StatusAnd Self → Type 0 };
 
-    // The value with the other sign.
+    // The negated value.
     ghost negated: { Self → Self };
 
     // Values from bits, from signed and unsigned integers, and from texts.
@@ -137,7 +137,7 @@ pub trait Float: Copy
 
     ghost same: { Self → Self → Bool };
 
-    // What a value is.
+    // What a value is: its sign, whether it is denormal or signaling, its category, whether it is whole.
     ghost sign_of: { Self → Bool };
 
     ghost denormal: { Self → Bool };
@@ -632,7 +632,7 @@ pub trait Float: Copy
 
     ghost neg_law: { (x r : Self) → Self.neg_gives x r → r ≡ negated x };
 
-    // The other operators are the calls, rounded to the nearest value, a tie to the even one; a remainder is exact.
+    // The binary operators are the calls, rounded to nearest, ties to even; a remainder is exact.
 
     ghost can_add_law: { (x y : Self) → Self.can_add x y };
 

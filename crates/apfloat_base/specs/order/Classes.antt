@@ -70,7 +70,7 @@ category_of (finite b n) = if eqb n 0 then Zero else Normal
 category_of (infinite b) = Infinity
 category_of (nan b s) = NaN
 
--- finite and not zero
+-- finite and nonzero
 abbrev pub is_finite_non_zero_category : Category → Bool
 is_finite_non_zero_category Normal = true
 is_finite_non_zero_category Zero = false

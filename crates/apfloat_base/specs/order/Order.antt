@@ -39,7 +39,7 @@ AtMost (infinite b) (infinite c) = (b ≡ true) ⊎ (c ≡ false)
 AtMost (nan b s) y = ⊥
 AtMost x (nan c t) = ⊥
 
--- both are finite and not zero
+-- both are finite and nonzero
 pub record AreFiniteNonZero (x y : Datum) : Type 0 where
   pub left : category_of x ≡ Normal
   pub right : category_of y ≡ Normal
