@@ -1,17 +1,18 @@
 /* Correctly rounded software floating point: the library libapfloat_c.a, C99.
  *
- * Every function takes values by their bits, with a code for the format and one for the rounding mode, and writes what it
- * answers through a pointer. It returns APFLOAT_ANSWERED, or else the code of the first error, in the order in which
- * these codes are listed; on an error *answer is left as it was.
+ * Every function takes values as their bits, with a code for the format and one for the rounding mode, and writes its
+ * result through a pointer. It returns APFLOAT_ANSWERED, or the code of the first error, in the order in which these
+ * codes are listed; on an error, *answer is unchanged.
  *
- * The library takes no memory, keeps nothing between calls, and calls no other function. So its functions may be called
- * from any thread, and from a signal handler. They are defined for every value of every argument in memory: no code, no
- * bits, no width and no text is undefined behaviour. What C has to keep is that `answer` points to one apfloat_answer,
- * aligned as such, that nothing else reads or writes during the call, and `text` to `length` bytes of one object, which
- * nothing writes; they do not overlap. Neither may be null, `text` not even where `length` is 0. An operand may be the
- * `bits` of the same answer, since it is passed by value.
+ * The library never allocates, keeps no state between calls, and calls no other functions. So its functions may be
+ * called from any thread, and from a signal handler. They are defined for every value of every argument: no code, bit
+ * pattern, width or text causes undefined behaviour. The caller must ensure that `answer` points to one apfloat_answer,
+ * suitably aligned, which nothing else reads or writes during the call; that `text` points to `length` bytes of one
+ * object, which nothing writes during the call; and that the two do not overlap. Pointers are not checked, and neither
+ * may be null, `text` not even if `length` is 0. An operand may be the `bits` of the same answer, since it is passed by
+ * value.
  *
- * What each function answers is stated by the contract of its export in crates/apfloat_c, and proved. */
+ * The result of each function is stated by the contract of its export in crates/apfloat_c, and proved. */
 #ifndef APFLOAT_H
 #define APFLOAT_H
 
@@ -22,21 +23,21 @@
 extern "C" {
 #endif
 
-/* A number of 128 bits as two of 64: the bits of a value, or a whole number.
+/* 128 bits as two 64-bit words: the bits of a value, or a whole number.
  *
- * A value of fewer bits stands in the lowest ones. Bits at and above the width of its format are not looked at, and are 0
- * in an answer. Pairs of doubles have the high double in `low` and the low one in `high`. A whole number with a sign is in
- * two's complement of 128 bits. */
+ * A value of fewer bits is in the lowest ones. Bits at and above the width of its format are ignored, and are 0 in an
+ * answer. Pairs of doubles have the high double in `low` and the low one in `high`. A signed whole number is in 128-bit
+ * two's complement. */
 typedef struct apfloat_halves {
     uint64_t low;
     uint64_t high;
 } apfloat_halves;
 
-/* What a call answers. What a call does not have is 0. */
+/* The result of a call. Fields that a call does not use are 0. */
 typedef struct apfloat_answer {
     apfloat_halves bits; /* the bits of a value, or a whole number */
-    uint32_t status;     /* the flags that the operation raised, as a sum */
-    int32_t number;      /* what else the call answers */
+    uint32_t status;     /* the sum of the flags that the operation raised */
+    int32_t number;      /* an extra result; see the functions that set it */
 } apfloat_answer;
 
 /* Formats. */
@@ -52,11 +53,11 @@ typedef struct apfloat_answer {
 #define APFLOAT_DOUBLE_PAIR UINT32_C(10) /* pairs of doubles, IBM's extended double */
 
 /* Rounding modes (IEEE 754-2008 4.3). */
-#define APFLOAT_NEAREST_EVEN UINT32_C(0) /* to the nearest value, a tie to the even one */
+#define APFLOAT_NEAREST_EVEN UINT32_C(0) /* to the nearest value, ties to even */
 #define APFLOAT_UPWARD UINT32_C(1)       /* toward positive */
 #define APFLOAT_DOWNWARD UINT32_C(2)     /* toward negative */
 #define APFLOAT_TOWARD_ZERO UINT32_C(3)
-#define APFLOAT_NEAREST_AWAY UINT32_C(4) /* to the nearest value, a tie away from zero */
+#define APFLOAT_NEAREST_AWAY UINT32_C(4) /* to the nearest value, ties away from zero */
 
 /* Flags (IEEE 754-2008 7). */
 #define APFLOAT_INVALID_OP UINT32_C(0x01)
@@ -67,13 +68,13 @@ typedef struct apfloat_answer {
 
 /* What a function returns. */
 #define APFLOAT_ANSWERED UINT32_C(0)
-#define APFLOAT_UNKNOWN_FORMAT UINT32_C(1)    /* of an operand, or, after the mode, of a conversion's target */
+#define APFLOAT_UNKNOWN_FORMAT UINT32_C(1)    /* of the operands, or, after the mode, of a conversion's target */
 #define APFLOAT_UNKNOWN_MODE UINT32_C(2)
 #define APFLOAT_NO_SUCH_OPERATION UINT32_C(3) /* the format does not have the operation */
 #define APFLOAT_WRONG_WIDTH UINT32_C(4)       /* of a whole number */
-#define APFLOAT_REFUSED_TEXT UINT32_C(5)      /* the text means nothing */
+#define APFLOAT_REFUSED_TEXT UINT32_C(5)      /* the text has no meaning */
 
-/* Of two values, rounded once: x + y, x - y, x * y, x / y. APFLOAT_QUAD has no product. */
+/* Operations on two values, rounded once: x + y, x - y, x * y, x / y. APFLOAT_QUAD has no product. */
 uint32_t apfloat_add(uint32_t format, uint32_t mode, apfloat_halves x, apfloat_halves y, apfloat_answer *answer);
 uint32_t apfloat_sub(uint32_t format, uint32_t mode, apfloat_halves x, apfloat_halves y, apfloat_answer *answer);
 uint32_t apfloat_mul(uint32_t format, uint32_t mode, apfloat_halves x, apfloat_halves y, apfloat_answer *answer);
@@ -83,44 +84,44 @@ uint32_t apfloat_div(uint32_t format, uint32_t mode, apfloat_halves x, apfloat_h
 uint32_t apfloat_fma(uint32_t format, uint32_t mode, apfloat_halves x, apfloat_halves y, apfloat_halves z,
                      apfloat_answer *answer);
 
-/* What x leaves of whole multiples of y: by the nearest quotient, as remainder() of C, and by the quotient cut toward
- * zero, as fmod(). */
+/* The remainder of x by y: by the whole number nearest to the quotient, like remainder() in C, and by the quotient cut
+ * toward zero, like fmod(). */
 uint32_t apfloat_rem(uint32_t format, apfloat_halves x, apfloat_halves y, apfloat_answer *answer);
 uint32_t apfloat_mod(uint32_t format, apfloat_halves x, apfloat_halves y, apfloat_answer *answer);
 
-/* The value of `format` in the format `to`, rounded once; `number` is 1 where information was lost, else 0. There is
- * none from or to APFLOAT_DOUBLE_PAIR. */
+/* The value of `format` in the format `to`, rounded once; `number` is 1 if information was lost, else 0. There is no
+ * conversion from or to APFLOAT_DOUBLE_PAIR. */
 uint32_t apfloat_convert(uint32_t format, uint32_t mode, uint32_t to, apfloat_halves x, apfloat_answer *answer);
 
 /* A whole number as a value, rounded once. */
 uint32_t apfloat_from_u128(uint32_t format, uint32_t mode, apfloat_halves number, apfloat_answer *answer);
 uint32_t apfloat_from_i128(uint32_t format, uint32_t mode, apfloat_halves number, apfloat_answer *answer);
 
-/* A value as a whole number of `width` binary digits: 1 to 128 without a sign, 2 to 128 with one. `bits` is the number, and
- * `number` is 1 where it is the value, else 0. One out of range gives the end of the range, and a NaN 0, both with
- * APFLOAT_INVALID_OP. */
+/* A value rounded to a whole number of `width` binary digits: 1 to 128 if unsigned, 2 to 128 if signed. `bits` is the
+ * whole number, and `number` is 1 if that equals the value, else 0. A value out of range gives the nearer end of the
+ * range, and a NaN gives 0, both with APFLOAT_INVALID_OP. */
 uint32_t apfloat_to_u128(uint32_t format, uint32_t mode, apfloat_halves x, uint32_t width, apfloat_answer *answer);
 uint32_t apfloat_to_i128(uint32_t format, uint32_t mode, apfloat_halves x, uint32_t width, apfloat_answer *answer);
 
-/* The whole number beside a value, as a value. */
+/* A value rounded to a whole number, as a value. */
 uint32_t apfloat_round_to_integral(uint32_t format, uint32_t mode, apfloat_halves x, apfloat_answer *answer);
 
-/* x times 2 to the power of `power`, rounded once; it tells no flags. */
+/* x times 2 to the power of `power`, rounded once; no flags are reported. */
 uint32_t apfloat_scalbn(uint32_t format, uint32_t mode, apfloat_halves x, int32_t power, apfloat_answer *answer);
 
-/* `number` is the exponent of the highest binary digit; INT32_MAX for an infinity, INT32_MIN for a NaN and -INT32_MAX for
- * a zero. */
+/* `number` is the exponent of the highest binary digit; INT32_MAX for an infinity, INT32_MIN for a NaN and -INT32_MAX
+ * for a zero. */
 uint32_t apfloat_ilogb(uint32_t format, apfloat_halves x, apfloat_answer *answer);
 
-/* The fraction of magnitude from 0.5 to below 1, and in `number` its exponent: 0 for a zero, INT32_MAX for an infinity,
- * INT32_MIN for a NaN. Only pairs of doubles use the mode, for their low part. */
+/* The fraction, with magnitude from 0.5 to below 1, and its exponent in `number`: 0 for a zero, INT32_MAX for an
+ * infinity, INT32_MIN for a NaN. Only pairs of doubles use the mode, for their low part. */
 uint32_t apfloat_frexp(uint32_t format, uint32_t mode, apfloat_halves x, apfloat_answer *answer);
 
-/* The least value above, and the greatest one below. */
+/* The least value above x, and the greatest value below it. */
 uint32_t apfloat_next_up(uint32_t format, apfloat_halves x, apfloat_answer *answer);
 uint32_t apfloat_next_down(uint32_t format, apfloat_halves x, apfloat_answer *answer);
 
-/* `number` is one of these. No flag is raised, by a signaling NaN neither. */
+/* `number` is one of these. No flag is raised, not even by a signaling NaN. */
 #define APFLOAT_LESS (-1)
 #define APFLOAT_EQUAL 0
 #define APFLOAT_GREATER 1
@@ -140,8 +141,8 @@ uint32_t apfloat_compare(uint32_t format, apfloat_halves x, apfloat_halves y, ap
 #define APFLOAT_POSITIVE_INFINITY 9
 uint32_t apfloat_classify(uint32_t format, apfloat_halves x, apfloat_answer *answer);
 
-/* The value of a text of `length` bytes, rounded once: a hexadecimal number as -0x1.8p-1, an infinity or a NaN. Decimal
- * numbers, texts without a meaning, and texts with a byte above 127 are refused. */
+/* The value of a text of `length` bytes, rounded once: a hexadecimal number such as -0x1.8p-1, an infinity or a NaN.
+ * Decimal numbers, texts without a meaning, and texts with a byte above 127 are refused. */
 uint32_t apfloat_parse(uint32_t format, uint32_t mode, const uint8_t *text, size_t length, apfloat_answer *answer);
 
 #ifdef __cplusplus

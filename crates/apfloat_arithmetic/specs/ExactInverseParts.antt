@@ -1,8 +1,8 @@
--- Numbers with an exact inverse, by what is stored of them.
+-- Numbers with an exact inverse, in terms of their stored parts.
 use Rattle.std.specs.Prelude.{◌≡◌, ℕ, ◌-◌, ◌^◌, ℤ, neg_ℤ, ◌≤ℤ◌}
 use Rattle.apfloat_unpacked.specs.declared.shape.Shape.{Shape}
 
--- 2 ^ exponent, where neither it nor 2 ^ -exponent is denormal or too large
+-- 2 ^ exponent, if neither it nor 2 ^ -exponent is denormal or too large
 pub record IsInvertible (s : Shape) (significand : ℕ) (exponent : ℤ) : Type 0 where
   pub power : significand ≡ 2 ^ (s.precision - 1)
   pub normal : s.min_exp ≤ℤ exponent

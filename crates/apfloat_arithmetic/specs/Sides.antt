@@ -1,8 +1,8 @@
--- Where a datum stands: below the numbers, among the negative ones, at zero, among the positive ones, above them.
+-- The position of a datum: below the numbers, among the negative ones, at zero, among the positive ones, above them.
 use Rattle.std.specs.Prelude.{ℕ, zero, suc, Bool, if◌then◌else◌}
 use Rattle.apfloat_base.specs.formats.Datum.{Datum, finite, infinite, nan}
 
--- of a number that is not zero
+-- for a nonzero number
 abbrev pub number_side : Bool → ℕ
 number_side negative = if negative then 1 else 3
 

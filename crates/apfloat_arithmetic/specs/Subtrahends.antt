@@ -1,4 +1,4 @@
--- What is added where a value is subtracted.
+-- What is added when a value is subtracted.
 use Rattle.std.specs.Prelude.{not}
 use Rattle.apfloat_base.specs.declared.kinds.NonfiniteBehavior.{NonfiniteBehavior}
 use Rattle.apfloat_base.specs.formats.Datum.{Datum, finite, infinite, nan}

@@ -20,8 +20,8 @@ fn is_below_normal(shape: Shape, x: Unpacked) -> bool
     x.exponent < shape.min_exp
 }
 
-/// Whether both values are finite and not zero: told by one test without a branch between, since a branch on a category
-/// joins the branches that follow on it, and becomes a jump that the processor foretells badly.
+/// Whether both values are finite and nonzero. One test without a branch in between decides this: a branch on a
+/// category would be merged with the branches that follow it into a jump that the processor predicts badly.
 #[inline(always)]
 pub(crate) fn are_normal(x: Unpacked, y: Unpacked) -> bool
     ensures yes { result ≡ true → (x.category ≡ Category.Normal) × (y.category ≡ Category.Normal) }
@@ -30,7 +30,7 @@ pub(crate) fn are_normal(x: Unpacked, y: Unpacked) -> bool
     (x.category == Category::Normal) & (y.category == Category::Normal)
 }
 
-/// Whether the value is a number, not zero, and of less magnitude than the smallest normalized one.
+/// Whether the value is a nonzero number of lesser magnitude than the smallest normalized one.
 #[inline(always)]
 pub fn is_denormal(shape: Shape, x: Unpacked) -> bool
     requires lawful { IsShape shape }

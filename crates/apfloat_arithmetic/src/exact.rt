@@ -1,4 +1,4 @@
-//! Answers that need no rounding: zeros and infinities.
+//! Results that need no rounding: zeros and infinities.
 
 ghost use Rattle.std.specs.Prelude.{◌≡◌, ℕ, ◌<◌};
 ghost use Rattle.apfloat_base.specs.declared.kinds.NonfiniteBehavior.TheVariants.{IEEE754};
@@ -13,7 +13,7 @@ use apfloat_base::{Status, StatusAnd};
 use apfloat_unpacked::shape::Shape;
 use apfloat_unpacked::unpacked::{Unpacked, infinity_of, zero_of};
 
-/// A zero that is exact, with that sign where the format has one for it.
+/// An exact zero, with that sign if the format has that zero.
 #[inline(always)]
 pub fn exact_zero(shape: Shape, negative: bool) -> StatusAnd<Unpacked>
     requires { IsShape shape }
@@ -26,7 +26,7 @@ pub fn exact_zero(shape: Shape, negative: bool) -> StatusAnd<Unpacked>
     Status::OK.and(zero_of(shape, negative))
 }
 
-/// The infinity of that sign, exact, of a format that has it.
+/// The infinity of that sign, exact, in a format that has it.
 #[inline(always)]
 pub fn exact_infinity(shape: Shape, negative: bool) -> StatusAnd<Unpacked>
     requires lawful { IsShape shape }

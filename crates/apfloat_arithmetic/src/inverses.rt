@@ -25,7 +25,7 @@ fn is_invertible(shape: Shape, x: Unpacked) -> bool
     shape.min_exp <= -x.exponent && -x.exponent <= shape.max_exp
 }
 
-/// The inverse of a power of two, where both of them are numbers of the format and not denormal.
+/// The inverse of a power of two, if the format has both and neither is denormal.
 #[inline(always)]
 pub fn exact_inverse(shape: Shape, x: Unpacked) -> Option<Unpacked>
     requires lawful { IsShape shape }

@@ -1,7 +1,8 @@
-//! Arithmetic on unpacked values of one format: sums, products, quotients, fused sums, remainders, and their order.
+//! Arithmetic on unpacked values of one format: sums, products, quotients, fused sums, remainders, and the order of
+//! values.
 //!
-//! Nothing here is generic. Each operation answers what the model says of its operands, NaNs, infinities and zeros too;
-//! `apfloat_ieee` brings the constants of a type to it.
+//! Nothing here is generic. Each operation returns what the model says for its operands, including NaNs, infinities and
+//! zeros; `apfloat_ieee` supplies the constants of a type.
 #![tactic(auto)]
 
 pub mod classes;

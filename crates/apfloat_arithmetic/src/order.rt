@@ -1,4 +1,4 @@
-//! The order of values, and their sameness.
+//! The order of values, and when two values are the same.
 
 ghost use Rattle.std.specs.Prelude.{◌≡◌};
 ghost use Rattle.std.specs.Bool.{Decides};
@@ -14,7 +14,7 @@ use apfloat_base::Category;
 use apfloat_unpacked::unpacked::Unpacked;
 use std::cmp::Ordering;
 
-/// The order of two numbers by what is stored of them: their significands have all digits, so that the exponents come
+/// The order of two numbers by their stored parts: their significands have all digits, so the exponents are compared
 /// first.
 #[inline(always)]
 fn compare_significands(x: Unpacked, y: Unpacked) -> Ordering
@@ -26,7 +26,7 @@ fn compare_significands(x: Unpacked, y: Unpacked) -> Ordering
         .then(x.significand.cmp(&y.significand))
 }
 
-/// The order of the magnitudes of two finite values that are not zero.
+/// The order of the magnitudes of two nonzero numbers.
 #[inline(always)]
 pub fn compare_magnitudes(x: Unpacked, y: Unpacked) -> Ordering
     requires left { x.category ≡ Normal }
@@ -38,6 +38,7 @@ pub fn compare_magnitudes(x: Unpacked, y: Unpacked) -> Ordering
 }
 
 #[inline(always)]
+/// Whether a value is a NaN.
 fn is_nan(x: Unpacked) -> bool
     ensures { (shape : Shape) → result ≡ is_nan (datum_at shape x) }
 {
@@ -49,7 +50,7 @@ fn is_nan(x: Unpacked) -> bool
     }
 }
 
-/// Where a value stands: below the numbers, among the negative ones, at zero, among the positive ones, above them.
+/// The position of a value: below the numbers, among the negative ones, at zero, among the positive ones, above them.
 #[inline(always)]
 fn side(x: Unpacked) -> u8
     ensures { (shape : Shape) → IsStored shape x → result ≡ side (datum_at shape x) }
@@ -62,7 +63,7 @@ fn side(x: Unpacked) -> u8
     }
 }
 
-/// The order of two values that stand on one side.
+/// The order of two values at the same position.
 #[inline(always)]
 fn compare_beside(x: Unpacked, y: Unpacked) -> Ordering
     ensures { (shape : Shape) → IsStored shape x → IsStored shape y
@@ -83,8 +84,8 @@ fn compare_beside(x: Unpacked, y: Unpacked) -> Ordering
     }
 }
 
-/// The order of two values as numbers: both zeros are equal, the infinities stand at the ends, and a NaN beside none
-/// (IEEE 754-2008 5.11).
+/// The numeric order of two values: both zeros are equal, the infinities are at the ends, and a NaN is unordered (IEEE
+/// 754-2008 5.11).
 #[inline(always)]
 pub fn compare(x: Unpacked, y: Unpacked) -> Option<Ordering>
     ensures { (shape : Shape) → IsStored shape x → IsStored shape y
@@ -96,7 +97,7 @@ pub fn compare(x: Unpacked, y: Unpacked) -> Option<Ordering>
     Some(side(x).cmp(&side(y)).then(compare_beside(x, y)))
 }
 
-/// Whether two values have one class and one sign.
+/// Whether two values have the same class and the same sign.
 #[inline(always)]
 fn same_class(x: Unpacked, y: Unpacked) -> bool
     ensures { Decides result ((x.category ≡ y.category) × (x.negative ≡ y.negative)) }
@@ -104,7 +105,7 @@ fn same_class(x: Unpacked, y: Unpacked) -> bool
     x.category == y.category && x.negative == y.negative
 }
 
-/// Whether two values have one significand and one exponent.
+/// Whether two values have the same significand and the same exponent.
 #[inline(always)]
 fn same_number(x: Unpacked, y: Unpacked) -> bool
     ensures { Decides result ((x.significand ≡ y.significand) × (x.exponent ≡ y.exponent)) }
@@ -112,7 +113,8 @@ fn same_number(x: Unpacked, y: Unpacked) -> bool
     x.significand == y.significand && x.exponent == y.exponent
 }
 
-/// Whether two values are one: of one class and sign, and with the same number or the same significand of a NaN.
+/// Whether two values are the same: of the same class and sign, and with the same number or, for NaNs, the same
+/// significand.
 #[inline(always)]
 pub fn is_same(x: Unpacked, y: Unpacked) -> bool
     ensures { (shape : Shape) → IsStored shape x → IsStored shape y

@@ -21,8 +21,7 @@ use apfloat_unpacked::rounding::deliver;
 use apfloat_unpacked::shape::Shape;
 use apfloat_unpacked::unpacked::{Unpacked, infinity_of, remade};
 
-/// The exponent of the last digit of a quotient that has so many places below the difference of the exponents of its
-/// operands' integer bits.
+/// The exponent of the last digit of a quotient with `places` digits below the difference of its operands' exponents.
 #[inline(always)]
 fn quotient_exponent(left: ExpInt, right: ExpInt, places: u32) -> ExpInt
     requires left { IsWithin number_bound left }
@@ -34,8 +33,7 @@ fn quotient_exponent(left: ExpInt, right: ExpInt, places: u32) -> ExpInt
     left - right - places as ExpInt
 }
 
-/// The quotient of two significands of so many digits with one place more, in one machine word where it fits one, and by
-/// one division where the dividend with its places does too.
+/// The quotient of two significands of `precision` digits, with one place more, by the fastest division that has room.
 #[inline(always)]
 fn quotient_of(precision: u32, dividend: u128, divisor: u128) -> Quotient
     requires some { 0 < precision }
@@ -56,9 +54,8 @@ fn quotient_of(precision: u32, dividend: u128, divisor: u128) -> Quotient
     }
 }
 
-/// The quotient of two finite numbers that are not zero, rounded once.
-///
-/// One place more than the precision is enough for all the digits of the format, whatever the significands are.
+/// The quotient of two nonzero numbers, rounded once. One place more than the precision always gives all digits of the
+/// format.
 #[inline(always)]
 fn divide_numbers(shape: Shape, x: Unpacked, y: Unpacked, round: Round) -> StatusAnd<Unpacked>
     requires lawful { IsShape shape }
@@ -81,7 +78,7 @@ fn divide_numbers(shape: Shape, x: Unpacked, y: Unpacked, round: Round) -> Statu
     )
 }
 
-/// A finite number that is not zero, divided by a zero (7.3).
+/// A nonzero number divided by a zero (7.3).
 #[inline(always)]
 fn divided_by_zero(shape: Shape, negative: bool) -> StatusAnd<Unpacked>
     requires { IsShape shape }
@@ -92,7 +89,7 @@ fn divided_by_zero(shape: Shape, negative: bool) -> StatusAnd<Unpacked>
     Status::DIV_BY_ZERO.and(infinity_of(shape, negative))
 }
 
-/// The quotient of any two values. It stands apart, as `add_any` does.
+/// The quotient of any two values. Kept out of line, like `add_any`.
 #[cold]
 #[inline(never)]
 fn divide_any(shape: Shape, x: Unpacked, y: Unpacked, round: Round) -> StatusAnd<Unpacked>

@@ -1,8 +1,8 @@
 //! Remainders: by the quotient cut toward zero, and by the whole number nearest to the quotient. Both are exact.
 //!
-//! The digits of the quotient are found from the highest on. Each turn subtracts the greatest multiple of the divisor by
-//! a power of two that is not above what is left, so there is a turn for each digit that is one. A significand stands at
-//! a place, which is counted from that of the last digit of the least number whose significand has all its digits.
+//! The digits of the quotient are found from the highest down. Each turn subtracts the greatest multiple of the divisor
+//! by a power of two that is not above the rest, so there is one turn for each digit that is 1. A significand has a
+//! place, which is counted from that of the last digit of the least number whose significand has all its digits.
 
 ghost use Rattle.std.specs.Prelude.{◌≡◌, ℕ, ◌+◌, ◌-◌, ◌*◌, ◌/◌, ◌%◌, ◌^◌, ◌<◌, ◌≤◌, ◌⊎◌, false, eqb, count_ones, cond, ℤ, pos, ◌≤ℤ◌, ◌+ℤ◌, ◌-ℤ◌};
 ghost use Rattle.apfloat_base.specs.declared.kinds.Category.{Category};
@@ -29,7 +29,7 @@ struct Point {
     place: u32,
 }
 
-/// The same number with its digits moved up, to the precision or to the least place.
+/// The same magnitude with its digits moved up, to the precision or to the least place.
 #[inline(always)]
 fn raised(precision: u32, point: Point, least: u32) -> Point
     requires precise { precision ≤ 125 }
@@ -56,7 +56,7 @@ fn raised(precision: u32, point: Point, least: u32) -> Point
     }
 }
 
-/// What is left after the greatest multiple of the divisor by a power of two that is not above the rest.
+/// The rest after subtracting the greatest multiple of the divisor by a power of two that is not above it.
 #[inline(always)]
 fn less_multiple(rest: Point, divisor: Point) -> Point
     requires narrow { rest.significand < 2 ^ 126 }
@@ -82,7 +82,7 @@ fn less_multiple(rest: Point, divisor: Point) -> Point
     }
 }
 
-/// What is left of a number, after how many subtractions, and whether the whole quotient is odd.
+/// The rest of a number, after how many subtractions, and whether the whole quotient is odd.
 #[derive(Clone, Copy, Debug)]
 struct Rest {
     point: Point,
@@ -136,7 +136,7 @@ fn rest_by(precision: u32, x: Point, y: Point) -> Rest
     }
 }
 
-/// Whether the upper neighbour is the nearest, a tie to the even one.
+/// Whether the upper neighbour is the nearest, ties to even.
 #[inline(always)]
 fn is_upper_nearest(below_by: u128, above_by: u128, odd: bool) -> bool
     ensures { result ≡ takes_above Round.NearestTiesToEven false below_by above_by odd }
@@ -144,7 +144,7 @@ fn is_upper_nearest(below_by: u128, above_by: u128, odd: bool) -> bool
     above_by < below_by || (above_by == below_by && odd)
 }
 
-/// How far a number is from the nearest multiple of a divisor, and whether that multiple is past it.
+/// How far a number is from the nearest multiple of a divisor, and whether that multiple is above it.
 #[derive(Clone, Copy, Debug)]
 struct Nearest {
     point: Point,
@@ -174,7 +174,7 @@ fn nearest_by(precision: u32, x: Point, y: Point) -> Nearest
 {
     let rest = rest_by(precision, x, y);
     let gap = y.place - rest.point.place;
-    // two places and more below the divisor is less than half of it
+    // at least two places below the divisor means less than half of it
     if gap > 1 {
         return Nearest {
             point: rest.point,
@@ -219,7 +219,7 @@ fn point_of(shape: Shape, x: Unpacked) -> Point
     }
 }
 
-/// The same number in quanta, where it is a whole number of them.
+/// The same magnitude in quanta, if it is a whole number of them.
 #[inline(always)]
 fn in_quanta(precision: u32, point: Point) -> Point
     requires some { 0 < precision }
@@ -245,7 +245,7 @@ fn in_quanta(precision: u32, point: Point) -> Point
     }
 }
 
-/// What is left of `x` by the quotient cut toward zero, in quanta.
+/// The rest of `x` after the quotient cut toward zero, in quanta.
 fn truncated_rest(shape: Shape, x: Unpacked, y: Unpacked) -> Rest
     requires lawful { IsShape shape }
     requires x { IsNormal shape x }
@@ -287,7 +287,7 @@ fn nearest_rest(shape: Shape, x: Unpacked, y: Unpacked) -> Nearest
     }
 }
 
-/// An answer, and after how many subtractions.
+/// A result, and the count of subtractions that led to it.
 #[derive(Clone, Copy, Debug)]
 pub struct Remainder {
     /// The remainder, with its status.
@@ -296,7 +296,7 @@ pub struct Remainder {
     pub steps: u32,
 }
 
-/// The remainder of numbers by the quotient cut toward zero, which is the exact answer, and after how many subtractions.
+/// The remainder of numbers by the quotient cut toward zero, which is exact, and the count of subtractions.
 fn truncated_number(shape: Shape, x: Unpacked, y: Unpacked) -> Remainder
     requires lawful { IsShape shape }
     requires x { IsNormal shape x }
@@ -320,7 +320,7 @@ fn truncated_number(shape: Shape, x: Unpacked, y: Unpacked) -> Remainder
     }
 }
 
-/// The remainder of numbers by the whole number nearest to the quotient, which is the exact answer.
+/// The remainder of numbers by the whole number nearest to the quotient, which is exact.
 fn nearest_number(shape: Shape, x: Unpacked, y: Unpacked) -> StatusAnd<Unpacked>
     requires lawful { IsShape shape }
     requires x { IsNormal shape x }
@@ -340,7 +340,7 @@ fn nearest_number(shape: Shape, x: Unpacked, y: Unpacked) -> StatusAnd<Unpacked>
     ))
 }
 
-/// The remainder of a finite operand, where it is zero or the divisor is no number other than zero.
+/// The remainder of a finite operand, if it is zero or the divisor is not a nonzero number.
 fn special_divisor(shape: Shape, x: Unpacked, y: Unpacked) -> StatusAnd<Unpacked>
     requires lawful { IsShape shape }
     requires x_stored { IsStored shape x }
@@ -360,7 +360,7 @@ fn special_divisor(shape: Shape, x: Unpacked, y: Unpacked) -> StatusAnd<Unpacked
     }
 }
 
-/// The remainder, where not both operands are numbers other than zero: the quotient does not matter.
+/// The remainder, if not both operands are nonzero numbers: the quotient does not matter.
 fn special_remainder(shape: Shape, x: Unpacked, y: Unpacked) -> StatusAnd<Unpacked>
     requires lawful { IsShape shape }
     requires x_stored { IsStored shape x }
@@ -384,9 +384,9 @@ fn special_remainder(shape: Shape, x: Unpacked, y: Unpacked) -> StatusAnd<Unpack
     }
 }
 
-/// The remainder by the quotient cut toward zero, and after how many subtractions.
+/// The remainder by the quotient cut toward zero, and the count of subtractions.
 ///
-/// NaNs, infinities and a zero divisor are answered without any.
+/// If an operand is a NaN or infinite, or the divisor is zero, nothing is subtracted.
 pub fn truncated_remainder(shape: Shape, x: Unpacked, y: Unpacked) -> Remainder
     requires lawful { IsShape shape }
     requires x { IsStored shape x }
@@ -409,7 +409,7 @@ pub fn truncated_remainder(shape: Shape, x: Unpacked, y: Unpacked) -> Remainder
     }
 }
 
-/// The remainder by the whole number nearest to the quotient, a tie to the even one (IEEE 754-2008 5.3.1).
+/// The remainder by the whole number nearest to the quotient, ties to even (IEEE 754-2008 5.3.1).
 pub fn nearest_remainder(shape: Shape, x: Unpacked, y: Unpacked) -> StatusAnd<Unpacked>
     requires lawful { IsShape shape }
     requires x { IsStored shape x }

@@ -1,4 +1,4 @@
-//! The other sign (IEEE 754-2008 5.5.1).
+//! Negation (IEEE 754-2008 5.5.1).
 
 ghost use Rattle.std.specs.Prelude.{◌≡◌, not};
 ghost use Rattle.apfloat_base.specs.rounding.Negation.{negated};
@@ -8,7 +8,7 @@ use apfloat_base::Category;
 use apfloat_unpacked::shape::Shape;
 use apfloat_unpacked::unpacked::{Unpacked, nan_of, zero_of};
 
-/// The value with the other sign; the one zero and the one NaN of a format that has no signs for them stay as they are.
+/// The negated value; a zero or a NaN is unchanged if the format has no signs for it.
 #[inline(always)]
 pub fn negated(shape: Shape, x: Unpacked) -> Unpacked
     requires { IsStored shape x }
@@ -22,7 +22,7 @@ pub fn negated(shape: Shape, x: Unpacked) -> Unpacked
     }
 }
 
-/// What is stored of the value, with the other sign.
+/// The stored form of the negated value.
 #[inline(always)]
 fn turned(x: Unpacked) -> Unpacked
     ensures { result ≡ record x { negative = not x.negative } }

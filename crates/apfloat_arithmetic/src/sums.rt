@@ -17,7 +17,7 @@ use apfloat_unpacked::rounding::deliver;
 use apfloat_unpacked::shape::{Shape, last_exponent};
 use apfloat_unpacked::unpacked::{Unpacked, remade, zero_of};
 
-/// The number, by the exponent of its last digit.
+/// The number as a term, with the exponent of its last digit.
 #[inline(always)]
 fn term_of(shape: Shape, x: Unpacked) -> Term
     requires lawful { IsShape shape }
@@ -33,7 +33,7 @@ fn term_of(shape: Shape, x: Unpacked) -> Term
     }
 }
 
-/// The sign of an exact zero that is a sum of numbers with these signs (IEEE 754-2008 6.3).
+/// The sign of an exact zero as the sum of numbers with these signs (IEEE 754-2008 6.3).
 #[inline(always)]
 pub(crate) fn sign_of_zero(round: Round, left: bool, right: bool) -> bool
     ensures { result ≡ zero_sum_sign round left right }
@@ -50,7 +50,7 @@ pub(crate) fn sign_of_zero(round: Round, left: bool, right: bool) -> bool
     }
 }
 
-/// The sign of a total; `of_zero` where it is exactly zero.
+/// The sign of a total; `of_zero` if it is exactly zero.
 #[inline(always)]
 pub(crate) fn sign_of_total(total: Total, of_zero: bool) -> bool
     ensures zero { total.significand ≡ 0 → total.loss ≡ Loss.ExactlyZero → result ≡ of_zero }
@@ -64,7 +64,7 @@ pub(crate) fn sign_of_total(total: Total, of_zero: bool) -> bool
     }
 }
 
-/// The sum of two finite numbers that are not zero.
+/// The sum of two nonzero numbers.
 #[inline(always)]
 fn add_numbers(shape: Shape, x: Unpacked, y: Unpacked, round: Round) -> StatusAnd<Unpacked>
     requires lawful { IsShape shape }
@@ -134,7 +134,7 @@ fn add_to_zero(shape: Shape, x: Unpacked, y: Unpacked, round: Round) -> StatusAn
     }
 }
 
-/// The sum of a finite number that is not zero and any value.
+/// The sum of a nonzero number and any value.
 #[inline(always)]
 fn add_to_number(shape: Shape, x: Unpacked, y: Unpacked, round: Round) -> StatusAnd<Unpacked>
     requires lawful { IsShape shape }
@@ -153,7 +153,7 @@ fn add_to_number(shape: Shape, x: Unpacked, y: Unpacked, round: Round) -> Status
     }
 }
 
-/// The sum of any two values. It stands apart, so that of a sum of two numbers nothing else is inlined.
+/// The sum of any two values. Kept out of line, so that only the finite case is inlined.
 #[cold]
 #[inline(never)]
 fn add_any(shape: Shape, x: Unpacked, y: Unpacked, round: Round) -> StatusAnd<Unpacked>
@@ -189,7 +189,7 @@ pub fn add(shape: Shape, x: Unpacked, y: Unpacked, round: Round) -> StatusAnd<Un
     }
 }
 
-/// What is added where a value is subtracted: a NaN is not negated.
+/// What is added when a value is subtracted: a NaN is not negated.
 #[inline(always)]
 fn added(shape: Shape, y: Unpacked) -> Unpacked
     requires { IsStored shape y }

@@ -1,28 +1,28 @@
--- The relations of a floating-point type to its answers: none of them holds of two answers.
+-- The relations between a floating-point type's operations and their results: each determines its result.
 use Rattle.std.specs.Prelude.{◌≡◌, ℕ, ◌<◌, ℤ, Bool, List, Option, Result, Ok, Err}
 use Rattle.apfloat_base.specs.declared.kinds.Round.{Round}
 use Rattle.apfloat_base.specs.declared.parse_error.ParseError.{ParseError}
 use Rattle.apfloat_base.specs.declared.status.StatusAnd.{StatusAnd}
 
--- one answer at most is so related
+-- at most one result satisfies the relation
 abbrev pub Determines : {A : Type 0} → (A → Type 0) → Type 0
 Determines {A} Says = (answer other : A) → Says answer → Says other → answer ≡ other
 
--- one pair of answers at most
+-- at most one pair of results satisfies the relation
 abbrev pub DeterminesBoth : {A B : Type 0} → (A → B → Type 0) → Type 0
 DeterminesBoth {A} {B} Say =
     (first other_first : A) (second other_second : B)
     → Say first second → Say other_first other_second
     → (first ≡ other_first) × (second ≡ other_second)
 
--- one value and one status, or refusals with the same words
+-- the same value and status, or refusals with the same words
 abbrev pub AreOneReading : {A : Type 0} → Result (StatusAnd A) ParseError → Result (StatusAnd A) ParseError → Type 0
 AreOneReading (Ok answer) (Ok other) = answer ≡ other
 AreOneReading (Ok answer) (Err error) = ⊥
 AreOneReading (Err error) (Ok answer) = ⊥
 AreOneReading (Err error) (Err other) = error.0.now ≡ other.0.now
 
--- each relation determines its answer, those that round under the mode
+-- each relation determines its result; those that round do so under the mode
 pub record IsDetermined {A : Type 0} (mode : Round) (PRECISION BITS : ℕ)
     (adds subtracts multiplies divides : A → A → Round → StatusAnd A → Type 0)
     (inverts : A → Option A → Type 0) (leaves leaves_nearest : A → A → StatusAnd A → Type 0)

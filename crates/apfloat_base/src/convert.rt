@@ -11,22 +11,22 @@ use crate::status::StatusAnd;
 
 /// A type whose values convert to `T`.
 ///
-/// Its ghost member says what the conversion answers, and whether information was lost.
+/// Its ghost member says what the conversion returns, and whether information was lost.
 pub trait FloatConvert<T: Float>: Float {
     ghost converts: { Self → Round → StatusAnd T → Bool → Type 0 };
 
-    /// The value in `T`, rounded once (IEEE 754-2008 5.4.2, convertFormat), and in `loses_info` whether information was
+    /// The value in `T`, rounded once (IEEE 754-2008 5.4.2, convertFormat); `loses_info` says whether information was
     /// lost.
     ///
-    /// A number loses information exactly where the status is not OK: where it is rounded, or a zero whose sign `T` does
-    /// not have. So does an infinity where `T` has none, with `INEXACT`. A NaN is made quiet, with `INVALID_OP` if it
-    /// signaled; it loses information where a bit of its payload that was set, or all of the payload, does not come
-    /// through, or the integer bit of a signaling one.
+    /// A number loses information exactly if the status is not OK: if it is rounded, or is a zero whose sign `T` does
+    /// not have. An infinity loses information if `T` has none, with `INEXACT`. A NaN is quieted, with `INVALID_OP` if
+    /// it was signaling; it loses information if a set bit of its payload or the whole payload is not carried over, or
+    /// the integer bit of a signaling one.
     fn convert_r(self, round: Round, loses_info: &mut bool) -> StatusAnd<T>
         ensures { converts self round result loses_info.new };
 
-    /// The value in `T`, rounded once to the nearest value, a tie to the even one, and in `loses_info` whether
-    /// information was lost.
+    /// The value in `T`, rounded once to the nearest value, ties to even; `loses_info` says whether information was
+    /// lost.
     fn convert(self, loses_info: &mut bool) -> StatusAnd<T>
         ensures { converts self NearestTiesToEven result loses_info.new }
     {

@@ -28,8 +28,10 @@ use std::str::FromStr;
 
 /// A floating-point type.
 ///
-/// Its ghost members say what its calls answer: a value or a function where the answer is determined, and a relation
-/// where it is stated by one. `IeeeFloat` sets them to the definitions of the model.
+/// Its ghost members say what its functions return: a value or a function where the result is given directly, and a
+/// relation where it is stated by one. `IeeeFloat` sets them to the definitions of the model.
+///
+/// The docs below describe `IeeeFloat`; pairs of doubles say in their own docs where they differ.
 pub trait Float: Copy
     + Default
     + PartialEq
@@ -46,10 +48,10 @@ pub trait Float: Copy
     + Mul<Output = StatusAnd<Self>>
     + Div<Output = StatusAnd<Self>>
     + Rem<Output = StatusAnd<Self>> {
-    /// How many bits a value is written with; 0 where values are for computing only.
+    /// How many bits a value takes when written; 0 if values are for computing only.
     const BITS: usize;
 
-    /// How many binary digits a significand has, the integer bit included.
+    /// How many binary digits a significand has, including the integer bit.
     const PRECISION: usize;
 
     /// The greatest exponent of a finite value.
@@ -58,7 +60,7 @@ pub trait Float: Copy
     /// The least exponent of a value that is not denormal.
     const MIN_EXP: ExpInt;
 
-    /// Whether the type has products: their digits, twice the precision, fit one machine number.
+    /// Whether the type has products: their digits, twice the precision, fit in one integer type of the machine.
     const MULTIPLIES: bool;
 
     // The constants, for contracts.
@@ -96,20 +98,20 @@ pub trait Float: Copy
 
     ghost divides: { Self → Self → Round → StatusAnd Self → Type 0 };
 
-    // Remainders: by the quotient rounded to the nearest integer, and by the quotient cut toward zero.
+    // Remainders: by the whole number nearest to the quotient, and by the quotient cut toward zero.
     ghost leaves_nearest: { Self → Self → StatusAnd Self → Type 0 };
 
     ghost leaves: { Self → Self → StatusAnd Self → Type 0 };
 
-    // A value rounded to an integer.
+    // Rounding to a whole number.
     ghost rounds_to_integral: { Self → Round → StatusAnd Self → Type 0 };
 
-    // The neighbours above and below.
+    // The next values above and below.
     ghost steps_up: { Self → StatusAnd Self → Type 0 };
 
     ghost steps_down: { Self → StatusAnd Self → Type 0 };
 
-    // The value with the other sign.
+    // The negated value.
     ghost negated: { Self → Self };
 
     // Values from bits, from signed and unsigned integers, and from texts.
@@ -135,7 +137,7 @@ pub trait Float: Copy
 
     ghost same: { Self → Self → Bool };
 
-    // What a value is.
+    // What a value is: its sign, whether it is denormal or signaling, its category, whether it is whole.
     ghost sign_of: { Self → Bool };
 
     ghost denormal: { Self → Bool };
@@ -159,7 +161,7 @@ pub trait Float: Copy
     fn zero() -> Self
         ensures { result ≡ the_zero };
 
-    /// The positive infinity; in a format without infinities its positive NaN.
+    /// Positive infinity; in a format without infinities, its positive NaN.
     fn infinity() -> Self
         ensures { result ≡ the_infinity };
 
@@ -170,12 +172,14 @@ pub trait Float: Copy
         Self::qnan(None)
     }
 
-    /// The positive quiet NaN with a payload, of which the format keeps the bits that it has (IEEE 754-2008 6.2.1).
+    /// The positive quiet NaN with a payload, of which the format keeps the bits that it has room for (IEEE 754-2008
+    /// 6.2.1).
     fn qnan(payload: Option<u128>) -> Self
         ensures { result ≡ quiet_nan_of (unwrap_or payload 0) };
 
-    /// The positive signaling NaN with a payload, of which the format keeps the bits that it has; without any it has one
-    /// of its own, and a format with one NaN has only that (IEEE 754-2008 6.2.1).
+    /// The positive signaling NaN with a payload, of which the format keeps the bits that it has room for. If no bit of
+    /// the payload is left, the NaN has a payload of its own; in a format with a single NaN, the result is that NaN
+    /// (IEEE 754-2008 6.2.1).
     fn snan(payload: Option<u128>) -> Self
         ensures { result ≡ signaling_nan_of (unwrap_or payload 0) };
 
@@ -183,7 +187,7 @@ pub trait Float: Copy
     fn largest() -> Self
         ensures { result ≡ the_largest };
 
-    /// The smallest positive value, a denormal one.
+    /// The smallest positive value, which is denormal.
     fn smallest() -> Self
         ensures { result ≡ the_smallest };
 
@@ -193,80 +197,81 @@ pub trait Float: Copy
 
     /// `self + rhs`, rounded once (IEEE 754-2008 5.4.1, addition).
     ///
-    /// A NaN operand is answered, the left one of two, made quiet; `INVALID_OP` is raised where any operand signals
-    /// (6.2.3). Infinities of unlike signs are invalid (7.2): the quiet NaN without a payload, with `INVALID_OP`. An
-    /// exact zero has the sign of operands of like signs; of operands of unlike signs it is +0, and toward negative -0
-    /// where the format has such a zero (6.3).
+    /// If an operand is a NaN, returns it quieted (the left one if both are); `INVALID_OP` is raised if any operand is
+    /// signaling (6.2.3). Adding infinities of opposite signs is invalid (7.2): the result is the quiet NaN without a
+    /// payload, with `INVALID_OP`. An exact zero has the sign of the operands if their signs are equal; otherwise it is
+    /// +0, or, when rounding toward negative, -0 if the format has that zero (6.3).
     fn add_r(self, rhs: Self, round: Round) -> StatusAnd<Self>
         ensures { adds self rhs round result };
 
-    /// `self - rhs`, rounded once (IEEE 754-2008 5.4.1, subtraction), as the sum of `self` and `-rhs`: so infinities of
-    /// like signs are invalid.
+    /// `self - rhs`, rounded once (IEEE 754-2008 5.4.1, subtraction), computed as the sum of `self` and `-rhs`; so
+    /// subtracting infinities of equal signs is invalid.
     ///
-    /// A NaN operand is answered as by `add_r`; one on the right is not negated.
+    /// A NaN operand is treated as in `add_r`; a NaN on the right is not negated.
     fn sub_r(self, rhs: Self, round: Round) -> StatusAnd<Self>
         ensures { subtracts self rhs round result };
 
-    /// The product, rounded once (IEEE 754-2008 5.4.1, multiplication), of a type whose `MULTIPLIES` holds: for
-    /// `IeeeFloat` the precision is at most 64.
+    /// The product, rounded once (IEEE 754-2008 5.4.1, multiplication), for a type whose `MULTIPLIES` holds: for
+    /// `IeeeFloat`, the precision must be at most 64.
     ///
-    /// An infinity times a zero is invalid (7.2): the quiet NaN without a payload, with `INVALID_OP`. A NaN operand is
-    /// answered, made quiet (6.2.3).
+    /// An infinity times a zero is invalid (7.2): the result is the quiet NaN without a payload, with `INVALID_OP`. A
+    /// NaN operand is returned quieted (6.2.3).
     fn mul_r(self, rhs: Self, round: Round) -> StatusAnd<Self>
         requires { IsTrue MULTIPLIES }
         ensures { multiplies self rhs round result };
 
     /// The quotient, rounded once (IEEE 754-2008 5.4.1, division).
     ///
-    /// A number that is not zero, divided by a zero, is the infinity with the sign of the quotient, or the NaN in its
-    /// place, with `DIV_BY_ZERO` (7.3). A zero divided by a zero and an infinity by an infinity are invalid (7.2): the quiet NaN
-    /// without a payload, with `INVALID_OP`. A NaN operand is answered, made quiet (6.2.3).
+    /// A nonzero number divided by a zero gives the infinity with the sign of the quotient, or the NaN in its place,
+    /// with `DIV_BY_ZERO` (7.3). Zero divided by zero and infinity divided by infinity are invalid (7.2): the result is
+    /// the quiet NaN without a payload, with `INVALID_OP`. A NaN operand is returned quieted (6.2.3).
     fn div_r(self, rhs: Self, round: Round) -> StatusAnd<Self>
         ensures { divides self rhs round result };
 
-    /// The remainder `self - rhs * n`, with `n` the whole number nearest to the quotient, a tie to the even one
-    /// (IEEE 754-2008 5.3.1, remainder). It is exact.
+    /// The remainder `self - rhs * n`, where `n` is the whole number nearest to the quotient, ties to even (IEEE
+    /// 754-2008 5.3.1, remainder). It is exact.
     ///
-    /// A zero that is left has the sign of `self` where the format has such a zero, and an infinite `rhs` leaves a finite
-    /// value as it is. The remainder of an infinity, and that by a zero, are invalid (7.2): the quiet NaN without a payload,
-    /// with `INVALID_OP`. A NaN operand is answered, made quiet (6.2.3).
+    /// A zero remainder has the sign of `self` if the format has that zero, and an infinite `rhs` leaves a finite value
+    /// unchanged. The remainder of an infinity and the remainder by a zero are invalid (7.2): the result is the quiet
+    /// NaN without a payload, with `INVALID_OP`. A NaN operand is returned quieted (6.2.3).
     fn ieee_rem(self, rhs: Self) -> StatusAnd<Self>
         ensures { leaves_nearest self rhs result };
 
-    /// The remainder `self - rhs * t`, with `t` the quotient cut toward zero, as C's `fmod` has it. It is exact, and has
-    /// the sign of `self`.
+    /// The remainder `self - rhs * t`, where `t` is the quotient cut toward zero, as in C's `fmod`. It is exact, and
+    /// has the sign of `self`.
     ///
-    /// Zeros, infinities and NaNs are answered as by `ieee_rem`.
+    /// Zeros, infinities and NaNs are treated as in `ieee_rem`.
     fn c_fmod(self, rhs: Self) -> StatusAnd<Self>
         ensures { leaves self rhs result };
 
-    /// The whole number that the mode picks beside the value, with its sign (IEEE 754-2008 5.9, roundToIntegralExact);
-    /// INEXACT says that it is not the value. Infinities and zeros stay as they are; a NaN is made quiet, and is invalid
-    /// where it signals.
+    /// The value rounded by the mode to a whole number, with its sign (IEEE 754-2008 5.9, roundToIntegralExact);
+    /// INEXACT says that the result differs from the value. Infinities and zeros are unchanged; a NaN is quieted, and
+    /// is invalid if it was signaling.
     fn round_to_integral(self, round: Round) -> StatusAnd<Self>
         ensures { rounds_to_integral self round result };
 
-    /// The least value that compares greater (IEEE 754-2008 5.3.1, nextUp), always exact. Above the largest value stands
-    /// the infinity, or the NaN in its place. The positive infinity and a quiet NaN stay as they are; a signaling NaN is
-    /// invalid, and answers the quiet NaN of its sign without a payload.
+    /// The least value that compares greater (IEEE 754-2008 5.3.1, nextUp), always exact. The value after the largest
+    /// is the infinity, or the NaN in its place. Positive infinity and a quiet NaN are unchanged; a signaling NaN is
+    /// invalid, and the result is the quiet NaN of its sign without a payload.
     fn next_up(self) -> StatusAnd<Self>
         ensures { steps_up self result };
 
-    /// The greatest value that compares less (IEEE 754-2008 5.3.1, nextDown), by the next value up from the negation.
+    /// The greatest value that compares less (IEEE 754-2008 5.3.1, nextDown), computed from the next value up of the
+    /// negation.
     fn next_down(self) -> StatusAnd<Self>
         ensures { steps_down self result }
     {
         (-self).next_up().map(|value| -value)
     }
 
-    /// The value without its sign (IEEE 754-2008 5.5.1, abs). A NaN too loses its sign, and none is signaled.
+    /// The value without its sign (IEEE 754-2008 5.5.1, abs). A NaN loses its sign too, and no flag is raised.
     fn abs(self) -> Self
         ensures { result ≡ (if sign_of self then negated self else self) }
     {
         if self.is_negative() { -self } else { self }
     }
 
-    /// The value with the sign of `rhs` (IEEE 754-2008 5.5.1, copySign), also of and for NaNs; none is signaled.
+    /// The value with the sign of `rhs` (IEEE 754-2008 5.5.1, copySign). Either may be a NaN; no flag is raised.
     fn copy_sign(self, rhs: Self) -> Self
         ensures { result
             ≡ (if not (same_sign (sign_of self) (sign_of rhs)) then negated self else self) }
@@ -278,8 +283,8 @@ pub trait Float: Copy
         }
     }
 
-    /// The value that is written as `bits` (IEEE 754-2008 3.4), of a type with bits, `PRECISION` below `BITS`. Bits at
-    /// and above `BITS` are not looked at.
+    /// The value whose encoding is `bits` (IEEE 754-2008 3.4), for a type with bits, with `PRECISION` below `BITS`.
+    /// Bits at and above `BITS` are ignored.
     fn from_bits(bits: u128) -> Self
         requires { PRECISION < BITS }
         ensures { result ≡ value_of_bits bits };
@@ -295,7 +300,7 @@ pub trait Float: Copy
         }
     }
 
-    /// A signed whole number, rounded once to the nearest value, a tie to the even one.
+    /// A signed whole number, rounded once to the nearest value, ties to even.
     fn from_i128(input: i128) -> StatusAnd<Self>
         ensures { converts_signed input NearestTiesToEven result }
     {
@@ -306,35 +311,36 @@ pub trait Float: Copy
     fn from_u128_r(input: u128, round: Round) -> StatusAnd<Self>
         ensures { converts_unsigned input round result };
 
-    /// A whole number, rounded once to the nearest value, a tie to the even one.
+    /// A whole number, rounded once to the nearest value, ties to even.
     fn from_u128(input: u128) -> StatusAnd<Self>
         ensures { converts_unsigned input NearestTiesToEven result }
     {
         Self::from_u128_r(input, Round::NearestTiesToEven)
     }
 
-    /// The value of a text, rounded once, or the refusal of a text without a meaning (IEEE 754-2008 5.12,
+    /// The value of a text, rounded once, or an error for a text that has no meaning (IEEE 754-2008 5.12,
     /// convertFromHexCharacter).
     ///
-    /// A text is an optional mark and then an infinity, `inf`, `Inf` or `INFINITY`; a NaN, `nan` or `NaN`, with an `s` in
-    /// front if it signals and with a payload behind it, plain or in parentheses; or a hexadecimal number, as
-    /// `-0x1.8p-1`, of any length and with any exponent. Decimal numbers are refused.
+    /// A text is an optional sign followed by one of: an infinity, `inf`, `Inf` or `INFINITY`; a NaN, `nan` or `NaN`,
+    /// preceded by an `s` if it is signaling, and followed by an optional payload, plain or in parentheses; or a
+    /// hexadecimal number such as `-0x1.8p-1`, of any length and with any exponent. Decimal numbers are refused.
     fn from_str_r(s: &str, round: Round) -> Result<StatusAnd<Self>, ParseError>
         ensures { reads s.now round result };
 
-    /// The bits of the one canonical encoding of the value (IEEE 754-2008 3.4), of a type with bits, `PRECISION` below
-    /// `BITS`; read again they are the value.
+    /// The bits of the one canonical encoding of the value (IEEE 754-2008 3.4), for a type with bits, with `PRECISION`
+    /// below `BITS`. Read back, they give the value.
     fn to_bits(self) -> u128
         requires { PRECISION < BITS }
         ensures written { writes_bits self result }
         ensures below { result < 2 ^ BITS }
         ensures back { value_of_bits result ≡ self };
 
-    /// The value as a whole number of `width` binary digits, 2 to 128, in two's complement, rounded by the mode
-    /// (IEEE 754-2008 5.4.1, convertToInteger).
+    /// The value rounded by the mode to a whole number of `width` binary digits, 2 to 128, in two's complement (IEEE
+    /// 754-2008 5.4.1, convertToInteger).
     ///
-    /// A number out of range gives the end of the range, and a NaN gives 0; both are invalid. INEXACT says that the number
-    /// was no whole one. `is_exact` tells whether the whole number is the value; for -0 it is false.
+    /// A value out of range, infinities included, gives the nearer end of the range, and a NaN gives 0; both are
+    /// invalid. INEXACT says that the number was not whole. `is_exact` says whether the whole number equals the value;
+    /// for -0 it is false.
     fn to_i128_r(self, width: usize, round: Round, is_exact: &mut bool) -> StatusAnd<i128>
         requires low { 2 ≤ width }
         requires high { width ≤ 128 }
@@ -348,7 +354,7 @@ pub trait Float: Copy
             let magnitude = self.to_u128_r(width - 1, round, is_exact);
             magnitude.status.and(signed(width - 1, magnitude.value))
         };
-        // Made anew of its parts, since the padding of a struct that leaves a branch is copied with it.
+        // Rebuilt from its fields: a struct that leaves a branch as a whole is copied together with its padding.
         answer.status.and(answer.value)
     }
 
@@ -362,18 +368,19 @@ pub trait Float: Copy
         self.to_i128_r(width, Round::TowardZero, &mut is_exact)
     }
 
-    /// The value as a whole number of `width` binary digits, 1 to 128, without a sign, rounded by the mode
-    /// (IEEE 754-2008 5.4.1, convertToInteger).
+    /// The value rounded by the mode to an unsigned whole number of `width` binary digits, 1 to 128 (IEEE 754-2008
+    /// 5.4.1, convertToInteger).
     ///
-    /// A number out of range gives the end of the range, and a NaN gives 0; both are invalid. INEXACT says that the number
-    /// was no whole one. `is_exact` tells whether the whole number is the value; for -0 it is false.
+    /// A value out of range, infinities included, gives the nearer end of the range, and a NaN gives 0; both are
+    /// invalid. INEXACT says that the number was not whole. `is_exact` says whether the whole number equals the value;
+    /// for -0 it is false.
     fn to_u128_r(self, width: usize, round: Round, is_exact: &mut bool) -> StatusAnd<u128>
         requires low { 1 ≤ width }
         requires high { width ≤ 128 }
         ensures answer { converts_to_unsigned self width round result is_exact.new }
         ensures fits { result.value < 2 ^ width };
 
-    /// The value as a whole number of `width` binary digits, 1 to 128, without a sign, cut toward zero.
+    /// The value as an unsigned whole number of `width` binary digits, 1 to 128, cut toward zero.
     fn to_u128(self, width: usize) -> StatusAnd<u128>
         requires low { 1 ≤ width }
         requires high { width ≤ 128 }
@@ -384,18 +391,19 @@ pub trait Float: Copy
         self.to_u128_r(width, Round::TowardZero, &mut is_exact)
     }
 
-    /// The order of the magnitudes of two values for which `can_compare_magnitudes` holds. Of `IeeeFloat` these are the
-    /// finite ones that are not zero.
+    /// The order of the magnitudes of two values for which `can_compare_magnitudes` holds. For `IeeeFloat` these are
+    /// the nonzero finite values.
     fn cmp_abs_normal(self, rhs: Self) -> Ordering
         requires { can_compare_magnitudes self rhs }
         ensures { result ≡ magnitude_order self rhs };
 
-    /// Whether both are one value: of one category and sign, and with the same number, or the same significand of a NaN.
-    /// So a NaN is the same as itself, and -0 is not the same as +0.
+    /// Whether both are the same value: of the same category and sign, and with the same number, or for NaNs the same
+    /// significand. So a NaN is the same as itself, and -0 is not the same as +0.
     fn bitwise_eq(self, rhs: Self) -> bool
         ensures { result ≡ same self rhs };
 
-    /// The lesser value (IEEE 754-2008 5.3.1, minNum): beside a NaN the other one, and `self` where neither is less.
+    /// The lesser value (IEEE 754-2008 5.3.1, minNum). If one operand is a NaN, returns the other; if neither is less,
+    /// returns `self`.
     fn min(self, other: Self) -> Self
         ensures { result ≡ min_by category_of Self.partial_cmp self other }
     {
@@ -410,7 +418,8 @@ pub trait Float: Copy
         }
     }
 
-    /// The greater value (IEEE 754-2008 5.3.1, maxNum): beside a NaN the other one, and `self` where neither is greater.
+    /// The greater value (IEEE 754-2008 5.3.1, maxNum). If one operand is a NaN, returns the other; if neither is
+    /// greater, returns `self`.
     fn max(self, other: Self) -> Self
         ensures { result ≡ max_by category_of Self.partial_cmp self other }
     {
@@ -425,7 +434,8 @@ pub trait Float: Copy
         }
     }
 
-    /// The lesser value (IEEE 754-2019 9.6, minimum): the first NaN where there is one, as it is, and -0 is below +0.
+    /// The lesser value (IEEE 754-2019 9.6, minimum). If an operand is a NaN, returns the first one unchanged; -0 is
+    /// below +0.
     fn minimum(self, other: Self) -> Self
         ensures { result ≡ minimum_by category_of sign_of Self.partial_cmp self other }
     {
@@ -440,7 +450,8 @@ pub trait Float: Copy
         }
     }
 
-    /// The greater value (IEEE 754-2019 9.6, maximum): the first NaN where there is one, as it is, and -0 is below +0.
+    /// The greater value (IEEE 754-2019 9.6, maximum). If an operand is a NaN, returns the first one unchanged; -0 is
+    /// below +0.
     fn maximum(self, other: Self) -> Self
         ensures { result ≡ maximum_by category_of sign_of Self.partial_cmp self other }
     {
@@ -455,18 +466,18 @@ pub trait Float: Copy
         }
     }
 
-    /// Whether the sign is minus, also of a zero or a NaN (IEEE 754-2008 5.7.2, isSignMinus).
+    /// Whether the sign is minus, for zeros and NaNs too (IEEE 754-2008 5.7.2, isSignMinus).
     fn is_negative(self) -> bool
         ensures { result ≡ sign_of self };
 
-    /// Whether the value is a number with all digits: not zero and not denormal (IEEE 754-2008 5.7.2, isNormal).
+    /// Whether the value is a nonzero number that is not denormal (IEEE 754-2008 5.7.2, isNormal).
     fn is_normal(self) -> bool
         ensures { result ≡ (is_finite_non_zero_category (category_of self) && not (denormal self)) }
     {
         self.is_finite_non_zero() && !self.is_denormal()
     }
 
-    /// Whether the value is a number (IEEE 754-2008 5.7.2, isFinite).
+    /// Whether the value is finite (IEEE 754-2008 5.7.2, isFinite).
     fn is_finite(self) -> bool
         ensures { result ≡ is_finite_category (category_of self) }
     {
@@ -480,8 +491,8 @@ pub trait Float: Copy
         self.category() == Category::Zero
     }
 
-    /// Whether the value is a number, not zero, of less magnitude than the smallest value that is not denormal
-    /// (IEEE 754-2008 5.7.2, isSubnormal).
+    /// Whether the value is a nonzero number of lesser magnitude than the smallest value that is not denormal (IEEE
+    /// 754-2008 5.7.2, isSubnormal).
     fn is_denormal(self) -> bool
         ensures { result ≡ denormal self };
 
@@ -499,22 +510,23 @@ pub trait Float: Copy
         self.category() == Category::NaN
     }
 
-    /// Whether the value is a signaling NaN (IEEE 754-2008 5.7.2, isSignaling). No NaN of a format with one NaN is.
+    /// Whether the value is a signaling NaN (IEEE 754-2008 5.7.2, isSignaling). Never true in a format with a single
+    /// NaN.
     fn is_signaling(self) -> bool
         ensures { result ≡ signals self };
 
-    /// What the value is.
+    /// The category of the value.
     fn category(self) -> Category
         ensures { result ≡ category_of self };
 
-    /// Whether the value is neither +0 nor -0: true of a NaN.
+    /// Whether the value is neither +0 nor -0; true for a NaN.
     fn is_non_zero(self) -> bool
         ensures { result ≡ not (is_zero_category (category_of self)) }
     {
         !self.is_zero()
     }
 
-    /// Whether the value is a number and not zero.
+    /// Whether the value is a nonzero number.
     fn is_finite_non_zero(self) -> bool
         ensures { result ≡ is_finite_non_zero_category (category_of self) }
     {
@@ -540,21 +552,21 @@ pub trait Float: Copy
         self.is_zero() && self.is_negative()
     }
 
-    /// Whether the value is the positive infinity.
+    /// Whether the value is positive infinity.
     fn is_pos_infinity(self) -> bool
         ensures { result ≡ (is_infinite_category (category_of self) && not (sign_of self)) }
     {
         self.is_infinite() && !self.is_negative()
     }
 
-    /// Whether the value is the negative infinity.
+    /// Whether the value is negative infinity.
     fn is_neg_infinity(self) -> bool
         ensures { result ≡ (is_infinite_category (category_of self) && sign_of self) }
     {
         self.is_infinite() && self.is_negative()
     }
 
-    /// Whether the value is one quantum of either sign, the smallest magnitude that is not zero.
+    /// Whether the value is one quantum of either sign: the smallest nonzero magnitude.
     fn is_smallest(self) -> bool
         ensures { result ≡ same self (signed_like sign_of negated the_smallest self) }
     {
@@ -575,38 +587,39 @@ pub trait Float: Copy
         self.bitwise_eq(Self::largest().copy_sign(self))
     }
 
-    /// Whether the value is finite and a whole number, zeros too.
+    /// Whether the value is finite and a whole number; true for zeros.
     fn is_integer(self) -> bool
         ensures { result ≡ is_whole self };
 
-    /// The inverse of a power of two, where both of them are numbers of the type and not denormal; the sign is kept.
+    /// The inverse of a power of two of either sign, if the type has both values and neither is denormal. It has the
+    /// same sign.
     fn get_exact_inverse(self) -> Option<Self>
         ensures { inverts self result };
 
-    /// The exponent of the highest binary digit, of a denormal value too (IEEE 754-2008 5.3.3, logB): 2 to its power is at
-    /// most the magnitude, and twice that is more. `IEK_ZERO`, `IEK_INF` and `IEK_NAN` stand for those of other values.
+    /// The exponent of the highest binary digit, for denormal values too (IEEE 754-2008 5.3.3, logB): 2 to that power
+    /// is at most the magnitude, and twice that is more. For other values it is `IEK_ZERO`, `IEK_INF` or `IEK_NAN`.
     fn ilogb(self) -> ExpInt
         ensures { has_exponent self result };
 
-    /// The value times 2 to the power of `exp`, rounded once (IEEE 754-2008 5.3.3, scaleB). Infinities and zeros stay as
-    /// they are, and a NaN is made quiet. Flags are not told.
+    /// The value times 2 to the power of `exp`, rounded once (IEEE 754-2008 5.3.3, scaleB). Infinities and zeros are
+    /// unchanged, and a NaN is quieted. Returns no status.
     fn scalbn_r(self, exp: ExpInt, round: Round) -> Self
         ensures { scales self exp round result };
 
-    /// The value times 2 to the power of `exp`, rounded once to the nearest value, a tie to the even one.
+    /// The value times 2 to the power of `exp`, rounded once to the nearest value, ties to even.
     fn scalbn(self, exp: ExpInt) -> Self
         ensures { scales self exp NearestTiesToEven result }
     {
         self.scalbn_r(exp, Round::NearestTiesToEven)
     }
 
-    /// The fraction of the value, of magnitude from 0.5 to below 1, with the exponent `exp`: the value is exactly the
-    /// fraction times 2 to the power of `exp`. A zero is its own fraction with 0, an infinity with `IEK_INF`, and a NaN,
-    /// made quiet, with `IEK_NAN`.
+    /// The fraction of the value, with magnitude from 0.5 to below 1, and its exponent in `exp`: the value is exactly
+    /// the fraction times 2 to the power of `exp`. A zero is its own fraction with exponent 0, an infinity its own with
+    /// `IEK_INF`, and a NaN is quieted and has `IEK_NAN`.
     fn frexp_r(self, exp: &mut ExpInt, round: Round) -> Self
         ensures { has_fraction self round result exp.new };
 
-    /// The fraction of the value and its exponent, in the mode to the nearest value.
+    /// The fraction of the value and its exponent, rounding to nearest, ties to even.
     fn frexp(self, exp: &mut ExpInt) -> Self
         ensures { has_fraction self NearestTiesToEven result exp.new }
     {
@@ -619,7 +632,7 @@ pub trait Float: Copy
 
     ghost neg_law: { (x r : Self) → Self.neg_gives x r → r ≡ negated x };
 
-    // The other operators are the calls, rounded to the nearest value, a tie to the even one; a remainder is exact.
+    // The binary operators are the calls, rounded to nearest, ties to even; a remainder is exact.
 
     ghost can_add_law: { (x y : Self) → Self.can_add x y };
 
@@ -645,7 +658,7 @@ pub trait Float: Copy
 
     ghost rem_law: { (x y : Self) (r : StatusAnd Self) → Self.rem_gives x y r → leaves x y r };
 
-    // The assigning operators leave the value of such an answer, and drop its status.
+    // The assigning operators store the value of that result and drop its status.
 
     ghost can_add_assign_law: { (x y : Self) → Self.can_add_assign x y };
 
@@ -676,12 +689,12 @@ pub trait Float: Copy
 
     ghost default_law: { (x : Self) → Self.is_default x → x ≡ the_zero };
 
-    // The step down is the step up of the negated value.
+    // The next value down is the negated next value up of the negated value.
 
     ghost steps_down_law: { (x : Self) (r : StatusAnd Self) → steps_up (negated x) r
         → steps_down x (record { status = r.status; value = negated r.value }) };
 
-    // A signed whole number is its magnitude, rounded under the negated mode where it is below zero.
+    // A signed whole number is converted by its magnitude; below zero the magnitude is rounded in the opposite mode.
 
     ghost signed_above_law: { (n : ℕ) (mode : Round) (r : StatusAnd Self)
         → converts_unsigned n mode r → converts_signed (pos n) mode r };
@@ -691,13 +704,13 @@ pub trait Float: Copy
         → converts_signed (neg_ℤ (pos n)) mode
         (record { status = r.status; value = negated r.value }) };
 
-    // Reading by `FromStr` is reading to the nearest value, without the status.
+    // Reading by `FromStr` rounds to the nearest value and drops the status.
 
     ghost read_law: { (text : List ℕ) (r : Result Self ParseError) → Self.from_str_gives text r
         → (answer : Result (StatusAnd Self) ParseError) × reads text NearestTiesToEven answer
         × (r ≡ without_status answer) };
 
-    // The signed whole number of a value is the unsigned one of its magnitude.
+    // A value is converted to a signed whole number by way of the unsigned one of its magnitude.
 
     ghost to_signed_above_law: { (x : Self) (width : ℕ) (mode : Round) (number : StatusAnd ℕ)
         (exact : Bool) → sign_of x ≡ false → converts_to_unsigned x (width - 1) mode number exact
@@ -711,8 +724,8 @@ pub trait Float: Copy
         (bits_of number.status) exact answer.value (bits_of answer.status) is_exact
         → converts_to_signed x width mode answer is_exact };
 
-    // Each relation determines its answer, so that an operator and its call have one answer. The facts are given for a
-    // mode: proofs that do not cite them are then not searched with all of them.
+    // Each relation determines its result, so an operator and the corresponding call have the same result. The facts
+    // are given for one mode, so that proofs that do not cite them are not searched with all of them.
 
     ghost determined: { (mode : Round) →
         IsDetermined mode PRECISION BITS adds subtracts multiplies divides inverts leaves
@@ -721,7 +734,7 @@ pub trait Float: Copy
         has_fraction reads };
 }
 
-/// A whole number of so many binary digits as a signed one.
+/// An unsigned whole number of `width` binary digits as a signed one.
 #[inline]
 fn signed(width: usize, magnitude: u128) -> i128
     requires narrow { width ≤ 127 }

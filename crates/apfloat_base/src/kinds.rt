@@ -1,36 +1,36 @@
-//! The small types that calls speak of: categories, rounding modes, kinds of non-finite behaviour, exponents.
+//! The small types used in the calls: categories, rounding modes, kinds of non-finite behaviour, exponents.
 
 ghost use Rattle.std.specs.Prelude.{◌≡◌};
 ghost use Rattle.apfloat_base.specs.rounding.Negation.{swapped};
 
 use std::ops::Neg;
 
-/// What a value is. Denormal values are `Normal` too.
+/// The category of a value. Denormal values are `Normal` too.
 #[derive(Clone, Copy, PartialEq, Eq, Debug)]
 pub enum Category {
     /// An infinity of either sign.
     Infinity,
     /// A NaN, quiet or signaling.
     NaN,
-    /// Finite and not zero.
+    /// Finite and nonzero.
     Normal,
     /// A zero of either sign.
     Zero,
 }
 
-/// A rounding mode (IEEE 754-2008 4.3): which of its two neighbours in a format stands for a result that lies between
+/// A rounding mode (IEEE 754-2008 4.3): which of its two neighbours in a format represents a result that lies between
 /// them.
 #[derive(Clone, Copy, PartialEq, Eq, Debug)]
 pub enum Round {
-    /// The nearer one, and of two at one distance the one with an even last digit (4.3.1).
+    /// The nearer one; on a tie, the one with an even last digit (4.3.1).
     NearestTiesToEven,
     /// The upper one (4.3.2).
     TowardPositive,
     /// The lower one (4.3.2).
     TowardNegative,
-    /// The one of less magnitude (4.3.2).
+    /// The one of lesser magnitude (4.3.2).
     TowardZero,
-    /// The nearer one, and of two at one distance the one of greater magnitude (4.3.1).
+    /// The nearer one; on a tie, the one of greater magnitude (4.3.1).
     NearestTiesToAway,
 }
 
@@ -39,7 +39,7 @@ impl Neg for Round {
 
     ghost neg_gives = { λ mode r. r ≡ swapped mode };
 
-    /// The mode that rounds `-x` to the negation of what this one rounds `x` to: the two directed modes are swapped.
+    /// The mode that rounds `-x` to the negation of what this mode rounds `x` to: the two directed modes are swapped.
     #[inline]
     fn neg(self) -> Round {
         match self {
@@ -52,27 +52,27 @@ impl Neg for Round {
     }
 }
 
-/// Which values that are no numbers a format has, and how it writes them.
+/// Which non-finite values a format has, and how it writes them.
 #[derive(Clone, Copy, PartialEq, Eq, Debug)]
 pub enum NonfiniteBehavior {
     /// Infinities and NaNs with payloads, at the greatest biased exponent (IEEE 754-2008 3.4).
     IEEE754,
     /// No infinities, and one NaN of each sign, whose exponent and significand are all ones.
     NanOnly,
-    /// No infinities and no negative zero: what would be the bits of -0 is the one NaN.
+    /// No infinities and no negative zero: the bit pattern that would be -0 is the one NaN.
     NanNegativeZero,
 }
 
 /// An exponent of two.
 pub type ExpInt = i32;
 
-/// What stands for the exponent of an infinity.
+/// The exponent that is returned for an infinity.
 pub const IEK_INF: ExpInt = ExpInt::MAX;
 
-/// What stands for the exponent of a NaN.
+/// The exponent that is returned for a NaN.
 pub const IEK_NAN: ExpInt = ExpInt::MIN;
 
-/// What stands for the exponent of a zero.
+/// The exponent that is returned for a zero.
 pub const IEK_ZERO: ExpInt = ExpInt::MIN + 1;
 
 #[cfg(test)]

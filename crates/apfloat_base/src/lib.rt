@@ -1,7 +1,7 @@
-//! What every floating-point type of the library shares: statuses, the small types that calls speak of, the trait
-//! `Float`, and whole-number arithmetic on significands.
+//! What all floating-point types of the library share: statuses, the small types used in the calls, the trait `Float`,
+//! and integer arithmetic on significands.
 //!
-//! The mathematical model stands in `specs/`; `docs/MODEL.md` at the root of the repository reads it aloud.
+//! The mathematical model is in `specs/`; `docs/MODEL.md` at the root of the repository explains it in prose.
 #![tactic(auto)]
 
 pub mod convert;

@@ -1,31 +1,31 @@
-//! Why a text is no number.
+//! Why a text is refused.
 
-/// The refusal of a text, by what is wrong with it first from the left.
+/// The refusal of a text, by its first fault from the left.
 #[derive(Clone, Copy, PartialEq, Eq, Debug)]
 pub struct ParseError(pub &'static str);
 
-/// What is wrong with a text first, from the left.
+/// The first fault of a text, from the left.
 #[derive(Clone, Copy, PartialEq, Eq, Debug)]
 pub enum Fault {
     /// The text is empty.
     EmptyText,
-    /// Nothing stands behind the mark.
+    /// Nothing follows the sign.
     LoneMark,
-    /// It is no infinity and no NaN, and does not begin with `0x` or `0X`.
+    /// It is neither an infinity nor a NaN, and does not begin with `0x` or `0X`.
     NoLiteral,
-    /// Nothing stands behind the prefix.
+    /// Nothing follows the prefix.
     LonePrefix,
     /// The significand has more than one dot.
     SecondDot,
-    /// What follows the digits and dots of the significand is no `p` or `P`.
+    /// What follows the digits and dots of the significand is not `p` or `P`.
     WrongInSignificand,
     /// The significand has no digit.
     NoDigits,
-    /// The exponent has a character that is no decimal digit.
+    /// The exponent has a character that is not a decimal digit.
     WrongInExponent,
     /// The exponent has no digit.
     NoExponentDigits,
-    /// The text ends behind the significand.
+    /// The text ends after the significand.
     NoExponent,
 }
 
@@ -33,7 +33,7 @@ impl Fault {
     ghost use Rattle.std.specs.Prelude.{◌≡◌};
     ghost use Rattle.apfloat_base.specs.texts.Faults.{words};
 
-    /// The refusal that says so.
+    /// The refusal for this fault.
     pub fn refusal(self) -> ParseError
         ensures { result.0.now ≡ words self }
     {

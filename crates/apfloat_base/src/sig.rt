@@ -1,7 +1,8 @@
-//! Significands: whole numbers below `2^128`, and what is lost where their low digits are cut off.
+//! Significands: whole numbers below `2^128`, and what is lost when their low digits are cut off.
 //!
-//! A significand `s` with a unit and a `Loss` stands for each magnitude that is `s` units and a rest below one unit,
-//! where the rest is zero, below, at or above half of a unit as the `Loss` says (`StandsFor` in `specs/Standing.antt`).
+//! A significand `s` with a unit and a `Loss` represents each magnitude that is `s` units plus a rest below one unit;
+//! the `Loss` says whether the rest is zero, below, at or above half a unit (`StandsFor` in
+//! `specs/rounding/Standing.antt`).
 
 pub mod loss;
 pub mod product;

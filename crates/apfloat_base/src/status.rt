@@ -6,7 +6,7 @@ ghost use Rattle.apfloat_base.specs.rounding.Flags.{bits_of};
 
 use bitflags::{Flag, Flags, bitflag_items};
 
-/// The flags that an operation raises (IEEE 754-2008 7), as a set. The set calls are those of the trait `Flags`.
+/// The flags that an operation raises (IEEE 754-2008 7), as a set. Its set operations are those of the trait `Flags`.
 #[derive(Clone, Copy, PartialEq, Eq, PartialOrd, Ord, Debug)]
 pub struct Status(u8);
 
@@ -66,17 +66,17 @@ impl Status {
     }
 }
 
-/// A value with the status of the operation that made it. The status comes first in the order.
+/// A value with the status of the operation that made it. The order compares the status first.
 #[derive(Clone, Copy, PartialEq, Eq, PartialOrd, Ord, Debug)]
 pub struct StatusAnd<T> {
     /// The flags that the operation raised.
     pub status: Status,
-    /// What it answers.
+    /// The result of the operation.
     pub value: T,
 }
 
 impl<T> StatusAnd<T> {
-    /// The same status with what `f` answers for the value.
+    /// The same status with the value that `f` returns.
     #[inline]
     pub fn map<F: FnOnce(T) -> U, U>(self, f: F) -> StatusAnd<U>
         requires { F.pre f self.value }
@@ -99,7 +99,8 @@ impl<T> StatusAnd<T> {
     }
 }
 
-/// Sets a status to that of an expression, or joins that status to it, and is the expression's value.
+/// Sets a status variable to the status of an expression, or joins that status to it, and returns the expression's
+/// value.
 ///
 /// `unpack!(status =, e)` sets it, `unpack!(status |=, e)` joins.
 #[macro_export]

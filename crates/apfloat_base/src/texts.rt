@@ -1,6 +1,6 @@
-//! What the reading of texts tells apart: the mark in front, and the base of a payload.
+//! What reading distinguishes in texts: the sign in front, and the base of a payload.
 
-/// The mark in front of a text or of an exponent: a sign that is written, or none.
+/// The sign in front of a text or of an exponent, if one is written.
 #[derive(Clone, Copy, PartialEq, Eq, Debug)]
 pub enum Mark {
     /// No sign.
@@ -15,7 +15,7 @@ impl Mark {
     ghost use Rattle.std.specs.Prelude.{◌≡◌};
     ghost use Rattle.apfloat_base.specs.texts.Specials.{is_minus};
 
-    /// Whether it is a minus.
+    /// Whether the sign is minus.
     #[inline]
     pub fn is_minus(self) -> bool
         ensures { result ≡ is_minus self }
@@ -30,9 +30,9 @@ impl Mark {
 /// The base that a payload is written in.
 #[derive(Clone, Copy, PartialEq, Eq, Debug)]
 pub enum Radix {
-    /// Hexadecimal digits, behind `0x` or `0X`.
+    /// Hexadecimal digits, after `0x` or `0X`.
     Sixteen,
-    /// Octal digits, behind a `0`.
+    /// Octal digits, after a `0`.
     Eight,
     /// Decimal digits, without a prefix.
     Ten,
@@ -42,7 +42,7 @@ impl Radix {
     ghost use Rattle.std.specs.Prelude.{◌≡◌};
     ghost use Rattle.apfloat_base.specs.texts.Specials.{base_of};
 
-    /// The base as a number.
+    /// The base as a whole number.
     #[inline(always)]
     pub fn base(self) -> u128
         ensures { result ≡ base_of self }

@@ -1,4 +1,4 @@
-//! What crosses between C and the library.
+//! The data that are passed between C and the library.
 
 ghost use Rattle.std.specs.Prelude.{◌≡◌};
 ghost use Rattle.rustc_apfloat.specs.Flags.{bits_of};
@@ -6,7 +6,7 @@ ghost use Rattle.apfloat_c.specs.Answers.{whole};
 
 use rustc_apfloat::{Flags, Status};
 
-/// A number of 128 bits as two of 64.
+/// 128 bits as two 64-bit words.
 #[repr(C)]
 #[derive(Clone, Copy)]
 pub struct Halves {
@@ -16,7 +16,7 @@ pub struct Halves {
     pub high: u64,
 }
 
-/// What a call answers. A part that a call does not have is 0.
+/// The result of a call. Fields that a call does not use are 0.
 #[repr(C)]
 #[derive(Clone, Copy)]
 pub struct Answer {
@@ -24,19 +24,19 @@ pub struct Answer {
     pub bits: Halves,
     /// The flags that the operation raised.
     pub status: u32,
-    /// What a call answers beside these: an exponent, an order, a class, or whether a conversion was exact.
+    /// An extra result: an exponent, an order, a class, or whether a conversion was exact or lost information.
     pub number: i32,
 }
 
 impl Halves {
-    /// The number of these halves.
+    /// The 128 bits of these halves.
     pub fn number(self) -> u128
         ensures { result ≡ whole self }
     {
         self.low as u128 + self.high as u128 * (1 << 64)
     }
 
-    /// The halves of a number.
+    /// The halves of 128 bits.
     pub fn of(number: u128) -> Halves
         ensures { whole result ≡ number }
     {
@@ -48,7 +48,7 @@ impl Halves {
 }
 
 impl Answer {
-    /// An answer that is a number alone.
+    /// A result with only the extra result.
     pub fn number(number: i32) -> Answer
         ensures bits { whole result.bits ≡ 0 }
         ensures status { result.status ≡ 0 }
@@ -61,7 +61,7 @@ impl Answer {
         }
     }
 
-    /// An answer of bits, flags and a number.
+    /// A result with bits, flags and the extra result.
     pub fn of(bits: u128, status: Status, number: i32) -> Answer
         ensures bits { whole result.bits ≡ bits }
         ensures status { result.status ≡ bits_of status }

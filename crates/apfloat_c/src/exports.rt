@@ -1,4 +1,4 @@
-//! The exports, which `include/apfloat.h` declares for programs in C.
+//! The exports, declared for C programs in `include/apfloat.h`.
 
 ghost use Rattle.std.specs.Prelude.{Some};
 ghost use Rattle.std.specs.Int.{cast_signed, w128};
@@ -57,7 +57,7 @@ pub extern "C" fn apfloat_sub(
     )
 }
 
-/// The product of two values, rounded once; a format of more than 64 digits has none.
+/// The product of two values, rounded once; formats of more than 64 digits do not have it.
 #[unsafe(no_mangle)]
 pub extern "C" fn apfloat_mul(
     format: u32,
@@ -99,7 +99,7 @@ pub extern "C" fn apfloat_div(
     )
 }
 
-/// The remainder by the whole number nearest to the quotient, a tie to the even one.
+/// The remainder by the whole number nearest to the quotient, ties to even.
 #[unsafe(no_mangle)]
 pub extern "C" fn apfloat_rem(format: u32, x: Halves, y: Halves, answer: &mut Answer) -> u32
     ensures { let call = OfTwo NearestRemainder (whole x) (whole y) in
@@ -114,7 +114,7 @@ pub extern "C" fn apfloat_rem(format: u32, x: Halves, y: Halves, answer: &mut An
     )
 }
 
-/// The remainder by the quotient cut toward zero, as `fmod` of C.
+/// The remainder by the quotient cut toward zero, like `fmod` in C.
 #[unsafe(no_mangle)]
 pub extern "C" fn apfloat_mod(format: u32, x: Halves, y: Halves, answer: &mut Answer) -> u32
     ensures { let call = OfTwo TruncatedRemainder (whole x) (whole y) in
@@ -129,7 +129,7 @@ pub extern "C" fn apfloat_mod(format: u32, x: Halves, y: Halves, answer: &mut An
     )
 }
 
-/// The product of two values plus a third, rounded once; a format of more than 63 digits has none, nor have pairs.
+/// The product of two values plus a third, rounded once; formats of more than 63 digits and pairs do not have it.
 #[unsafe(no_mangle)]
 pub extern "C" fn apfloat_fma(
     format: u32,
@@ -151,7 +151,7 @@ pub extern "C" fn apfloat_fma(
     )
 }
 
-/// A value in another format, and in `number` whether information was lost. Pairs of doubles have no conversion.
+/// A value in another format; `number` says whether information was lost. Pairs of doubles have no conversion.
 #[unsafe(no_mangle)]
 pub extern "C" fn apfloat_convert(
     format: u32,
@@ -212,7 +212,8 @@ pub extern "C" fn apfloat_from_i128(
     )
 }
 
-/// A value as a whole number of `width` binary digits, 1 to 128, in `bits`; in `number` whether it is the value.
+/// A value as a whole number of `width` binary digits, 1 to 128, in `bits`; `number` says whether that equals the
+/// value.
 #[unsafe(no_mangle)]
 pub extern "C" fn apfloat_to_u128(
     format: u32,
@@ -233,8 +234,8 @@ pub extern "C" fn apfloat_to_u128(
     )
 }
 
-/// A value as a whole number of `width` binary digits, 2 to 128, in two's complement of 128 digits in `bits`; in
-/// `number` whether it is the value.
+/// A value as a whole number of `width` binary digits, 2 to 128, in 128-bit two's complement, in `bits`; `number` says
+/// whether that equals the value.
 #[unsafe(no_mangle)]
 pub extern "C" fn apfloat_to_i128(
     format: u32,
@@ -255,7 +256,7 @@ pub extern "C" fn apfloat_to_i128(
     )
 }
 
-/// The whole number beside a value, as a value.
+/// A value rounded to a whole number, as a value.
 #[unsafe(no_mangle)]
 pub extern "C" fn apfloat_round_to_integral(
     format: u32,
@@ -311,7 +312,7 @@ pub extern "C" fn apfloat_ilogb(format: u32, x: Halves, answer: &mut Answer) -> 
     )
 }
 
-/// The fraction of a value, from a half to below 1, and in `number` its exponent. Only pairs of doubles use the mode.
+/// The fraction of a value, from a half to below 1, and its exponent in `number`. Only pairs of doubles use the mode.
 #[unsafe(no_mangle)]
 pub extern "C" fn apfloat_frexp(format: u32, mode: u32, x: Halves, answer: &mut Answer) -> u32
     ensures { let call = Fraction (whole x) in
@@ -321,7 +322,7 @@ pub extern "C" fn apfloat_frexp(format: u32, mode: u32, x: Halves, answer: &mut 
     reply(format, mode_of(mode), Call::Fraction(x.number()), answer)
 }
 
-/// The least value above.
+/// The least value above the operand.
 #[unsafe(no_mangle)]
 pub extern "C" fn apfloat_next_up(format: u32, x: Halves, answer: &mut Answer) -> u32
     ensures { let call = NextUp (whole x) in
@@ -336,7 +337,7 @@ pub extern "C" fn apfloat_next_up(format: u32, x: Halves, answer: &mut Answer) -
     )
 }
 
-/// The greatest value below.
+/// The greatest value below the operand.
 #[unsafe(no_mangle)]
 pub extern "C" fn apfloat_next_down(format: u32, x: Halves, answer: &mut Answer) -> u32
     ensures { let call = NextDown (whole x) in
@@ -351,7 +352,7 @@ pub extern "C" fn apfloat_next_down(format: u32, x: Halves, answer: &mut Answer)
     )
 }
 
-/// The order of two values in `number`: -1, 0 or 1, and 2 beside a NaN.
+/// The order of two values in `number`: -1, 0 or 1, and 2 if they are unordered.
 #[unsafe(no_mangle)]
 pub extern "C" fn apfloat_compare(format: u32, x: Halves, y: Halves, answer: &mut Answer) -> u32
     ensures { let call = Comparison (whole x) (whole y) in
@@ -381,7 +382,7 @@ pub extern "C" fn apfloat_classify(format: u32, x: Halves, answer: &mut Answer) 
     )
 }
 
-/// The value of a text, rounded once; one with a byte above 127 is refused.
+/// The value of a text, rounded once; a text with a byte above 127 is refused.
 #[unsafe(no_mangle)]
 pub extern "C" fn apfloat_parse(format: u32, mode: u32, text: &[u8], answer: &mut Answer) -> u32
     ensures { let call = Text text.entry in

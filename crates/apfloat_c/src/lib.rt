@@ -1,7 +1,7 @@
-//! The library for programs in C, by `include/apfloat.h`.
+//! The library for C programs, declared in `include/apfloat.h`.
 //!
-//! A value crosses as its bits, in two halves; a format and a rounding mode by their codes. Each export returns 0 where it
-//! answered, and else the code of an error, and is total: it requires nothing of what its arguments hold.
+//! Values are passed as their bits, in two halves, and formats and rounding modes as codes. Each export returns 0 on
+//! success, and an error code otherwise. It is total: it requires nothing of the contents of its arguments.
 #![tactic(auto)]
 
 mod call;

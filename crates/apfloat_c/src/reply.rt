@@ -14,7 +14,8 @@ use rustc_apfloat::ieee::{
     X87DoubleExtendedS,
 };
 
-/// Answers a call in the format of a code, and returns 0, or the code of the first error; the answer is then unchanged.
+/// Computes a call in the format of a code, and returns 0 or the code of the first error; on an error the answer is
+/// unchanged.
 pub fn reply(format: u32, mode: Option<Round>, call: Call, answer: &mut Answer) -> u32
     ensures { IsReply (asked (found formats format) mode call.entry) answer.old answer.new result }
 {
@@ -33,7 +34,7 @@ pub fn reply(format: u32, mode: Option<Round>, call: Call, answer: &mut Answer) 
     }
 }
 
-/// The answer to a call in a format, or the error of one that it refuses.
+/// The result of a call in a format, or an error code if the format refuses it.
 fn answer_in(format: Format, round: Round, call: Call) -> Result<Answer, u32>
     ensures { IsOutcome (kind_of format) round call.entry result }
 {

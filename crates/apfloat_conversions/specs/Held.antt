@@ -1,16 +1,16 @@
--- When each number of one shape, or each with a certain exponent, is a number of another.
+-- When every number of one shape, or every one with a given exponent, is also a number of another.
 use Rattle.std.specs.Prelude.{◌≡◌, ◌-◌, ◌*◌, ◌^◌, ◌≤◌, ◌⊎◌, ℤ, pos, ◌+ℤ◌, ◌≤ℤ◌}
 use Rattle.apfloat_base.specs.formats.Format.{greatest_significand}
 use Rattle.apfloat_unpacked.specs.declared.shape.Shape.{Shape}
 use Rattle.apfloat_unpacked.specs.Shapes.{format_at}
 
--- at one greatest exponent the greatest significands decide
+-- with equal greatest exponents, the greatest significands decide
 pub record IsReachedLevel (from into : Shape) : Type 0 where
   pub exponents : from.max_exp ≡ into.max_exp
   pub significands : greatest_significand from.nonfinite from.precision * 2 ^ (into.precision - from.precision)
       ≤ greatest_significand into.nonfinite into.precision
 
--- the largest value is no larger, where the precision is no higher
+-- the largest value is no larger, if the precision is no higher
 abbrev pub IsReached : Shape → Shape → Type 0
 IsReached from into = ((from.max_exp +ℤ pos 1) ≤ℤ into.max_exp) ⊎ IsReachedLevel from into
 
@@ -19,12 +19,12 @@ pub record IsHeld (from into : Shape) : Type 0 where
   pub fine : (format_at from).scale ≤ (format_at into).scale
   pub reached : IsReached from into
 
--- the other shape has as many digits, all of them at this exponent, and larger numbers at the next one
+-- the other shape has at least as many digits, all of them at this exponent, and larger numbers at the next one
 pub record IsInside (from into : Shape) (exponent : ℤ) : Type 0 where
   pub precise : from.precision ≤ into.precision
   pub least : into.min_exp ≤ℤ exponent
   pub below : (exponent +ℤ pos 1) ≤ℤ into.max_exp
 
--- each number of the one shape with this exponent is a number of the other
+-- every number of the one shape with this exponent is a number of the other
 abbrev pub IsHeldAt : Shape → Shape → ℤ → Type 0
 IsHeldAt from into exponent = IsHeld from into ⊎ IsInside from into exponent

@@ -1,4 +1,4 @@
-//! Values of one format in another.
+//! Conversion of values from one format to another.
 
 ghost use Rattle.std.specs.Prelude.{◌≡◌, cond, not};
 ghost use Rattle.apfloat_base.specs.declared.kinds.NonfiniteBehavior.{NonfiniteBehavior};
@@ -18,7 +18,7 @@ use apfloat_unpacked::rounding::deliver;
 use apfloat_unpacked::shape::{Shape, last_exponent};
 use apfloat_unpacked::unpacked::{Unpacked, infinity_of, remade, zero_of};
 
-/// An answer in the other format, and whether information was lost.
+/// A result in the other format, and whether information was lost.
 #[derive(Clone, Copy, Debug)]
 pub struct Converted {
     /// The value in the other format, with its status.
@@ -27,8 +27,7 @@ pub struct Converted {
     pub loses_info: bool,
 }
 
-/// A number, rounded once; inexact is what loses information. Where the other format has the number, there is nothing to
-/// round.
+/// A number, rounded once; an inexact result loses information. If the other format has the number, nothing is rounded.
 #[inline(always)]
 fn converted_number(from: Shape, into: Shape, x: Unpacked, round: Round) -> Converted
     requires from { IsShape from }
@@ -59,7 +58,7 @@ fn converted_number(from: Shape, into: Shape, x: Unpacked, round: Round) -> Conv
     }
 }
 
-/// An answer that is inexact where it loses information.
+/// A result that is inexact if it loses information.
 #[inline(always)]
 fn kept(value: Unpacked, loses_info: bool) -> Converted
     ensures value { result.answer.value ≡ value }
@@ -94,7 +93,7 @@ fn converted_infinity(into: Shape, negative: bool) -> Converted
     kept(infinity_of(into, negative), loses_info)
 }
 
-/// The zero of that sign, or the one zero of the other format.
+/// The zero of that sign, or the other format's only zero.
 #[inline(always)]
 fn converted_zero(into: Shape, negative: bool) -> Converted
     ensures stored { IsStored into result.answer.value }
@@ -126,7 +125,7 @@ fn convert_by_category(from: Shape, into: Shape, x: Unpacked, round: Round) -> C
     }
 }
 
-/// The same, apart: of a number that is rounded nothing else is inlined.
+/// The same, kept out of line, so that only the case of a number that is rounded is inlined.
 #[cold]
 #[inline(never)]
 fn convert_apart(from: Shape, into: Shape, x: Unpacked, round: Round) -> Converted
@@ -142,7 +141,8 @@ fn convert_apart(from: Shape, into: Shape, x: Unpacked, round: Round) -> Convert
     convert_by_category(from, into, x, round)
 }
 
-/// A value of one format in another, rounded once, and whether that lost information (IEEE 754-2008 5.4.2, convertFormat).
+/// A value of one format in another, rounded once, and whether information was lost (IEEE 754-2008 5.4.2,
+/// convertFormat).
 #[inline(always)]
 pub fn convert(from: Shape, into: Shape, x: Unpacked, round: Round) -> Converted
     requires from { IsShape from }

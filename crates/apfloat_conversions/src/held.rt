@@ -1,4 +1,5 @@
-//! Formats that have numbers of another format, all of them or those of one exponent, and these numbers there.
+//! Formats that contain numbers of another format, all of them or those of one exponent, and these numbers in that
+//! format.
 
 ghost use Rattle.std.specs.Prelude.{◌≡◌, ◌-◌, ◌*◌, ◌^◌, ◌≤◌, true};
 ghost use Rattle.apfloat_base.specs.formats.Datum.{finite};
@@ -26,7 +27,7 @@ fn reaches(from: Shape, into: Shape) -> bool
     }
 }
 
-/// Whether each number of the one format is a number of the other too.
+/// Whether every number of the one format is also a number of the other.
 #[inline(always)]
 fn holds(from: Shape, into: Shape) -> bool
     requires from { IsShape from }
@@ -39,7 +40,7 @@ fn holds(from: Shape, into: Shape) -> bool
     reaches(from, into)
 }
 
-/// Whether another format has as many digits as a number, and has all of them at its exponent.
+/// Whether another format has at least as many digits as a number, and has all of them at its exponent.
 #[inline(always)]
 fn is_inside(from: Shape, into: Shape, exponent: ExpInt) -> bool
     ensures { result ≡ true → IsInside from into exponent }
@@ -47,7 +48,7 @@ fn is_inside(from: Shape, into: Shape, exponent: ExpInt) -> bool
     from.precision <= into.precision && into.min_exp <= exponent && exponent < into.max_exp
 }
 
-/// Whether another format has a number, as far as its exponent tells.
+/// Whether another format has a number, as far as its exponent shows.
 #[inline(always)]
 pub fn has(from: Shape, into: Shape, x: Unpacked) -> bool
     requires from { IsShape from }
@@ -57,7 +58,7 @@ pub fn has(from: Shape, into: Shape, x: Unpacked) -> bool
     holds(from, into) || is_inside(from, into, x.exponent)
 }
 
-/// A number in a format that has it: its significand gets as many digits more as that one has.
+/// A number in a format that has it: its significand is extended by the additional digits of that format.
 #[inline(always)]
 pub fn widened(from: Shape, into: Shape, x: Unpacked) -> Unpacked
     requires from { IsShape from }

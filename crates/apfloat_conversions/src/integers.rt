@@ -1,4 +1,4 @@
-//! Whole numbers into a format and out of it.
+//! Conversion from and to whole numbers.
 
 ghost use Rattle.std.specs.Prelude.{◌≡◌, ◌-◌, ◌^◌, ◌<◌, ◌≤◌, false, if◌then◌else◌};
 ghost use Rattle.apfloat_base.specs.formats.Datum.{finite};
@@ -25,12 +25,12 @@ pub fn from_unsigned(shape: Shape, number: u128, round: Round) -> StatusAnd<Unpa
     deliver(shape, number, 0, Loss::ExactlyZero, round, false)
 }
 
-/// A whole number that a value became, and whether it is the value.
+/// The whole number that a value was converted to, and whether it equals the value.
 #[derive(Clone, Copy, Debug)]
 pub struct Unsigned {
     /// The whole number, with its status.
     pub answer: StatusAnd<u128>,
-    /// Whether the whole number is the value; for -0 it is false.
+    /// Whether the whole number equals the value; false for -0.
     pub is_exact: bool,
 }
 
@@ -42,7 +42,7 @@ pub fn status_of(exact: bool) -> Status
     if exact { Status::OK } else { Status::INEXACT }
 }
 
-/// The greatest whole number of so many binary digits.
+/// The greatest whole number of `width` binary digits.
 #[inline(always)]
 fn greatest(width: u32) -> u128
     requires low { 1 ≤ width }
@@ -52,7 +52,7 @@ fn greatest(width: u32) -> u128
     u128::MAX >> (128 - width)
 }
 
-/// The answer for a value out of range: the end of the range.
+/// The result for a value out of range: the end of the range.
 #[inline(always)]
 fn out_of_range(number: u128) -> Unsigned
     ensures number { result.answer.value ≡ number }
@@ -76,7 +76,7 @@ fn limit_of(width: u32, negative: bool) -> u128
     if negative { 0 } else { greatest(width) }
 }
 
-/// A finite number that is not zero as a whole number of so many binary digits.
+/// A nonzero number as a whole number of `width` binary digits.
 #[inline(always)]
 fn number_to_unsigned(shape: Shape, x: Unpacked, width: u32, round: Round) -> Unsigned
     requires lawful { IsShape shape }
@@ -104,7 +104,7 @@ fn number_to_unsigned(shape: Shape, x: Unpacked, width: u32, round: Round) -> Un
     }
 }
 
-/// Any value as a whole number. It stands apart, so that of a number nothing else is inlined.
+/// Any value as a whole number. Kept out of line, so that only the case of a nonzero number is inlined.
 #[cold]
 #[inline(never)]
 fn any_to_unsigned(shape: Shape, x: Unpacked, width: u32, round: Round) -> Unsigned
@@ -127,7 +127,7 @@ fn any_to_unsigned(shape: Shape, x: Unpacked, width: u32, round: Round) -> Unsig
     }
 }
 
-/// A value as a whole number of so many binary digits.
+/// A value as a whole number of `width` binary digits.
 #[inline(always)]
 pub fn to_unsigned(shape: Shape, x: Unpacked, width: u32, round: Round) -> Unsigned
     requires lawful { IsShape shape }

@@ -1,4 +1,4 @@
-//! Values rounded to whole numbers of their format.
+//! Rounding values to whole numbers in their own format.
 
 ghost use Rattle.std.specs.Prelude.{◌≡◌, ◌%◌, ◌^◌, eqb};
 ghost use Rattle.apfloat_base.specs.order.Classes.{is_integer};
@@ -15,7 +15,7 @@ use apfloat_unpacked::nans::propagated;
 use apfloat_unpacked::shape::{Shape, last_exponent};
 use apfloat_unpacked::unpacked::{Unpacked, from_quanta};
 
-/// A finite number that is not zero, rounded to a whole number.
+/// A nonzero number, rounded to a whole number.
 #[inline(always)]
 fn round_number(shape: Shape, x: Unpacked, round: Round) -> StatusAnd<Unpacked>
     requires lawful { IsShape shape }
@@ -34,7 +34,7 @@ fn round_number(shape: Shape, x: Unpacked, round: Round) -> StatusAnd<Unpacked>
     status_of(whole.exact).and(from_quanta(shape, x.negative, whole.magnitude, shape.scale()))
 }
 
-/// A value rounded to a whole number of its format (IEEE 754-2008 5.9, roundToIntegralExact).
+/// A value rounded to a whole number in its own format (IEEE 754-2008 5.9, roundToIntegralExact).
 #[inline(always)]
 pub fn round_to_integral(shape: Shape, x: Unpacked, round: Round) -> StatusAnd<Unpacked>
     requires lawful { IsShape shape }
@@ -51,7 +51,7 @@ pub fn round_to_integral(shape: Shape, x: Unpacked, round: Round) -> StatusAnd<U
     }
 }
 
-/// Whether a finite number that is not zero is a whole number.
+/// Whether a nonzero number is a whole number.
 #[inline(always)]
 fn is_whole_number(shape: Shape, x: Unpacked) -> bool
     requires lawful { IsShape shape }
@@ -66,7 +66,7 @@ fn is_whole_number(shape: Shape, x: Unpacked) -> bool
     round_fraction(x.significand, places, Round::TowardZero, x.negative).exact
 }
 
-/// Whether a value is finite and a whole number, zeros too.
+/// Whether a value is finite and a whole number; true for zeros.
 #[inline(always)]
 pub fn is_integer(shape: Shape, x: Unpacked) -> bool
     requires lawful { IsShape shape }

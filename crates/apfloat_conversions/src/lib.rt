@@ -1,7 +1,8 @@
-//! Conversions of unpacked values: to and from whole numbers, to other formats, to other exponents, and to the next value.
+//! Conversions of unpacked values: to and from whole numbers, to other formats, to other exponents, and to the next
+//! value.
 //!
-//! Nothing here is generic. Each operation answers what the model says of its operands, NaNs, infinities and zeros too;
-//! `apfloat_ieee` brings the constants of a type to it.
+//! Nothing here is generic. Each operation returns what the model says for its operands, including NaNs, infinities and
+//! zeros; `apfloat_ieee` supplies the constants of a type.
 #![tactic(auto)]
 
 pub mod between_formats;

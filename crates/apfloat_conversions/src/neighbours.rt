@@ -15,8 +15,8 @@ use apfloat_unpacked::nans::{quiet_significand, signals};
 use apfloat_unpacked::shape::Shape;
 use apfloat_unpacked::unpacked::{Unpacked, infinity_of, largest_of, nan_of, smallest_of, zero_of};
 
-/// How far apart neighbours are whose integer bit has that exponent, in units of a significand's last digit: one, or a
-/// quantum.
+/// The distance between neighbours whose integer bit has that exponent, in units of a significand's last digit: one, or
+/// a quantum.
 #[inline(always)]
 fn step(shape: Shape, exponent: ExpInt) -> u128
     requires lawful { IsShape shape }
@@ -127,7 +127,7 @@ fn next_of_number(shape: Shape, x: Unpacked) -> Unpacked
     }
 }
 
-/// What the next value up from a NaN is: it, or where it signals the quiet one without a payload.
+/// The next value up from a NaN: the NaN itself, or, if it is signaling, the quiet one without a payload.
 #[inline(always)]
 fn next_of_nan(shape: Shape, x: Unpacked) -> StatusAnd<Unpacked>
     requires lawful { IsShape shape }

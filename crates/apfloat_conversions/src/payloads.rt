@@ -1,5 +1,5 @@
-//! NaNs of one format in another: made quiet, and with as much of the payload as the other format has (IEEE 754-2008
-//! 6.2.3).
+//! Conversion of NaNs from one format to another: quieted, and with as much of the payload as the other format has
+//! (IEEE 754-2008 6.2.3).
 
 ghost use Rattle.std.specs.Prelude.{◌≡◌, ◌-◌, ◌*◌, ◌/◌, ◌^◌, ◌<◌};
 ghost use Rattle.apfloat_base.specs.rounding.Flags.{bits_of};
@@ -17,7 +17,7 @@ use apfloat_unpacked::nans::{
 use apfloat_unpacked::shape::Shape;
 use apfloat_unpacked::unpacked::{Unpacked, nan_of};
 
-/// How many last bits a NaN's significand loses: where there is a payload, its first bit stays the first.
+/// How many of the lowest bits a NaN's significand loses: if there is a payload, its first bit stays the first.
 #[inline(always)]
 fn places_out(from: Shape, into: Shape) -> u32
     requires { IsShape from }
@@ -31,7 +31,7 @@ fn places_out(from: Shape, into: Shape) -> u32
     }
 }
 
-/// The payload for the other format of a NaN with that significand.
+/// The payload in the other format of a NaN with that significand.
 #[inline(always)]
 fn carried_payload(from: Shape, into: Shape, significand: u128) -> u128
     requires from { IsShape from }
@@ -44,7 +44,7 @@ fn carried_payload(from: Shape, into: Shape, significand: u128) -> u128
     (significand << places_in) >> places_out(from, into)
 }
 
-/// Whether a NaN loses information: a bit that was set, or the integer bit of a signaling NaN, or the whole payload.
+/// Whether a NaN loses information: a set bit, or the integer bit of a signaling NaN, or the whole payload.
 #[inline(always)]
 fn nan_loses(from: Shape, into: Shape, significand: u128) -> bool
     requires from { IsShape from }
@@ -62,7 +62,7 @@ fn nan_loses(from: Shape, into: Shape, significand: u128) -> bool
     cut != 0 || ((hides_integer_bit && signals(from, significand)) || drops_payload)
 }
 
-/// A NaN, made quiet, with as much of its payload as the other format has (IEEE 754-2008 6.2.3).
+/// A NaN, quieted, with as much of its payload as the other format has (IEEE 754-2008 6.2.3).
 #[inline(always)]
 pub(crate) fn converted_nan(from: Shape, into: Shape, x: Unpacked) -> Converted
     requires from { IsShape from }

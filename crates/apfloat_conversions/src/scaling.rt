@@ -1,4 +1,4 @@
-//! Values times powers of two, and values taken apart into a fraction and a power of two.
+//! Multiplication of values by powers of two, and the split of values into a fraction and a power of two.
 
 ghost use Rattle.std.specs.Prelude.{◌≡◌, ◌⊎◌, ◌*◌, ◌^◌, pos, neg_ℤ, ◌+ℤ◌, ◌≤ℤ◌};
 ghost use Rattle.apfloat_base.specs.arithmetic.Exact.{up, down};
@@ -17,7 +17,7 @@ use apfloat_unpacked::rounding::deliver;
 use apfloat_unpacked::shape::{Shape, last_exponent};
 use apfloat_unpacked::unpacked::Unpacked;
 
-/// The amount, or the farthest one on its side that rounding has to see: past it no answer changes.
+/// The count of places, limited to the range that rounding has to see: past it no result changes.
 #[inline(always)]
 pub fn clamped(places: ExpInt) -> ExpInt
     ensures within { IsWithin scaling_bound result }
@@ -34,7 +34,7 @@ pub fn clamped(places: ExpInt) -> ExpInt
     }
 }
 
-/// The exponent of an integer bit that is moved up by so many places.
+/// The exponent of an integer bit that is moved up by `places`.
 #[inline(always)]
 fn moved(exponent: ExpInt, places: ExpInt) -> ExpInt
     requires exponent { IsWithin number_bound exponent }
@@ -45,7 +45,7 @@ fn moved(exponent: ExpInt, places: ExpInt) -> ExpInt
     exponent + places
 }
 
-/// A finite number that is not zero, times 2 to the power of `places`, rounded once.
+/// A nonzero number times 2 to the power of `places`, rounded once.
 #[inline(always)]
 fn scale_number(shape: Shape, x: Unpacked, places: ExpInt, round: Round) -> StatusAnd<Unpacked>
     requires lawful { IsShape shape }
@@ -83,7 +83,7 @@ pub fn scaled(shape: Shape, x: Unpacked, places: ExpInt, round: Round) -> Unpack
     }
 }
 
-/// The exponent of the highest digit of a value, or what stands for it (IEEE 754-2008 5.3.3, logB).
+/// The exponent of the highest digit of a value, or the constant returned in its place (IEEE 754-2008 5.3.3, logB).
 #[inline(always)]
 pub fn ilogb(shape: Shape, x: Unpacked) -> ExpInt
     requires lawful { IsShape shape }
@@ -101,13 +101,13 @@ pub fn ilogb(shape: Shape, x: Unpacked) -> ExpInt
 /// A value of magnitude from 0.5 to below 1, and an exponent.
 #[derive(Clone, Copy, Debug)]
 pub struct Fraction {
-    /// The fraction, with the sign of the value; a zero or an infinity itself, and a NaN made quiet.
+    /// The fraction, with the sign of the value; a zero or an infinity itself, and a NaN quieted.
     pub value: Unpacked,
-    /// The exponent; of a zero 0, of an infinity `IEK_INF`, and of a NaN `IEK_NAN`.
+    /// The exponent: 0 for a zero, `IEK_INF` for an infinity, `IEK_NAN` for a NaN.
     pub exponent: ExpInt,
 }
 
-/// The fraction of a finite number that is not zero, and its exponent.
+/// The fraction of a nonzero number, and its exponent.
 #[inline(always)]
 fn number_fraction(shape: Shape, x: Unpacked) -> Fraction
     requires lawful { IsShape shape }
@@ -127,8 +127,8 @@ fn number_fraction(shape: Shape, x: Unpacked) -> Fraction
     }
 }
 
-/// The fraction of a value and its exponent, whose product is the value; of a value that is no number or zero, itself
-/// and what stands for its exponent.
+/// The fraction of a value and its exponent; the fraction times 2 to that power is the value. A zero, an infinity or a
+/// NaN is its own fraction (the NaN quieted), with 0, `IEK_INF` or `IEK_NAN`.
 #[inline(always)]
 pub fn fraction_of(shape: Shape, x: Unpacked) -> Fraction
     requires lawful { IsShape shape }

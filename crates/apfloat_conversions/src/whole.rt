@@ -1,4 +1,4 @@
-//! The whole number that a mode picks beside a number.
+//! The whole number that a mode picks for a number.
 
 ghost use Rattle.std.specs.Prelude.{◌≡◌, ℕ, ◌+◌, ◌*◌, ◌/◌, ◌^◌, ◌<◌, ◌≤◌};
 ghost use Rattle.apfloat_unpacked.specs.Shapes.{IsShape, format_at};
@@ -11,7 +11,7 @@ use apfloat_unpacked::rounding::moves_up;
 use apfloat_unpacked::shape::{Shape, last_exponent};
 use apfloat_unpacked::unpacked::Unpacked;
 
-/// The magnitude of a whole number, and whether it is the number that it stands for.
+/// The magnitude of a whole number, and whether nothing was rounded.
 #[derive(Clone, Copy, Debug)]
 pub struct Whole {
     /// The whole number without its sign.
@@ -20,7 +20,7 @@ pub struct Whole {
     pub exact: bool,
 }
 
-/// The whole number beside `significand * 2^-places`.
+/// `significand * 2^-places`, rounded by the mode to a whole number.
 #[inline(always)]
 pub fn round_fraction(significand: u128, places: u32, round: Round, negative: bool) -> Whole
     requires { significand < 2 ^ 125 }
@@ -54,7 +54,7 @@ fn raised(precision: u32, significand: u128, places: u32) -> u128
     significand * power_of_two(places)
 }
 
-/// The whole number beside a finite number that is not zero, if it is below `2^128`.
+/// A nonzero number rounded to a whole number, if that is below `2^128`.
 #[inline(always)]
 pub fn whole_of(shape: Shape, x: Unpacked, round: Round) -> Option<Whole>
     requires lawful { IsShape shape }

@@ -1,4 +1,4 @@
-//! The built-in binary floating-point formats, and with them the calls on values of any format.
+//! The built-in binary floating-point formats, together with the functions on values of any format.
 //!
 //! A format is a type that implements `Semantics`; `IeeeFloat<S>` is a value of the format `S`.
 #![tactic(auto)]

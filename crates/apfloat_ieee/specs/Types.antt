@@ -1,4 +1,4 @@
--- The constants, the format and the layout of a type of formats.
+-- The constants, the format and the layout of a format type.
 use Rattle.apfloat_base.specs.formats.Format.{Format}
 use Rattle.apfloat_base.specs.bits.Layout.{Layout}
 use Rattle.apfloat_base.specs.formats.Lawful.{Constants, constants_with, format_with, layout_with}
@@ -17,7 +17,7 @@ format_of s = format_with (constants_of s)
 abbrev pub layout_of : {X : Type 0} → Ghosts X → Layout
 layout_of s = layout_with (constants_of s)
 
--- what rounding reads of them
+-- the constants that rounding reads
 abbrev pub shape_of : {X : Type 0} → Ghosts X → Shape
 shape_of s =
     record {

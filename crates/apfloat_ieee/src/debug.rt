@@ -1,7 +1,7 @@
 //! The text of a value for debugging: `(CATEGORY | SIGNIFICAND * 2^EXPONENT)`.
 //!
-//! The significand is decimal, with the sign directly before it. A finite value that is not zero shows its significand
-//! as a whole number below `2^PRECISION`, and the exponent of the integer bit, which is `MIN_EXP` at least.
+//! The significand is decimal, with the sign directly in front of it. For a nonzero number, it is a whole number below
+//! `2^PRECISION`, and the exponent is that of the integer bit, which is at least `MIN_EXP`.
 
 ghost use Rattle.apfloat_unpacked.specs.Shapes.{IsShape};
 ghost use Rattle.apfloat_unpacked.specs.Stored.{IsStored, IsNormal};
@@ -20,7 +20,7 @@ struct Text {
     exponent: ExpInt,
 }
 
-/// What is shown of a number: a denormal one without the zeros that follow its last digit.
+/// What is shown of a number; a denormal one is shown without the zeros that follow its last digit.
 fn number_text(shape: Shape, x: Unpacked) -> Text
     requires lawful { IsShape shape }
     requires normal { IsNormal shape x }
@@ -38,7 +38,7 @@ fn number_text(shape: Shape, x: Unpacked) -> Text
     }
 }
 
-/// The exponent that NaNs are written with, or what stands for it.
+/// The exponent with which NaNs are written, or the value shown in its place.
 fn nan_exponent(shape: Shape) -> ExpInt
     requires { IsShape shape }
 {

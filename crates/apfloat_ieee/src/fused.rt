@@ -14,10 +14,10 @@ use apfloat_base::{Round, StatusAnd};
 impl<S: Semantics> IeeeFloat<S> {
     /// The product with `multiplicand` plus `addend`, rounded once (IEEE 754-2008 5.4.1, fusedMultiplyAdd).
     ///
-    /// Also where the product lies below the smallest denormal value, and where it cancels the addend. An exact zero has
-    /// the sign of a sum of the product and the addend (6.3). An infinity times a zero is invalid (7.2): the quiet NaN
-    /// without a payload, with `INVALID_OP`, whatever the addend is; and so is the sum of an infinite product and the
-    /// infinity of the other sign. The first operand that is a NaN is answered, made quiet (6.2.3).
+    /// This holds too if the product is below the smallest denormal value, or cancels the addend. An exact zero has the
+    /// sign of a sum of the product and the addend (6.3). An infinity times a zero is invalid (7.2): the result is the
+    /// quiet NaN without a payload, with `INVALID_OP`, whatever the addend is. The same holds for the sum of an
+    /// infinite product and the opposite infinity. The first operand that is a NaN is returned quieted (6.2.3).
     #[inline(always)]
     pub fn mul_add_r(self, multiplicand: Self, addend: Self, round: Round) -> StatusAnd<Self>
         requires { S.PRECISION ≤ 63 }
@@ -32,7 +32,7 @@ impl<S: Semantics> IeeeFloat<S> {
         ))
     }
 
-    /// The product with `multiplicand` plus `addend`, rounded once to the nearest value, a tie to the even one.
+    /// The product with `multiplicand` plus `addend`, rounded once to the nearest value, ties to even.
     #[inline]
     pub fn mul_add(self, multiplicand: Self, addend: Self) -> StatusAnd<Self>
         requires { S.PRECISION ≤ 63 }

@@ -78,7 +78,7 @@ fn widths_of<S: Semantics>() -> Widths
     }
 }
 
-/// The value that is written as `bits`.
+/// The value whose encoding is `bits`.
 #[inline]
 pub(crate) fn decode<S: Semantics>(bits: u128) -> IeeeFloat<S>
     requires { S.PRECISION < S.BITS }
@@ -103,7 +103,7 @@ pub(crate) fn encode<S: Semantics>(x: IeeeFloat<S>) -> u128
 }
 
 impl<S: Semantics> IeeeFloat<S> {
-    /// The value that is stored so.
+    /// The value with this stored form.
     #[inline]
     pub(crate) fn packed(unpacked: Unpacked) -> Self
         requires { IsStored (shape_of S.Semantics) unpacked }
@@ -120,7 +120,7 @@ impl<S: Semantics> IeeeFloat<S> {
         }
     }
 
-    /// What is stored of the value.
+    /// The stored form of the value.
     #[inline]
     pub(crate) fn unpacked(self) -> Unpacked
         ensures stored { IsStored (shape_of S.Semantics) result }
@@ -131,7 +131,7 @@ impl<S: Semantics> IeeeFloat<S> {
         self.unpacked
     }
 
-    /// An answer with the value that is stored so.
+    /// The result with the value of this stored form.
     #[inline]
     pub(crate) fn answered(answer: StatusAnd<Unpacked>) -> StatusAnd<Self>
         requires { IsStored (shape_of S.Semantics) answer.value }
@@ -142,11 +142,11 @@ impl<S: Semantics> IeeeFloat<S> {
     }
 }
 
-/// Delivers `significand * 2^exponent`, with `loss` below its last digit, rounded once to the format (IEEE 754-2008 4.3),
-/// with exactly the flags of that rounding.
+/// Delivers `significand * 2^exponent`, with `loss` below its last digit, rounded once to the format (IEEE 754-2008
+/// 4.3), with exactly the flags of that rounding.
 ///
-/// Where something was lost below, the unit has to be so fine that it divides the spacing of the format there: it is at
-/// most the quantum, or the significand has all digits of the format.
+/// If something was lost below, the unit must be fine enough to divide the spacing of the format there: it is at most
+/// the quantum, or the significand has all digits of the format.
 #[inline]
 pub fn normalize<S: Semantics>(
     negative: bool,

@@ -1,4 +1,4 @@
-//! The order of the values of one format, `==` and `<`, and their sameness.
+//! The order of the values of one format, `==` and `<`, and when two values are the same.
 
 ghost use Rattle.std.specs.Prelude.{◌≡◌};
 ghost use Rattle.apfloat_base.specs.order.Order.{compared};
@@ -8,7 +8,7 @@ use crate::semantics::Semantics;
 use apfloat_arithmetic::order;
 use std::cmp::Ordering;
 
-/// The order of two values as numbers: both zeros are equal, the infinities stand at the ends, and a NaN beside none.
+/// The numeric order of two values: both zeros are equal, the infinities are at the ends, and a NaN is unordered.
 #[inline]
 fn compare<S: Semantics>(x: IeeeFloat<S>, y: IeeeFloat<S>) -> Option<Ordering>
     ensures { result ≡ compared x y }
@@ -24,7 +24,7 @@ impl<S: Semantics> PartialEq for IeeeFloat<S> {
 
     ghost laws = { equal_laws };
 
-    /// Whether both are one number (IEEE 754-2008 5.11): both zeros are equal, and a NaN equals nothing.
+    /// Whether both are the same number (IEEE 754-2008 5.11): both zeros are equal, and a NaN equals nothing.
     #[inline]
     fn eq(&self, other: &Self) -> bool {
         match compare(*self, *other) {
@@ -42,8 +42,8 @@ impl<S: Semantics> PartialOrd for IeeeFloat<S> {
 
     ghost laws = { compared_laws };
 
-    /// The order of the numbers (IEEE 754-2008 5.11): both zeros are equal, the infinities stand at the ends, and a NaN
-    /// beside none.
+    /// The numeric order (IEEE 754-2008 5.11): both zeros are equal, the infinities are at the ends, and a NaN is
+    /// unordered.
     #[inline]
     fn partial_cmp(&self, other: &Self) -> Option<Ordering> {
         compare(*self, *other)

@@ -17,7 +17,7 @@ use apfloat_arithmetic::quotients::divide;
 use apfloat_base::{Round, StatusAnd};
 use std::ops::{Div, DivAssign, Mul, MulAssign};
 
-/// The product of two values, rounded once; a format of at most 64 digits has it.
+/// The product of two values, rounded once; only a format of at most 64 digits has it.
 #[inline(always)]
 pub(crate) fn product<S: Semantics>(
     x: IeeeFloat<S>,
@@ -43,7 +43,7 @@ pub(crate) fn quotient<S: Semantics>(
     IeeeFloat::answered(divide(shape_of::<S>(), x.unpacked(), y.unpacked(), round))
 }
 
-/// The exact inverse of a value, where the format has it.
+/// The exact inverse of a value, if the format has it.
 #[inline]
 pub(crate) fn inverse<S: Semantics>(x: IeeeFloat<S>) -> Option<IeeeFloat<S>>
     ensures { IsExactInverse (format_of S.Semantics) x result }
@@ -62,7 +62,7 @@ impl<S: Semantics> Mul for IeeeFloat<S> {
     ghost mul_gives = { λ x y r. Gives (IsProduct (format_of S.Semantics) NearestTiesToEven x y)
         r };
 
-    /// The product, rounded once to the nearest value, a tie to the even one.
+    /// The product, rounded once to the nearest value, ties to even.
     #[inline]
     fn mul(self, rhs: IeeeFloat<S>) -> StatusAnd<IeeeFloat<S>> {
         product(self, rhs, Round::NearestTiesToEven)
@@ -75,7 +75,7 @@ impl<S: Semantics> Div for IeeeFloat<S> {
     ghost div_gives = { λ x y r. Gives (IsQuotient (format_of S.Semantics) NearestTiesToEven x y)
         r };
 
-    /// The quotient, rounded once to the nearest value, a tie to the even one.
+    /// The quotient, rounded once to the nearest value, ties to even.
     #[inline]
     fn div(self, rhs: IeeeFloat<S>) -> StatusAnd<IeeeFloat<S>> {
         quotient(self, rhs, Round::NearestTiesToEven)
@@ -88,7 +88,7 @@ impl<S: Semantics> MulAssign for IeeeFloat<S> {
     ghost mul_assign_gives = { λ x y z. (r : StatusAnd Self) ×
         Gives (IsProduct (format_of S.Semantics) NearestTiesToEven x y) r × (z ≡ r.value) };
 
-    /// The product by `*`; its status is dropped.
+    /// The product by `*`; the status is dropped.
     #[inline]
     fn mul_assign(&mut self, rhs: IeeeFloat<S>) {
         *self = product(*self, rhs, Round::NearestTiesToEven).value;
@@ -99,7 +99,7 @@ impl<S: Semantics> DivAssign for IeeeFloat<S> {
     ghost div_assign_gives = { λ x y z. (r : StatusAnd Self) ×
         Gives (IsQuotient (format_of S.Semantics) NearestTiesToEven x y) r × (z ≡ r.value) };
 
-    /// The quotient by `/`; its status is dropped.
+    /// The quotient by `/`; the status is dropped.
     #[inline]
     fn div_assign(&mut self, rhs: IeeeFloat<S>) {
         *self = quotient(*self, rhs, Round::NearestTiesToEven).value;

@@ -22,11 +22,11 @@ pub(crate) fn truncated<S: Semantics>(x: IeeeFloat<S>, y: IeeeFloat<S>) -> Statu
 }
 
 impl<S: Semantics> IeeeFloat<S> {
-    /// The remainder by `%`, and the number of subtractions that it took.
+    /// The remainder by `%`, and the count of subtractions that it took.
     ///
-    /// Each turn subtracts the greatest multiple of the divisor by a power of two (1 or more) that is not above what is
-    /// left. So the number is the count of ones among the binary digits of the quotient cut toward zero, and at most
-    /// `ilogb(self) - ilogb(rhs) + 1` where it is not 0. Where an operand is zero, infinite or a NaN it is 0.
+    /// Each turn subtracts the greatest multiple of the divisor by a power of two (1 or more) that is not above the
+    /// rest. So the count is that of ones among the binary digits of the quotient cut toward zero, and at most
+    /// `ilogb(self) - ilogb(rhs) + 1` if it is not 0. If an operand is zero, infinite or a NaN, it is 0.
     #[inline]
     pub fn c_fmod_steps(self, rhs: Self) -> (StatusAnd<Self>, u32)
         ensures answer { Gives (IsTruncatedRemainder (format_of S.Semantics) self rhs) result.0 }
@@ -56,7 +56,7 @@ impl<S: Semantics> RemAssign for IeeeFloat<S> {
     ghost rem_assign_gives = { λ x y z. (r : StatusAnd Self) ×
         Gives (IsTruncatedRemainder (format_of S.Semantics) x y) r × (z ≡ r.value) };
 
-    /// The remainder by `%`; its status is dropped.
+    /// The remainder by `%`; the status is dropped.
     #[inline]
     fn rem_assign(&mut self, rhs: IeeeFloat<S>) {
         *self = truncated(*self, rhs).value;

@@ -10,55 +10,56 @@ use apfloat_base::{ExpInt, NonfiniteBehavior};
 
 /// A binary format.
 ///
-/// A type of formats writes each constant twice, for code and for contracts, and proves that together they are lawful;
-/// where they are written out `lawful_from_test _ refl` is the proof.
+/// A format type gives each constant twice, for code and for contracts, and proves that together they are lawful; if
+/// they are literals, the proof is `lawful_from_test _ refl`.
 pub trait Semantics: Copy {
-    /// How many bits a value is written with, at most 128: the sign, the biased exponent, and the trailing significand
-    /// of `PRECISION - 1` bits, or of `PRECISION` bits where the integer bit is written. 0 in a format for computing
-    /// only, which has no bits.
+    /// How many bits an encoding has, at most 128: the sign, the biased exponent, and the trailing significand of
+    /// `PRECISION - 1` bits, or of `PRECISION` bits with an explicit integer bit. 0 in a format for computing only,
+    /// which has no bits.
     const BITS: usize;
 
     /// How many of them are the biased exponent, at least 1; 0 in a format without bits.
     const EXP_BITS: usize;
 
-    /// How many binary digits a significand has, from 3 to 125, the integer bit included whether it is written or not.
+    /// How many binary digits a significand has, from 3 to 125, including the integer bit, whether explicit or not.
     const PRECISION: usize;
 
-    /// Which values that are no numbers the format has.
+    /// Which non-finite values the format has.
     const NONFINITE_BEHAVIOR: NonfiniteBehavior;
 
     /// The greatest exponent of a finite value, from `PRECISION` to 2^20.
     ///
-    /// In a format with bits it is `IEEE_MAX_EXP + (MIN_EXP - IEEE_MIN_EXP)`, and 1 more of the kinds `NanOnly` and
+    /// In a format with bits it is `IEEE_MAX_EXP + (MIN_EXP - IEEE_MIN_EXP)`, and 1 more for the kinds `NanOnly` and
     /// `NanNegativeZero`, which have numbers at the greatest biased exponent too.
     const MAX_EXP: ExpInt;
 
-    /// The greatest exponent that IEEE 754 gives so many exponent bits, `1 - IEEE_MIN_EXP`; 0 in a format without bits.
+    /// The greatest exponent in IEEE 754 for this count of exponent bits, `1 - IEEE_MIN_EXP`; 0 in a format without
+    /// bits.
     const IEEE_MAX_EXP: ExpInt;
 
-    /// The least exponent of a value that is not denormal, from -2^20 to -1. In a format with bits it may be another
-    /// one than `IEEE_MIN_EXP`: all exponents are then moved by the difference.
+    /// The least exponent of a value that is not denormal, from -2^20 to -1. In a format with bits it may differ from
+    /// `IEEE_MIN_EXP`: all exponents are then shifted by the difference.
     const MIN_EXP: ExpInt;
 
-    /// The least exponent that IEEE 754 gives so many exponent bits, `2 - 2^(EXP_BITS - 1)`; 0 in a format without
+    /// The least exponent in IEEE 754 for this count of exponent bits, `2 - 2^(EXP_BITS - 1)`; 0 in a format without
     /// bits.
     const IEEE_MIN_EXP: ExpInt;
 
-    /// The bits that the significand of every NaN has: `2^(PRECISION - 1) - 1` of the kind `NanOnly`, and else 0.
+    /// The bits that every NaN's significand has: `2^(PRECISION - 1) - 1` for the kind `NanOnly`, and 0 otherwise.
     const NAN_SIGNIFICAND_BASE: u128;
 
-    /// The bits that a NaN's payload may set: `2^(PRECISION - 1) - 1` of the kind `IEEE754`, and else 0.
+    /// The bits that a NaN's payload may set: `2^(PRECISION - 1) - 1` for the kind `IEEE754`, and 0 otherwise.
     const NAN_PAYLOAD_MASK: u128;
 
-    /// The bits that make a NaN quiet: of the kind `IEEE754` `2^(PRECISION - 2)`, or `3 * 2^(PRECISION - 2)` where the
-    /// integer bit is written, and else 0.
+    /// The bits that make a NaN quiet: for the kind `IEEE754`, `2^(PRECISION - 2)`, or `3 * 2^(PRECISION - 2)` with an
+    /// explicit integer bit; 0 otherwise.
     const QNAN_SIGNIFICAND: u128;
 
-    /// Whether the integer bit is written; only a format of the kind `IEEE754` that has bits may write it.
+    /// Whether the integer bit is explicit; only a format of the kind `IEEE754` that has bits may have it.
     const EXPLICIT_INTEGER_BIT: bool;
 
-    /// Whether an inexact result is tiny, below 2 to the power of `MIN_EXP`, by its exact magnitude, in place of the
-    /// rounded one (IEEE 754-2008 7.5). Any format may have either.
+    /// Whether an inexact result is tiny, below 2 to the power of `MIN_EXP`, judged by its exact magnitude rather than
+    /// by the rounded one (IEEE 754-2008 7.5). Any format may choose either.
     const TINY_BEFORE_ROUNDING: bool;
 
     ghost BITS: { ℕ };
@@ -87,10 +88,10 @@ pub trait Semantics: Copy {
 
     ghost TINY_BEFORE_ROUNDING: { Bool };
 
-    /// The value that is written as `bits` (IEEE 754-2008 3.4), in a format with bits, `PRECISION` below `BITS`. Bits
-    /// at and above `BITS` are not looked at.
+    /// The value whose encoding is `bits` (IEEE 754-2008 3.4), in a format with bits, with `PRECISION` below `BITS`.
+    /// Bits at and above `BITS` are ignored.
     ///
-    /// Where the integer bit is not written, all bits below `2^BITS` are canonical: those of the value are `bits` again.
+    /// With an implied integer bit, all encodings below `2^BITS` are canonical: writing the value gives `bits` again.
     #[inline]
     final fn from_bits(bits: u128) -> IeeeFloat<Self>
         requires { PRECISION < BITS }
@@ -112,8 +113,8 @@ pub trait Semantics: Copy {
         decode::<Self>(bits)
     }
 
-    /// The bits of the one canonical encoding of the value (IEEE 754-2008 3.4), in a format with bits, `PRECISION`
-    /// below `BITS`; read again they are the value.
+    /// The bits of the one canonical encoding of the value (IEEE 754-2008 3.4), in a format with bits, with `PRECISION`
+    /// below `BITS`. Read back, they give the value.
     #[inline]
     final fn to_bits(x: IeeeFloat<Self>) -> u128
         requires { PRECISION < BITS }
@@ -129,9 +130,9 @@ pub trait Semantics: Copy {
         encode::<Self>(x)
     }
 
-    // That the constants keep the rules above. Where they are written out, the proof to write is
-    // `ghost lawful = { lawful_from_test _ refl };`, with `lawful_from_test` of `specs.LawTest` and `refl` of the
-    // standard `Prelude`; it fails where any of these rules is broken.
+    // The constants obey the rules above. If they are literals, the proof to write is `ghost lawful = {
+    // lawful_from_test _ refl };`, with `lawful_from_test` of `specs.LawTest` and `refl` of the standard `Prelude`; it
+    // fails if any of these rules is broken.
     ghost lawful: { IsLawful
         (constants_with BITS EXP_BITS PRECISION NONFINITE_BEHAVIOR MAX_EXP IEEE_MAX_EXP MIN_EXP
         IEEE_MIN_EXP NAN_SIGNIFICAND_BASE NAN_PAYLOAD_MASK QNAN_SIGNIFICAND EXPLICIT_INTEGER_BIT

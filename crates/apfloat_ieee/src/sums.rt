@@ -1,4 +1,4 @@
-//! Sums and differences of values of one format, the other sign, and the operators `-`, `+`, `+=` and `-=`.
+//! Sums and differences of values of one format, negation, and the operators `-`, `+`, `+=` and `-=`.
 
 ghost use Rattle.std.specs.Prelude.{◌≡◌};
 ghost use Rattle.apfloat_base.specs.declared.kinds.Round.TheVariants.{NearestTiesToEven};
@@ -15,7 +15,7 @@ use apfloat_arithmetic::sums::{add, subtract};
 use apfloat_base::{Round, StatusAnd};
 use std::ops::{Add, AddAssign, Neg, Sub, SubAssign};
 
-/// The sum of two values, rounded once. In a format with infinities it does not fall as a finite `x` grows.
+/// The sum of two values, rounded once. In a format with infinities it does not decrease as a finite `x` increases.
 #[inline(always)]
 pub(crate) fn sum<S: Semantics>(
     x: IeeeFloat<S>,
@@ -28,7 +28,7 @@ pub(crate) fn sum<S: Semantics>(
     IeeeFloat::answered(add(shape_of::<S>(), x.unpacked(), y.unpacked(), round))
 }
 
-/// The difference of two values, rounded once. That of positive numbers is exact where neither is more than twice the
+/// The difference of two values, rounded once. That of positive numbers is exact if neither is more than twice the
 /// other.
 #[inline(always)]
 pub(crate) fn difference<S: Semantics>(
@@ -47,7 +47,7 @@ impl<S: Semantics> Neg for IeeeFloat<S> {
 
     ghost neg_gives = { λ x r. r ≡ negated (format_of S.Semantics).nonfinite x };
 
-    /// The value with the other sign (IEEE 754-2008 5.5.1, negate), also of a NaN; none is signaled.
+    /// The negated value (IEEE 754-2008 5.5.1, negate). A NaN is negated too; no flag is raised.
     #[inline]
     fn neg(self) -> IeeeFloat<S> {
         IeeeFloat::packed(negated(shape_of::<S>(), self.unpacked()))
@@ -59,7 +59,7 @@ impl<S: Semantics> Add for IeeeFloat<S> {
 
     ghost add_gives = { λ x y r. Gives (IsSum (format_of S.Semantics) NearestTiesToEven x y) r };
 
-    /// The sum, rounded once to the nearest value, a tie to the even one.
+    /// The sum, rounded once to the nearest value, ties to even.
     #[inline]
     fn add(self, rhs: IeeeFloat<S>) -> StatusAnd<IeeeFloat<S>> {
         sum(self, rhs, Round::NearestTiesToEven)
@@ -72,7 +72,7 @@ impl<S: Semantics> Sub for IeeeFloat<S> {
     ghost sub_gives = { λ x y r. Gives
         (IsDifference (format_of S.Semantics) NearestTiesToEven x y) r };
 
-    /// The difference, rounded once to the nearest value, a tie to the even one.
+    /// The difference, rounded once to the nearest value, ties to even.
     #[inline]
     fn sub(self, rhs: IeeeFloat<S>) -> StatusAnd<IeeeFloat<S>> {
         difference(self, rhs, Round::NearestTiesToEven)
@@ -83,7 +83,7 @@ impl<S: Semantics> AddAssign for IeeeFloat<S> {
     ghost add_assign_gives = { λ x y z. (r : StatusAnd Self)
         × Gives (IsSum (format_of S.Semantics) NearestTiesToEven x y) r × (z ≡ r.value) };
 
-    /// The sum by `+`; its status is dropped.
+    /// The sum by `+`; the status is dropped.
     #[inline]
     fn add_assign(&mut self, rhs: IeeeFloat<S>) {
         *self = sum(*self, rhs, Round::NearestTiesToEven).value;
@@ -94,7 +94,7 @@ impl<S: Semantics> SubAssign for IeeeFloat<S> {
     ghost sub_assign_gives = { λ x y z. (r : StatusAnd Self)
         × Gives (IsDifference (format_of S.Semantics) NearestTiesToEven x y) r × (z ≡ r.value) };
 
-    /// The difference by `-`; its status is dropped.
+    /// The difference by `-`; the status is dropped.
     #[inline]
     fn sub_assign(&mut self, rhs: IeeeFloat<S>) {
         *self = difference(*self, rhs, Round::NearestTiesToEven).value;

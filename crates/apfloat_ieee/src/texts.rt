@@ -34,7 +34,7 @@ impl<S: Semantics> FromStr for IeeeFloat<S> {
         × IsRead (format_of S.Semantics) NearestTiesToEven text answer
         × (r ≡ without_status answer) };
 
-    /// Reads a text as `from_str_r` does, to the nearest value, a tie to the even one, and drops the status.
+    /// Reads a text like `from_str_r`, rounding to the nearest value, ties to even; the status is dropped.
     fn from_str(s: &str) -> Result<Self, ParseError> {
         match read::<S>(s, Round::NearestTiesToEven) {
             Ok(answer) => Ok(answer.value),

@@ -1,6 +1,5 @@
--- The double that is the sum of two data, rounded to nearest, ties to even, as a function: it is
--- the answer that is proved to exist, and `nearest_sum_is` says that it is one. That it is the
--- only one stands in proofs/DenormalPairs.antt.
+-- The double that is the sum of two data, rounded to nearest, ties to even, as a function: the result that is proved to
+-- exist. `nearest_sum_is` says that it satisfies the relation, and proofs/DenormalPairs.antt that it is the only one.
 use Rattle.std.specs.Prelude.{ℕ}
 use Rattle.std.proofs.Common.{lit<}
 use Rattle.apfloat_base.specs.declared.kinds.Round.TheVariants.{NearestTiesToEven}

@@ -1,4 +1,5 @@
--- Operands, and what a chain of steps would answer them if it left one out: the laws on sums and products refuse each.
+-- Operands, and the results that a chain of steps would have for them with one step left out: the laws on sums and
+-- products refuse each.
 use Rattle.std.specs.Prelude.{◌^◌, false}
 use Rattle.apfloat_base.specs.formats.Datum.{finite}
 use Rattle.apfloat_pairs.specs.Pairs.{Pair, alone}
@@ -21,7 +22,7 @@ one_and_half_unit = record { high = finite false (2 ^ 1074); low = finite false 
 abbrev pub one_and_quarter_unit : Pair
 one_and_quarter_unit = record { high = finite false (2 ^ 1074); low = finite false (2 ^ 1020) }
 
--- Of 1 + 2 ^ -53 and 2 ^ -53 the high parts add up to 1, and what is left to 2 ^ -52: before the closing step both
--- stand side by side, though their sum is a double.
+-- For 1 + 2 ^ -53 and 2 ^ -53, the high parts add up to 1, and the rest to 2 ^ -52: before the closing step these are
+-- separate parts, although their sum is a double.
 abbrev pub before_closing : Pair
 before_closing = record { high = finite false (2 ^ 1074); low = finite false (2 ^ 1022) }

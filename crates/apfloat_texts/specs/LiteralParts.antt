@@ -1,4 +1,4 @@
--- What is said of the number that stands behind the prefix of a text.
+-- The number in a hexadecimal text, after its prefix.
 use Rattle.std.specs.Prelude.{◌≡◌, ◌*◌, pos, ◌+ℤ◌, ◌-ℤ◌, ℕ, Bool, List, None}
 use Rattle.apfloat_base.specs.declared.kinds.Round.{Round}
 use Rattle.apfloat_base.specs.declared.status.StatusAnd.{StatusAnd}
@@ -10,7 +10,7 @@ use Rattle.apfloat_unpacked.specs.declared.unpacked.Unpacked.{Unpacked}
 use Rattle.apfloat_unpacked.specs.Shapes.{format_at}
 use Rattle.apfloat_unpacked.specs.Stored.{IsStored, GivesAt}
 
--- nothing is wrong with it, and it is rounded once
+-- it has no fault, and is rounded once
 pub record IsLiteralRead (shape : Shape) (mode : Round) (negative : Bool) (rest : List ℕ)
     (answer : StatusAnd Unpacked) : Type 0 where
   pub no_fault : behind_prefix_fault rest ≡ None

@@ -1,4 +1,4 @@
--- Payloads as far as they were read, and the specials of the code as those of the model.
+-- Payloads read so far, and the special values of the code as those of the model.
 use Rattle.std.specs.Prelude.{◌≡◌, ℕ, ◌+◌, ◌*◌, ◌^◌, ◌<◌, Bool, false, true, ◌&&◌, ltb, if◌then◌else◌, List, take, drop, fold, Option, Some, None}
 use Rattle.apfloat_base.specs.declared.texts.Radix.{Radix}
 use Rattle.apfloat_base.specs.texts.Digits.{every, digit_value}
@@ -6,7 +6,7 @@ use Rattle.apfloat_base.specs.texts.Specials as model
 use Rattle.apfloat_texts.specs.declared.special.Special.{Special}
 use Rattle.apfloat_texts.specs.declared.special.Special.TheVariants.{Infinity, Quiet, Signaling}
 
--- a number with one more digit behind it, if it is below 2 ^ 128
+-- a whole number followed by one more digit, if it is below 2 ^ 128
 abbrev pub longer : Radix → ℕ → ℕ → ℕ
 longer radix n c = n * model.base_of radix + digit_value c
 
@@ -14,18 +14,18 @@ abbrev pub next : Radix → ℕ → ℕ → Option ℕ
 next radix n c = if model.is_digit_of radix c && ltb (longer radix n c) (2 ^ 128) then Some (longer radix n c)
     else None
 
--- the number whose first digits say n and whose other digits are these, if it is below 2 ^ 128
+-- the whole number whose first digits have the value n and are followed by these digits, if it is below 2 ^ 128
 abbrev pub read_on : Radix → ℕ → List ℕ → Option ℕ
 read_on radix n digits =
     if every (model.is_digit_of radix) digits && ltb (fold (longer radix) n digits) (2 ^ 128)
     then Some (fold (longer radix) n digits) else None
 
--- what is said of a payload by the digits that were read and by those that are left
+-- a payload, in terms of the digits read so far and those that are left
 pub record IsPayloadRead (radix : Radix) (digits left : List ℕ) (number : ℕ) : Type 0 where
   pub small : number < 2 ^ 128
   pub read : model.payload_of_digits radix digits ≡ read_on radix number left
 
--- the payload behind the name of a NaN
+-- the payload after the name of a NaN
 abbrev pub named_payload : List ℕ → Option ℕ
 named_payload text = if model.is_nan_name (take 3 text) then model.payload_of (drop 3 text) else None
 

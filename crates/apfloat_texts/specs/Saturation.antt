@@ -1,25 +1,25 @@
--- Counts that are not counted on from where they decide, and the faults of what they are counted in.
+-- Counts that saturate where larger ones make no difference, and the faults of the texts that they count.
 use Rattle.std.specs.Prelude.{◌≡◌, ◌⊎◌, ℕ, ◌+◌, ◌*◌, ◌^◌, ◌<◌, ◌≤◌, ℤ, pos, neg_ℤ, ◌≤ℤ◌, Bool, not, ◌&&◌, if◌then◌else◌, List, fold, Option, Some}
 use Rattle.apfloat_base.specs.declared.parse_error.Fault.{Fault}
 use Rattle.apfloat_base.specs.declared.parse_error.Fault.TheVariants.{WrongInSignificand, NoDigits}
 use Rattle.apfloat_base.specs.texts.Digits.{every, begins, is_empty, is_decimal, digit_value, number}
 use Rattle.apfloat_base.specs.texts.Faults.{is_p, tail_fault}
 
--- a count from 0 up, or one of those that are too many
+-- the exact count, or some count that is too large like the exact one
 abbrev pub IsSaturated : ℕ → ℕ → Type 0
 IsSaturated exact counted = (counted ≡ exact) ⊎ ((2 ^ 96 ≤ counted) × (2 ^ 96 ≤ exact))
 
--- a whole number, or one that is as far or farther on its side
+-- the exact integer, or one on the same side where both are past the bound
 abbrev pub IsNear : ℕ → ℤ → ℤ → Type 0
 IsNear bound exact near =
     (near ≡ exact) ⊎ (((pos bound ≤ℤ near) × (pos bound ≤ℤ exact))
     ⊎ ((near ≤ℤ neg_ℤ (pos bound)) × (exact ≤ℤ neg_ℤ (pos bound))))
 
--- the number whose first decimal digits say n and whose other digits are these
+-- the whole number whose first decimal digits have the value n and are followed by these digits
 abbrev pub decimal_from : ℕ → List ℕ → ℕ
 decimal_from n digits = fold (λ n c. n * 10 + digit_value c) n digits
 
--- what is said of a number by the decimal digits that were read and by those that are left
+-- a whole number, in terms of the decimal digits read so far and those that are left
 pub record IsCounted (digits left : List ℕ) (counted : ℕ) : Type 0 where
   pub read : ℕ
   pub saturated : IsSaturated read counted
@@ -27,7 +27,7 @@ pub record IsCounted (digits left : List ℕ) (counted : ℕ) : Type 0 where
   pub number_is : number 10 digits ≡ decimal_from read left
   pub every_is : every is_decimal digits ≡ every is_decimal left
 
--- the fault in what follows a significand with a digit or with none
+-- the fault in what follows a significand; `some` says whether that has a digit
 abbrev pub fault_behind : Bool → List ℕ → Option Fault
 fault_behind some tail =
     if not (is_empty tail) && not (begins is_p tail) then Some WrongInSignificand

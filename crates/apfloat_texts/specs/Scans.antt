@@ -1,4 +1,4 @@
--- A significand as far as it was read from the left.
+-- A significand read from the left so far.
 use Rattle.std.specs.Prelude.{◌≡◌, ◌⊎◌, ℕ, ◌+◌, ◌*◌, ◌^◌, ◌≤◌, Bool, false, not, ltb, ◌&&◌, if◌then◌else◌, List, length, filter, fold}
 use Rattle.apfloat_base.specs.declared.sig.loss.Loss.{Loss}
 use Rattle.apfloat_base.specs.declared.sig.loss.Loss.TheVariants.{ExactlyZero}
@@ -7,18 +7,18 @@ use Rattle.apfloat_base.specs.texts.Faults.{is_dot, significand_of, behind_signi
 use Rattle.apfloat_base.specs.texts.Literals.{digits_number, places_behind_dot}
 use Rattle.apfloat_base.specs.rounding.Standing.{StandsFor}
 
--- what is kept of a number when `cut` hexadecimal digits are cut off: all of it, or at least 125 bits and a loss
+-- what is kept of a whole number when `cut` hexadecimal digits are cut off: all of it, or at least 125 bits and a loss
 pub record IsKept (number significand : ℕ) (loss : Loss) (cut : ℕ) : Type 0 where
   pub stands : StandsFor significand loss number (2 ^ (4 * cut))
   pub exact : cut ≡ 0 → loss ≡ ExactlyZero
   pub full : (cut ≡ 0) ⊎ (2 ^ 124 ≤ significand)
 
--- the number whose first digits say n and whose other digits are these
+-- the whole number whose first digits have the value n and are followed by these digits
 abbrev pub number_from : ℕ → List ℕ → ℕ
 number_from n digits = fold (λ n c. n * 16 + digit_value c) n digits
 
--- What is said of a significand by the digits that were read and by those that are left. `pointed` says that the dot was
--- read, `some` that a digit was.
+-- A significand, in terms of the digits read so far and those that are left. `pointed` says that the dot was read,
+-- `some` that a digit was.
 pub record IsScan (rest left : List ℕ) (significand : ℕ) (loss : Loss) (cut places : ℕ) (pointed some : Bool) : Type
     0 where
   pub read : ℕ
@@ -34,7 +34,7 @@ pub record IsScan (rest left : List ℕ) (significand : ℕ) (loss : Loss) (cut 
   pub cut_fits : cut + length left ≤ length rest
   pub places_fit : places + length left ≤ length rest
 
--- What is said of the significand that stands in front of `tail`.
+-- The significand that precedes `tail`.
 pub record IsScanned (rest tail : List ℕ) (significand : ℕ) (loss : Loss) (cut places : ℕ) (some : Bool) : Type 0
   where
     pub kept : IsKept (digits_number rest) significand loss cut

@@ -1,4 +1,4 @@
--- What is said of a text that was read.
+-- The result of reading a text.
 use Rattle.std.specs.Prelude.{List, ℕ}
 use Rattle.apfloat_base.specs.declared.kinds.Round.{Round}
 use Rattle.apfloat_base.specs.declared.status.StatusAnd.{StatusAnd}

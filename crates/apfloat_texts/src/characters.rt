@@ -1,4 +1,4 @@
-//! The characters that numbers are made of.
+//! The characters of numbers.
 
 ghost use Rattle.std.specs.Prelude.{◌≡◌, ◌<◌, IsTrue};
 ghost use Rattle.apfloat_base.specs.texts.Digits.{is_decimal, is_octal, is_hexadecimal, digit_value};
@@ -20,12 +20,12 @@ pub fn is_octal(byte: u8) -> bool
     matches!(byte, b'0'..=b'7')
 }
 
-/// The hexadecimal digits: a bit for each character from 0 on.
+/// The hexadecimal digits: one bit for each character from 0 on.
 const HEXADECIMAL: u64 = 0x007E_0000_007E_03FF;
 
-/// 0 to 9, and a to f of either case.
+/// 0 to 9, and a to f in either case.
 ///
-/// One look into the digits decides, since no processor foretells which of the three ranges a digit is in.
+/// One look-up in the set of digits decides, since no processor predicts which of the three ranges a digit is in.
 #[inline(always)]
 pub fn is_hexadecimal(byte: u8) -> bool
     ensures { result ≡ is_hexadecimal byte }
@@ -42,10 +42,10 @@ pub fn is_digit_or_dot(byte: u8) -> bool
     is_hexadecimal(byte) || byte == b'.'
 }
 
-/// What a digit stands for.
+/// The value of a digit.
 ///
-/// The last four bits of a letter, of either case, are 1 to 6, and only a letter is 64 or more: so nothing has to branch on
-/// the kind of digit, which no processor foretells.
+/// The last four bits of a letter, in either case, are 1 to 6, and only a letter is 64 or more: so there is no branch
+/// on the kind of digit, which no processor predicts.
 #[inline(always)]
 pub fn digit_value(byte: u8) -> u8
     requires { IsTrue (is_hexadecimal byte) }

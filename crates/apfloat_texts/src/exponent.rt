@@ -13,10 +13,11 @@ use crate::mark::split_mark;
 use apfloat_base::ExpInt;
 use apfloat_base::parse_error::Fault;
 
-/// A number that is not counted on from here.
+/// A whole number that is not increased any further.
 const FAR: u128 = 1 << 96;
 
-/// The number with one more decimal digit behind it, or some number from `FAR` up in place of another one.
+/// The whole number followed by one more decimal digit, or some whole number of at least `FAR` in place of another such
+/// one.
 #[inline(always)]
 fn with_digit(number: u128, digit: u8) -> u128
     requires small { digit < 16 }
@@ -32,7 +33,7 @@ fn with_digit(number: u128, digit: u8) -> u128
     }
 }
 
-/// The number that decimal digits stand for.
+/// The whole number that decimal digits stand for.
 #[inline(always)]
 fn magnitude(digits: &[u8]) -> Result<u128, Fault>
     ensures { MatchResult result (λ n. IsSaturated (number 10 digits.now) n × (n < 2 ^ 100)
@@ -54,7 +55,7 @@ fn magnitude(digits: &[u8]) -> Result<u128, Fault>
     Ok(number)
 }
 
-/// The exponent that is written behind the letter.
+/// The exponent written after the letter.
 #[inline(always)]
 fn signed(text: &[u8]) -> Result<i128, Fault>
     ensures { MatchResult result (λ e. IsNear (2 ^ 96) (exponent_number text.now) e
@@ -71,7 +72,7 @@ fn signed(text: &[u8]) -> Result<i128, Fault>
     })
 }
 
-/// The exponent in what follows a significand with some digit or with none.
+/// The exponent in the text after a significand; `some` says whether the significand has a digit.
 #[inline(always)]
 pub fn exponent_in(tail: &[u8], some: bool) -> Result<i128, Fault>
     ensures { MatchResult result (λ e. IsNear (2 ^ 96) (exponent_number (drop 1 tail.now)) e
@@ -88,7 +89,7 @@ pub fn exponent_in(tail: &[u8], some: bool) -> Result<i128, Fault>
     }
 }
 
-/// The exponent of the last digit that is kept, of a number with `cut` digits less and with `places` digits behind its dot.
+/// The exponent of the last kept digit of a number with `cut` digits cut off and `places` digits after its dot.
 #[inline(always)]
 fn unit_of(exponent: i128, cut: usize, places: usize) -> i128
     requires { IsWithin (2 ^ 100) exponent }
@@ -112,7 +113,7 @@ fn clamped(exponent: i128) -> ExpInt
     }
 }
 
-/// The exponent of the last digit that is kept, or one that is past every value on its side.
+/// The exponent of the last kept digit, or one that is past every value on its side.
 #[inline(always)]
 pub fn unit_exponent(exponent: i128, cut: usize, places: usize) -> ExpInt
     requires { IsWithin (2 ^ 100) exponent }

@@ -1,4 +1,4 @@
-//! Hexadecimal numbers, behind their prefix.
+//! Hexadecimal numbers, after their prefix.
 
 ghost use Rattle.std.specs.Prelude.{◌≡◌, Some, None, MatchResult};
 ghost use Rattle.apfloat_base.specs.texts.Faults.{behind_prefix_fault};
@@ -13,7 +13,7 @@ use apfloat_base::{Round, StatusAnd};
 use apfloat_unpacked::shape::Shape;
 use apfloat_unpacked::unpacked::Unpacked;
 
-/// The number that stands behind the prefix, rounded once, or what is wrong with it first.
+/// The number after the prefix, rounded once, or its first fault.
 #[inline(always)]
 pub fn read_literal(
     shape: Shape,

@@ -1,11 +1,11 @@
-//! The mark in front of a text or of an exponent.
+//! The sign in front of a text or of an exponent.
 
 ghost use Rattle.std.specs.Prelude.{◌≡◌};
 ghost use Rattle.apfloat_base.specs.texts.Specials.{mark_of, behind_mark};
 
 use apfloat_base::texts::Mark;
 
-/// The mark, and what stands behind it.
+/// The sign, and what follows it.
 #[inline(always)]
 pub fn split_mark(text: &[u8]) -> (Mark, &[u8])
     ensures mark { result.0 ≡ mark_of text.now }

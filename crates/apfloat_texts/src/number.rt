@@ -1,4 +1,4 @@
-//! The number of a significand and an exponent.
+//! The number made of a significand and an exponent.
 
 ghost use Rattle.std.specs.Prelude.{ℕ, ◌*◌, ◌^◌, ℤ, pos, ◌-ℤ◌, ◌+ℤ◌};
 ghost use Rattle.apfloat_base.specs.rounding.Bounds.{IsWithin};
@@ -15,8 +15,8 @@ use apfloat_unpacked::rounding::deliver;
 use apfloat_unpacked::shape::Shape;
 use apfloat_unpacked::unpacked::{Unpacked, zero_of};
 
-/// The number with those digits, of which `places` stand behind the dot, times 2 to the power of `exponent`, rounded
-/// once. An exponent that is not counted on is as good as the exact one.
+/// The number with these digits, of which `places` follow the dot, times 2 to the power of `exponent`, rounded once. An
+/// exponent that stopped counting gives the same result as the exact one.
 #[inline(always)]
 pub fn delivered(
     shape: Shape,

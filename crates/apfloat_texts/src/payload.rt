@@ -7,7 +7,7 @@ ghost use Rattle.apfloat_texts.specs.Payloads.{next};
 use crate::characters::{digit_value, is_decimal, is_hexadecimal, is_octal};
 use apfloat_base::texts::Radix;
 
-/// Whether the character is a digit of that base.
+/// Whether the character is a digit in that base.
 #[inline(always)]
 fn is_digit_of(radix: Radix, byte: u8) -> bool
     ensures { result ≡ is_digit_of radix byte }
@@ -19,7 +19,7 @@ fn is_digit_of(radix: Radix, byte: u8) -> bool
     }
 }
 
-/// The base that the prefix shows, and what stands behind it: `0x`, or else a 0 with something behind it, or else none.
+/// The base given by the prefix, and what follows it: `0x`, or else a 0 followed by something, or else no prefix.
 fn split_radix(text: &[u8]) -> (Radix, &[u8])
     ensures radix { result.0 ≡ radix_of text.now }
     ensures behind { result.1.now ≡ behind_prefix (radix_of text.now) text.now }
@@ -31,7 +31,7 @@ fn split_radix(text: &[u8]) -> (Radix, &[u8])
     }
 }
 
-/// What stands behind the one plus that may stand there.
+/// The text after an optional plus.
 fn skip_plus(text: &[u8]) -> &[u8]
     ensures { result.now ≡ behind_plus text.now }
 {
@@ -41,7 +41,7 @@ fn skip_plus(text: &[u8]) -> &[u8]
     }
 }
 
-/// The number with one more digit behind it, if it is below 2^128.
+/// The whole number followed by one more digit, if it is below 2^128.
 #[inline(always)]
 fn with_digit(radix: Radix, number: u128, byte: u8) -> Option<u128>
     ensures { result ≡ next radix number byte }
@@ -55,7 +55,7 @@ fn with_digit(radix: Radix, number: u128, byte: u8) -> Option<u128>
         .checked_add(u128::from(digit))
 }
 
-/// The number that one or more digits stand for, if it is below 2^128.
+/// The whole number that one or more digits stand for, if it is below 2^128.
 fn number_of(radix: Radix, digits: &[u8]) -> Option<u128>
     ensures { result ≡ payload_of_digits radix digits.now }
 {
@@ -79,7 +79,7 @@ fn plain(text: &[u8]) -> Option<u128>
     number_of(radix, skip_plus(digits))
 }
 
-/// What stands behind the name of a NaN: nothing, or a payload, plain or in one pair of parentheses.
+/// The payload in the text after the name of a NaN: nothing, or a payload, plain or in one pair of parentheses.
 pub fn payload(text: &[u8]) -> Option<u128>
     ensures { result ≡ payload_of text.now }
 {

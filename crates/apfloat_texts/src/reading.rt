@@ -1,4 +1,4 @@
-//! Any text.
+//! Reading any text.
 
 ghost use Rattle.std.specs.Prelude.{◌≡◌, Some, true, false, drop, MatchOption, MatchResult};
 ghost use Rattle.apfloat_base.specs.declared.kinds.Round.{Round};
@@ -36,7 +36,7 @@ fn special_value(shape: Shape, negative: bool, special: Special) -> Unpacked
     }
 }
 
-/// What stands behind the prefix of a hexadecimal number.
+/// The text after the prefix of a hexadecimal number.
 #[inline(always)]
 fn behind_prefix(body: &[u8]) -> Option<&[u8]>
     ensures { MatchOption result (begins_literal body.now ≡ false)
@@ -48,7 +48,7 @@ fn behind_prefix(body: &[u8]) -> Option<&[u8]>
     }
 }
 
-/// The value of a text, or what is wrong with it first.
+/// The value of a text, or its first fault.
 #[inline(always)]
 fn read_bytes(shape: Shape, text: &[u8], round: Round) -> Result<StatusAnd<Unpacked>, Fault>
     requires { IsShape shape }
@@ -71,10 +71,11 @@ fn read_bytes(shape: Shape, text: &[u8], round: Round) -> Result<StatusAnd<Unpac
     }
 }
 
-/// Reads a text (IEEE 754-2008 5.12): the value of the one meaning that it has, rounded once, or the words of the first
+/// Reads a text (IEEE 754-2008 5.12): returns the value of its only meaning, rounded once, or the words for the first
 /// fault from the left.
 ///
-/// It is inlined into the call of each format, so that the constants of the format are known where its number is rounded.
+/// It is inlined into the call of each format, so that the constants of the format are known where its number is
+/// rounded.
 #[inline(always)]
 pub fn read(shape: Shape, text: &str, round: Round) -> Result<StatusAnd<Unpacked>, ParseError>
     requires { IsShape shape }

@@ -1,4 +1,4 @@
-//! The significand of a hexadecimal text: its leading bits, and what the other digits are of the last of them.
+//! The significand of a hexadecimal text: its leading bits, and how the remaining digits compare with the last of them.
 
 ghost use Rattle.std.specs.Prelude.{◌≡◌, ℕ, ◌+◌, ◌*◌, ◌^◌, ◌<◌, ◌≤◌, true, false, ltb, length, filter, MatchResult, IsTrue};
 ghost use Rattle.apfloat_base.specs.rounding.Standing.{StandsFor};
@@ -12,18 +12,18 @@ use crate::characters::{digit_value, is_digit_or_dot};
 use apfloat_base::parse_error::Fault;
 use apfloat_base::sig::{Loss, loss_of_rest};
 
-/// The leading bits of a number, and what is lost of it where its `cut` last hexadecimal digits are cut off.
+/// The leading bits of a whole number, and the loss when its `cut` last hexadecimal digits are cut off.
 #[derive(Clone, Copy, Debug)]
 pub struct Digits {
-    /// The leading bits as a whole number: all of them where none are cut off, else at least 125.
+    /// The leading bits as a whole number: all of them if no digits are cut off, else at least 125.
     pub significand: u128,
-    /// What the digits that are cut off are of the last bit that is kept.
+    /// The digits that are cut off, as a part of the last kept bit.
     pub loss: Loss,
     /// How many hexadecimal digits are cut off.
     pub cut: usize,
 }
 
-/// What is lost with one more digit cut off, where digits were cut off before.
+/// The loss with one more digit cut off, after others were cut off.
 #[inline(always)]
 fn loss_behind(loss: Loss, digit: u8) -> Loss
     requires { digit < 16 }
@@ -67,7 +67,7 @@ impl Digits {
         }
     }
 
-    /// The digits with one more behind them.
+    /// These digits followed by one more.
     #[inline(always)]
     fn followed_by(self, digit: u8) -> Digits
         requires small { digit < 16 }
@@ -96,12 +96,12 @@ impl Digits {
     }
 }
 
-/// A significand as far as it was read.
+/// A significand read so far.
 #[derive(Clone, Copy, Debug)]
 pub struct Scan {
-    /// The digits that were read, as one number without the dot.
+    /// The digits read so far, as one whole number without the dot.
     pub digits: Digits,
-    /// How many of the digits stand behind the dot.
+    /// How many of the digits follow the dot.
     pub places: usize,
     /// Whether the dot was read.
     pub pointed: bool,
@@ -130,7 +130,7 @@ impl Scan {
         }
     }
 
-    /// With one more digit.
+    /// The scan with one more digit.
     #[inline(always)]
     fn with_digit(self, byte: u8) -> Scan
         requires digit { IsTrue (is_hexadecimal byte) }
@@ -153,7 +153,7 @@ impl Scan {
         }
     }
 
-    /// With the dot.
+    /// The scan with the dot.
     #[inline(always)]
     fn with_dot(self) -> Result<Scan, Fault>
         ensures { (rest left : List ℕ) → IsScan rest (46 ∷ left) self.digits.significand
@@ -174,7 +174,7 @@ impl Scan {
         })
     }
 
-    /// The scan, made anew of its parts, which are copied in registers.
+    /// The scan, rebuilt from its fields, which are copied in registers.
     #[inline(always)]
     fn remade(self) -> Scan
         ensures { result ≡ self }
@@ -191,7 +191,7 @@ impl Scan {
         }
     }
 
-    /// With one more character.
+    /// The scan with one more character.
     #[inline(always)]
     fn with(self, byte: u8) -> Result<Scan, Fault>
         requires passes { IsTrue (is_digit_or_dot byte) }
@@ -212,10 +212,10 @@ impl Scan {
     }
 }
 
-/// The significand at the start of what stands behind the prefix, and what follows it.
+/// The significand at the start of the text after the prefix, and what follows it.
 ///
-/// The first loop ends where digits begin to be cut off. As far as it goes nothing is lost, and all that it counts stays in
-/// registers; few texts reach the second one.
+/// The first loop ends when digits begin to be cut off. Until then nothing is lost, and all its counts stay in
+/// registers; few texts reach the second loop.
 #[inline(always)]
 pub fn scanned(rest: &[u8]) -> Result<(Scan, &[u8]), Fault>
     ensures { MatchResult result (λ answer. IsScanned rest.now answer.1.now

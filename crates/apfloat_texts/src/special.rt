@@ -26,7 +26,7 @@ fn is_named(body: &[u8], name: &[u8]) -> bool
     body == name
 }
 
-/// Whether the text names an infinity, by the mark in front of it.
+/// Whether the text is a name of infinity, given the sign in front of it.
 fn names_infinity(mark: Mark, body: &[u8]) -> bool
     ensures { result ≡ is_infinity mark body.now }
 {
@@ -39,7 +39,7 @@ fn names_infinity(mark: Mark, body: &[u8]) -> bool
     }
 }
 
-/// The payload behind the name of a NaN.
+/// The payload after the name of a NaN.
 fn payload_behind_name(text: &[u8]) -> Option<u128>
     ensures { result ≡ named_payload text.now }
 {
@@ -62,7 +62,7 @@ fn nan(body: &[u8]) -> Option<Special>
     }
 }
 
-/// The infinity or the NaN of a text, by its mark and by what stands behind it.
+/// The infinity or the NaN of a text, from its sign and what follows the sign.
 #[cold]
 #[inline(never)]
 pub fn special_of(mark: Mark, body: &[u8]) -> Option<Special>

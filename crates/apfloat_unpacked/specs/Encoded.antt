@@ -1,4 +1,4 @@
--- The layout and the fields that the code's structs stand for.
+-- The layout and the fields that the structs in the code represent.
 use Rattle.apfloat_base.specs.bits.Layout.{Layout, Fields}
 use Rattle.apfloat_unpacked.specs.declared.bits.Widths.{Widths}
 use Rattle.apfloat_unpacked.specs.declared.bits.Fields.{Fields as Parts}

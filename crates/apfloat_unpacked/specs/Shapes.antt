@@ -1,4 +1,4 @@
--- The format that a shape describes, and the part of a format's law that rounding stands on.
+-- The format that a shape describes, and the part of a format's law that rounding relies on.
 use Rattle.std.specs.Prelude.{◌-◌, ◌^◌, ◌≤◌, pos, neg_ℤ, unsigned_abs, ◌-ℤ◌, ◌≤ℤ◌}
 use Rattle.apfloat_base.specs.formats.Format.{Format}
 use Rattle.apfloat_unpacked.specs.declared.shape.Shape.{Shape}

@@ -1,4 +1,4 @@
--- What is stored of a value, the datum that it stands for, and the way back.
+-- The stored form of a value, the datum that it represents, and the way back.
 use Rattle.std.specs.Prelude.{◌≡◌, ℕ, ◌-◌, ◌*◌, ◌/◌, ◌^◌, ◌<◌, ◌≤◌, ℤ, pos, ◌+ℤ◌, ◌-ℤ◌, ◌≤ℤ◌, Bool, eqb, if◌then◌else◌}
 use Rattle.apfloat_base.specs.declared.kinds.Category.{Category}
 use Rattle.apfloat_base.specs.declared.kinds.Category.TheVariants.{Infinity, NaN, Normal, Zero}
@@ -15,7 +15,7 @@ use Rattle.apfloat_unpacked.specs.declared.unpacked.Unpacked.{Unpacked}
 use Rattle.apfloat_unpacked.specs.Shapes.{format_at}
 use Rattle.apfloat_base.specs.formats.Log.{log2}
 
--- ---- a finite number that is not zero: significand * 2 ^ (exponent - (precision - 1))
+-- ---- a nonzero number: significand * 2 ^ (exponent - (precision - 1))
 
 -- a significand with all its digits, and an exponent from that of the quantum to the greatest
 pub record IsOperandAt (precision : ℕ) (min_exp max_exp : ℤ) (significand : ℕ) (exponent : ℤ) : Type 0 where
@@ -24,7 +24,7 @@ pub record IsOperandAt (precision : ℕ) (min_exp max_exp : ℤ) (significand : 
   pub least : ((min_exp +ℤ pos 1) -ℤ pos precision) ≤ℤ exponent
   pub greatest : exponent ≤ℤ max_exp
 
--- it is so many quanta
+-- the count of quanta that it is
 abbrev pub IsQuantaAt : ℤ → ℕ → ℤ → ℕ → Type 0
 IsQuantaAt min_exp significand exponent quanta =
     quanta * 2 ^ down (exponent -ℤ min_exp) ≡ significand * 2 ^ up (exponent -ℤ min_exp)
@@ -32,13 +32,13 @@ IsQuantaAt min_exp significand exponent quanta =
 unfoldable pub quanta_at : ℤ → ℕ → ℤ → ℕ
 quanta_at min_exp significand exponent = significand * 2 ^ up (exponent -ℤ min_exp) / 2 ^ down (exponent -ℤ min_exp)
 
--- it is a whole number of quanta, and at most the largest value
+-- it is a whole number of quanta, and is at most the largest value
 pub record IsNormalAt (s : Shape) (significand : ℕ) (exponent : ℤ) : Type 0 where
   pub operand : IsOperandAt s.precision s.min_exp s.max_exp significand exponent
   pub whole : IsQuantaAt s.min_exp significand exponent (quanta_at s.min_exp significand exponent)
   pub within : quanta_at s.min_exp significand exponent ≤ largest (format_at s)
 
--- the same of a value taken apart
+-- the same for an unpacked value
 
 abbrev pub quanta_of : Shape → Unpacked → ℕ
 quanta_of s x = quanta_at s.min_exp x.significand x.exponent
@@ -49,7 +49,7 @@ IsNormal s x = IsNormalAt s x.significand x.exponent
 abbrev pub number_of : Shape → Unpacked → Datum
 number_of s x = finite x.negative (quanta_of s x)
 
--- ---- the other values: what they do not need is zero
+-- ---- the other values: fields that they do not need are zero
 
 pub record IsZero (s : Shape) (x : Unpacked) : Type 0 where
   pub significand_is : x.significand ≡ 0
@@ -82,17 +82,17 @@ datum_by Zero s x = finite x.negative 0
 datum_by Infinity s x = infinite x.negative
 datum_by NaN s x = nan x.negative x.significand
 
--- the datum that it stands for
+-- the datum that it represents
 abbrev pub datum_at : Shape → Unpacked → Datum
 datum_at s x = datum_by x.category s x
 
--- an answer whose datum and status are related as said
+-- a result whose datum and status satisfy the relation
 abbrev pub GivesAt : Shape → (Datum → ℕ → Type 0) → StatusAnd Unpacked → Type 0
 GivesAt s Says answer = Says (datum_at s answer.value) (bits_of answer.status)
 
 -- ---- the way back
 
--- the exponent of a number of quanta whose highest digit stands at that place
+-- the exponent of a number whose count of quanta has its highest digit at that place
 abbrev pub exponent_at : Shape → ℕ → ℤ
 exponent_at s place = (s.min_exp +ℤ pos place) -ℤ pos (s.precision - 1)
 

@@ -1,4 +1,4 @@
--- What is stored comes back from the datum that it stands for.
+-- The stored form can be recovered from the datum that it represents.
 use Rattle.std.specs.Prelude.{Bool, false, ◌≡◌, ℕ, ◌+◌, ◌-◌, ◌*◌, ◌/◌, ◌^◌, ◌<◌, ◌≤◌, ℤ, ◌-ℤ◌}
 use Rattle.std.proofs.Common.{arith, suc, zero, refl, sym, ap, ◌∙◌, eqb}
 use Rattle.std.proofs.lemmas.Int.{ints}

@@ -1,4 +1,4 @@
-//! Values as bits, both ways: from the top the sign, the biased exponent and the trailing significand.
+//! Encoding and decoding: from the top, the sign, the biased exponent and the trailing significand.
 
 ghost use Rattle.std.specs.Prelude.{◌≡◌, ℕ, ◌+◌, ◌-◌, ◌*◌, ◌^◌, ◌<◌, ◌≤◌, true, false, if◌then◌else◌};
 ghost use Rattle.apfloat_base.specs.formats.Format.{largest, smallest_normalized};
@@ -15,21 +15,21 @@ use crate::unpacked::{Unpacked, from_quanta, infinity_of, nan_of};
 use apfloat_base::sig::{low_digits, power_of_two, steps_between};
 use apfloat_base::{Category, NonfiniteBehavior};
 
-/// How many bits a value is written with, and how many of them are the biased exponent.
+/// How many bits an encoding has, and how many of them are the biased exponent.
 #[derive(Clone, Copy, Debug)]
 pub struct Widths {
-    /// All bits of an encoding.
+    /// How many bits an encoding has.
     pub bits: u32,
-    /// Those of the biased exponent.
+    /// How many bits the biased exponent has.
     pub exponent_bits: u32,
 }
 
-/// The fields of bits.
+/// The fields of an encoding.
 #[derive(Clone, Copy, Debug)]
 pub struct Fields {
     /// Whether the sign bit is set.
     pub negative: bool,
-    /// The exponent above the least one, and 1 more; 0 for zeros and denormal values.
+    /// The exponent minus the least one, plus 1; 0 for zeros and denormal values.
     pub biased_exponent: u128,
     /// The digits of the significand that are written.
     pub trailing: u128,
@@ -49,7 +49,7 @@ fn trailing_width(shape: Shape) -> u32
     }
 }
 
-/// So many ones.
+/// `width` ones.
 #[inline(always)]
 fn ones(width: u32) -> u128
     requires { width < 128 }
@@ -58,7 +58,7 @@ fn ones(width: u32) -> u128
     power_of_two(width) - 1
 }
 
-/// The fields of bits; bits above the sign are not looked at.
+/// The fields of an encoding; bits above the sign are ignored.
 #[inline(always)]
 fn split(shape: Shape, widths: Widths, bits: u128) -> Fields
     requires lawful { IsShape shape }
@@ -81,7 +81,7 @@ fn sign_bit(negative: bool) -> u128
     if negative { 1 } else { 0 }
 }
 
-/// The bits of fields.
+/// The bit pattern of fields.
 #[inline(always)]
 fn join(shape: Shape, widths: Widths, fields: Fields) -> u128
     requires lawful { IsShape shape }
@@ -120,7 +120,7 @@ fn implied_number(shape: Shape, widths: Widths, fields: Fields) -> Unpacked
     }
 }
 
-/// A value whose integer bit is not written.
+/// A value whose integer bit is implied.
 #[inline(always)]
 fn implied_value(shape: Shape, widths: Widths, fields: Fields) -> Unpacked
     requires lawful { IsShape shape }
@@ -159,7 +159,7 @@ fn implied_value(shape: Shape, widths: Widths, fields: Fields) -> Unpacked
     }
 }
 
-/// A number whose integer bit is written. Where that bit is 0 above the least exponent, it is no number.
+/// A number with an explicit integer bit. If that bit is 0 above the least exponent, it is not a number.
 #[inline(always)]
 fn written_number(shape: Shape, widths: Widths, fields: Fields) -> Unpacked
     requires lawful { IsShape shape }
@@ -184,7 +184,7 @@ fn written_number(shape: Shape, widths: Widths, fields: Fields) -> Unpacked
     }
 }
 
-/// A value whose integer bit is written.
+/// A value with an explicit integer bit.
 #[inline(always)]
 fn written_value(shape: Shape, widths: Widths, fields: Fields) -> Unpacked
     requires lawful { IsShape shape }
@@ -204,7 +204,7 @@ fn written_value(shape: Shape, widths: Widths, fields: Fields) -> Unpacked
     }
 }
 
-/// The value of bits; bits above the sign are not looked at.
+/// The value that `bits` encode; bits above the sign are ignored.
 #[inline(always)]
 pub fn decode(shape: Shape, widths: Widths, bits: u128) -> Unpacked
     requires lawful { IsShape shape }

@@ -1,7 +1,7 @@
-//! Values of one format taken apart: what is stored of them, the one rounding kernel, and their bits.
+//! Unpacked values of one format: what is stored of them, the one rounding kernel, and their bits.
 //!
-//! Nothing here is generic. The functions work over a `Shape`, the constants of a format that rounding reads, and over
-//! `Unpacked` values; `apfloat_ieee` brings the constants of a type to them.
+//! Nothing here is generic. The functions take a `Shape`, which holds the constants of a format that rounding reads,
+//! and `Unpacked` values; `apfloat_ieee` supplies the constants of a type.
 #![tactic(auto)]
 
 pub mod bits;

@@ -1,4 +1,4 @@
-//! NaNs: which of them signal, and the answers that are NaNs (IEEE 754-2008 6.2).
+//! NaNs: which of them are signaling, and the results that are NaNs (IEEE 754-2008 6.2).
 
 ghost use Rattle.std.specs.Prelude.{◌≡◌};
 ghost use Rattle.apfloat_base.specs.declared.kinds.Category.TheVariants.{NaN};
@@ -41,7 +41,7 @@ pub fn payload_mask(shape: Shape) -> u128
     }
 }
 
-/// Of the bits that make a NaN quiet, the one that an operation sets.
+/// The one of the bits that make a NaN quiet that an operation sets.
 #[inline(always)]
 fn quiet_bit(shape: Shape) -> u128
     requires { IsShape shape }
@@ -54,7 +54,7 @@ fn quiet_bit(shape: Shape) -> u128
     }
 }
 
-/// The bits that make a NaN quiet: where the integer bit is written, that bit is one of them.
+/// The bits that make a NaN quiet; an explicit integer bit is one of them.
 #[inline(always)]
 fn quiet_bits(shape: Shape) -> u128
     requires { IsShape shape }
@@ -73,7 +73,7 @@ fn quiet_bits(shape: Shape) -> u128
     }
 }
 
-/// Whether a NaN with that significand signals.
+/// Whether a NaN with that significand is signaling.
 #[inline(always)]
 pub fn signals(shape: Shape, significand: u128) -> bool
     requires { IsShape shape }
@@ -83,7 +83,7 @@ pub fn signals(shape: Shape, significand: u128) -> bool
     significand & bits != bits
 }
 
-/// Whether a value is a NaN that signals.
+/// Whether a value is a signaling NaN.
 #[inline(always)]
 pub fn is_signaling(shape: Shape, x: Unpacked) -> bool
     requires lawful { IsShape shape }
@@ -98,7 +98,7 @@ pub fn is_signaling(shape: Shape, x: Unpacked) -> bool
     }
 }
 
-/// The significand of a NaN made quiet, with its payload.
+/// The significand of a NaN, quieted, with its payload.
 #[inline(always)]
 pub fn quieted_significand(shape: Shape, significand: u128) -> u128
     requires lawful { IsShape shape }
@@ -126,7 +126,7 @@ pub fn quiet_significand(shape: Shape, payload: u128) -> u128
     (nan_base(shape) | quiet_bits(shape)) | (payload & payload_mask(shape))
 }
 
-/// The significand, with a payload where it has none: an infinity would be written with that.
+/// The significand, with a payload if it had none: without one it would be the encoding of an infinity.
 #[inline(always)]
 fn with_payload(shape: Shape, significand: u128) -> u128
     requires { IsShape shape }
@@ -161,8 +161,8 @@ pub fn quiet_nan(shape: Shape, payload: u128) -> Unpacked
     nan_of(shape, false, quiet_significand(shape, payload))
 }
 
-/// The positive signaling NaN with those bits of a payload that the format has, and with some payload (6.2.1). Where a
-/// format has only one NaN, it is that one.
+/// The positive signaling NaN with those bits of a payload that the format has, and never without a payload (6.2.1). If
+/// a format has only one NaN, it is that one.
 #[inline(always)]
 pub fn signaling_nan(shape: Shape, payload: u128) -> Unpacked
     requires { IsShape shape }
@@ -172,7 +172,7 @@ pub fn signaling_nan(shape: Shape, payload: u128) -> Unpacked
     nan_of(shape, false, signaling_significand(shape, payload))
 }
 
-/// The NaN, made quiet.
+/// The NaN, quieted.
 #[inline(always)]
 fn quieted(shape: Shape, x: Unpacked) -> Unpacked
     requires lawful { IsShape shape }
@@ -185,7 +185,7 @@ fn quieted(shape: Shape, x: Unpacked) -> Unpacked
     nan_of(shape, x.negative, quieted_significand(shape, x.significand))
 }
 
-/// The status of an operation on NaNs, of which one may signal (7.2).
+/// The status of an operation on NaNs, where `signaling` says whether one of them is signaling (7.2).
 #[inline(always)]
 pub fn status_of(signaling: bool) -> Status
     ensures { bits_of result ≡ invalid_if signaling }
@@ -197,7 +197,7 @@ pub fn status_of(signaling: bool) -> Status
     }
 }
 
-/// What an operation answers whose one NaN among its operands is `x` (6.2.3).
+/// The result of an operation with one NaN operand, `x` (6.2.3).
 #[inline(always)]
 pub fn propagated(shape: Shape, x: Unpacked) -> StatusAnd<Unpacked>
     requires lawful { IsShape shape }
@@ -209,7 +209,8 @@ pub fn propagated(shape: Shape, x: Unpacked) -> StatusAnd<Unpacked>
     status_of(signals(shape, x.significand)).and(quieted(shape, x))
 }
 
-/// What an operation answers whose left operand `x` is a NaN: that one, and the flag of whichever signals (6.2.3).
+/// The result of an operation whose left operand `x` is a NaN: that NaN, with a flag if either operand is signaling
+/// (6.2.3).
 #[inline(always)]
 pub fn propagated_left(shape: Shape, x: Unpacked, y: Unpacked) -> StatusAnd<Unpacked>
     requires lawful { IsShape shape }
@@ -224,7 +225,7 @@ pub fn propagated_left(shape: Shape, x: Unpacked, y: Unpacked) -> StatusAnd<Unpa
     status_of(signaling).and(quieted(shape, x))
 }
 
-/// What an invalid operation answers (7.2): the quiet NaN without a payload.
+/// The result of an invalid operation (7.2): the quiet NaN without a payload.
 #[inline(always)]
 pub fn invalid(shape: Shape) -> StatusAnd<Unpacked>
     requires { IsShape shape }

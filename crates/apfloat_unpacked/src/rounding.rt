@@ -1,7 +1,7 @@
-//! One rounding: any significand with its unit and its loss becomes a value of a format and a status.
+//! One rounding: turns any significand, with its unit and its loss, into a value of a format and a status.
 //!
-//! The significand is cut once. The place of the cut follows from its length, its exponent and the format; what is cut off
-//! decides together with the incoming loss, and at most one is added to what is kept.
+//! The significand is cut once. The place of the cut follows from its length, its exponent and the format; the digits
+//! that are cut off, together with the incoming loss, decide the rounding, and at most one is added to what is kept.
 
 ghost use Rattle.std.specs.Prelude.{◌≡◌, ℕ, ◌+◌, ◌-◌, ◌*◌, ◌^◌, ◌<◌, ◌≤◌, ◌⊎◌, ltb, pos, neg_ℤ, ◌≤ℤ◌, ◌+ℤ◌, if◌then◌else◌, false};
 ghost use Rattle.apfloat_base.specs.rounding.Bounds.{IsWithin, exponent_bound, unit_bound, place_bound};
@@ -19,7 +19,7 @@ use crate::unpacked::{Unpacked, from_rounded_quanta, infinity_of, largest_of};
 use apfloat_base::sig::{Loss, digits, power_of_two, shift_right};
 use apfloat_base::{ExpInt, Flags, Round, Status, StatusAnd};
 
-/// `significand * 2^place` quanta, and what was lost below.
+/// `significand * 2^place` quanta, and what was lost below that.
 #[derive(Clone, Copy, Debug)]
 struct Kept {
     significand: u128,
@@ -27,8 +27,8 @@ struct Kept {
     loss: Loss,
 }
 
-/// The place of the lowest digit that is kept, of a significand with so many digits at that unit; places and units are
-/// counted from the quantum.
+/// The place of the lowest kept digit of a significand with `digits` digits at `unit`; places and units are counted
+/// from the quantum.
 #[inline(always)]
 fn kept_place(precision: u32, digits: u32, unit: ExpInt) -> u32
     requires precise { precision ≤ 128 }
@@ -46,7 +46,7 @@ fn kept_place(precision: u32, digits: u32, unit: ExpInt) -> u32
     }
 }
 
-/// How far the place lies above the unit.
+/// How far the place is above the unit.
 #[inline(always)]
 fn steps_up(unit: ExpInt, place: u32) -> u32
     requires above { unit ≤ℤ pos place }
@@ -57,7 +57,7 @@ fn steps_up(unit: ExpInt, place: u32) -> u32
     (place as ExpInt - unit) as u32
 }
 
-/// How far the unit lies above the place.
+/// How far the unit is above the place.
 #[inline(always)]
 fn steps_down(unit: ExpInt, place: u32) -> u32
     requires { pos place ≤ℤ unit }
@@ -129,7 +129,7 @@ pub fn moves_up(mode: Round, negative: bool, loss: Loss, odd: bool) -> bool
     outward | (to_nearest & (tie | (loss == Loss::MoreThanHalf)))
 }
 
-/// A point of the grid, `significand * 2^place` quanta.
+/// A grid point, `significand * 2^place` quanta.
 #[derive(Clone, Copy, Debug)]
 struct Point {
     significand: u128,
@@ -188,7 +188,7 @@ fn is_past(precision: u32, point: Point, greatest: u128, span: u32) -> bool
     }
 }
 
-/// Whether the mode leads out of the format past its largest value.
+/// Whether the mode rounds past the largest value, out of the format.
 #[inline(always)]
 fn leads_past(mode: Round, negative: bool) -> bool
     ensures { result ≡ leads_out mode negative }
@@ -211,7 +211,7 @@ fn is_tiny(shape: Shape, before: u128, after: u128) -> bool
     }
 }
 
-/// What a rounding answers past the largest value.
+/// The result of a rounding past the largest value.
 #[inline(always)]
 fn overflowed(shape: Shape, mode: Round, negative: bool) -> StatusAnd<Unpacked>
     requires { IsShape shape }
@@ -273,7 +273,7 @@ fn finish(shape: Shape, kept: Kept, mode: Round, negative: bool) -> StatusAnd<Un
     status.and(from_rounded_quanta(shape, negative, point.significand, point.place))
 }
 
-/// The exponent of a unit, counted from the quantum's.
+/// The exponent of a unit, relative to the quantum's.
 #[inline(always)]
 fn unit_place(shape: Shape, exponent: ExpInt) -> ExpInt
     requires lawful { IsShape shape }
@@ -286,8 +286,8 @@ fn unit_place(shape: Shape, exponent: ExpInt) -> ExpInt
 
 /// Delivers `significand * 2^exponent`, with `loss` below its last digit, rounded once.
 ///
-/// Where something was lost below, the unit has to be so fine that it divides the spacing of the format there: it is at
-/// most the quantum, or the significand has all digits of the format.
+/// If something was lost below, the unit must be fine enough to divide the spacing of the format there: it is at most
+/// the quantum, or the significand has all digits of the format.
 #[inline(always)]
 pub fn deliver(
     shape: Shape,

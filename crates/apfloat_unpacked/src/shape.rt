@@ -1,4 +1,4 @@
-//! What rounding reads of a format.
+//! The constants of a format that rounding reads.
 
 ghost use Rattle.std.specs.Prelude.{◌≡◌, ◌-◌, ◌^◌, ◌<◌, ◌≤◌, pos, ◌-ℤ◌};
 ghost use Rattle.apfloat_base.specs.formats.Format.{greatest_significand};
@@ -11,17 +11,17 @@ use apfloat_base::{ExpInt, NonfiniteBehavior};
 /// The constants of a format that rounding reads.
 #[derive(Clone, Copy, Debug)]
 pub struct Shape {
-    /// The binary digits of a significand, the integer bit included.
+    /// How many binary digits a significand has, including the integer bit.
     pub precision: u32,
     /// The exponent of the integer bit of the smallest normalized value.
     pub min_exp: ExpInt,
     /// The exponent of the integer bit of the largest value.
     pub max_exp: ExpInt,
-    /// Which values the format has that are no numbers.
+    /// Which non-finite values the format has.
     pub nonfinite: NonfiniteBehavior,
-    /// Whether encodings have the integer bit.
+    /// Whether encodings contain the integer bit.
     pub explicit_integer_bit: bool,
-    /// Whether tininess is told before rounding.
+    /// Whether tininess is detected before rounding.
     pub tiny_before_rounding: bool,
 }
 
@@ -30,8 +30,8 @@ impl Shape {
     ghost use Rattle.apfloat_base.specs.formats.Format.{greatest_significand, smallest_normalized};
     ghost use Rattle.apfloat_unpacked.specs.Shapes.{IsShape, format_at};
 
-    /// The same, made anew of its parts, for a call that takes it by its address: what is passed so is kept in memory, and
-    /// its constants would no longer fold in the caller.
+    /// The same shape, rebuilt from its fields, for a call that takes it by address: a struct passed that way is kept
+    /// in memory, and its constants would no longer fold in the caller.
     #[inline(always)]
     pub fn remade(self) -> Shape
         ensures { result ≡ self }
@@ -56,7 +56,7 @@ impl Shape {
         (self.precision as ExpInt - 1 - self.min_exp) as u32
     }
 
-    /// The greatest exponent less the least one.
+    /// The greatest exponent minus the least one.
     #[inline(always)]
     pub fn span(self) -> u32
         requires { IsShape self }
@@ -91,7 +91,7 @@ impl Shape {
     }
 }
 
-/// The exponent of a number's last digit, of that of its integer bit.
+/// The exponent of a number's last digit, from that of its integer bit.
 #[inline(always)]
 pub fn last_exponent(shape: Shape, exponent: ExpInt) -> ExpInt
     requires lawful { IsShape shape }

@@ -1,4 +1,4 @@
-//! Unpacked values, and the one way to make each kind of them.
+//! Unpacked values, and one constructor for each kind of them.
 
 ghost use Rattle.std.specs.Prelude.{◌≡◌, ◌+◌, ◌*◌, ◌^◌, ◌<◌, ◌≤◌, pos, neg_ℤ, ◌+ℤ◌, ◌-ℤ◌, ◌≤ℤ◌};
 ghost use Rattle.apfloat_base.specs.arithmetic.Exact.{up, down};
@@ -16,18 +16,18 @@ use crate::shape::Shape;
 use apfloat_base::sig::digits;
 use apfloat_base::{Category, ExpInt, NonfiniteBehavior, StatusAnd};
 
-/// A value taken apart.
+/// An unpacked value.
 ///
-/// A finite value that is not zero is `significand * 2^(exponent - (precision - 1))`, and its significand has the integer
-/// bit set, a denormal one's too: its lower digits are then zero as far as they lie below the quantum. A NaN has its
-/// significand as it is written. Whatever a kind of value does not need is zero.
+/// A nonzero number is `significand * 2^(exponent - (precision - 1))`, and its significand has the integer bit set,
+/// even for a denormal value: its digits below the quantum are then zero. A NaN has its significand as it is written.
+/// Fields that a kind of value does not need are zero.
 #[derive(Clone, Copy, Debug)]
 pub struct Unpacked {
     /// The digits of a number, or those of a NaN as they are written.
     pub significand: u128,
     /// The exponent of a number's integer bit.
     pub exponent: ExpInt,
-    /// What the value is.
+    /// The category of the value.
     pub category: Category,
     /// Whether the sign is minus.
     pub negative: bool,
@@ -36,7 +36,7 @@ pub struct Unpacked {
 impl Unpacked {
     ghost use Rattle.std.specs.Prelude.{◌≡◌};
 
-    /// The same, made anew of its parts, for a call that takes it by its address.
+    /// The same value, rebuilt from its fields, for a call that takes it by address.
     #[inline(always)]
     pub fn remade(self) -> Unpacked
         ensures { result ≡ self }
@@ -50,8 +50,8 @@ impl Unpacked {
     }
 }
 
-/// The answer, made anew of its parts: a struct that another function has written is copied whole, with its padding, but
-/// parts are copied in registers.
+/// The result, rebuilt from its fields: a struct written by another function is copied whole, with its padding, but
+/// separate fields are copied in registers.
 #[inline(always)]
 pub fn remade(answer: StatusAnd<Unpacked>) -> StatusAnd<Unpacked>
     ensures { result ≡ answer }
@@ -68,7 +68,7 @@ pub fn remade(answer: StatusAnd<Unpacked>) -> StatusAnd<Unpacked>
     }
 }
 
-/// The zero of that sign, or the one zero of the format.
+/// The zero of that sign, or the format's only zero.
 #[inline(always)]
 pub fn zero_of(shape: Shape, negative: bool) -> Unpacked
     ensures stored { IsStored shape result }
@@ -86,7 +86,7 @@ pub fn zero_of(shape: Shape, negative: bool) -> Unpacked
     }
 }
 
-/// The NaN with that significand, and with that sign where NaNs have one.
+/// The NaN with that significand, and with that sign if NaNs have one.
 #[inline(always)]
 pub fn nan_of(shape: Shape, negative: bool, significand: u128) -> Unpacked
     requires { IsNanSignificand shape.nonfinite shape.explicit_integer_bit shape.precision
@@ -106,7 +106,7 @@ pub fn nan_of(shape: Shape, negative: bool, significand: u128) -> Unpacked
     }
 }
 
-/// The infinity of that sign; in a format without infinities the NaN that stands in its place.
+/// The infinity of that sign, or, in a format without infinities, the NaN in its place.
 #[inline(always)]
 pub fn infinity_of(shape: Shape, negative: bool) -> Unpacked
     requires { IsShape shape }
@@ -125,7 +125,7 @@ pub fn infinity_of(shape: Shape, negative: bool) -> Unpacked
     }
 }
 
-/// The exponent of the integer bit of a number, where that bit was moved up by `place` and down by `shift` from the one of
+/// The exponent of the integer bit of a number, if that bit was moved up by `place` and down by `shift` from that of
 /// the smallest normalized value.
 #[inline(always)]
 fn exponent_at(min_exp: ExpInt, place: u32, shift: u32) -> ExpInt
@@ -162,8 +162,8 @@ pub fn from_quanta(shape: Shape, negative: bool, significand: u128, place: u32) 
     }
 }
 
-/// `significand * 2^place` quanta with that sign, after a rounding: most of these significands have all their digits, and
-/// need not be normalized again.
+/// `significand * 2^place` quanta with that sign, after a rounding: most of these significands have all their digits
+/// and need not be normalized again.
 #[inline(always)]
 pub fn from_rounded_quanta(shape: Shape, negative: bool, significand: u128, place: u32) -> Unpacked
     requires lawful { IsShape shape }

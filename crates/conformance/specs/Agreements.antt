@@ -1,9 +1,9 @@
--- What a text reads as by two calls, one of which drops the status.
+-- What two calls read a text as, one of which drops the status.
 use Rattle.std.specs.Prelude.{◌≡◌, Result, Ok, Err}
 use Rattle.apfloat_base.specs.declared.parse_error.ParseError.{ParseError}
 use Rattle.apfloat_base.specs.declared.status.StatusAnd.{StatusAnd}
 
--- one value, or refusals with the same words
+-- the same value, or refusals with the same words
 abbrev pub AreOneValue : {A : Type 0} → Result A ParseError → Result (StatusAnd A) ParseError → Type 0
 AreOneValue (Ok value) (Ok answer) = value ≡ answer.value
 AreOneValue (Ok value) (Err error) = ⊥

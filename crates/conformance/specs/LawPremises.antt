@@ -1,10 +1,10 @@
--- When the laws of the calls say something of given values.
+-- When the laws of the calls apply to given values.
 use Rattle.std.specs.Prelude.{◌≡◌, ℕ, ◌*◌, ◌^◌, ◌<◌, ◌≤◌, Bool, false}
 use Rattle.rustc_apfloat.specs.Format.{Format}
 use Rattle.rustc_apfloat.specs.Datum.{Datum, finite}
 use Rattle.rustc_apfloat.specs.Members.{IsFiniteOf}
 
--- two positive numbers, neither of which is more than twice the other
+-- two positive numbers, neither more than twice the other
 pub record AreNear (x y : Datum) : Type 0 where
   pub left : ℕ
   pub right : ℕ
@@ -15,7 +15,7 @@ pub record AreNear (x y : Datum) : Type 0 where
   pub few_left : left ≤ 2 * right
   pub few_right : right ≤ 2 * left
 
--- a number of the format f that g has too, as so many quanta of its own
+-- a number of the format f that g has too, as a count of g's quanta
 pub record IsInBoth (f g : Format) (x : Datum) : Type 0 where
   pub negative : Bool
   pub quanta : ℕ

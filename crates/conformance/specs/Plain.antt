@@ -1,4 +1,4 @@
--- What the plain program of one rounding works with.
+-- What the plain program for one rounding works with.
 use Rattle.std.specs.Prelude.{◌≡◌, ℕ, ◌-◌, ◌*◌, ◌^◌, ◌<◌, ◌≤◌, ◌⊎◌, Bool, ltb, if◌then◌else◌}
 use Rattle.apfloat_base.specs.declared.kinds.NonfiniteBehavior.{NonfiniteBehavior}
 use Rattle.rustc_apfloat.specs.Format.{Format, smallest_normalized, largest, nan_base_of}
@@ -7,7 +7,7 @@ use Rattle.conformance.specs.declared.plain.Answer.{Answer}
 use Rattle.conformance.specs.declared.plain.Answer.TheVariants.{Finite, Infinite, NotANumber}
 use Rattle.conformance.specs.declared.plain.Bounds.{Bounds}
 
--- so small that no product leaves 128 bits
+-- small enough that no product exceeds 128 bits
 pub record IsSmall (precision amount parts : ℕ) : Type 0 where
   pub some_digits : 3 ≤ precision
   pub few_digits : precision ≤ 60
@@ -15,8 +15,8 @@ pub record IsSmall (precision amount parts : ℕ) : Type 0 where
   pub some_parts : 0 < parts
   pub parts_bound : parts < 2 ^ 64
 
--- The distance of neighbouring grid points about amount / parts: a power of two, of which the magnitude has less than
--- 2 ^ precision, and at least half of so many unless it is the last one.
+-- The distance between neighbouring grid points around amount / parts: a power of two. The magnitude is less than 2 ^
+-- precision of them, and at least half of that, unless it is the last spacing.
 pub record IsSpacing (precision amount parts spacing : ℕ) : Type 0 where
   pub place : ℕ
   pub is : spacing ≡ 2 ^ place
@@ -35,7 +35,7 @@ abbrev pub tiny_of : Bounds → ℕ → ℕ → ℕ → Bool
 tiny_of b amount parts pick =
     if b.tiny_before_rounding then ltb amount (b.smallest_normalized * parts) else ltb pick b.smallest_normalized
 
--- the NaN that stands past the largest value of a format of that kind and precision
+-- the NaN past the largest value of a format of that kind and precision
 abbrev pub datum_of : NonfiniteBehavior → ℕ → Answer → Datum
 datum_of kind precision (Finite negative quanta) = finite negative quanta
 datum_of kind precision (Infinite negative) = infinite negative

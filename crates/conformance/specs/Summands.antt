@@ -4,7 +4,7 @@ use Rattle.rustc_apfloat.specs.Datum.{Datum}
 use Rattle.rustc_apfloat.specs.Classes.{is_finite, quanta_of}
 use Rattle.rustc_apfloat.specs.PairFormats.{double}
 
--- a finite number of at most so many quanta
+-- a number of at most `reach` quanta
 pub record IsSummand (reach : ℕ) (x : Datum) : Type 0 where
   pub is_finite : is_finite x ≡ true
   pub within : quanta_of x ≤ reach

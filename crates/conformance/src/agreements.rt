@@ -1,11 +1,12 @@
-//! What holds of every type of floating-point numbers by the laws of `Float`: an operator and its call have one answer.
+//! What holds for every floating-point type by the laws of `Float`: an operator and the corresponding call have the
+//! same result.
 
 ghost use Rattle.std.specs.Prelude.{◌≡◌};
 ghost use Rattle.conformance.specs.Agreements.{AreOneValue};
 
 use rustc_apfloat::{Float, ParseError, Round, StatusAnd};
 
-/// A sum by `+`, by the call that rounds to the nearest value, and by `+=`, which drops the status.
+/// A sum by `+`, by the call that rounds to nearest, ties to even, and by `+=`, which drops the status.
 pub fn sums<F: Float>(x: F, y: F) -> (StatusAnd<F>, StatusAnd<F>, F)
     ensures call { result.0 ≡ result.1 }
     ensures assigned { result.2 ≡ result.0.value }
@@ -22,7 +23,7 @@ pub fn remainders<F: Float>(x: F, y: F) -> (StatusAnd<F>, StatusAnd<F>)
     (x % y, x.c_fmod(y))
 }
 
-/// What a text reads as by `FromStr`, and by the call that rounds to the nearest value.
+/// What a text is read as by `FromStr`, and by the call that rounds to nearest, ties to even.
 pub fn readings<F: Float>(text: &str) -> (Result<F, ParseError>, Result<StatusAnd<F>, ParseError>)
     ensures { AreOneValue result.0 result.1 }
 {

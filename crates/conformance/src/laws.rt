@@ -1,5 +1,5 @@
-//! The laws of the public calls at work, for every format: each function calls the library and has what the law says
-//! of its answers as its contract. None has a premise on the format but that a call needs it.
+//! The laws of the public calls in use, for every format: each function calls the library, and its contract is what the
+//! law says about the results. None has a premise on the format except where a call needs it.
 
 ghost use Rattle.std.specs.Prelude.{◌≡◌, ◌^◌, ◌<◌, ◌≤◌, IsTrue, true, false, ◌-ℤ◌, ◌≤ℤ◌};
 ghost use Rattle.apfloat_base.specs.declared.kinds.NonfiniteBehavior.TheVariants.{IEEE754};
@@ -14,8 +14,7 @@ ghost use Rattle.conformance.specs.LawPremises.{AreNear, IsInBoth};
 use rustc_apfloat::ieee::{IeeeFloat, Semantics};
 use rustc_apfloat::{Float, FloatConvert, Round, StatusAnd};
 
-/// The difference of two values. That of two positive numbers, neither of which is more than twice the other, is exact in
-/// each mode.
+/// The difference of two values. For two positive numbers, neither more than twice the other, it is exact in each mode.
 pub fn near_difference<S: Semantics>(
     x: IeeeFloat<S>,
     y: IeeeFloat<S>,
@@ -27,7 +26,7 @@ pub fn near_difference<S: Semantics>(
     x.sub_r(y, mode)
 }
 
-/// What `x` and `y` become by adding `z`: of numbers in order, and in a format with infinities, the sums are in order.
+/// `x + z` and `y + z`: for numbers in order, in a format with infinities, the sums are in order too.
 pub fn sums_in_order<S: Semantics>(
     x: IeeeFloat<S>,
     y: IeeeFloat<S>,
@@ -40,7 +39,8 @@ pub fn sums_in_order<S: Semantics>(
     (x.add_r(z, mode).value, y.add_r(z, mode).value)
 }
 
-/// A product, and that of the turned left factor in the opposite mode, which is the turned product with the same flags.
+/// A product, and the product of the negated left factor in the opposite mode, which is the negated product with the
+/// same flags.
 pub fn opposite_products<S: Semantics>(
     x: IeeeFloat<S>,
     y: IeeeFloat<S>,
@@ -55,8 +55,8 @@ pub fn opposite_products<S: Semantics>(
     (x.mul_r(y, mode), (-x).mul_r(y, -mode))
 }
 
-/// The value in the format `T` and back, and whether either way lost information. A number of both formats comes back
-/// as it was.
+/// The value converted to the format `T` and back, and whether either conversion lost information. A number of both
+/// formats is unchanged.
 pub fn there_and_back<S: Semantics, T: Semantics>(
     x: IeeeFloat<S>,
     mode: Round,
@@ -73,14 +73,14 @@ pub fn there_and_back<S: Semantics, T: Semantics>(
     (back.value, lost_there || lost_back)
 }
 
-/// A step up and a step down: in a format with infinities a number that is not zero is itself again.
+/// The next value up, and then the next down: in a format with infinities, a nonzero number is unchanged.
 pub fn up_and_down<S: Semantics>(x: IeeeFloat<S>) -> IeeeFloat<S>
     ensures { S.NONFINITE_BEHAVIOR ≡ IEEE754 → is_finite_non_zero x ≡ true → result ≡ x }
 {
     x.next_up().value.next_down().value
 }
 
-/// A value written as bits and read again.
+/// A value written as bits and read back.
 pub fn through_bits<S: Semantics>(x: IeeeFloat<S>) -> IeeeFloat<S>
     requires { S.PRECISION < S.BITS }
     ensures { result ≡ x }
@@ -88,7 +88,7 @@ pub fn through_bits<S: Semantics>(x: IeeeFloat<S>) -> IeeeFloat<S>
     IeeeFloat::from_bits(x.to_bits())
 }
 
-/// Bits read as a value and written again. Where the integer bit is not written they are the same.
+/// A bit pattern read as a value and written back. With an implied integer bit, it is unchanged.
 pub fn through_value<S: Semantics>(bits: u128) -> u128
     requires { S.PRECISION < S.BITS }
     ensures { S.EXPLICIT_INTEGER_BIT ≡ false → bits < 2 ^ S.BITS → result ≡ bits }

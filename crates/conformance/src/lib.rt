@@ -1,7 +1,8 @@
-//! What tests across crates need: formats of a user's own, and a plain slow program of one rounding, with which the
+//! What tests across crates need: user-defined formats, and a plain slow program for one rounding, with which the
 //! kernel is compared.
 //!
-//! The tests stand in the crate `conformance_tests`. The program `check_vectors` checks files of outside values.
+//! The tests are in the crate `conformance_tests`. The program `check_vectors` checks files of test vectors from
+//! outside.
 #![tactic(auto)]
 
 pub mod agreements;

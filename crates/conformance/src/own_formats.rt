@@ -1,4 +1,4 @@
-//! Formats of a user's own: each writes its constants and proves its law by one line.
+//! User-defined formats: each gives its constants and proves its law in one line.
 
 pub mod broad;
 pub mod deep;
@@ -82,7 +82,7 @@ impl Semantics for SevenS {
     ghost lawful = { lawful_from_test _ refl };
 }
 
-/// Binary16, but that tininess is decided before rounding (IEEE 754-2008 7.5).
+/// Binary16, except that tininess is detected before rounding (IEEE 754-2008 7.5).
 #[derive(Clone, Copy)]
 pub struct HalfTinyBeforeS;
 
@@ -142,7 +142,7 @@ impl Semantics for HalfTinyBeforeS {
     ghost lawful = { lawful_from_test _ refl };
 }
 
-/// Three digits, the least that a format has, and the narrowest exponents beside them; without bits.
+/// Three digits, the least that a format may have, with the narrowest exponents; without bits.
 #[derive(Clone, Copy)]
 pub struct LeastS;
 

@@ -1,4 +1,4 @@
-//! Sums of doubles as pairs, with errors that are bounded by the clauses of `+` alone.
+//! Sums of doubles as pairs, with error bounds that follow from the clauses of `+` alone.
 
 ghost use Rattle.std.specs.Prelude.{◌≡◌, ◌+◌, ◌+ℤ◌};
 ghost use Rattle.rustc_apfloat.specs.Exact.{magnitude};
@@ -13,7 +13,7 @@ use rustc_apfloat::Float;
 use rustc_apfloat::ieee::Double;
 use rustc_apfloat::ppc::DoubleDouble;
 
-/// A double as a pair, beside +0.
+/// A double as a pair, with low part +0.
 fn alone(x: Double) -> DoubleDouble
     ensures pair { result ≡ alone x }
     ensures member { IsMember double x }
@@ -23,7 +23,7 @@ fn alone(x: Double) -> DoubleDouble
     DoubleDouble::from_bits(x.to_bits())
 }
 
-/// The sum of two doubles of at most 2^1022, of which nothing is lost.
+/// The exact sum of two doubles of at most 2^1022.
 pub fn exact_sum(x: Double, y: Double) -> DoubleDouble
     requires first { IsSummand sum_reach x }
     requires second { IsSummand sum_reach y }
@@ -32,7 +32,8 @@ pub fn exact_sum(x: Double, y: Double) -> DoubleDouble
     (alone(x) + alone(y)).value
 }
 
-/// The sum of three doubles of at most 2^1020. It is off by at most 2^-103 of the magnitudes of `x + y` and of `z` together.
+/// The sum of three doubles of at most 2^1020. The error is at most 2^-103 of the magnitudes of `x + y` and of `z`
+/// together.
 pub fn sum_of_three(x: Double, y: Double, z: Double) -> DoubleDouble
     requires first { IsSummand reach_of_three x }
     requires second { IsSummand reach_of_three y }

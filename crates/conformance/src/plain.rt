@@ -1,6 +1,6 @@
 //! One rounding by a plain slow program, with which the library's is compared.
 //!
-//! It works on whole numbers alone: a spacing is doubled until the magnitude has few enough of it, its two neighbours
+//! It uses whole numbers only: a spacing is doubled until few enough of it make up the magnitude, its two neighbours
 //! are multiples of that spacing, and their distances are compared. Its contracts are the definition of one rounding.
 
 ghost use Rattle.std.specs.Prelude.{◌≡◌, ◌+◌, ◌*◌, ◌/◌, ◌^◌, ◌<◌, ◌≤◌, ℕ, if◌then◌else◌};
@@ -14,7 +14,7 @@ ghost use Rattle.conformance.specs.Plain.{IsSmall, IsSpacing, HasBounds, tiny_of
 use rustc_apfloat::ieee::NonfiniteBehavior;
 use rustc_apfloat::{Flags, Round, Status, StatusAnd};
 
-/// The distance of neighbouring points of the grid about the magnitude `amount / parts`.
+/// The distance between neighbouring grid points around the magnitude `amount / parts`.
 fn spacing_at(precision: u32, amount: u128, parts: u128) -> u128
     requires { IsSmall precision amount parts }
     ensures { IsSpacing precision amount parts result }
@@ -45,8 +45,8 @@ pub fn above(precision: u32, amount: u128, parts: u128) -> u128
     amount.div_ceil(parts * spacing) * spacing
 }
 
-/// Whether the mode takes the upper neighbour of a magnitude that is `below_by` above the lower one and `above_by` below
-/// the upper one; `odd` says that the lower one is an odd multiple of their distance.
+/// Whether the mode takes the upper neighbour of a magnitude that is `below_by` above the lower one and `above_by`
+/// below the upper one; `odd` says that the lower one is an odd multiple of their distance.
 fn takes_above(mode: Round, negative: bool, below_by: u128, above_by: u128, odd: bool) -> bool
     ensures { result ≡ takes_above mode negative below_by above_by odd }
 {
@@ -79,7 +79,7 @@ pub fn pick(precision: u32, mode: Round, negative: bool, amount: u128, parts: u1
     }
 }
 
-/// The whole number that the mode picks beside `amount / parts`.
+/// `amount / parts`, rounded by the mode to a whole number.
 pub fn whole(mode: Round, negative: bool, amount: u128, parts: u128) -> u128
     requires { 0 < parts }
     ensures picked { result ≡ whole_pick mode negative amount parts }
@@ -106,16 +106,16 @@ pub struct Bounds {
     pub largest: u128,
     /// The least magnitude that is not denormal.
     pub smallest_normalized: u128,
-    /// Whether a result is tiny by the exact magnitude, in place of the rounded one.
+    /// Whether a result is judged tiny by the exact magnitude rather than by the rounded one.
     pub tiny_before_rounding: bool,
-    /// Which values that are no numbers the format has.
+    /// Which non-finite values the format has.
     pub nonfinite: NonfiniteBehavior,
 }
 
-/// The value that a rounding answers.
+/// The value that a rounding returns.
 #[derive(Clone, Copy, Debug)]
 pub enum Answer {
-    /// So many quanta with that sign.
+    /// A count of quanta with that sign.
     Finite { negative: bool, quanta: u128 },
     /// The infinity of that sign.
     Infinite { negative: bool },
@@ -123,7 +123,7 @@ pub enum Answer {
     NotANumber { negative: bool },
 }
 
-/// What stands past the largest value.
+/// The value past the largest one.
 fn past_largest(nonfinite: NonfiniteBehavior, negative: bool) -> Answer
     ensures { (precision : ℕ) → datum_of nonfinite precision result
         ≡ past_largest nonfinite (nan_base_of nonfinite precision) negative }
@@ -135,7 +135,7 @@ fn past_largest(nonfinite: NonfiniteBehavior, negative: bool) -> Answer
     }
 }
 
-/// So many quanta with that sign, but that of a zero only where the format has it.
+/// That many quanta with that sign; a zero has the sign only if the format has that zero.
 fn number_of(nonfinite: NonfiniteBehavior, negative: bool, quanta: u128) -> Answer
     ensures { (precision : ℕ)
         → datum_of nonfinite precision result ≡ signed_quanta nonfinite negative quanta }
@@ -147,7 +147,7 @@ fn number_of(nonfinite: NonfiniteBehavior, negative: bool, quanta: u128) -> Answ
     }
 }
 
-/// Whether the mode leads out of the format past the largest value.
+/// Whether the mode rounds past the largest value, out of the format.
 fn leads_out(mode: Round, negative: bool) -> bool
     ensures { result ≡ leads_out mode negative }
 {
@@ -160,7 +160,7 @@ fn leads_out(mode: Round, negative: bool) -> bool
     }
 }
 
-/// Whether an inexact result counts as tiny, by the exact magnitude or by the picked one.
+/// Whether an inexact result counts as tiny, judged by the exact magnitude or by the picked one.
 fn is_tiny(bounds: Bounds, amount: u128, parts: u128, picked: u128) -> bool
     requires normalized { bounds.smallest_normalized < 2 ^ 60 }
     requires parts { parts < 2 ^ 64 }

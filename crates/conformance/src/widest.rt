@@ -1,4 +1,4 @@
-//! The widest formats that have products and fused sums: with one digit more their calls are refused.
+//! The widest formats that have products and fused sums: with one digit more, these calls are refused.
 
 ghost use Rattle.std.specs.Prelude.{pos, negsuc, false, refl};
 ghost use Rattle.apfloat_base.specs.declared.kinds.NonfiniteBehavior.TheVariants.{NanNegativeZero};
@@ -7,7 +7,7 @@ ghost use Rattle.rustc_apfloat.specs.LawTest.{lawful_from_test};
 use rustc_apfloat::ieee::{IeeeFloat, NonfiniteBehavior, Semantics};
 use rustc_apfloat::{ExpInt, Float, Round, Status, StatusAnd};
 
-/// 64 digits, as many as products take.
+/// 64 digits, the most for which there are products.
 #[derive(Clone, Copy)]
 pub struct WidestProductsS;
 
@@ -67,7 +67,7 @@ impl Semantics for WidestProductsS {
     ghost lawful = { lawful_from_test _ refl };
 }
 
-/// 63 digits, as many as fused sums take.
+/// 63 digits, the most for which there are fused sums.
 #[derive(Clone, Copy)]
 pub struct WidestFusedSumsS;
 
@@ -135,7 +135,7 @@ pub fn square(
     x.mul_r(x, round)
 }
 
-/// The square of a value of the widest format that has fused sums, plus the value.
+/// The square of a value of the widest format that has fused sums, plus the value itself.
 pub fn square_and_itself(
     x: IeeeFloat<WidestFusedSumsS>,
     round: Round,

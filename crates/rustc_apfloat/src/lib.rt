@@ -1,8 +1,8 @@
-//! Correctly rounded software floating point on whole numbers: a port of the Rust crate `rustc_apfloat` (LLVM's
-//! APFloat) whose every operation is proved against a mathematical model.
+//! Correctly rounded software floating point in integer arithmetic: a port of the Rust crate `rustc_apfloat` (from
+//! LLVM's APFloat) in which every operation is proved against a mathematical model.
 //!
-//! The root has statuses, rounding modes and the traits `Float` and `FloatConvert`; `ieee` has the formats and `IeeeFloat`, `ppc`
-//! has pairs of doubles.
+//! The root contains the statuses, the rounding modes and the traits `Float` and `FloatConvert`; `ieee` has the formats
+//! and `IeeeFloat`, `ppc` has pairs of doubles.
 #![tactic(auto)]
 
 pub mod ppc;
@@ -13,7 +13,8 @@ pub use apfloat_base::{
 };
 pub use apfloat_formats as ieee;
 
-/// Sets a status to that of an expression, or joins that status to it, and is the expression's value.
+/// Sets a status variable to the status of an expression, or joins that status to it, and returns the expression's
+/// value.
 ///
 /// `unpack!(status =, e)` sets it, `unpack!(status |=, e)` joins.
 #[macro_export]

@@ -1,8 +1,8 @@
 //! Pairs of doubles: a number as the exact sum of two doubles, `high + low`.
 //!
-//! This is the format that IBM calls extended double. Sums and products are chains of steps of doubles; quotients,
-//! remainders, texts and whole numbers go by the wide format `FallbackS`, of 106 binary digits, which has the exact sum of
-//! the parts where it can; other calls go by the parts.
+//! IBM calls this format extended double. Sums and products are chains of steps on doubles. Quotients, remainders,
+//! texts and whole numbers are computed in the wide format `FallbackS`, of 106 binary digits, which has the exact sum
+//! of the parts if that fits. Other operations work on the parts.
 
 ghost use Rattle.std.specs.Prelude.{◌≡◌};
 ghost use Rattle.apfloat_pairs.specs.Pairs.{alone};
@@ -21,17 +21,18 @@ use apfloat_formats::{Double, IeeeFloat};
 pub use apfloat_formats::{FallbackExtendedS, FallbackS};
 use std::marker::Model;
 
-/// A number as the exact sum of two doubles: the high part, and the low part, which is what the high one leaves.
+/// A number as the exact sum of two doubles: the high part, and the low part, which is what remains beyond the high
+/// one.
 ///
-/// Any two doubles are a pair. Of a normalised one the parts are finite and the high part is the double nearest to their
-/// sum. A high part that is zero, infinite or a NaN tells what the pair is, whatever the low part.
+/// Any two doubles are a pair. A pair is normalised if the parts are finite and the high part is the double nearest to
+/// their sum. A high part that is zero, infinite or a NaN determines what the pair is, whatever the low part.
 #[derive(Clone, Copy, Debug)]
 pub struct DoubleFloat(Double, Double);
 
 /// The pair of two binary64 values.
 pub type DoubleDouble = DoubleFloat;
 
-/// A value of the wide format, in which calls on pairs are computed.
+/// A value of the wide format, in which operations on pairs are computed.
 type Fallback = IeeeFloat<FallbackS>;
 
 impl Model for DoubleFloat {

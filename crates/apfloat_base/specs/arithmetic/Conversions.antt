@@ -14,7 +14,7 @@ use Rattle.apfloat_base.specs.formats.Members.{IsFiniteOf}
 
 -- ---- NaNs: the payload keeps its first bit
 
--- how many last bits of the significand are cut off
+-- how many of the lowest bits of the significand are cut off
 abbrev pub places_out : Format → Format → ℕ
 places_out f g = if eqb (payload_mask f) 0 then 0 else f.precision - g.precision
 
@@ -23,7 +23,7 @@ converted_nan f g negative significand =
     nan (nan_sign g.nonfinite negative)
     (quiet_significand g (quieted f significand * 2 ^ (g.precision - f.precision) / 2 ^ places_out f g))
 
--- a bit was cut off, or the integer bit of a signaling NaN, or the whole payload
+-- a bit that was cut off is set, or the integer bit of a signaling NaN is lost, or the whole payload
 abbrev pub nan_loses : Format → Format → ℕ → Bool
 nan_loses f g significand =
     not (eqb (quieted f significand % 2 ^ places_out f g) 0) ||
@@ -37,11 +37,11 @@ has_infinities IEEE754 = true
 has_infinities NanOnly = false
 has_infinities NanNegativeZero = false
 
--- the target has no zero of that sign
+-- the target does not have the zero of that sign
 abbrev pub loses_zero_sign : Format → Bool → Bool
 loses_zero_sign g negative = not (same_sign negative (zero_sign g.nonfinite negative))
 
--- ---- the answer
+-- ---- the result
 
 pub record IsConverted (given : Datum) (flags : ℕ) (loses : Bool) (value : Datum) (status : ℕ)
     (loses_info : Bool) : Type 0 where
@@ -49,7 +49,7 @@ pub record IsConverted (given : Datum) (flags : ℕ) (loses : Bool) (value : Dat
   pub status_is : status ≡ flags
   pub loses_is : loses_info ≡ loses
 
--- inexact, and information is lost, or neither
+-- inexact with information lost, or neither
 abbrev pub IsKept : Datum → Bool → Datum → ℕ → Bool → Type 0
 IsKept given loses value status loses_info =
     IsConverted given (if loses then inexact_bit else ok_bits) loses value status loses_info
@@ -71,7 +71,7 @@ IsConversion f g mode (finite b n) value status loses_info =
 
 -- ---- the law of exact conversion
 
--- the same number is a datum of g too, then it is the answer, and nothing was lost
+-- if the same number is a datum of g too, it is the result, and nothing was lost
 abbrev pub IsExactlyConverted : Format → Format → Datum → Datum → ℕ → Bool → Type 0
 IsExactlyConverted f g (finite b m) value status loses_info =
     (n : ℕ) → n * 2 ^ f.scale ≡ m * 2 ^ g.scale → IsFiniteOf g b n

@@ -1,4 +1,4 @@
--- Exact results: whole numbers with a sign, over whole numbers.
+-- Exact results: a signed whole number divided by a whole number.
 use Rattle.std.specs.Prelude.{ℕ, zero, suc, ◌+◌, Bool, true, false, not, ℤ, pos, negsuc, neg_ℤ}
 use Rattle.apfloat_base.specs.declared.kinds.Round.{Round}
 use Rattle.apfloat_base.specs.formats.Format.{Format}
@@ -11,7 +11,7 @@ abbrev pub same_sign : Bool → Bool → Bool
 same_sign true right = right
 same_sign false right = not right
 
--- of a product and a quotient (IEEE 754-2008 6.3)
+-- the sign of a product or a quotient (IEEE 754-2008 6.3)
 abbrev pub product_sign : Bool → Bool → Bool
 product_sign left right = not (same_sign left right)
 
@@ -22,13 +22,13 @@ signed false n = pos n
 abbrev pub magnitude : ℤ → ℕ
 magnitude z = up z + down z
 
--- true for minus; `of_zero` where the result is exactly zero
+-- true for minus; `of_zero` is the sign if the result is exactly zero
 abbrev pub sign_of : Bool → ℤ → Bool
 sign_of of_zero (pos zero) = of_zero
 sign_of of_zero (pos (suc n)) = false
 sign_of of_zero (negsuc n) = true
 
--- the exact result is exact / parts quanta, and it is rounded once
+-- the exact result, which is exact / parts quanta, rounded once
 abbrev pub IsRounded : Format → Round → Bool → ℤ → ℕ → Datum → ℕ → Type 0
 IsRounded f mode of_zero exact parts value status =
     IsDelivered f mode (sign_of of_zero exact) (magnitude exact) parts value status

@@ -6,7 +6,7 @@ use Rattle.apfloat_base.specs.formats.Datum.{Datum, finite, infinite, nan}
 use Rattle.apfloat_base.specs.formats.Nan.{quieted}
 use Rattle.apfloat_base.specs.arithmetic.Exact.{up, down}
 
--- what stands for the exponent of an infinity, a NaN and a zero
+-- the exponents that are returned for an infinity, a NaN and a zero
 abbrev pub infinite_exponent : ℤ
 infinite_exponent = pos 2147483647
 
@@ -16,7 +16,7 @@ nan_exponent = neg_ℤ (pos 2147483648)
 abbrev pub zero_exponent : ℤ
 zero_exponent = neg_ℤ (pos 2147483647)
 
--- 2 ^ exponent is at most so many quanta, and twice that is more
+-- 2 ^ exponent is at most `quanta` quanta, and twice that is more
 pub record IsLogarithm (f : Format) (quanta : ℕ) (exponent : ℤ) : Type 0 where
   pub place : ℕ
   pub low : 2 ^ place ≤ quanta
@@ -28,7 +28,7 @@ IsIlogb f (nan b s) exponent = exponent ≡ nan_exponent
 IsIlogb f (infinite b) exponent = exponent ≡ infinite_exponent
 IsIlogb f (finite b n) exponent = MatchBool (eqb n 0) (exponent ≡ zero_exponent) (IsLogarithm f n exponent)
 
--- so many quanta are a fraction from one half to below 1, times 2 ^ exponent
+-- `quanta` quanta are a fraction from one half to below 1, times 2 ^ exponent
 pub record IsFraction (f : Format) (negative : Bool) (quanta : ℕ) (value : Datum) (exponent : ℤ) : Type 0 where
   pub fraction : ℕ
   pub low : 2 ^ (f.scale - 1) ≤ fraction
@@ -42,7 +42,7 @@ IsFrexp f (infinite b) value exponent = (value ≡ infinite b) × (exponent ≡ 
 IsFrexp f (finite b n) value exponent =
     MatchBool (eqb n 0) ((value ≡ finite b n) × (exponent ≡ pos 0)) (IsFraction f b n value exponent)
 
--- two numbers whose product is 1, neither of them denormal
+-- two numbers, neither of them denormal, whose product is 1
 pub record AreInverse (f : Format) (quanta inverse : ℕ) : Type 0 where
   pub normal : smallest_normalized f ≤ quanta
   pub inverse_normal : smallest_normalized f ≤ inverse

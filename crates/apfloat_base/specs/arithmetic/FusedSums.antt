@@ -10,7 +10,7 @@ use Rattle.apfloat_base.specs.arithmetic.Exact.{product_sign, signed, IsRounded}
 use Rattle.apfloat_base.specs.arithmetic.Sums.{zero_sum_sign, IsSum}
 use Rattle.apfloat_base.specs.arithmetic.Products.{IsProduct}
 
--- a factor is infinite or a NaN: the product stands as it is where it has a flag, else the addend is added to it
+-- A factor is an infinity or a NaN. If the product has a flag it is the result, else the addend is added to it.
 pub record IsSumWithProduct (f : Format) (mode : Round) (x y z value : Datum) (status : ℕ) : Type 0 where
   pub product : Datum
   pub flags : ℕ

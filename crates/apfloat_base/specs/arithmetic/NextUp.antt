@@ -10,13 +10,13 @@ use Rattle.apfloat_base.specs.formats.Constants.{smallest_datum, infinity_datum}
 use Rattle.apfloat_base.specs.rounding.Answer.{IsAnswer}
 use Rattle.apfloat_base.specs.formats.Nan.{invalid_bit, is_signaling, quiet_significand}
 
--- of a positive number below the largest: the least one that is greater
+-- for a positive number below the largest: the least one that is greater
 pub record IsNextGreater (f : Format) (quanta : ℕ) (value : Datum) (status : ℕ) : Type 0 where
   pub next : ℕ
   pub is_above : IsAbove f.precision next (quanta + 1) 1
   pub is : IsAnswer (finite false next) ok_bits value status
 
--- of a negative number: the greatest magnitude that is less
+-- for a negative number: the greatest magnitude that is less
 pub record IsNextLess (f : Format) (quanta : ℕ) (value : Datum) (status : ℕ) : Type 0 where
   pub next : ℕ
   pub is_below : IsBelow f.precision next (quanta - 1) 1

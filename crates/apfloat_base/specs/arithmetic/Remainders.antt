@@ -1,4 +1,4 @@
--- Remainders (IEEE 754-2008 5.3.1 for the one of the nearest quotient); both are exact.
+-- Remainders (IEEE 754-2008 5.3.1 for the one by the nearest quotient); both are exact.
 use Rattle.std.specs.Prelude.{ℕ, ◌-◌, ◌*◌, ◌/◌, Bool, false, not, ltb, eqb, count_ones, if◌then◌else◌}
 use Rattle.std.specs.Bool.{MatchBool}
 use Rattle.apfloat_base.specs.declared.kinds.NonfiniteBehavior.{NonfiniteBehavior}
@@ -17,12 +17,12 @@ truncated_quotient m n = m / n
 abbrev pub nearest_quotient : ℕ → ℕ → ℕ
 nearest_quotient m n = whole_pick NearestTiesToEven false m n
 
--- m less what is taken of it, m with that sign; a zero keeps it
+-- m minus `taken`, where m has that sign; a zero keeps the sign
 abbrev pub rest_of : NonfiniteBehavior → Bool → ℕ → ℕ → Datum
 rest_of kind negative m taken =
     if ltb m taken then signed_quanta kind (not negative) (taken - m) else signed_quanta kind negative (m - taken)
 
--- the remainder by a whole quotient
+-- the remainder by a given whole quotient
 abbrev pub IsRemainder : Format → (ℕ → ℕ → ℕ) → Datum → Datum → Datum → ℕ → Type 0
 IsRemainder f quotient (nan b s) y value status = IsOfNans f b s y value status
 IsRemainder f quotient x (nan c t) value status = IsOfNan f c t value status
@@ -33,15 +33,15 @@ IsRemainder f quotient (finite b m) (finite c n) value status =
     (IsInvalid f value status)
     (IsAnswer (rest_of f.nonfinite b m (n * quotient m n)) ok_bits value status)
 
--- x - y * t, with t the quotient cut toward zero
+-- x - y * t, where t is the quotient cut toward zero
 abbrev pub IsTruncatedRemainder : Format → Datum → Datum → Datum → ℕ → Type 0
 IsTruncatedRemainder f x y value status = IsRemainder f truncated_quotient x y value status
 
--- x - y * n, with n the whole number nearest to the quotient, a tie to the even one
+-- x - y * n, where n is the whole number nearest to the quotient, ties to even
 abbrev pub IsNearestRemainder : Format → Datum → Datum → Datum → ℕ → Type 0
 IsNearestRemainder f x y value status = IsRemainder f nearest_quotient x y value status
 
--- the count of ones among the binary digits of the quotient cut toward zero
+-- how many binary digits of the quotient cut toward zero are ones
 abbrev pub ones_of_quotient : Datum → Datum → ℕ
 ones_of_quotient (finite b m) (finite c n) = if eqb n 0 then 0 else count_ones (truncated_quotient m n)
 ones_of_quotient x y = 0

@@ -21,7 +21,7 @@ is_toward_negative TowardNegative = true
 is_toward_negative TowardZero = false
 is_toward_negative NearestTiesToAway = false
 
--- the sign of an exact zero that is a sum of numbers with these signs (6.3)
+-- the sign of an exact zero as the sum of numbers with these signs (6.3)
 abbrev pub zero_sum_sign : Round → Bool → Bool → Bool
 zero_sum_sign mode left right = if same_sign left right then left else is_toward_negative mode
 
@@ -43,7 +43,7 @@ IsDifference f mode x y value status = IsSum f mode x (negated f.nonfinite y) va
 
 -- ---- two laws
 
--- a finite value that is that number of quanta, and no flag
+-- a finite value of exactly that many quanta, with no flag
 pub record IsExactly (exact : ℤ) (value : Datum) (status : ℕ) : Type 0 where
   pub negative : Bool
   pub quanta : ℕ
@@ -51,14 +51,14 @@ pub record IsExactly (exact : ℤ) (value : Datum) (status : ℕ) : Type 0 where
   pub number_is : signed negative quanta ≡ exact
   pub status_is : status ≡ ok_bits
 
--- The difference of two positive numbers is exact where neither is more than twice the other.
+-- The difference of two positive numbers is exact if neither is more than twice the other.
 abbrev pub IsNearby : Datum → Datum → Datum → ℕ → Type 0
 IsNearby x y value status =
     (m n : ℕ) → x ≡ finite false m → y ≡ finite false n → 0 < m → 0 < n → m ≤ 2 * n → n ≤ 2 * m
     → IsExactly (pos m -ℤ pos n) value status
 
--- The sum of numbers does not fall as one of them grows, in a format with infinities: the value of x + z is at most that
--- of y + z, for each number y that is at least x.
+-- In a format with infinities, a sum of numbers does not decrease as one of them increases: the value of x + z is at
+-- most that of y + z, for each number y that is at least x.
 abbrev pub IsMonotone : Format → Round → Datum → Datum → Datum → Type 0
 IsMonotone f mode x z value =
     f.nonfinite ≡ IEEE754 → IsTrue (is_finite x) → IsTrue (is_finite z) → (y greater : Datum) (status : ℕ)

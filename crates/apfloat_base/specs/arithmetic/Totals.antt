@@ -1,15 +1,15 @@
--- Sums of significands with a sign, counted in one small unit.
+-- Sums of signed significands, counted in one small unit.
 use Rattle.std.specs.Prelude.{◌≡◌, ℕ, ◌+◌, ◌*◌, ◌^◌, ◌⊎◌, Bool, true, false, ℤ, ◌-ℤ◌, ◌≤ℤ◌}
 use Rattle.apfloat_base.specs.declared.sig.loss.Loss.{Loss}
 use Rattle.apfloat_base.specs.arithmetic.Exact.{up, signed}
 use Rattle.apfloat_base.specs.rounding.Standing.{StandsFor}
 
--- significand * 2 ^ exponent with that sign, counted in 2 ^ low, for a `low` that is not above the exponent
+-- significand * 2 ^ exponent with that sign, counted in units of 2 ^ low, for a `low` that is not above the exponent
 abbrev pub counted : ℤ → Bool → ℤ → ℕ → ℤ
 counted low negative exponent significand = signed negative (significand * 2 ^ up (exponent -ℤ low))
 
--- The number `exact`, counted in 2 ^ low, has that sign, and its magnitude is so many times 2 ^ exponent and a rest as
--- the loss says.
+-- `exact`, counted in units of 2 ^ low, has that sign, and its magnitude is `significand` times 2 ^ exponent plus a
+-- rest as the loss says.
 pub record StandsForSigned (low exact : ℤ) (negative : Bool) (exponent : ℤ) (significand : ℕ) (loss : Loss) : Type 0
   where
     pub above : low ≤ℤ exponent
@@ -23,12 +23,12 @@ pub record IsGreater (z a b : ℤ) : Type 0 where
   pub first : a ≤ℤ z
   pub second : b ≤ℤ z
 
--- `amount` is how far a and b are apart; true where b is the greater
+-- `amount` is how far apart a and b are; true if b is the greater
 abbrev pub Balances : Bool → ℕ → ℕ → ℕ → Type 0
 Balances false amount a b = a ≡ b + amount
 Balances true amount a b = b ≡ a + amount
 
--- how far a and b are apart, as units with a loss
+-- how far apart a and b are, in units with a loss
 pub record IsApart (a b : ℕ) (flipped : Bool) (significand : ℕ) (loss : Loss) (unit : ℕ) : Type 0 where
   pub amount : ℕ
   pub balances : Balances flipped amount a b

@@ -1,4 +1,4 @@
--- A format whose data are written as bits, by its format and its layout; and the number that fields are.
+-- A format whose data are written as bits, given by its format and its layout; and the bit pattern of fields.
 use Rattle.std.specs.Prelude.{◌≡◌, ℕ, ◌+◌, ◌*◌, ◌^◌, ◌<◌, ◌≤◌, true, if◌then◌else◌}
 use Rattle.apfloat_base.specs.formats.Format.{Format}
 use Rattle.apfloat_base.specs.formats.Datum.{Datum}
@@ -13,7 +13,7 @@ pub record IsInterchange (f : Format) (layout : Layout) : Type 0 where
   pub span : f.span + 3 ≡ 2 ^ layout.exponent_bits + more_exponents f.nonfinite
   pub explicit : MayBeExplicit f.nonfinite f.explicit_integer_bit
 
--- each field has its width
+-- each field fits in its width
 pub record AreWithin (f : Format) (layout : Layout) (x : Fields) : Type 0 where
   pub biased_exponent : x.biased_exponent < 2 ^ layout.exponent_bits
   pub trailing : x.trailing < 2 ^ trailing_bits f

@@ -5,7 +5,7 @@ use Rattle.apfloat_base.specs.declared.kinds.NonfiniteBehavior.TheVariants.{IEEE
 use Rattle.apfloat_base.specs.formats.Format.{nan_base_of, payload_mask_of, quiet_bits_of}
 use Rattle.apfloat_base.specs.formats.Lawful.{Constants}
 
--- the constants of an interchange format by its widths and exponents
+-- the constants of an interchange format, from its widths and exponents
 abbrev pub interchange : ℕ → ℕ → ℕ → NonfiniteBehavior → ℤ → ℤ → Bool → Constants
 interchange bits exp_bits precision kind max_exp min_exp explicit =
     record {

@@ -1,4 +1,4 @@
--- The law of a format as a test that computes: a format whose constants are written out proves its law by `refl`.
+-- The law of a format as a test that can be computed: a format with literal constants proves its law by `refl`.
 use Rattle.std.specs.Prelude.{◌≡◌, ◌+◌, ◌-◌, ◌^◌, ℤ, pos, ◌+ℤ◌, ◌-ℤ◌, ◌≤ℤ◌, neg_ℤ, Bool, true, not, ◌&&◌, ◌||◌, if◌then◌else◌, leb, eqb}
 use Rattle.std.proofs.Common.{inl, inr, ⊎_elim, subst, sym, T}
 use Rattle.std.proofs.lemmas.Bool.{and_parts, or_cases, leb-true, eqb-true, not-true}

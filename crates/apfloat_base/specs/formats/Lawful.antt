@@ -1,11 +1,11 @@
--- The constants of a binary format, and which of them belong together.
+-- The constants of a binary format, and when they are consistent.
 use Rattle.std.specs.Prelude.{◌≡◌, ◌⊎◌, ℕ, ◌+◌, ◌-◌, ◌^◌, ◌≤◌, ℤ, pos, ◌+ℤ◌, ◌-ℤ◌, ◌≤ℤ◌, neg_ℤ, unsigned_abs, Bool, false, if◌then◌else◌, ⊤}
 use Rattle.apfloat_base.specs.declared.kinds.NonfiniteBehavior.{NonfiniteBehavior}
 use Rattle.apfloat_base.specs.declared.kinds.NonfiniteBehavior.TheVariants.{IEEE754, NanOnly, NanNegativeZero}
 use Rattle.apfloat_base.specs.formats.Format.{Format, nan_base_of, payload_mask_of, quiet_bits_of}
 use Rattle.apfloat_base.specs.bits.Layout.{Layout}
 
--- as a type of formats writes them
+-- named as in the types of formats
 pub record Constants : Type 0 where
   pub bits : ℕ
   pub exp_bits : ℕ
@@ -21,7 +21,7 @@ pub record Constants : Type 0 where
   pub explicit_integer_bit : Bool
   pub tiny_before_rounding : Bool
 
--- in the order of a type of formats
+-- in the order of the types of formats
 abbrev pub constants_with : ℕ → ℕ → ℕ → NonfiniteBehavior → ℤ → ℤ → ℤ → ℤ → ℕ → ℕ → ℕ → Bool → Bool → Constants
 constants_with bits exp_bits precision nonfinite max_exp ieee_max_exp min_exp ieee_min_exp base mask quiet explicit
     tiny =
@@ -41,7 +41,7 @@ constants_with bits exp_bits precision nonfinite max_exp ieee_max_exp min_exp ie
       tiny_before_rounding = tiny;
     }
 
--- the quantum is the place of the last digit at the least exponent
+-- the quantum is the value of the last digit at the least exponent
 abbrev pub format_with : Constants → Format
 format_with c =
     record {
@@ -56,7 +56,7 @@ format_with c =
 abbrev pub layout_with : Constants → Layout
 layout_with c = record { bits = c.bits; exponent_bits = c.exp_bits }
 
--- a format that is for computing only
+-- a format for computing only
 pub record HasNoBits (c : Constants) : Type 0 where
   pub bits : c.bits ≡ 0
   pub exp_bits : c.exp_bits ≡ 0
@@ -64,7 +64,7 @@ pub record HasNoBits (c : Constants) : Type 0 where
   pub ieee_max_exp : c.ieee_max_exp ≡ pos 0
   pub implied : c.explicit_integer_bit ≡ false
 
--- without infinities the greatest exponent of IEEE 754 is one of numbers too
+-- without infinities, the greatest exponent of IEEE 754 also belongs to numbers
 abbrev pub more_exponents : NonfiniteBehavior → ℕ
 more_exponents IEEE754 = 0
 more_exponents NanOnly = 1
@@ -79,7 +79,7 @@ pub record HasBits (c : Constants) : Type 0 where
   pub ieee_max_exp : c.ieee_max_exp ≡ pos 1 -ℤ c.ieee_min_exp
   pub max_exp : c.max_exp ≡ c.ieee_max_exp +ℤ (c.min_exp -ℤ c.ieee_min_exp) +ℤ pos (more_exponents c.nonfinite)
 
--- the integer bit is written only beside infinities
+-- only a format with infinities may have an explicit integer bit
 abbrev pub MayBeExplicit : NonfiniteBehavior → Bool → Type 0
 MayBeExplicit IEEE754 explicit = ⊤
 MayBeExplicit NanOnly explicit = explicit ≡ false

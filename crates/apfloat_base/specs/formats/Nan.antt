@@ -1,4 +1,4 @@
--- NaNs (IEEE 754-2008 6.2), and the answers that are NaNs.
+-- NaNs (IEEE 754-2008 6.2), and the results that are NaNs.
 use Rattle.std.specs.Prelude.{ℕ, ◌-◌, ◌/◌, ◌^◌, Bool, false, not, ◌||◌, eqb, bit_and, bit_or, if◌then◌else◌}
 use Rattle.apfloat_base.specs.declared.kinds.NonfiniteBehavior.{NonfiniteBehavior}
 use Rattle.apfloat_base.specs.declared.kinds.NonfiniteBehavior.TheVariants.{IEEE754, NanOnly, NanNegativeZero}
@@ -46,7 +46,7 @@ with_payload f significand = if eqb (bit_and significand (payload_mask f)) 0
 abbrev pub signaling_significand : Format → ℕ → ℕ
 signaling_significand f payload = with_payload f (cleared (quiet_significand f payload) (quiet_bit f))
 
--- ---- the NaNs of a payload
+-- ---- the NaNs with a payload
 
 abbrev pub qnan : Format → ℕ → Datum
 qnan f payload = nan false (quiet_significand f payload)
@@ -59,9 +59,9 @@ nan_sign IEEE754 negative = negative
 nan_sign NanOnly negative = negative
 nan_sign NanNegativeZero negative = false
 
--- ---- answers (6.2.3)
+-- ---- results (6.2.3)
 
--- of one operand, which is a NaN
+-- for one operand that is a NaN
 abbrev pub IsOfNan : Format → Bool → ℕ → Datum → ℕ → Type 0
 IsOfNan f negative significand value status =
     IsAnswer (nan negative (quieted f significand)) (invalid_if (is_signaling f significand)) value status
@@ -71,12 +71,12 @@ is_signaling_nan f (finite negative quanta) = false
 is_signaling_nan f (infinite negative) = false
 is_signaling_nan f (nan negative significand) = is_signaling f significand
 
--- of a left operand that is a NaN, and a right one
+-- for a left operand that is a NaN, and a right one
 abbrev pub IsOfNans : Format → Bool → ℕ → Datum → Datum → ℕ → Type 0
 IsOfNans f negative significand right value status =
     IsAnswer (nan negative (quieted f significand))
     (invalid_if (is_signaling f significand || is_signaling_nan f right)) value status
 
--- of an invalid operation on operands that are no NaNs (7.2)
+-- for an invalid operation on operands that are not NaNs (7.2)
 abbrev pub IsInvalid : Format → Datum → ℕ → Type 0
 IsInvalid f value status = IsAnswer (qnan f 0) invalid_bit value status

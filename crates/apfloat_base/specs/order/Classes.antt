@@ -26,7 +26,7 @@ is_nan (finite b n) = false
 is_nan (infinite b) = false
 is_nan (nan b s) = true
 
--- of a finite datum
+-- for a finite datum
 abbrev pub quanta_of : Datum → ℕ
 quanta_of (finite b n) = n
 quanta_of (infinite b) = 0
@@ -38,7 +38,7 @@ is_zero x = is_finite x && eqb (quanta_of x) 0
 abbrev pub is_finite_non_zero : Datum → Bool
 is_finite_non_zero x = is_finite x && ltb 0 (quanta_of x)
 
--- finite, not zero, and below the smallest number with all digits
+-- finite, nonzero, and below the smallest number with all digits
 abbrev pub is_denormal : Format → Datum → Bool
 is_denormal f x = is_finite_non_zero x && ltb (quanta_of x) (smallest_normalized f)
 
@@ -64,13 +64,13 @@ same_datum (infinite b) (infinite c) = same_sign b c
 same_datum (nan b s) (nan c t) = same_sign b c && eqb s t
 same_datum x y = false
 
--- what a value is, in one word
+-- the category of a datum
 abbrev pub category_of : Datum → Category
 category_of (finite b n) = if eqb n 0 then Zero else Normal
 category_of (infinite b) = Infinity
 category_of (nan b s) = NaN
 
--- finite and not zero
+-- finite and nonzero
 abbrev pub is_finite_non_zero_category : Category → Bool
 is_finite_non_zero_category Normal = true
 is_finite_non_zero_category Zero = false

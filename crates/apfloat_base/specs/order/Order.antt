@@ -7,7 +7,7 @@ use Rattle.apfloat_base.specs.arithmetic.Exact.{signed}
 use Rattle.apfloat_base.specs.declared.kinds.Category.TheVariants.{Normal}
 use Rattle.apfloat_base.specs.order.Classes.{category_of, is_nan, is_zero, is_negative, quanta_of}
 
--- below the numbers, among them, above them
+-- whether a datum is below the numbers, among them, or above them
 abbrev pub level : Datum → ℕ
 level (infinite b) = if b then 0 else 2
 level (finite b n) = 1
@@ -18,7 +18,7 @@ number (finite b n) = signed b n
 number (infinite b) = pos 0
 number (nan b s) = pos 0
 
--- numbers as numbers, infinities at the ends, a NaN beside none
+-- numbers by their values, infinities at the ends; a NaN is unordered
 abbrev pub compared : Datum → Datum → Option Ordering
 compared (nan b s) y = None
 compared x (nan c t) = None
@@ -30,7 +30,7 @@ is_below x y = is_some_and is_lt (compared x y)
 abbrev pub is_equal : Datum → Datum → Bool
 is_equal x y = is_some_and is_eq (compared x y)
 
--- not above, for data that are no NaNs
+-- not above, for data that are not NaNs
 abbrev pub AtMost : Datum → Datum → Type 0
 AtMost (finite b m) (finite c n) = signed b m ≤ℤ signed c n
 AtMost (finite b m) (infinite c) = c ≡ false
@@ -39,16 +39,16 @@ AtMost (infinite b) (infinite c) = (b ≡ true) ⊎ (c ≡ false)
 AtMost (nan b s) y = ⊥
 AtMost x (nan c t) = ⊥
 
--- both are finite and not zero
+-- both are finite and nonzero
 pub record AreFiniteNonZero (x y : Datum) : Type 0 where
   pub left : category_of x ≡ Normal
   pub right : category_of y ≡ Normal
 
--- of two finite data that are not zero
+-- for two nonzero finite data
 abbrev pub compared_magnitudes : Datum → Datum → Ordering
 compared_magnitudes x y = nat_cmp (quanta_of x) (quanta_of y)
 
--- a NaN gives way
+-- if one operand is a NaN, the other is taken
 abbrev pub min_num : Datum → Datum → Datum
 min_num x y = if is_nan x then y else (if is_nan y then x else (if is_below y x then y else x))
 
@@ -58,7 +58,7 @@ max_num x y = if is_nan x then y else (if is_nan y then x else (if is_below x y 
 abbrev pub are_zeros : Datum → Datum → Bool
 are_zeros x y = is_zero x && is_zero y
 
--- a NaN stays as it is, and -0 is below +0
+-- a NaN is unchanged, and -0 is below +0
 abbrev pub minimum : Datum → Datum → Datum
 minimum x y =
     if is_nan x then x

@@ -1,5 +1,6 @@
--- The predicates of a floating-point type by the category and the sign of its values (IEEE 754-2008 5.7.2), and its minima
--- and maxima by its order (5.3.1; 754-2019 9.6). At data they are those of the model: `proofs/PredicatesAgree.antt`.
+-- The predicates of a floating-point type, from the category and the sign of its values (IEEE 754-2008 5.7.2), and its
+-- minima and maxima, from its order (5.3.1; 754-2019 9.6). On data they agree with the model:
+-- `proofs/PredicatesAgree.antt`.
 use Rattle.std.specs.Prelude.{Bool, true, false, not, ◌&&◌, Option, if◌then◌else◌}
 use Rattle.std.specs.declared.cmp.Ordering.{Ordering}
 use Rattle.std.specs.Ordering.{partial_lt}
@@ -26,7 +27,7 @@ is_finite_category NaN = false
 is_finite_category Normal = true
 is_finite_category Zero = true
 
--- a NaN gives way
+-- if one operand is a NaN, the other is taken
 abbrev pub min_by : {X : Type 0} → (X → Category) → (X → X → Option Ordering) → X → X → X
 min_by category_of partial_cmp x y =
     if is_nan_category (category_of x) then y
@@ -37,12 +38,12 @@ max_by category_of partial_cmp x y =
     if is_nan_category (category_of x) then y
     else (if is_nan_category (category_of y) then x else (if partial_lt partial_cmp x y then y else x))
 
--- zeros of different signs
+-- zeros of opposite signs
 abbrev pub are_opposite_zeros : {X : Type 0} → (X → Category) → (X → Bool) → X → X → Bool
 are_opposite_zeros category_of sign_of x y =
     is_zero_category (category_of x) && (is_zero_category (category_of y) && not (same_sign (sign_of x) (sign_of y)))
 
--- a NaN stays as it is, and -0 is below +0
+-- a NaN is unchanged, and -0 is below +0
 abbrev pub minimum_by : {X : Type 0} → (X → Category) → (X → Bool) → (X → X → Option Ordering) → X → X → X
 minimum_by category_of sign_of partial_cmp x y =
     if is_nan_category (category_of x) then x

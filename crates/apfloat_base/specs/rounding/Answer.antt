@@ -1,4 +1,4 @@
--- An answer that needs no rounding: a value, and the flags of its status.
+-- A result that needs no rounding: a value, and the flags of its status.
 use Rattle.std.specs.Prelude.{◌≡◌, ℕ}
 use Rattle.apfloat_base.specs.formats.Datum.{Datum}
 

@@ -5,7 +5,8 @@ use Rattle.apfloat_base.specs.declared.sig.loss.Loss.{Loss}
 use Rattle.apfloat_base.specs.declared.sig.loss.Loss.TheVariants.{ExactlyZero, LessThanHalf, ExactlyHalf, MoreThanHalf}
 use Rattle.apfloat_base.specs.rounding.Rounding.{takes_above}
 
--- The magnitude amount / parts lies from m * 2 ^ c up to (m + 1) * 2 ^ c, and m has all digits unless the place is the last. `half` is half of 2 ^ precision.
+-- The magnitude amount / parts is from m * 2 ^ c to below (m + 1) * 2 ^ c, and m has all digits unless the place is the
+-- last. `half` is half of 2 ^ precision.
 pub record IsEnclosed (precision half m c amount parts : ℕ) : Type 0 where
   pub double : 2 ^ precision ≡ 2 * half
   pub fits : m < 2 ^ precision
@@ -13,7 +14,7 @@ pub record IsEnclosed (precision half m c amount parts : ℕ) : Type 0 where
   pub from : m * 2 ^ c * parts ≤ amount
   pub to : amount < (m + 1) * 2 ^ c * parts
 
--- whether the mode moves a significand up for its loss: a rest of a third, a half or two thirds
+-- whether the mode moves a significand up for its loss: as for a rest of a third, a half or two thirds
 abbrev pub rounds_up : Round → Bool → Loss → Bool → Bool
 rounds_up mode negative ExactlyZero odd = false
 rounds_up mode negative LessThanHalf odd = takes_above mode negative 1 2 odd

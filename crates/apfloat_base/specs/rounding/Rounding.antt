@@ -42,7 +42,7 @@ underflow_bit = 8
 abbrev pub inexact_bit : ℕ
 inexact_bit = 16
 
--- whether the mode leads out of the format where the pick is above the largest value
+-- whether the mode rounds past the largest value if the pick is above it
 abbrev pub leads_out : Round → Bool → Bool
 leads_out TowardZero negative = false
 leads_out TowardPositive negative = not negative
@@ -50,7 +50,7 @@ leads_out TowardNegative negative = negative
 leads_out NearestTiesToEven negative = true
 leads_out NearestTiesToAway negative = true
 
--- what stands past the largest value
+-- the value past the largest one
 abbrev pub past_largest : NonfiniteBehavior → ℕ → Bool → Datum
 past_largest IEEE754 nan_base negative = infinite negative
 past_largest NanOnly nan_base negative = nan negative nan_base
@@ -62,7 +62,7 @@ zero_sign IEEE754 negative = negative
 zero_sign NanOnly negative = negative
 zero_sign NanNegativeZero negative = false
 
--- so many quanta with that sign
+-- `quanta` quanta with that sign
 abbrev pub signed_quanta : NonfiniteBehavior → Bool → ℕ → Datum
 signed_quanta kind negative quanta = if eqb quanta 0 then finite (zero_sign kind negative) 0
     else finite negative quanta

@@ -1,11 +1,11 @@
--- What a significand and its loss say of a number.
+-- What a significand and its loss say about a magnitude.
 use Rattle.std.specs.Prelude.{◌≡◌, ℕ, ◌+◌, ◌*◌, ◌<◌}
 -- 2 to the power of an integer z is the fraction 2 ^ up z / 2 ^ down z
 pub use borrow.Author.Differences.{up, down}
 use Rattle.apfloat_base.specs.declared.sig.loss.Loss.{Loss}
 use Rattle.apfloat_base.specs.declared.sig.loss.Loss.TheVariants.{ExactlyZero, LessThanHalf, ExactlyHalf, MoreThanHalf}
 
--- `amount` is `significand` units and a rest below one unit: zero, below, at or above half of a unit, as the loss says
+-- `amount` is `significand` units plus a rest below one unit: zero, below, at or above half a unit, as the loss says
 abbrev pub StandsFor : ℕ → Loss → ℕ → ℕ → Type 0
 StandsFor significand ExactlyZero amount unit = amount ≡ significand * unit
 StandsFor significand LessThanHalf amount unit =

@@ -1,4 +1,4 @@
--- What is wrong first with a text that means nothing, from the left.
+-- The first fault, from the left, of a text that has no meaning.
 use Rattle.std.specs.Prelude.{ℕ, Bool, not, ◌&&◌, ◌||◌, ltb, eqb, if◌then◌else◌, List, [], ◌∷◌, length, take, drop, filter, codes, Option, Some, None, is_some}
 use Rattle.apfloat_base.specs.declared.parse_error.Fault.{Fault}
 use Rattle.apfloat_base.specs.declared.parse_error.Fault.TheVariants.{EmptyText, LoneMark, NoLiteral, LonePrefix, SecondDot, WrongInSignificand, NoDigits, WrongInExponent, NoExponentDigits, NoExponent}
@@ -27,7 +27,7 @@ is_p c = eqb c 112 || eqb c 80
 abbrev pub begins_literal : List ℕ → Bool
 begins_literal body = same (take 2 body) (codes "0x") || same (take 2 body) (codes "0X")
 
--- the digits and dots behind the prefix, as far as they go, and what follows them
+-- the run of digits and dots after the prefix, and what follows it
 abbrev pub is_digit_or_dot : ℕ → Bool
 is_digit_or_dot c = is_hexadecimal c || is_dot c
 
@@ -47,7 +47,7 @@ abbrev pub tail_fault : List ℕ → Option Fault
 tail_fault [] = Some NoExponent
 tail_fault (letter ∷ exponent) = exponent_fault (behind_mark exponent)
 
--- the first fault from the left, behind the prefix
+-- the first fault from the left, after the prefix
 abbrev pub literal_fault : List ℕ → List ℕ → Option Fault
 literal_fault significand tail =
     if ltb 1 (length (filter is_dot significand)) then Some SecondDot
@@ -59,7 +59,7 @@ abbrev pub behind_prefix_fault : List ℕ → Option Fault
 behind_prefix_fault rest =
     if is_empty rest then Some LonePrefix else literal_fault (significand_of rest) (behind_significand rest)
 
--- the first fault of a text; none, if it means something
+-- the first fault of a text, or none if the text has a meaning
 abbrev pub fault_of : List ℕ → Option Fault
 fault_of text =
     if is_empty text then Some EmptyText

@@ -1,4 +1,4 @@
--- What reading a text answers (IEEE 754-2008 5.12).
+-- The results of reading a text (IEEE 754-2008 5.12).
 use Rattle.std.specs.Prelude.{◌≡◌, ℕ, ◌*◌, ◌^◌, ℤ, pos, ◌+ℤ◌, ◌-ℤ◌, Bool, if◌then◌else◌, List, Some}
 use Rattle.apfloat_base.specs.declared.parse_error.Fault.{Fault}
 use Rattle.apfloat_base.specs.declared.kinds.Round.{Round}
@@ -23,7 +23,7 @@ abbrev pub IsScaledDelivery : Format → Round → Bool → ℕ → ℤ → Datu
 IsScaledDelivery f mode negative n power value status =
     IsDelivered f mode negative (n * 2 ^ up power) (2 ^ down power) value status
 
--- The answer for a meaning. A zero has the sign of its text, whatever its exponent.
+-- The result for a meaning. A zero has the sign of its text, whatever its exponent.
 abbrev pub IsMeant : Format → Round → Meaning → Datum → ℕ → Type 0
 IsMeant f mode (infinity negative) value status = IsAnswer (infinity_of f negative) ok_bits value status
 IsMeant f mode (not_a_number negative signaling payload) value status =
@@ -31,13 +31,13 @@ IsMeant f mode (not_a_number negative signaling payload) value status =
 IsMeant f mode (hexadecimal negative h places e) value status =
     IsScaledDelivery f mode negative h (e -ℤ pos (4 * places) +ℤ pos f.scale) value status
 
--- a text is read as the answer for its meaning
+-- a text is read as the result for its meaning
 pub record IsReading (f : Format) (mode : Round) (text : List ℕ) (value : Datum) (status : ℕ) : Type 0 where
   pub meaning : Meaning
   pub means : Means text meaning
   pub is_meant : IsMeant f mode meaning value status
 
--- a refusal says the words of the text's first fault
+-- a refusal has the words for the text's first fault
 pub record IsRefusal (text said : List ℕ) : Type 0 where
   pub fault : Fault
   pub is_first : fault_of text ≡ Some fault

@@ -1,4 +1,4 @@
--- The texts of infinities and NaNs (IEEE 754-2008 5.12.1), and what any text can stand for.
+-- The texts of infinities and NaNs (IEEE 754-2008 5.12.1), and the meanings that a text can have.
 use Rattle.std.specs.Prelude.{ℕ, ◌-◌, ◌^◌, ℤ, Bool, true, false, ◌&&◌, ◌||◌, not, ltb, eqb, if◌then◌else◌, List, [], ◌∷◌, ◌++◌, length, take, drop, codes, Option, Some, None}
 use Rattle.apfloat_base.specs.declared.texts.Mark.{Mark}
 use Rattle.apfloat_base.specs.declared.texts.Mark.TheVariants.{Unmarked, Plus, Minus}
@@ -12,7 +12,7 @@ pub data Meaning : Type 0 where
   not_a_number : Bool → Bool → ℕ → Meaning
   hexadecimal : Bool → ℕ → ℕ → ℤ → Meaning
 
--- the mark in front of a text or of an exponent
+-- the sign in front of a text or of an exponent
 abbrev pub mark_of : List ℕ → Mark
 mark_of [] = Unmarked
 mark_of (c ∷ text) = if eqb c 45 then Minus else (if eqb c 43 then Plus else Unmarked)
@@ -34,7 +34,7 @@ is_infinity Minus body = same body (codes "Inf") || same body (codes "inf") || s
 abbrev pub is_x : ℕ → Bool
 is_x c = eqb c 120 || eqb c 88
 
--- The base of a payload shows in its prefix: 0x, or else a 0 with something behind it, or else none.
+-- The base of a payload is given by its prefix: 0x, or else a 0 followed by something, or else none.
 abbrev pub radix_of : List ℕ → Radix
 radix_of [] = Ten
 radix_of (c ∷ []) = Ten
@@ -45,7 +45,7 @@ behind_prefix Sixteen text = drop 2 text
 behind_prefix Eight text = drop 1 text
 behind_prefix Ten text = text
 
--- one plus may stand behind the prefix
+-- one plus may follow the prefix
 abbrev pub behind_plus : List ℕ → List ℕ
 behind_plus [] = []
 behind_plus (c ∷ text) = if eqb c 43 then text else c ∷ text
@@ -60,7 +60,7 @@ base_of Sixteen = 16
 base_of Eight = 8
 base_of Ten = 10
 
--- one or more digits of a number below 2 ^ 128
+-- one or more digits, of a whole number below 2 ^ 128
 abbrev pub payload_of_digits : Radix → List ℕ → Option ℕ
 payload_of_digits radix digits =
     if not (is_empty digits) && every (is_digit_of radix) digits && ltb (number (base_of radix) digits) (2 ^ 128)
@@ -70,14 +70,14 @@ payload_of_digits radix digits =
 abbrev pub plain_payload : List ℕ → Option ℕ
 plain_payload text = payload_of_digits (radix_of text) (behind_plus (behind_prefix (radix_of text) text))
 
--- what stands between the first and the last character
+-- the text without its first and last characters
 abbrev pub inside : List ℕ → List ℕ
 inside text = take (length text - 2) (drop 1 text)
 
 abbrev pub in_parentheses : List ℕ → List ℕ
 in_parentheses text = codes "(" ++ text ++ codes ")"
 
--- what stands behind the name of a NaN: nothing, or a payload, plain or in one pair of parentheses
+-- what follows the name of a NaN: nothing, or a payload, plain or in one pair of parentheses
 abbrev pub payload_of : List ℕ → Option ℕ
 payload_of [] = Some 0
 payload_of (c ∷ text) =
@@ -95,7 +95,7 @@ abbrev pub named_nan : Bool → Bool → List ℕ → Option Meaning
 named_nan negative signaling text =
     if is_nan_name (take 3 text) then with_payload negative signaling (payload_of (drop 3 text)) else None
 
--- an s or S in front of the name makes it signaling
+-- an s or S before the name makes it signaling
 abbrev pub is_s : ℕ → Bool
 is_s c = eqb c 115 || eqb c 83
 

@@ -5,7 +5,7 @@ use Rattle.apfloat_base.specs.declared.texts.Mark.TheVariants.{Unmarked, Plus, M
 use Rattle.apfloat_base.specs.texts.Digits.{every, is_decimal, is_hexadecimal, number}
 use Rattle.apfloat_base.specs.texts.Specials.{Meaning, infinity, not_a_number, hexadecimal, mark_of, behind_mark, is_minus, special_of}
 
--- a whole number by its mark
+-- a whole number with the sign of its mark
 abbrev pub marked : Mark → ℕ → ℤ
 marked Unmarked n = pos n
 marked Plus n = pos n
@@ -14,7 +14,7 @@ marked Minus n = neg_ℤ (pos n)
 -- 0x, digits with at most one dot, p, and the exponent (5.12.3). The number is h * 2 ^ (e - 4 * f).
 pub record IsHexadecimal (body : List ℕ) (h f : ℕ) (e : ℤ) : Type 0 where
   pub prefix : List ℕ
-  -- the digits before the dot, the dot if there is one, and the digits behind it
+  -- the digits before the dot, the dot if there is one, and the digits after it
   pub whole : List ℕ
   pub point : List ℕ
   pub fraction : List ℕ

@@ -1,8 +1,9 @@
--- What the trait's body makes of the unsigned whole number of a magnitude, for a value with a minus sign.
+-- How the body in the trait turns the unsigned whole number of a magnitude into a signed one, for a value with a minus
+-- sign.
 use Rattle.std.specs.Prelude.{◌≡◌, ℕ, ◌-◌, ◌^◌, ◌<◌, ◌≤◌, ℤ, pos, neg_ℤ, Bool, false, not, ◌&&◌}
 use Rattle.apfloat_base.specs.formats.Nan.{invalid_bit}
 
--- `is_zero`: the value is -0; the number of the magnitude came with `flags` and `exact`
+-- `is_zero`: the value is -0; the whole number of the magnitude came with `flags` and `exact`
 pub record IsNegatedWhole (is_zero : Bool) (width number flags : ℕ) (exact : Bool) (value : ℤ) (status : ℕ)
     (is_exact : Bool) : Type 0 where
   pub past : 2 ^ (width - 1) < number

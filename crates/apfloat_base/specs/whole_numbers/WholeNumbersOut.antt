@@ -1,4 +1,4 @@
--- Whole numbers out (IEEE 754-2008 5.4.1 convertToInteger, 5.8).
+-- To whole numbers (IEEE 754-2008 5.4.1 convertToInteger, 5.8).
 use Rattle.std.specs.Prelude.{◌≡◌, ℕ, ◌-◌, ◌^◌, Bool, false, not, ◌&&◌, eqb, ℤ, pos, neg_ℤ, int_lt, if◌then◌else◌}
 use Rattle.apfloat_base.specs.declared.kinds.Round.{Round}
 use Rattle.apfloat_base.specs.formats.Format.{Format}
@@ -10,7 +10,7 @@ use Rattle.apfloat_base.specs.whole_numbers.WholeNumbers.{whole_pick, whole_quan
 pub record Whole : Type 0 where
   pub number : ℤ
   pub status : ℕ
-  -- whether the number is the operand; -0 is not a whole number
+  -- whether the whole number equals the operand; -0 is not a whole number
   pub is_exact : Bool
 
 abbrev pub invalid_whole : ℤ → Whole
@@ -20,7 +20,7 @@ abbrev pub exact_or_not : ℤ → Bool → Bool → Whole
 exact_or_not number exact minus_zero =
     record { number = number; status = inexact_unless exact; is_exact = exact && not minus_zero }
 
--- a number out of range gives the end of the range
+-- a number out of range gives the nearer end of the range
 abbrev pub ranged : ℤ → ℤ → ℤ → Whole → Whole
 ranged low high number answer =
     if int_lt number low then invalid_whole low else (if int_lt high number then invalid_whole high else answer)

@@ -1,9 +1,9 @@
-//! What is lost where digits are cut off.
+//! What is lost when digits are cut off.
 
 ghost use Rattle.std.specs.Prelude.{◌≡◌, ℕ, ◌+◌, ◌*◌, ◌<◌, true, false};
 ghost use Rattle.apfloat_base.specs.rounding.Standing.{StandsFor};
 
-/// What part of the lowest kept bit was cut off.
+/// How much of the lowest kept digit was cut off.
 #[derive(Clone, Copy, PartialEq, Eq, Debug)]
 pub enum Loss {
     /// Nothing.
@@ -30,7 +30,7 @@ pub fn is_exact(loss: Loss) -> bool
     }
 }
 
-/// What is lost where `rest` is cut off, in units that are twice `half`, with `loss` below it.
+/// The loss when `rest` is cut off, in units of twice `half`, with `loss` below it.
 #[inline(always)]
 pub fn loss_of_rest(rest: u128, half: u128, loss: Loss) -> Loss
     requires { rest < 2 * half }

@@ -2,7 +2,7 @@
 
 ghost use Rattle.std.specs.Prelude.{◌≡◌, ◌*◌, ◌^◌, ◌<◌};
 
-/// The product of two significands of at most 64 digits, with all its digits.
+/// The full product of two significands of at most 64 digits.
 #[inline(always)]
 pub fn full_product(left: u128, right: u128) -> u128
     requires left_short { left < 2 ^ 64 }

@@ -16,7 +16,7 @@ pub fn power_of_two(exponent: u32) -> u128
     1 << exponent
 }
 
-/// How far one exponent is above another, both of last digits or both of integer bits.
+/// How far one exponent is above another; both are of last digits, or both of integer bits.
 #[inline(always)]
 pub fn steps_between(high: ExpInt, low: ExpInt) -> u32
     requires above { low ≤ℤ high }
@@ -27,7 +27,7 @@ pub fn steps_between(high: ExpInt, low: ExpInt) -> u32
     (high - low) as u32
 }
 
-/// How many binary digits a number has; 0 has none.
+/// How many binary digits a whole number has; 0 has none.
 #[inline(always)]
 pub fn digits(number: u128) -> u32
     ensures bound { result ≤ 128 }
@@ -37,7 +37,7 @@ pub fn digits(number: u128) -> u32
     128 - number.leading_zeros()
 }
 
-/// The lowest `places` binary digits of a number.
+/// The lowest `places` binary digits of a whole number.
 #[inline(always)]
 pub fn low_digits(number: u128, places: u32) -> u128
     requires { places < 128 }
@@ -46,16 +46,16 @@ pub fn low_digits(number: u128, places: u32) -> u128
     number & (power_of_two(places) - 1)
 }
 
-/// A significand that was shifted right, and what was lost below its new unit.
+/// A significand shifted right, and what was lost below its new unit.
 #[derive(Clone, Copy, Debug)]
 pub struct Shifted {
     /// The digits that are left.
     pub significand: u128,
-    /// What the digits that were cut off are of the lowest place that is left.
+    /// The digits that were cut off, as a part of the lowest remaining digit.
     pub loss: Loss,
 }
 
-/// The significand without its `places` lowest digits, and what they with `loss` are of the lowest place that is left.
+/// The significand without its `places` lowest digits, and the combined loss relative to the lowest remaining digit.
 #[inline(always)]
 pub fn shift_right(significand: u128, places: u32, loss: Loss) -> Shifted
     ensures quotient { result.significand ≡ significand / 2 ^ places }
@@ -84,7 +84,7 @@ pub fn shift_right(significand: u128, places: u32, loss: Loss) -> Shifted
     }
 }
 
-/// What is lost where more than the whole length of a significand is cut off.
+/// The loss when more than the whole length of a significand is cut off.
 #[inline(always)]
 fn loss_of_all(significand: u128, loss: Loss) -> Loss
     ensures { (places amount unit : ℕ) → 128 < places → 0 < unit

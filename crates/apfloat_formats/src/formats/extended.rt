@@ -7,10 +7,10 @@ ghost use Rattle.apfloat_base.specs.formats.LawTest.{lawful_from_test};
 use apfloat_base::{ExpInt, NonfiniteBehavior};
 use apfloat_ieee::Semantics;
 
-/// The 80 bits of the x87, with the integer bit written.
+/// The 80 bits of the x87, with an explicit integer bit.
 ///
-/// Bits whose integer bit is not the one that their biased exponent asks for are read too: a 1 beside the exponent 0 is part
-/// of a number, and a 0 above it makes a NaN. A value is written with the bit that is asked for.
+/// Encodings whose integer bit does not match their biased exponent are read too: a 1 with exponent 0 is part of a
+/// number, and a 0 with a greater exponent makes a NaN. A value is written with the matching bit.
 #[derive(Clone, Copy)]
 pub struct X87DoubleExtendedS;
 

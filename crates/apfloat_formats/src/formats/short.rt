@@ -1,4 +1,4 @@
-//! Formats in 16 and in 8 bits that IEEE 754 does not have.
+//! Formats of 16 and 8 bits that are not in IEEE 754.
 
 ghost use Rattle.std.specs.Prelude.{◌-◌, ◌*◌, ◌^◌, pos, negsuc, true, false, refl};
 ghost use Rattle.apfloat_base.specs.declared.kinds.NonfiniteBehavior.TheVariants.{IEEE754, NanOnly, NanNegativeZero};
@@ -7,7 +7,7 @@ ghost use Rattle.apfloat_base.specs.formats.LawTest.{lawful_from_test};
 use apfloat_base::{ExpInt, NonfiniteBehavior};
 use apfloat_ieee::Semantics;
 
-/// The upper 16 bits of a binary32, whose exponents it has.
+/// The upper 16 bits of a binary32, with its exponents.
 #[derive(Clone, Copy)]
 pub struct BFloatS;
 
@@ -127,7 +127,7 @@ impl Semantics for Float8E5M2S {
     ghost lawful = { lawful_from_test _ refl };
 }
 
-/// Eight bits without infinities: the one NaN of each sign has all ones below the sign, and the largest value is 448.
+/// Eight bits without infinities: the only NaN of each sign has all ones below the sign, and the largest value is 448.
 #[derive(Clone, Copy)]
 pub struct Float8E4M3FNS;
 
@@ -187,7 +187,7 @@ impl Semantics for Float8E4M3FNS {
     ghost lawful = { lawful_from_test _ refl };
 }
 
-/// Eight bits without infinities and without a negative zero, whose bits are the one NaN. The largest value is 240.
+/// Eight bits without infinities and without a negative zero, whose encoding is the only NaN. The largest value is 240.
 #[derive(Clone, Copy)]
 pub struct Float8E4M3FNUZS;
 

@@ -1,4 +1,4 @@
-//! The widest exponents that 128 bits have.
+//! The widest exponents that fit in 128 bits.
 
 ghost use Rattle.std.specs.Prelude.{◌-◌, ◌*◌, ◌^◌, pos, negsuc, true, false, refl};
 ghost use Rattle.apfloat_base.specs.declared.kinds.NonfiniteBehavior.TheVariants.{IEEE754};
@@ -7,7 +7,7 @@ ghost use Rattle.rustc_apfloat.specs.LawTest.{lawful_from_test};
 use rustc_apfloat::ExpInt;
 use rustc_apfloat::ieee::{IeeeFloat, NonfiniteBehavior, Semantics};
 
-/// 128 bits, 21 of them the exponent.
+/// 128 bits, 21 of them for the exponent.
 #[derive(Clone, Copy)]
 pub struct BroadS;
 
@@ -67,5 +67,5 @@ impl Semantics for BroadS {
     ghost lawful = { lawful_from_test _ refl };
 }
 
-/// A value in 128 bits, 21 of them the exponent.
+/// A value in 128 bits, 21 of them for the exponent.
 pub type Broad = IeeeFloat<BroadS>;

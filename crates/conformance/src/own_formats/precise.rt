@@ -1,4 +1,4 @@
-//! The most digits with the narrowest exponents beside them.
+//! The most digits, with the narrowest exponents.
 
 ghost use Rattle.std.specs.Prelude.{◌-◌, ◌*◌, ◌^◌, pos, negsuc, true, false, refl};
 ghost use Rattle.apfloat_base.specs.declared.kinds.NonfiniteBehavior.TheVariants.{IEEE754};

@@ -1,4 +1,4 @@
-//! An integer bit that is written, in few bits.
+//! An explicit integer bit, in few bits.
 
 ghost use Rattle.std.specs.Prelude.{◌-◌, ◌*◌, ◌^◌, pos, negsuc, true, false, refl};
 ghost use Rattle.apfloat_base.specs.declared.kinds.NonfiniteBehavior.TheVariants.{IEEE754};
@@ -7,7 +7,7 @@ ghost use Rattle.rustc_apfloat.specs.LawTest.{lawful_from_test};
 use rustc_apfloat::ExpInt;
 use rustc_apfloat::ieee::{IeeeFloat, NonfiniteBehavior, Semantics};
 
-/// 14 bits, the integer bit among them.
+/// 14 bits, including the integer bit.
 #[derive(Clone, Copy)]
 pub struct WrittenBitS;
 
@@ -67,5 +67,5 @@ impl Semantics for WrittenBitS {
     ghost lawful = { lawful_from_test _ refl };
 }
 
-/// A value in 14 bits, the integer bit among them.
+/// A value in 14 bits, including the integer bit.
 pub type WrittenBit = IeeeFloat<WrittenBitS>;

@@ -41,7 +41,7 @@ impl FromStr for DoubleFloat {
     ghost from_str_gives = { λ text r. (answer : Result (StatusAnd Pair) ParseError)
         × IsPairRead NearestTiesToEven text answer × (r ≡ without_status answer) };
 
-    /// Reads a text as `from_str_r` does, to the nearest value, a tie to the even one, and drops the status.
+    /// Reads a text like `from_str_r`, rounding to the nearest value, ties to even; the status is dropped.
     fn from_str(s: &str) -> Result<DoubleFloat, ParseError> {
         match wide::read(s, Round::NearestTiesToEven) {
             Ok(answer) => Ok(answer.value),
@@ -181,13 +181,14 @@ impl Float for DoubleFloat {
         parts::smallest_normalized()
     }
 
-    /// Steps of sums of doubles in the mode, whose flags are joined: so INEXACT may stand beside an exact answer, and OK beside
-    /// one that is not.
+    /// Steps of sums of doubles in the mode; their flags are joined. So INEXACT can come with an exact result, and OK
+    /// with an inexact one.
     ///
-    /// To the nearest value, and with high parts of at most 2^1022, the sum of two doubles is exact, and that of normalised
-    /// pairs is normalised and off by at most 2^-103 of both magnitudes together.
+    /// Rounding to nearest, ties to even, with high parts of at most 2^1022: the sum of two doubles is exact, and that
+    /// of normalised pairs is normalised, with an error of at most 2^-103 of the sum of both magnitudes.
     ///
-    /// An infinity and a NaN are answered as they are, a NaN signaling too; infinities of unlike signs are invalid.
+    /// An infinity or a NaN is returned unchanged, even a signaling NaN; adding infinities of opposite signs is
+    /// invalid.
     #[inline]
     fn add_r(self, rhs: Self, round: Round) -> StatusAnd<Self>
         ensures sum { Gives (IsPairSum round self rhs) result }
@@ -199,7 +200,7 @@ impl Float for DoubleFloat {
         sum(self, rhs, round)
     }
 
-    /// The sum with the negation of `rhs`, also where that is a NaN; exact and accurate as the sum is.
+    /// The sum with the negation of `rhs`, even if that is a NaN; as exact and as accurate as the sum.
     #[inline]
     fn sub_r(self, rhs: Self, round: Round) -> StatusAnd<Self>
         ensures difference { Gives (IsPairDifference round self rhs) result }
@@ -213,13 +214,13 @@ impl Float for DoubleFloat {
         difference(self, rhs, round)
     }
 
-    /// Steps of doubles in the mode, whose flags are joined. The product of the low parts is left out.
+    /// Steps on doubles in the mode; their flags are joined. The product of the low parts is left out.
     ///
-    /// To the nearest value, the product of two doubles is exact where their exponents add up to -970 to 1021; that of
-    /// normalised pairs, where those of the high parts add up to -900 to 1021, is normalised and off by at most 2^-102 of the
-    /// exact product.
+    /// Rounding to nearest, ties to even: the product of two doubles is exact if their exponents add up to -970 to
+    /// 1021; that of normalised pairs, if the exponents of the high parts add up to -900 to 1021, is normalised, with
+    /// an error of at most 2^-102 of the exact product.
     ///
-    /// A zero times an infinity is the NaN without a payload, with no flag; a NaN is answered as it is.
+    /// A zero times an infinity is the NaN without a payload, with no flag; a NaN is returned unchanged.
     #[inline]
     fn mul_r(self, rhs: Self, round: Round) -> StatusAnd<Self>
         ensures product { Gives (IsPairProduct round self rhs) result }
@@ -229,7 +230,7 @@ impl Float for DoubleFloat {
         product(self, rhs, round)
     }
 
-    /// The quotient of the wide format, split: where its high part is finite both parts add up to that quotient exactly.
+    /// The quotient in the wide format, split: if its high part is finite, both parts add up to that quotient exactly.
     #[inline]
     fn div_r(self, rhs: Self, round: Round) -> StatusAnd<Self>
         ensures quotient { Gives (IsPairQuotient round self rhs) result }
@@ -238,7 +239,7 @@ impl Float for DoubleFloat {
         wide::quotient(self, rhs, round)
     }
 
-    /// The remainder of the wide format, split.
+    /// The remainder in the wide format, split.
     #[inline]
     fn ieee_rem(self, rhs: Self) -> StatusAnd<Self>
         ensures remainder { Gives (IsPairNearestRemainder self rhs) result }
@@ -247,7 +248,7 @@ impl Float for DoubleFloat {
         wide::nearest(self, rhs)
     }
 
-    /// The remainder of the wide format, split.
+    /// The remainder in the wide format, split.
     #[inline]
     fn c_fmod(self, rhs: Self) -> StatusAnd<Self>
         ensures remainder { Gives (IsPairTruncatedRemainder self rhs) result }

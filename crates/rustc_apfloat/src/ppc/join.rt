@@ -1,5 +1,5 @@
-//! Pairs to the wide format and back: the exact sum of the parts, rounded once, and the double nearest to a wide value with
-//! what that leaves.
+//! Pairs to the wide format and back: the exact sum of the parts, rounded once; and the double nearest to a wide value,
+//! with the rest.
 
 ghost use Rattle.std.specs.Prelude.{◌≡◌, ◌≢◌, true};
 ghost use Rattle.apfloat_base.specs.order.Classes.{is_finite_non_zero};
@@ -12,7 +12,7 @@ use super::{DoubleFloat, Fallback};
 use apfloat_base::{Float, FloatConvert, Status, StatusAnd};
 use apfloat_formats::Double;
 
-/// A double in the wide format, which has all of them; a signaling NaN is made quiet.
+/// A double in the wide format, which has all doubles; a signaling NaN is quieted.
 #[inline]
 fn widened(part: Double) -> Fallback
     ensures { IsWidened part result }
@@ -21,8 +21,8 @@ fn widened(part: Double) -> Fallback
     part.convert(&mut loses_info).value
 }
 
-/// The exact sum of the parts in the wide format, rounded once to the nearest value, a tie to the even one. A high part
-/// that is zero, infinite or a NaN stands alone.
+/// The exact sum of the parts in the wide format, rounded once to the nearest value, ties to even. A high part that is
+/// zero, infinite or a NaN is taken alone.
 #[inline]
 pub(super) fn joined(x: DoubleFloat) -> Fallback
     ensures { IsJoined x result }
@@ -35,7 +35,7 @@ pub(super) fn joined(x: DoubleFloat) -> Fallback
     }
 }
 
-/// What a wide value leaves of its nearest double, `rounded`, where that is a number and inexact. Each step is exact.
+/// The rest of a wide value beyond its nearest double, `rounded`, if that is a number and inexact. Each step is exact.
 #[inline]
 fn rest(x: Fallback, rounded: StatusAnd<Double>) -> Double
     requires nearest { IsNearestDouble x rounded.value (bits_of rounded.status) }
@@ -43,14 +43,14 @@ fn rest(x: Fallback, rounded: StatusAnd<Double>) -> Double
     requires inexact { bits_of rounded.status ≢ ok_bits }
     ensures { result ≡ left_over x rounded.value }
 {
-    // Both are values of their formats, as `category` ensures: so neither step loses anything.
+    // Both are values of their formats, as `category` ensures, so neither step loses anything.
     let _ = (x.category(), rounded.value.category());
     let mut loses_info = false;
     let rest = (x - widened(rounded.value)).value;
     rest.convert(&mut loses_info).value
 }
 
-/// The double nearest to a wide value, with what that leaves as the low part.
+/// The double nearest to a wide value, with the rest as the low part.
 #[inline]
 pub(super) fn split(x: Fallback) -> DoubleFloat
     ensures { IsSplit x result }
@@ -67,8 +67,8 @@ pub(super) fn split(x: Fallback) -> DoubleFloat
 impl From<Fallback> for DoubleFloat {
     ghost from_gives = { IsSplit };
 
-    /// The double nearest to a wide value, with what that leaves as the low part: where the high part is finite both add up
-    /// to the value. Past the largest double stands the infinity, and a signaling NaN is made quiet.
+    /// The double nearest to a wide value, with the rest as the low part: if the high part is finite, both add up to
+    /// the value. The value past the largest double is the infinity, and a signaling NaN is quieted.
     #[inline]
     fn from(x: Fallback) -> DoubleFloat
         ensures split { IsSplit x result }
@@ -81,8 +81,8 @@ impl From<Fallback> for DoubleFloat {
 impl From<DoubleFloat> for Fallback {
     ghost from_gives = { IsJoined };
 
-    /// The exact sum of the parts, rounded once to the nearest value, a tie to the even one. A high part that is zero,
-    /// infinite or a NaN stands alone, and a signaling NaN is made quiet.
+    /// The exact sum of the parts, rounded once to the nearest value, ties to even. A high part that is zero, infinite
+    /// or a NaN is taken alone, and a signaling NaN is quieted.
     #[inline]
     fn from(x: DoubleFloat) -> Fallback {
         joined(x)

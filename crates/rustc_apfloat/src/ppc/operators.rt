@@ -1,5 +1,4 @@
-//! The operators on pairs: each is a call, rounded to the nearest value, a tie to the even one. The assigning ones drop the
-//! status.
+//! The operators on pairs: each is a call, rounded to nearest, ties to even. The assigning ones drop the status.
 
 ghost use Rattle.std.specs.Prelude.{◌≡◌};
 ghost use Rattle.apfloat_base.specs.declared.kinds.Round.TheVariants.{NearestTiesToEven};
@@ -26,7 +25,8 @@ impl Neg for DoubleFloat {
 
     ghost neg_gives = { λ x r. r ≡ negated_pair x };
 
-    /// The negation of both parts (IEEE 754-2008 5.5.1, negate); a low part that is zero, infinite or a NaN stays as it is.
+    /// The negation of both parts (IEEE 754-2008 5.5.1, negate); a low part that is zero, infinite or a NaN is
+    /// unchanged.
     #[inline]
     fn neg(self) -> DoubleFloat {
         negation(self)
@@ -38,7 +38,7 @@ impl Add for DoubleFloat {
 
     ghost add_gives = { λ x y r. Gives (IsPairSum NearestTiesToEven x y) r };
 
-    /// The sum, each step rounded to the nearest value, a tie to the even one.
+    /// The sum, each step rounded to the nearest value, ties to even.
     #[inline]
     fn add(self, rhs: DoubleFloat) -> StatusAnd<DoubleFloat>
         ensures sum { Gives (IsPairSum NearestTiesToEven self rhs) result }
@@ -55,7 +55,7 @@ impl Sub for DoubleFloat {
 
     ghost sub_gives = { λ x y r. Gives (IsPairDifference NearestTiesToEven x y) r };
 
-    /// The difference, each step rounded to the nearest value, a tie to the even one.
+    /// The difference, each step rounded to the nearest value, ties to even.
     #[inline]
     fn sub(self, rhs: DoubleFloat) -> StatusAnd<DoubleFloat>
         ensures difference { Gives (IsPairDifference NearestTiesToEven self rhs) result }
@@ -72,7 +72,7 @@ impl Mul for DoubleFloat {
 
     ghost mul_gives = { λ x y r. Gives (IsPairProduct NearestTiesToEven x y) r };
 
-    /// The product, each step rounded to the nearest value, a tie to the even one.
+    /// The product, each step rounded to the nearest value, ties to even.
     #[inline]
     fn mul(self, rhs: DoubleFloat) -> StatusAnd<DoubleFloat>
         ensures product { Gives (IsPairProduct NearestTiesToEven self rhs) result }
@@ -88,7 +88,7 @@ impl Div for DoubleFloat {
 
     ghost div_gives = { λ x y r. Gives (IsPairQuotient NearestTiesToEven x y) r };
 
-    /// The quotient of the sums of parts, rounded once to 106 digits, to the nearest value, a tie to the even one.
+    /// The quotient of the sums of parts, rounded once to 106 digits, to the nearest value, ties to even.
     #[inline]
     fn div(self, rhs: DoubleFloat) -> StatusAnd<DoubleFloat>
         ensures quotient { Gives (IsPairQuotient NearestTiesToEven self rhs) result }
@@ -117,7 +117,7 @@ impl AddAssign for DoubleFloat {
     ghost add_assign_gives = { λ x y z. (r : StatusAnd Self)
         × Gives (IsPairSum NearestTiesToEven x y) r × (z ≡ r.value) };
 
-    /// The sum by `+`; its status is dropped.
+    /// The sum by `+`; the status is dropped.
     #[inline]
     fn add_assign(&mut self, rhs: DoubleFloat) {
         *self = sum(*self, rhs, Round::NearestTiesToEven).value;
@@ -128,7 +128,7 @@ impl SubAssign for DoubleFloat {
     ghost sub_assign_gives = { λ x y z. (r : StatusAnd Self)
         × Gives (IsPairDifference NearestTiesToEven x y) r × (z ≡ r.value) };
 
-    /// The difference by `-`; its status is dropped.
+    /// The difference by `-`; the status is dropped.
     #[inline]
     fn sub_assign(&mut self, rhs: DoubleFloat) {
         *self = difference(*self, rhs, Round::NearestTiesToEven).value;
@@ -139,7 +139,7 @@ impl MulAssign for DoubleFloat {
     ghost mul_assign_gives = { λ x y z. (r : StatusAnd Self)
         × Gives (IsPairProduct NearestTiesToEven x y) r × (z ≡ r.value) };
 
-    /// The product by `*`; its status is dropped.
+    /// The product by `*`; the status is dropped.
     #[inline]
     fn mul_assign(&mut self, rhs: DoubleFloat) {
         *self = product(*self, rhs, Round::NearestTiesToEven).value;
@@ -150,7 +150,7 @@ impl DivAssign for DoubleFloat {
     ghost div_assign_gives = { λ x y z. (r : StatusAnd Self)
         × Gives (IsPairQuotient NearestTiesToEven x y) r × (z ≡ r.value) };
 
-    /// The quotient by `/`; its status is dropped.
+    /// The quotient by `/`; the status is dropped.
     #[inline]
     fn div_assign(&mut self, rhs: DoubleFloat) {
         *self = quotient(*self, rhs, Round::NearestTiesToEven).value;
@@ -161,7 +161,7 @@ impl RemAssign for DoubleFloat {
     ghost rem_assign_gives = { λ x y z. (r : StatusAnd Self)
         × Gives (IsPairTruncatedRemainder x y) r × (z ≡ r.value) };
 
-    /// The remainder by `%`; its status is dropped.
+    /// The remainder by `%`; the status is dropped.
     #[inline]
     fn rem_assign(&mut self, rhs: DoubleFloat) {
         *self = truncated(*self, rhs).value;

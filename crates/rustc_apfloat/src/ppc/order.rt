@@ -1,4 +1,4 @@
-//! The order of pairs: that of the high parts, and of a tie that of the low parts.
+//! The order of pairs: that of the high parts, and on a tie that of the low parts.
 
 ghost use Rattle.std.specs.Prelude.{◌≡◌};
 ghost use Rattle.apfloat_pairs.specs.PairParts.{are_opposite, compared_low_magnitudes, compared_pair_magnitudes, CanComparePairMagnitudes};
@@ -8,7 +8,7 @@ use super::DoubleFloat;
 use apfloat_base::Float;
 use std::cmp::Ordering;
 
-/// Whether the low part takes from the high one.
+/// Whether the low part reduces the magnitude of the high one.
 #[inline]
 fn is_opposite(x: DoubleFloat) -> bool
     ensures { result ≡ are_opposite x }
@@ -16,8 +16,8 @@ fn is_opposite(x: DoubleFloat) -> bool
     x.0.is_negative() != x.1.is_negative()
 }
 
-/// The order of the magnitudes of two pairs whose high parts have one magnitude, by that of the low parts and by which of
-/// these take from the high ones.
+/// The order of the magnitudes of two pairs whose high parts have equal magnitudes, from that of the low parts and from
+/// which of these reduce the high ones.
 #[inline]
 fn compare_low_magnitudes(order: Ordering, opposite: bool, other_opposite: bool) -> Ordering
     ensures { result ≡ compared_low_magnitudes order opposite other_opposite }
@@ -57,7 +57,7 @@ impl PartialEq for DoubleFloat {
 
     ghost laws = { equal_pair_laws };
 
-    /// Whether the high parts are one number, and the low parts.
+    /// Whether the high parts are the same number, and so are the low parts.
     #[inline]
     fn eq(&self, other: &Self) -> bool {
         self.0 == other.0 && self.1 == other.1
@@ -72,7 +72,8 @@ impl PartialOrd for DoubleFloat {
 
     ghost laws = { compared_pair_laws };
 
-    /// The order of the high parts, and of a tie that of the low parts. For normalised pairs it is that of their numbers.
+    /// The order of the high parts, and on a tie that of the low parts. For normalised pairs it is the order of their
+    /// numbers.
     #[inline]
     fn partial_cmp(&self, other: &Self) -> Option<Ordering> {
         match self.0.partial_cmp(&other.0) {

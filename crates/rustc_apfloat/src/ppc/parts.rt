@@ -1,4 +1,4 @@
-//! Calls on pairs that go by the parts.
+//! Operations on pairs that work on the parts.
 
 ghost use Rattle.std.specs.Prelude.{◌≡◌, ◌<◌, ◌^◌};
 ghost use Rattle.std.specs.Option.{unwrap_or};
@@ -11,7 +11,7 @@ use super::DoubleFloat;
 use apfloat_base::{Category, ExpInt, Float, Round};
 use apfloat_formats::Double;
 
-/// What the high part is, and with it the pair.
+/// The category of the high part, which is that of the pair.
 #[inline]
 pub(super) fn category(x: DoubleFloat) -> Category
     ensures category { result ≡ pair_category x }
@@ -22,7 +22,7 @@ pub(super) fn category(x: DoubleFloat) -> Category
     x.0.category()
 }
 
-/// The negation. A low part that is zero, infinite or a NaN stays as it is.
+/// The negation. A low part that is zero, infinite or a NaN is unchanged.
 #[inline]
 pub(super) fn negation(x: DoubleFloat) -> DoubleFloat
     ensures { result ≡ negated_pair x }
@@ -31,7 +31,7 @@ pub(super) fn negation(x: DoubleFloat) -> DoubleFloat
     DoubleFloat(-x.0, low)
 }
 
-/// The pair that is written as `bits`.
+/// The pair whose encoding is `bits`.
 #[inline]
 pub(super) fn of_bits(bits: u128) -> DoubleFloat
     ensures { result ≡ pair_of bits }
@@ -48,7 +48,7 @@ pub(super) fn bits_of(x: DoubleFloat) -> u128
     x.0.to_bits() | (x.1.to_bits() << 64)
 }
 
-/// The largest pair: the largest double, and just below half a unit in its last place.
+/// The largest pair: the largest double, plus just below half a unit in its last place.
 #[inline]
 pub(super) fn largest() -> DoubleFloat
     ensures { result ≡ pair_largest }
@@ -56,7 +56,7 @@ pub(super) fn largest() -> DoubleFloat
     of_bits(0x7c8f_ffff_ffff_fffe_7fef_ffff_ffff_ffff)
 }
 
-/// 2 to the power of `MIN_EXP`, the least from which on a low part has all its digits.
+/// 2 to the power of `MIN_EXP`, the least pair from which on a low part has all its digits.
 #[inline]
 pub(super) fn smallest_normalized() -> DoubleFloat
     ensures { result ≡ pair_smallest_normalized }
@@ -80,7 +80,7 @@ pub(super) fn is_integer(x: DoubleFloat) -> bool
     x.0.is_integer() && x.1.is_integer()
 }
 
-/// Whether the high part is a number and denormal, or another one than the double nearest to the sum of the parts.
+/// Whether the high part is a number that is denormal or is not the double nearest to the sum of the parts.
 #[inline]
 pub(super) fn is_denormal(x: DoubleFloat) -> bool
     ensures { result ≡ is_denormal_pair x }
@@ -96,7 +96,7 @@ pub(super) fn scaled(x: DoubleFloat, exp: ExpInt, round: Round) -> DoubleFloat
     DoubleFloat(x.0.scalbn_r(exp, round), x.1.scalbn_r(exp, round))
 }
 
-/// The fraction of the high part and its exponent, with the low part scaled as the high one is.
+/// The fraction of the high part and its exponent; the low part is scaled like the high one.
 #[inline]
 pub(super) fn fraction(x: DoubleFloat, exp: &mut ExpInt, round: Round) -> DoubleFloat
     ensures { IsPairFraction round x result exp.new }

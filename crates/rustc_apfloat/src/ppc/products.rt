@@ -1,4 +1,4 @@
-//! Products of pairs: each step is a call of doubles in the mode, and the flags of the steps are joined.
+//! Products of pairs: each step is an operation on doubles in the mode, and the flags of the steps are joined.
 
 ghost use Rattle.std.specs.Prelude.{◌≡◌};
 ghost use Rattle.apfloat_base.specs.declared.kinds.Round.TheVariants.{NearestTiesToEven};
@@ -13,7 +13,7 @@ use crate::unpack;
 use apfloat_base::{Category, Float, Round, Status, StatusAnd};
 use apfloat_formats::Double;
 
-/// What the product `t` of the high parts lost, and the products of a high part and a low one.
+/// What the product `t` of the high parts lost, plus the products of a high part and a low one.
 #[inline]
 fn lost(x: DoubleFloat, y: DoubleFloat, t: Double, round: Round) -> StatusAnd<Double>
     ensures { Gives (IsLostOfProduct round x.high x.low y.high y.low t) result }
@@ -29,7 +29,7 @@ fn lost(x: DoubleFloat, y: DoubleFloat, t: Double, round: Round) -> StatusAnd<Do
     status.and(tau)
 }
 
-/// The product of two pairs whose high parts are finite and not zero.
+/// The product of two pairs whose high parts are finite and nonzero.
 #[inline]
 fn product_of_numbers(x: DoubleFloat, y: DoubleFloat, round: Round) -> StatusAnd<DoubleFloat>
     ensures { Gives (IsProductOfNumbers round x y) result }
@@ -66,7 +66,7 @@ fn product_of_categories(
     }
 }
 
-/// The product of two pairs. To the nearest value it is exact for doubles, and accurate for normalised pairs.
+/// The product of two pairs. Rounded to nearest, it is exact for doubles and accurate for normalised pairs.
 #[inline]
 pub(super) fn product(x: DoubleFloat, y: DoubleFloat, round: Round) -> StatusAnd<DoubleFloat>
     ensures product { Gives (IsPairProduct round x y) result }

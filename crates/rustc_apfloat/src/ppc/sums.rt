@@ -16,8 +16,8 @@ use apfloat_base::{Category, Float, Round, Status, StatusAnd};
 use apfloat_formats::Double;
 use std::cmp::Ordering;
 
-/// The end of a sum and of a product: `z + zz`, with what that sum leaves of both as the low part. `status` has the flags
-/// of the steps so far.
+/// The end of a sum and of a product: `z + zz`, with the error of that sum as the low part. `status` has the flags of
+/// the steps so far.
 #[inline]
 pub(super) fn closed(z: Double, zz: Double, status: Status, round: Round) -> StatusAnd<DoubleFloat>
     ensures { Gives (IsClosed round z zz (bits_of status)) result }
@@ -32,7 +32,7 @@ pub(super) fn closed(z: Double, zz: Double, status: Status, round: Round) -> Sta
     flags.and(DoubleFloat(high, low))
 }
 
-/// What the sum `z` of the high parts lost, and the low parts.
+/// What the sum `z` of the high parts lost, plus the low parts.
 #[inline]
 fn lost(x: DoubleFloat, y: DoubleFloat, z: Double, round: Round) -> StatusAnd<Double>
     ensures { Gives (IsLost round x.high x.low y.high y.low z) result }
@@ -50,7 +50,7 @@ fn lost(x: DoubleFloat, y: DoubleFloat, z: Double, round: Round) -> StatusAnd<Do
     status.and(zz)
 }
 
-/// The sum of two pairs, where the sum of their high parts, `z`, is not infinite.
+/// The sum of two pairs, if the sum of their high parts, `z`, is not infinite.
 #[inline]
 fn finite_sum(
     x: DoubleFloat,
@@ -69,7 +69,7 @@ fn finite_sum(
     }
 }
 
-/// The two high parts, the one of greater magnitude first; of a tie the second.
+/// The two high parts, the one of greater magnitude first; on a tie, the second.
 #[inline]
 fn by_magnitude(a: Double, c: Double) -> (Double, Double)
     requires first { category_of a ≡ Normal }
@@ -84,7 +84,7 @@ fn by_magnitude(a: Double, c: Double) -> (Double, Double)
     }
 }
 
-/// The sum of two pairs, from its smallest part on, where the sum of their high parts is infinite.
+/// The sum of two pairs, starting with the smallest part, if the sum of their high parts is infinite.
 fn sum_anew(x: DoubleFloat, y: DoubleFloat, round: Round) -> StatusAnd<DoubleFloat>
     requires first { category_of x.high ≡ Normal }
     requires second { category_of y.high ≡ Normal }
@@ -105,7 +105,7 @@ fn sum_anew(x: DoubleFloat, y: DoubleFloat, round: Round) -> StatusAnd<DoubleFlo
     status.and(DoubleFloat(z, low))
 }
 
-/// The sum of two pairs whose high parts are finite and not zero.
+/// The sum of two pairs whose high parts are finite and nonzero.
 #[inline]
 fn sum_of_numbers(x: DoubleFloat, y: DoubleFloat, round: Round) -> StatusAnd<DoubleFloat>
     requires first { category_of x.high ≡ Normal }
@@ -155,7 +155,7 @@ fn sum_of_categories(
     }
 }
 
-/// The sum of two pairs. To the nearest value it is exact for doubles, and accurate for normalised pairs.
+/// The sum of two pairs. Rounded to nearest, it is exact for doubles and accurate for normalised pairs.
 #[inline]
 pub(super) fn sum(x: DoubleFloat, y: DoubleFloat, round: Round) -> StatusAnd<DoubleFloat>
     ensures sum { Gives (IsPairSum round x y) result }
@@ -166,7 +166,7 @@ pub(super) fn sum(x: DoubleFloat, y: DoubleFloat, round: Round) -> StatusAnd<Dou
     sum_of_categories(category(x), category(y), x, y, round)
 }
 
-/// The difference of two pairs, the sum with the negated one, exact and accurate as that is.
+/// The difference of two pairs: the sum with the negated one, as exact and as accurate as that.
 #[inline]
 pub(super) fn difference(x: DoubleFloat, y: DoubleFloat, round: Round) -> StatusAnd<DoubleFloat>
     ensures difference { Gives (IsPairDifference round x y) result }
@@ -174,7 +174,7 @@ pub(super) fn difference(x: DoubleFloat, y: DoubleFloat, round: Round) -> Status
     ensures accurate { round ≡ NearestTiesToEven → IsAccurateDifference x y result.value }
     ensures plain { round ≡ NearestTiesToEven → HasPlainStatus x y (bits_of result.status) }
 {
-    // That the parts are doubles, which `category` ensures, makes the difference exact.
+    // The parts are doubles, as `category` ensures; this makes the difference exact.
     let _ = (category(x), category(y));
     sum(x, negation(y), round)
 }

@@ -1,5 +1,5 @@
-//! Calls on pairs by the wide format: the pair is joined, the call made there, and its answer split. The status is that of
-//! the wide call.
+//! Operations on pairs by way of the wide format: the pair is joined, the operation is done there, and its result is
+//! split. The status is that of the wide operation.
 
 ghost use Rattle.std.specs.Prelude.{◌≡◌, ◌≤◌, ◌<◌, ◌^◌, Result};
 ghost use Rattle.apfloat_base.specs.rounding.Flags.{Gives, bits_of};
@@ -11,7 +11,7 @@ use super::join::{joined, split};
 use super::{DoubleFloat, Fallback};
 use apfloat_base::{Float, ParseError, Round, StatusAnd};
 
-/// An answer of the wide format as a pair, with its status.
+/// A result of the wide format as a pair, with its status.
 #[inline]
 fn split_answer(answer: StatusAnd<Fallback>) -> StatusAnd<DoubleFloat>
     ensures status { result.status ≡ answer.status }
@@ -47,7 +47,7 @@ pub(super) fn nearest(x: DoubleFloat, y: DoubleFloat) -> StatusAnd<DoubleFloat>
     split_answer(joined(x).ieee_rem(joined(y)))
 }
 
-/// The whole number beside a pair.
+/// A pair rounded by the mode to a whole number.
 #[inline]
 pub(super) fn round_to_integral(x: DoubleFloat, round: Round) -> StatusAnd<DoubleFloat>
     ensures { Gives (IsPairRoundToIntegral round x) result }
@@ -55,7 +55,7 @@ pub(super) fn round_to_integral(x: DoubleFloat, round: Round) -> StatusAnd<Doubl
     split_answer(joined(x).round_to_integral(round))
 }
 
-/// The next value above in the wide format.
+/// The next value up in the wide format.
 #[inline]
 pub(super) fn next_up(x: DoubleFloat) -> StatusAnd<DoubleFloat>
     ensures { Gives (IsPairNextUp x) result }
@@ -63,7 +63,7 @@ pub(super) fn next_up(x: DoubleFloat) -> StatusAnd<DoubleFloat>
     split_answer(joined(x).next_up())
 }
 
-/// The exact inverse of a pair, where the wide format has it.
+/// The exact inverse of a pair, if the wide format has it.
 #[inline]
 pub(super) fn exact_inverse(x: DoubleFloat) -> Option<DoubleFloat>
     ensures { IsPairExactInverse x result }
