@@ -3,9 +3,8 @@
 ghost use Rattle.std.specs.Prelude.{◌≡◌};
 ghost use Rattle.std.specs.Bool.{Decides};
 ghost use Rattle.std.specs.Ordering.{nat_cmp, int_cmp};
-ghost use Rattle.apfloat_base.specs.declared.kinds.Category.TheVariants.{Normal};
 ghost use Rattle.apfloat_base.specs.order.Classes.{is_nan, same_datum};
-ghost use Rattle.apfloat_base.specs.order.Order.{number, compared, compared_magnitudes};
+ghost use Rattle.apfloat_base.specs.order.Order.{number, compared};
 ghost use Rattle.apfloat_unpacked.specs.declared.shape.Shape.{Shape};
 ghost use Rattle.apfloat_unpacked.specs.Stored.{IsNormal, IsStored, datum_at, quanta_of};
 ghost use Rattle.apfloat_arithmetic.specs.Sides.{side};
@@ -14,10 +13,10 @@ use apfloat_base::Category;
 use apfloat_unpacked::unpacked::Unpacked;
 use std::cmp::Ordering;
 
-/// The order of two numbers by what is stored of them: their significands have all digits, so that the exponents come
-/// first.
+/// The order of the magnitudes of two finite values that are not zero. Their significands have all digits, so that the
+/// exponents come first.
 #[inline(always)]
-fn compare_significands(x: Unpacked, y: Unpacked) -> Ordering
+pub fn compare_magnitudes(x: Unpacked, y: Unpacked) -> Ordering
     ensures { (shape : Shape) → IsNormal shape x → IsNormal shape y
         → result ≡ nat_cmp (quanta_of shape x) (quanta_of shape y) }
 {
@@ -26,17 +25,7 @@ fn compare_significands(x: Unpacked, y: Unpacked) -> Ordering
         .then(x.significand.cmp(&y.significand))
 }
 
-/// The order of the magnitudes of two finite values that are not zero.
-#[inline(always)]
-pub fn compare_magnitudes(x: Unpacked, y: Unpacked) -> Ordering
-    requires left { x.category ≡ Normal }
-    requires right { y.category ≡ Normal }
-    ensures { (shape : Shape) → IsStored shape x → IsStored shape y
-        → result ≡ compared_magnitudes (datum_at shape x) (datum_at shape y) }
-{
-    compare_significands(x, y)
-}
-
+/// Whether the value is a NaN.
 #[inline(always)]
 fn is_nan(x: Unpacked) -> bool
     ensures { (shape : Shape) → result ≡ is_nan (datum_at shape x) }
@@ -72,9 +61,9 @@ fn compare_beside(x: Unpacked, y: Unpacked) -> Ordering
     match x.category {
         Category::Normal => {
             if x.negative {
-                compare_significands(y, x)
+                compare_magnitudes(y, x)
             } else {
-                compare_significands(x, y)
+                compare_magnitudes(x, y)
             }
         }
         Category::Infinity => Ordering::Equal,

@@ -1,29 +1,32 @@
 //! The exponent of a hexadecimal text.
 
-ghost use Rattle.std.specs.Prelude.{◌≡◌, ℕ, ◌+◌, ◌*◌, ◌^◌, ◌<◌, ℤ, pos, neg_ℤ, ◌+ℤ◌, ◌-ℤ◌, ◌≤ℤ◌, drop, Some, None, MatchResult};
+ghost use Rattle.std.specs.Prelude.{◌≡◌, ℕ, ◌+◌, ◌*◌, ◌<◌, ℤ, pos, ◌+ℤ◌, ◌-ℤ◌, ◌≤ℤ◌, drop, Some, None, MatchResult};
 ghost use Rattle.apfloat_base.specs.rounding.Bounds.{IsWithin, text_bound};
 ghost use Rattle.apfloat_base.specs.texts.Digits.{number};
 ghost use Rattle.apfloat_base.specs.texts.Specials.{behind_mark};
 ghost use Rattle.apfloat_base.specs.texts.Faults.{exponent_fault};
 ghost use Rattle.apfloat_base.specs.texts.Literals.{exponent_number};
-ghost use Rattle.apfloat_texts.specs.Saturation.{IsSaturated, IsNear, fault_behind};
+ghost use Rattle.apfloat_texts.specs.Saturation.{IsSaturated, IsNear, count_bound, far_bound, fault_behind};
 
 use crate::characters::{digit_value, is_decimal};
 use crate::mark::split_mark;
 use apfloat_base::ExpInt;
 use apfloat_base::parse_error::Fault;
 
-/// A number that is not counted on from here.
+/// A count that is not counted on from here.
 const FAR: u128 = 1 << 96;
+
+/// Exponents of last digits from here on change no answer.
+const TEXT_BOUND: ExpInt = 1 << 22;
 
 /// The number with one more decimal digit behind it, or some number from `FAR` up in place of another one.
 #[inline(always)]
 fn with_digit(number: u128, digit: u8) -> u128
     requires small { digit < 16 }
-    requires fits { number < 2 ^ 100 }
+    requires fits { number < count_bound }
     ensures saturated { (exact : ℕ) → IsSaturated exact number
         → IsSaturated (exact * 10 + digit) result }
-    ensures fits { result < 2 ^ 100 }
+    ensures fits { result < count_bound }
 {
     if number < FAR {
         number * 10 + u128::from(digit)
@@ -35,7 +38,7 @@ fn with_digit(number: u128, digit: u8) -> u128
 /// The number that decimal digits stand for.
 #[inline(always)]
 fn magnitude(digits: &[u8]) -> Result<u128, Fault>
-    ensures { MatchResult result (λ n. IsSaturated (number 10 digits.now) n × (n < 2 ^ 100)
+    ensures { MatchResult result (λ n. IsSaturated (number 10 digits.now) n × (n < count_bound)
         × (exponent_fault digits.now ≡ None))
         (λ fault. exponent_fault digits.now ≡ Some fault) }
 {
@@ -57,8 +60,8 @@ fn magnitude(digits: &[u8]) -> Result<u128, Fault>
 /// The exponent that is written behind the letter.
 #[inline(always)]
 fn signed(text: &[u8]) -> Result<i128, Fault>
-    ensures { MatchResult result (λ e. IsNear (2 ^ 96) (exponent_number text.now) e
-        × (e ≤ℤ pos (2 ^ 100)) × (neg_ℤ (pos (2 ^ 100)) ≤ℤ e)
+    ensures { MatchResult result (λ e. IsNear far_bound (exponent_number text.now) e
+        × IsWithin count_bound e
         × (exponent_fault (behind_mark text.now) ≡ None))
         (λ fault. exponent_fault (behind_mark text.now) ≡ Some fault) }
 {
@@ -74,8 +77,8 @@ fn signed(text: &[u8]) -> Result<i128, Fault>
 /// The exponent in what follows a significand with some digit or with none.
 #[inline(always)]
 pub fn exponent_in(tail: &[u8], some: bool) -> Result<i128, Fault>
-    ensures { MatchResult result (λ e. IsNear (2 ^ 96) (exponent_number (drop 1 tail.now)) e
-        × (e ≤ℤ pos (2 ^ 100)) × (neg_ℤ (pos (2 ^ 100)) ≤ℤ e)
+    ensures { MatchResult result (λ e. IsNear far_bound (exponent_number (drop 1 tail.now)) e
+        × IsWithin count_bound e
         × (fault_behind some tail.now ≡ None))
         (λ fault. fault_behind some tail.now ≡ Some fault) }
 {
@@ -91,7 +94,7 @@ pub fn exponent_in(tail: &[u8], some: bool) -> Result<i128, Fault>
 /// The exponent of the last digit that is kept, of a number with `cut` digits less and with `places` digits behind its dot.
 #[inline(always)]
 fn unit_of(exponent: i128, cut: usize, places: usize) -> i128
-    requires { IsWithin (2 ^ 100) exponent }
+    requires { IsWithin count_bound exponent }
     ensures { result ≡ (exponent +ℤ pos (4 * cut)) -ℤ pos (4 * places) }
 {
     exponent + 4 * cut as i128 - 4 * places as i128
@@ -103,10 +106,10 @@ fn clamped(exponent: i128) -> ExpInt
     ensures near { IsNear text_bound exponent result }
     ensures within { IsWithin text_bound result }
 {
-    if exponent > 4194304 {
-        4194304
-    } else if exponent < -4194304 {
-        -4194304
+    if exponent > TEXT_BOUND as i128 {
+        TEXT_BOUND
+    } else if exponent < -(TEXT_BOUND as i128) {
+        -TEXT_BOUND
     } else {
         exponent as ExpInt
     }
@@ -115,8 +118,8 @@ fn clamped(exponent: i128) -> ExpInt
 /// The exponent of the last digit that is kept, or one that is past every value on its side.
 #[inline(always)]
 pub fn unit_exponent(exponent: i128, cut: usize, places: usize) -> ExpInt
-    requires { IsWithin (2 ^ 100) exponent }
-    ensures near { (exact : ℤ) → IsNear (2 ^ 96) exact exponent
+    requires { IsWithin count_bound exponent }
+    ensures near { (exact : ℤ) → IsNear far_bound exact exponent
         → IsNear text_bound ((exact +ℤ pos (4 * cut)) -ℤ pos (4 * places)) result }
     ensures within { IsWithin text_bound result }
 {
