@@ -16,20 +16,19 @@ use Rattle.rustc_apfloat.specs.LawTest.{lawful_from_test}
 use Rattle.apfloat_base.proofs.Determined.{exponent_once, frexp_once, reading_once, scale_some}
 use Rattle.apfloat_base.proofs.Encodings.{lawful_interchange}
 use Rattle.apfloat_base.proofs.EncodedOnce.{encoded_once}
-use Rattle.apfloat_base.proofs.Once.{Once, OnceWith, conversion_once, difference_once, from_signed_once, from_unsigned_once, fused_sum_once, next_down_once, next_up_once, product_once, quotient_once, remainder_once, round_to_integral_once, scaling_once, sum_once, whole_once}
-use Rattle.apfloat_pairs.proofs.CallsOnce.{OnceWhole, pair_fraction_once, pair_from_signed_once, pair_from_unsigned_once, pair_ilogb_once, pair_nearest_remainder_once, pair_next_down_once, pair_next_up_once, pair_quotient_once, pair_reading_once, pair_round_to_integral_once, pair_scaling_once, pair_to_signed_once, pair_to_unsigned_once, pair_truncated_remainder_once}
+use Rattle.apfloat_base.proofs.Once.{Once, OnceWith, conversion_once, from_signed_once, from_unsigned_once, fused_sum_once, next_down_once, next_up_once, round_to_integral_once, scaling_once, whole_once}
+use Rattle.apfloat_pairs.proofs.CallsOnce.{OnceWhole, pair_fraction_once, pair_from_signed_once, pair_from_unsigned_once, pair_ilogb_once, pair_next_down_once, pair_next_up_once, pair_reading_once, pair_round_to_integral_once, pair_scaling_once, pair_to_signed_once, pair_to_unsigned_once}
 use Rattle.apfloat_pairs.proofs.PairBits.{pair_encoded_once}
-use Rattle.apfloat_pairs.proofs.PairsOnce.{pair_difference_once, pair_product_once, pair_sum_once}
 use Rattle.apfloat_c.specs.declared.data.Answer.{Answer}
 use Rattle.apfloat_c.specs.declared.data.Halves.{Halves}
-use Rattle.apfloat_c.specs.declared.call.Arithmetic.{Arithmetic}
-use Rattle.apfloat_c.specs.declared.call.Arithmetic.TheVariants.{Sum, Difference, Product, Quotient, NearestRemainder, TruncatedRemainder}
+use Rattle.dispatch.specs.Kinds.{Kind, of_format, of_pairs, value_of}
+use Rattle.dispatch.proofs.OfTwoOnce.{of_two_once, pair_of_two_once}
 use Rattle.apfloat_c.specs.declared.call.Call.{Call}
 use Rattle.apfloat_c.specs.declared.call.Call.TheVariants.{OfTwo, FusedSum, FromUnsigned, FromSigned, ToUnsigned, ToSigned, RoundToIntegral, Scaling, Fraction, Exponent, NextUp, NextDown, Comparison, Class, Conversion, Text}
 use Rattle.apfloat_c.specs.declared.codes.Format.{Format}
 use Rattle.apfloat_c.specs.declared.codes.Format.TheVariants.{Half, Single, Double, Quad, BFloat, E5M2, E4M3FN, E4M3FNUZ, X87, DoubleDouble}
-use Rattle.apfloat_c.specs.Requests.{Kind, asked, fault_in, kind_of, of_format, of_pairs, without}
-use Rattle.apfloat_c.specs.Answers.{IsAnswer, IsAnswerOf, IsConverted, IsConvertedIn, IsConvertedTo, IsFractionOf, IsNumber, IsOfTwo, IsPairAnswer, IsPairFractionOf, IsPairOfTwo, IsPairUntold, IsPairValue, IsPairWritten, IsReply, IsSigned, IsUnsigned, IsUntold, IsValue, IsWritten, one_if, value_of, whole}
+use Rattle.apfloat_c.specs.Requests.{asked, fault_in, kind_of, without}
+use Rattle.apfloat_c.specs.Answers.{IsAnswer, IsAnswerOf, IsConverted, IsConvertedIn, IsConvertedTo, IsFractionOf, IsNumber, IsPairAnswer, IsPairFractionOf, IsPairUntold, IsPairValue, IsPairWritten, IsReply, IsSigned, IsUnsigned, IsUntold, IsValue, IsWritten, one_if, whole}
 
 -- two answers with the same number of 128 bits, the same flags, and the same other number
 pub record SameAnswer (first other : Answer) : Type 0 where
@@ -117,15 +116,6 @@ module _ (constants : Constants) (has : HasLaw constants) where
       written_once x.value y.value x.status y.status _ _ a b same.0 same.1 (ap one_if same.2) x.is_written
       y.is_written
 
-of_two_once : (arithmetic : Arithmetic) (constants : Constants) (mode : Round) (x y : Datum)
-    → Once (IsOfTwo arithmetic constants mode x y)
-of_two_once Sum constants mode x y = sum_once (format_with constants) mode x y
-of_two_once Difference constants mode x y = difference_once (format_with constants) mode x y
-of_two_once Product constants mode x y = product_once (format_with constants) mode x y
-of_two_once Quotient constants mode x y = quotient_once (format_with constants) mode x y
-of_two_once NearestRemainder constants mode x y = remainder_once (format_with constants) _ x y
-of_two_once TruncatedRemainder constants mode x y = remainder_once (format_with constants) _ x y
-
 to_unsigned_once : (constants : Constants) (mode : Round) (width : ℕ) (x : Datum)
     → OnceWhole (IsToUnsigned (format_with constants) mode width x)
 to_unsigned_once constants mode width x m n r s a b h k =
@@ -175,7 +165,7 @@ conversion_answer_once constants mode x (Some target) = converted_in_once consta
 answer_once : (constants : Constants) → HasLaw constants → (mode : Round) (call : Call)
     → OnceAnswer (IsAnswer constants mode call)
 answer_once constants has mode (OfTwo arithmetic x y) =
-    value_once constants has _ (of_two_once arithmetic constants mode (value_of constants x) (value_of constants y))
+    value_once constants has _ (of_two_once arithmetic (format_with constants) mode (value_of constants x) (value_of constants y))
 answer_once constants has mode (FusedSum x y z) =
     value_once constants has _ (fused_sum_once (format_with constants) mode (value_of constants x)
     (value_of constants y) (value_of constants z))
@@ -236,14 +226,6 @@ pair_fraction_answer_once : (Holds : Pair → ℤ → Type 0) → DeterminesBoth
 pair_fraction_answer_once Holds once a b x y =
     let same = once x.value y.value x.exponent y.exponent x.holds y.holds in
     pair_written_once x.value y.value _ _ x.exponent y.exponent a b same.0 refl same.1 x.is_written y.is_written
-
-pair_of_two_once : (arithmetic : Arithmetic) (mode : Round) (x y : Pair) → OncePair (IsPairOfTwo arithmetic mode x y)
-pair_of_two_once Sum mode x y = pair_sum_once mode x y
-pair_of_two_once Difference mode x y = pair_difference_once mode x y
-pair_of_two_once Product mode x y = pair_product_once mode x y
-pair_of_two_once Quotient mode x y = pair_quotient_once mode x y
-pair_of_two_once NearestRemainder mode x y = pair_nearest_remainder_once x y
-pair_of_two_once TruncatedRemainder mode x y = pair_truncated_remainder_once x y
 
 pair_answer_once : (mode : Round) (call : Call) → OnceAnswer (IsPairAnswer mode call)
 pair_answer_once mode (OfTwo arithmetic x y) =

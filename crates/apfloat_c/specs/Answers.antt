@@ -7,10 +7,6 @@ use Rattle.rustc_apfloat.specs.declared.Category.{Category}
 use Rattle.rustc_apfloat.specs.declared.Category.TheVariants.{Infinity, NaN, Normal, Zero}
 use Rattle.rustc_apfloat.specs.declared.Round.{Round}
 use Rattle.rustc_apfloat.specs.Datum.{Datum}
-use Rattle.rustc_apfloat.specs.Sums.{IsSum, IsDifference}
-use Rattle.rustc_apfloat.specs.Products.{IsProduct}
-use Rattle.rustc_apfloat.specs.Quotients.{IsQuotient}
-use Rattle.rustc_apfloat.specs.Remainders.{IsNearestRemainder, IsTruncatedRemainder}
 use Rattle.rustc_apfloat.specs.FusedSums.{IsFusedSum}
 use Rattle.rustc_apfloat.specs.WholeNumbers.{IsFromUnsigned, IsFromSigned, IsRoundToIntegral}
 use Rattle.rustc_apfloat.specs.WholeNumbersOut.{IsToUnsigned, IsToSigned}
@@ -22,21 +18,19 @@ use Rattle.rustc_apfloat.specs.Classes.{category_of, is_denormal, is_negative}
 use Rattle.rustc_apfloat.specs.Nan.{is_signaling_nan}
 use Rattle.rustc_apfloat.specs.Conversions.{IsConversion}
 use Rattle.rustc_apfloat.specs.Readings.{IsReading}
-use Rattle.rustc_apfloat.specs.Layout.{datum_of, IsEncodedBy}
+use Rattle.rustc_apfloat.specs.Layout.{IsEncodedBy}
 use Rattle.rustc_apfloat.specs.Lawful.{Constants, format_with, layout_with}
 use Rattle.rustc_apfloat.specs.Pairs.{Pair, pair_category, pair_of, IsPairEncodedBy}
-use Rattle.rustc_apfloat.specs.PairSums.{IsPairSum, IsPairDifference}
-use Rattle.rustc_apfloat.specs.PairProducts.{IsPairProduct}
 use Rattle.rustc_apfloat.specs.PairParts.{compared_pairs, is_denormal_pair, is_negative_pair, is_signaling_pair, IsPairFraction, IsPairIlogb, IsPairScaling}
-use Rattle.rustc_apfloat.specs.PairCalls.{IsPairFromSigned, IsPairFromUnsigned, IsPairNearestRemainder, IsPairNextDown, IsPairNextUp, IsPairQuotient, IsPairReading, IsPairRoundToIntegral, IsPairToSigned, IsPairToUnsigned, IsPairTruncatedRemainder}
+use Rattle.rustc_apfloat.specs.PairCalls.{IsPairFromSigned, IsPairFromUnsigned, IsPairNextDown, IsPairNextUp, IsPairReading, IsPairRoundToIntegral, IsPairToSigned, IsPairToUnsigned}
 use Rattle.apfloat_c.specs.declared.data.Halves.{Halves}
 use Rattle.apfloat_c.specs.declared.data.Answer.{Answer}
-use Rattle.apfloat_c.specs.declared.call.Arithmetic.{Arithmetic}
-use Rattle.apfloat_c.specs.declared.call.Arithmetic.TheVariants.{Sum, Difference, Product, Quotient, NearestRemainder, TruncatedRemainder}
+use Rattle.dispatch.specs.Kinds.{Kind, of_format, of_pairs, value_of}
+use Rattle.dispatch.specs.OfTwo.{IsOfTwo, IsPairOfTwo}
 use Rattle.apfloat_c.specs.declared.call.Call.{Call}
 use Rattle.apfloat_c.specs.declared.call.Call.TheVariants.{OfTwo, FusedSum, FromUnsigned, FromSigned, ToUnsigned, ToSigned, RoundToIntegral, Scaling, Fraction, Exponent, NextUp, NextDown, Comparison, Class, Conversion, Text}
 use Rattle.apfloat_c.specs.declared.codes.Format.{Format}
-use Rattle.apfloat_c.specs.Requests.{Kind, kind_of, of_format, of_pairs, Request, answered, fault_in}
+use Rattle.apfloat_c.specs.Requests.{kind_of, Request, answered, fault_in}
 
 -- the number that two halves stand for
 abbrev pub whole : Halves → ℕ
@@ -84,18 +78,6 @@ pub record IsNumber (Holds : ℤ → Type 0) (answer : Answer) : Type 0 where
   pub status_is : answer.status ≡ 0
 
 -- ---- in a format
-
--- the value that is written as bits; those at and above the width of the format are not looked at
-abbrev pub value_of : Constants → ℕ → Datum
-value_of c bits = datum_of (format_with c) (layout_with c) bits
-
-abbrev pub IsOfTwo : Arithmetic → Constants → Round → Datum → Datum → Datum → ℕ → Type 0
-IsOfTwo Sum c mode x y value status = IsSum (format_with c) mode x y value status
-IsOfTwo Difference c mode x y value status = IsDifference (format_with c) mode x y value status
-IsOfTwo Product c mode x y value status = IsProduct (format_with c) mode x y value status
-IsOfTwo Quotient c mode x y value status = IsQuotient (format_with c) mode x y value status
-IsOfTwo NearestRemainder c mode x y value status = IsNearestRemainder (format_with c) x y value status
-IsOfTwo TruncatedRemainder c mode x y value status = IsTruncatedRemainder (format_with c) x y value status
 
 -- the bits of a value, its flags, and a number
 pub record IsWritten (c : Constants) (value : Datum) (status : ℕ) (number : ℤ) (answer : Answer) : Type 0 where
@@ -147,7 +129,7 @@ class_of c x =
 
 abbrev pub IsAnswer : Constants → Round → Call → Answer → Type 0
 IsAnswer c mode (OfTwo arithmetic x y) answer =
-    IsValue c (IsOfTwo arithmetic c mode (value_of c x) (value_of c y)) answer
+    IsValue c (IsOfTwo arithmetic (format_with c) mode (value_of c x) (value_of c y)) answer
 IsAnswer c mode (FusedSum x y z) answer =
     IsValue c (IsFusedSum (format_with c) mode (value_of c x) (value_of c y) (value_of c z)) answer
 IsAnswer c mode (FromUnsigned number) answer = IsValue c (IsFromUnsigned (format_with c) mode number) answer
@@ -169,14 +151,6 @@ IsAnswer c mode (Conversion x target) answer = IsConverted c mode x target answe
 IsAnswer c mode (Text text) answer = IsValue c (IsReading (format_with c) mode text.now) answer
 
 -- ---- of pairs of doubles
-
-abbrev pub IsPairOfTwo : Arithmetic → Round → Pair → Pair → Pair → ℕ → Type 0
-IsPairOfTwo Sum mode x y value status = IsPairSum mode x y value status
-IsPairOfTwo Difference mode x y value status = IsPairDifference mode x y value status
-IsPairOfTwo Product mode x y value status = IsPairProduct mode x y value status
-IsPairOfTwo Quotient mode x y value status = IsPairQuotient mode x y value status
-IsPairOfTwo NearestRemainder mode x y value status = IsPairNearestRemainder x y value status
-IsPairOfTwo TruncatedRemainder mode x y value status = IsPairTruncatedRemainder x y value status
 
 pub record IsPairWritten (value : Pair) (status : ℕ) (number : ℤ) (answer : Answer) : Type 0 where
   pub is_encoded : IsPairEncodedBy (whole answer.bits) value

@@ -9,8 +9,8 @@ use Rattle.rustc_apfloat.specs.Faults.{fault_of}
 use Rattle.rustc_apfloat.specs.Formats.{half_constants, single_constants, double_constants, quad_constants, bfloat_constants, e5m2_constants, e4m3fn_constants, e4m3fnuz_constants, x87_constants}
 use Rattle.apfloat_c.specs.declared.codes.Format.{Format}
 use Rattle.apfloat_c.specs.declared.codes.Format.TheVariants.{Half, Single, Double, Quad, BFloat, E5M2, E4M3FN, E4M3FNUZ, X87, DoubleDouble}
-use Rattle.apfloat_c.specs.declared.call.Arithmetic.{Arithmetic}
-use Rattle.apfloat_c.specs.declared.call.Arithmetic.TheVariants.{Sum, Difference, Product, Quotient, NearestRemainder, TruncatedRemainder}
+use Rattle.dispatch.specs.Kinds.{Kind, of_format, of_pairs}
+use Rattle.dispatch.specs.OfTwo.{has_operation}
 use Rattle.apfloat_c.specs.declared.call.Call.{Call}
 use Rattle.apfloat_c.specs.declared.call.Call.TheVariants.{OfTwo, FusedSum, ToUnsigned, ToSigned, Conversion, Text}
 
@@ -63,11 +63,7 @@ wrong_width = 4
 abbrev pub refused_text : ℕ
 refused_text = 5
 
--- ---- kinds of values: those of a format with such constants, or pairs of doubles
-
-pub data Kind : Type 0 where
-  of_format : Constants → Kind
-  of_pairs : Kind
+-- ---- kinds of values
 
 abbrev pub kind_of : Format → Kind
 kind_of Half = of_format half_constants
@@ -86,15 +82,6 @@ kind_of DoubleDouble = of_pairs
 abbrev pub unless : Bool → ℕ → Option ℕ
 unless holds error = if holds then None else Some error
 
--- a product needs a precision of 64 at most, for its digits; a fused sum one of 63
-abbrev pub may_compute : ℕ → Arithmetic → Bool
-may_compute precision Sum = true
-may_compute precision Difference = true
-may_compute precision Product = nat_le precision 64
-may_compute precision Quotient = true
-may_compute precision NearestRemainder = true
-may_compute precision TruncatedRemainder = true
-
 -- the least width of a whole number is 1, and with a sign 2
 abbrev pub width_fault : ℕ → ℕ → Option ℕ
 width_fault least width = unless (nat_le least width && nat_le width 128) wrong_width
@@ -108,8 +95,9 @@ target_fault None = Some unknown_format
 target_fault (Some DoubleDouble) = Some no_such_operation
 target_fault (Some target) = None
 
+-- a product needs a precision of 64 at most, for its digits; a fused sum one of 63
 abbrev pub format_fault : ℕ → Call → Option ℕ
-format_fault precision (OfTwo arithmetic x y) = unless (may_compute precision arithmetic) no_such_operation
+format_fault precision (OfTwo arithmetic x y) = unless (has_operation (nat_le precision 64) arithmetic) no_such_operation
 format_fault precision (FusedSum x y z) = unless (nat_le precision 63) no_such_operation
 format_fault precision (ToUnsigned x width) = width_fault 1 width
 format_fault precision (ToSigned x width) = width_fault 2 width

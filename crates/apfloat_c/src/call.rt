@@ -1,23 +1,7 @@
 //! What can be asked of a format.
 
 use crate::codes::Format;
-
-/// An operation on two values.
-#[derive(Clone, Copy)]
-pub enum Arithmetic {
-    /// The first plus the second.
-    Sum,
-    /// The first minus the second.
-    Difference,
-    /// The first times the second.
-    Product,
-    /// The first divided by the second.
-    Quotient,
-    /// The remainder by the whole number nearest to the quotient, a tie to the even one.
-    NearestRemainder,
-    /// The remainder by the quotient cut toward zero.
-    TruncatedRemainder,
-}
+use dispatch::Arithmetic;
 
 /// An operation with its operands, values by their bits.
 #[derive(Clone, Copy)]

@@ -2,9 +2,8 @@
 
 ghost use Rattle.std.specs.Prelude.{◌≡◌, ◌&&◌, nat_le};
 ghost use Rattle.apfloat_c.specs.Answers.{class_code, one_if, order_code};
-ghost use Rattle.apfloat_c.specs.Requests.{formats, found, may_compute, modes};
+ghost use Rattle.apfloat_c.specs.Requests.{formats, found, modes};
 
-use crate::call::Arithmetic;
 use rustc_apfloat::{Category, Round};
 use std::cmp::Ordering;
 
@@ -71,20 +70,6 @@ pub fn mode_of(code: u32) -> Option<Round>
         3 => Some(Round::TowardZero),
         4 => Some(Round::NearestTiesToAway),
         _ => None,
-    }
-}
-
-/// Whether a format of this precision has an operation on two values.
-pub fn may_compute(precision: usize, arithmetic: Arithmetic) -> bool
-    ensures { result ≡ may_compute precision arithmetic }
-{
-    match arithmetic {
-        Arithmetic::Product => precision <= 64,
-        Arithmetic::Sum => true,
-        Arithmetic::Difference => true,
-        Arithmetic::Quotient => true,
-        Arithmetic::NearestRemainder => true,
-        Arithmetic::TruncatedRemainder => true,
     }
 }
 

@@ -3,15 +3,16 @@
 ghost use Rattle.std.specs.Prelude.{Some};
 ghost use Rattle.std.specs.Int.{cast_signed, w128};
 ghost use Rattle.rustc_apfloat.specs.declared.Round.TheVariants.{NearestTiesToEven};
-ghost use Rattle.apfloat_c.specs.declared.call.Arithmetic.TheVariants.{Sum, Difference, Product, Quotient, NearestRemainder, TruncatedRemainder};
+ghost use Rattle.dispatch.specs.declared.Arithmetic.TheVariants.{Sum, Difference, Product, Quotient, NearestRemainder, TruncatedRemainder};
 ghost use Rattle.apfloat_c.specs.declared.call.Call.TheVariants.{OfTwo, FusedSum, FromUnsigned, FromSigned, ToUnsigned, ToSigned, RoundToIntegral, Scaling, Fraction, Exponent, NextUp, NextDown, Comparison, Class, Conversion, Text};
 ghost use Rattle.apfloat_c.specs.Requests.{asked, formats, found, modes};
 ghost use Rattle.apfloat_c.specs.Answers.{IsReply, whole};
 
-use crate::call::{Arithmetic, Call};
+use crate::call::Call;
 use crate::codes::{format_of, mode_of};
 use crate::data::{Answer, Halves};
 use crate::reply::reply;
+use dispatch::Arithmetic;
 use rustc_apfloat::Round;
 
 /// The sum of two values, rounded once.

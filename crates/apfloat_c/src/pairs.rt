@@ -1,21 +1,22 @@
 //! Answers of pairs of doubles.
 
 ghost use Rattle.std.specs.Prelude.{◌≡◌, pos};
-ghost use Rattle.rustc_apfloat.specs.Flags.{Gives, bits_of};
+ghost use Rattle.rustc_apfloat.specs.Flags.{bits_of};
 ghost use Rattle.rustc_apfloat.specs.Pairs.{pair_of};
 ghost use Rattle.rustc_apfloat.specs.PairParts.{IsPairIlogb, compared_pairs};
 ghost use Rattle.rustc_apfloat.specs.PairCalls.{IsPairNextDown, IsPairNextUp};
 ghost use Rattle.apfloat_c.specs.declared.call.Call.TheVariants.{OfTwo, FromUnsigned, FromSigned, ToUnsigned, ToSigned, RoundToIntegral, Scaling, Fraction, Text};
-ghost use Rattle.apfloat_c.specs.Requests.{of_pairs};
-ghost use Rattle.apfloat_c.specs.Answers.{IsNumber, IsOutcome, IsPairAnswer, IsPairOfTwo, IsPairValue, IsPairWritten, order_code, pair_class_of};
+ghost use Rattle.dispatch.specs.Kinds.{of_pairs};
+ghost use Rattle.apfloat_c.specs.Answers.{IsNumber, IsOutcome, IsPairAnswer, IsPairValue, IsPairWritten, order_code, pair_class_of};
 
-use crate::call::{Arithmetic, Call};
+use crate::call::Call;
 use crate::codes::{
     NO_SUCH_OPERATION, REFUSED_TEXT, UNKNOWN_FORMAT, WRONG_WIDTH, class_code, is_width, one_if,
     order_code,
 };
 use crate::data::Answer;
 use crate::texts::text_of;
+use dispatch::Arithmetic;
 use rustc_apfloat::ppc::DoubleDouble;
 use rustc_apfloat::{Float, Round, Status, StatusAnd};
 
@@ -49,26 +50,7 @@ fn of_two(round: Round, arithmetic: Arithmetic, x: u128, y: u128) -> Answer
     ensures { IsPairAnswer round (OfTwo arithmetic x y) result }
 {
     let (x, y) = (DoubleDouble::from_bits(x), DoubleDouble::from_bits(y));
-    written(computed(arithmetic, round, x, y))
-}
-
-/// The value of an operation on two pairs.
-fn computed(
-    arithmetic: Arithmetic,
-    round: Round,
-    x: DoubleDouble,
-    y: DoubleDouble,
-) -> StatusAnd<DoubleDouble>
-    ensures { Gives (IsPairOfTwo arithmetic round x y) result }
-{
-    match arithmetic {
-        Arithmetic::Sum => x.add_r(y, round),
-        Arithmetic::Difference => x.sub_r(y, round),
-        Arithmetic::Product => x.mul_r(y, round),
-        Arithmetic::Quotient => x.div_r(y, round),
-        Arithmetic::NearestRemainder => x.ieee_rem(y),
-        Arithmetic::TruncatedRemainder => x.c_fmod(y),
-    }
+    written(arithmetic.answer(x, y, round))
 }
 
 /// A whole number.

@@ -1,7 +1,7 @@
 //! Answers in a format.
 
 ghost use Rattle.std.specs.Prelude.{◌≡◌, ◌<◌, true, pos};
-ghost use Rattle.rustc_apfloat.specs.Flags.{Gives, bits_of};
+ghost use Rattle.rustc_apfloat.specs.Flags.{bits_of};
 ghost use Rattle.rustc_apfloat.specs.Lawful.{format_with};
 ghost use Rattle.rustc_apfloat.specs.Conversions.{IsConversion};
 ghost use Rattle.rustc_apfloat.specs.Exponents.{IsIlogb};
@@ -9,16 +9,17 @@ ghost use Rattle.rustc_apfloat.specs.NextUp.{IsNextDown, IsNextUp};
 ghost use Rattle.rustc_apfloat.specs.Order.{compared};
 ghost use Rattle.rustc_apfloat.specs.Types.{constants_of};
 ghost use Rattle.apfloat_c.specs.declared.call.Call.TheVariants.{OfTwo, FusedSum, FromUnsigned, FromSigned, ToUnsigned, ToSigned, RoundToIntegral, Scaling, Fraction, Conversion, Text};
-ghost use Rattle.apfloat_c.specs.Requests.{may_compute, of_format};
-ghost use Rattle.apfloat_c.specs.Answers.{IsAnswer, IsConvertedTo, IsNumber, IsOfTwo, IsOutcome, IsValue, IsWritten, class_of, order_code, value_of};
+ghost use Rattle.dispatch.specs.Kinds.{of_format, value_of};
+ghost use Rattle.apfloat_c.specs.Answers.{IsAnswer, IsConvertedTo, IsNumber, IsOutcome, IsValue, IsWritten, class_of, order_code};
 
-use crate::call::{Arithmetic, Call};
+use crate::call::Call;
 use crate::codes::{
     Format, NO_SUCH_OPERATION, REFUSED_TEXT, UNKNOWN_FORMAT, WRONG_WIDTH, class_code, is_width,
-    may_compute, one_if, order_code,
+    one_if, order_code,
 };
 use crate::data::Answer;
 use crate::texts::text_of;
+use dispatch::Arithmetic;
 use rustc_apfloat::ieee::{
     BFloatS, DoubleS, Float8E4M3FNS, Float8E4M3FNUZS, Float8E5M2S, HalfS, IeeeFloat, QuadS,
     Semantics, SingleS, X87DoubleExtendedS,
@@ -61,30 +62,11 @@ fn of_two<S: Semantics>(
     ensures { let kind = of_format (constants_of S.Semantics) in
         IsOutcome kind round (OfTwo arithmetic x y) result }
 {
-    if !may_compute(S::PRECISION, arithmetic) {
+    if !arithmetic.is_supported(S::PRECISION) {
         return Err(NO_SUCH_OPERATION);
     }
-    Ok(written(computed(arithmetic, round, S::from_bits(x), S::from_bits(y))))
-}
-
-/// The value of an operation on two values.
-fn computed<S: Semantics>(
-    arithmetic: Arithmetic,
-    round: Round,
-    x: IeeeFloat<S>,
-    y: IeeeFloat<S>,
-) -> StatusAnd<IeeeFloat<S>>
-    requires { may_compute S.PRECISION arithmetic ≡ true }
-    ensures { Gives (IsOfTwo arithmetic (constants_of S.Semantics) round x y) result }
-{
-    match arithmetic {
-        Arithmetic::Sum => x.add_r(y, round),
-        Arithmetic::Difference => x.sub_r(y, round),
-        Arithmetic::Product => x.mul_r(y, round),
-        Arithmetic::Quotient => x.div_r(y, round),
-        Arithmetic::NearestRemainder => x.ieee_rem(y),
-        Arithmetic::TruncatedRemainder => x.c_fmod(y),
-    }
+    let (x, y) = (S::from_bits(x), S::from_bits(y));
+    Ok(written(arithmetic.answer(x, y, round)))
 }
 
 /// A product plus a third value, rounded once.

@@ -4,24 +4,17 @@ use Rattle.rustc_apfloat.specs.declared.Round.{Round}
 use Rattle.rustc_apfloat.specs.Pairs.{Pair, pair_of, IsPairEncodedBy}
 use Rattle.rustc_apfloat.specs.PairAnswers.{OncePair}
 use Rattle.rustc_apfloat.specs.PairCalls.{IsPairFromUnsigned, IsPairReading}
-use Rattle.apfloat_pairs.proofs.PairsOnce.{pair_sum_once, pair_difference_once, pair_product_once}
-use Rattle.apfloat_pairs.proofs.CallsOnce.{pair_quotient_once, pair_nearest_remainder_once, pair_truncated_remainder_once, pair_from_unsigned_once, pair_reading_once}
+use Rattle.apfloat_pairs.proofs.CallsOnce.{pair_from_unsigned_once, pair_reading_once}
 use Rattle.apfloat_pairs.proofs.PairBits.{pair_encoded_once}
-use Rattle.commands.specs.declared.operation.Arithmetic.{Arithmetic}
-use Rattle.commands.specs.declared.operation.Arithmetic.TheVariants.{Sum, Difference, Product, Quotient, NearestRemainder, TruncatedRemainder}
-use Rattle.commands.specs.Commands.{of_pairs, bits_in, Call, of_two, fused_sum, from_whole_number, from_text, bits_of_word, requested, whole_number_of, with_text, with_two, with_whole_number}
-use Rattle.commands.specs.Replies.{Reply, line, IsAnsweredInPairs, IsOnly, IsPairAnswerOf, IsPairLineOf, IsPairOfTwo, IsReplyTo}
+use Rattle.dispatch.specs.declared.Arithmetic.{Arithmetic}
+use Rattle.dispatch.specs.Kinds.{of_pairs}
+use Rattle.dispatch.specs.OfTwo.{IsPairOfTwo}
+use Rattle.dispatch.proofs.OfTwoOnce.{pair_of_two_once}
+use Rattle.commands.specs.Commands.{bits_in, Call, of_two, fused_sum, from_whole_number, from_text, bits_of_word, requested, whole_number_of, with_text, with_two, with_whole_number}
+use Rattle.commands.specs.Replies.{Reply, line, IsAnsweredInPairs, IsOnly, IsPairAnswerOf, IsPairLineOf, IsReplyTo}
 use Rattle.commands.proofs.RepliesOnce.{only_with_two, only_with_whole_number, only_with_text}
 
 -- ---- one answer
-
-pair_of_two_once : (arithmetic : Arithmetic) (mode : Round) (x y : Pair) → OncePair (IsPairOfTwo arithmetic mode x y)
-pair_of_two_once Sum mode x y = pair_sum_once mode x y
-pair_of_two_once Difference mode x y = pair_difference_once mode x y
-pair_of_two_once Product mode x y = pair_product_once mode x y
-pair_of_two_once Quotient mode x y = pair_quotient_once mode x y
-pair_of_two_once NearestRemainder mode x y = pair_nearest_remainder_once x y
-pair_of_two_once TruncatedRemainder mode x y = pair_truncated_remainder_once x y
 
 pair_call_once : (call : Call) (mode : Round) → OncePair (IsPairAnswerOf call mode)
 pair_call_once (of_two arithmetic x y) mode = pair_of_two_once arithmetic mode (pair_of x) (pair_of y)

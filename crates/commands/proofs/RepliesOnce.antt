@@ -9,24 +9,17 @@ use Rattle.rustc_apfloat.specs.Lawful.{Constants, format_with}
 use Rattle.rustc_apfloat.specs.Specials.{Meaning}
 use Rattle.rustc_apfloat.specs.Texts.{Means}
 use Rattle.rustc_apfloat.specs.Readings.{IsReading, IsRefusal}
-use Rattle.apfloat_base.proofs.Once.{Once, sum_once, difference_once, product_once, quotient_once, fused_sum_once, remainder_once, from_unsigned_once}
+use Rattle.apfloat_base.proofs.Once.{Once, fused_sum_once, from_unsigned_once}
 use Rattle.apfloat_base.proofs.OneMeaning.{meaning_no_fault}
 use Rattle.apfloat_base.proofs.Determined.{reading_once}
-use Rattle.commands.specs.declared.operation.Arithmetic.{Arithmetic}
-use Rattle.commands.specs.declared.operation.Arithmetic.TheVariants.{Sum, Difference, Product, Quotient, NearestRemainder, TruncatedRemainder}
-use Rattle.commands.specs.Commands.{Kind, of_format, bits_in, Call, of_two, fused_sum, from_whole_number, from_text, bits_of_word, requested, whole_number_of, with_text, with_three, with_two, with_whole_number}
-use Rattle.commands.specs.Replies.{Reply, refused, IsAnswered, IsAnsweredIn, IsAnswerOf, IsLineOf, IsOfTwo, IsOnly, IsReplyTo, value_of}
+use Rattle.dispatch.specs.declared.Arithmetic.{Arithmetic}
+use Rattle.dispatch.specs.Kinds.{Kind, of_format, value_of}
+use Rattle.dispatch.specs.OfTwo.{IsOfTwo}
+use Rattle.dispatch.proofs.OfTwoOnce.{of_two_once}
+use Rattle.commands.specs.Commands.{bits_in, Call, of_two, fused_sum, from_whole_number, from_text, bits_of_word, requested, whole_number_of, with_text, with_three, with_two, with_whole_number}
+use Rattle.commands.specs.Replies.{Reply, refused, IsAnswered, IsAnsweredIn, IsAnswerOf, IsLineOf, IsOnly, IsReplyTo}
 
 -- ---- one answer
-
-of_two_once : (arithmetic : Arithmetic) (format : Format) (mode : Round) (x y : Datum)
-    → Once (IsOfTwo arithmetic format mode x y)
-of_two_once Sum format mode x y = sum_once format mode x y
-of_two_once Difference format mode x y = difference_once format mode x y
-of_two_once Product format mode x y = product_once format mode x y
-of_two_once Quotient format mode x y = quotient_once format mode x y
-of_two_once NearestRemainder format mode x y = remainder_once format _ x y
-of_two_once TruncatedRemainder format mode x y = remainder_once format _ x y
 
 call_once : (call : Call) (constants : Constants) (mode : Round) → Once (IsAnswerOf call constants mode)
 call_once (of_two arithmetic x y) constants mode =

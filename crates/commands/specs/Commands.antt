@@ -7,17 +7,14 @@ use Rattle.rustc_apfloat.specs.Lawful.{Constants}
 use Rattle.rustc_apfloat.specs.Formats.{half_constants, single_constants, double_constants, quad_constants, bfloat_constants, e5m2_constants, e4m3fn_constants, e4m3fnuz_constants, x87_constants}
 use Rattle.apfloat_base.specs.declared.parse_error.Fault.{Fault}
 use Rattle.rustc_apfloat.specs.Faults.{fault_of, words}
+use Rattle.dispatch.specs.declared.Arithmetic.{Arithmetic}
+use Rattle.dispatch.specs.declared.Arithmetic.TheVariants.{Sum, Difference, Product, Quotient, NearestRemainder, TruncatedRemainder}
+use Rattle.dispatch.specs.Kinds.{Kind, of_format, of_pairs}
+use Rattle.dispatch.specs.OfTwo.{has_operation}
 use Rattle.commands.specs.declared.operation.Operation.{Operation}
 use Rattle.commands.specs.declared.operation.Operation.TheVariants.{OfTwo, FusedSum, WholeNumber, Text}
-use Rattle.commands.specs.declared.operation.Arithmetic.{Arithmetic}
-use Rattle.commands.specs.declared.operation.Arithmetic.TheVariants.{Sum, Difference, Product, Quotient, NearestRemainder, TruncatedRemainder}
 
 -- ---- the words that are known
-
--- a kind of values: those of a format with such constants, or pairs of doubles
-pub data Kind : Type 0 where
-  of_format : Constants → Kind
-  of_pairs : Kind
 
 abbrev pub formats : List (List ℕ × Kind)
 formats =
@@ -68,18 +65,10 @@ operand_count FusedSum = 3
 operand_count WholeNumber = 1
 operand_count Text = 1
 
--- a product needs a precision of 64 at most, for its digits; a fused sum one of 63
-abbrev pub may_compute : ℕ → Arithmetic → Bool
-may_compute precision Sum = true
-may_compute precision Difference = true
-may_compute precision Product = nat_le precision 64
-may_compute precision Quotient = true
-may_compute precision NearestRemainder = true
-may_compute precision TruncatedRemainder = true
-
--- whether a format of that precision has the operation
+-- whether a format of that precision has the operation: a product needs one of 64 at most, for its digits, a fused sum
+-- one of 63
 abbrev pub is_supported : ℕ → Operation → Bool
-is_supported precision (OfTwo arithmetic) = may_compute precision arithmetic
+is_supported precision (OfTwo arithmetic) = has_operation (nat_le precision 64) arithmetic
 is_supported precision FusedSum = nat_le precision 63
 is_supported precision WholeNumber = true
 is_supported precision Text = true

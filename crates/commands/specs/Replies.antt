@@ -7,25 +7,18 @@ use Rattle.std.specs.declared.io.ErrorKind.{ErrorKind}
 use Rattle.std.specs.declared.io.ErrorKind.TheVariants.{OutOfMemory}
 use Rattle.rustc_apfloat.specs.declared.Round.{Round}
 use Rattle.rustc_apfloat.specs.Flags.{bits_of}
-use Rattle.rustc_apfloat.specs.Format.{Format}
 use Rattle.rustc_apfloat.specs.Datum.{Datum}
-use Rattle.rustc_apfloat.specs.Sums.{IsSum, IsDifference}
-use Rattle.rustc_apfloat.specs.Products.{IsProduct}
-use Rattle.rustc_apfloat.specs.Quotients.{IsQuotient}
 use Rattle.rustc_apfloat.specs.FusedSums.{IsFusedSum}
-use Rattle.rustc_apfloat.specs.Remainders.{IsNearestRemainder, IsTruncatedRemainder}
 use Rattle.rustc_apfloat.specs.WholeNumbers.{IsFromUnsigned}
 use Rattle.rustc_apfloat.specs.Readings.{IsReading}
-use Rattle.rustc_apfloat.specs.Layout.{datum_of, IsEncodedBy}
+use Rattle.rustc_apfloat.specs.Layout.{IsEncodedBy}
 use Rattle.rustc_apfloat.specs.Lawful.{Constants, format_with, layout_with}
 use Rattle.rustc_apfloat.specs.Pairs.{Pair, pair_of, IsPairEncodedBy}
-use Rattle.rustc_apfloat.specs.PairSums.{IsPairSum, IsPairDifference}
-use Rattle.rustc_apfloat.specs.PairProducts.{IsPairProduct}
-use Rattle.rustc_apfloat.specs.PairCalls.{IsPairQuotient, IsPairNearestRemainder, IsPairTruncatedRemainder, IsPairFromUnsigned, IsPairReading}
+use Rattle.rustc_apfloat.specs.PairCalls.{IsPairFromUnsigned, IsPairReading}
 use Rattle.commands.specs.declared.reply.Reply as program
-use Rattle.commands.specs.declared.operation.Arithmetic.{Arithmetic}
-use Rattle.commands.specs.declared.operation.Arithmetic.TheVariants.{Sum, Difference, Product, Quotient, NearestRemainder, TruncatedRemainder}
-use Rattle.commands.specs.Commands.{Kind, of_format, of_pairs, bits_in, Call, of_two, fused_sum, from_whole_number, from_text, Request, asked}
+use Rattle.dispatch.specs.Kinds.{Kind, of_format, of_pairs, value_of}
+use Rattle.dispatch.specs.OfTwo.{IsOfTwo, IsPairOfTwo}
+use Rattle.commands.specs.Commands.{bits_in, Call, of_two, fused_sum, from_whole_number, from_text, Request, asked}
 
 -- bits with the number of their hexadecimal digits and the flags, or the word of a refusal
 pub data Reply : Type 0 where
@@ -42,19 +35,6 @@ digit_count (line bits digits status) = digits
 digit_count (refused word) = 0
 
 -- ---- the reply
-
--- what an operation on two values of a format answers
-abbrev pub IsOfTwo : Arithmetic → Format → Round → Datum → Datum → Datum → ℕ → Type 0
-IsOfTwo Sum f mode x y value status = IsSum f mode x y value status
-IsOfTwo Difference f mode x y value status = IsDifference f mode x y value status
-IsOfTwo Product f mode x y value status = IsProduct f mode x y value status
-IsOfTwo Quotient f mode x y value status = IsQuotient f mode x y value status
-IsOfTwo NearestRemainder f mode x y value status = IsNearestRemainder f x y value status
-IsOfTwo TruncatedRemainder f mode x y value status = IsTruncatedRemainder f x y value status
-
--- the value that is written as bits
-abbrev pub value_of : Constants → ℕ → Datum
-value_of c bits = datum_of (format_with c) (layout_with c) bits
 
 -- what a call answers in a format
 abbrev pub IsAnswerOf : Call → Constants → Round → Datum → ℕ → Type 0
@@ -77,15 +57,6 @@ pub record IsAnswered (c : Constants) (mode : Round) (call : Call) (reply : Repl
   pub status : ℕ
   pub answers : IsAnswerOf call c mode value status
   pub is_line : IsLineOf c value status reply
-
--- what an operation on two pairs of doubles answers
-abbrev pub IsPairOfTwo : Arithmetic → Round → Pair → Pair → Pair → ℕ → Type 0
-IsPairOfTwo Sum mode x y value status = IsPairSum mode x y value status
-IsPairOfTwo Difference mode x y value status = IsPairDifference mode x y value status
-IsPairOfTwo Product mode x y value status = IsPairProduct mode x y value status
-IsPairOfTwo Quotient mode x y value status = IsPairQuotient mode x y value status
-IsPairOfTwo NearestRemainder mode x y value status = IsPairNearestRemainder x y value status
-IsPairOfTwo TruncatedRemainder mode x y value status = IsPairTruncatedRemainder x y value status
 
 -- what a call answers as a pair of doubles; a fused sum, which pairs do not have, nothing
 abbrev pub IsPairAnswerOf : Call → Round → Pair → ℕ → Type 0

@@ -1,31 +1,9 @@
-//! What the program computes: its operations, and their answers in a format.
+//! What the program computes.
 
-ghost use Rattle.std.specs.Prelude.{◌≡◌, ◌<◌, true};
-ghost use Rattle.rustc_apfloat.specs.Flags.{Gives};
-ghost use Rattle.rustc_apfloat.specs.Types.{constants_of, format_of};
-ghost use Rattle.commands.specs.declared.operation.Operation.TheVariants.{OfTwo};
+ghost use Rattle.std.specs.Prelude.{◌≡◌};
 ghost use Rattle.commands.specs.Commands.{is_supported, operand_count};
-ghost use Rattle.commands.specs.Replies.{IsOfTwo};
 
-use rustc_apfloat::ieee::{IeeeFloat, Semantics};
-use rustc_apfloat::{Float, Round, StatusAnd};
-
-/// An operation on two values.
-#[derive(Clone, Copy, Debug)]
-pub enum Arithmetic {
-    /// The first plus the second.
-    Sum,
-    /// The first minus the second.
-    Difference,
-    /// The first times the second.
-    Product,
-    /// The first divided by the second.
-    Quotient,
-    /// The remainder by the whole number nearest to the quotient, a tie to the even one.
-    NearestRemainder,
-    /// The remainder by the quotient cut toward zero.
-    TruncatedRemainder,
-}
+use dispatch::Arithmetic;
 
 /// An operation.
 #[derive(Clone, Copy, Debug)]
@@ -58,29 +36,9 @@ impl Operation {
         ensures { result ≡ is_supported precision self }
     {
         match self {
-            Operation::OfTwo(Arithmetic::Product) => precision <= 64,
+            Operation::OfTwo(arithmetic) => arithmetic.is_supported(precision),
             Operation::FusedSum => precision <= 63,
             _ => true,
         }
-    }
-}
-
-/// The answer of an operation on two values.
-pub fn answer_of_two<S: Semantics>(
-    operation: Arithmetic,
-    round: Round,
-    x: IeeeFloat<S>,
-    y: IeeeFloat<S>,
-) -> StatusAnd<IeeeFloat<S>>
-    requires { is_supported S.PRECISION (OfTwo operation) ≡ true }
-    ensures { Gives (IsOfTwo operation (format_of S.Semantics) round x y) result }
-{
-    match operation {
-        Arithmetic::Sum => x.add_r(y, round),
-        Arithmetic::Difference => x.sub_r(y, round),
-        Arithmetic::Product => x.mul_r(y, round),
-        Arithmetic::Quotient => x.div_r(y, round),
-        Arithmetic::NearestRemainder => x.ieee_rem(y),
-        Arithmetic::TruncatedRemainder => x.c_fmod(y),
     }
 }

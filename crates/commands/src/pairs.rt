@@ -1,13 +1,15 @@
 //! Replies in pairs of doubles.
 
 ghost use Rattle.std.specs.Prelude.{◌≡◌, ◌≤◌, length, map, string_bytes};
-ghost use Rattle.rustc_apfloat.specs.Flags.{Gives, bits_of};
-ghost use Rattle.commands.specs.Commands.{bits_in, of_pairs, operand_count, pairs_have, provided, requested, with_operands, with_operation, with_text, with_two, with_whole_number};
-ghost use Rattle.commands.specs.Replies.{IsOnly, IsPairLineOf, IsPairOfTwo, IsReplyTo, digit_count, reply_of};
+ghost use Rattle.rustc_apfloat.specs.Flags.{bits_of};
+ghost use Rattle.dispatch.specs.Kinds.{of_pairs};
+ghost use Rattle.commands.specs.Commands.{bits_in, operand_count, pairs_have, provided, requested, with_operands, with_operation, with_text, with_two, with_whole_number};
+ghost use Rattle.commands.specs.Replies.{IsOnly, IsPairLineOf, IsReplyTo, digit_count, reply_of};
 
-use crate::operation::{Arithmetic, Operation};
+use crate::operation::Operation;
 use crate::reply::Reply;
 use crate::words::{bits_of, named, number_of};
+use dispatch::Arithmetic;
 use rustc_apfloat::ppc::DoubleDouble;
 use rustc_apfloat::{Float, Round, StatusAnd};
 
@@ -63,26 +65,7 @@ fn of_two<'a>(operation: Arithmetic, round: Round, left: &'a str, right: &'a str
         return Reply::Refused(right);
     };
     let (x, y) = (DoubleDouble::from_bits(x), DoubleDouble::from_bits(y));
-    line(answer_of_two(operation, round, x, y))
-}
-
-/// The answer of an operation on two pairs.
-fn answer_of_two(
-    operation: Arithmetic,
-    round: Round,
-    x: DoubleDouble,
-    y: DoubleDouble,
-) -> StatusAnd<DoubleDouble>
-    ensures { Gives (IsPairOfTwo operation round x y) result }
-{
-    match operation {
-        Arithmetic::Sum => x.add_r(y, round),
-        Arithmetic::Difference => x.sub_r(y, round),
-        Arithmetic::Product => x.mul_r(y, round),
-        Arithmetic::Quotient => x.div_r(y, round),
-        Arithmetic::NearestRemainder => x.ieee_rem(y),
-        Arithmetic::TruncatedRemainder => x.c_fmod(y),
-    }
+    line(operation.answer(x, y, round))
 }
 
 /// A whole number, rounded to a pair.

@@ -4,12 +4,14 @@ ghost use Rattle.std.specs.Prelude.{◌≡◌, ◌≤◌, ◌<◌, length, map, 
 ghost use Rattle.rustc_apfloat.specs.Flags.{bits_of};
 ghost use Rattle.rustc_apfloat.specs.Types.{constants_of};
 ghost use Rattle.commands.specs.declared.operation.Operation.TheVariants.{OfTwo, FusedSum};
-ghost use Rattle.commands.specs.Commands.{bits_of_word, is_supported, of_format, operand_count, requested, with_format, with_operands, with_operation, with_three, with_two, with_text, with_whole_number};
+ghost use Rattle.dispatch.specs.Kinds.{of_format};
+ghost use Rattle.commands.specs.Commands.{bits_of_word, is_supported, operand_count, requested, with_format, with_operands, with_operation, with_three, with_two, with_text, with_whole_number};
 ghost use Rattle.commands.specs.Replies.{IsLineOf, IsOnly, IsReply, IsReplyTo, digit_count, reply_of};
 
-use crate::operation::{Arithmetic, Operation, answer_of_two};
+use crate::operation::Operation;
 use crate::pairs::answer_in_pairs;
 use crate::words::{ARGUMENTS, bits_of, named, number_of};
+use dispatch::Arithmetic;
 use rustc_apfloat::ieee::{
     BFloatS, DoubleS, Float8E4M3FNS, Float8E4M3FNUZS, Float8E5M2S, HalfS, IeeeFloat, QuadS,
     Semantics, SingleS, X87DoubleExtendedS,
@@ -139,7 +141,7 @@ fn of_two<'a, S: Semantics>(
     let Some(y) = bits_of(right, S::BITS) else {
         return Reply::Refused(right);
     };
-    line(answer_of_two(operation, round, S::from_bits(x), S::from_bits(y)))
+    line(operation.answer(S::from_bits(x), S::from_bits(y), round))
 }
 
 /// A product plus a third value, rounded once.

@@ -6,7 +6,8 @@ ghost use Rattle.std.specs.Result.{MatchResult};
 ghost use Rattle.rustc_apfloat.specs.Digits.{digit_value, every, is_decimal, is_hexadecimal, number};
 ghost use Rattle.commands.specs.Commands.{bits_of_digits, bits_of_word, found, modes, named, operations, whole_number_of};
 
-use crate::operation::{Arithmetic, Operation};
+use crate::operation::Operation;
+use dispatch::Arithmetic;
 use rustc_apfloat::Round;
 
 /// The operation of this name.

@@ -19,7 +19,7 @@ mod values;
 mod whole_numbers;
 
 use crate::calls::answer::Answer;
-use crate::fault::Fault;
+use crate::row_error::RowError;
 pub use answer::status_named;
 pub use row::{Row, row_of};
 use std::io;
@@ -28,7 +28,7 @@ use std::io::Write;
 const MODES: [&str; 5] = ["even", "up", "down", "zero", "away"];
 
 /// Whether a row agrees, in each mode that it names.
-pub fn agrees(row: Row<'_>) -> Result<bool, Fault<'_>> {
+pub fn agrees(row: Row<'_>) -> Result<bool, RowError<'_>> {
     if row.mode != "any" {
         return answer_of(row)?.is_of(row);
     }
@@ -40,7 +40,7 @@ pub fn agrees(row: Row<'_>) -> Result<bool, Fault<'_>> {
 }
 
 /// What the call of a row answers.
-fn answer_of(row: Row<'_>) -> Result<Answer, Fault<'_>> {
+fn answer_of(row: Row<'_>) -> Result<Answer, RowError<'_>> {
     formats::answer(row.asked()?, row.round()?, row)
 }
 

@@ -4,8 +4,8 @@ use crate::calls;
 use crate::calls::{Row, row_of};
 use crate::command_row::{CommandRow, Words};
 use crate::failure::Failure;
-use crate::fault::Fault;
 use crate::progress::Progress;
+use crate::row_error::RowError;
 use crate::tally::Tally;
 use std::alloc::{Allocator, Global};
 use std::io::{BufRead, Write};
@@ -69,7 +69,7 @@ impl Check {
 
     fn take_line<W: Write>(&mut self, line: &[u8], out: &mut W) -> Result<(), Failure> {
         let Ok(text) = str::from_utf8(line) else {
-            return self.take_fault(Fault::Encoding, out);
+            return self.take_error(RowError::Encoding, out);
         };
         match line_of(text) {
             Ok(Line::Skipped) => {
@@ -78,7 +78,7 @@ impl Check {
             }
             Ok(Line::Command(row)) => self.take_command(row, text, out),
             Ok(Line::Call(row)) => self.take_call(row, text, out),
-            Err(fault) => self.take_fault(fault, out),
+            Err(error) => self.take_error(error, out),
         }
     }
 
@@ -111,7 +111,7 @@ impl Check {
                 self.take_difference(text, out)?;
                 written(calls::write_answers(row, out))
             }
-            Err(fault) => self.take_fault(fault, out),
+            Err(error) => self.take_error(error, out),
         }
     }
 
@@ -123,15 +123,15 @@ impl Check {
     }
 
     /// Counts a line that is no row, and says why.
-    fn take_fault<W: Write>(&mut self, fault: Fault<'_>, out: &mut W) -> Result<(), Failure> {
+    fn take_error<W: Write>(&mut self, error: RowError<'_>, out: &mut W) -> Result<(), Failure> {
         self.tally.malformed = self.tally.malformed.saturating_add(1);
         let number = self.tally.lines();
-        written(writeln!(out, "line {number} malformed: {fault}"))
+        written(writeln!(out, "line {number} malformed: {error}"))
     }
 }
 
 /// What a text says.
-fn line_of(text: &str) -> Result<Line<'_>, Fault<'_>> {
+fn line_of(text: &str) -> Result<Line<'_>, RowError<'_>> {
     if text.starts_with('#') || text.trim().is_empty() {
         return Ok(Line::Skipped);
     }
@@ -142,7 +142,7 @@ fn line_of(text: &str) -> Result<Line<'_>, Fault<'_>> {
         Some((command, reply)) if !reply.contains('\t') => {
             Ok(Line::Command(CommandRow { command, reply }.checked()?))
         }
-        _ => Err(Fault::Columns(text.split('\t').count())),
+        _ => Err(RowError::Columns(text.split('\t').count())),
     }
 }
 

@@ -1,7 +1,7 @@
 //! Rows of commands: each is replied to as the program `vectors` does, and the reply compared with that of the row.
 
 use crate::calls::status_named;
-use crate::fault::Fault;
+use crate::row_error::RowError;
 use commands::{agrees, run};
 use std::alloc::{AllocError, Global};
 use std::io;
@@ -18,11 +18,11 @@ pub struct CommandRow<'a> {
 
 impl<'a> CommandRow<'a> {
     /// The row, if what it has as a reply has the form of one.
-    pub fn checked(self) -> Result<CommandRow<'a>, Fault<'a>> {
+    pub fn checked(self) -> Result<CommandRow<'a>, RowError<'a>> {
         if is_reply(self.reply) {
             Ok(self)
         } else {
-            Err(Fault::Reply(self.reply))
+            Err(RowError::Reply(self.reply))
         }
     }
 }

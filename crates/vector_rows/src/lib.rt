@@ -10,10 +10,10 @@ mod calls;
 mod check;
 mod command_row;
 mod failure;
-mod fault;
 mod help;
 mod program;
 mod progress;
+mod row_error;
 mod tally;
 
 pub use check::Check;

@@ -4,7 +4,7 @@ use std::fmt;
 
 /// What is wrong with a line.
 #[derive(Clone, Copy)]
-pub enum Fault<'a> {
+pub enum RowError<'a> {
     /// It is not UTF-8.
     Encoding,
     /// It has so many columns.
@@ -29,22 +29,22 @@ pub enum Fault<'a> {
     Extra(&'a str),
 }
 
-impl fmt::Display for Fault<'_> {
+impl fmt::Display for RowError<'_> {
     fn fmt<W: fmt::Write>(&self, f: &mut fmt::Formatter<W>) -> fmt::Result {
         match *self {
-            Fault::Encoding => f.write_str("it is not UTF-8"),
-            Fault::Columns(count) => {
+            RowError::Encoding => f.write_str("it is not UTF-8"),
+            RowError::Columns(count) => {
                 write!(f, "columns: {count}, and a command has 2, a call 7")
             }
-            Fault::Reply(word) => write!(f, "no reply: `{word}`"),
-            Fault::Call(word) => write!(f, "no call: `{word}`"),
-            Fault::Format(word) => write!(f, "no format: `{word}`"),
-            Fault::Unsupported(word) => write!(f, "no such call here: `{word}`"),
-            Fault::Mode(word) => write!(f, "no mode of the call: `{word}`"),
-            Fault::Operands(word) => write!(f, "no operands of the call: `{word}`"),
-            Fault::Value(word) => write!(f, "no value of the call: `{word}`"),
-            Fault::Status(word) => write!(f, "no flags of the call: `{word}`"),
-            Fault::Extra(word) => write!(f, "nothing that the call answers: `{word}`"),
+            RowError::Reply(word) => write!(f, "no reply: `{word}`"),
+            RowError::Call(word) => write!(f, "no call: `{word}`"),
+            RowError::Format(word) => write!(f, "no format: `{word}`"),
+            RowError::Unsupported(word) => write!(f, "no such call here: `{word}`"),
+            RowError::Mode(word) => write!(f, "no mode of the call: `{word}`"),
+            RowError::Operands(word) => write!(f, "no operands of the call: `{word}`"),
+            RowError::Value(word) => write!(f, "no value of the call: `{word}`"),
+            RowError::Status(word) => write!(f, "no flags of the call: `{word}`"),
+            RowError::Extra(word) => write!(f, "nothing that the call answers: `{word}`"),
         }
     }
 }

@@ -4,7 +4,7 @@ use crate::calls::order::{order_name, order_named};
 use crate::calls::quanta::{Quanta, is_word};
 use crate::calls::row::Row;
 use crate::calls::text::Text;
-use crate::fault::Fault;
+use crate::row_error::RowError;
 use commands::{bits_of, number_of, write_status};
 use rustc_apfloat::{Category, ExpInt, Flags, Status};
 use std::cmp::Ordering;
@@ -91,18 +91,18 @@ impl Answer {
     }
 
     /// Whether the answer is the one that a row has.
-    pub fn is_of<'a>(&self, row: Row<'a>) -> Result<bool, Fault<'a>> {
+    pub fn is_of<'a>(&self, row: Row<'a>) -> Result<bool, RowError<'a>> {
         let Some(has_status) = self.outcome.is_named(row.status) else {
-            return Err(Fault::Status(row.status));
+            return Err(RowError::Status(row.status));
         };
         let is_refused = row.status == "ParseError";
         let Some(has_extra) = self.extra.is_named(row.extra) else {
-            return Err(Fault::Extra(row.extra));
+            return Err(RowError::Extra(row.extra));
         };
         match self.value.is_named(row.value) {
             Some(has_value) => Ok(has_value && has_status && has_extra),
             None if is_refused => Ok(false),
-            None => Err(Fault::Value(row.value)),
+            None => Err(RowError::Value(row.value)),
         }
     }
 

@@ -4,7 +4,7 @@ use crate::calls::answer::{Answer, Extra};
 use crate::calls::call::{Direction, Operator, Quotient};
 use crate::calls::row::Row;
 use crate::calls::values::{one_value, two_values, word_of};
-use crate::fault::Fault;
+use crate::row_error::RowError;
 use rustc_apfloat::{Float, Round, StatusAnd};
 use std::fmt::Debug;
 
@@ -20,7 +20,7 @@ pub fn operated<F: Float + Debug>(
     operator: Operator,
     round: Option<Round>,
     row: Row<'_>,
-) -> Result<Answer, Fault<'_>> {
+) -> Result<Answer, RowError<'_>> {
     let (x, y) = two_values::<F>(row)?;
     let answer = match round {
         Some(round) => rounded(operator, round, x, y),
@@ -28,7 +28,7 @@ pub fn operated<F: Float + Debug>(
     };
     match answer {
         Some(answer) => Ok(valued(answer, row)),
-        None => Err(row.support_fault()),
+        None => Err(row.support_error()),
     }
 }
 
@@ -54,11 +54,14 @@ fn by_operator<F: Float>(operator: Operator, x: F, y: F) -> Option<StatusAnd<F>>
 }
 
 /// The answer of an operator that changes its left operand.
-pub fn assigned<F: Float + Debug>(operator: Operator, row: Row<'_>) -> Result<Answer, Fault<'_>> {
+pub fn assigned<F: Float + Debug>(
+    operator: Operator,
+    row: Row<'_>,
+) -> Result<Answer, RowError<'_>> {
     let (x, y) = two_values::<F>(row)?;
     match changed(operator, x, y) {
         Some(value) => Ok(Answer::silent(word_of(value, row))),
-        None => Err(row.support_fault()),
+        None => Err(row.support_error()),
     }
 }
 
@@ -76,7 +79,10 @@ fn changed<F: Float>(operator: Operator, x: F, y: F) -> Option<F> {
 }
 
 /// The answer of a remainder that has a name.
-pub fn remainder<F: Float + Debug>(quotient: Quotient, row: Row<'_>) -> Result<Answer, Fault<'_>> {
+pub fn remainder<F: Float + Debug>(
+    quotient: Quotient,
+    row: Row<'_>,
+) -> Result<Answer, RowError<'_>> {
     let (x, y) = two_values::<F>(row)?;
     let answer = match quotient {
         Quotient::Nearest => x.ieee_rem(y),
@@ -89,11 +95,11 @@ pub fn remainder<F: Float + Debug>(quotient: Quotient, row: Row<'_>) -> Result<A
 pub fn to_integral<F: Float + Debug>(
     round: Option<Round>,
     row: Row<'_>,
-) -> Result<Answer, Fault<'_>> {
+) -> Result<Answer, RowError<'_>> {
     let x = one_value::<F>(row)?;
     match round {
         Some(round) => Ok(valued(x.round_to_integral(round), row)),
-        None => Err(Fault::Mode(row.mode)),
+        None => Err(RowError::Mode(row.mode)),
     }
 }
 
@@ -101,7 +107,7 @@ pub fn to_integral<F: Float + Debug>(
 pub fn neighbour<F: Float + Debug>(
     direction: Direction,
     row: Row<'_>,
-) -> Result<Answer, Fault<'_>> {
+) -> Result<Answer, RowError<'_>> {
     let x = one_value::<F>(row)?;
     let answer = match direction {
         Direction::Up => x.next_up(),

@@ -3,7 +3,7 @@
 use crate::calls::answer::{Answer, Word};
 use crate::calls::row::Row;
 use crate::calls::values::word_of;
-use crate::fault::Fault;
+use crate::row_error::RowError;
 use rustc_apfloat::Float;
 use std::fmt::Debug;
 
@@ -58,9 +58,9 @@ impl Constant {
 }
 
 /// The answer of a constant.
-pub fn answer<F: Float + Debug>(constant: Constant, row: Row<'_>) -> Result<Answer, Fault<'_>> {
+pub fn answer<F: Float + Debug>(constant: Constant, row: Row<'_>) -> Result<Answer, RowError<'_>> {
     if row.operands != "-" {
-        return Err(row.operand_fault());
+        return Err(row.operand_error());
     }
     let word = match constant {
         Constant::Number(number) => number_of::<F>(number),

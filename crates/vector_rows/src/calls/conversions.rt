@@ -4,7 +4,7 @@ use crate::calls::answer::{Answer, Extra};
 use crate::calls::call::Call;
 use crate::calls::row::Row;
 use crate::calls::values::{one_value, word_of};
-use crate::fault::Fault;
+use crate::row_error::RowError;
 use rustc_apfloat::ieee::{IeeeFloat, Semantics};
 use rustc_apfloat::{FloatConvert, Round, StatusAnd};
 
@@ -13,9 +13,9 @@ pub fn converted<S: Semantics, T: Semantics>(
     call: Call,
     round: Option<Round>,
     row: Row<'_>,
-) -> Result<Answer, Fault<'_>> {
+) -> Result<Answer, RowError<'_>> {
     if !matches!(call, Call::Converted) {
-        return Err(row.support_fault());
+        return Err(row.support_error());
     }
     let x = one_value::<IeeeFloat<S>>(row)?;
     let mut loses_info = false;

@@ -7,7 +7,7 @@ use crate::calls::row::Row;
 use crate::calls::{
     arithmetic, constants, ieee, order, pairs, parts, questions, texts, whole_numbers,
 };
-use crate::fault::Fault;
+use crate::row_error::RowError;
 use conformance::own_formats::{
     BroadS, DeepS, HalfTinyBeforeS, LeastFiniteS, LeastS, PreciseS, SevenS, TenS, VastS,
     WrittenBitS,
@@ -20,7 +20,7 @@ use rustc_apfloat::ppc::DoubleDouble;
 use rustc_apfloat::{Float, Round};
 use std::fmt::Debug;
 
-// Calls a function with the format of a name as its last type argument; a fault for an unknown name.
+// Calls a function with the format of a name as its last type argument; an error for an unknown name.
 macro_rules! in_format {
     ($name:expr, $row:ident, $function:ident, [$($source:ident)?], $($argument:expr),+) => {
         match $name {
@@ -45,13 +45,13 @@ macro_rules! in_format {
             "expl14" => $function::<$($source,)? WrittenBitS>($($argument),+),
             "nan10" => $function::<$($source,)? TenS>($($argument),+),
             "halftbr" => $function::<$($source,)? HalfTinyBeforeS>($($argument),+),
-            _ => Err(Fault::Format($row.format)),
+            _ => Err(RowError::Format($row.format)),
         }
     };
 }
 
 /// The answer of a call in the format of a row, with this mode.
-pub fn answer(call: Call, round: Option<Round>, row: Row<'_>) -> Result<Answer, Fault<'_>> {
+pub fn answer(call: Call, round: Option<Round>, row: Row<'_>) -> Result<Answer, RowError<'_>> {
     match row.format.split_once('>') {
         Some(("dd", "fallback")) => pairs::joined(call, row),
         Some(("fallback", "dd")) => pairs::split(call, row),
@@ -68,11 +68,11 @@ fn converted_from<'a, S: Semantics>(
     round: Option<Round>,
     row: Row<'a>,
     target: &'a str,
-) -> Result<Answer, Fault<'a>> {
+) -> Result<Answer, RowError<'a>> {
     in_format!(target, row, converted, [S], call, round, row)
 }
 
-fn of_pairs(call: Call, round: Option<Round>, row: Row<'_>) -> Result<Answer, Fault<'_>> {
+fn of_pairs(call: Call, round: Option<Round>, row: Row<'_>) -> Result<Answer, RowError<'_>> {
     match call {
         Call::MagnitudesCompared => pairs::order_of_magnitudes(row),
         _ => of_type::<DoubleDouble>(call, round, row),
@@ -83,7 +83,7 @@ fn of_format<S: Semantics>(
     call: Call,
     round: Option<Round>,
     row: Row<'_>,
-) -> Result<Answer, Fault<'_>> {
+) -> Result<Answer, RowError<'_>> {
     match call {
         Call::MagnitudesCompared => ieee::order_of_magnitudes::<S>(row),
         Call::CountedRemainder => ieee::counted_remainder::<S>(row),
@@ -97,7 +97,7 @@ fn of_type<F: Float + Debug>(
     call: Call,
     round: Option<Round>,
     row: Row<'_>,
-) -> Result<Answer, Fault<'_>> {
+) -> Result<Answer, RowError<'_>> {
     match call {
         Call::Constant(constant) => constants::answer::<F>(constant, row),
         Call::Arithmetic(operator) => arithmetic::operated::<F>(operator, round, row),
@@ -120,7 +120,7 @@ fn part_of_type<F: Float + Debug>(
     call: Call,
     round: Option<Round>,
     row: Row<'_>,
-) -> Result<Answer, Fault<'_>> {
+) -> Result<Answer, RowError<'_>> {
     match call {
         Call::Scaled => parts::scaled::<F>(round, row),
         Call::Fraction => parts::fraction::<F>(round, row),
@@ -131,6 +131,6 @@ fn part_of_type<F: Float + Debug>(
         Call::Chosen(choice) => parts::chosen::<F>(choice, row),
         Call::Asked(question) => questions::answer::<F>(question, row),
         Call::Compared(comparison) => order::answer::<F>(comparison, row),
-        _ => Err(row.support_fault()),
+        _ => Err(row.support_error()),
     }
 }

@@ -3,7 +3,7 @@
 use crate::calls::answer::{Answer, Word};
 use crate::calls::row::Row;
 use crate::calls::values::two_values;
-use crate::fault::Fault;
+use crate::row_error::RowError;
 use rustc_apfloat::Float;
 use std::cmp::Ordering;
 
@@ -28,7 +28,7 @@ impl Comparison {
 }
 
 /// The answer of a comparison.
-pub fn answer<F: Float>(comparison: Comparison, row: Row<'_>) -> Result<Answer, Fault<'_>> {
+pub fn answer<F: Float>(comparison: Comparison, row: Row<'_>) -> Result<Answer, RowError<'_>> {
     let (x, y) = two_values::<F>(row)?;
     Ok(Answer::silent(compared(comparison, x, y)))
 }

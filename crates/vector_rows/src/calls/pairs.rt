@@ -7,7 +7,7 @@ use crate::calls::answer::{Answer, Word};
 use crate::calls::call::Call;
 use crate::calls::row::Row;
 use crate::calls::values::{one_value, two_values, word_of};
-use crate::fault::Fault;
+use crate::row_error::RowError;
 use rustc_apfloat::Float;
 use rustc_apfloat::ieee::{Double, FallbackS, IeeeFloat};
 use rustc_apfloat::ppc::DoubleDouble;
@@ -17,29 +17,29 @@ use std::cmp::Ordering;
 type Fallback = IeeeFloat<FallbackS>;
 
 /// The wide value of a pair.
-pub fn joined(call: Call, row: Row<'_>) -> Result<Answer, Fault<'_>> {
+pub fn joined(call: Call, row: Row<'_>) -> Result<Answer, RowError<'_>> {
     if !matches!(call, Call::Joined) {
-        return Err(row.support_fault());
+        return Err(row.support_error());
     }
     let x = one_value::<DoubleDouble>(row)?;
     Ok(Answer::silent(word_of(Fallback::from(x), row)))
 }
 
 /// The pair of a wide value.
-pub fn split(call: Call, row: Row<'_>) -> Result<Answer, Fault<'_>> {
+pub fn split(call: Call, row: Row<'_>) -> Result<Answer, RowError<'_>> {
     if !matches!(call, Call::Joined) {
-        return Err(row.support_fault());
+        return Err(row.support_error());
     }
     let x = one_value::<Fallback>(row)?;
     Ok(Answer::silent(word_of(DoubleDouble::from(x), row)))
 }
 
 /// The order of the magnitudes of two pairs that can be compared.
-pub fn order_of_magnitudes(row: Row<'_>) -> Result<Answer, Fault<'_>> {
+pub fn order_of_magnitudes(row: Row<'_>) -> Result<Answer, RowError<'_>> {
     let (x, y) = two_values(row)?;
     match order_of(x, y) {
         Some(order) => Ok(Answer::silent(Word::Order(Some(order)))),
-        None => Err(row.support_fault()),
+        None => Err(row.support_error()),
     }
 }
 

@@ -4,7 +4,7 @@ use crate::calls::answer::{Answer, Extra, Word};
 use crate::calls::call::{Change, NaN};
 use crate::calls::row::Row;
 use crate::calls::values::{one_value, two_values, value_of, word_of};
-use crate::fault::Fault;
+use crate::row_error::RowError;
 use commands::bits_of;
 use rustc_apfloat::{ExpInt, Float, Round};
 use std::fmt::Debug;
@@ -34,7 +34,7 @@ impl Choice {
 }
 
 /// The answer of a choice.
-pub fn chosen<F: Float + Debug>(choice: Choice, row: Row<'_>) -> Result<Answer, Fault<'_>> {
+pub fn chosen<F: Float + Debug>(choice: Choice, row: Row<'_>) -> Result<Answer, RowError<'_>> {
     let (x, y) = two_values::<F>(row)?;
     Ok(Answer::silent(word_of(choice_of(choice, x, y), row)))
 }
@@ -50,7 +50,10 @@ fn choice_of<F: Float>(choice: Choice, x: F, y: F) -> F {
 }
 
 /// The fraction and the exponent of a value.
-pub fn fraction<F: Float + Debug>(round: Option<Round>, row: Row<'_>) -> Result<Answer, Fault<'_>> {
+pub fn fraction<F: Float + Debug>(
+    round: Option<Round>,
+    row: Row<'_>,
+) -> Result<Answer, RowError<'_>> {
     let x = one_value::<F>(row)?;
     let mut exponent = 0;
     let fraction = match round {
@@ -65,11 +68,14 @@ pub fn fraction<F: Float + Debug>(round: Option<Round>, row: Row<'_>) -> Result<
 }
 
 /// A value times a power of two.
-pub fn scaled<F: Float + Debug>(round: Option<Round>, row: Row<'_>) -> Result<Answer, Fault<'_>> {
+pub fn scaled<F: Float + Debug>(
+    round: Option<Round>,
+    row: Row<'_>,
+) -> Result<Answer, RowError<'_>> {
     let (first, power) = row.two_operands()?;
     let x = value_of::<F>(first)?;
     let Ok(power) = power.parse::<ExpInt>() else {
-        return Err(row.operand_fault());
+        return Err(row.operand_error());
     };
     let value = match round {
         Some(round) => x.scalbn_r(power, round),
@@ -79,7 +85,7 @@ pub fn scaled<F: Float + Debug>(round: Option<Round>, row: Row<'_>) -> Result<An
 }
 
 /// The exact inverse of a value, or none.
-pub fn inverse<F: Float + Debug>(row: Row<'_>) -> Result<Answer, Fault<'_>> {
+pub fn inverse<F: Float + Debug>(row: Row<'_>) -> Result<Answer, RowError<'_>> {
     let x = one_value::<F>(row)?;
     Ok(Answer::silent(match x.get_exact_inverse() {
         Some(inverse) => word_of(inverse, row),
@@ -88,17 +94,17 @@ pub fn inverse<F: Float + Debug>(row: Row<'_>) -> Result<Answer, Fault<'_>> {
 }
 
 /// The canonical bits of the value of bits.
-pub fn bits<F: Float>(row: Row<'_>) -> Result<Answer, Fault<'_>> {
+pub fn bits<F: Float>(row: Row<'_>) -> Result<Answer, RowError<'_>> {
     if F::PRECISION < F::BITS {
         let x = one_value::<F>(row)?;
         Ok(Answer::silent(Word::Bits(x.to_bits(), F::BITS)))
     } else {
-        Err(row.support_fault())
+        Err(row.support_error())
     }
 }
 
 /// The NaN of a payload, which may be none.
-pub fn nan_of_payload<F: Float + Debug>(kind: NaN, row: Row<'_>) -> Result<Answer, Fault<'_>> {
+pub fn nan_of_payload<F: Float + Debug>(kind: NaN, row: Row<'_>) -> Result<Answer, RowError<'_>> {
     let payload = payload_of(row)?;
     let value = match kind {
         NaN::Quiet => F::qnan(payload),
@@ -108,18 +114,18 @@ pub fn nan_of_payload<F: Float + Debug>(kind: NaN, row: Row<'_>) -> Result<Answe
 }
 
 /// The payload that a row has as its operand, which may be none.
-fn payload_of(row: Row<'_>) -> Result<Option<u128>, Fault<'_>> {
+fn payload_of(row: Row<'_>) -> Result<Option<u128>, RowError<'_>> {
     if row.operands == "None" {
         return Ok(None);
     }
     match bits_of(row.operands, 128) {
         Some(payload) => Ok(Some(payload)),
-        None => Err(row.operand_fault()),
+        None => Err(row.operand_error()),
     }
 }
 
 /// A value changed.
-pub fn changed<F: Float + Debug>(change: Change, row: Row<'_>) -> Result<Answer, Fault<'_>> {
+pub fn changed<F: Float + Debug>(change: Change, row: Row<'_>) -> Result<Answer, RowError<'_>> {
     let x = one_value::<F>(row)?;
     let value = match change {
         Change::Negated => -x,

@@ -3,7 +3,7 @@
 use crate::calls::answer::{Answer, Word};
 use crate::calls::row::Row;
 use crate::calls::values::{one_value, shown};
-use crate::fault::Fault;
+use crate::row_error::RowError;
 use rustc_apfloat::Float;
 use std::fmt::Debug;
 
@@ -99,7 +99,7 @@ impl Signed {
 }
 
 /// The answer of a question.
-pub fn answer<F: Float + Debug>(question: Question, row: Row<'_>) -> Result<Answer, Fault<'_>> {
+pub fn answer<F: Float + Debug>(question: Question, row: Row<'_>) -> Result<Answer, RowError<'_>> {
     let x = one_value::<F>(row)?;
     Ok(Answer::silent(match question {
         Question::Class(class) => Word::Truth(is_of(class, x)),

@@ -4,7 +4,7 @@ ghost use Rattle.std.specs.Prelude.{◌≡◌, ◌++◌, ◌∷◌};
 ghost use Rattle.std.specs.Option.{IfSome};
 
 use crate::calls::call::{Call, call_with_mode, call_without_mode};
-use crate::fault::Fault;
+use crate::row_error::RowError;
 use commands::mode_named;
 use rustc_apfloat::Round;
 
@@ -62,61 +62,61 @@ fn cut_column(text: &str) -> Option<(&str, &str)>
 
 impl<'a> Row<'a> {
     /// The call of the row, in the form that its column of modes tells.
-    pub fn asked(self) -> Result<Call, Fault<'a>> {
+    pub fn asked(self) -> Result<Call, RowError<'a>> {
         let (with, without) = (call_with_mode(self.call), call_without_mode(self.call));
         match (self.mode, with, without) {
             ("-", _, Some(call)) => Ok(call),
-            ("-", Some(_), None) => Err(Fault::Mode(self.mode)),
+            ("-", Some(_), None) => Err(RowError::Mode(self.mode)),
             (_, Some(call), _) => Ok(call),
-            (_, None, Some(_)) => Err(Fault::Mode(self.mode)),
-            (_, None, None) => Err(Fault::Call(self.call)),
+            (_, None, Some(_)) => Err(RowError::Mode(self.mode)),
+            (_, None, None) => Err(RowError::Call(self.call)),
         }
     }
 
     /// The mode of the row, if it has one.
-    pub fn round(self) -> Result<Option<Round>, Fault<'a>> {
+    pub fn round(self) -> Result<Option<Round>, RowError<'a>> {
         if self.mode == "-" {
             return Ok(None);
         }
         match mode_named(self.mode) {
             Some(round) => Ok(Some(round)),
-            None => Err(Fault::Mode(self.mode)),
+            None => Err(RowError::Mode(self.mode)),
         }
     }
 
-    /// The fault of operands that the call does not have.
-    pub fn operand_fault(self) -> Fault<'a> {
-        Fault::Operands(self.operands)
+    /// The error of operands that the call does not have.
+    pub fn operand_error(self) -> RowError<'a> {
+        RowError::Operands(self.operands)
     }
 
-    /// The fault of a call that the format does not have.
-    pub fn support_fault(self) -> Fault<'a> {
-        Fault::Unsupported(self.call)
+    /// The error of a call that the format does not have.
+    pub fn support_error(self) -> RowError<'a> {
+        RowError::Unsupported(self.call)
     }
 
     /// The only operand.
-    pub fn one_operand(self) -> Result<&'a str, Fault<'a>> {
+    pub fn one_operand(self) -> Result<&'a str, RowError<'a>> {
         if self.operands.contains(' ') {
-            Err(self.operand_fault())
+            Err(self.operand_error())
         } else {
             Ok(self.operands)
         }
     }
 
     /// The two operands.
-    pub fn two_operands(self) -> Result<(&'a str, &'a str), Fault<'a>> {
+    pub fn two_operands(self) -> Result<(&'a str, &'a str), RowError<'a>> {
         match self.operands.split_once(' ') {
             Some((first, second)) => Ok((first, second)),
-            None => Err(self.operand_fault()),
+            None => Err(self.operand_error()),
         }
     }
 
     /// The three operands.
-    pub fn three_operands(self) -> Result<(&'a str, &'a str, &'a str), Fault<'a>> {
+    pub fn three_operands(self) -> Result<(&'a str, &'a str, &'a str), RowError<'a>> {
         let (first, others) = self.two_operands()?;
         match others.split_once(' ') {
             Some((second, third)) => Ok((first, second, third)),
-            None => Err(self.operand_fault()),
+            None => Err(self.operand_error()),
         }
     }
 }

@@ -4,23 +4,23 @@ use crate::calls::answer::Word;
 use crate::calls::quanta;
 use crate::calls::row::Row;
 use crate::calls::text::Text;
-use crate::fault::Fault;
+use crate::row_error::RowError;
 use commands::bits_of;
 use rustc_apfloat::Float;
 use std::fmt::{Debug, Write};
 
 /// The value that a word stands for: its bits, or in a format without bits a count of quanta.
-pub fn value_of<F: Float>(word: &str) -> Result<F, Fault<'_>> {
-    value_named(word).ok_or(Fault::Operands(word))
+pub fn value_of<F: Float>(word: &str) -> Result<F, RowError<'_>> {
+    value_named(word).ok_or(RowError::Operands(word))
 }
 
 /// The value of the only operand of a row.
-pub fn one_value<F: Float>(row: Row<'_>) -> Result<F, Fault<'_>> {
+pub fn one_value<F: Float>(row: Row<'_>) -> Result<F, RowError<'_>> {
     value_of(row.one_operand()?)
 }
 
 /// The values of the two operands of a row.
-pub fn two_values<F: Float>(row: Row<'_>) -> Result<(F, F), Fault<'_>> {
+pub fn two_values<F: Float>(row: Row<'_>) -> Result<(F, F), RowError<'_>> {
     let (first, second) = row.two_operands()?;
     Ok((value_of(first)?, value_of(second)?))
 }

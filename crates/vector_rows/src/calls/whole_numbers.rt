@@ -6,7 +6,7 @@ use crate::calls::answer::{Answer, Extra, Word};
 use crate::calls::arithmetic::valued;
 use crate::calls::row::Row;
 use crate::calls::values::value_of;
-use crate::fault::Fault;
+use crate::row_error::RowError;
 use commands::number_of;
 use rustc_apfloat::{Float, Round, StatusAnd};
 use std::fmt::Debug;
@@ -15,9 +15,9 @@ use std::fmt::Debug;
 pub fn from_unsigned<F: Float + Debug>(
     round: Option<Round>,
     row: Row<'_>,
-) -> Result<Answer, Fault<'_>> {
+) -> Result<Answer, RowError<'_>> {
     let Some(number) = number_of(row.operands) else {
-        return Err(row.operand_fault());
+        return Err(row.operand_error());
     };
     let answer = match round {
         Some(round) => F::from_u128_r(number, round),
@@ -30,9 +30,9 @@ pub fn from_unsigned<F: Float + Debug>(
 pub fn from_signed<F: Float + Debug>(
     round: Option<Round>,
     row: Row<'_>,
-) -> Result<Answer, Fault<'_>> {
+) -> Result<Answer, RowError<'_>> {
     let Ok(number) = row.operands.parse::<i128>() else {
-        return Err(row.operand_fault());
+        return Err(row.operand_error());
     };
     let answer = match round {
         Some(round) => F::from_i128_r(number, round),
@@ -42,12 +42,12 @@ pub fn from_signed<F: Float + Debug>(
 }
 
 /// The whole number without a sign of a value.
-pub fn to_unsigned<F: Float>(round: Option<Round>, row: Row<'_>) -> Result<Answer, Fault<'_>> {
+pub fn to_unsigned<F: Float>(round: Option<Round>, row: Row<'_>) -> Result<Answer, RowError<'_>> {
     let (word, width) = row.two_operands()?;
     let x = value_of::<F>(word)?;
     match width.parse::<usize>() {
         Ok(width) if width >= 1 && width <= 128 => Ok(unsigned(x, width, round)),
-        _ => Err(row.operand_fault()),
+        _ => Err(row.operand_error()),
     }
 }
 
@@ -70,12 +70,12 @@ fn unsigned<F: Float>(x: F, width: usize, round: Option<Round>) -> Answer
 }
 
 /// The whole number with a sign of a value.
-pub fn to_signed<F: Float>(round: Option<Round>, row: Row<'_>) -> Result<Answer, Fault<'_>> {
+pub fn to_signed<F: Float>(round: Option<Round>, row: Row<'_>) -> Result<Answer, RowError<'_>> {
     let (word, width) = row.two_operands()?;
     let x = value_of::<F>(word)?;
     match width.parse::<usize>() {
         Ok(width) if width >= 2 && width <= 128 => Ok(signed(x, width, round)),
-        _ => Err(row.operand_fault()),
+        _ => Err(row.operand_error()),
     }
 }
 

@@ -1,4 +1,4 @@
-use Rattle.commands.specs.Commands.{of_pairs}
+use Rattle.dispatch.specs.Kinds.{of_pairs}
 use Rattle.commands.proofs.RepliesOnce.{only_refusal}
 use Rattle.commands.proofs.PairRepliesOnce.{only_pair_text}
 use Rattle.commands.proofs.pairs.from_text.Goals as goal

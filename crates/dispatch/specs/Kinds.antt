@@ -1,0 +1,14 @@
+-- Kinds of values: those of a format, and pairs of doubles.
+use Rattle.std.specs.Prelude.{ℕ}
+use Rattle.rustc_apfloat.specs.Datum.{Datum}
+use Rattle.rustc_apfloat.specs.Layout.{datum_of}
+use Rattle.rustc_apfloat.specs.Lawful.{Constants, format_with, layout_with}
+
+-- a format goes by its constants
+pub data Kind : Type 0 where
+  of_format : Constants → Kind
+  of_pairs : Kind
+
+-- the value that is written as bits; those at and above the width of the format are not looked at
+abbrev pub value_of : Constants → ℕ → Datum
+value_of c bits = datum_of (format_with c) (layout_with c) bits
