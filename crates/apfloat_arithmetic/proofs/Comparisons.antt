@@ -1,5 +1,5 @@
 -- The order of data: by exponents and significands, and by where they stand.
-use Rattle.std.proofs.Common.{◌≡◌, ℕ, ◌+◌, ◌*◌, ◌^◌, ◌<◌, ◌≤◌, Bool, true, false, ℤ, pos, ◌<ℤ◌, zero, suc, Some, sym, refl, ap, ◌∙◌, arith}
+use Rattle.std.proofs.Common.{◌≡◌, ℕ, ◌+◌, ◌*◌, ◌^◌, ◌<◌, ◌≤◌, Bool, true, false, ℤ, pos, ◌<ℤ◌, zero, suc, Some, sym, refl, ap, ◌∙◌, subst, arith}
 use Rattle.std.specs.Prelude.{neg_ℤ}
 use Rattle.std.specs.Bool.{Decides}
 use Rattle.std.specs.declared.cmp.Ordering.{Ordering}
@@ -17,12 +17,13 @@ use Rattle.apfloat_base.specs.declared.kinds.Category.{Category}
 use Rattle.apfloat_base.specs.declared.kinds.Category.TheVariants.{Infinity, NaN, Normal, Zero}
 use Rattle.apfloat_base.specs.formats.Datum.{Datum, finite, infinite, nan}
 use Rattle.apfloat_base.specs.order.Classes.{is_nan, same_datum}
-use Rattle.apfloat_base.specs.order.Order.{number, compared}
+use Rattle.apfloat_base.specs.order.Order.{number, compared, compared_magnitudes}
 use Rattle.apfloat_unpacked.specs.declared.shape.Shape.{Shape}
 use Rattle.apfloat_unpacked.specs.declared.unpacked.Unpacked.{Unpacked}
-use Rattle.apfloat_unpacked.specs.Stored.{IsNormalAt, IsStored, IsStoredBy, datum_at, datum_by, quanta_at, unpacked_of}
+use Rattle.apfloat_unpacked.specs.Stored.{IsNormal, IsNormalAt, IsStored, IsStoredBy, datum_at, datum_by, quanta_at, quanta_of, unpacked_of}
 use Rattle.apfloat_unpacked.specs.StoredBack.{IsFull, top_of, full_low, full_high, normal_full, quanta_some, comes_back}
 use Rattle.apfloat_arithmetic.specs.Sides.{number_side, side}
+use Rattle.apfloat_arithmetic.proofs.SumCases.{datum_is}
 
 -- ---- two numbers with all their digits: the exponents come first
 
@@ -275,3 +276,15 @@ other_class shape x y a h k c e = e ∙ off_by _ (λ t.
       ap (λ u. u.negative) (stored_same shape x y h k t),
     ) in
     cc)
+
+-- ---- magnitudes of data
+
+-- the order of what is stored of two finite values that are not zero is that of their magnitudes
+pub magnitudes_compared : (shape : Shape) (x y : Unpacked) (order : Ordering) → x.category ≡ Normal
+    → y.category ≡ Normal → IsStored shape x → IsStored shape y
+    → (IsNormal shape x → IsNormal shape y → order ≡ nat_cmp (quanta_of shape x) (quanta_of shape y))
+    → order ≡ compared_magnitudes (datum_at shape x) (datum_at shape y)
+magnitudes_compared shape x y order x_normal y_normal x_stored y_stored h =
+    let left = subst (λ (k : Category). IsStoredBy k shape x) x_normal x_stored in
+    let right = subst (λ (k : Category). IsStoredBy k shape y) y_normal y_stored in
+    rw (datum_is Normal shape x x_normal, datum_is Normal shape y y_normal) (h left right)

@@ -1,4 +1,4 @@
-mod Comparisons
+pub mod Comparisons
 mod WholeQuotients
 mod NearestMultiples
 pub mod ProductExponents

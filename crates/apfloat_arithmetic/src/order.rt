@@ -3,9 +3,8 @@
 ghost use Rattle.std.specs.Prelude.{◌≡◌};
 ghost use Rattle.std.specs.Bool.{Decides};
 ghost use Rattle.std.specs.Ordering.{nat_cmp, int_cmp};
-ghost use Rattle.apfloat_base.specs.declared.kinds.Category.TheVariants.{Normal};
 ghost use Rattle.apfloat_base.specs.order.Classes.{is_nan, same_datum};
-ghost use Rattle.apfloat_base.specs.order.Order.{number, compared, compared_magnitudes};
+ghost use Rattle.apfloat_base.specs.order.Order.{number, compared};
 ghost use Rattle.apfloat_unpacked.specs.declared.shape.Shape.{Shape};
 ghost use Rattle.apfloat_unpacked.specs.Stored.{IsNormal, IsStored, datum_at, quanta_of};
 ghost use Rattle.apfloat_arithmetic.specs.Sides.{side};
@@ -14,10 +13,10 @@ use apfloat_base::Category;
 use apfloat_unpacked::unpacked::Unpacked;
 use std::cmp::Ordering;
 
-/// The order of two numbers by their stored parts: their significands have all digits, so the exponents are compared
+/// The order of the magnitudes of two nonzero numbers: their significands have all digits, so the exponents are compared
 /// first.
 #[inline(always)]
-fn compare_significands(x: Unpacked, y: Unpacked) -> Ordering
+pub fn compare_magnitudes(x: Unpacked, y: Unpacked) -> Ordering
     ensures { (shape : Shape) → IsNormal shape x → IsNormal shape y
         → result ≡ nat_cmp (quanta_of shape x) (quanta_of shape y) }
 {
@@ -26,19 +25,8 @@ fn compare_significands(x: Unpacked, y: Unpacked) -> Ordering
         .then(x.significand.cmp(&y.significand))
 }
 
-/// The order of the magnitudes of two nonzero numbers.
-#[inline(always)]
-pub fn compare_magnitudes(x: Unpacked, y: Unpacked) -> Ordering
-    requires left { x.category ≡ Normal }
-    requires right { y.category ≡ Normal }
-    ensures { (shape : Shape) → IsStored shape x → IsStored shape y
-        → result ≡ compared_magnitudes (datum_at shape x) (datum_at shape y) }
-{
-    compare_significands(x, y)
-}
-
-#[inline(always)]
 /// Whether a value is a NaN.
+#[inline(always)]
 fn is_nan(x: Unpacked) -> bool
     ensures { (shape : Shape) → result ≡ is_nan (datum_at shape x) }
 {
@@ -73,9 +61,9 @@ fn compare_beside(x: Unpacked, y: Unpacked) -> Ordering
     match x.category {
         Category::Normal => {
             if x.negative {
-                compare_significands(y, x)
+                compare_magnitudes(y, x)
             } else {
-                compare_significands(x, y)
+                compare_magnitudes(x, y)
             }
         }
         Category::Infinity => Ordering::Equal,

@@ -105,9 +105,10 @@ fn converted_zero(into: Shape, negative: bool) -> Converted
     kept(zero, zero.negative != negative)
 }
 
-/// A value of one format in another, by its category.
-#[inline(always)]
-fn convert_by_category(from: Shape, into: Shape, x: Unpacked, round: Round) -> Converted
+/// A value of one format in another, kept out of line, so that only the case of a number that is rounded is inlined.
+#[cold]
+#[inline(never)]
+fn convert_apart(from: Shape, into: Shape, x: Unpacked, round: Round) -> Converted
     requires from { IsShape from }
     requires into { IsShape into }
     requires x { IsStored from x }
@@ -123,22 +124,6 @@ fn convert_by_category(from: Shape, into: Shape, x: Unpacked, round: Round) -> C
         Category::Infinity => converted_infinity(into, x.negative),
         Category::NaN => converted_nan(from, into, x),
     }
-}
-
-/// The same, kept out of line, so that only the case of a number that is rounded is inlined.
-#[cold]
-#[inline(never)]
-fn convert_apart(from: Shape, into: Shape, x: Unpacked, round: Round) -> Converted
-    requires from { IsShape from }
-    requires into { IsShape into }
-    requires x { IsStored from x }
-    ensures stored { IsStored into result.answer.value }
-    ensures converted { IsConversion (format_at from) (format_at into) round (datum_at from x)
-        (datum_at into result.answer.value) (bits_of result.answer.status) result.loses_info }
-    ensures exact { IsExactlyConverted (format_at from) (format_at into) (datum_at from x)
-        (datum_at into result.answer.value) (bits_of result.answer.status) result.loses_info }
-{
-    convert_by_category(from, into, x, round)
 }
 
 /// A value of one format in another, rounded once, and whether information was lost (IEEE 754-2008 5.4.2,

@@ -17,6 +17,9 @@ use apfloat_unpacked::rounding::deliver;
 use apfloat_unpacked::shape::{Shape, last_exponent};
 use apfloat_unpacked::unpacked::Unpacked;
 
+/// More places than this change no result.
+const SCALING_BOUND: ExpInt = 6_000_000;
+
 /// The count of places, limited to the range that rounding has to see: past it no result changes.
 #[inline(always)]
 pub fn clamped(places: ExpInt) -> ExpInt
@@ -25,10 +28,10 @@ pub fn clamped(places: ExpInt) -> ExpInt
         ⊎ (((result ≡ pos scaling_bound) × (pos scaling_bound ≤ℤ places))
         ⊎ ((result ≡ neg_ℤ (pos scaling_bound)) × (places ≤ℤ neg_ℤ (pos scaling_bound)))) }
 {
-    if places > 6000000 {
-        6000000
-    } else if places < -6000000 {
-        -6000000
+    if places > SCALING_BOUND {
+        SCALING_BOUND
+    } else if places < -SCALING_BOUND {
+        -SCALING_BOUND
     } else {
         places
     }

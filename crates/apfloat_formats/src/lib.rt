@@ -5,7 +5,7 @@
 
 pub mod formats;
 
-pub use apfloat_ieee::{IeeeFloat, NonfiniteBehavior, Semantics, normalize};
+pub use apfloat_ieee::{IeeeFloat, NonfiniteBehavior, Semantics, deliver};
 pub use formats::{
     BFloat, BFloatS, Double, DoubleS, FallbackExtendedS, FallbackS, Float8E4M3FN, Float8E4M3FNS,
     Float8E4M3FNUZ, Float8E4M3FNUZS, Float8E5M2, Float8E5M2S, Half, HalfS, Quad, QuadS, Single,

@@ -19,7 +19,7 @@ use crate::semantics::Semantics;
 use apfloat_base::sig::Loss;
 use apfloat_base::{ExpInt, Round, StatusAnd};
 use apfloat_unpacked::bits::{self, Widths};
-use apfloat_unpacked::rounding::deliver;
+use apfloat_unpacked::rounding;
 use apfloat_unpacked::shape::Shape;
 use apfloat_unpacked::unpacked::Unpacked;
 use std::marker::{Model, PhantomData};
@@ -148,12 +148,12 @@ impl<S: Semantics> IeeeFloat<S> {
 /// If something was lost below, the unit must be fine enough to divide the spacing of the format there: it is at most
 /// the quantum, or the significand has all digits of the format.
 #[inline]
-pub fn normalize<S: Semantics>(
-    negative: bool,
+pub fn deliver<S: Semantics>(
     significand: u128,
     exponent: ExpInt,
     loss: Loss,
     round: Round,
+    negative: bool,
 ) -> StatusAnd<IeeeFloat<S>>
     requires within { IsWithin exponent_bound exponent }
     requires fine { (loss ≡ Loss.ExactlyZero)
@@ -163,7 +163,7 @@ pub fn normalize<S: Semantics>(
         → 0 < parts → StandsFor significand loss (amount * 2 ^ down unit) (parts * 2 ^ up unit)
         → Gives (IsDelivered (format_of S.Semantics) round negative amount parts) result }
 {
-    IeeeFloat::answered(deliver(
+    IeeeFloat::answered(rounding::deliver(
         shape_of::<S>(),
         significand,
         exponent,

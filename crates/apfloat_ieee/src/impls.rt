@@ -29,12 +29,13 @@ ghost use Rattle.apfloat_base.proofs.Encodings.{lawful_interchange};
 ghost use Rattle.apfloat_ieee.specs.Types.{constants_of, format_of, layout_of};
 
 use crate::ieee_float::{IeeeFloat, decode, encode, shape_of};
-use crate::products::{inverse, product, quotient};
+use crate::products::{product, quotient};
 use crate::remainders::truncated;
 use crate::semantics::Semantics;
 use crate::sums::{difference, sum};
 use crate::texts::read;
 use apfloat_arithmetic::classes::is_denormal;
+use apfloat_arithmetic::inverses::exact_inverse;
 use apfloat_arithmetic::order::{compare_magnitudes, is_same};
 use apfloat_arithmetic::remainders::nearest_remainder;
 use apfloat_base::{Category, ExpInt, Float, ParseError, Round, StatusAnd};
@@ -334,7 +335,10 @@ impl<S: Semantics> Float for IeeeFloat<S> {
 
     #[inline]
     fn get_exact_inverse(self) -> Option<Self> {
-        inverse(self)
+        match exact_inverse(shape_of::<S>(), self.unpacked()) {
+            Some(inverse) => Some(IeeeFloat::packed(inverse)),
+            None => None,
+        }
     }
 
     #[inline]

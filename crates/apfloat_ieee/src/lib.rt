@@ -18,5 +18,5 @@ pub mod sums;
 pub mod texts;
 
 pub use apfloat_base::NonfiniteBehavior;
-pub use ieee_float::{IeeeFloat, normalize};
+pub use ieee_float::{IeeeFloat, deliver};
 pub use semantics::Semantics;

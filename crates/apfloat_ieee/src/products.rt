@@ -1,4 +1,4 @@
-//! Products, quotients and exact inverses of values of one format, and the operators `*`, `/`, `*=` and `/=`.
+//! Products and quotients of values of one format, and the operators `*`, `/`, `*=` and `/=`.
 
 ghost use Rattle.std.specs.Prelude.{◌≡◌, ◌≤◌};
 ghost use Rattle.apfloat_base.specs.declared.kinds.Round.TheVariants.{NearestTiesToEven};
@@ -11,7 +11,6 @@ ghost use Rattle.apfloat_ieee.specs.Types.{format_of};
 
 use crate::ieee_float::{IeeeFloat, shape_of};
 use crate::semantics::Semantics;
-use apfloat_arithmetic::inverses::exact_inverse;
 use apfloat_arithmetic::products::multiply;
 use apfloat_arithmetic::quotients::divide;
 use apfloat_base::{Round, StatusAnd};
@@ -41,17 +40,6 @@ pub(crate) fn quotient<S: Semantics>(
     ensures { Gives (IsQuotient (format_of S.Semantics) round x y) result }
 {
     IeeeFloat::answered(divide(shape_of::<S>(), x.unpacked(), y.unpacked(), round))
-}
-
-/// The exact inverse of a value, if the format has it.
-#[inline]
-pub(crate) fn inverse<S: Semantics>(x: IeeeFloat<S>) -> Option<IeeeFloat<S>>
-    ensures { IsExactInverse (format_of S.Semantics) x result }
-{
-    match exact_inverse(shape_of::<S>(), x.unpacked()) {
-        Some(inverse) => Some(IeeeFloat::packed(inverse)),
-        None => None,
-    }
 }
 
 impl<S: Semantics> Mul for IeeeFloat<S> {

@@ -6,6 +6,7 @@ use Rattle.std.specs.Int.{w128}
 use Rattle.apfloat_base.specs.declared.kinds.Round.{Round}
 use Rattle.apfloat_base.specs.declared.status.StatusAnd.{StatusAnd}
 use Rattle.apfloat_base.specs.declared.sig.loss.Loss.{Loss}
+use Rattle.apfloat_base.specs.rounding.Bounds.{IsWithin}
 use Rattle.apfloat_base.specs.rounding.Flags.{bits_of}
 use Rattle.apfloat_base.specs.texts.Digits.{is_empty}
 use Rattle.apfloat_base.specs.texts.Faults.{behind_prefix_fault}
@@ -16,7 +17,7 @@ use Rattle.apfloat_unpacked.specs.declared.unpacked.Unpacked.{Unpacked}
 use Rattle.apfloat_unpacked.specs.Shapes.{format_at}
 use Rattle.apfloat_unpacked.specs.Stored.{IsStored, datum_at}
 use Rattle.apfloat_texts.specs.Scans.{IsScanned}
-use Rattle.apfloat_texts.specs.Saturation.{fault_behind}
+use Rattle.apfloat_texts.specs.Saturation.{count_bound, fault_behind}
 use Rattle.apfloat_texts.specs.LiteralParts.{IsLiteralRead}
 
 -- ---- the number behind the prefix
@@ -55,6 +56,8 @@ some_text [] h = sym h
 some_text (c ∷ rest) h = refl
 
 -- an exponent that is counted fits its type
-pub exponent_fits : (e : ℤ) → e ≤ℤ pos (2 ^ 100) → neg_ℤ (pos (2 ^ 100)) ≤ℤ e → FitsSigned w128 e
-exponent_fits (pos n) h l = let m : n ≤ 2 ^ 100 = omega (arith, ints, h) in record { sfits = omega (arith, m) }
-exponent_fits (negsuc n) h l = let m : n < 2 ^ 100 = omega (arith, ints, l) in record { sfits = omega (arith, m) }
+pub exponent_fits : (e : ℤ) → IsWithin count_bound e → FitsSigned w128 e
+exponent_fits (pos n) within = let m : n ≤ 2 ^ 100 = omega (arith, ints, within.high) in
+    record { sfits = omega (arith, m) }
+exponent_fits (negsuc n) within = let m : n < 2 ^ 100 = omega (arith, ints, within.low) in
+    record { sfits = omega (arith, m) }

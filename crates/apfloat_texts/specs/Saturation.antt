@@ -5,9 +5,17 @@ use Rattle.apfloat_base.specs.declared.parse_error.Fault.TheVariants.{WrongInSig
 use Rattle.apfloat_base.specs.texts.Digits.{every, begins, is_empty, is_decimal, digit_value, number}
 use Rattle.apfloat_base.specs.texts.Faults.{is_p, tail_fault}
 
+-- from here a count is not increased any further
+abbrev pub far_bound : ℕ
+far_bound = 2 ^ 96
+
+-- counts and exponents stay below it, and so fit 128 bits with a sign
+abbrev pub count_bound : ℕ
+count_bound = 2 ^ 100
+
 -- the exact count, or some count that is too large like the exact one
 abbrev pub IsSaturated : ℕ → ℕ → Type 0
-IsSaturated exact counted = (counted ≡ exact) ⊎ ((2 ^ 96 ≤ counted) × (2 ^ 96 ≤ exact))
+IsSaturated exact counted = (counted ≡ exact) ⊎ ((far_bound ≤ counted) × (far_bound ≤ exact))
 
 -- the exact integer, or one on the same side where both are past the bound
 abbrev pub IsNear : ℕ → ℤ → ℤ → Type 0
@@ -23,7 +31,7 @@ decimal_from n digits = fold (λ n c. n * 10 + digit_value c) n digits
 pub record IsCounted (digits left : List ℕ) (counted : ℕ) : Type 0 where
   pub read : ℕ
   pub saturated : IsSaturated read counted
-  pub fits : counted < 2 ^ 100
+  pub fits : counted < count_bound
   pub number_is : number 10 digits ≡ decimal_from read left
   pub every_is : every is_decimal digits ≡ every is_decimal left
 

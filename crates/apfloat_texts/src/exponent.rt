@@ -1,12 +1,12 @@
 //! The exponent of a hexadecimal text.
 
-ghost use Rattle.std.specs.Prelude.{◌≡◌, ℕ, ◌+◌, ◌*◌, ◌^◌, ◌<◌, ℤ, pos, neg_ℤ, ◌+ℤ◌, ◌-ℤ◌, ◌≤ℤ◌, drop, Some, None, MatchResult};
+ghost use Rattle.std.specs.Prelude.{◌≡◌, ℕ, ◌+◌, ◌*◌, ◌<◌, ℤ, pos, ◌+ℤ◌, ◌-ℤ◌, ◌≤ℤ◌, drop, Some, None, MatchResult};
 ghost use Rattle.apfloat_base.specs.rounding.Bounds.{IsWithin, text_bound};
 ghost use Rattle.apfloat_base.specs.texts.Digits.{number};
 ghost use Rattle.apfloat_base.specs.texts.Specials.{behind_mark};
 ghost use Rattle.apfloat_base.specs.texts.Faults.{exponent_fault};
 ghost use Rattle.apfloat_base.specs.texts.Literals.{exponent_number};
-ghost use Rattle.apfloat_texts.specs.Saturation.{IsSaturated, IsNear, fault_behind};
+ghost use Rattle.apfloat_texts.specs.Saturation.{IsSaturated, IsNear, count_bound, far_bound, fault_behind};
 
 use crate::characters::{digit_value, is_decimal};
 use crate::mark::split_mark;
@@ -16,15 +16,18 @@ use apfloat_base::parse_error::Fault;
 /// A whole number that is not increased any further.
 const FAR: u128 = 1 << 96;
 
+/// Exponents of last digits farther from 0 than this change no result.
+const TEXT_BOUND: ExpInt = 1 << 22;
+
 /// The whole number followed by one more decimal digit, or some whole number of at least `FAR` in place of another such
 /// one.
 #[inline(always)]
 fn with_digit(number: u128, digit: u8) -> u128
     requires small { digit < 16 }
-    requires fits { number < 2 ^ 100 }
+    requires fits { number < count_bound }
     ensures saturated { (exact : ℕ) → IsSaturated exact number
         → IsSaturated (exact * 10 + digit) result }
-    ensures fits { result < 2 ^ 100 }
+    ensures fits { result < count_bound }
 {
     if number < FAR {
         number * 10 + u128::from(digit)
@@ -36,7 +39,7 @@ fn with_digit(number: u128, digit: u8) -> u128
 /// The whole number that decimal digits stand for.
 #[inline(always)]
 fn magnitude(digits: &[u8]) -> Result<u128, Fault>
-    ensures { MatchResult result (λ n. IsSaturated (number 10 digits.now) n × (n < 2 ^ 100)
+    ensures { MatchResult result (λ n. IsSaturated (number 10 digits.now) n × (n < count_bound)
         × (exponent_fault digits.now ≡ None))
         (λ fault. exponent_fault digits.now ≡ Some fault) }
 {
@@ -58,8 +61,8 @@ fn magnitude(digits: &[u8]) -> Result<u128, Fault>
 /// The exponent written after the letter.
 #[inline(always)]
 fn signed(text: &[u8]) -> Result<i128, Fault>
-    ensures { MatchResult result (λ e. IsNear (2 ^ 96) (exponent_number text.now) e
-        × (e ≤ℤ pos (2 ^ 100)) × (neg_ℤ (pos (2 ^ 100)) ≤ℤ e)
+    ensures { MatchResult result (λ e. IsNear far_bound (exponent_number text.now) e
+        × IsWithin count_bound e
         × (exponent_fault (behind_mark text.now) ≡ None))
         (λ fault. exponent_fault (behind_mark text.now) ≡ Some fault) }
 {
@@ -75,8 +78,8 @@ fn signed(text: &[u8]) -> Result<i128, Fault>
 /// The exponent in the text after a significand; `some` says whether the significand has a digit.
 #[inline(always)]
 pub fn exponent_in(tail: &[u8], some: bool) -> Result<i128, Fault>
-    ensures { MatchResult result (λ e. IsNear (2 ^ 96) (exponent_number (drop 1 tail.now)) e
-        × (e ≤ℤ pos (2 ^ 100)) × (neg_ℤ (pos (2 ^ 100)) ≤ℤ e)
+    ensures { MatchResult result (λ e. IsNear far_bound (exponent_number (drop 1 tail.now)) e
+        × IsWithin count_bound e
         × (fault_behind some tail.now ≡ None))
         (λ fault. fault_behind some tail.now ≡ Some fault) }
 {
@@ -92,7 +95,7 @@ pub fn exponent_in(tail: &[u8], some: bool) -> Result<i128, Fault>
 /// The exponent of the last kept digit of a number with `cut` digits cut off and `places` digits after its dot.
 #[inline(always)]
 fn unit_of(exponent: i128, cut: usize, places: usize) -> i128
-    requires { IsWithin (2 ^ 100) exponent }
+    requires { IsWithin count_bound exponent }
     ensures { result ≡ (exponent +ℤ pos (4 * cut)) -ℤ pos (4 * places) }
 {
     exponent + 4 * cut as i128 - 4 * places as i128
@@ -104,10 +107,10 @@ fn clamped(exponent: i128) -> ExpInt
     ensures near { IsNear text_bound exponent result }
     ensures within { IsWithin text_bound result }
 {
-    if exponent > 4194304 {
-        4194304
-    } else if exponent < -4194304 {
-        -4194304
+    if exponent > TEXT_BOUND as i128 {
+        TEXT_BOUND
+    } else if exponent < -(TEXT_BOUND as i128) {
+        -TEXT_BOUND
     } else {
         exponent as ExpInt
     }
@@ -116,8 +119,8 @@ fn clamped(exponent: i128) -> ExpInt
 /// The exponent of the last kept digit, or one that is past every value on its side.
 #[inline(always)]
 pub fn unit_exponent(exponent: i128, cut: usize, places: usize) -> ExpInt
-    requires { IsWithin (2 ^ 100) exponent }
-    ensures near { (exact : ℤ) → IsNear (2 ^ 96) exact exponent
+    requires { IsWithin count_bound exponent }
+    ensures near { (exact : ℤ) → IsNear far_bound exact exponent
         → IsNear text_bound ((exact +ℤ pos (4 * cut)) -ℤ pos (4 * places)) result }
     ensures within { IsWithin text_bound result }
 {

@@ -6,7 +6,7 @@ ghost use Rattle.apfloat_base.specs.texts.Readings.{IsScaledDelivery};
 ghost use Rattle.apfloat_unpacked.specs.Shapes.{IsShape, format_at};
 ghost use Rattle.apfloat_unpacked.specs.Stored.{IsStored, GivesAt};
 ghost use Rattle.apfloat_texts.specs.Scans.{IsKept};
-ghost use Rattle.apfloat_texts.specs.Saturation.{IsNear};
+ghost use Rattle.apfloat_texts.specs.Saturation.{IsNear, count_bound, far_bound};
 
 use crate::exponent::unit_exponent;
 use crate::significand::Digits;
@@ -28,11 +28,11 @@ pub fn delivered(
 ) -> StatusAnd<Unpacked>
     requires lawful { IsShape shape }
     requires kept { (number : ℕ) × IsKept number digits.significand digits.loss digits.cut }
-    requires within { IsWithin (2 ^ 100) exponent }
+    requires within { IsWithin count_bound exponent }
     ensures stored { IsStored shape result.value }
     ensures delivered { (number : ℕ) (exact : ℤ)
         → IsKept number digits.significand digits.loss digits.cut
-        → IsNear (2 ^ 96) exact exponent
+        → IsNear far_bound exact exponent
         → GivesAt shape (IsScaledDelivery (format_at shape) round negative number
         ((exact -ℤ pos (4 * places)) +ℤ pos (format_at shape).scale)) result }
 {

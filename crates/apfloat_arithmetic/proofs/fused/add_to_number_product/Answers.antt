@@ -17,10 +17,10 @@ returns-in-Zero-clause-delivered c =
     let z = c.args.z in
     let l = quanta_at s.min_exp x.significand x.exponent in
     let m = quanta_at s.min_exp y.significand y.exponent in
-    let v = datum_at s c.product_alone.result.value in
-    let i = bits_of c.product_alone.result.status in
+    let v = datum_at s c.remade.result.value in
+    let i = bits_of c.remade.result.status in
     same_fused (format_at s) c.args.round (finite x.negative l) (finite y.negative m) (datum_at s z) v
     (finite z.negative 0) v i i (datum_is Zero s z c.in-Zero.is) refl refl
     (product_rounded (format_at s) c.args.round x.negative y.negative z.negative l m v i
     (quanta_some s x.significand x.exponent c.requires.left)
-    (quanta_some s y.significand y.exponent c.requires.right) c.product_alone.ensures.delivered)
+    (quanta_some s y.significand y.exponent c.requires.right) (rw c.remade.ensures c.rounded_product.ensures.delivered))

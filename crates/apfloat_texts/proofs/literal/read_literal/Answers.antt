@@ -18,15 +18,14 @@ delivered-requires-clause-kept c =
 pub delivered-requires-clause-within : goal.delivered-requires-clause-within
 delivered-requires-clause-within c =
     let e = c.in_ok-exponent.ensures in
-    rw (to_z-of_z w128 c.in_ok-exponent.exponent (exponent_fits c.in_ok-exponent.exponent e.1 e.2))
-    (record { low = e.2; high = e.1 })
+    rw (to_z-of_z w128 c.in_ok-exponent.exponent (exponent_fits c.in_ok-exponent.exponent e.1)) e.1
 
 pub returns : goal.returns
 returns c =
     let s = c.in_ok-scan.ensures in
     let e = c.in_ok-exponent.ensures in
     literal_read c.args.shape c.args.round c.args.negative c.args.rest.now _ _ _ _ _ _ c.delivered.result
-    (some_text c.args.rest.now c.if-is_empty.ensures) s e.3
+    (some_text c.args.rest.now c.if-is_empty.ensures) s e.2
     c.delivered.ensures.stored
     (c.delivered.ensures.delivered _ _ s.kept
-    (rw (to_z-of_z w128 c.in_ok-exponent.exponent (exponent_fits c.in_ok-exponent.exponent e.1 e.2)) e.0))
+    (rw (to_z-of_z w128 c.in_ok-exponent.exponent (exponent_fits c.in_ok-exponent.exponent e.1)) e.0))

@@ -1,6 +1,6 @@
 use Rattle.std.proofs.Common.{w32}
 use Rattle.std.proofs.lemmas.Int.{to_z-of_z}
-use Rattle.apfloat_ieee.proofs.ieee_float.normalize.Goals as goal
+use Rattle.apfloat_ieee.proofs.ieee_float.deliver.Goals as goal
 
 pub returns : goal.returns
 returns g c = λ amount parts u h.

@@ -1,6 +1,0 @@
-use Rattle.apfloat_ieee.proofs.products.inverse.Goals as goal
-
-pub returns-in-None : goal.returns-in-None
-returns-in-None g c =
-    let d = rw (c.shape_of.ensures.value, c.in-None.is) at c.exact_inverse.ensures.inverse in
-    rw c.unpacked.ensures.datum d
