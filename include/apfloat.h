@@ -5,12 +5,12 @@
  * codes are listed; on an error, *answer is unchanged.
  *
  * The library never allocates, keeps no state between calls, and calls no other functions. So its functions may be
- * called from any thread, and from a signal handler. They are defined for every value of every argument: no code, bit
- * pattern, width or text causes undefined behaviour. The caller must ensure that `answer` points to one apfloat_answer,
- * suitably aligned, which nothing else reads or writes during the call; that `text` points to `length` bytes of one
- * object, which nothing writes during the call; and that the two do not overlap. Pointers are not checked, and neither
- * may be null, `text` not even if `length` is 0. An operand may be the `bits` of the same answer, since it is passed by
- * value.
+ * called from any thread, and from a signal handler. Given valid pointers, they are defined for every value of every
+ * argument: no code, bit pattern, width or text causes undefined behaviour. The caller must ensure that `answer` points
+ * to one apfloat_answer, suitably aligned, which nothing else reads or writes during the call; that `text` points to
+ * `length` bytes of one object, which nothing writes during the call; and that the two do not overlap. Pointers are not
+ * checked, and neither may be null, `text` not even if `length` is 0. An operand may be the `bits` of the same answer,
+ * since it is passed by value.
  *
  * The result of each function is stated by the contract of its export in crates/apfloat_c, and proved. */
 #ifndef APFLOAT_H

@@ -13,8 +13,8 @@ use apfloat_base::Category;
 use apfloat_unpacked::unpacked::Unpacked;
 use std::cmp::Ordering;
 
-/// The order of the magnitudes of two nonzero numbers: their significands have all digits, so the exponents are compared
-/// first.
+/// The order of the magnitudes of two nonzero numbers: their significands have all digits, so the exponents are
+/// compared first.
 #[inline(always)]
 pub fn compare_magnitudes(x: Unpacked, y: Unpacked) -> Ordering
     ensures { (shape : Shape) → IsNormal shape x → IsNormal shape y

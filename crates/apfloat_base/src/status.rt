@@ -123,6 +123,7 @@ mod tests {
     use crate::unpack;
     use std::cmp::Ordering;
 
+    /// The status of an overflow.
     fn overflowed() -> Status {
         Status::OVERFLOW.union(Status::INEXACT)
     }

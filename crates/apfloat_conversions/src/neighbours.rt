@@ -109,7 +109,7 @@ fn next_less(shape: Shape, x: Unpacked) -> Unpacked
     }
 }
 
-/// The next value up from a finite number that is not zero.
+/// The next value up from a nonzero number.
 #[inline(always)]
 fn next_of_number(shape: Shape, x: Unpacked) -> Unpacked
     requires lawful { IsShape shape }

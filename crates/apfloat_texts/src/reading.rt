@@ -95,6 +95,7 @@ mod tests {
     use std::process::Abort;
     use std::test::Fail;
 
+    /// The shape of binary16.
     fn half() -> Shape
         ensures { IsShape result }
     {
@@ -108,6 +109,7 @@ mod tests {
         }
     }
 
+    /// Reads a text as a binary16 value, rounding upward.
     fn read_up(text: &str) -> Result<StatusAnd<Unpacked>, ParseError> {
         read(half(), text, Round::TowardPositive)
     }

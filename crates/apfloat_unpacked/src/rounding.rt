@@ -316,6 +316,7 @@ pub fn deliver(
 mod tests {
     use super::*;
 
+    /// The significand after cutting the lowest of a significand's digits to eleven, rounded to nearest, ties to even.
     fn cut_by_two(significand: u128, loss: Loss) -> u128
         requires { 2 ^ 10 ≤ significand }
     {

@@ -1,10 +1,10 @@
-//! One number for many results.
+//! One integer for many results.
 
 use rustc_apfloat::ieee::{IeeeFloat, Semantics};
 use rustc_apfloat::ppc::DoubleDouble;
 use rustc_apfloat::{Flags, Float, StatusAnd};
 
-/// The checksum of results in their order: of the flags and of the two halves of the bits of each.
+/// The checksum of results in order: of the flags and of the two halves of the bits of each.
 pub fn checksum_of<T: Written>(results: &[StatusAnd<T>]) -> u64 {
     let mut sum = 0;
     for result in results {
@@ -16,6 +16,7 @@ pub fn checksum_of<T: Written>(results: &[StatusAnd<T>]) -> u64 {
     sum
 }
 
+/// The checksum with one more word.
 fn with_word(sum: u64, word: u64) -> u64 {
     const PRIME: u128 = (1 << 61) - 1;
     ((u128::from(sum) * 31 + u128::from(word)) % PRIME) as u64
@@ -23,7 +24,7 @@ fn with_word(sum: u64, word: u64) -> u64 {
 
 /// A result with bits.
 pub trait Written: Copy {
-    /// Its bits.
+    /// The bits of the result.
     fn bits(self) -> u128;
 }
 

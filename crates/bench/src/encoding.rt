@@ -1,11 +1,11 @@
-//! How a format writes numbers, and the numbers that are drawn of it.
+//! How a format encodes numbers, and the numbers that are drawn from it.
 
 use crate::generator::Generator;
 use crate::operand_set::OperandSet;
 use apfloat_base::NonfiniteBehavior;
 use rustc_apfloat::ieee::Semantics;
 
-/// How a format with bits writes numbers.
+/// How a format with bits encodes numbers.
 #[derive(Clone, Copy, Debug)]
 pub struct Encoding {
     bits: usize,
@@ -13,12 +13,12 @@ pub struct Encoding {
     min_exp: i32,
     max_exp: i32,
     writes_integer_bit: bool,
-    // Whether all ones are the NaN among the greatest numbers.
+    // Whether the pattern of all ones, among the greatest numbers, is the NaN.
     all_ones_is_nan: bool,
 }
 
 impl Encoding {
-    /// That of a format.
+    /// The encoding of a format.
     pub fn of<S: Semantics>() -> Self {
         Encoding {
             bits: S::BITS,
@@ -50,7 +50,7 @@ impl Encoding {
         sign | exponent | significand
     }
 
-    /// The bits of the number with this sign and exponent, at least that of the least normal number.
+    /// The bits of the number with this sign and exponent; the exponent is at least that of the least normal number.
     pub fn normal_bits(self, is_negative: bool, exponent: i32, digits: u128) -> u128 {
         let field = exponent.max(self.min_exp).saturating_sub(self.min_exp);
         self.bits_of(is_negative, field.saturating_add(1), digits)
@@ -83,8 +83,8 @@ impl Encoding {
         }
     }
 
-    /// The bits of the next pair: an operand, and below it a number 54 to 64 binary places lower, or 0 where that is no
-    /// normal number of binary64.
+    /// The bits of the next pair: an operand, and a low part 54 to 64 binary places lower, or 0 if that is not a normal
+    /// number of binary64.
     pub fn pair(self, set: OperandSet, generator: &mut Generator) -> u128 {
         let high = self.operand(set, generator);
         let head = generator.word();
@@ -109,14 +109,14 @@ impl Encoding {
         )
     }
 
-    /// A denormal number of any count of digits, not zero.
+    /// A nonzero denormal number with any count of digits.
     fn denormal(self, is_negative: bool, digits: u128, generator: &mut Generator) -> u128 {
         let length = generator.exponent(1, self.precision.saturating_sub(1));
         let first = shifted(1, width(length.saturating_sub(1)));
         self.bits_of(is_negative, 0, digits & ones(width(length)) | first)
     }
 
-    /// The exponents of moderate numbers reach from minus this number to it.
+    /// The exponents of moderate numbers range from minus this integer to it.
     fn span(self) -> i32 {
         let half_the_digits = (self.precision / 2).saturating_add(2);
         half_the_digits
@@ -131,7 +131,7 @@ impl Encoding {
             .saturating_add(4)
     }
 
-    /// The next exponent of a text, of a number near the denormal ones or near 1.
+    /// The next exponent of a text, for a number near the denormal ones or near 1.
     pub fn exponent_of_text(self, is_small: bool, generator: &mut Generator) -> i32 {
         if is_small {
             let least = self.min_exp.saturating_sub(self.precision);
@@ -153,12 +153,12 @@ fn width(digits: i32) -> usize {
     usize::try_from(digits).unwrap_or(0)
 }
 
-/// As many ones.
+/// `count` ones.
 fn ones(count: usize) -> u128 {
     shifted(1, count).wrapping_sub(1)
 }
 
-/// A number with as many zeros after it.
+/// A bit pattern followed by that many zeros.
 fn shifted(number: u128, zeros: usize) -> u128 {
     if zeros < 128 { number << zeros } else { 0 }
 }

@@ -1,4 +1,4 @@
-//! Numbers that look random and are the same in each run.
+//! Integers that look random and are the same in each run.
 
 /// The state of Marsaglia's generator of 64 bits, `xorshift64`, which is never 0.
 #[derive(Clone, Copy, Debug)]
@@ -31,7 +31,7 @@ impl Generator {
         u128::from(high) << 64 | u128::from(low)
     }
 
-    /// The next number from 0 to `bound - 1`; 0 where there is none.
+    /// The next integer from 0 to `bound - 1`; 0 if there is none.
     pub fn below(&mut self, bound: u64) -> u64 {
         self.word().checked_rem(bound).unwrap_or(0)
     }

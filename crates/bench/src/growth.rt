@@ -18,7 +18,7 @@ use std::io;
 use std::rt::Clock;
 use std::time::Instant;
 
-/// Prints the time of reading a text by its length, of a remainder by the exponents' difference, and of a quotient by
+/// Prints the time of reading a text by its length, of a remainder by the difference of exponents, and of a quotient by
 /// its digits.
 pub fn print_growth(rt: &(impl Clock + Print + AllocGlobal)) -> io::Result<()> {
     print_readings(rt)?;
@@ -26,6 +26,7 @@ pub fn print_growth(rt: &(impl Clock + Print + AllocGlobal)) -> io::Result<()> {
     print_quotients(rt)
 }
 
+/// Prints a table of the times of reading a text, by its count of digits.
 fn print_readings(rt: &(impl Clock + Print + AllocGlobal)) -> io::Result<()> {
     println!(rt;
         "| Hexadecimal digits, read as a double | Nanoseconds | For each digit |\n|---|---|---|"
@@ -37,6 +38,7 @@ fn print_readings(rt: &(impl Clock + Print + AllocGlobal)) -> io::Result<()> {
     println!(rt; "")
 }
 
+/// The time of reading a text with `digits` digits as a double.
 fn time_of_reading(rt: &(impl Clock + AllocGlobal), digits: u64) -> io::Result<Nanoseconds> {
     let mut texts = Vec::new(rt.alloc());
     texts
@@ -50,7 +52,7 @@ fn time_of_reading(rt: &(impl Clock + AllocGlobal), digits: u64) -> io::Result<N
     Ok(Nanoseconds::of_each(times.with_answers(answers)))
 }
 
-/// A text with so many digits after the point, a multiple of 8.
+/// A text with `digits` digits after the point, a multiple of 8.
 fn long_text(alloc: Global, digits: u64) -> Result<String, AllocError> {
     let mut text = String::from_str(alloc, "0x1.")?;
     for _ in 0..digits / 8 {
@@ -59,6 +61,7 @@ fn long_text(alloc: Global, digits: u64) -> Result<String, AllocError> {
     Ok(text)
 }
 
+/// Prints a table of the times of remainders, by the difference of the operands' exponents.
 fn print_remainders(rt: &(impl Clock + Print + AllocGlobal)) -> io::Result<()> {
     println!(rt;
         "| Remainders in | Exponents' difference | c_fmod | For each | ieee_rem | For each |\n|---|---|---|---|---|---|"
@@ -75,6 +78,7 @@ fn print_remainders(rt: &(impl Clock + Print + AllocGlobal)) -> io::Result<()> {
     println!(rt; "")
 }
 
+/// Prints the row of a format and a difference of exponents.
 fn print_remainder<S: Semantics>(
     rt: &(impl Clock + Print + AllocGlobal),
     name: &str,
@@ -92,6 +96,7 @@ fn print_remainder<S: Semantics>(
     println!(rt; " {nearest} | {} |", nearest.part(steps))
 }
 
+/// The time of a remainder whose operands' exponents differ by `difference`.
 fn time_of_remainder<S: Semantics>(
     rt: &(impl Clock + AllocGlobal),
     operation: Operation,
@@ -107,6 +112,7 @@ fn time_of_remainder<S: Semantics>(
     Ok(Nanoseconds::of_each(times.with_answers(answers)))
 }
 
+/// Computes the remainder of each pair of operands.
 fn divide<S: Semantics>(
     operation: Operation,
     operands: &[[IeeeFloat<S>; 2]],
@@ -118,7 +124,7 @@ fn divide<S: Semantics>(
     }
 }
 
-/// Pairs of normal numbers whose exponents differ by so much.
+/// Pairs of normal numbers whose exponents differ by `difference`.
 fn apart<S: Semantics>(alloc: Global, difference: i32) -> Result<Vec<[IeeeFloat<S>; 2]>, AllocError>
     requires { S.PRECISION < S.BITS }
 {
@@ -145,6 +151,7 @@ static PRECISIONS: [(Kind, u64); 7] = [
     (Kind::Quad, 113),
 ];
 
+/// Prints a table of the times of quotients, by the precision.
 fn print_quotients(rt: &(impl Clock + Print + AllocGlobal)) -> io::Result<()> {
     println!(rt; "| Quotients in | Precision | Nanoseconds | For each digit |\n|---|---|---|---|")?;
     for (kind, precision) in PRECISIONS.iter() {
@@ -153,6 +160,7 @@ fn print_quotients(rt: &(impl Clock + Print + AllocGlobal)) -> io::Result<()> {
     Ok(())
 }
 
+/// Prints the row of a type and its precision.
 fn print_quotient(
     rt: &(impl Clock + Print + AllocGlobal),
     kind: Kind,

@@ -67,7 +67,7 @@ impl Kind {
         }
     }
 
-    /// What is known of an operation in this type; nothing where the type does not have it.
+    /// The measurements of an operation in this type, or nothing if the type does not have it.
     pub fn measured(
         self,
         rt: &(impl Clock + AllocGlobal),

@@ -1,13 +1,13 @@
-//! Does a fixed amount of work of each operation in each type, and tells what it answers and how long it takes.
+//! Does a fixed amount of work with each operation in each type, and reports the results and how long they take.
 //!
-//! With no word it prints a line for each operation, type and set of operands: the checksums of 1024 answers, flags
-//! included, in the modes even, up, down, zero and away, or one checksum where the operation has no mode. `time` prints
-//! the time of a call in place of that, the best of many rounds, and `growth` how times grow with the length of a text,
-//! the exponents' difference of a remainder, and the digits of a quotient.
+//! Without arguments it prints a line for each operation, type and set of operands: the checksums of 1024 answers,
+//! flags included, in the modes even, up, down, zero and away, or one checksum if the operation has no mode. With
+//! `time` it prints the time of a call instead, the best of many rounds; with `growth` it prints how times grow with
+//! the length of a text, the difference of exponents of a remainder, and the digits of a quotient.
 //!
-//! The operands come from a generator of whole numbers. Of the functions here only safety is proved.
+//! The operands come from a generator of whole numbers. For the functions here, only safety is proved.
 //!
-//! The exit status is 0, or 2 for other words, and 1 where a write fails or there is no memory.
+//! The exit status is 0, or 2 for other arguments, and 1 if a write fails or there is not enough memory.
 #![tactic(auto)]
 
 mod checksum;
@@ -32,6 +32,7 @@ use std::process::ExitCode;
 use std::rt::Clock;
 use std::{env, io};
 
+/// Runs the program and returns its exit status.
 fn main(rt: HostRuntime) -> ExitCode {
     match answer(&rt) {
         Ok(status) => ExitCode::from(status),
@@ -62,6 +63,7 @@ enum Subject {
     Growth,
 }
 
+/// What the arguments ask for, or nothing if they are not known.
 fn subject_of(words: &[String]) -> Option<Subject> {
     match words {
         [] => Some(Subject::Checksums),

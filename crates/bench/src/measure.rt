@@ -1,10 +1,10 @@
-//! Times of rounds, and what is known of an operation.
+//! Times of rounds, and the measurements of an operation.
 
 use crate::checksum::{Written, checksum_of};
 use rustc_apfloat::StatusAnd;
 use std::time::Duration;
 
-/// What is known of calls for many operands.
+/// The measurements of calls for many operands.
 #[derive(Clone, Copy, Debug)]
 pub struct Measured {
     /// The checksum of the answers.
@@ -31,7 +31,7 @@ impl Rounds {
         }
     }
 
-    /// Takes a round's time in.
+    /// Adds the time of a round.
     pub fn take(&mut self, round: Duration) {
         self.least = self.least.min(round);
         self.spent = self.spent.saturating_add(round);
@@ -42,7 +42,7 @@ impl Rounds {
         self.spent > Duration::from_millis(200)
     }
 
-    /// What is known, with the answers of the last round.
+    /// The measurements, with the answers of the last round.
     pub fn with_answers<T: Written>(self, answers: &[StatusAnd<T>]) -> Measured {
         Measured {
             checksum: checksum_of(answers),
@@ -52,7 +52,7 @@ impl Rounds {
     }
 }
 
-// Does the work of a round once, and then in timed rounds, at most so many, until they are enough.
+// Does the work of a round once, and then in timed rounds, up to a limit, until they are enough.
 macro_rules! in_rounds {
     ($rt:ident, $rounds:expr, $round:expr) => {{
         let mut times = Rounds::new();

@@ -11,12 +11,12 @@ pub struct Nanoseconds {
 }
 
 impl Nanoseconds {
-    /// That of a call.
+    /// The time of one call.
     pub fn of_each(answers: Measured) -> Self {
         Nanoseconds::of_part(answers.time, answers.count)
     }
 
-    /// One of so many parts of a time.
+    /// A time divided by a count.
     pub fn of_part(whole: Duration, count: usize) -> Self {
         let hundredths = whole.as_nanos().saturating_mul(100);
         let part = hundredths.checked_div(count as u128).unwrap_or(0);
@@ -25,7 +25,7 @@ impl Nanoseconds {
         }
     }
 
-    /// One of so many parts of this time.
+    /// This time divided by a count.
     pub fn part(self, count: u64) -> Self {
         Nanoseconds {
             hundredths: self.hundredths.checked_div(count).unwrap_or(0),
@@ -34,7 +34,7 @@ impl Nanoseconds {
 }
 
 impl fmt::Display for Nanoseconds {
-    /// Two decimals below 10, one below 100, and none from there on.
+    /// Two decimals below 10, one below 100, and none from 100 on.
     fn fmt<W: fmt::Write>(&self, f: &mut fmt::Formatter<W>) -> fmt::Result {
         let whole = self.hundredths / 100;
         let rest = self.hundredths % 100;

@@ -17,7 +17,7 @@ use std::time::Instant;
 /// The operands of a call.
 type Operands<S> = [IeeeFloat<S>; 3];
 
-/// What is known of an operation in a format; nothing where the format does not have it.
+/// The measurements of an operation in a format, or nothing if the format does not have it.
 pub fn measured_in<S: Semantics>(
     rt: &(impl Clock + AllocGlobal),
     task: Task,
@@ -39,6 +39,7 @@ pub fn measured_in<S: Semantics>(
     Ok(Some(known))
 }
 
+/// Measures an arithmetic operation.
 fn arithmetic<S: Semantics>(rt: &(impl Clock + AllocGlobal), task: Task) -> io::Result<Measured>
     requires { S.PRECISION < S.BITS }
 {
@@ -50,6 +51,7 @@ fn arithmetic<S: Semantics>(rt: &(impl Clock + AllocGlobal), task: Task) -> io::
     Ok(times.with_answers(answers))
 }
 
+/// Computes the operation for all operands.
 fn calculate<S: Semantics>(
     task: Task,
     operands: &[Operands<S>],
@@ -72,6 +74,7 @@ fn calculate<S: Semantics>(
     }
 }
 
+/// Measures the conversion to the format `T`.
 fn conversions<S: Semantics, T: Semantics>(
     rt: &(impl Clock + AllocGlobal),
     task: Task,
@@ -86,6 +89,7 @@ fn conversions<S: Semantics, T: Semantics>(
     Ok(times.with_answers(answers))
 }
 
+/// Converts all operands to the format `T`.
 fn convert<S: Semantics, T: Semantics>(
     mode: Round,
     operands: &[Operands<S>],
@@ -95,6 +99,7 @@ fn convert<S: Semantics, T: Semantics>(
     for_each!(operands, answers, x => x[0].convert_r(mode, &mut loses_info));
 }
 
+/// Measures the conversion to integers.
 fn integers_out<S: Semantics>(rt: &(impl Clock + AllocGlobal), task: Task) -> io::Result<Measured>
     requires { S.PRECISION < S.BITS }
 {
@@ -107,11 +112,13 @@ fn integers_out<S: Semantics>(rt: &(impl Clock + AllocGlobal), task: Task) -> io
     Ok(times.with_answers(answers))
 }
 
+/// Converts all operands to 64-bit integers.
 fn to_integers<S: Semantics>(operands: &[Operands<S>], answers: &mut [StatusAnd<i128>]) {
     let mut is_exact = false;
     for_each!(operands, answers, x => x[0].to_i128_r(64, Round::TowardZero, &mut is_exact));
 }
 
+/// Measures the conversion from integers.
 fn integers_in<S: Semantics>(rt: &(impl Clock + AllocGlobal), task: Task) -> io::Result<Measured> {
     let drawn = drawn_integers(rt.alloc())?;
     let operands = drawn.as_slice();
@@ -121,6 +128,7 @@ fn integers_in<S: Semantics>(rt: &(impl Clock + AllocGlobal), task: Task) -> io:
     Ok(times.with_answers(answers))
 }
 
+/// Converts all integers to values.
 fn from_integers<S: Semantics>(
     mode: Round,
     operands: &[u128],
@@ -129,6 +137,7 @@ fn from_integers<S: Semantics>(
     for_each!(operands, answers, x => IeeeFloat::from_u128_r(x, mode));
 }
 
+/// Measures the reading of texts.
 fn readings<S: Semantics>(rt: &(impl Clock + AllocGlobal), task: Task) -> io::Result<Measured> {
     let encoding = Encoding::of::<S>();
     let drawn = drawn_texts(rt.alloc(), encoding, task.set)?;
@@ -139,7 +148,7 @@ fn readings<S: Semantics>(rt: &(impl Clock + AllocGlobal), task: Task) -> io::Re
     Ok(times.with_answers(answers))
 }
 
-/// Reads each text; what is refused is answered by 0 with `INVALID_OP`.
+/// Reads each text; the answer for a refused one is 0 with `INVALID_OP`.
 pub fn read<S: Semantics>(mode: Round, texts: &[String], answers: &mut [StatusAnd<IeeeFloat<S>>]) {
     for i in 0..texts.len() {
         if i < answers.len() {
@@ -151,6 +160,7 @@ pub fn read<S: Semantics>(mode: Round, texts: &[String], answers: &mut [StatusAn
     }
 }
 
+/// Measures reading and writing bits.
 fn bits_both_ways<S: Semantics>(rt: &(impl Clock + AllocGlobal), task: Task) -> io::Result<Measured>
     requires { S.PRECISION < S.BITS }
 {
@@ -163,12 +173,14 @@ fn bits_both_ways<S: Semantics>(rt: &(impl Clock + AllocGlobal), task: Task) -> 
     Ok(times.with_answers(answers))
 }
 
+/// Reads a value from each bit pattern and writes it back.
 fn read_and_write<S: Semantics>(operands: &[[u128; 3]], answers: &mut [StatusAnd<u128>])
     requires { S.PRECISION < S.BITS }
 {
     for_each!(operands, answers, x => Status::OK.and(IeeeFloat::<S>::from_bits(x[0]).to_bits()));
 }
 
+/// The values of the operands that are drawn.
 fn values<S: Semantics>(alloc: Global, task: Task) -> Result<Vec<Operands<S>>, AllocError>
     requires { S.PRECISION < S.BITS }
 {

@@ -7,7 +7,7 @@ pub enum OperandSet {
     Normal,
     /// A quarter of them denormal, a quarter near the denormal ones, and the others as in `Normal`.
     Denormal,
-    /// Normal ones whose exponent lets an integer of 64 bits hold most.
+    /// Normal ones with exponents such that most of them fit in a 64-bit integer.
     Integer,
     /// Half of them denormal, and the others as in `Integer`.
     IntegerDenormal,
@@ -22,7 +22,7 @@ impl OperandSet {
         }
     }
 
-    /// The set of operands that become whole numbers in place of this one.
+    /// The set used in place of this one for operands that are converted to integers.
     pub fn for_integers(self) -> Self {
         match self {
             OperandSet::Normal | OperandSet::Integer => OperandSet::Integer,

@@ -14,11 +14,12 @@ const COUNT: usize = 1024;
 pub enum Source {
     /// The bits of a number.
     Number(Encoding),
-    /// The bits of a pair of numbers, the high part below the low one.
+    /// The bits of a pair of numbers, with the high part in the lower half.
     Pair(Encoding),
 }
 
 impl Source {
+    /// The bits of the next operand.
     fn operand(self, set: OperandSet, generator: &mut Generator) -> u128 {
         match self {
             Source::Number(encoding) => encoding.operand(set, generator),
@@ -27,7 +28,7 @@ impl Source {
     }
 }
 
-/// The bits of the operands of calls with up to three.
+/// The bits of the operands of calls with up to three operands.
 pub fn drawn_bits(
     alloc: Global,
     source: Source,
@@ -44,7 +45,7 @@ pub fn drawn_bits(
     Ok(bits)
 }
 
-/// Whole numbers of any count of bits up to 128.
+/// Whole numbers with any count of bits up to 128.
 pub fn drawn_integers(alloc: Global) -> Result<Vec<u128>, AllocError> {
     let mut generator = Generator::new();
     let mut numbers = Vec::new(alloc);
@@ -55,7 +56,7 @@ pub fn drawn_integers(alloc: Global) -> Result<Vec<u128>, AllocError> {
     Ok(numbers)
 }
 
-/// Hexadecimal texts of numbers, with some digits more than a significand has at most.
+/// Hexadecimal texts of numbers, with up to a few more digits than a significand has.
 pub fn drawn_texts(
     alloc: Global,
     encoding: Encoding,
@@ -69,6 +70,7 @@ pub fn drawn_texts(
     Ok(texts)
 }
 
+/// The next hexadecimal text.
 fn drawn_text(
     alloc: Global,
     encoding: Encoding,

@@ -16,7 +16,7 @@ use std::time::Instant;
 /// The operands of a call.
 type Operands = [DoubleDouble; 3];
 
-/// What is known of an operation on pairs; nothing where they do not have it.
+/// The measurements of an operation on pairs, or nothing if they do not have it.
 pub fn measured_pairs(rt: &(impl Clock + AllocGlobal), task: Task) -> io::Result<Option<Measured>> {
     let known = match task.operation {
         Operation::FusedSum => return Ok(None),
@@ -30,6 +30,7 @@ pub fn measured_pairs(rt: &(impl Clock + AllocGlobal), task: Task) -> io::Result
     Ok(Some(known))
 }
 
+/// Measures an arithmetic operation.
 fn arithmetic(rt: &(impl Clock + AllocGlobal), task: Task) -> io::Result<Measured> {
     let drawn = values(rt.alloc(), task)?;
     let operands = drawn.as_slice();
@@ -39,6 +40,7 @@ fn arithmetic(rt: &(impl Clock + AllocGlobal), task: Task) -> io::Result<Measure
     Ok(times.with_answers(answers))
 }
 
+/// Computes the operation for all operands.
 fn calculate(task: Task, operands: &[Operands], answers: &mut [StatusAnd<DoubleDouble>]) {
     let mode = task.mode;
     match task.operation {
@@ -52,6 +54,7 @@ fn calculate(task: Task, operands: &[Operands], answers: &mut [StatusAnd<DoubleD
     }
 }
 
+/// Measures the conversion to integers.
 fn integers_out(rt: &(impl Clock + AllocGlobal), task: Task) -> io::Result<Measured> {
     let set = task.set.for_integers();
     let drawn = values(rt.alloc(), Task { set, ..task })?;
@@ -62,11 +65,13 @@ fn integers_out(rt: &(impl Clock + AllocGlobal), task: Task) -> io::Result<Measu
     Ok(times.with_answers(answers))
 }
 
+/// Converts all operands to 64-bit integers.
 fn to_integers(operands: &[Operands], answers: &mut [StatusAnd<i128>]) {
     let mut is_exact = false;
     for_each!(operands, answers, x => x[0].to_i128_r(64, Round::TowardZero, &mut is_exact));
 }
 
+/// Measures the conversion from integers.
 fn integers_in(rt: &(impl Clock + AllocGlobal), task: Task) -> io::Result<Measured> {
     let drawn = drawn_integers(rt.alloc())?;
     let operands = drawn.as_slice();
@@ -76,10 +81,12 @@ fn integers_in(rt: &(impl Clock + AllocGlobal), task: Task) -> io::Result<Measur
     Ok(times.with_answers(answers))
 }
 
+/// Converts all integers to pairs.
 fn from_integers(mode: Round, operands: &[u128], answers: &mut [StatusAnd<DoubleDouble>]) {
     for_each!(operands, answers, x => DoubleDouble::from_u128_r(x, mode));
 }
 
+/// Measures the reading of texts.
 fn readings(rt: &(impl Clock + AllocGlobal), task: Task) -> io::Result<Measured> {
     let drawn = drawn_texts(rt.alloc(), Encoding::of::<DoubleS>(), task.set)?;
     let operands = drawn.as_slice();
@@ -89,6 +96,7 @@ fn readings(rt: &(impl Clock + AllocGlobal), task: Task) -> io::Result<Measured>
     Ok(times.with_answers(answers))
 }
 
+/// Reads each text; the answer for a refused one is 0 with `INVALID_OP`.
 fn read(mode: Round, texts: &[String], answers: &mut [StatusAnd<DoubleDouble>]) {
     for i in 0..texts.len() {
         if i < answers.len() {
@@ -100,6 +108,7 @@ fn read(mode: Round, texts: &[String], answers: &mut [StatusAnd<DoubleDouble>]) 
     }
 }
 
+/// Measures reading and writing bits.
 fn bits_both_ways(rt: &(impl Clock + AllocGlobal), task: Task) -> io::Result<Measured> {
     let drawn = drawn_bits(
         rt.alloc(),
@@ -113,10 +122,12 @@ fn bits_both_ways(rt: &(impl Clock + AllocGlobal), task: Task) -> io::Result<Mea
     Ok(times.with_answers(answers))
 }
 
+/// Reads a pair from each bit pattern and writes it back.
 fn read_and_write(operands: &[[u128; 3]], answers: &mut [StatusAnd<u128>]) {
     for_each!(operands, answers, x => Status::OK.and(DoubleDouble::from_bits(x[0]).to_bits()));
 }
 
+/// The pairs of the operands that are drawn.
 fn values(alloc: Global, task: Task) -> Result<Vec<Operands>, AllocError> {
     let drawn = drawn_bits(alloc, Source::Pair(Encoding::of::<DoubleS>()), task.set)?;
     let mut values = Vec::new(alloc);

@@ -1,4 +1,4 @@
-//! What is printed of all operations: checksums, and times.
+//! What is printed about all operations: checksums, and times.
 
 use crate::kind::{KINDS, Kind};
 use crate::nanoseconds::Nanoseconds;
@@ -30,6 +30,7 @@ pub fn print_checksums(rt: &(impl Clock + Print + AllocGlobal)) -> io::Result<()
     Ok(())
 }
 
+/// Prints the lines of a type.
 fn print_lines(rt: &(impl Clock + Print + AllocGlobal), kind: Kind) -> io::Result<()> {
     for operation in OPERATIONS.iter() {
         print_line(rt, kind, *operation, OperandSet::Normal)?;
@@ -38,6 +39,7 @@ fn print_lines(rt: &(impl Clock + Print + AllocGlobal), kind: Kind) -> io::Resul
     Ok(())
 }
 
+/// Prints the line of an operation in a type: its checksums for a set of operands.
 fn print_line(
     rt: &(impl Clock + Print + AllocGlobal),
     kind: Kind,
@@ -55,7 +57,7 @@ fn print_line(
     println!(rt; "")
 }
 
-/// The checksums of an operation in each mode, or one where it has no mode.
+/// The checksums of an operation in each mode, or one if it has no mode.
 fn sums_of(
     rt: &(impl Clock + AllocGlobal),
     kind: Kind,
@@ -85,6 +87,7 @@ pub fn print_times(rt: &(impl Clock + Print + AllocGlobal)) -> io::Result<()> {
     print_table(rt, OperandSet::Denormal)
 }
 
+/// Prints the table of times for a set of operands.
 fn print_table(rt: &(impl Clock + Print + AllocGlobal), set: OperandSet) -> io::Result<()> {
     println!(rt; "Set {}, nanoseconds\n", set.name())?;
     println!(rt; "{TABLE_HEAD}")?;
@@ -94,6 +97,7 @@ fn print_table(rt: &(impl Clock + Print + AllocGlobal), set: OperandSet) -> io::
     println!(rt; "")
 }
 
+/// Prints the row of a type.
 fn print_row(
     rt: &(impl Clock + Print + AllocGlobal),
     kind: Kind,
@@ -106,6 +110,7 @@ fn print_row(
     println!(rt; "")
 }
 
+/// Prints the time of an operation in a type, or a dash if the type does not have it.
 fn print_time(
     rt: &(impl Clock + Print + AllocGlobal),
     kind: Kind,

@@ -1,4 +1,4 @@
-//! What is measured of a type.
+//! What is measured in a type.
 
 use crate::operand_set::OperandSet;
 use crate::operation::Operation;
@@ -14,11 +14,11 @@ pub struct Task {
     pub set: OperandSet,
     /// The rounding mode.
     pub mode: Round,
-    /// How many rounds are timed at most.
+    /// At most how many rounds are timed.
     pub rounds: u32,
 }
 
-/// Room for so many answers.
+/// Room for a count of answers.
 pub fn room<T: Copy>(
     alloc: Global,
     count: usize,

@@ -1,7 +1,7 @@
 //! Checks files of test vectors: rows of commands with their replies, and of calls with their answers.
 //!
-//! Rows come from the file that is named, or from standard input. The crate `vector_rows` says what they are and what
-//! becomes of them, `--help` too.
+//! Rows come from the named file, or from standard input. The crate `vector_rows`, and `--help`, explain the rows and
+//! how they are checked.
 #![tactic(auto)]
 
 use std::alloc::Alloc;
@@ -13,6 +13,7 @@ use vector_rows::run;
 #[cfg(test)]
 mod tests;
 
+/// Runs the program and returns its exit status.
 fn main(rt: HostRuntime) -> ExitCode {
     ExitCode::from(run(
         &rt,

@@ -1,4 +1,4 @@
-//! Checks of short inputs, also where reading, writing or memory ends.
+//! Checks of short inputs, including failures of reading, writing and memory.
 
 use crate::words_of_system;
 use bumpalo::Bump;
@@ -12,7 +12,7 @@ use std::time::Duration;
 use std::{fs, io};
 use vector_rows::{Check, Failure, check_input, run};
 
-/// Asserts what a check of an input writes, and its exit status.
+/// Asserts what the check of an input writes, and its exit status.
 fn expect<R: Abort + Clock + AllocGlobal>(
     rt: &R,
     mut input: &[u8],
@@ -26,7 +26,7 @@ fn expect<R: Abort + Clock + AllocGlobal>(
     assert_eq!(rt; answered, status, "{on_out}");
 }
 
-// 1 + 2^-11 lies in the middle between 1 and the next value of binary16.
+/// 1 + 2^-11 is halfway between 1 and the next value of binary16.
 #[test]
 fn shows_what_differs(rt: HostRuntime) {
     expect(
@@ -63,8 +63,8 @@ fn shows_what_differs(rt: HostRuntime) {
     );
 }
 
-// Formats without bits write their values as counts of quanta, and a NaN that is not that of the row as
-// `Debug` shows it.
+/// Formats without bits write their values as counts of quanta, and a NaN that is not that of the row as `Debug` shows
+/// it.
 #[test]
 fn shows_each_kind_of_answer(rt: HostRuntime) {
     for (row, expected, given) in [
@@ -137,7 +137,7 @@ fn shows_each_kind_of_answer(rt: HostRuntime) {
     }
 }
 
-/// Asserts that the one row of an input differs, and is shown with its answers.
+/// Asserts that the only row of an input differs, and is shown with its answers.
 fn expect_one<R: Abort + Clock + AllocGlobal>(rt: &R, row: &str, expected: &str, given: &str) {
     let input = format!(in rt.alloc(); "{row}\t{expected}");
     let tally = "0 rows agree, 1 differ, 0 malformed; 0 lines skipped";
@@ -228,7 +228,7 @@ fn expect_fault<R: Abort + Clock + AllocGlobal>(rt: &R, line: &str, fault: &str)
     }
 }
 
-// A malformed line wins over one that differs.
+/// A malformed line takes precedence over one that differs.
 #[test]
 fn goes_on_behind_bytes_that_are_no_text(rt: HostRuntime) {
     expect(
@@ -263,7 +263,7 @@ fn wants_a_row(rt: HostRuntime) {
     }
 }
 
-/// A reader that gives so many bytes of a text, one at a time, and then an error.
+/// A reader that gives a limited count of bytes of a text, one at a time, and then an error.
 #[derive(Drop)]
 struct Broken<'a> {
     rest: &'a [u8],
@@ -286,7 +286,7 @@ impl Read for Broken<'_> {
 
 const ROWS: &str = "half int even 464\t5f40 OK\nhalf int even 464\t5f41 OK\n";
 
-// What is checked before an error stays said. A line that is not whole is no row.
+/// What was checked before an error is still reported. An incomplete line is not a row.
 #[test]
 fn names_a_read_that_fails(rt: HostRuntime) -> Result<(), Fail> {
     let mut reasons = Vec::new(rt.alloc());
@@ -321,7 +321,7 @@ fn names_a_read_that_fails(rt: HostRuntime) -> Result<(), Fail> {
     Ok(())
 }
 
-/// A writer with room for so many bytes, which takes one at each write.
+/// A writer with room for a limited count of bytes, which takes one at each write.
 #[derive(Drop)]
 struct Failing {
     room: usize,
@@ -329,6 +329,7 @@ struct Failing {
 }
 
 impl Failing {
+    /// A writer with this room.
     fn new(alloc: Global, room: usize) -> Failing {
         Failing {
             room,
@@ -373,7 +374,7 @@ fn answers_4_where_a_write_fails(rt: HostRuntime) {
     }
 }
 
-/// A clock that goes on by a second each time that it is asked.
+/// A clock that advances by a second each time it is asked.
 #[derive(Drop)]
 struct Ticking {
     seconds: std::cell::Cell<u64>,
@@ -417,7 +418,7 @@ fn tells_how_far_it_is(rt: HostRuntime) -> Result<(), Fail> {
     Ok(())
 }
 
-/// Asserts what the program answers to words, and how what it writes begins.
+/// Asserts what the program returns for its arguments, and how its output begins.
 fn expect_run<R: Abort + std::rt::Files + Clock + Input + AllocGlobal>(
     rt: &R,
     words: &[&str],
@@ -486,8 +487,8 @@ impl Env for System {
     }
 }
 
-/// An arena with so many bytes left, and no more to come. A second chunk is begun, since only the blocks
-/// of a first one are used again: so each growth of memory takes bytes of its own.
+/// An arena with `bytes` bytes left that cannot grow. A second chunk is begun, since only the blocks of a first one are
+/// reused; so each growth of memory takes bytes of its own.
 fn arena_with(alloc: Global, bytes: usize) -> Result<Bump, AllocError> {
     let arena = Bump::try_with_capacity(alloc, 4000)?;
     arena.try_alloc_slice_fill_clone(arena.chunk_capacity(), 0u8)?;
@@ -498,7 +499,7 @@ fn arena_with(alloc: Global, bytes: usize) -> Result<Bump, AllocError> {
     Ok(arena)
 }
 
-// There is a growth for each argument, for the one that is not there, and for each list of them.
+/// There is a growth for each argument, for the missing one after them, and for each list of them.
 #[test]
 fn wants_memory_for_its_words(rt: HostRuntime) -> Result<(), Fail> {
     for eighths in 0..100usize {
@@ -519,7 +520,7 @@ fn wants_memory_for_its_words(rt: HostRuntime) -> Result<(), Fail> {
     Ok(())
 }
 
-// The memory for lines is that of the longest one.
+/// The memory for lines is that of the longest one.
 #[test]
 fn wants_memory_for_a_line(rt: HostRuntime) -> Result<(), Fail> {
     let mut rows = String::new(rt.alloc());

@@ -3,12 +3,12 @@
 //!
 //! - FORMAT: `half`, `single`, `double`, `quad`, `bfloat`, `e5m2`, `e4m3fn`, `e4m3fnuz` or `x87`; or `dd`,
 //!   pairs of doubles.
-//! - OP: `add`, `sub`, `mul`, `div`, `rem` (by the nearest quotient), `mod` (by the quotient cut toward zero) of two
-//!   values; `fma` of three; `int`, a whole number in decimal digits; `parse`, the text of a value. A format of more than
-//!   64 digits has no `mul`, one of more than 63 no `fma`. Pairs of doubles have `mul` and no `fma`.
+//! - OP: `add`, `sub`, `mul`, `div`, `rem` (by the nearest quotient), `mod` (by the quotient cut toward zero) on two
+//!   values; `fma` on three; `int`, a whole number in decimal digits; `parse`, the text of a value. A format of more
+//!   than 64 digits has no `mul`, one of more than 63 no `fma`. Pairs of doubles have `mul` and no `fma`.
 //! - MODE: `even`, `up`, `down`, `zero` or `away`.
 //!
-//! A value is written by its bits: 1 to 32 hexadecimal digits, behind `0x` or without it.
+//! A value is given as its bits: 1 to 32 hexadecimal digits, with or without `0x` in front.
 #![tactic(auto)]
 
 mod operation;

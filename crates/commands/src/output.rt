@@ -1,7 +1,7 @@
-//! Writes what the program replies.
+//! Writes the replies of the program.
 //!
-//! A reply is put together first and goes to its writer by one call, so that the replies of programs that run side by
-//! side do not mix. Only a refusal that is longer than `REFUSAL_ROOM` goes there in parts.
+//! A reply is assembled first and written in one call, so that the replies of programs that run in parallel do not mix.
+//! Only a refusal longer than `REFUSAL_ROOM` is written in parts.
 
 ghost use Rattle.std.specs.Prelude.{◌≡◌, ◌≢◌, ◌<◌, ◌≤◌, ◌++◌, codes, if◌then◌else◌, IfErr, is_ok, map, MatchResult, OnErr, OnOk, string_bytes};
 ghost use Rattle.std.specs.IoError.{error_kind};
@@ -18,12 +18,12 @@ use std::io::{ErrorKind, Write};
 /// The longest line has 32 digits and all five flags, which is 83 bytes.
 const LINE_ROOM: usize = 96;
 
-/// Of what one call writes to a pipe, the system itself parts no more than so much from what others write (`PIPE_BUF`).
+/// The system does not interleave a write to a pipe of up to this many bytes with the writes of others (`PIPE_BUF`).
 const REFUSAL_ROOM: usize = 4096;
 
-/// Runs a command, the words without the program's own name: writes a line to `out` or a refusal to `err`.
+/// Runs a command, given as the arguments without the program's own name: writes a line to `out` or a refusal to `err`.
 ///
-/// Answers the exit status: 0 for a line, 2 for a refusal, 1 where a write failed.
+/// Returns the exit status: 0 for a line, 2 for a refusal, 1 if a write failed.
 pub fn run<W: Write, V: Write>(words: &[String], out: &mut W, err: &mut V) -> u8
     ensures { result ≢ 1 → IsRun (map string_bytes words.now)
         (W.contents out.old) (W.contents out.new) (V.contents err.old) (V.contents err.new) result }
@@ -34,10 +34,11 @@ pub fn run<W: Write, V: Write>(words: &[String], out: &mut W, err: &mut V) -> u8
     }
 }
 
-/// Runs the words that the system gave a program, or says what it gave in their place.
+/// Runs the program with the arguments from the system, or reports the error that the system gave instead.
 ///
-/// Answers the exit status: for words that of `run`; 3 where there was no memory for them, which is said on `err`; and 1
-/// for any other error, as of words that are no texts, where nothing is written, or where a write failed.
+/// Returns the exit status: that of `run` if there are arguments; 3 if there was no memory for them, which is reported
+/// on `err`; and 1 for any other error, such as arguments that are not valid text, when nothing is written, or if a
+/// write failed.
 pub fn run_given<W: Write, V: Write>(given: io::Result<Vec<String>>, out: &mut W, err: &mut V) -> u8
     ensures known { result ≢ 1 → MatchResult given
         (λ words. IsRun (map string_bytes words.items)
@@ -57,7 +58,7 @@ pub fn run_given<W: Write, V: Write>(given: io::Result<Vec<String>>, out: &mut W
     }
 }
 
-/// Says that there is no memory for the words. Answers the exit status: 3, or 1 where a write failed.
+/// Reports that there is no memory for the arguments. Returns the exit status: 3, or 1 if a write failed.
 fn refuse_memory<V: Write>(err: &mut V) -> u8
     ensures status { result ≢ 1 → result ≡ 3 }
     ensures text { result ≢ 1
@@ -66,7 +67,7 @@ fn refuse_memory<V: Write>(err: &mut V) -> u8
     status_after(write_refusal("memory", err), 3)
 }
 
-/// The exit status behind a write.
+/// The exit status after a write.
 fn status_after(written: io::Result<()>, status: u8) -> u8
     ensures { result ≡ (if is_ok written then status else 1) }
 {
@@ -76,7 +77,7 @@ fn status_after(written: io::Result<()>, status: u8) -> u8
     }
 }
 
-/// Writes the line of an answer, so many digits of its bits and its flags, by one call.
+/// Writes the line of an answer, its bits with `digits` digits and its flags, in one call.
 pub fn write_line<W: Write>(
     bits: u128,
     digits: usize,
@@ -93,6 +94,7 @@ pub fn write_line<W: Write>(
     out.write_all(line.as_bytes())
 }
 
+/// Writes the parts of an answer's line.
 fn write_line_parts<W: Write>(
     bits: u128,
     digits: usize,
@@ -110,7 +112,7 @@ fn write_line_parts<W: Write>(
     out.write_all(b"\n")
 }
 
-/// Writes the word of a refusal, by one call where there is room for it.
+/// Writes the word of a refusal, in one call if there is room for it.
 fn write_refusal<W: Write>(word: &str, err: &mut W) -> io::Result<()>
     ensures { OnOk result
         (Appends (W.contents err.old) (W.contents err.new) (refusal_text word.now)) }
@@ -122,6 +124,7 @@ fn write_refusal<W: Write>(word: &str, err: &mut W) -> io::Result<()>
     }
 }
 
+/// Writes the parts of a refusal.
 fn write_refusal_parts<W: Write>(word: &str, err: &mut W) -> io::Result<()>
     ensures { OnOk result
         (Appends (W.contents err.old) (W.contents err.new) (refusal_text word.now)) }
@@ -131,7 +134,7 @@ fn write_refusal_parts<W: Write>(word: &str, err: &mut W) -> io::Result<()>
     err.write_all(b"\n")
 }
 
-/// Writes the last digits of a number.
+/// Writes the last digits of a whole number.
 fn write_hexadecimal<W: Write>(number: u128, digits: usize, out: &mut W) -> io::Result<()>
     requires { digits ≤ 32 }
     ensures { OnOk result
@@ -141,7 +144,7 @@ fn write_hexadecimal<W: Write>(number: u128, digits: usize, out: &mut W) -> io::
     out.write_all(&text[text.len() - digits..])
 }
 
-/// All digits of a number.
+/// All digits of a whole number.
 fn hexadecimal(number: u128) -> [u8; 32]
     ensures { result ≡ hexadecimal_text number 32 }
 {
@@ -154,6 +157,7 @@ fn hexadecimal(number: u128) -> [u8; 32]
     text
 }
 
+/// The character of a hexadecimal digit.
 fn hexadecimal_digit(digit: u8) -> u8
     requires { digit < 16 }
     ensures { result ≡ hexadecimal_digit digit }
@@ -183,7 +187,7 @@ pub fn write_status<W: Write>(status: Status, out: &mut W) -> io::Result<()>
     Ok(())
 }
 
-/// Writes a name behind a separator.
+/// Writes a name after a separator.
 fn write_name<W: Write>(separator: &[u8], name: &str, out: &mut W) -> io::Result<()>
     ensures { OnOk result
         (Appends (W.contents out.old) (W.contents out.new) (separator.now ++ name.now)) }

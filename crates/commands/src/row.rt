@@ -1,4 +1,4 @@
-//! Checks a command with the reply that it must have, a row of a table.
+//! Checks a command against its expected reply, which is a row of a table.
 
 ghost use Rattle.std.specs.Prelude.{◌≡◌, ◌++◌, codes, map, string_bytes, true};
 ghost use Rattle.commands.specs.Replies.{IsReplied};
@@ -6,8 +6,8 @@ ghost use Rattle.commands.specs.Replies.{IsReplied};
 use crate::output::run;
 use std::alloc::Global;
 
-/// Whether a command is seen to be replied to so: a line on the first writer alone, with status 0, or a refusal on the
-/// second alone, with status 2. Where there is no memory for what is written the answer is no.
+/// Whether a command has this reply: a line on the first writer only, with status 0, or a refusal on the second only,
+/// with status 2. If there is not enough memory for the output, returns false.
 pub fn agrees(alloc: Global, words: &[String], reply: &str) -> bool
     ensures { result ≡ true → IsReplied (map string_bytes words.now) reply.now }
 {
@@ -21,7 +21,7 @@ pub fn agrees(alloc: Global, words: &[String], reply: &str) -> bool
     }
 }
 
-/// Whether bytes are a text with the end of a line behind it.
+/// Whether bytes are a text followed by a line end.
 fn is_line(written: &[u8], text: &str) -> bool
     ensures { result ≡ true → written.now ≡ text.now ++ codes "\n" }
 {

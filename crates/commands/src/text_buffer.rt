@@ -1,11 +1,11 @@
-//! A text that is put together before it is written.
+//! A text that is assembled before it is written.
 
 ghost use Rattle.std.specs.Prelude.{◌≡◌, ◌≤◌, Some, take};
 
 use std::io;
 use std::io::{ErrorKind, Write};
 
-/// A text of at most `ROOM` bytes, so that a writer gets it by one call.
+/// A text of at most `ROOM` bytes, so that it can be written in one call.
 #[derive(Drop)]
 pub struct TextBuffer<const ROOM: usize> {
     bytes: [u8; ROOM],
@@ -14,7 +14,7 @@ pub struct TextBuffer<const ROOM: usize> {
 }
 
 impl<const ROOM: usize> TextBuffer<ROOM> {
-    /// No text.
+    /// An empty text.
     pub fn new() -> TextBuffer<ROOM>
         ensures { result.len ≡ 0 }
     {
@@ -35,7 +35,7 @@ impl<const ROOM: usize> TextBuffer<ROOM> {
 impl<const ROOM: usize> Write for TextBuffer<ROOM> {
     ghost contents = { λ text. Some (take text.len text.bytes) };
 
-    /// Takes all of the bytes, or none where they do not fit.
+    /// Takes all of the bytes, or none if they do not fit.
     fn write(&mut self, buf: &[u8]) -> io::Result<usize> {
         if buf.len() > ROOM - self.len {
             return Err(io::Error::from(ErrorKind::StorageFull));

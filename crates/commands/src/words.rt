@@ -1,4 +1,4 @@
-//! The words of a command: names, numbers, and bits.
+//! The words of a command: names, whole numbers, and bits.
 
 ghost use Rattle.std.specs.Prelude.{◌≡◌, Some, None, Ok, Err, ◌+◌, ◌<◌, ◌*◌, ◌^◌, ◌&&◌, ◌≤◌, nat_lt, if◌then◌else◌, length};
 ghost use Rattle.std.specs.Option.{IfSome};
@@ -42,10 +42,11 @@ pub fn mode_named(word: &str) -> Option<Round>
     }
 }
 
-/// The word of a refusal for the number of words or operands.
+/// The word of the refusal for a wrong count of words or operands.
 pub const ARGUMENTS: &str = "arguments";
 
-/// The operation and the mode of these names, where the operation has so many operands, or the word of the first fault.
+/// The operation and the mode with these names, if the operation has this many operands, or the word for the first
+/// fault.
 pub fn named<'a>(
     operation: &'a str,
     mode: &'a str,
@@ -67,7 +68,7 @@ pub fn named<'a>(
     }
 }
 
-/// The number that decimal digits stand for, if it is below 2^128.
+/// The whole number that decimal digits stand for, if it is below 2^128.
 pub fn number_of(word: &str) -> Option<u128>
     ensures { result ≡ whole_number_of word.now }
 {
@@ -81,7 +82,7 @@ pub fn number_of(word: &str) -> Option<u128>
     Some(number)
 }
 
-/// A number with one more decimal digit behind it.
+/// A whole number followed by one more decimal digit.
 fn with_digit(number: u128, byte: u8) -> Option<u128>
     ensures { let longer = number * 10 + digit_value byte in
         result ≡ (if is_decimal byte && nat_lt longer (2 ^ 128) then Some longer else None) }
@@ -93,7 +94,7 @@ fn with_digit(number: u128, byte: u8) -> Option<u128>
     number.checked_mul(10)?.checked_add(u128::from(digit))
 }
 
-/// The number that 1 to 32 hexadecimal digits stand for, behind `0x` or without it, if it is below `2^width`.
+/// The bits that 1 to 32 hexadecimal digits stand for, with or without `0x` in front, if they are below `2^width`.
 pub fn bits_of(word: &str, width: usize) -> Option<u128>
     ensures { result ≡ bits_of_word width word.now }
 {
@@ -101,7 +102,7 @@ pub fn bits_of(word: &str, width: usize) -> Option<u128>
     bits_of_digits(bytes.strip_prefix(b"0x").unwrap_or(bytes), width)
 }
 
-/// The number that hexadecimal digits stand for, if there are 1 to 32 of them and it is below `2^width`.
+/// The bits that hexadecimal digits stand for, if there are 1 to 32 of them and the bits are below `2^width`.
 fn bits_of_digits(digits: &[u8], width: usize) -> Option<u128>
     ensures { result ≡ bits_of_digits width digits.now }
 {
@@ -116,7 +117,7 @@ fn bits_of_digits(digits: &[u8], width: usize) -> Option<u128>
     }
 }
 
-/// The number that hexadecimal digits stand for.
+/// The bits that hexadecimal digits stand for.
 fn hexadecimal_number(digits: &[u8]) -> Option<u128>
     requires { length digits.now ≤ 32 }
     ensures { result ≡ (if every is_hexadecimal digits.now
@@ -129,7 +130,7 @@ fn hexadecimal_number(digits: &[u8]) -> Option<u128>
     Some(number)
 }
 
-/// Whether a number is below `2^width`.
+/// Whether a bit pattern is below `2^width`.
 fn is_within(number: u128, width: usize) -> bool
     ensures { result ≡ nat_lt number (2 ^ width) }
 {

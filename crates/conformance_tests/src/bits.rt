@@ -34,7 +34,7 @@ const SEVEN: Fields = Fields {
     fraction_bits: 3,
 };
 
-/// What the bits of a format with infinities stand for.
+/// The category of a bit pattern in a format with infinities.
 fn category_of(fields: Fields, bits: u128) -> Category
     requires exponent { fields.exponent_bits < 32 }
     requires fraction { fields.fraction_bits < 64 }
@@ -50,8 +50,8 @@ fn category_of(fields: Fields, bits: u128) -> Category
     }
 }
 
-/// The bits become a value of the category and the sign that stand in them, and come back from it. Whatever stands
-/// above them is not looked at.
+/// A bit pattern is read as a value of the category and the sign in its fields, and written back unchanged. Bits above
+/// it are ignored.
 fn check<S: Semantics>(rt: &impl Abort, fields: Fields, bits: u128)
     requires written { S.PRECISION < S.BITS }
     requires exponent { fields.exponent_bits < 32 }
@@ -68,7 +68,7 @@ fn check<S: Semantics>(rt: &impl Abort, fields: Fields, bits: u128)
     }
 }
 
-/// Every pattern of a small format.
+/// Every bit pattern of a small format.
 fn check_all<S: Semantics>(rt: &impl Abort, fields: Fields, patterns: u64)
     requires written { S.PRECISION < S.BITS }
     requires exponent { fields.exponent_bits < 32 }
@@ -79,7 +79,7 @@ fn check_all<S: Semantics>(rt: &impl Abort, fields: Fields, patterns: u64)
     }
 }
 
-/// Fractions of one bit, and of all bits below it or from it on, beside these biased exponents.
+/// Fractions of one bit, of all bits below it and of all bits from it on, with these biased exponents.
 fn check_edges<S: Semantics>(rt: &impl Abort, fields: Fields, exponents: &[u128])
     requires written { S.PRECISION < S.BITS }
     requires exponent { fields.exponent_bits < 32 }

@@ -1,4 +1,4 @@
-//! The library's roundings against the plain program's.
+//! The library's roundings compared with the plain program's.
 
 ghost use Rattle.std.specs.Prelude.{◌*◌, ◌^◌, ◌<◌, ◌≤◌, pos, negsuc, ◌≤ℤ◌};
 ghost use Rattle.rustc_apfloat.specs.Types.{format_of};
@@ -77,11 +77,13 @@ fn bits_of(subject: Subject, value: Answer) -> u128
     }
 }
 
+/// The bits of a sign.
 fn sign_bit(subject: Subject, negative: bool) -> u128 {
     if negative { subject.minus } else { 0 }
 }
 
-/// Compares what the library and the plain program make of `eighths / 8` quanta, in each mode and with each sign.
+/// Compares the results of the library and of the plain program for `eighths / 8` quanta, in each mode and with each
+/// sign.
 fn compare<S: Semantics>(rt: &impl Abort, subject: Subject, eighths: u128)
     requires written { S.PRECISION < S.BITS }
     requires bounds { HasBounds (format_of S.Semantics) subject.bounds }
@@ -117,7 +119,7 @@ fn compare<S: Semantics>(rt: &impl Abort, subject: Subject, eighths: u128)
     }
 }
 
-/// Compares magnitudes of `Half` about `center` that are `step` apart, and those an eighth above and below each.
+/// Compares magnitudes of `Half` around `center` that are `step` apart, and those an eighth above and below each.
 fn compare_about(rt: &impl Abort, center: u128, step: u128)
     requires far { center < 2 ^ 50 }
     requires some { 0 < step }
@@ -139,7 +141,7 @@ fn denormals_and_first_binades(rt: HostRuntime) {
     }
 }
 
-/// About each power of two, by eighths of the spacing above it.
+/// Around each power of two, in eighths of the spacing above it.
 #[test]
 fn edges_of_binades(rt: HostRuntime) {
     for place in 0..31u32 {

@@ -20,6 +20,7 @@ struct Named {
     infinity: u128,
 }
 
+/// The named values of a format have the given bits.
 fn check<S: Semantics>(rt: &impl Abort, named: Named)
     requires { S.PRECISION < S.BITS }
 {
@@ -80,7 +81,7 @@ fn named_values(rt: HostRuntime) {
     check::<Float8E4M3FNUZS>(&rt, e4m3fnuz);
 }
 
-/// Of a type without bits only the categories can be told here.
+/// For a type without bits, only the categories can be checked here.
 #[test]
 fn named_values_without_bits(rt: HostRuntime) {
     assert_eq!(rt; Least::zero().category(), Category::Zero);
@@ -92,6 +93,7 @@ fn named_values_without_bits(rt: HostRuntime) {
     assert!(rt; !Least::default().is_negative());
 }
 
+/// The constants of a format as the trait `Float` gives them.
 fn constants<S: Semantics>() -> (usize, usize, ExpInt, ExpInt) {
     (
         IeeeFloat::<S>::BITS,
@@ -110,7 +112,7 @@ fn constants_of_types(rt: HostRuntime) {
     assert_eq!(rt; constants::<LeastS>(), (0, 3, -1, 3));
 }
 
-/// What a format for computing only says of its digits, its non-finite values and its rule of tininess.
+/// What a format for computing only says about its digits, its non-finite values and its rule for tininess.
 #[derive(Clone, Copy, PartialEq, Eq, Debug)]
 struct Rules {
     exp_bits: usize,
@@ -124,6 +126,7 @@ struct Rules {
     tiny_before_rounding: bool,
 }
 
+/// The rules of a format.
 fn rules_of<S: Semantics>() -> Rules {
     Rules {
         exp_bits: S::EXP_BITS,
@@ -138,7 +141,7 @@ fn rules_of<S: Semantics>() -> Rules {
     }
 }
 
-/// The wide formats of pairs differ in the least exponent alone.
+/// The wide formats of pairs differ only in the least exponent.
 #[test]
 fn constants_of_wide_formats(rt: HostRuntime) {
     assert_eq!(rt; constants::<FallbackS>(), (0, 106, -969, 1023));

@@ -11,7 +11,7 @@ ghost use Rattle.rustc_apfloat.specs.LawTest.{lawful_from_test};
 use rustc_apfloat::ieee::{Half, IeeeFloat, NonfiniteBehavior, Semantics};
 use rustc_apfloat::{ExpInt, Flags, Float, Round, Status, StatusAnd, unpack};
 
-/// A format of a user's own: eight bits, four of them the exponent, with infinities as IEEE 754 has them.
+/// A user-defined format: eight bits, four of them the exponent, with infinities as in IEEE 754.
 #[derive(Clone, Copy)]
 struct EightS;
 
@@ -73,13 +73,13 @@ impl Semantics for EightS {
 
 type Eight = IeeeFloat<EightS>;
 
-/// The bits of the binary16 value nearest to a number, with the status of its rounding.
+/// The bits of the binary16 value nearest to a whole number, with the status of its rounding.
 fn bits_of(number: u128) -> StatusAnd<u128> {
     let answer = Half::from_u128_r(number, Round::NearestTiesToEven);
     answer.status.and(answer.value.to_bits())
 }
 
-/// A whole number in any format, to the nearest value.
+/// The value nearest to a whole number, in any format.
 fn nearest<S: Semantics>(number: u128) -> StatusAnd<IeeeFloat<S>>
     ensures { Gives (IsFromUnsigned (format_of S.Semantics) NearestTiesToEven number) result }
 {

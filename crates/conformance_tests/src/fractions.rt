@@ -1,5 +1,5 @@
-//! The fraction and the exponent of every pattern of the small formats, against the digits of its quanta, and both put
-//! together again.
+//! The fraction and the exponent of every bit pattern of the small formats, compared with the digits of its quanta, and
+//! both combined again.
 
 ghost use Rattle.std.specs.Prelude.{◌^◌, ◌<◌};
 
@@ -13,14 +13,14 @@ use rustc_apfloat::ieee::{
 use rustc_apfloat::{ExpInt, Float, IEK_INF, IEK_NAN, IEK_ZERO, Round};
 use std::process::Abort;
 
-/// The bits of a fraction and the exponent beside it.
+/// The bits of a fraction, and its exponent.
 #[derive(Clone, Copy, Debug, PartialEq, Eq)]
 struct Fraction {
     bits: u128,
     exponent: ExpInt,
 }
 
-/// So many quanta as a fraction from one half to below 1: their highest digit becomes that of one half.
+/// A count of quanta as a fraction from one half to below 1: the highest digit becomes that of one half.
 fn fraction_of(format: Small, negative: bool, quanta: u128) -> Fraction
     requires some { 0 < quanta }
     requires few { quanta < 2 ^ 40 }
@@ -35,6 +35,7 @@ fn fraction_of(format: Small, negative: bool, quanta: u128) -> Fraction
     }
 }
 
+/// The expected fraction of a bit pattern.
 fn expected(format: Small, bits: u128) -> Fraction {
     let x = decoded(format, bits);
     match x.class {
@@ -51,7 +52,7 @@ fn expected(format: Small, bits: u128) -> Fraction {
     }
 }
 
-/// The exponent of the value itself, from 1 to below 2 times a power of two.
+/// The exponent of the value itself, as a power of two times a factor from 1 to below 2.
 fn logarithm(format: Small, bits: u128, exponent: ExpInt) -> ExpInt {
     let x = decoded(format, bits);
     match x.class {
@@ -61,7 +62,7 @@ fn logarithm(format: Small, bits: u128, exponent: ExpInt) -> ExpInt {
     }
 }
 
-/// The fraction of a value, which scaled by the exponent is the value again, but for a NaN that signaled.
+/// The fraction of a value, scaled by the exponent, is the value again, except for a signaling NaN.
 fn check<S: Semantics>(rt: &impl Abort, format: Small, mode: Round, bits: u128)
     requires { S.PRECISION < S.BITS }
 {
@@ -78,6 +79,7 @@ fn check<S: Semantics>(rt: &impl Abort, format: Small, mode: Round, bits: u128)
     assert_eq!(rt; whole.to_bits(), quieted(format, bits), "{bits:x} {mode:?}");
 }
 
+/// Every bit pattern of a format, in each mode.
 fn check_all<S: Semantics>(rt: &impl Abort, format: Small)
     requires { S.PRECISION < S.BITS }
 {

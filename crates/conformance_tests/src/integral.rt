@@ -1,5 +1,5 @@
-//! Every pattern of the small formats rounded to a whole number, in each mode: value and status against the quotient and
-//! the remainder of its quanta by those of 1.
+//! Every bit pattern of the small formats rounded to a whole number, in each mode: value and status compared with the
+//! quotient and the remainder of its quanta by those of 1.
 
 ghost use Rattle.std.specs.Prelude.{◌<◌};
 
@@ -9,6 +9,7 @@ use rustc_apfloat::Float;
 use rustc_apfloat::ieee::{Float8E4M3FNS, Float8E4M3FNUZS, Float8E5M2S, HalfS, Semantics};
 use std::process::Abort;
 
+/// Every bit pattern of a format, in each mode.
 fn check_all<S: Semantics>(rt: &impl Abort, format: Small)
     requires { S.PRECISION < S.BITS }
 {

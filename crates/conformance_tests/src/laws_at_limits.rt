@@ -1,5 +1,5 @@
-//! The laws of the calls at formats of a user's own, with values at their limits. The callers of `laws` ask nothing of a
-//! format but its law.
+//! The laws of the calls for user-defined formats, with values at their limits. The functions in `laws` require nothing
+//! of a format except its law.
 
 ghost use Rattle.std.specs.Prelude.{◌<◌, ◌≤◌};
 
@@ -17,7 +17,7 @@ use rustc_apfloat::ieee::{IeeeFloat, NonfiniteBehavior, Semantics};
 use rustc_apfloat::{Float, Status};
 use std::process::Abort;
 
-/// A value at a limit of a format, or beside one.
+/// A value at a limit of a format, or next to one.
 #[derive(Clone, Copy)]
 enum Limit {
     Zero,
@@ -70,14 +70,14 @@ fn value_at<S: Semantics>(limit: Limit, negative: bool) -> IeeeFloat<S> {
     if negative { -x } else { x }
 }
 
-/// Whether both are positive numbers, neither of which is more than twice the other.
+/// Whether both are positive numbers, neither more than twice the other.
 fn are_near<S: Semantics>(x: IeeeFloat<S>, y: IeeeFloat<S>) -> bool {
     let zero = IeeeFloat::zero();
     let are_positive = x.is_finite() && y.is_finite() && x > zero && y > zero;
     are_positive && !(x > y.scalbn(1)) && !(y > x.scalbn(1))
 }
 
-/// The difference of near numbers is exact, and added to the right one the left one.
+/// The difference of near numbers is exact: added to the right one, it gives the left one.
 fn check_difference<S: Semantics>(rt: &impl Abort, x: IeeeFloat<S>, y: IeeeFloat<S>) {
     for mode in MODES {
         let difference = near_difference(x, y, mode);
@@ -102,7 +102,7 @@ fn check_sums<S: Semantics>(rt: &impl Abort, x: IeeeFloat<S>, y: IeeeFloat<S>, z
     }
 }
 
-/// A product with the turned left factor in the opposite mode is the turned product.
+/// The product with the negated left factor in the opposite mode is the negated product.
 fn check_product<S: Semantics>(rt: &impl Abort, x: IeeeFloat<S>, y: IeeeFloat<S>)
     requires { S.PRECISION ≤ 64 }
 {
@@ -118,8 +118,8 @@ fn check_product<S: Semantics>(rt: &impl Abort, x: IeeeFloat<S>, y: IeeeFloat<S>
     }
 }
 
-/// A number comes back from the format of the most digits and the widest exponents, and from one of three digits if it
-/// gets there.
+/// A number is unchanged by conversion to the format of the most digits and the widest exponents and back, and by
+/// conversion to one of three digits and back if that format has it.
 fn check_conversions<S: Semantics>(rt: &impl Abort, x: IeeeFloat<S>) {
     for mode in MODES {
         let (from_vast, lost) = there_and_back::<S, VastS>(x, mode);
@@ -133,7 +133,7 @@ fn check_conversions<S: Semantics>(rt: &impl Abort, x: IeeeFloat<S>) {
     }
 }
 
-/// A step up and a step down.
+/// The next value up, and then the next down.
 fn check_steps<S: Semantics>(rt: &impl Abort, x: IeeeFloat<S>) {
     let back = up_and_down(x);
     if S::NONFINITE_BEHAVIOR == NonfiniteBehavior::IEEE754 && x.is_finite_non_zero() {
@@ -141,7 +141,7 @@ fn check_steps<S: Semantics>(rt: &impl Abort, x: IeeeFloat<S>) {
     }
 }
 
-/// A value through bits, and its bits through a value.
+/// A value written as bits and read back, and its bits read as a value and written back.
 fn check_bits<S: Semantics>(rt: &impl Abort, x: IeeeFloat<S>)
     requires { S.PRECISION < S.BITS }
 {
@@ -150,7 +150,7 @@ fn check_bits<S: Semantics>(rt: &impl Abort, x: IeeeFloat<S>)
     assert_eq!(rt; through_value::<S>(bits), bits, "{x:?}");
 }
 
-/// The laws of one, two and three values that every format has.
+/// The laws on one, two and three values that hold in every format.
 fn check_laws<S: Semantics>(rt: &impl Abort) {
     for left in LIMITS {
         for left_sign in SIGNS {
@@ -162,6 +162,7 @@ fn check_laws<S: Semantics>(rt: &impl Abort) {
     }
 }
 
+/// The laws on two and three values, with `x` as the first.
 fn check_laws_beside<S: Semantics>(rt: &impl Abort, x: IeeeFloat<S>) {
     for right in LIMITS {
         for right_sign in SIGNS {
@@ -175,6 +176,7 @@ fn check_laws_beside<S: Semantics>(rt: &impl Abort, x: IeeeFloat<S>) {
     }
 }
 
+/// The law of products, for values at the limits.
 fn check_products<S: Semantics>(rt: &impl Abort)
     requires { S.PRECISION ≤ 64 }
 {
@@ -189,6 +191,7 @@ fn check_products<S: Semantics>(rt: &impl Abort)
     }
 }
 
+/// The laws of bits, for values at the limits.
 fn check_values_and_bits<S: Semantics>(rt: &impl Abort)
     requires { S.PRECISION < S.BITS }
 {

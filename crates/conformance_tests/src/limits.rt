@@ -1,4 +1,4 @@
-//! Formats of a user's own at the limits of the law: the calls need no more of them than their law.
+//! User-defined formats at the limits of the law: the calls require no more of them than their law.
 
 ghost use Rattle.std.specs.Prelude.{◌<◌};
 
@@ -11,14 +11,14 @@ use rustc_apfloat::{Category, Flags, Float, Round};
 use std::cmp::Ordering;
 use std::process::Abort;
 
-/// What a whole number becomes: another whole number, or what stands past the largest value.
+/// What a whole number is converted to: another whole number, or the value past the largest one.
 #[derive(Clone, Copy)]
 enum Answer {
     Number(u128),
     Past,
 }
 
-/// A number, a mode, the answer and the bits of its status.
+/// A whole number, a mode, the answer and the bits of its status.
 type Row = (u128, Round, Answer, u8);
 
 /// The largest value is 14.
@@ -75,6 +75,7 @@ static TEN: [Row; 4] = [
     (126976, ZERO, Answer::Number(122880), INEXACT),
 ];
 
+/// Each row of a table.
 fn check_rows<S: Semantics>(rt: &impl Abort, rows: &[Row]) {
     for (number, mode, answer, status) in rows {
         let got = IeeeFloat::<S>::from_u128_r(*number, *mode);
@@ -87,7 +88,7 @@ fn check_rows<S: Semantics>(rt: &impl Abort, rows: &[Row]) {
     }
 }
 
-/// The order of the ends of a format, and what its minima and maxima are.
+/// The order of the ends of a format, and its minima and maxima.
 fn check_ends<S: Semantics>(rt: &impl Abort) {
     assert!(rt; IeeeFloat::<S>::zero() < IeeeFloat::<S>::smallest());
     assert!(rt; IeeeFloat::<S>::smallest() < IeeeFloat::<S>::smallest_normalized());
@@ -106,7 +107,7 @@ fn check_ends<S: Semantics>(rt: &impl Abort) {
     assert!(rt; IeeeFloat::<S>::smallest_normalized().is_normal());
 }
 
-/// The bits of 1, of the largest value and of what stands past it.
+/// The bits of 1, of the largest value and of the value past it.
 fn check_bits<S: Semantics>(rt: &impl Abort, one: u128, largest: u128, past: u128)
     requires { S.PRECISION < S.BITS }
 {

@@ -1,4 +1,4 @@
-//! Texts whose digits are very many.
+//! Texts with very many digits.
 
 ghost use Rattle.std.specs.Prelude.{◌<◌};
 
@@ -8,8 +8,8 @@ use rustc_apfloat::{Flags, Float, Round};
 use std::process::Abort;
 use std::test::Fail;
 
-/// What stands in front of a digit, the digit, how many of it there are, what stands behind, a mode, the bits of the value
-/// and the bits of the status.
+/// What precedes a digit, the digit, how often it is repeated, what follows, a mode, the bits of the value and the bits
+/// of the status.
 type Row = (
     &'static str,
     &'static str,

@@ -1,5 +1,5 @@
-//! The next value up and down from every pattern of the small formats, value and status, by the order of patterns: those
-//! of positive values rise with them from zero to what stands past the largest.
+//! The next value up and down from every bit pattern of the small formats, value and status, by the order of the
+//! patterns: those of positive values increase with the values, from zero to the one past the largest.
 
 ghost use Rattle.std.specs.Prelude.{◌<◌};
 
@@ -15,7 +15,7 @@ use rustc_apfloat::ieee::{
 };
 use std::process::Abort;
 
-/// The bits of that sign and magnitude; a zero has none in some formats.
+/// The bits of that sign and magnitude; in some formats a zero has no sign.
 fn signed(layout: Layout, negative: bool, magnitude: u128) -> u128 {
     let unsigned_zero = magnitude == 0
         && layout.bounds.nonfinite == NonfiniteBehavior::NanNegativeZero;
@@ -26,7 +26,7 @@ fn signed(layout: Layout, negative: bool, magnitude: u128) -> u128 {
     }
 }
 
-/// The answer of a step from a NaN: of one that signals only the sign is kept.
+/// The result of a step from a NaN: of a signaling one, only the sign is kept.
 fn step_from_nan(format: Small, bits: u128, negative: bool) -> Expected {
     if signals(format, bits) {
         let layout = layout_of(format);
@@ -39,8 +39,8 @@ fn step_from_nan(format: Small, bits: u128, negative: bool) -> Expected {
     }
 }
 
-/// The answer of a step up, or else of one down: from a zero to the least value of that direction, toward zero one
-/// pattern back, and away from it one pattern on, but from an infinity no further.
+/// The result of a step up or down: from a zero to the least value in that direction, toward zero to the previous
+/// pattern, and away from zero to the next pattern, but from an infinity no further.
 fn step(format: Small, bits: u128, upward: bool) -> Expected {
     let layout = layout_of(format);
     let x = decoded(format, bits);
@@ -54,6 +54,7 @@ fn step(format: Small, bits: u128, upward: bool) -> Expected {
     }
 }
 
+/// Every bit pattern of a format, in both directions.
 fn check_all<S: Semantics>(rt: &impl Abort, format: Small)
     requires { S.PRECISION < S.BITS }
 {
@@ -69,8 +70,8 @@ fn check_all<S: Semantics>(rt: &impl Abort, format: Small)
     }
 }
 
-/// A step up and a step down from a number that is not zero; past the largest value the way back leads to it only from
-/// an infinity.
+/// A step up and a step down from a nonzero number; past the largest value, the way back leads to it only from an
+/// infinity.
 fn check_back<S: Semantics>(rt: &impl Abort, format: Small)
     requires { S.PRECISION < S.BITS }
 {

@@ -1,4 +1,5 @@
-//! Sums, differences, products and quotients of patterns: value and status against the plain program of one rounding.
+//! Sums, differences, products and quotients of bit patterns: value and status compared with the plain program for one
+//! rounding.
 
 ghost use Rattle.std.specs.Prelude.{◌<◌, ◌≤◌};
 
@@ -10,6 +11,7 @@ use rustc_apfloat::ieee::{
 use rustc_apfloat::{Float, Round, StatusAnd};
 use std::process::Abort;
 
+/// An answer is the expected one.
 fn check<S: Semantics>(
     rt: &impl Abort,
     answer: StatusAnd<IeeeFloat<S>>,
@@ -23,7 +25,7 @@ fn check<S: Semantics>(
     assert_eq!(rt; answered(answer), expected, "{x:x} {operation} {y:x}");
 }
 
-/// The four operations on two patterns.
+/// The four operations on two bit patterns.
 fn check_pair<S: Semantics>(rt: &impl Abort, format: Small, mode: Round, x: u128, y: u128)
     requires written { S.PRECISION < S.BITS }
     requires multiplied { S.PRECISION ≤ 64 }
@@ -64,7 +66,7 @@ fn check_pair<S: Semantics>(rt: &impl Abort, format: Small, mode: Round, x: u128
     );
 }
 
-/// All pairs of patterns of eight bits.
+/// All pairs of 8-bit patterns.
 fn check_all<S: Semantics>(rt: &impl Abort, format: Small, mode: Round)
     requires written { S.PRECISION < S.BITS }
     requires multiplied { S.PRECISION ≤ 64 }
@@ -76,13 +78,13 @@ fn check_all<S: Semantics>(rt: &impl Abort, format: Small, mode: Round)
     }
 }
 
-/// +0, the greatest negative number, the greatest denormal, the number below 1, 3, the lowest number, the infinity, and a
-/// NaN that signals.
+/// +0, the greatest negative number, the greatest denormal, the number below 1, 3, the lowest number, the infinity, and
+/// a signaling NaN.
 static PARTNERS: [u128; 8] = [
     0x0000, 0x8001, 0x03ff, 0x3bff, 0x4200, 0xfbff, 0x7c00, 0x7d00,
 ];
 
-/// All patterns of binary16 beside each of the partners, on either side.
+/// All bit patterns of binary16 with each of the partners, on either side.
 fn check_half(rt: &impl Abort, mode: Round) {
     for pattern in 0..1u64 << 16 {
         let bits = u128::from(pattern);
@@ -93,6 +95,7 @@ fn check_half(rt: &impl Abort, mode: Round) {
     }
 }
 
+/// All pairs of bit patterns of each 8-bit format.
 fn check_eight_bits(rt: &impl Abort, mode: Round) {
     check_all::<Float8E5M2S>(rt, Small::Float8E5M2, mode);
     check_all::<Float8E4M3FNS>(rt, Small::Float8E4M3FN, mode);

@@ -1,4 +1,4 @@
-//! Every pattern of the small formats: read and written, and with its sign turned.
+//! Every bit pattern of the small formats: read and written, and with its sign changed.
 
 ghost use Rattle.std.specs.Prelude.{◌<◌};
 
@@ -6,7 +6,7 @@ use rustc_apfloat::Float;
 use rustc_apfloat::ieee::{BFloatS, Float8E4M3FNS, Float8E4M3FNUZS, Float8E5M2S, HalfS, Semantics};
 use std::process::Abort;
 
-/// The bits of a value are those it was read from, and a value is the one that is read from its bits.
+/// A bit pattern read as a value and written back is unchanged, and so is a value written as bits and read back.
 fn check_bits<S: Semantics>(rt: &impl Abort, patterns: u64)
     requires { S.PRECISION < S.BITS }
 {
@@ -18,7 +18,7 @@ fn check_bits<S: Semantics>(rt: &impl Abort, patterns: u64)
     }
 }
 
-/// A value with its sign turned has the bits that `turned` says, and turned again its own.
+/// A negated value has the bits `turned`, and negated again its own.
 fn check_sign<S: Semantics>(rt: &impl Abort, bits: u128, turned: u128)
     requires { S.PRECISION < S.BITS }
 {
@@ -27,6 +27,7 @@ fn check_sign<S: Semantics>(rt: &impl Abort, bits: u128, turned: u128)
     assert_eq!(rt; S::to_bits(-negated), bits, "{bits:x}");
 }
 
+/// Every bit pattern of a format, with its sign changed.
 fn check_signs<S: Semantics>(rt: &impl Abort, patterns: u64)
     requires { S.PRECISION < S.BITS }
 {
@@ -54,7 +55,7 @@ fn signs_turn(rt: HostRuntime) {
     check_signs::<Float8E4M3FNS>(&rt, 1 << 8);
 }
 
-/// The zero and the NaN have one sign alone.
+/// The zero and the NaN have only one sign.
 #[test]
 fn signs_turn_where_zero_has_none(rt: HostRuntime) {
     for pattern in 0..256u64 {

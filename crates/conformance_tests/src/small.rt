@@ -1,5 +1,5 @@
-//! Small formats by numbers: their bits read and written by plain arithmetic, and what each operation on two patterns
-//! has to answer, by the rules for zeros, infinities and NaNs and by the plain program of one rounding.
+//! Small formats in integer arithmetic: reading and writing their bits, and the expected result of each operation on
+//! two bit patterns, by the rules for zeros, infinities and NaNs and by the plain program for one rounding.
 
 ghost use Rattle.std.specs.Prelude.{◌*◌, ◌^◌, ◌<◌, ◌≤◌};
 
@@ -16,7 +16,8 @@ pub enum Small {
     Float8E4M3FNUZ,
 }
 
-/// What the bits of a format stand for; patterns of positive numbers rise with them from zero to the largest.
+/// What the bits of a format mean; the patterns of positive numbers increase with the numbers, from zero to the
+/// largest.
 #[derive(Clone, Copy)]
 pub struct Layout {
     pub bounds: Bounds,
@@ -26,10 +27,11 @@ pub struct Layout {
     pub minus: u128,
     /// The bits of the infinity, or of the NaN in a format that has none.
     pub past: u128,
-    /// The bit of a quiet NaN, 0 where no NaN signals.
+    /// The bit that makes a NaN quiet, or 0 if no NaN is signaling.
     pub quiet: u128,
 }
 
+/// The layout of a format.
 pub fn layout_of(format: Small) -> Layout
     ensures some_digits { 3 ≤ result.bounds.precision }
     ensures few_digits { result.bounds.precision ≤ 11 }
@@ -97,7 +99,7 @@ pub fn layout_of(format: Small) -> Layout
     }
 }
 
-/// How many patterns a format has.
+/// How many bit patterns a format has.
 pub fn patterns_of(format: Small) -> u64 {
     match format {
         Small::Half => 1 << 16,
@@ -112,7 +114,7 @@ pub enum Class {
     NotANumber,
 }
 
-/// What a pattern stands for; `quanta` is 0 unless it is a number.
+/// What a bit pattern means; `quanta` is 0 unless it is a number.
 #[derive(Clone, Copy, Debug)]
 pub struct Operand {
     pub class: Class,
@@ -134,6 +136,7 @@ fn quanta_of(integer_bit: u128, magnitude: u128) -> u128
     }
 }
 
+/// What a bit pattern means.
 pub fn decoded(format: Small, bits: u128) -> Operand
     ensures { result.quanta < 2 ^ 40 }
 {
@@ -159,8 +162,8 @@ pub fn decoded(format: Small, bits: u128) -> Operand
     }
 }
 
-/// The bits of so many quanta: they are halved until the integer bit is their highest digit, and each halving adds one to
-/// the exponent, which is written from the place of the integer bit on.
+/// The bits of a count of quanta: they are halved until the integer bit is their highest digit, and each halving adds
+/// one to the exponent, which is written from the place of the integer bit on.
 pub fn magnitude_bits(integer_bit: u128, quanta: u128) -> u128
     requires { 0 < integer_bit }
 {
@@ -173,12 +176,12 @@ pub fn magnitude_bits(integer_bit: u128, quanta: u128) -> u128
     exponent + significand
 }
 
-/// The bits of that sign; a zero and a NaN of some formats have none.
+/// The bits of that sign; in some formats a zero and a NaN have none.
 pub fn sign_bit(layout: Layout, negative: bool) -> u128 {
     if negative { layout.minus } else { 0 }
 }
 
-/// The bits of what stands past the largest value.
+/// The bits of the value past the largest one.
 pub fn past_bits(layout: Layout, negative: bool) -> u128 {
     sign_bit(layout, negative) | layout.past
 }
@@ -196,7 +199,7 @@ pub fn bits_of(layout: Layout, answer: Answer) -> u128
     }
 }
 
-/// The bits and the status that an operation has to answer.
+/// The bits and the status that are expected of an operation.
 #[derive(Clone, Copy, Debug, PartialEq, Eq)]
 pub struct Expected {
     pub bits: u128,
@@ -213,11 +216,12 @@ pub fn answered<S: Semantics>(answer: StatusAnd<IeeeFloat<S>>) -> Expected
     }
 }
 
+/// These bits, with no flag.
 pub fn exactly(bits: u128) -> Expected {
     Expected { bits, status: OK }
 }
 
-/// The answer of an invalid operation on operands that are no NaNs: the positive quiet NaN without a payload.
+/// The result of an invalid operation on operands that are not NaNs: the positive quiet NaN without a payload.
 fn invalid(layout: Layout) -> Expected {
     Expected {
         bits: layout.past | layout.quiet,
@@ -239,6 +243,7 @@ fn rounded(format: Small, mode: Round, negative: bool, amount: u128, parts: u128
     }
 }
 
+/// Whether the bit pattern is a NaN.
 pub fn is_nan(format: Small, bits: u128) -> bool {
     match decoded(format, bits).class {
         Class::NotANumber => true,
@@ -247,12 +252,12 @@ pub fn is_nan(format: Small, bits: u128) -> bool {
     }
 }
 
-/// Whether the pattern is a NaN that signals.
+/// Whether the bit pattern is a signaling NaN.
 pub fn signals(format: Small, bits: u128) -> bool {
     is_nan(format, bits) && bits | layout_of(format).quiet != bits
 }
 
-/// The bits after an operation that keeps the value: a NaN's are those of a quiet one.
+/// The bits after an operation that keeps the value: for a NaN, those of the quiet one.
 pub fn quieted(format: Small, bits: u128) -> u128 {
     if is_nan(format, bits) {
         bits | layout_of(format).quiet
@@ -261,7 +266,7 @@ pub fn quieted(format: Small, bits: u128) -> u128 {
     }
 }
 
-/// The answer of an operation that keeps the value.
+/// The result of an operation that keeps the value.
 pub fn kept(format: Small, bits: u128) -> Expected {
     Expected {
         bits: quieted(format, bits),
@@ -273,7 +278,7 @@ pub fn kept(format: Small, bits: u128) -> Expected {
     }
 }
 
-/// The answer of an operation on patterns of which one at least is a NaN: the left one, made quiet.
+/// The result of an operation on bit patterns, at least one of which is a NaN: the left one, quieted.
 fn of_nans(format: Small, x: u128, y: u128) -> Expected {
     let nan = if is_nan(format, x) { x } else { y };
     Expected {
@@ -286,7 +291,8 @@ fn of_nans(format: Small, x: u128, y: u128) -> Expected {
     }
 }
 
-/// The exact sum of two numbers of quanta, rounded once. An exact zero of unlike signs is negative downward alone.
+/// The exact sum of two counts of quanta, rounded once. An exact zero of opposite signs is negative only when rounding
+/// downward.
 fn rounded_sum(format: Small, mode: Round, x: Operand, y: Operand) -> Expected
     requires left { x.quanta < 2 ^ 40 }
     requires right { y.quanta < 2 ^ 40 }
@@ -318,6 +324,7 @@ fn sum_of(format: Small, mode: Round, x: Operand, y: Operand) -> Expected
     }
 }
 
+/// The expected sum.
 pub fn sum(format: Small, mode: Round, x: u128, y: u128) -> Expected {
     if is_nan(format, x) || is_nan(format, y) {
         return of_nans(format, x, y);
@@ -325,6 +332,7 @@ pub fn sum(format: Small, mode: Round, x: u128, y: u128) -> Expected {
     sum_of(format, mode, decoded(format, x), decoded(format, y))
 }
 
+/// The expected difference.
 pub fn difference(format: Small, mode: Round, x: u128, y: u128) -> Expected {
     if is_nan(format, x) || is_nan(format, y) {
         return of_nans(format, x, y);
@@ -338,6 +346,7 @@ pub fn difference(format: Small, mode: Round, x: u128, y: u128) -> Expected {
     sum_of(format, mode, decoded(format, x), turned)
 }
 
+/// The expected product.
 pub fn product(format: Small, mode: Round, x: u128, y: u128) -> Expected {
     if is_nan(format, x) || is_nan(format, y) {
         return of_nans(format, x, y);
@@ -362,6 +371,7 @@ pub fn product(format: Small, mode: Round, x: u128, y: u128) -> Expected {
     }
 }
 
+/// The expected quotient.
 pub fn quotient(format: Small, mode: Round, x: u128, y: u128) -> Expected {
     if is_nan(format, x) || is_nan(format, y) {
         return of_nans(format, x, y);
@@ -380,6 +390,7 @@ pub fn quotient(format: Small, mode: Round, x: u128, y: u128) -> Expected {
     }
 }
 
+/// The expected quotient of two numbers.
 fn quotient_of_numbers(format: Small, mode: Round, negative: bool, x: u128, y: u128) -> Expected
     requires left { x < 2 ^ 40 }
     requires right { y < 2 ^ 40 }
@@ -395,7 +406,7 @@ fn quotient_of_numbers(format: Small, mode: Round, negative: bool, x: u128, y: u
     }
 }
 
-/// The answer of rounding the pattern to a whole number.
+/// The expected result of rounding the bit pattern to a whole number.
 pub fn integral(format: Small, mode: Round, bits: u128) -> Expected {
     let layout = layout_of(format);
     let x = decoded(format, bits);

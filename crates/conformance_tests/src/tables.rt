@@ -1,11 +1,11 @@
-//! The words of tables: rounding modes, and statuses by their bits.
+//! Names used in tables: rounding modes, and statuses as bits.
 
 use rustc_apfloat::Round;
 
-/// To the nearest value, a tie to the even one.
+/// To the nearest value, ties to even.
 pub const EVEN: Round = Round::NearestTiesToEven;
 
-/// To the nearest value, a tie to the one of greater magnitude.
+/// To the nearest value, ties to the greater magnitude.
 pub const AWAY: Round = Round::NearestTiesToAway;
 
 /// Upward.

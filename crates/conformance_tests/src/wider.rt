@@ -1,4 +1,4 @@
-//! Every pattern of a small format in a wider one and back.
+//! Every bit pattern of a small format converted to a wider one and back.
 
 ghost use Rattle.std.specs.Prelude.{◌<◌, ◌≤◌};
 
@@ -14,7 +14,8 @@ use rustc_apfloat::ieee::{
 use rustc_apfloat::{Flags, Float, FloatConvert, StatusAnd};
 use std::process::Abort;
 
-/// A value comes back as it was, without loss; a signaling NaN comes back quiet, and the way there is invalid.
+/// A value is unchanged after both conversions, without loss; a signaling NaN is quieted, and the first conversion is
+/// invalid.
 fn check<S: Semantics, W: Semantics>(rt: &impl Abort, patterns: u64, quiet: u128)
     requires { S.PRECISION < S.BITS }
 {
@@ -40,7 +41,7 @@ fn check<S: Semantics, W: Semantics>(rt: &impl Abort, patterns: u64, quiet: u128
 /// A format with infinities and its bits.
 #[derive(Clone, Copy)]
 struct Wide {
-    /// How many digits stand below the integer bit.
+    /// How many digits are below the integer bit.
     fraction_digits: u32,
     /// 1 is 2 to this power quanta.
     scale: u32,
@@ -77,7 +78,7 @@ fn scale_of(format: Small) -> u32
     }
 }
 
-/// The bits of so many quanta of 2^-`scale`: the highest digit is the integer bit, or one below it of a denormal.
+/// The bits of a count of quanta of 2^-`scale`: the highest digit is the integer bit, or for a denormal one below it.
 fn number_bits(wide: Wide, scale: u32, quanta: u128) -> u128
     requires some { 0 < quanta }
     requires finer { scale ≤ wide.scale }
@@ -95,7 +96,7 @@ fn number_bits(wide: Wide, scale: u32, quanta: u128) -> u128
     exponent << wide.fraction_digits | fraction
 }
 
-/// The bits of a NaN, whose payload stays at the highest digits of its significand.
+/// The bits of a NaN, whose payload stays in the highest digits of its significand.
 fn nan_bits(format: Small, wide: Wide, bits: u128) -> u128
     requires some_digits { 10 ≤ wide.fraction_digits }
     requires few_digits { wide.fraction_digits ≤ 23 }
@@ -106,7 +107,7 @@ fn nan_bits(format: Small, wide: Wide, bits: u128) -> u128
     wide.infinity | wide.quiet | significand << more_digits
 }
 
-/// The bits of that sign; the NaN of some formats has none.
+/// The bits of that sign; in some formats the NaN has none.
 fn wide_sign(format: Small, wide: Wide, x: Operand) -> u128 {
     match (x.class, layout_of(format).bounds.nonfinite) {
         (Class::NotANumber, NonfiniteBehavior::NanNegativeZero) => 0,
@@ -115,7 +116,7 @@ fn wide_sign(format: Small, wide: Wide, x: Operand) -> u128 {
     }
 }
 
-/// What a pattern is in the wide format.
+/// A bit pattern converted to the wide format.
 fn widened(format: Small, wide: Wide, bits: u128) -> Expected
     requires finer { 24 ≤ wide.scale }
     requires few_places { wide.scale ≤ 149 }
@@ -135,13 +136,13 @@ fn widened(format: Small, wide: Wide, bits: u128) -> Expected
     }
 }
 
-/// Whether the way back loses the payload of a NaN as a whole.
+/// Whether the conversion back loses the payload of a NaN as a whole.
 fn loses_payload(format: Small, bits: u128) -> bool {
     let has_payloads = layout_of(format).bounds.nonfinite == NonfiniteBehavior::IEEE754;
     is_nan(format, bits) && !has_payloads
 }
 
-/// Every pattern of a small format in a wider one, by its digits, and back.
+/// Every bit pattern of a small format converted to a wider one, by its digits, and back.
 fn check_small<S: Semantics, W: Semantics>(rt: &impl Abort, format: Small, wide: Wide)
     requires narrow_written { S.PRECISION < S.BITS }
     requires wide_written { W.PRECISION < W.BITS }

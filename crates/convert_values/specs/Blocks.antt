@@ -1,14 +1,14 @@
--- Values that stand side by side in bytes.
+-- Values in consecutive bytes.
 use Rattle.std.specs.Prelude.{◌≡◌, ℕ, ◌+◌, ◌*◌, List, length, slice_get, slice_range, IfSome}
 use Rattle.convert_values.specs.declared.counts.Outcome.{Outcome}
 use Rattle.convert_values.specs.declared.counts.Counts.{Counts}
 use Rattle.convert_values.specs.Outcomes.{counts_of}
 
--- the bytes of a value, by its index, where each has so many
+-- the bytes of a value, by its index, if each takes `width` bytes
 abbrev pub value_at : ℕ → ℕ → List ℕ → List ℕ
 value_at width index bytes = slice_range bytes (index * width) (index * width + width)
 
--- what is said of the bytes given, the bytes made of them, and the outcome holds of each value, in its place
+-- the relation between input bytes, output bytes and outcome holds for each value, in its place
 pub record IsBlock (Holds : List ℕ → List ℕ → Outcome → Type 0) (source target count : ℕ) (input output : List ℕ)
     (counts : Counts) : Type 0 where
   pub outcomes : List Outcome

@@ -1,4 +1,4 @@
--- What becomes of values, and how many of them.
+-- The outcomes of conversions, and their counts.
 use Rattle.std.specs.Prelude.{ℕ, min, ◌+◌, ◌-◌, ◌^◌, ◌<◌, Bool, not, ◌==◌, bit_and, if◌then◌else◌, List, length, count_by}
 use Rattle.rustc_apfloat.specs.Flags.{bits_of}
 use Rattle.convert_values.specs.declared.counts.Outcome.{Outcome}
@@ -47,7 +47,7 @@ pub record HaveRoom (counts : Counts) : Type 0 where
   pub invalid : counts.invalid < 2 ^ 64 - 1
   pub nans : counts.nans < 2 ^ 64 - 1
 
--- a count that stops at the greatest number of its type
+-- a count that stops at the greatest value of its type
 abbrev pub sum_to_top : ℕ → ℕ → ℕ
 sum_to_top count more = min (count + more) (2 ^ 64 - 1)
 

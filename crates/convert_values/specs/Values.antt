@@ -10,8 +10,8 @@ use Rattle.rustc_apfloat.specs.Layout.{datum_of, IsEncodedBy}
 use Rattle.convert_values.specs.declared.counts.Outcome.{Outcome}
 use Rattle.convert_values.specs.Bytes.{number_of}
 
--- The bytes given are a value of the first format, and those made are the one encoding of its conversion to the second.
--- Bytes behind the width of the first are not looked at, those behind the width of the second are 0.
+-- The input bytes are a value of the first format, and the output bytes are the one encoding of its conversion to the
+-- second. Bytes beyond the width of the first are ignored, those beyond the width of the second are 0.
 pub record IsConvertedValue (c d : Constants) (mode : Round) (input output : List ℕ)
     (outcome : Outcome) : Type 0 where
   pub value : Datum

@@ -1,4 +1,4 @@
-//! Values side by side.
+//! Values in consecutive bytes.
 
 ghost use Rattle.std.specs.Prelude.{◌≡◌, ◌*◌, ◌<◌, ◌≤◌, length};
 ghost use Rattle.rustc_apfloat.specs.Types.{constants_of};
@@ -19,7 +19,7 @@ pub struct Widths {
     pub target: usize,
 }
 
-/// Converts so many values, each in its place: the bytes of the first to the bytes of the first, and so on.
+/// Converts a count of values, each in its place: the bytes of the first to the bytes of the first, and so on.
 pub fn convert_block<S: Semantics, T: Semantics>(
     round: Round,
     widths: Widths,

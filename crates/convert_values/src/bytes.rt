@@ -1,9 +1,9 @@
-//! Numbers as bytes, the lowest first.
+//! Whole numbers as bytes, lowest first.
 
 ghost use Rattle.std.specs.Prelude.{◌≡◌, ◌^◌, ◌<◌, ◌≤◌, length};
 ghost use Rattle.convert_values.specs.Bytes.{number_of};
 
-/// The number that bytes stand for, the lowest first.
+/// The whole number that bytes stand for, lowest first.
 #[inline]
 pub fn number_of(bytes: &[u8]) -> u128
     requires { length bytes.now ≤ 16 }
@@ -16,7 +16,7 @@ pub fn number_of(bytes: &[u8]) -> u128
     number
 }
 
-/// Writes a number as bytes, the lowest first.
+/// Writes a whole number as bytes, lowest first.
 #[inline]
 pub fn write_number(number: u128, bytes: &mut [u8])
     requires { number < 256 ^ length bytes.old }

@@ -15,7 +15,7 @@ use rustc_apfloat::ieee::{
     SingleS, X87DoubleExtendedS,
 };
 
-/// From which format to which, how it rounds, and how values of the x87's format lie.
+/// The formats converted from and to, the rounding mode, and how many bytes a value of the x87 format takes.
 #[derive(Clone, Copy, Debug)]
 pub struct Conversion {
     /// The format converted from.
@@ -24,7 +24,7 @@ pub struct Conversion {
     pub target: Format,
     /// The rounding mode.
     pub round: Round,
-    /// In how many bytes a value of the x87's format lies.
+    /// How many bytes a value of the x87 format takes.
     pub extended: Extended,
 }
 
@@ -43,7 +43,7 @@ impl Conversion {
         }
     }
 
-    /// Converts so many values, each in its place.
+    /// Converts a count of values, each in its place.
     pub fn convert(self, count: usize, input: &[u8], output: &mut [u8]) -> Counts
         requires input { length input.now ≡ count * source_width self }
         requires output { length output.old ≡ count * target_width self }
@@ -64,7 +64,7 @@ impl Conversion {
         }
     }
 
-    /// The same from a format that is known.
+    /// The same, for a known source format.
     fn from_format<S: Semantics>(self, count: usize, input: &[u8], output: &mut [u8]) -> Counts
         requires read { S.PRECISION < S.BITS }
         requires input { length input.now ≡ count * source_width self }

@@ -1,11 +1,11 @@
-//! What becomes of values, and how many of them.
+//! The outcomes of conversions, and their counts.
 
 ghost use Rattle.std.specs.Prelude.{◌≡◌};
 ghost use Rattle.convert_values.specs.Outcomes.{HaveRoom, sum_of, with_outcome};
 
 use rustc_apfloat::{Flags, Status};
 
-/// What became of a value.
+/// The outcome of converting a value.
 #[derive(Clone, Copy)]
 pub struct Outcome {
     /// The flags that its conversion raised.
@@ -14,7 +14,7 @@ pub struct Outcome {
     pub is_nan: bool,
 }
 
-/// How many values there were, and of how many of them the conversion raised a flag or gave a NaN.
+/// How many values there were, and for how many of them the conversion raised a flag or gave a NaN.
 #[derive(Clone, Copy, Debug, PartialEq, Eq)]
 pub struct Counts {
     /// All values.
@@ -32,7 +32,7 @@ pub struct Counts {
 }
 
 impl Counts {
-    /// Those of no value.
+    /// The counts before any value.
     pub const NONE: Counts = Counts {
         values: 0,
         inexact: 0,
@@ -57,7 +57,7 @@ impl Counts {
         self.nans += u64::from(outcome.is_nan);
     }
 
-    /// Counts the values of a block too. A count stops at the greatest number of its type.
+    /// Adds the counts of a block. A count stops at the greatest value of its type.
     pub fn add(&mut self, block: Counts)
         ensures { self.new ≡ sum_of self.old block }
     {

@@ -1,4 +1,4 @@
-//! The formats, by their words.
+//! The formats, by name.
 
 ghost use Rattle.std.specs.Prelude.{◌≡◌};
 ghost use Rattle.commands.specs.Commands.{found};
@@ -23,16 +23,16 @@ pub enum Format {
     E4M3FN,
     /// The same with no negative zero.
     E4M3FNUZ,
-    /// The extended format of the x87, which writes its integer bit.
+    /// The extended format of the x87, with an explicit integer bit.
     X87,
 }
 
-/// In how many bytes a value of the x87's format lies.
+/// How many bytes a value of the x87 format takes.
 #[derive(Clone, Copy, Debug)]
 pub enum Extended {
-    /// In the ten that it is written with.
+    /// Ten, which is the size of its encoding.
     Packed,
-    /// In sixteen, of which the last six are padding.
+    /// Sixteen, of which the last six are padding.
     Padded,
 }
 

@@ -1,11 +1,11 @@
-//! Converts a stream of values from one format to another: `convert_values FROM TO MODE` reads little-endian values of
-//! the format FROM from standard input, and writes them in the format TO to standard output, in their order. A line on
+//! Converts a stream of values from one format to another: `convert_values FROM TO MODE` reads little-endian values in
+//! the format FROM from standard input, and writes them in the format TO to standard output, in order. A line on
 //! standard error counts the values and the flags that their conversions raised.
 //!
-//! `USAGE` says what the words are.
+//! `USAGE` explains the arguments.
 //!
-//! The exit status is 0 where all values were converted, 1 where the stream ended inside a value, 2 for other words, 3
-//! where there is no memory for the buffers, and 4 where a read or a write failed.
+//! The exit status is 0 if all values were converted, 1 if the stream ended inside a value, 2 for other arguments, 3 if
+//! there is not enough memory for the buffers, and 4 if a read or a write failed.
 #![tactic(auto)]
 
 mod blocks;
@@ -26,6 +26,7 @@ use std::env::Env;
 use std::process::ExitCode;
 use std::{env, io};
 
+/// Runs the program and returns its exit status.
 fn main(rt: HostRuntime) -> ExitCode {
     let words = words_of_system(&rt);
     let status = run(

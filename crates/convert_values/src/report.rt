@@ -1,4 +1,4 @@
-//! Runs the program, and says what became of it.
+//! Runs the program, and reports the outcome.
 
 use crate::counts::Counts;
 use crate::request::{Request, USAGE, requested};
@@ -15,9 +15,9 @@ const NO_MEMORY: u8 = 3;
 
 const FAILED: u8 = 4;
 
-/// Runs the words that the system gave the program: converts `input` to `output`, and says on `err` what came of it.
+/// Runs the program with the arguments from the system: converts `input` to `output`, and reports the outcome on `err`.
 ///
-/// Answers the exit status.
+/// Returns the exit status.
 pub fn run<R: Read, W: Write, V: Write>(
     alloc: Global,
     given: io::Result<Vec<String>>,
@@ -58,7 +58,7 @@ fn answer<R: Read, W: Write, V: Write>(
     }
 }
 
-/// Says why there are no words.
+/// Reports why there are no arguments.
 fn refuse_words<V: Write>(error: io::Error, err: &mut V) -> io::Result<u8> {
     match error.kind() {
         ErrorKind::OutOfMemory => {
@@ -72,7 +72,7 @@ fn refuse_words<V: Write>(error: io::Error, err: &mut V) -> io::Result<u8> {
     }
 }
 
-/// Says what was counted, and whether the stream ended inside a value.
+/// Reports the counts, and whether the stream ended inside a value.
 fn tell<V: Write>(summary: Summary, err: &mut V) -> io::Result<u8> {
     tell_counts(summary.counts, err)?;
     let bytes = summary.left_over;
@@ -86,6 +86,7 @@ fn tell<V: Write>(summary: Summary, err: &mut V) -> io::Result<u8> {
     Ok(ENDED_INSIDE)
 }
 
+/// Writes the line of counts.
 fn tell_counts<V: Write>(counts: Counts, err: &mut V) -> io::Result<()> {
     let Counts {
         values,
@@ -101,7 +102,7 @@ fn tell_counts<V: Write>(counts: Counts, err: &mut V) -> io::Result<()> {
     )
 }
 
-/// Says what failed.
+/// Reports what failed.
 fn tell_failure<V: Write>(failure: Failure, err: &mut V) -> io::Result<u8> {
     match failure {
         Failure::Memory => {

@@ -1,4 +1,4 @@
-//! What the words of the program ask for.
+//! What the program's arguments ask for.
 
 use crate::conversion::Conversion;
 use crate::format::{Extended, format_named};
@@ -39,7 +39,7 @@ pub enum Request {
     Convert(Conversion),
 }
 
-/// What these words ask for, those without the program's own name; nothing where one of them is not known.
+/// What these arguments ask for, without the program's own name, or nothing if one of them is not known.
 pub fn requested(words: &[String]) -> Option<Request> {
     match words {
         [word] => match word.as_str() {
@@ -55,7 +55,7 @@ pub fn requested(words: &[String]) -> Option<Request> {
     }
 }
 
-/// The conversion of these names.
+/// The conversion with these names.
 fn conversion(
     extended: Extended,
     source: &String,

@@ -14,12 +14,12 @@ use std::io::{ErrorKind, Read, Write};
 /// How many values are converted at a time.
 const BLOCK: usize = 1 << 14;
 
-/// What a stream held.
+/// What a stream contained.
 #[derive(Clone, Copy, Debug)]
 pub struct Summary {
     /// The counts of its values.
     pub counts: Counts,
-    /// How many bytes stood behind the last value, fewer than a value has.
+    /// How many bytes followed the last value, fewer than a value has.
     pub left_over: usize,
 }
 
@@ -61,7 +61,7 @@ pub fn convert_stream<R: Read, W: Write>(
     )
 }
 
-/// The same through buffers with room for a block.
+/// The same, through buffers with room for a block.
 fn convert_through<R: Read, W: Write>(
     conversion: Conversion,
     read: &mut [u8],
@@ -96,18 +96,18 @@ fn convert_through<R: Read, W: Write>(
     Err(Failure::TooLong)
 }
 
-/// What was made of bytes.
+/// The result of converting bytes.
 #[derive(Clone, Copy)]
 struct Block {
     // The counts of the values.
     counts: Counts,
     // How many bytes were written.
     written: usize,
-    // How many bytes stood behind the last value.
+    // How many bytes followed the last value.
     left_over: usize,
 }
 
-/// Converts the values that stand whole in the bytes read, each in its place.
+/// Converts the values that are complete in the bytes read, each in its place.
 fn convert_whole(conversion: Conversion, read: &[u8], written: &mut [u8]) -> Block
     requires read { length read.now ≤ BLOCK * source_width conversion }
     requires written { length written.old ≡ BLOCK * target_width conversion }
@@ -133,7 +133,7 @@ fn convert_whole(conversion: Conversion, read: &[u8], written: &mut [u8]) -> Blo
     }
 }
 
-/// Reads until the buffer is full or the stream is at its end, and answers how many bytes came.
+/// Reads until the buffer is full or the stream ends, and returns how many bytes were read.
 fn fill<R: Read>(input: &mut R, buffer: &mut [u8]) -> io::Result<usize>
     ensures { IfOk result (λ filled. filled ≤ length buffer.new) }
 {

@@ -1,4 +1,4 @@
-//! Conversions of streams, beside values that were computed apart.
+//! Conversions of streams, compared with values that were computed independently.
 
 mod rows;
 
@@ -17,7 +17,7 @@ use std::io::{ErrorKind, Read, Write};
 use std::process::Abort;
 use std::test::Fail;
 
-/// The bytes of values that take so many bytes each.
+/// The bytes of values, each `width` bytes long.
 fn bytes_of(alloc: Global, values: &[u128], width: usize) -> Result<Vec<u8>, AllocError> {
     let mut bytes = Vec::new(alloc);
     for value in values {
@@ -28,7 +28,7 @@ fn bytes_of(alloc: Global, values: &[u128], width: usize) -> Result<Vec<u8>, All
     Ok(bytes)
 }
 
-/// That the stream of the values becomes that of the others, with these counts.
+/// The stream of the values is converted to that of the others, with these counts.
 fn assert_target(
     rt: &(impl Abort + AllocGlobal),
     source: &Source,
@@ -83,7 +83,7 @@ fn converts_each_format_to_each(rt: HostRuntime) -> Result<(), Fail> {
     Ok(())
 }
 
-/// A reader that gives its bytes a few at a time, and is interrupted before each, and fails where it has no more.
+/// A reader that gives its bytes a few at a time, is interrupted before each read, and fails when it has no more.
 #[derive(Drop)]
 struct Trickle<'a> {
     rest: &'a [u8],
@@ -108,7 +108,7 @@ impl Read for Trickle<'_> {
     }
 }
 
-/// A writer that takes so many bytes, and fails then.
+/// A writer that takes a limited count of bytes, and then fails.
 #[derive(Drop)]
 struct Narrow {
     room: usize,
@@ -138,7 +138,7 @@ fn words(alloc: Global, line: &str) -> Result<Vec<String>, AllocError> {
     Ok(words)
 }
 
-/// What the program answers to a line of words and a stream, its exit status last.
+/// What the program writes for a line of arguments and a stream, with its exit status last.
 fn answer_to(
     alloc: Global,
     line: &str,
@@ -152,7 +152,7 @@ fn answer_to(
     Ok((output, err, status))
 }
 
-/// 1, 1.0625, a signaling NaN, 1000 and half of the least number; behind them three bytes of another value.
+/// 1, 1.0625, a signaling NaN, 1000 and half of the least number; followed by three bytes of another value.
 const SINGLES: &[u8] =
     b"\x00\x00\x80\x3f\x00\x00\x88\x3f\x01\x00\x80\x7f\x00\x00\x7a\x44\x00\x00\x80\x3a\x01\x02\x03";
 

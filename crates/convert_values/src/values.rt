@@ -9,7 +9,7 @@ use crate::counts::Outcome;
 use rustc_apfloat::ieee::{IeeeFloat, Semantics};
 use rustc_apfloat::{Float, FloatConvert, Round, StatusAnd};
 
-/// Converts the value of these bytes, the lowest first, to the bytes of its value in the format `T`.
+/// Converts the value of these bytes, lowest first, to the bytes of its value in the format `T`.
 #[inline]
 pub fn convert_value<S: Semantics, T: Semantics>(
     round: Round,

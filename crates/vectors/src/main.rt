@@ -1,9 +1,9 @@
 //! Computes one operation: `vectors FORMAT OP MODE A [B [C]]` prints the bits and the flags of the answer.
 //!
-//! The crate `commands` says what the words mean.
+//! The crate `commands` explains the arguments.
 //!
-//! The exit status is 0 for an answer, 2 for a refusal, 3 where there is no memory for the words, and 1 where a write
-//! fails or the words are no texts.
+//! The exit status is 0 for an answer, 2 for a refusal, 3 if there is not enough memory for the arguments, and 1 if a
+//! write fails or the arguments are not valid text.
 #![tactic(auto)]
 
 use commands::run_given;
@@ -15,6 +15,7 @@ use std::{env, io};
 #[cfg(test)]
 mod tests;
 
+/// Runs the program and returns its exit status.
 fn main(rt: HostRuntime) -> ExitCode {
     ExitCode::from(run_given(words_of_system(&rt), &mut rt.stdout(), &mut rt.stderr()))
 }

@@ -1,4 +1,4 @@
-//! Runs of the program, and the words that it is given.
+//! Runs of the program, and the arguments that it is given.
 
 mod memory;
 mod runs;

@@ -1,4 +1,4 @@
-//! Values of each format in each other one, computed apart from the library, on exact fractions.
+//! Values of each format converted to each other format, computed independently of the library, on exact fractions.
 
 use crate::format::Format;
 use rustc_apfloat::Round;
@@ -13,15 +13,16 @@ pub struct Source {
     pub targets: [Target; 9],
 }
 
-/// What the values are in another format.
+/// The values in another format.
 pub struct Target {
     /// The format.
     pub format: Format,
     /// The mode in which they are rounded.
     pub round: Round,
-    /// Their bits in it.
+    /// Their bits in that format.
     pub values: [u128; 8],
-    /// How many of their conversions are inexact, underflow, overflow and are invalid, and how many of the values NaNs.
+    /// How many of their conversions are inexact, underflow, overflow or are invalid, and how many of the values are
+    /// NaNs.
     pub counts: [u64; 5],
 }
 

@@ -1,4 +1,4 @@
-//! Words for which there is no memory.
+//! Words for which there is not enough memory.
 
 use crate::words_of_system;
 use bumpalo::Bump;
@@ -35,8 +35,8 @@ impl Env for System {
     }
 }
 
-/// An arena with so many bytes left, and no more to come. A second chunk is begun, since only the blocks of a first one are used
-/// again: so each growth of memory takes bytes of its own.
+/// An arena with `bytes` bytes left that cannot grow. A second chunk is begun, since only the blocks of a first one are
+/// reused; so each growth of memory takes bytes of its own.
 fn arena_with(alloc: Global, bytes: usize) -> Result<Bump, AllocError> {
     let arena = Bump::try_with_capacity(alloc, 4000)?;
     arena.try_alloc_slice_fill_clone(arena.chunk_capacity(), 0u8)?;
@@ -47,8 +47,9 @@ fn arena_with(alloc: Global, bytes: usize) -> Result<Bump, AllocError> {
     Ok(arena)
 }
 
-// There are nine growths, together of 2048 bytes: 256 for each of the five arguments and for the one that is not there, 128 and
-// then 256 for the list of them, and 128 for that of the words. Where fewer bytes are left, one of the nine is refused.
+/// There are nine growths, 2048 bytes in all: 256 for each of the five arguments and for the missing one after them,
+/// 128 and then 256 for the list of them, and 128 for that of the words. If fewer bytes are left, one of the nine is
+/// refused.
 #[test]
 fn refuses_each_growth_of_memory(rt: HostRuntime) -> Result<(), Fail> {
     for sixteenths in 0..128usize {

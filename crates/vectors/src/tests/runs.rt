@@ -8,7 +8,7 @@ use std::io::{ErrorKind, Write};
 use std::process::Abort;
 use std::test::Fail;
 
-/// The words of a command that parts them by single spaces.
+/// The words of a command that separates them with single spaces.
 fn words_of(alloc: Global, command: &str) -> Result<Vec<String>, AllocError> {
     let mut words = Vec::new(alloc);
     for word in command.split(' ') {
@@ -25,7 +25,7 @@ fn line_of(alloc: Global, text: &str) -> Result<String, AllocError> {
     format!(in alloc; "{text}\n")
 }
 
-/// Asserts that a run of a command writes its reply, to the right writer alone, and answers the status of it.
+/// Asserts that running a command writes its reply to the right writer only, and returns its status.
 fn expect_reply<R: Abort + AllocGlobal>(rt: &R, command: &str, reply: &str) -> Result<(), Fail> {
     let words = words_of(rt.alloc(), command)?;
     let mut out = Vec::new(rt.alloc());
@@ -65,7 +65,7 @@ fn replies_with_bits_digits_and_flags(rt: HostRuntime) -> Result<(), Fail> {
     Ok(())
 }
 
-// A low part is the upper half of the digits.
+/// A low part is the upper half of the digits.
 #[test]
 fn replies_with_pairs_of_doubles(rt: HostRuntime) -> Result<(), Fail> {
     for (command, reply) in [
@@ -92,7 +92,7 @@ fn replies_with_pairs_of_doubles(rt: HostRuntime) -> Result<(), Fail> {
     Ok(())
 }
 
-// Leading zeros are read, however many.
+/// Leading zeros are read, however many there are.
 #[test]
 fn reads_long_operands(rt: HostRuntime) -> Result<(), Fail> {
     let mut command = String::from_str(rt.alloc(), "half int even ")?;
@@ -105,7 +105,7 @@ fn reads_long_operands(rt: HostRuntime) -> Result<(), Fail> {
     Ok(())
 }
 
-/// A writer with room for so many bytes, which takes one at each write.
+/// A writer with room for a limited count of bytes, which takes one at each write.
 #[derive(Drop)]
 struct Failing {
     room: usize,
@@ -113,6 +113,7 @@ struct Failing {
 }
 
 impl Failing {
+    /// A writer with this room.
     fn new(alloc: Global, room: usize) -> Failing {
         Failing {
             room,
@@ -134,7 +135,7 @@ impl Write for Failing {
     }
 }
 
-/// A writer that takes all of what each call brings, and counts the calls.
+/// A writer that takes everything in each call, and counts the calls.
 #[derive(Drop)]
 struct Counting {
     calls: usize,
@@ -142,6 +143,7 @@ struct Counting {
 }
 
 impl Counting {
+    /// A writer that was not called yet.
     fn new(alloc: Global) -> Counting {
         Counting {
             calls: 0,
@@ -161,7 +163,7 @@ impl Write for Counting {
     }
 }
 
-/// Asserts that a run on what the system gives calls its writers so often, and leaves these texts.
+/// Asserts that a run on what the system gives calls its writers this often, and leaves these texts.
 fn expect_calls<R: Abort + AllocGlobal>(
     rt: &R,
     command: &str,
@@ -194,7 +196,7 @@ fn writes_a_reply_by_one_call(rt: HostRuntime) -> Result<(), Fail> {
     Ok(())
 }
 
-// A refusal of 4096 bytes is one call, and one of more goes in parts.
+/// A refusal of 4096 bytes is written in one call, and a longer one in parts.
 #[test]
 fn writes_a_long_refusal_whole(rt: HostRuntime) -> Result<(), Fail> {
     for (letters, calls) in [(4085, 1), (4086, 1), (4087, 3), (9000, 3)] {
@@ -218,7 +220,7 @@ fn has_room_for_the_longest_line(rt: HostRuntime) -> Result<(), Fail> {
     Ok(())
 }
 
-/// What the system gives: the words of a command, or of an empty one no memory for them.
+/// What the system gives: the words of a command; for an empty command, an error because there is no memory for them.
 fn given_for(alloc: Global, command: &str) -> Result<io::Result<Vec<String>>, AllocError> {
     if command.is_empty() {
         return Ok(Err(io::Error::from(ErrorKind::OutOfMemory)));
@@ -226,8 +228,8 @@ fn given_for(alloc: Global, command: &str) -> Result<io::Result<Vec<String>>, Al
     Ok(Ok(words_of(alloc, command)?))
 }
 
-/// Asserts that a run on writers with room for so many bytes leaves the first bytes of `on_out` and of `on_err` that fit, and
-/// answers the status, or 1 where not all fit.
+/// Asserts that a run on writers with limited room leaves the first bytes of `on_out` and of `on_err` that fit, and
+/// returns the status, or 1 if not all fit.
 fn expect_first_bytes<R: Abort + AllocGlobal>(
     rt: &R,
     command: &str,
@@ -248,7 +250,7 @@ fn expect_first_bytes<R: Abort + AllocGlobal>(
     Ok(())
 }
 
-// A writer that is not written to may have no room at all.
+/// A writer that is not used may have no room at all.
 #[test]
 fn answers_1_exactly_where_a_write_fails(rt: HostRuntime) -> Result<(), Fail> {
     for (command, wanted) in [
