@@ -44,7 +44,7 @@ fn answer_of(row: Row<'_>) -> Result<Answer, RowError<'_>> {
     formats::answer(row.asked()?, row.round()?, row)
 }
 
-/// Writes what is expected of a row, and what is given, in each mode that the row names and in which that is something else.
+/// Writes what a row expects, and what is given in each mode of the row in which that differs.
 pub fn write_answers<W: Write>(row: Row<'_>, out: &mut W) -> io::Result<()> {
     writeln!(
         out,

@@ -42,8 +42,8 @@ impl Check {
         self.tally
     }
 
-    /// Checks the lines of an input to its end. What is to be said of them is written to `out`, and from time to time to
-    /// `err` how many there were. The memory for a line comes from `alloc`; it is that of the longest one.
+    /// Checks the lines of an input to its end. Differences and malformed lines are written to `out`, and from time to
+    /// time the count of lines to `err`. The memory for a line comes from `alloc`; it is that of the longest one.
     pub fn take<R: BufRead, A: Allocator, C: Clock, W: Write, V: Write>(
         &mut self,
         input: &mut R,
@@ -67,6 +67,7 @@ impl Check {
         Ok(())
     }
 
+    /// Checks one line.
     fn take_line<W: Write>(&mut self, line: &[u8], out: &mut W) -> Result<(), Failure> {
         let Ok(text) = str::from_utf8(line) else {
             return self.take_error(RowError::Encoding, out);
@@ -82,6 +83,7 @@ impl Check {
         }
     }
 
+    /// Checks a command with its reply.
     fn take_command<W: Write>(
         &mut self,
         row: CommandRow<'_>,
@@ -96,6 +98,7 @@ impl Check {
         written(self.words.write_answers(row, out))
     }
 
+    /// Checks a call with its result.
     fn take_call<W: Write>(
         &mut self,
         row: Row<'_>,
@@ -152,6 +155,7 @@ fn without_end(line: &[u8]) -> &[u8] {
     line.strip_suffix(b"\r").unwrap_or(line)
 }
 
+/// A failed write as what ends a check.
 fn written(outcome: io::Result<()>) -> Result<(), Failure> {
     match outcome {
         Ok(()) => Ok(()),

@@ -105,6 +105,7 @@ impl Words {
         out.write_all(self.refusal.as_slice())
     }
 
+    /// The words.
     fn as_slice(&self) -> &[String] {
         let words = self.words.as_slice();
         &words[..self.count.min(words.len())]
@@ -119,6 +120,7 @@ impl Words {
         Ok(())
     }
 
+    /// Adds a word.
     fn add(&mut self, word: &str) -> Result<(), AllocError> {
         match self.words.get_mut(self.count) {
             Some(place) => {

@@ -1,7 +1,7 @@
 //! Rows of test vectors, commands with their replies and calls with their answers, and the program that checks them.
 //!
-//! `run` is the program `check_vectors` but for the words that the system gives it. `--help` says what rows are, what is
-//! written and what the exit status tells; `docs/VECTORS.md` has more on the columns.
+//! `run` is the program `check_vectors`, given the words that the system passes. `--help` says what rows are, what is
+//! written and what the exit status means; `docs/VECTORS.md` has more on the columns.
 //!
 //! Of the functions here only safety is proved, and that a row's columns are those of its line.
 #![tactic(auto)]

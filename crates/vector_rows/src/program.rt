@@ -39,6 +39,7 @@ pub fn run<R: Files + Clock + Input + AllocGlobal, W: Write, V: Write>(
     }
 }
 
+/// What the words of the program ask for.
 fn subject_of(words: &[String]) -> Asked<'_> {
     match words {
         [] => Asked::Standard,
@@ -53,6 +54,7 @@ fn subject_of(words: &[String]) -> Asked<'_> {
     }
 }
 
+/// Writes the help, and returns the exit status.
 fn write_help<W: Write, V: Write>(out: &mut W, err: &mut V) -> u8 {
     match out.write_all(HELP.as_bytes()) {
         Ok(()) => 0,
@@ -60,6 +62,7 @@ fn write_help<W: Write, V: Write>(out: &mut W, err: &mut V) -> u8 {
     }
 }
 
+/// Refuses the words, and returns the exit status.
 fn refuse_usage<V: Write>(err: &mut V) -> u8 {
     match err.write_all(b"usage: check_vectors [FILE | --help]\n") {
         Ok(()) => 2,
@@ -75,6 +78,7 @@ fn refuse_words<V: Write>(error: io::Error, err: &mut V) -> u8 {
     }
 }
 
+/// Checks standard input.
 fn check_standard<R: Clock + Input + AllocGlobal, W: Write, V: Write>(
     rt: &R,
     out: &mut W,
@@ -87,6 +91,7 @@ fn check_standard<R: Clock + Input + AllocGlobal, W: Write, V: Write>(
     }
 }
 
+/// Checks the file of this name.
 fn check_file<R: Files + Clock + AllocGlobal, W: Write, V: Write>(
     rt: &R,
     name: &str,
@@ -135,11 +140,13 @@ fn conclude<W: Write, V: Write>(name: &str, tally: Tally, out: &mut W, err: &mut
     }
 }
 
+/// Writes how many rows agree, differ and are malformed, and how many lines were skipped.
 fn write_tally<W: Write>(tally: Tally, out: &mut W) -> io::Result<()> {
     writeln!(out, "{tally}")?;
     out.flush()
 }
 
+/// Refuses an input without rows, and returns the exit status.
 fn refuse_empty<V: Write>(name: &str, err: &mut V) -> u8 {
     match writeln!(err, "check_vectors: {name}: no rows") {
         Ok(()) => 2,

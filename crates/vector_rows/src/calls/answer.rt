@@ -168,6 +168,7 @@ impl Outcome {
         }
     }
 
+    /// Writes the word for this.
     fn write<W: Write>(self, out: &mut W) -> io::Result<()> {
         match self {
             Outcome::Silent => out.write_all(b"-"),
@@ -285,6 +286,7 @@ fn truth_of(word: &str) -> Option<bool> {
     }
 }
 
+/// The name of a category.
 fn category_name(category: Category) -> &'static str {
     match category {
         Category::Infinity => "Infinity",

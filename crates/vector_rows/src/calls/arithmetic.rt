@@ -32,6 +32,7 @@ pub fn operated<F: Float + Debug>(
     }
 }
 
+/// The result of the call with a mode, if the type has it.
 fn rounded<F: Float>(operator: Operator, round: Round, x: F, y: F) -> Option<StatusAnd<F>> {
     match operator {
         Operator::Sum => Some(x.add_r(y, round)),
@@ -42,6 +43,7 @@ fn rounded<F: Float>(operator: Operator, round: Round, x: F, y: F) -> Option<Sta
     }
 }
 
+/// The result of the operator, if the type has it.
 fn by_operator<F: Float>(operator: Operator, x: F, y: F) -> Option<StatusAnd<F>> {
     match operator {
         Operator::Sum => Some(x + y),
@@ -65,6 +67,7 @@ pub fn assigned<F: Float + Debug>(
     }
 }
 
+/// The left operand after the assigning operator, if the type has it.
 fn changed<F: Float>(operator: Operator, x: F, y: F) -> Option<F> {
     let mut value = x;
     match operator {

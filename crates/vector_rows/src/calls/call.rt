@@ -118,6 +118,7 @@ pub fn call_without_mode(name: &str) -> Option<Call> {
     }
 }
 
+/// The operation of this name that has no mode.
 fn operation_without_mode(name: &str) -> Option<Call> {
     if let Some(operator) = operator_named(name) {
         return Some(Call::Arithmetic(operator));
@@ -144,6 +145,7 @@ fn operation_without_mode(name: &str) -> Option<Call> {
     }
 }
 
+/// The call of this name that has no second form.
 fn call_of_one_form(name: &str) -> Option<Call> {
     match name {
         "get_exact_inverse" => Some(Call::Inverse),
@@ -159,6 +161,7 @@ fn call_of_one_form(name: &str) -> Option<Call> {
     }
 }
 
+/// The operator of this name.
 fn operator_named(name: &str) -> Option<Operator> {
     match name {
         "+" => Some(Operator::Sum),

@@ -69,6 +69,7 @@ pub fn answer<F: Float + Debug>(constant: Constant, row: Row<'_>) -> Result<Answ
     Ok(Answer::silent(word))
 }
 
+/// A constant that is an integer or a truth value.
 fn number_of<F: Float>(number: Number) -> Word {
     match number {
         Number::Bits => Word::Unsigned(F::BITS as u128),
@@ -79,6 +80,7 @@ fn number_of<F: Float>(number: Number) -> Word {
     }
 }
 
+/// A constant that is a value.
 fn value_of<F: Float>(value: Value) -> F {
     match value {
         Value::Zero => F::zero(),

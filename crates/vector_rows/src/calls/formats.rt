@@ -63,6 +63,7 @@ pub fn answer(call: Call, round: Option<Round>, row: Row<'_>) -> Result<Answer, 
     }
 }
 
+/// The result of a call that converts from a format.
 fn converted_from<'a, S: Semantics>(
     call: Call,
     round: Option<Round>,
@@ -72,6 +73,7 @@ fn converted_from<'a, S: Semantics>(
     in_format!(target, row, converted, [S], call, round, row)
 }
 
+/// The result of a call on pairs of doubles.
 fn of_pairs(call: Call, round: Option<Round>, row: Row<'_>) -> Result<Answer, RowError<'_>> {
     match call {
         Call::MagnitudesCompared => pairs::order_of_magnitudes(row),
@@ -79,6 +81,7 @@ fn of_pairs(call: Call, round: Option<Round>, row: Row<'_>) -> Result<Answer, Ro
     }
 }
 
+/// The result of a call in a format.
 fn of_format<S: Semantics>(
     call: Call,
     round: Option<Round>,

@@ -33,6 +33,7 @@ pub fn answer<F: Float>(comparison: Comparison, row: Row<'_>) -> Result<Answer, 
     Ok(Answer::silent(compared(comparison, x, y)))
 }
 
+/// The result of a comparison.
 fn compared<F: Float>(comparison: Comparison, x: F, y: F) -> Word {
     match comparison {
         Comparison::Equal => Word::Truth(x == y),

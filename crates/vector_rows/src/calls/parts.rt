@@ -39,6 +39,7 @@ pub fn chosen<F: Float + Debug>(choice: Choice, row: Row<'_>) -> Result<Answer, 
     Ok(Answer::silent(word_of(choice_of(choice, x, y), row)))
 }
 
+/// The value that is chosen.
 fn choice_of<F: Float>(choice: Choice, x: F, y: F) -> F {
     match choice {
         Choice::Signed => x.copy_sign(y),

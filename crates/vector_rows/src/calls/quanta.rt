@@ -1,12 +1,13 @@
 //! Values of a format without bits, as rows write them.
 //!
-//! A word is a sign and a magnitude: `+3q` is three quanta (the smallest positive values), `-5*2^70q` is minus five times
-//! 2^70 quanta, `+0q` and `-0q` are the zeros, `+inf` is an infinity, and `-nan:2a` and `-snan:2a` are the quiet NaN and the
-//! signaling one of a payload in hexadecimal digits.
+//! A word is a sign and a magnitude: `+3q` is three quanta (the smallest positive values), `-5*2^70q` is minus five
+//! times 2^70 quanta, `+0q` and `-0q` are the zeros, `+inf` is an infinity, and `-nan:2a` and `-snan:2a` are the quiet
+//! and the signaling NaN with a payload in hexadecimal digits.
 //!
-//! Whether a value is that of a word is told by calls that read no text. A number is told by a whole number: scaled by a power
-//! of two (`scalbn`) it comes out (`to_u128`) exactly as the odd part of the count. Zeros and infinities are told by their
-//! class, NaNs by being those of `qnan` and `snan`, and all by their sign. An operand is made by calls too, and then told.
+//! Whether a value is that of a word is decided by calls that read no text. For a number an integer decides: scaled by a
+//! power of two (`scalbn`), the number becomes (`to_u128`) exactly the odd part of the count. Zeros and infinities are
+//! recognised by their class, NaNs by comparison with those of `qnan` and `snan`, and all by their sign. An operand is
+//! made by calls too, and then recognised in the same way.
 
 use commands::{bits_of, number_of};
 use rustc_apfloat::{Category, ExpInt, Flags, Float};
@@ -31,7 +32,7 @@ enum Magnitude {
     Quanta(Count),
 }
 
-/// A number times a power of two. The number of a word is odd.
+/// An integer times a power of two. The integer of a word is odd.
 #[derive(Clone, Copy)]
 struct Count {
     number: u128,
@@ -109,7 +110,7 @@ fn has_magnitude<F: Float>(x: F, magnitude: Magnitude) -> Option<bool> {
     }
 }
 
-/// Whether a value is so many quanta: the odd part of the count is what is left of it as it is scaled to a whole number.
+/// Whether a value is so many quanta: scaled to an integer, it is the odd part of the count.
 fn is_quanta<F: Float>(x: F, count: Count) -> Option<bool> {
     let exponent = exponent_of::<F>(count)?;
     let whole = x.scalbn(exponent.checked_neg()?).to_u128(128);
@@ -131,6 +132,7 @@ fn parts_of(word: &str) -> Option<(bool, Magnitude)> {
     }
 }
 
+/// The magnitude of a word without its sign.
 fn magnitude_of(word: &str) -> Option<Magnitude> {
     if word == "inf" {
         Some(Magnitude::Infinity)
@@ -179,6 +181,7 @@ impl Quanta {
 }
 
 impl Count {
+    /// Writes the count.
     fn write<W: Write>(self, out: &mut W) -> io::Result<()> {
         let Count { number, power } = self;
         match self.short() {

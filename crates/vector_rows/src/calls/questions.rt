@@ -65,6 +65,7 @@ impl Question {
 }
 
 impl Class {
+    /// The class that the call of this name asks for.
     fn named(name: &str) -> Option<Class> {
         match name {
             "is_normal" => Some(Class::Normal),
@@ -83,6 +84,7 @@ impl Class {
 }
 
 impl Signed {
+    /// What the call of this name asks of a value and its sign.
     fn named(name: &str) -> Option<Signed> {
         match name {
             "is_pos_zero" => Some(Signed::PositiveZero),
@@ -110,6 +112,7 @@ pub fn answer<F: Float + Debug>(question: Question, row: Row<'_>) -> Result<Answ
     }))
 }
 
+/// Whether a value is of a class.
 fn is_of<F: Float>(class: Class, x: F) -> bool {
     match class {
         Class::Normal => x.is_normal(),
@@ -125,6 +128,7 @@ fn is_of<F: Float>(class: Class, x: F) -> bool {
     }
 }
 
+/// Whether a value is the one asked for, with its sign.
 fn is_signed<F: Float>(signed: Signed, x: F) -> bool {
     match signed {
         Signed::PositiveZero => x.is_pos_zero(),

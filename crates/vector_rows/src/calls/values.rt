@@ -25,6 +25,7 @@ pub fn two_values<F: Float>(row: Row<'_>) -> Result<(F, F), RowError<'_>> {
     Ok((value_of(first)?, value_of(second)?))
 }
 
+/// The value that a word stands for, if it stands for one.
 fn value_named<F: Float>(word: &str) -> Option<F> {
     if F::PRECISION < F::BITS {
         Some(F::from_bits(bits_of(word, F::BITS)?))

@@ -51,6 +51,7 @@ pub fn to_unsigned<F: Float>(round: Option<Round>, row: Row<'_>) -> Result<Answe
     }
 }
 
+/// A value as an unsigned integer of this width.
 fn unsigned<F: Float>(x: F, width: usize, round: Option<Round>) -> Answer
     requires low { 1 ≤ width }
     requires high { width ≤ 128 }
@@ -79,6 +80,7 @@ pub fn to_signed<F: Float>(round: Option<Round>, row: Row<'_>) -> Result<Answer,
     }
 }
 
+/// A value as a signed integer of this width.
 fn signed<F: Float>(x: F, width: usize, round: Option<Round>) -> Answer
     requires low { 2 ≤ width }
     requires high { width ≤ 128 }
