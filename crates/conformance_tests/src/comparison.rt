@@ -9,8 +9,8 @@ use crate::tables::MODES;
 use apfloat_base::sig::Loss;
 use conformance::own_formats::{HalfTinyBeforeS, SevenS};
 use conformance::plain::{Answer, Bounds, deliver};
-use rustc_apfloat::ieee::{Half, HalfS, NonfiniteBehavior, Semantics, normalize};
-use rustc_apfloat::{ExpInt, Float, Round};
+use rustc_apfloat::ieee::{Half, HalfS, NonfiniteBehavior, Semantics};
+use rustc_apfloat::{ExpInt, Float, Round, ieee};
 use std::process::Abort;
 
 /// A format with bits: its bounds, the exponent of an eighth of its quantum, and the bits of a minus sign and of the
@@ -98,12 +98,12 @@ fn compare<S: Semantics>(rt: &impl Abort, subject: Subject, eighths: u128)
     for mode in MODES {
         for negative in [false, true] {
             let plain = deliver(subject.bounds, mode, negative, eighths, 8);
-            let answer = normalize::<S>(
-                negative,
+            let answer = ieee::deliver::<S>(
                 eighths,
                 subject.exponent,
                 Loss::ExactlyZero,
                 mode,
+                negative,
             );
             assert_eq!(rt;
                 answer.value.to_bits(),
