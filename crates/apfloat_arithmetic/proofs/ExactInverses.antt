@@ -204,5 +204,6 @@ abbrev value_or : Unpacked → Option Unpacked → Unpacked
 value_or x (Some y) = y
 value_or x None = x
 
+-- two values that make the same answer are equal
 pub same_value : (x y : Unpacked) → Some x ≡ Some y → x ≡ y
 same_value x y h = ap (value_or x) h

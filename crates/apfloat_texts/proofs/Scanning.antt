@@ -47,6 +47,7 @@ no_more : (b : Bool) (places : ℕ) → places + (if b then 0 else 0) ≡ places
 no_more true places = omega arith
 no_more false places = omega arith
 
+-- with nothing left to read, there is no digit where none was read
 only_not : (b : Bool) → (not b && true) ≡ not b
 only_not true = refl
 only_not false = refl
