@@ -60,6 +60,7 @@ read_amount true amount w (negsuc n) p e = omega (arith, ints)
 read_amount false amount w (pos n) p e = omega (arith, ints)
 read_amount false amount w (negsuc n) p e = omega (arith, ints)
 
+-- a signed amount other than 0 has the sign of the whole number of which it is a multiple
 pub read_sign : (of_zero : Bool) (negative : Bool) (amount w : ℕ) (z : ℤ) → 0 < w → 0 < amount
     → up (signed negative amount) + down z * w ≡ down (signed negative amount) + up z * w
     → negative ≡ sign_of of_zero z
@@ -70,6 +71,7 @@ read_sign of_zero false amount w (pos zero) p q e = absurd (omega (arith, ints))
 read_sign of_zero false amount w (pos (suc n)) p q e = refl
 read_sign of_zero false amount w (negsuc n) p q e = absurd (omega (arith, ints))
 
+-- where the amount is 0, so is the whole number, and its sign is the one for an exact zero
 pub read_zero : (of_zero : Bool) (negative : Bool) (amount w : ℕ) (z : ℤ) → 0 < w → amount ≡ 0
     → amount ≡ magnitude z * w → of_zero ≡ sign_of of_zero z
 read_zero of_zero negative amount w (pos zero) p q e = refl
@@ -181,6 +183,7 @@ scale_is precision min p h = omega (arith, ints)
 
 -- ---- room, and all digits
 
+-- a significand of at most 125 digits is below 2 ^ 127
 pub roomy : (precision m s : ℕ) → precision ≤ 125 → s ≡ m → m < 2 ^ precision → s < 2 ^ 127
 roomy precision m s p e h =
     let l : precision ≤ 127 = omega arith in

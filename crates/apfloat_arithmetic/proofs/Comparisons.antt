@@ -78,6 +78,7 @@ exponents_first shape s d t e m n =
 
 -- ---- numbers of one sign
 
+-- numbers without a minus sign are ordered as their magnitudes
 both_positive : (m n : ℕ) → nat_cmp m n ≡ int_cmp (pos m) (pos n)
 both_positive m n =
     by_ranked (m < n) (m ≡ n) (n < m) (nat_cmp m n) (ranks m n)
@@ -85,6 +86,7 @@ both_positive m n =
     (λ e h. e ∙ int_cmp_is (pos m) (pos n) Equal (ap pos h))
     (λ e h. e ∙ int_cmp_is (pos m) (pos n) Greater (omega (arith, ints, h)))
 
+-- numbers with a minus sign are ordered the other way round
 both_negative : (m n : ℕ) → nat_cmp n m ≡ int_cmp (neg_ℤ (pos m)) (neg_ℤ (pos n))
 both_negative m n =
     by_ranked (n < m) (n ≡ m) (m < n) (nat_cmp n m) (ranks n m)
@@ -94,30 +96,36 @@ both_negative m n =
 
 -- and of two, where one may be zero
 
+-- -m is less than n, unless both are 0
 below_both : (m n : ℕ) → 0 < m + n → Less ≡ int_cmp (neg_ℤ (pos m)) (pos n)
 below_both m n h = int_cmp_is (neg_ℤ (pos m)) (pos n) Less (omega (arith, ints, h))
 
+-- m is greater than -n, unless both are 0
 above_both : (m n : ℕ) → 0 < m + n → Greater ≡ int_cmp (pos m) (neg_ℤ (pos n))
 above_both m n h = int_cmp_is (pos m) (neg_ℤ (pos n)) Greater (omega (arith, ints, h))
 
 -- ---- where a value stands
 
+-- a number other than 0 stands on the side of its sign
 some_side : (b : Bool) (n : ℕ) → 0 < n → number_side b ≡ side (finite b n)
 some_side b zero h = absurd (omega arith)
 some_side b (suc n) h = refl
 
+-- a stored number other than 0 stands on the side of its sign
 pub side_of_normal : (shape : Shape) (x : Unpacked) (b : Bool) → x.category ≡ Normal → x.negative ≡ b
     → IsStored shape x → number_side b ≡ side (datum_at shape x)
 side_of_normal shape x b e f h =
     let n : IsNormalAt shape x.significand x.exponent = rw e at h in
     rw (e, ← f) (some_side x.negative _ (quanta_some shape x.significand x.exponent n))
 
+-- numbers on one side have one sign
 one_sign : (a b : Bool) → number_side a ≡ number_side b → b ≡ a
 one_sign true true e = refl
 one_sign true false e = cc
 one_sign false true e = cc
 one_sign false false e = refl
 
+-- no number stands on the side of an infinity
 near_end : (a b : Bool) → number_side a ≡ side (infinite b) → ⊥
 near_end true true e = cc
 near_end true false e = cc
@@ -136,6 +144,7 @@ number_beside Infinity shape y b h e = absurd (near_end b y.negative e)
 number_beside NaN shape y true h e = cc
 number_beside NaN shape y false h e = cc
 
+-- a stored value on the side of the numbers of one sign is a number other than 0 with that sign
 pub beside_normal : (shape : Shape) (y : Unpacked) (b : Bool) → IsStored shape y
     → number_side b ≡ side (datum_at shape y) → (y.category ≡ Normal) × (y.negative ≡ b)
 beside_normal shape y b h e = number_beside y.category shape y b h e
@@ -211,6 +220,7 @@ by_sides (finite false (suc m)) (finite false (suc n)) r e f h = ap Some (h refl
 
 -- ---- sameness
 
+-- data that are found to be the same are equal
 same_is : (x y : Datum) → same_datum x y ≡ true → x ≡ y
 same_is (finite a m) (finite b n) e =
     let p = and_parts _ _ e in
@@ -226,6 +236,7 @@ same_is (infinite a) (nan b t) e = cc
 same_is (nan a s) (finite b n) e = cc
 same_is (nan a s) (infinite b) e = cc
 
+-- a datum is found to be the same as itself
 same_of : (x : Datum) → same_datum x x ≡ true
 same_of (finite a m) = rw (same_sign_self a, eq-eqb m m refl) refl
 same_of (infinite a) = same_sign_self a

@@ -66,12 +66,14 @@ inverted_normal shape m e law n i =
       within = rw (quanta_high_is shape m (neg_ℤ e) i.inverse_normal) g;
     }
 
+-- moved up, a magnitude is no less
 power_full : (half j : ℕ) → half ≤ half * 2 ^ j
 power_full half j =
     let o : 1 ≤ 2 ^ j = pow_pos j in
     let a : half * 1 ≤ half * 2 ^ j = mul-le-mul_left half o in
     omega arith
 
+-- the product of two powers of two, where their exponents add up to twice w, is the square of 2 ^ w
 powers_product : (h j k w : ℕ) → (h + j) + (h + k) ≡ w + w → 2 ^ h * 2 ^ j * (2 ^ h * 2 ^ k) ≡ 2 ^ w * 2 ^ w
 powers_product h j k w e = sym (pow22 h j h k) ∙ ap (λ (x : ℕ). 2 ^ x) e ∙ pow-add 2 w w
 
@@ -202,5 +204,6 @@ abbrev value_or : Unpacked → Option Unpacked → Unpacked
 value_or x (Some y) = y
 value_or x None = x
 
+-- two values that make the same answer are equal
 pub same_value : (x y : Unpacked) → Some x ≡ Some y → x ≡ y
 same_value x y h = ap (value_or x) h

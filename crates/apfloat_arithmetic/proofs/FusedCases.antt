@@ -15,6 +15,7 @@ use Rattle.apfloat_base.proofs.Signs.{no_sign, and_zero, zero_and, rounded_signe
 product_alone : (s d : Bool) (m n : ℕ) → n ≡ 0 → (signed s m +ℤ signed d n) ≡ signed s m
 product_alone s d m n z = rw z (and_zero (signed s m) d)
 
+-- where the product is zero, the exact sum is the addend
 addend_alone : (s d : Bool) (m n : ℕ) → m ≡ 0 → (signed s m +ℤ signed d n) ≡ signed d n
 addend_alone s d m n z = rw z (zero_and s (signed d n))
 

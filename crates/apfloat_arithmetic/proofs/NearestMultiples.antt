@@ -61,6 +61,7 @@ far_below precision r p t q z f l g =
     let e : r * 2 ^ (p + 1) ≡ r * (2 * 2 ^ p) = ap (λ (x : ℕ). r * x) (twice_power p) in
     omega arith
 
+-- twice a significand is that significand one place higher
 pub one_below : (t p q : ℕ) → q ≡ p + 1 → 2 * t * 2 ^ p ≡ t * 2 ^ q
 one_below t p q e =
     let f : t * 2 ^ q ≡ t * 2 ^ (p + 1) = ap (λ (x : ℕ). t * 2 ^ x) e in
@@ -104,6 +105,7 @@ operand_scaled place low n s t e z h k =
 pub rest_in : (x y a b w r : ℕ) → 0 < w → x ≡ a * w → y ≡ b * w → r ≡ x % y → r ≡ a % b * w
 rest_in x y a b w r p e f h = h ∙ ap (λ (z : ℕ). z % y) e ∙ ap (λ (z : ℕ). a * w % z) f ∙ rest_scaled a b w p
 
+-- the quotient of scaled operands is that of the operands
 pub quotient_in : (x y a b w : ℕ) → 0 < w → x ≡ a * w → y ≡ b * w → x / y ≡ a / b
 quotient_in x y a b w p e f = ap (λ (z : ℕ). z / y) e ∙ ap (λ (z : ℕ). a * w / z) f ∙ quotient_scaled a b w p
 
@@ -125,6 +127,7 @@ rest_past kind negative a taken n l e =
     sym (ap (λ (x : Bool). cond x (signed_quanta kind (not negative) (taken - a))
     (signed_quanta kind negative (a - taken))) (lt-ltb a taken l))
 
+-- the rest of the magnitudes, with the sign of the dividend, is the remainder by the truncated quotient
 pub truncated_value : (kind : NonfiniteBehavior) (negative : Bool) (a b n : ℕ) → n ≡ a % b
     → signed_quanta kind negative n ≡ rest_of kind negative a (b * (a / b))
 truncated_value kind negative a b n e =
@@ -132,6 +135,7 @@ truncated_value kind negative a b n e =
     let l : b * (a / b) ≤ a = omega arith in
     rest_within kind negative a (b * (a / b)) n l (omega arith)
 
+-- the choice by the distances from both multiples is that by the rest and the divisor less the rest
 upper_is : (a b : ℕ)
     → upper (a - a / b * b) ((a / b + 1) * b - a) (eqb (a / b / (a / b + 1 - a / b) % 2) 1)
     ≡ upper (a % b) (b - a % b) (eqb (a / b % 2) 1)
@@ -145,6 +149,7 @@ upper_is a b =
     ∙ ap (λ (x : ℕ). upper (a % b) x (eqb (a / b / (a / b + 1 - a / b) % 2) 1)) f
     ∙ ap (λ (x : ℕ). upper (a % b) (b - a % b) (eqb (x % 2) 1)) h
 
+-- the nearest quotient is the truncated one, or one more if there is a rest and the upper multiple is nearest
 nearest_is : (a b : ℕ) (past : Bool) → past ≡ upper (a % b) (b - a % b) (eqb (a / b % 2) 1)
     → nearest_quotient a b ≡ cond (eqb (a % b) 0) (a / b) (cond past (a / b + 1) (a / b))
 nearest_is a b past e =
@@ -184,6 +189,7 @@ nearest_within kind negative a b n t e =
     subst (λ (x : ℕ). signed_quanta kind negative n ≡ rest_of kind negative a x) (sym g)
     (truncated_value kind negative a b n e)
 
+-- the distance from the nearest multiple, its sign turned if that one is above, is the remainder by it
 pub nearest_value : (kind : NonfiniteBehavior) (negative past : Bool) (a b n : ℕ) → 0 < b
     → past ≡ upper (a % b) (b - a % b) (eqb (a / b % 2) 1) → n ≡ cond past (b - a % b) (a % b)
     → signed_quanta kind (not (beq negative past)) n ≡ rest_of kind negative a (b * nearest_quotient a b)

@@ -47,6 +47,7 @@ below_is shape m e n p =
     refl (λ l. lt-ltb (quanta_at shape.min_exp m e) (2 ^ (shape.precision - 1)) (quanta_low_is shape m e n p l))
     (λ l. le-ltb (quanta_at shape.min_exp m e) (2 ^ (shape.precision - 1)) (quanta_full shape m e n l))
 
+-- a number other than 0 is denormal where it is less than the smallest one with all digits
 pub denormal_number : (format : Format) (b : Bool) (n : ℕ) → 0 < n
     → is_denormal format (finite b n) ≡ ltb n (smallest_normalized format)
 denormal_number format b n p = rw (lt-ltb 0 n p) refl

@@ -12,23 +12,28 @@ pub record IsHalved (n : ℕ) : Type 0 where
   pub half : ℕ
   pub is : (n ≡ 2 * half) ⊎ (n ≡ 2 * half + 1)
 
+-- twice a whole number and a rest below 2 is an even or an odd number
 halves : (n h r : ℕ) → r < 2 → h * 2 + r ≡ n → IsHalved n
 halves n h zero l e = record { half = h; is = inl (omega arith) }
 halves n h (suc zero) l e = record { half = h; is = inr (omega arith) }
 halves n h (suc (suc r)) l e = absurd (omega arith)
 
+-- each whole number is even or odd
 halved : (n : ℕ) → IsHalved n
 halved n = halves n (n / 2) (n % 2) (mod-lt n two_pos) (div-add-mod' n 2)
 
+-- a factor of 1 is 1
 one_factor : (a b : ℕ) → a * b ≡ 1 → a ≡ 1
 one_factor zero b e = absurd (omega arith)
 one_factor (suc zero) b e = refl
 one_factor (suc (suc a)) zero e = absurd (omega arith)
 one_factor (suc (suc a)) (suc b) e = absurd (omega arith)
 
+-- the product of two odd numbers is not even
 odd_product : (a b p : ℕ) → (2 * a + 1) * (2 * b + 1) ≡ 2 * p → ⊥
 odd_product a b p e = let f : 2 * (2 * (a * b) + a + b) + 1 ≡ 2 * p = omega arith in omega arith
 
+-- a factor of a power of two is a power of two
 pub factor_of_power : (k a b : ℕ) → a * b ≡ 2 ^ k → IsPower a
 factor_of_power zero a b e = record { place = 0; is = one_factor a b e }
 factor_of_power (suc k) a b e =

@@ -68,6 +68,7 @@ quotient_is shape x y r places q loss m n l hx hy e h =
     hx.whole hy.whole (balanced_quotient shape.precision places (format_at shape).scale shape.min_exp x y r
     l.precision_low (scale_is shape l) e) h
 
+-- the significand of a stored number is above 0
 pub normal_some : (shape : Shape) (m : ℕ) (e : ℤ) → IsNormalAt shape m e → 0 < m
 normal_some shape m e n = let p : 0 < 2 ^ (shape.precision - 1) = pow_pos (shape.precision - 1) in
     let f = n.operand.full in

@@ -72,6 +72,7 @@ of_numbers shape quotient first second x y value status e f u h =
     (subst (λ (o : Category). IsStoredBy o shape y → Says shape quotient Normal o x y value status) (sym f)
     (λ u. by_number shape quotient x y (quanta_at shape.min_exp x.significand x.exponent) value status u h) u)
 
+-- by a divisor other than 0, the ones of the quotient are those of the quotient of the quanta
 number_ones : (shape : Shape) (x y : Unpacked) (m : ℕ) → IsStoredBy Normal shape y
     → count_ones (m / quanta_at shape.min_exp y.significand y.exponent)
     ≡ ones_of_quotient (finite x.negative m) (datum_by Normal shape y)
@@ -95,6 +96,7 @@ ones_of_numbers shape first second x y e f u =
 
 -- ---- not both numbers other than zero
 
+-- a quotient with a dividend of 0 has no ones
 zero_ones : (n : ℕ) → 0 ≡ (if eqb n 0 then 0 else count_ones (0 / n))
 unfolding lib.Count.ones
 zero_ones n = zero_if (eqb n 0) (count_ones (0 / n)) (ap count_ones (zero-div n))

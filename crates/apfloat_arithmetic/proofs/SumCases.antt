@@ -33,10 +33,12 @@ pub same_sum : (format : Format) (mode : Round) (x y v a b d : Datum) (i j : ℕ
     → IsSum format mode a b d j → IsSum format mode x y v i
 same_sum format mode x y v a b d i j p q r e h = rw (p, q, r, e) h
 
+-- a value of a given category stands for the datum that the category makes of it
 pub datum_is : (category : Category) (shape : Shape) (x : Unpacked) → x.category ≡ category
     → datum_at shape x ≡ datum_by category shape x
 datum_is category shape x e = ap (λ (l : Category). datum_by l shape x) e
 
+-- a negated number is no signaling NaN
 not_signaling : (format : Format) (kind : NonfiniteBehavior) (b : Bool) (n : ℕ)
     → is_signaling_nan format (negated kind (finite b n)) ≡ false
 not_signaling format kind b n = search rules

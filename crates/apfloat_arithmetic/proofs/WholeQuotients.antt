@@ -129,9 +129,11 @@ none_set d r l =
 pub not_odd : (d r : ℕ) → r < d → false ≡ eqb (r / d % 2) 1
 not_odd d r l = sym (ap (λ (q : ℕ). eqb (q % 2) 1) (div-eq_of_lt l))
 
+-- at one place, a lesser significand is less
 pub at_place : (r t p q : ℕ) → r < t → p ≡ q → r * 2 ^ p < t * 2 ^ q
 at_place r t p q l e = subst (λ (x : ℕ). r * 2 ^ p < t * 2 ^ x) e (mul-lt-mul_of_pos_right l (pow_pos p))
 
+-- a divisor with all its digits is above 0
 pub divisor_pos : (precision t q : ℕ) → 2 ^ (precision - 1) ≤ t → 0 < t * 2 ^ q
 divisor_pos precision t q l =
     let h : 0 < 2 ^ (precision - 1) = pow_pos (precision - 1) in

@@ -35,18 +35,21 @@ zero_product format mode b c sign m n value status e z h =
     (h (2 ^ format.scale) (pow_pos format.scale)) in
     subst (λ (x : Bool). IsDelivered format mode x (m * n) (2 ^ format.scale) value status) e d
 
+-- a number other than 0 times an infinity is an infinity, with no flag
 pub number_by_infinity : (format : Format) (mode : Round) (b c sign : Bool) (m : ℕ) (value : Datum) (status : ℕ) → 0 < m
     → sign ≡ product_sign b c
     → IsAnswer (infinite sign) ok_bits value status → IsProduct format mode (finite b m) (infinite c) value status
 number_by_infinity format mode b c sign m value status p e h =
     rw (ne_eqb m 0 (λ z. omega (arith, z, p))) (subst (λ (x : Bool). IsAnswer (infinite x) ok_bits value status) e h)
 
+-- an infinity times a number other than 0 is an infinity, with no flag
 pub infinity_by_number : (format : Format) (mode : Round) (b c sign : Bool) (n : ℕ) (value : Datum) (status : ℕ) → 0 < n
     → sign ≡ product_sign b c
     → IsAnswer (infinite sign) ok_bits value status → IsProduct format mode (infinite b) (finite c n) value status
 infinity_by_number format mode b c sign n value status p e h =
     rw (ne_eqb n 0 (λ z. omega (arith, z, p))) (subst (λ (x : Bool). IsAnswer (infinite x) ok_bits value status) e h)
 
+-- a number other than 0 divided by 0 is what the format has for an infinity, with DIV_BY_ZERO
 pub number_by_zero : (format : Format) (mode : Round) (b c sign : Bool) (m : ℕ) (value : Datum) (status : ℕ) → 0 < m
     → sign ≡ product_sign b c
     → IsAnswer (infinity_of format sign) div_by_zero_bit value status

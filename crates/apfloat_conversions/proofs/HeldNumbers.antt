@@ -130,6 +130,7 @@ inside_quanta source target m e h =
     let z : down (e -ℤ target.min_exp) ≡ 0 = no_down (e -ℤ target.min_exp) (omega (arith, ints, l)) in
     rw z (omega arith)
 
+-- a significand at an exponent inside the other shape is within the largest value there
 inside_within : (source target : Shape) (m : ℕ) (e : ℤ) → IsShape source → IsShape target → IsInside source target e
     → m < 2 ^ source.precision
     → m * 2 ^ (target.precision - source.precision) * 2 ^ up (e -ℤ target.min_exp) ≤ largest (format_at target)
@@ -148,6 +149,7 @@ inside_within source target m e from into h f =
     (omega (arith, ints, v, z, b, into.precision_low)) in
     omega (arith, q)
 
+-- a number whose exponent lies inside the other shape, moved up, is stored as that shape wants it
 inside_normal : (source target : Shape) (m : ℕ) (e : ℤ) → IsShape source → IsShape target → IsInside source target e
     → IsNormalAt source m e
     → IsNormalAt target (m * 2 ^ (target.precision - source.precision)) e
@@ -175,12 +177,14 @@ pub normal_there : (source target : Shape) (m : ℕ) (e : ℤ) → IsShape sourc
 normal_there source target m e from into h n =
     ⊎_elim (λ o. held_normal source target m e from into o n) (λ o. inside_normal source target m e from into o n) h
 
+-- a shape that has all numbers of another, or all of one exponent, has at least as many digits
 pub precise_there : (source target : Shape) (e : ℤ) → IsHeldAt source target e → source.precision ≤ target.precision
 precise_there source target e h =
     ⊎_elim (λ (o : IsHeld source target). o.precise) (λ (o : IsInside source target e). o.precise) h
 
 -- ---- it is the same number: a quanta of 2 ^ (- f) are b quanta of 2 ^ (- g)
 
+-- two counts of quanta with one significand, and with places that agree, are the same number
 same_quanta : (m a b f g k d u d' u' : ℕ) → a * 2 ^ d ≡ m * 2 ^ u → b * 2 ^ d' ≡ m * 2 ^ k * 2 ^ u'
     → u + g + d' ≡ d + f + (k + u') → a * 2 ^ g ≡ b * 2 ^ f
 same_quanta m a b f g k d u d' u' h h' e =

@@ -24,6 +24,7 @@ greatest_is width h =
     ap (λ (x : ℕ). x * 2 ^ (128 - width)) k in
     div-eq_of_lt-le (2 ^ (128 - width)) (omega (arith, s, m, p)) (omega (arith, s, m, p))
 
+-- a number that is less is found to be less
 pub less_so : (a b : ℤ) → a <ℤ b → int_lt a b ≡ true
 less_so a b h = by (int_lt a b) refl
   where
@@ -31,6 +32,7 @@ less_so a b h = by (int_lt a b) refl
     by true e = refl
     by false e = absurd (omega (arith, ints))
 
+-- a number that is not less is found not to be less
 pub less_not : (a b : ℤ) → b ≤ℤ a → int_lt a b ≡ false
 less_not a b h = by (int_lt a b) refl
   where
@@ -42,10 +44,12 @@ less_not a b h = by (int_lt a b) refl
 abbrev pub limit : ℕ → Bool → ℕ
 limit width negative = cond negative 0 (2 ^ width - 1)
 
+-- a number in the unsigned range is its own magnitude
 signed_in : (b : Bool) (width mag : ℕ) → mag ≤ limit width b → signed b mag ≡ pos mag
 signed_in true width mag h = let e : mag ≡ 0 = omega arith in rw e refl
 signed_in false width mag h = refl
 
+-- a magnitude in range is at most the greatest number of so many digits
 limit_high : (b : Bool) (width mag : ℕ) → mag ≤ limit width b → pos mag ≤ℤ pos (2 ^ width - 1)
 limit_high true width mag h = omega (arith, ints)
 limit_high false width mag h = omega (arith, ints)

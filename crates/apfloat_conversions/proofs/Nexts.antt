@@ -37,6 +37,7 @@ stepped_down s a u d l h =
     ap (λ (x : ℕ). x * 2 ^ u) s' in
     omega (arith, e)
 
+-- 2 ^ p is a multiple of 2 ^ d, for each d up to p
 power_split : (p d : ℕ) → d ≤ p → 2 ^ p ≡ 2 ^ (p - d) * 2 ^ d
 power_split p d l = let e : p ≡ (p - d) + d = omega arith in ap (λ (x : ℕ). 2 ^ x) e ∙ pow-add 2 (p - d) d
 
@@ -148,12 +149,14 @@ quanta_doubled min_exp x s h n e q =
 
 -- ---- below the largest value there is room
 
+-- a significand of at least 2 ^ precision - 1 is at least the greatest one
 greatest_before : (kind : NonfiniteBehavior) (precision s : ℕ) → 2 ^ precision ≤ s + 1
     → greatest_significand kind precision ≤ s
 greatest_before IEEE754 precision s h = omega arith
 greatest_before NanOnly precision s h = omega arith
 greatest_before NanNegativeZero precision s h = omega arith
 
+-- for a whole number that is at least -n, `down` is at most n
 pub down_le : (z : ℤ) (n : ℕ) → neg_ℤ (pos n) ≤ℤ z → down z ≤ n
 down_le (pos k) n h = let l : 0 ≤ n = omega arith in l
 down_le (negsuc k) n h = let l : k + 1 ≤ n = omega (arith, ints) in omega (arith, l)
@@ -163,6 +166,7 @@ pub operand_down : (precision : ℕ) (min_exp max_exp x : ℤ) → 3 ≤ precisi
     → ((min_exp +ℤ pos 1) -ℤ pos precision) ≤ℤ x → down (x -ℤ min_exp) ≤ precision - 1
 operand_down precision min_exp max_exp x t l = down_le (x -ℤ min_exp) (precision - 1) (omega (arith, ints))
 
+-- an exponent up to the greatest can be raised by one, or is the greatest
 pub room_cases : (x m z : ℤ) → z ≡ (m -ℤ x) → x ≤ℤ m → ((x +ℤ pos 1) ≤ℤ m) ⊎ (x ≡ m)
 room_cases x m (pos zero) e l = inr (omega (arith, ints, e, l))
 room_cases x m (pos (suc k)) e l = inl (omega (arith, ints, e, l))
@@ -201,6 +205,7 @@ room_above format precision min_exp max_exp x s a e g o h b c =
 
 -- ---- within the largest value
 
+-- the largest value is a point of the grid
 pub largest_on_grid : (format : Format) → 0 < format.precision → IsOnGrid format.precision (largest format)
 largest_on_grid format h =
     record {
@@ -254,13 +259,16 @@ carried_quanta p min x y s t n q e i j h =
     let k : IsQuantaAt min t (x +ℤ pos 1) n = quanta_halved min x s t n (omega (arith, e, i, w)) h in
     subst (λ (z : ℤ). IsQuantaAt min t z n) (sym j) k
 
+-- a significand greater by t, which is 2 ^ d, makes a number of 2 ^ u more quanta
 pub stepped_by : (s a u d t : ℕ) → t ≡ 2 ^ d → a * 2 ^ d ≡ s * 2 ^ u → (a + 2 ^ u) * 2 ^ d ≡ (s + t) * 2 ^ u
 stepped_by s a u d t e h = stepped s a u d h ∙ ap (λ (x : ℕ). (s + x) * 2 ^ u) (sym e)
 
+-- a significand less by t, which is 2 ^ d, makes a number of 2 ^ u fewer quanta
 pub stepped_down_by : (s a u d t : ℕ) → t ≡ 2 ^ d → 2 ^ d ≤ s → a * 2 ^ d ≡ s * 2 ^ u
     → (a - 2 ^ u) * 2 ^ d ≡ (s - t) * 2 ^ u
 stepped_down_by s a u d t e l h = stepped_down s a u d l h ∙ ap (λ (x : ℕ). (s - x) * 2 ^ u) (sym e)
 
+-- a step of 2 ^ d is at most 2 ^ p, for each d up to p
 pub step_small : (p d : ℕ) → d ≤ p → 2 ^ d ≤ 2 ^ p
 step_small p d l = pow-le-pow_right two_pos l
 
@@ -272,6 +280,7 @@ lowered_quanta p min x y s t n q e i j h =
     let k : IsQuantaAt min t (x -ℤ pos 1) n = quanta_doubled min x t s n (omega (arith, e, i, w)) h in
     subst (λ (z : ℤ). IsQuantaAt min t z n) (sym j) k
 
+-- the greatest grid point that is not above 0 is 0
 zero_below : (p : ℕ) → IsBelow p 0 0 1
 zero_below p = exact_below p 0 0 1 (lit< tt) (zero_on_grid p) refl
 
@@ -373,6 +382,7 @@ fraction_low format a logarithm =
     let m : logarithm.place + 1 ≡ format.scale = omega (arith, ints, e) in
     (subst (λ (x : ℕ). 2 ^ x ≤ a) k logarithm.low, subst (λ (x : ℕ). a < 2 ^ x) m logarithm.high)
 
+-- an exponent that is not the least one can be lowered by one
 pub room_below : (low x : ℤ) → low ≤ℤ x → (x ≡ low → ⊥) → low ≤ℤ (x -ℤ pos 1)
 room_below low x l n =
     ⊎_elim (λ (q : (low +ℤ pos 1) ≤ℤ x). let r : low ≤ℤ (x -ℤ pos 1) = omega (arith, ints, q) in r)

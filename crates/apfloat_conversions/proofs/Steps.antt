@@ -23,6 +23,7 @@ use Rattle.apfloat_unpacked.proofs.ShapeExponents.{span_is}
 use Rattle.apfloat_conversions.proofs.StoredExponents.{half_within, number_of}
 use Rattle.apfloat_conversions.proofs.Nexts.{operand_down, step_room, step_small, step_within, step_above, next_is, next_within, less_is, least_less, stepped_by, stepped_down_by, stays_operand, carries_operand, carried_quanta, lowered_quanta, lowered_operand, room_above, room_cases}
 
+-- a shape has at least one digit
 some : (shape : Shape) → IsShape shape → 0 < shape.precision
 some shape law = let t = law.precision_low in omega (arith, t)
 
@@ -206,6 +207,7 @@ before_least shape m e law n i k =
 
 -- ---- the largest
 
+-- two magnitudes are equal where their multiples are
 same_multiple : (m g w : ℕ) → 0 < w → eqb m g ≡ eqb (m * w) (g * w)
 same_multiple m g w p =
     ⊎_elim

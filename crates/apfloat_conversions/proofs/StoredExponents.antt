@@ -96,6 +96,7 @@ scale_in_span shape law =
     let b = span_is shape law in
     omega (arith, ints, a, b, law)
 
+-- a significand of a shape is below 2 ^ 125
 pub significand_small : (shape : Shape) (m : ℕ) → IsShape shape → m < 2 ^ shape.precision → m < 2 ^ 125
 significand_small shape m law f =
     let l = law.precision_high in

@@ -45,6 +45,7 @@ to_signed_above format mode width (finite false n) number st exact z h =
 
 -- ---- of a value with a minus sign: the magnitude, in the swapped mode
 
+-- without a minus sign, the swapped mode takes the magnitude above where the mode does so with one
 takes_swapped : (mode : Round) (x y : ℕ) (odd : Bool)
     → takes_above (swapped mode) false x y odd ≡ takes_above mode true x y odd
 takes_swapped NearestTiesToEven x y odd = refl
@@ -58,6 +59,7 @@ pub pick_swapped : (mode : Round) (n p : ℕ) → whole_pick (swapped mode) fals
 pick_swapped mode n p =
     ap (λ (b : Bool). cond (eqb (n % p) 0) (n / p) (cond b (n / p + 1) (n / p))) (takes_swapped mode _ _ _)
 
+-- of a negated NaN the unsigned whole number is 0, with INVALID_OP
 nan_unsigned : (kind : NonfiniteBehavior) (format : Format) (mode : Round) (width s number st : ℕ) (exact : Bool)
     → IsToUnsigned format mode width (negated_nan kind true s) number st exact
     → IsWhole (invalid_whole (pos 0)) (pos number) st exact
@@ -65,9 +67,11 @@ nan_unsigned IEEE754 format mode width s number st exact h = h
 nan_unsigned NanOnly format mode width s number st exact h = h
 nan_unsigned NanNegativeZero format mode width s number st exact h = h
 
+-- of 0 every mode picks 0
 no_whole : (mode : Round) (b : Bool) (scale : ℕ) → whole_pick mode b 0 (2 ^ scale) ≡ 0
 no_whole mode b scale = whole_exactly mode b 0 0 (2 ^ scale) (pow_pos scale) (omega arith)
 
+-- 0 times the quanta of 1 is 0
 no_quanta : (scale : ℕ) → eqb (0 * 2 ^ scale) 0 ≡ true
 no_quanta scale = eq-eqb (0 * 2 ^ scale) 0 (omega arith)
 
@@ -75,6 +79,7 @@ no_quanta scale = eq-eqb (0 * 2 ^ scale) 0 (omega arith)
 zero_ranged : (low high : ℤ) (answer : Whole) → low ≤ℤ pos 0 → pos 0 ≤ℤ high → ranged low high (pos 0) answer ≡ answer
 zero_ranged low high answer l h = rw (less_not (pos 0) low l, less_not high (pos 0) h) refl
 
+-- of a zero of either sign the unsigned whole number is 0, with no flag
 zero_unsigned_of : (format : Format) (mode : Round) (width number st : ℕ) (b exact : Bool)
     → IsToUnsigned format mode width (finite b 0) number st exact → (number ≡ 0) × (st ≡ 0)
 zero_unsigned_of format mode width number st b exact h =
@@ -88,6 +93,7 @@ zero_unsigned_of format mode width number st b exact h =
     let n = h'.number_is in
     (omega (arith, ints, n), h'.status_is)
 
+-- of a negated -0 the unsigned whole number is 0, with no flag
 zero_unsigned : (kind : NonfiniteBehavior) (format : Format) (mode : Round) (width number st : ℕ) (exact : Bool)
     → IsToUnsigned format mode width (negated_zero kind true) number st exact → (number ≡ 0) × (st ≡ 0)
 zero_unsigned IEEE754 format mode width number st exact h = zero_unsigned_of format mode width number st false exact h
@@ -134,6 +140,7 @@ minus_past format mode width n value status is_exact l v t e =
     (omega (arith, ints, l)) in
     rw a (record { number_is = v; status_is = t; is_exact_is = e })
 
+-- from two digits on, the least signed number has a magnitude below the greatest unsigned number
 wider : (width : ℕ) → 2 ≤ width → 2 ^ (width - 1) < 2 ^ width - 1
 wider width h =
     let t : 2 * 2 ^ (width - 1) ≡ 2 ^ width = twice_half width (omega (arith, h)) in

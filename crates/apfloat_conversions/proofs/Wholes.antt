@@ -22,6 +22,7 @@ use Rattle.apfloat_base.proofs.Picks.{kept, takes_less, takes_half, takes_more}
 use Rattle.apfloat_base.proofs.SingleScalings.{scaled_stands}
 use Rattle.apfloat_base.proofs.Choices.{off_both}
 
+-- a whole number that is an odd multiple of the distance to the next one is odd
 whole_odd : (q : ℕ) → eqb (q / (q + 1 - q) % 2) 1 ≡ eqb (q % 2) 1
 whole_odd q =
     let d : q + 1 - q ≡ 1 = omega arith in
@@ -144,6 +145,7 @@ places_up digits scale min_exp x r s a k z e f h =
     (omega (arith, ints, z, e, f)) in
     omega (arith, g)
 
+-- for a whole number z that is not below 0, `up z` is z
 pub up_of : (z : ℤ) → pos 0 ≤ℤ z → pos (up z) ≡ z
 up_of (pos k) h = refl
 up_of (negsuc k) h = absurd (omega (arith, ints))

@@ -45,12 +45,14 @@ literal_read shape mode negative rest tail significand loss cut places some answ
       delivered = rw (s.tail_is, s.places_are) d;
     }
 
+-- a text of length 0 is empty
 pub empty_text : (rest : List ℕ) → true ≡ (length rest == 0) → is_empty rest ≡ true
 empty_text [] h = refl
 empty_text (c ∷ rest) h =
     let e = eqb-true (length (c ∷ rest)) 0 (sym h) in
     absurd (omega (arith, e))
 
+-- a text of another length is not empty
 pub some_text : (rest : List ℕ) → false ≡ (length rest == 0) → is_empty rest ≡ false
 some_text [] h = sym h
 some_text (c ∷ rest) h = refl

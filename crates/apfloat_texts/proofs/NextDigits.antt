@@ -6,11 +6,13 @@ use Rattle.apfloat_base.specs.declared.sig.loss.Loss.TheVariants.{ExactlyZero}
 use Rattle.apfloat_base.specs.rounding.Standing.{StandsFor}
 use Rattle.apfloat_texts.specs.Scans.{IsKept}
 
+-- with one more digit cut off, the unit is 16 times as large
 sixteenfold : (cut : ℕ) → 2 ^ (4 * (cut + 1)) ≡ 16 * 2 ^ (4 * cut)
 sixteenfold cut =
     let e : 4 * (cut + 1) ≡ 4 + 4 * cut = omega arith in
     ap (λ (k : ℕ). 2 ^ k) e ∙ pow-add 2 4 (4 * cut)
 
+-- with some digits cut off, the unit is even
 even : (cut : ℕ) → 0 < cut → 2 ^ (4 * cut) ≡ 2 * 2 ^ (4 * cut - 1)
 even cut p =
     let e : 4 * cut ≡ 1 + (4 * cut - 1) = omega arith in

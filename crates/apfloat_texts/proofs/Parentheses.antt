@@ -20,6 +20,7 @@ by_ends c d ys =
     let e : length (c ∷ d ∷ ys) - 2 ≡ length ys = omega arith in
     rw e (ap (λ (b : Bool). eqb c 40 && b) (last_same d ys))
 
+-- the last character of a text of two or more is the last one behind the first
 last_of : (c d : ℕ) (ys : List ℕ) → get_or (c ∷ d ∷ ys) (length (c ∷ d ∷ ys) - 1) 0 ≡ get_or (d ∷ ys) (length ys) 0
 last_of c d ys =
     let e : length (c ∷ d ∷ ys) - 1 ≡ length (d ∷ ys) = omega arith in
@@ -58,6 +59,7 @@ too_short [] h l = absurd (omega (arith, h))
 too_short (c ∷ []) h l = cond-false _ _ _ (and_right (eqb c 40) false refl)
 too_short (c ∷ d ∷ ys) h l = absurd (omega (arith, l))
 
+-- a text without its first and its last character is what stands inside
 pub inside_is : (xs : List ℕ) → take (length xs - 1 - 1) (drop 1 xs) ≡ inside xs
 inside_is xs =
     let e : length xs - 1 - 1 ≡ length xs - 2 = omega arith in

@@ -10,6 +10,7 @@ use Rattle.apfloat_texts.specs.Payloads.{longer, next, read_on, IsPayloadRead}
 
 -- ---- one digit
 
+-- one more digit makes no smaller number
 grown : (radix : Radix) (n c : ℕ) → n ≤ longer radix n c
 grown Sixteen n c = omega arith
 grown Eight n c = omega arith

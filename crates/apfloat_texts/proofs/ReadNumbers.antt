@@ -100,11 +100,13 @@ moved format mode negative number s cut loss exact unit v status b some small k 
 
 -- ---- the kept digits
 
+-- the places of the number's power of two and of the unit add up alike on both sides
 balanced : (k scale : ℕ) (unit : ℤ)
     → k + (up (power_at k scale unit) + down (unit +ℤ pos scale))
     ≡ down (power_at k scale unit) + up (unit +ℤ pos scale)
 balanced k scale unit = omega (arith, ints)
 
+-- the digits kept of a number, in their unit, stand for the number times its power of two
 stands_at : (number s k scale : ℕ) (loss : Loss) (unit : ℤ) → StandsFor s loss number (2 ^ k)
     → StandsFor s loss (number * 2 ^ up (power_at k scale unit) * 2 ^ down (unit +ℤ pos scale))
     (2 ^ down (power_at k scale unit) * 2 ^ up (unit +ℤ pos scale))
@@ -175,6 +177,7 @@ fine_digits precision number s cut loss p k =
     inr (inr (omega (arith, h, l))))
     k.full
 
+-- the format of a shape has a digit, and its precision, span and scale are bounded
 pub bounded : (shape : Shape) → IsShape shape → IsBounded (format_at shape)
 bounded shape h =
     record {

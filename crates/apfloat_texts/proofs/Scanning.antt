@@ -27,22 +27,27 @@ scan_remade rest left next made e s =
 
 -- ---- the end of a significand
 
+-- a text that begins with no digit and no dot has an empty significand
 ended : (left : List ℕ) → begins is_digit_or_dot left ≡ false → significand_of left ≡ []
 ended [] h = refl
 ended (c ∷ left) h = rw h refl
 
+-- all of a text that begins with no digit and no dot stands behind the significand
 unmoved : (left : List ℕ) → begins is_digit_or_dot left ≡ false → behind_significand left ≡ left
 unmoved [] h = refl
 unmoved (c ∷ left) h = rw h refl
 
+-- with no dot left to read, a significand has at most one
 one_at_most : (b : Bool) → ltb 1 ((if b then 1 else 0) + 0) ≡ false
 one_at_most true = refl
 one_at_most false = refl
 
+-- with nothing left to read, no place behind the dot is added
 no_more : (b : Bool) (places : ℕ) → places + (if b then 0 else 0) ≡ places
 no_more true places = omega arith
 no_more false places = omega arith
 
+-- with nothing left to read, there is no digit where none was read
 only_not : (b : Bool) → (not b && true) ≡ not b
 only_not true = refl
 only_not false = refl

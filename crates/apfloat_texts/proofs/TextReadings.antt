@@ -25,6 +25,7 @@ use Rattle.apfloat_texts.specs.LiteralParts.{IsLiteralRead}
 use Rattle.apfloat_texts.specs.Payloads.{meaning_of}
 use Rattle.apfloat_texts.specs.TextsRead.{IsTextRead}
 
+-- a text of a special value means that value
 means_special : (text : List ℕ) (negative : Bool) (special : Special)
     → special_of text ≡ Some (meaning_of negative special) → Means text (meaning_of negative special)
 means_special text negative Infinity e = e
@@ -53,16 +54,19 @@ special_read shape mode text negative special value answer e stored meant v s =
 
 -- ---- a literal is no special
 
+-- a text with the prefix 0x is no special value
 no_small_special : (mark : Mark) (rest : List ℕ) → special_meaning mark (codes "0x" ++ rest) ≡ None
 no_small_special Unmarked rest = refl
 no_small_special Plus rest = refl
 no_small_special Minus rest = refl
 
+-- nor is one with the prefix 0X
 no_capital_special : (mark : Mark) (rest : List ℕ) → special_meaning mark (codes "0X" ++ rest) ≡ None
 no_capital_special Unmarked rest = refl
 no_capital_special Plus rest = refl
 no_capital_special Minus rest = refl
 
+-- a text with a literal's prefix behind its mark is no special value
 no_special : (text : List ℕ) → begins_literal (behind_mark text) ≡ true → special_of text ≡ None
 no_special text b =
     let body = behind_mark text in

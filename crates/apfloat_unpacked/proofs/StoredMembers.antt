@@ -16,6 +16,7 @@ use Rattle.apfloat_unpacked.specs.Shapes.{format_at}
 use Rattle.apfloat_unpacked.specs.Stored.{IsStored, IsStoredBy, datum_at, datum_by, quanta_at}
 use Rattle.apfloat_unpacked.specs.StoredBack.{quanta_some}
 
+-- what is stored as of a category stands for a datum of that category
 category_by : (category : Category) (shape : Shape) (x : Unpacked) → IsStoredBy category shape x
     → category_of (datum_by category shape x) ≡ category
 category_by Normal shape x h = let p = quanta_some shape x.significand x.exponent h in
@@ -24,6 +25,7 @@ category_by Zero shape x h = refl
 category_by Infinity shape x h = refl
 category_by NaN shape x h = refl
 
+-- the datum of a stored value has the category that is stored
 pub category_is : (shape : Shape) (x : Unpacked) → IsStored shape x → category_of (datum_at shape x) ≡ x.category
 category_is shape x h = category_by x.category shape x h
 
@@ -39,6 +41,7 @@ on_grid_at precision m n u d h e (inr z) =
     let w : n * 1 ≡ m * 2 ^ u = ap (λ (x : ℕ). n * 2 ^ x) (sym z) ∙ e in
     record { significand = m; place = u; fits = h; is = omega arith }
 
+-- what is stored as of a category stands for a datum of the format
 member_by : (category : Category) (shape : Shape) (x : Unpacked) → IsStoredBy category shape x
     → IsMember (format_at shape) (datum_by category shape x)
 member_by Normal shape x h =
@@ -57,5 +60,6 @@ member_by Zero shape x h = record {
 member_by Infinity shape x h = h.kind
 member_by NaN shape x h = h.member
 
+-- the datum of a stored value is one of the format
 pub member_is : (shape : Shape) (x : Unpacked) → IsStored shape x → IsMember (format_at shape) (datum_at shape x)
 member_is shape x h = member_by x.category shape x h

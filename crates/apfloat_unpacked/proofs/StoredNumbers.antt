@@ -20,6 +20,7 @@ pub quanta_is : (min_exp : ℤ) (s : ℕ) (e : ℤ) (n : ℕ) → IsQuantaAt min
 unfolding quanta_at
 quanta_is min_exp s e n h = rw (← h) (shl-shr n (down (e -ℤ min_exp)))
 
+-- where a number is a whole number of quanta, `quanta_at` counts them exactly
 pub whole_is : (min_exp : ℤ) (s : ℕ) (e : ℤ) (n : ℕ) → IsQuantaAt min_exp s e n
     → IsQuantaAt min_exp s e (quanta_at min_exp s e)
 whole_is min_exp s e n h = rw (quanta_is min_exp s e n h) h
@@ -81,6 +82,7 @@ pub record IsMovedUp (shape : Shape) (m digits place w : ℕ) (e : ℤ) : Type 0
   pub same : (shape.precision - digits) + up (e -ℤ shape.min_exp) ≡ place + down (e -ℤ shape.min_exp)
   pub within : m * 2 ^ place ≤ greatest_significand shape.nonfinite shape.precision * 2 ^ (format_at shape).span
 
+-- a significand that was moved up is m * 2 ^ place quanta
 moved_quanta : (shape : Shape) (m digits place w : ℕ) (e : ℤ) → IsMovedUp shape m digits place w e
     → IsQuantaAt shape.min_exp w e (m * 2 ^ place)
 moved_quanta shape m digits place w e h =
@@ -111,10 +113,12 @@ moved_up_normal shape m digits place w e law h =
 
 -- ---- numbers below the least normal exponent, and from it on
 
+-- for the whole number -d, `down` is d and `up` is 0
 below_zero : (z : ℤ) (d : ℕ) → neg_ℤ (pos d) ≡ z → (down z ≡ d) × (up z ≡ 0)
 below_zero z zero e = rw (← e) (refl, refl)
 below_zero z (suc d) e = rw (← e) (refl, refl)
 
+-- for the whole number j, which is not below 0, `up` is j and `down` is 0
 pub above_zero : (z : ℤ) (j : ℕ) → pos j ≡ z → (up z ≡ j) × (down z ≡ 0)
 above_zero z j e = rw (← e) (refl, refl)
 

@@ -23,6 +23,7 @@ pub record IsNamedTo (status : ℕ) (table : List (List ℕ × ℕ)) (place : �
 pub name_none : (status : ℕ) (table : List (List ℕ × ℕ)) (old : Option (List ℕ)) → IsNamedTo status table 0 [] old old
 name_none status table old = record { separator_is = refl; written = Appends-nil old }
 
+-- one more name is joined behind a bar, unless it is the first
 join-push : (names : List (List ℕ)) (name : List ℕ)
     → join_with_byte bar (names ++ name ∷ []) ≡ join_with_byte bar names ++ (bar_after names ++ name)
 join-push [] name = refl
@@ -31,6 +32,7 @@ join-push (x ∷ y ∷ names) name =
     ap (λ l. x ++ bar ∷ l) (join-push (y ∷ names) name)
     ∙ sym (append_assoc x (bar ∷ join_with_byte bar (y ∷ names)) (bar ∷ name))
 
+-- behind a name there is a bar before the next
 bar-push : (names : List (List ℕ)) (name : List ℕ) → bar_after (names ++ name ∷ []) ≡ bar ∷ []
 bar-push [] name = refl
 bar-push (x ∷ names) name = refl
@@ -110,6 +112,7 @@ name_same row items d status place separator old now within raised so_far =
     passed status place (map row items) (row (get_or items place d)) (row d) separator old now inside
     (at_place row items place d within) raised so_far
 
+-- the row of OK adds no name
 not_ok : (status : ℕ) → raised_names status ((codes "OK", 0) ∷ flags) ≡ raised_names status flags
 not_ok status =
     let none : is_raised status (codes "OK", 0) ≡ false = ap (λ n. not (n == 0)) (and_zero_r status) in

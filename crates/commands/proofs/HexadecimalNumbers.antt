@@ -21,6 +21,7 @@ value_of c = if is_hexadecimal c then Some (digit_value c) else None
 
 -- ---- one digit
 
+-- behind a digit the reading goes on with the longer number
 read_on-cons : (n c : ℕ) (digits : List ℕ) → is_hexadecimal c ≡ true
     → read_on n (c ∷ digits) ≡ read_on (longer n c) digits
 unfolding read_on
@@ -49,6 +50,7 @@ pub record IsReadTo (word : List ℕ) (n place : ℕ) : Type 0 where
   pub small : n < 16 ^ place
   pub read : number_of word ≡ read_on n (drop place word)
 
+-- before the first place the digits say 0
 pub read_none : (word : List ℕ) → IsReadTo word 0 0
 unfolding read_on
 read_none word = record { small = lit< tt; read = refl }

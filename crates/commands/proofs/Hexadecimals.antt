@@ -11,16 +11,19 @@ pub record IsWrittenTo (number rest place : ℕ) (text : List ℕ) : Type 0 wher
   pub rest_is : rest ≡ number / 16 ^ place
   pub digits : drop (32 - place) text ≡ hexadecimal_text number place
 
+-- with one more place, the digit of that place stands in front
 text_more : (number place : ℕ)
     → hexadecimal_text number (place + 1) ≡ hexadecimal_digit (number / 16 ^ place % 16) ∷ hexadecimal_text number
     place
 unfolding hexadecimal_text
 text_more number place = rw (add-one place) refl
 
+-- the text of no digits is empty
 text_none : (number : ℕ) → hexadecimal_text number 0 ≡ []
 unfolding hexadecimal_text
 text_none number = refl
 
+-- divided by 16, the number above a place is the number above the next place
 rest_more : (number rest place : ℕ) → rest ≡ number / 16 ^ place → rest / 16 ≡ number / 16 ^ (place + 1)
 rest_more number rest place e =
     let longer : 16 ^ place * 16 ≡ 16 ^ (place + 1) = rw (add-one place) (sym (pow-suc 16 place)) in
@@ -59,12 +62,14 @@ write_more number rest place digit text within so_far digit_is = record {
   digits = digits_more number rest place digit text within so_far digit_is;
 }
 
+-- the last digits of a longer text are the text of so many digits
 text_drop : (number digits more : ℕ)
     → drop more (hexadecimal_text number (digits + more)) ≡ hexadecimal_text number digits
 unfolding hexadecimal_text
 text_drop number digits zero = rw (add-zero digits) refl
 text_drop number digits (suc more) = rw (add-suc digits more) (text_drop number digits more)
 
+-- the text of so many digits has that length
 length-text : (number digits : ℕ) → length (hexadecimal_text number digits) ≡ digits
 unfolding hexadecimal_text
 length-text number zero = refl

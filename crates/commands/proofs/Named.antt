@@ -6,6 +6,7 @@ use Rattle.rustc_apfloat.specs.declared.Round.{Round}
 use Rattle.commands.specs.declared.operation.Operation.{Operation}
 use Rattle.commands.specs.Commands.{◌>>=◌, arguments, found, modes, named, operand_count, operations, provided}
 
+-- what comes through a condition is what was given, and the condition holds
 provided_passed : {A : Type 0} (holds : Bool) (word : List ℕ) (x y : A) → provided holds word (Ok x) ≡ Ok y
     → (holds ≡ true) × (x ≡ y)
 provided_passed true word x y e = (refl, cc)
@@ -17,6 +18,7 @@ names operation mode first second count =
     ok_or operation first >>= λ k. ok_or mode second >>= λ r.
     provided (count == operand_count k) arguments (Ok (k, r))
 
+-- an operation that is known and accepted comes with as many operands as it takes
 count_of : (operation : Option Operation) (mode : Option Round) (first second : List ℕ) (count : ℕ)
     (known : Operation) (round : Round)
     → names operation mode first second count ≡ Ok (known, round) → count ≡ operand_count known
@@ -26,6 +28,7 @@ count_of (Some k) (Some r) first second count known round e =
     let passed = provided_passed (count == operand_count k) arguments (k, r) (known, round) e in
     eqb-true _ _ passed.0 ∙ ap (λ (p : Operation × Round). operand_count p.0) passed.1
 
+-- an operation that `named` accepts comes with as many operands as it takes
 pub named_count : (operation mode : List ℕ) (count : ℕ) (known : Operation) (round : Round)
     → named operation mode count ≡ Ok (known, round) → count ≡ operand_count known
 named_count operation mode count known round e =

@@ -29,21 +29,25 @@ fold_grows n (c ∷ digits) =
     let grown : n ≤ longer n c = omega arith in
     omega arith
 
+-- behind a digit the reading goes on with the longer number
 read_on-cons : (n c : ℕ) (digits : List ℕ) → is_decimal c ≡ true
     → read_on n (c ∷ digits) ≡ read_on (longer n c) digits
 unfolding read_on
 read_on-cons n c digits e = first_holds (is_decimal c) (every is_decimal digits) _ _ e
 
+-- a character that is no digit leaves no number
 read_on-no_digit : (n c : ℕ) (digits : List ℕ) → is_decimal c ≡ false → read_on n (c ∷ digits) ≡ None
 unfolding read_on
 read_on-no_digit n c digits e = first_fails (is_decimal c) (every is_decimal digits) _ _ e
 
+-- a number of 2 ^ 128 or more is not read, whatever follows
 read_on-too_large : (n : ℕ) (digits : List ℕ) → 2 ^ 128 ≤ n → read_on n digits ≡ None
 unfolding read_on
 read_on-too_large n digits h =
     let grown = fold_grows n digits in
     last_fails (every is_decimal digits) _ _ (le-ltb _ _ (omega arith))
 
+-- with no digits left, the number is the one that was read
 read_on-nil : (n : ℕ) → n < 2 ^ 128 → read_on n [] ≡ Some n
 unfolding read_on
 read_on-nil n h = grind (arith, nat_tests)
@@ -73,11 +77,13 @@ pub record IsReadTo (word : List ℕ) (n place : ℕ) : Type 0 where
   pub small : n < 2 ^ 128
   pub read : whole_number_of word ≡ read_on n (drop place word)
 
+-- the number of a word that is not empty is what its digits say, read on from 0
 from_first : (word : List ℕ) → (length word == 0) ≡ false → whole_number_of word ≡ read_on 0 word
 unfolding read_on
 from_first [] some = cc
 from_first (c ∷ digits) some = refl
 
+-- before the first place of a word that is not empty the digits say 0
 pub read_none : (word : List ℕ) → (length word == 0) ≡ false → IsReadTo word 0 0
 read_none word some = record { small = lit< tt; read = from_first word some }
 

@@ -16,6 +16,7 @@ use Rattle.commands.proofs.RepliesOnce.{only_with_two, only_with_whole_number, o
 
 -- ---- one answer
 
+-- a call has no more than one answer in pairs
 pair_call_once : (call : Call) (mode : Round) → OncePair (IsPairAnswerOf call mode)
 pair_call_once (of_two arithmetic x y) mode = pair_of_two_once arithmetic mode (pair_of x) (pair_of y)
 pair_call_once (fused_sum x y z) mode = λ v w r s h k. absurd h
@@ -36,6 +37,7 @@ only_pair_line value status bits width encoded width_is =
           h.is ∙ ap (λ (b : ℕ). line b (bits_in of_pairs / 4) status) same ∙ sym digits;
     }
 
+-- equal pairs with equal statuses have the same lines
 line_of : (v w : Pair) (s t : ℕ) (reply : Reply) → v ≡ w → s ≡ t → IsPairLineOf v s reply → IsPairLineOf w t reply
 line_of v w s t reply value_is status_is is_line =
     subst (λ (x : ℕ). IsPairLineOf w x reply) status_is

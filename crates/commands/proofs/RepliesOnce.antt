@@ -21,6 +21,7 @@ use Rattle.commands.specs.Replies.{Reply, refused, IsAnswered, IsAnsweredIn, IsA
 
 -- ---- one answer
 
+-- a call has no more than one answer
 call_once : (call : Call) (constants : Constants) (mode : Round) → Once (IsAnswerOf call constants mode)
 call_once (of_two arithmetic x y) constants mode =
     of_two_once arithmetic (format_with constants) mode (value_of constants x) (value_of constants y)
@@ -31,6 +32,7 @@ call_once (from_text text) constants mode = reading_once (format_with constants)
 
 -- ---- one reply
 
+-- equal data with equal statuses have the same lines
 line_of : (constants : Constants) (v w : Datum) (s t : ℕ) (reply : Reply) → v ≡ w → s ≡ t → IsLineOf constants v s reply
     → IsLineOf constants w t reply
 line_of constants v w s t reply value_is status_is line =
