@@ -4,10 +4,10 @@
 //! times 2^70 quanta, `+0q` and `-0q` are the zeros, `+inf` is an infinity, and `-nan:2a` and `-snan:2a` are the quiet
 //! and the signaling NaN with a payload in hexadecimal digits.
 //!
-//! Whether a value is that of a word is decided by calls that read no text. For a number an integer decides: scaled by
-//! a power of two (`scalbn`), the number becomes (`to_u128`) exactly the odd part of the count. Zeros and infinities are
-//! recognised by their class, NaNs by comparison with those of `qnan` and `snan`, and all by their sign. An operand is
-//! made by calls too, and then recognised in the same way.
+//! Whether a value is that of a word is decided by calls that read no text. For a number an integer decides: scaled
+//! by a power of two (`scalbn`), the number becomes (`to_u128`) exactly the odd part of the count. Zeros and
+//! infinities are recognised by their class, NaNs by comparison with those of `qnan` and `snan`, and all by their
+//! sign. An operand is made by calls too, and then recognised in the same way.
 
 use commands::{bits_of, number_of};
 use rustc_apfloat::{Category, ExpInt, Flags, Float};
