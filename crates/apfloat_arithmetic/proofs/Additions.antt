@@ -33,8 +33,8 @@ quanta_counted min xe tx base k mx m l e i =
     (m * 2 ^ k) (omega arith)
 
 -- the sum of two multiples is that multiple of the sum
-pub scaled_sum : (s t : Bool) (m n w : ℕ) (y z : ℤ) → y ≡ (signed s (m * w) +ℤ signed t (n * w))
-    → z ≡ (signed s m +ℤ signed t n) → up y + down z * w ≡ down y + up z * w
+pub scaled_sum : (left right : Bool) (m n w : ℕ) (y z : ℤ) → y ≡ (signed left (m * w) +ℤ signed right (n * w))
+    → z ≡ (signed left m +ℤ signed right n) → up y + down z * w ≡ down y + up z * w
 scaled_sum true true m n w y z e d =
     let a : up z + (m + n) ≡ down z = omega (arith, ints) in
     let b : (up z + (m + n)) * w ≡ down z * w = ap (λ (x : ℕ). x * w) a in
@@ -120,10 +120,10 @@ zero_amount q loss amount unit a b h =
     omega (arith, s)
 
 -- the sum of two terms, as the sum of their numbers of quanta
-pub read_sum : (of_zero : Bool) (base e unit : ℤ) (k m n : ℕ) (s t negative : Bool) (q : ℕ) (loss : Loss)
+pub read_sum : (of_zero : Bool) (base e unit : ℤ) (k m n : ℕ) (left right negative : Bool) (q : ℕ) (loss : Loss)
     → e ≡ ((unit +ℤ base) +ℤ pos k)
-    → StandsForSigned base (signed s (m * 2 ^ k) +ℤ signed t (n * 2 ^ k)) negative e q loss
-    → IsRepresented of_zero (signed s m +ℤ signed t n) negative unit q loss
+    → StandsForSigned base (signed left (m * 2 ^ k) +ℤ signed right (n * 2 ^ k)) negative e q loss
+    → IsRepresented of_zero (signed left m +ℤ signed right n) negative unit q loss
 read_sum of_zero base e unit k m n s t negative q loss d h =
     let w : 0 < 2 ^ k = pow_pos k in
     let u : 0 < 2 ^ up (e -ℤ base) = pow_pos (up (e -ℤ base)) in
@@ -154,15 +154,15 @@ read_negative of_zero exact unit negative answer (suc n) loss r f g =
     let k = λ (x : suc n ≡ 0) (y : loss ≡ ExactlyZero). absurd (omega arith) in g k ∙ r.other_sign k
 
 -- the two numbers and the sum of their terms
-pub sum_read : (of_zero : Bool) (precision scale : ℕ) (min xe ye tx ty e unit : ℤ) (s t negative : Bool)
+pub sum_read : (of_zero : Bool) (precision scale : ℕ) (min xe ye tx ty e unit : ℤ) (left right negative : Bool)
     (mx my m n q : ℕ) (loss : Loss)
     → ((min +ℤ pos 1) -ℤ pos precision) ≤ℤ xe → ((min +ℤ pos 1) -ℤ pos precision) ≤ℤ ye
     → (tx +ℤ pos precision) ≡ (xe +ℤ pos 1) → (ty +ℤ pos precision) ≡ (ye +ℤ pos 1)
     → (pos scale +ℤ min) +ℤ pos 1 ≡ pos precision → unit ≡ (e +ℤ pos scale) → IsQuantaAt min mx xe m
     → IsQuantaAt min my ye n
     → ((base : ℤ) → base ≤ℤ tx → base ≤ℤ ty
-    → StandsForSigned base (counted base s tx mx +ℤ counted base t ty my) negative e q loss)
-    → IsRepresented of_zero (signed s m +ℤ signed t n) negative unit q loss
+    → StandsForSigned base (counted base left tx mx +ℤ counted base right ty my) negative e q loss)
+    → IsRepresented of_zero (signed left m +ℤ signed right n) negative unit q loss
 sum_read of_zero precision scale min xe ye tx ty e unit s t negative mx my m n q loss lx ly ax ay w u ix iy f =
     let base = (min -ℤ pos precision) -ℤ pos precision in
     let k = precision + 1 in

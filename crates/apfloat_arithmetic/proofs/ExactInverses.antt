@@ -188,16 +188,16 @@ opposite_word shape m e law n =
     to_z-of_z w32 (pos 0 -ℤ e) (fits_in w32 (pos 0 -ℤ e) (omega (arith, ints, x.within))) ∙ z
 
 -- what is answered of a number
-pub inverse_answer : (shape : Shape) (b : Bool) (m : ℕ) (e : ℤ) → IsShape shape → IsNormalAt shape m e
+pub inverse_answer : (shape : Shape) (negative : Bool) (m : ℕ) (e : ℤ) → IsShape shape → IsNormalAt shape m e
     → IsInvertible shape m e
-    → IsExactInverse (format_at shape) (finite b (quanta_at shape.min_exp m e))
-    (Some (finite b (quanta_at shape.min_exp m (neg_ℤ e))))
+    → IsExactInverse (format_at shape) (finite negative (quanta_at shape.min_exp m e))
+    (Some (finite negative (quanta_at shape.min_exp m (neg_ℤ e))))
 inverse_answer shape b m e law n i = (quanta_at shape.min_exp m (neg_ℤ e), inverted_product shape m e law n i, refl)
 
 -- and one that is not invertible has none
-pub no_inverse_answer : (shape : Shape) (b : Bool) (m : ℕ) (e : ℤ) → IsShape shape → IsNormalAt shape m e
+pub no_inverse_answer : (shape : Shape) (negative : Bool) (m : ℕ) (e : ℤ) → IsShape shape → IsNormalAt shape m e
     → (IsInvertible shape m e → ⊥)
-    → IsExactInverse (format_at shape) (finite b (quanta_at shape.min_exp m e)) None
+    → IsExactInverse (format_at shape) (finite negative (quanta_at shape.min_exp m e)) None
 no_inverse_answer shape b m e law n i = λ inverse h. i (invertible_from shape m inverse e law n h)
 
 abbrev value_or : Unpacked → Option Unpacked → Unpacked
@@ -205,5 +205,5 @@ value_or x (Some y) = y
 value_or x None = x
 
 -- two values that make the same answer are equal
-pub same_value : (x y : Unpacked) → Some x ≡ Some y → x ≡ y
+pub same_value : (left right : Unpacked) → Some left ≡ Some right → left ≡ right
 same_value x y h = ap (value_or x) h

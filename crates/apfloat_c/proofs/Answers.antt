@@ -73,7 +73,7 @@ pub pair_signed_answer : (mode : Round) (width bits : ℕ) (x : Pair) (integer :
     → whole answer.bits ≡ of_z w128 (to_z w128 (of_z w128 integer))
     → answer.status ≡ status → answer.number ≡ one_if exact
     → IsOutcomeBy (width_fault 2 width)
-    (λ (a : Answer). IsSigned (IsPairToSigned mode width (pair_of bits)) a) (Ok answer)
+    (λ (given : Answer). IsSigned (IsPairToSigned mode width (pair_of bits)) given) (Ok answer)
 pair_signed_answer mode width bits x integer status exact answer small fits read holds bits_are status_is
     number_is =
     let of_bits = subst (λ (d : Pair). IsPairToSigned mode width d integer status exact) read holds in
@@ -98,7 +98,7 @@ pub read_answer : (constants : Constants) (mode : Round) (bytes text : List ℕ)
     → text ≡ bytes → every is_ascii bytes ≡ true → IsReading (format_with constants) mode text value status
     → IsWritten constants value status (pos 0) answer
     → IsOutcomeBy (unless (is_text bytes) refused_text)
-    (λ (a : Answer). IsValue constants (IsReading (format_with constants) mode bytes) a)
+    (λ (given : Answer). IsValue constants (IsReading (format_with constants) mode bytes) given)
     (Ok answer)
 read_answer constants mode bytes text value status answer same ascii holds written =
     let reading = subst (λ (t : List ℕ). IsReading (format_with constants) mode t value status) same holds in
@@ -109,7 +109,8 @@ read_answer constants mode bytes text value status answer same ascii holds writt
 pub pair_read_answer : (mode : Round) (bytes text : List ℕ) (value : Pair) (status : ℕ) (answer : Answer)
     → text ≡ bytes → every is_ascii bytes ≡ true → IsPairReading mode text value status
     → IsPairWritten value status (pos 0) answer
-    → IsOutcomeBy (unless (is_text bytes) refused_text) (λ (a : Answer). IsPairValue (IsPairReading mode bytes) a)
+    → IsOutcomeBy (unless (is_text bytes) refused_text)
+    (λ (given : Answer). IsPairValue (IsPairReading mode bytes) given)
     (Ok answer)
 pair_read_answer mode bytes text value status answer same ascii holds written =
     let reading = subst (λ (t : List ℕ). IsPairReading mode t value status) same holds in

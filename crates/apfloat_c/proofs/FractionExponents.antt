@@ -15,8 +15,8 @@ use Rattle.apfloat_base.proofs.FarMagnitudes.{largest_below}
 use Rattle.apfloat_base.proofs.Powers.{exponent_below}
 
 -- the exponent of a fraction of some quanta is above -scale, and below the exponent that is past all numbers
-magnitude_below : (format : Format) (b : Bool) (n : ℕ) (value : Datum) (e : ℤ) → 0 < n → n ≤ largest format
-    → IsFraction format b n value e → unsigned_abs e < format.precision + format.span + format.scale + 1
+magnitude_below : (format : Format) (negative : Bool) (n : ℕ) (value : Datum) (e : ℤ) → 0 < n → n ≤ largest format
+    → IsFraction format negative n value e → unsigned_abs e < format.precision + format.span + format.scale + 1
 magnitude_below format b n value (pos k) some within x =
     let low : 0 < 2 ^ (format.scale - 1) = pow_pos (format.scale - 1) in
     let one : 1 ≤ x.fraction = let l : 2 ^ (format.scale - 1) ≤ x.fraction = x.low in omega arith in
@@ -46,9 +46,10 @@ past_all constants law =
     omega (arith, ints, law.precision_high, law.min_exp_low, law.max_exp_high, scale, span)
 
 -- the exponent of the fraction of a finite value fits 32 bits
-number_fits : (constants : Constants) → IsLawful constants → (b : Bool) (n : ℕ) (none : Bool) (value : Datum) (e : ℤ)
+number_fits : (constants : Constants) → IsLawful constants
+    → (negative : Bool) (n : ℕ) (none : Bool) (value : Datum) (e : ℤ)
     → eqb n 0 ≡ none → n ≤ largest (format_with constants)
-    → MatchBool none ((value ≡ finite b n) × (e ≡ pos 0)) (IsFraction (format_with constants) b n value e)
+    → MatchBool none ((value ≡ finite negative n) × (e ≡ pos 0)) (IsFraction (format_with constants) negative n value e)
     → FitsSigned w32 e
 number_fits constants law b n true value e test within h =
     subst (λ (z : ℤ). FitsSigned w32 z) (sym h.1) (fits_signed_from_abs w32 (pos 0) (lit< tt))

@@ -225,11 +225,11 @@ held_shift s t m p q f =
 -- ---- its conversion rounds nothing
 
 -- so that the conversion has no flag
-pub same_converted : (from into : Format) (mode : Round) (negative : Bool) (a b : ℕ) (v : Datum) (status : ℕ)
+pub same_converted : (from into : Format) (mode : Round) (negative : Bool) (a b : ℕ) (value : Datum) (status : ℕ)
     → 0 < a
-    → a * 2 ^ into.scale ≡ b * 2 ^ from.scale → v ≡ finite negative b → IsFiniteOf into negative b
+    → a * 2 ^ into.scale ≡ b * 2 ^ from.scale → value ≡ finite negative b → IsFiniteOf into negative b
     → status ≡ ok_bits
-    → IsConvertedNumber from into mode negative a v status false
+    → IsConvertedNumber from into mode negative a value status false
 same_converted from into mode negative a b v status p e d t s =
     let o : 0 < b = some_there a b from.scale into.scale p e in
     record {

@@ -45,18 +45,19 @@ abbrev pub limit : ℕ → Bool → ℕ
 limit width negative = cond negative 0 (2 ^ width - 1)
 
 -- a number in the unsigned range is its own magnitude
-signed_in : (b : Bool) (width mag : ℕ) → mag ≤ limit width b → signed b mag ≡ pos mag
+signed_in : (negative : Bool) (width mag : ℕ) → mag ≤ limit width negative → signed negative mag ≡ pos mag
 signed_in true width mag h = let e : mag ≡ 0 = omega arith in rw e refl
 signed_in false width mag h = refl
 
 -- a magnitude in range is at most the greatest number of so many digits
-limit_high : (b : Bool) (width mag : ℕ) → mag ≤ limit width b → pos mag ≤ℤ pos (2 ^ width - 1)
+limit_high : (negative : Bool) (width mag : ℕ) → mag ≤ limit width negative → pos mag ≤ℤ pos (2 ^ width - 1)
 limit_high true width mag h = omega (arith, ints)
 limit_high false width mag h = omega (arith, ints)
 
 -- a number in range is given as it is
-pub ranged_in : (width : ℕ) (b : Bool) (mag : ℕ) (exact : Bool) → mag ≤ limit width b
-    → ranged (pos 0) (pos (2 ^ width - 1)) (signed b mag) (exact_or_not (signed b mag) exact (b && false))
+pub ranged_in : (width : ℕ) (negative : Bool) (mag : ℕ) (exact : Bool) → mag ≤ limit width negative
+    → ranged (pos 0) (pos (2 ^ width - 1)) (signed negative mag)
+    (exact_or_not (signed negative mag) exact (negative && false))
     ≡ record { number = pos mag; status = inexact_unless exact; is_exact = exact }
 ranged_in width b mag exact h =
     let low : int_lt (pos mag) (pos 0) ≡ false = less_not (pos mag) (pos 0) (omega (arith, ints)) in
@@ -65,19 +66,20 @@ ranged_in width b mag exact h =
     rw (signed_in b width mag h, low, high, no_zero b exact) refl
 
 -- and is the answer
-pub in_range : (format : Format) (mode : Round) (width : ℕ) (b : Bool) (n mag st : ℕ) (exact : Bool) → 0 < n
-    → mag ≡ whole_pick mode b n (2 ^ format.scale) → exact ≡ eqb (whole_quanta format mode b n) n → mag ≤ limit width b
-    → st ≡ inexact_unless exact
-    → IsToUnsigned format mode width (finite b n) mag st exact
+pub in_range : (format : Format) (mode : Round) (width : ℕ) (negative : Bool) (n mag st : ℕ) (exact : Bool) → 0 < n
+    → mag ≡ whole_pick mode negative n (2 ^ format.scale) → exact ≡ eqb (whole_quanta format mode negative n) n
+    → mag ≤ limit width negative → st ≡ inexact_unless exact
+    → IsToUnsigned format mode width (finite negative n) mag st exact
 in_range format mode width b n mag st exact p i x h t =
     let z : eqb n 0 ≡ false = ne_eqb n 0 (λ e. omega (arith, e, p)) in
     let r = ranged_in width b mag exact h in
     rw (z, ← x, ← i, r) (record { number_is = refl; status_is = t; is_exact_is = refl })
 
 -- one out of range is replaced by the end of the range
-pub ranged_out : (width : ℕ) (b : Bool) (mag : ℕ) (exact : Bool) → limit width b < mag
-    → ranged (pos 0) (pos (2 ^ width - 1)) (signed b mag) (exact_or_not (signed b mag) exact (b && false))
-    ≡ record { number = pos (limit width b); status = 1; is_exact = false }
+pub ranged_out : (width : ℕ) (negative : Bool) (mag : ℕ) (exact : Bool) → limit width negative < mag
+    → ranged (pos 0) (pos (2 ^ width - 1)) (signed negative mag)
+    (exact_or_not (signed negative mag) exact (negative && false))
+    ≡ record { number = pos (limit width negative); status = 1; is_exact = false }
 ranged_out width true mag exact h =
     let low : int_lt (neg_ℤ (pos mag)) (pos 0) ≡ true = less_so (neg_ℤ (pos mag)) (pos 0) (omega (arith, ints, h)) in
     rw low refl
@@ -88,9 +90,9 @@ ranged_out width false mag exact h =
     rw (low, high) refl
 
 -- and the answer is that end, with INVALID_OP
-pub out_of_range : (format : Format) (mode : Round) (width : ℕ) (b : Bool) (n number st : ℕ) (exact : Bool) → 0 < n
-    → limit width b < whole_pick mode b n (2 ^ format.scale) → number ≡ limit width b → st ≡ 1 → exact ≡ false
-    → IsToUnsigned format mode width (finite b n) number st exact
+pub out_of_range : (format : Format) (mode : Round) (width : ℕ) (negative : Bool) (n number st : ℕ) (exact : Bool)
+    → 0 < n → limit width negative < whole_pick mode negative n (2 ^ format.scale) → number ≡ limit width negative
+    → st ≡ 1 → exact ≡ false → IsToUnsigned format mode width (finite negative n) number st exact
 out_of_range format mode width b n number st exact p h m t x =
     let z : eqb n 0 ≡ false = ne_eqb n 0 (λ e. omega (arith, e, p)) in
     let r = ranged_out width b (whole_pick mode b n (2 ^ format.scale)) (eqb (whole_quanta format mode b n) n) h in

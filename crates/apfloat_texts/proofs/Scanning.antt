@@ -10,8 +10,8 @@ use Rattle.apfloat_texts.specs.Scans.{IsKept, IsScan, IsScanned}
 -- ---- results
 
 -- what the exit of a `?` returns
-pub refused_by : {T E : Type 0} (r : Result T E) (e : E) (P : T → Type 0) (Q : E → Type 0) → IsErrAnd r (λ y. y ≡ e)
-    → Q e → MatchResult r P Q
+pub refused_by : {T E : Type 0} (result : Result T E) (error : E) (P : T → Type 0) (Q : E → Type 0)
+    → IsErrAnd result (λ y. y ≡ error) → Q error → MatchResult result P Q
 refused_by (Ok x) e P Q is q = absurd is
 refused_by (Err y) e P Q is q = subst Q (sym is) q
 
@@ -38,17 +38,17 @@ unmoved [] h = refl
 unmoved (c ∷ left) h = rw h refl
 
 -- with no dot left to read, a significand has at most one
-one_at_most : (b : Bool) → ltb 1 ((if b then 1 else 0) + 0) ≡ false
+one_at_most : (pointed : Bool) → ltb 1 ((if pointed then 1 else 0) + 0) ≡ false
 one_at_most true = refl
 one_at_most false = refl
 
 -- with nothing left to read, no place behind the dot is added
-no_more : (b : Bool) (places : ℕ) → places + (if b then 0 else 0) ≡ places
+no_more : (pointed : Bool) (places : ℕ) → places + (if pointed then 0 else 0) ≡ places
 no_more true places = omega arith
 no_more false places = omega arith
 
 -- with nothing left to read, there is no digit where none was read
-only_not : (b : Bool) → (not b && true) ≡ not b
+only_not : (some : Bool) → (not some && true) ≡ not some
 only_not true = refl
 only_not false = refl
 

@@ -38,7 +38,8 @@ only_pair_line value status bits width encoded width_is =
     }
 
 -- equal pairs with equal statuses have the same lines
-line_of : (v w : Pair) (s t : ℕ) (reply : Reply) → v ≡ w → s ≡ t → IsPairLineOf v s reply → IsPairLineOf w t reply
+line_of : (value other : Pair) (s t : ℕ) (reply : Reply) → value ≡ other → s ≡ t → IsPairLineOf value s reply
+    → IsPairLineOf other t reply
 line_of v w s t reply value_is status_is is_line =
     subst (λ (x : ℕ). IsPairLineOf w x reply) status_is
     (subst (λ (x : Pair). IsPairLineOf x s reply) value_is is_line)
@@ -57,11 +58,10 @@ only_pair_answer mode call value status reply answers is_line = record {
 }
 
 -- an operation on two pairs has one reply
-pub only_pair_of_two : (arithmetic : Arithmetic) (mode : Round) (left right : List ℕ) (x y : ℕ) (a b value : Pair)
-    (status : ℕ) (reply : Reply)
-    → bits_of_word (bits_in of_pairs) left ≡ Some x → bits_of_word (bits_in of_pairs) right ≡ Some y
-    → a ≡ pair_of x → b ≡ pair_of y
-    → IsPairOfTwo arithmetic mode a b value status → IsOnly (IsPairLineOf value status) reply
+pub only_pair_of_two : (arithmetic : Arithmetic) (mode : Round) (left right : List ℕ) (x y : ℕ)
+    (left_value right_value value : Pair) (status : ℕ) (reply : Reply) → bits_of_word (bits_in of_pairs) left ≡ Some x
+    → bits_of_word (bits_in of_pairs) right ≡ Some y → left_value ≡ pair_of x → right_value ≡ pair_of y
+    → IsPairOfTwo arithmetic mode left_value right_value value status → IsOnly (IsPairLineOf value status) reply
     → IsOnly (IsReplyTo (requested of_pairs mode (with_two (bits_in of_pairs) arithmetic left right))) reply
 only_pair_of_two arithmetic mode left right x y a b value status reply first second a_is b_is answers is_line =
     let of_first = subst (λ (d : Pair). IsPairOfTwo arithmetic mode d b value status) a_is answers in

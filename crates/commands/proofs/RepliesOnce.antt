@@ -33,8 +33,8 @@ call_once (from_text text) constants mode = reading_once (format_with constants)
 -- ---- one reply
 
 -- equal data with equal statuses have the same lines
-line_of : (constants : Constants) (v w : Datum) (s t : ℕ) (reply : Reply) → v ≡ w → s ≡ t → IsLineOf constants v s reply
-    → IsLineOf constants w t reply
+line_of : (constants : Constants) (value other : Datum) (s t : ℕ) (reply : Reply) → value ≡ other → s ≡ t
+    → IsLineOf constants value s reply → IsLineOf constants other t reply
 line_of constants v w s t reply value_is status_is line =
     subst (λ x. IsLineOf constants w x reply) status_is (subst (λ x. IsLineOf constants x s reply) value_is line)
 
@@ -80,10 +80,11 @@ only_refusal kind mode text word refusal =
 
 -- an operation on two values has one reply
 pub only_of_two : (constants : Constants) (arithmetic : Arithmetic) (mode : Round) (left right : List ℕ) (x y : ℕ)
-    (a b value : Datum) (status : ℕ) (reply : Reply)
-    → bits_of_word constants.bits left ≡ Some x → bits_of_word constants.bits right ≡ Some y → a ≡ value_of constants x
-    → b ≡ value_of constants y
-    → IsOfTwo arithmetic (format_with constants) mode a b value status → IsOnly (IsLineOf constants value status) reply
+    (left_value right_value value : Datum) (status : ℕ) (reply : Reply) → bits_of_word constants.bits left ≡ Some x
+    → bits_of_word constants.bits right ≡ Some y → left_value ≡ value_of constants x
+    → right_value ≡ value_of constants y
+    → IsOfTwo arithmetic (format_with constants) mode left_value right_value value status
+    → IsOnly (IsLineOf constants value status) reply
     → IsOnly (IsReplyTo (requested (of_format constants) mode (with_two constants.bits arithmetic left right))) reply
 only_of_two constants arithmetic mode left right x y a b value status reply first second a_is b_is answers line =
     let of_first = subst (λ d. IsOfTwo arithmetic (format_with constants) mode d b value status) a_is answers in
@@ -94,11 +95,12 @@ only_of_two constants arithmetic mode left right x y a b value status reply firs
 
 -- a fused sum has one reply
 pub only_fused_sum : (constants : Constants) (mode : Round) (left right addend : List ℕ) (x y z : ℕ)
-    (a b d value : Datum) (status : ℕ) (reply : Reply)
+    (left_value right_value addend_value value : Datum) (status : ℕ) (reply : Reply)
     → bits_of_word constants.bits left ≡ Some x → bits_of_word constants.bits right ≡ Some y
-    → bits_of_word constants.bits addend ≡ Some z
-    → a ≡ value_of constants x → b ≡ value_of constants y → d ≡ value_of constants z
-    → IsFusedSum (format_with constants) mode a b d value status → IsOnly (IsLineOf constants value status) reply
+    → bits_of_word constants.bits addend ≡ Some z → left_value ≡ value_of constants x
+    → right_value ≡ value_of constants y → addend_value ≡ value_of constants z
+    → IsFusedSum (format_with constants) mode left_value right_value addend_value value status
+    → IsOnly (IsLineOf constants value status) reply
     → IsOnly (IsReplyTo (requested (of_format constants) mode (with_three constants.bits left right addend))) reply
 only_fused_sum constants mode left right addend x y z a b d value status reply first second third a_is b_is d_is answers
     line =

@@ -26,8 +26,9 @@ single reach x s = record { is_finite = s.is_finite; low_is = refl }
 -- ---- two doubles
 
 -- of two doubles nothing is lost
-pub two_exactly : (x y : Datum) (p q answer : Pair) → p ≡ alone x → q ≡ alone y → IsSummand sum_reach x
-    → IsSummand sum_reach y → IsErrorFreeSum p q answer → IsExactPair (number x +ℤ number y) 1 answer
+pub two_exactly : (x y : Datum) (first second answer : Pair) → first ≡ alone x → second ≡ alone y
+    → IsSummand sum_reach x → IsSummand sum_reach y → IsErrorFreeSum first second answer
+    → IsExactPair (number x +ℤ number y) 1 answer
 two_exactly x y p q answer e f s t law =
     let at_first = subst (λ (i : Pair). IsErrorFreeSum i q answer) e law in
     let at_both = subst (λ (i : Pair). IsErrorFreeSum (alone x) i answer) f at_first in
@@ -48,13 +49,13 @@ four_times = refl
 summand_size : (reach : ℕ) (x : Datum) → IsSummand reach x → magnitude (number x) ≤ reach
 summand_size reach x s = subst (λ (i : ℕ). i ≤ reach) (sym (magnitude_quanta x s.is_finite)) s.within
 
-exact_number : (x y : Datum) (s : Pair) → IsExactPair (number x +ℤ number y) 1 s
-    → pair_number s ≡ (number x +ℤ number y)
+exact_number : (x y : Datum) (sum : Pair) → IsExactPair (number x +ℤ number y) 1 sum
+    → pair_number sum ≡ (number x +ℤ number y)
 exact_number x y s e = sym (times_one (pair_number s)) ∙ e.number_is
 
 -- the exact sum of two of three doubles is within reach
-first_reach : (x y : Datum) (s : Pair) → IsSummand reach_of_three x → IsSummand reach_of_three y
-    → IsExactPair (number x +ℤ number y) 1 s → quanta_of s.high ≤ sum_reach
+first_reach : (x y : Datum) (sum : Pair) → IsSummand reach_of_three x → IsSummand reach_of_three y
+    → IsExactPair (number x +ℤ number y) 1 sum → quanta_of sum.high ≤ sum_reach
 first_reach x y s k m e =
     let n = exact_number x y s e in
     let sum : magnitude (pair_number s) ≤ magnitude (number x) + magnitude (number y) =
@@ -85,9 +86,9 @@ close_by m n p q answer e f close =
     (subst (λ (i : ℤ). IsClosePair (i +ℤ p) 1 103 (magnitude i + magnitude p) answer) e close)
 
 -- of three doubles little is lost
-pub three_closely : (x y z : Datum) (s t answer : Pair) → t ≡ alone z → IsMember double z
+pub three_closely : (x y z : Datum) (sum third answer : Pair) → third ≡ alone z → IsMember double z
     → IsSummand reach_of_three x → IsSummand reach_of_three y → IsSummand reach_of_three z
-    → IsExactPair (number x +ℤ number y) 1 s → IsAccurateSum s t answer
+    → IsExactPair (number x +ℤ number y) 1 sum → IsAccurateSum sum third answer
     → IsClosePair ((number x +ℤ number y) +ℤ number z) 1 103
     (magnitude (number x +ℤ number y) + magnitude (number z)) answer
 three_closely x y z s t answer f member a b c exact law =

@@ -64,7 +64,7 @@ near format negative n top value exponent p h x =
     record { low = omega (arith, ints, l, z); high = omega (arith, ints, l, z) })
     (one_side exponent)
 
-some_quanta : (b : Bool) (n : ℕ) → category_of (finite b n) ≡ Normal → 0 < n
+some_quanta : (negative : Bool) (n : ℕ) → category_of (finite negative n) ≡ Normal → 0 < n
 some_quanta b zero e = cc
 some_quanta b (suc n) e = omega arith
 

@@ -28,11 +28,10 @@ use Rattle.apfloat_pairs.proofs.DifferenceLaws.{error_free_difference, accurate_
 use Rattle.apfloat_pairs.proofs.PairProductLaws.{error_free_product, accurate_product}
 
 -- the product of two pairs of numbers
-pub product_by_steps : (mode : Round) (x y : Pair) (a c t tau : Datum) (t_flags tau_flags flags : ℕ)
-    (is_number : Bool)
-    (answer : Pair) (status : ℕ) → a ≡ x.high → c ≡ y.high → IsProduct double mode a c t t_flags
-    → is_number ≡ is_finite_non_zero_category (category_of t) → is_number ≡ true
-    → IsLostOfProduct mode x.high x.low y.high y.low t tau tau_flags → flags ≡ t_flags ∪ tau_flags
+pub product_by_steps : (mode : Round) (x y : Pair) (left right t tau : Datum) (t_flags tau_flags flags : ℕ)
+    (is_number : Bool) (answer : Pair) (status : ℕ) → left ≡ x.high → right ≡ y.high
+    → IsProduct double mode left right t t_flags → is_number ≡ is_finite_non_zero_category (category_of t)
+    → is_number ≡ true → IsLostOfProduct mode x.high x.low y.high y.low t tau tau_flags → flags ≡ t_flags ∪ tau_flags
     → IsClosed mode t tau flags answer status → IsProductOfNumbers mode x y answer status
 product_by_steps mode x y a c t tau t_flags tau_flags flags is_number answer status i j product e some lost joined
     closed =
@@ -222,8 +221,9 @@ joined_by_sum x high low answer status is_number n e h l s =
     (record { high = high; low = low; status = status; high_is = h; low_is = l; is_sum = s })
 
 -- and another pair, by its high part
-pub joined_alone : (x : Pair) (high : Datum) (is_number : Bool) → is_number ≡ is_finite_non_zero_category (category_of x.high)
-    → is_number ≡ false → IsWidened x.high high → IsJoined x high
+pub joined_alone : (x : Pair) (high : Datum) (is_number : Bool)
+    → is_number ≡ is_finite_non_zero_category (category_of x.high) → is_number ≡ false → IsWidened x.high high
+    → IsJoined x high
 joined_alone x high is_number n e h =
     match_false (is_finite_non_zero x.high) (IsSumOfParts x high) (IsWidened x.high high)
     (sym (number_agrees x.high) ∙ sym n ∙ e) h
@@ -277,8 +277,8 @@ product_by_categories mode x y first second answer status i j s =
     (subst (λ (k : Category). IsProductOfCategories first k mode x y answer status) j s)
 
 -- a difference is the sum with the negated pair
-pub difference_by_negation : (mode : Round) (x y z answer : Pair) (status : ℕ) → z ≡ negated_pair y
-    → IsPairSum mode x z answer status → IsPairDifference mode x y answer status
+pub difference_by_negation : (mode : Round) (x y negated answer : Pair) (status : ℕ) → negated ≡ negated_pair y
+    → IsPairSum mode x negated answer status → IsPairDifference mode x y answer status
 difference_by_negation mode x y z answer status e s = subst (λ (p : Pair). IsPairSum mode x p answer status) e s
 
 -- ---- the laws of sums and products, in a mode that is to the nearest

@@ -70,7 +70,8 @@ pub round_fraction-whole-requires : goal.round_fraction-whole-requires
 round_fraction-whole-requires c =
     significand_small c.args.shape c.args.x.significand c.requires.lawful c.requires.normal.operand.fits
 
-half_bound : (c : goal.After-scale) → c.round_fraction-whole.result.magnitude ≤ 2 ^ (c.args.shape.precision - 1)
+half_bound : (state : goal.After-scale)
+    → state.round_fraction-whole.result.magnitude ≤ 2 ^ (state.args.shape.precision - 1)
 half_bound c =
     let three = c.requires.lawful.precision_low in
     let g = c.if-exponent-ge0.false in
