@@ -14,7 +14,7 @@ use Rattle.apfloat_base.proofs.Laws.{exact_delivered, delivered_once}
 use Rattle.apfloat_base.proofs.Choices.{same_sign_self}
 
 -- neither number is zero where the other is not
-both_some : (m n p q : ℕ) → n * 2 ^ p ≡ m * 2 ^ q → 0 < m → 0 < n
+pub both_some : (m n p q : ℕ) → n * 2 ^ p ≡ m * 2 ^ q → 0 < m → 0 < n
 both_some m zero p q e l =
     let a : 0 < m * 2 ^ q = mul-pos l (pow_pos q) in
     absurd (omega arith)

@@ -21,6 +21,7 @@ pub mod Scaled
 pub mod Powers
 pub mod MoreDigits
 pub mod Fractions
+pub mod FractionExponents
 pub mod Divisions
 pub mod ProductLaws
 pub mod Inverses

@@ -70,6 +70,7 @@ number_once Holds once a b x y = record {
   number = once a.number b.number x.holds y.holds;
 }
 
+-- the answer that is a given number is one
 given_once : (given : ℤ) → OnceAnswer (IsNumber (λ (n : ℤ). n ≡ given))
 given_once given = number_once (λ (n : ℤ). n ≡ given) (λ m n h k. h ∙ sym k)
 
@@ -116,12 +117,14 @@ module _ (constants : Constants) (has : HasLaw constants) where
       written_once x.value y.value x.status y.status _ _ a b same.0 same.1 (ap one_if same.2) x.is_written
       y.is_written
 
+-- a value has one unsigned whole number of a width
 to_unsigned_once : (constants : Constants) (mode : Round) (width : ℕ) (x : Datum)
     → OnceWhole (IsToUnsigned (format_with constants) mode width x)
 to_unsigned_once constants mode width x m n r s a b h k =
     let same = whole_once (to_unsigned (format_with constants) mode width x) (pos m) (pos n) r s a b h k in
     (ap unsigned_abs same.0, same.1, same.2)
 
+-- and one signed whole number
 to_signed_once : (constants : Constants) (mode : Round) (width : ℕ) (x : Datum)
     → OnceWhole (IsToSigned (format_with constants) mode width x)
 to_signed_once constants mode width x m n r s a b h k =
@@ -133,6 +136,7 @@ abbrev pub KindHasLaw : Kind → Type 0
 KindHasLaw (of_format c) = HasLaw c
 KindHasLaw of_pairs = ⊤
 
+-- each format of the codes is lawful, and its encoding wider than its precision
 kind_law : (known : Format) → KindHasLaw (kind_of known)
 kind_law Half = record { law = lawful_from_test half_constants refl; wide = lit< tt }
 kind_law Single = record { law = lawful_from_test single_constants refl; wide = lit< tt }
@@ -147,12 +151,14 @@ kind_law DoubleDouble = tt
 
 -- ---- conversions
 
+-- a conversion to a known kind has at most one answer, and none to pairs
 converted_in_once : (constants : Constants) (mode : Round) (x : ℕ) (target : Kind) → KindHasLaw target
     → OnceAnswer (IsConvertedIn constants mode x target)
 converted_in_once constants mode x (of_format d) has =
     converted_once d has _ (conversion_once (format_with constants) (format_with d) mode (value_of constants x))
 converted_in_once constants mode x of_pairs has = λ a b h k. absurd h
 
+-- nor more where the target's code may be unknown
 conversion_answer_once : (constants : Constants) (mode : Round) (x : ℕ) (target : Option Format)
     → OnceAnswer (IsConverted constants mode x target)
 conversion_answer_once constants mode x None = λ a b h k. absurd h
@@ -228,6 +234,7 @@ pair_fraction_answer_once Holds once a b x y =
     let same = once x.value y.value x.exponent y.exponent x.holds y.holds in
     pair_written_once x.value y.value _ _ x.exponent y.exponent a b same.0 refl same.1 x.is_written y.is_written
 
+-- a call on pairs has one answer
 pair_answer_once : (mode : Round) (call : Call) → OnceAnswer (IsPairAnswer mode call)
 pair_answer_once mode (OfTwo arithmetic x y) =
     pair_value_once _ (pair_of_two_once arithmetic mode (pair_of x) (pair_of y))
@@ -304,6 +311,7 @@ high_once a b a_fits b_fits same =
 low_once : (first second : Halves) → first.high ≡ second.high → whole first ≡ whole second → first.low ≡ second.low
 low_once a b high same = omega arith
 
+-- two numbers of two halves are equal where both halves are
 halves_of : (first second : Halves) → first.low ≡ second.low → first.high ≡ second.high → first ≡ second
 halves_of a b low high =
     ap (λ (n : ℕ). record { low = n; high = a.high }) low ∙ ap (λ (n : ℕ). record { low = b.low; high = n }) high
@@ -315,6 +323,7 @@ halves_once a b a_fits b_fits same =
     let high = high_once a b a_fits b_fits same in
     halves_of a b (low_once a b high same) high
 
+-- so the same answer is the same value in C
 pub same_answer : (first second : Answer) → first.bits.low < 2 ^ 64 → second.bits.low < 2 ^ 64
     → SameAnswer first second → first ≡ second
 same_answer a b a_fits b_fits same =

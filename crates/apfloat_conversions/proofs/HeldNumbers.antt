@@ -1,6 +1,6 @@
 -- Numbers of a shape in another that has them: all of its numbers, or those of one exponent.
-use Rattle.std.proofs.Common.{◌≡◌, ℕ, zero, suc, ◌+◌, ◌-◌, ◌*◌, ◌%◌, ◌^◌, ◌<◌, ◌≤◌, Bool, false, ℤ, ◌-ℤ◌, sym, refl, ap, ◌∙◌, ⊎_elim, arith}
-use Rattle.std.proofs.Math.Nat.{mul-le-mul_right, mul-pos, pow-le-pow_right, mod-eq_of_lt, eq_of_mul-eq-mul_right}
+use Rattle.std.proofs.Common.{◌≡◌, ℕ, ◌+◌, ◌-◌, ◌*◌, ◌%◌, ◌^◌, ◌<◌, ◌≤◌, Bool, false, ℤ, ◌-ℤ◌, sym, refl, ap, ◌∙◌, ⊎_elim, arith}
+use Rattle.std.proofs.Math.Nat.{mul-le-mul_right, pow-le-pow_right, mod-eq_of_lt, eq_of_mul-eq-mul_right}
 use Rattle.std.proofs.lemmas.Nat.{pow-add, pow_pos}
 use Rattle.std.proofs.lemmas.Int.{ints}
 use Rattle.apfloat_base.specs.declared.kinds.Round.{Round}
@@ -11,6 +11,7 @@ use Rattle.apfloat_base.specs.formats.Format.{Format, largest, greatest_signific
 use Rattle.apfloat_base.specs.formats.Members.{IsFiniteOf}
 use Rattle.apfloat_base.specs.rounding.Rounding.{ok_bits}
 use Rattle.apfloat_base.proofs.Deliveries.{signed_some}
+use Rattle.apfloat_base.proofs.ExactConversions.{both_some}
 use Rattle.apfloat_base.proofs.Greatest.{greatest_fits, greatest_full}
 use Rattle.apfloat_base.proofs.KeptDigits.{fits_shifted, full_shifted}
 use Rattle.apfloat_base.proofs.Laws.{exact_delivered}
@@ -194,11 +195,6 @@ same_quanta m a b f g k d u d' u' h h' e =
     let t : m * 2 ^ k * 2 ^ u' * 2 ^ f ≡ m * (2 ^ f * 2 ^ (k + u')) = rw (pow-add 2 k u') (omega arith) in
     eq_of_mul-eq-mul_right (2 ^ d') (pow_pos d') (a * 2 ^ g) (b * 2 ^ f) (l ∙ sym (q ∙ r ∙ t))
 
--- and it is not zero there either
-some_there : (a b f g : ℕ) → 0 < a → a * 2 ^ g ≡ b * 2 ^ f → 0 < b
-some_there a zero f g p e = let q : 0 < a * 2 ^ g = mul-pos p (pow_pos g) in omega arith
-some_there a (suc b) f g p e = omega arith
-
 -- it stands for so many quanta more, or less, as the quantum is finer, or coarser
 pub same_there : (source target : Shape) (m : ℕ) (e : ℤ) → IsShape source → IsShape target
     → source.precision ≤ target.precision → IsNormalAt source m e
@@ -231,7 +227,7 @@ pub same_converted : (from into : Format) (mode : Round) (negative : Bool) (a b 
     → status ≡ ok_bits
     → IsConvertedNumber from into mode negative a value status false
 same_converted from into mode negative a b v status p e d t s =
-    let o : 0 < b = some_there a b from.scale into.scale p e in
+    let o : 0 < b = both_some a b from.scale into.scale (sym e) p in
     record {
       is_delivered = rw (d, s, ← signed_some into.nonfinite negative b o)
           (exact_delivered into mode negative b (a * 2 ^ into.scale) (2 ^ from.scale) (pow_pos from.scale) t.on_grid

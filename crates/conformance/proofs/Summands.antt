@@ -20,6 +20,7 @@ use Rattle.conformance.specs.Summands.{reach_of_three, IsSummand}
 alone_number : (x : Datum) → pair_number (alone x) ≡ number x
 alone_number x = +ℤ_idr (number x)
 
+-- a summand alone is a pair of one double
 single : (reach : ℕ) (x : Datum) → IsSummand reach x → IsSingle (alone x)
 single reach x s = record { is_finite = s.is_finite; low_is = refl }
 
@@ -43,12 +44,15 @@ two_exactly x y p q answer e f s t law =
 high_most : (t h l n a b : ℕ) → 7 * l ≤ h → h ≤ n + l → n ≤ a + b → a ≤ t → b ≤ t → h ≤ 4 * t
 high_most t h l n a b low high sum first second = omega arith
 
+-- four times the reach of three summands is that of a sum
 four_times : 4 * reach_of_three ≡ sum_reach
 four_times = refl
 
+-- the number of a summand is within its reach
 summand_size : (reach : ℕ) (x : Datum) → IsSummand reach x → magnitude (number x) ≤ reach
 summand_size reach x s = subst (λ (i : ℕ). i ≤ reach) (sym (magnitude_quanta x s.is_finite)) s.within
 
+-- the number of an exact sum is the sum of the numbers
 exact_number : (x y : Datum) (sum : Pair) → IsExactPair (number x +ℤ number y) 1 sum
     → pair_number sum ≡ (number x +ℤ number y)
 exact_number x y s e = sym (times_one (pair_number s)) ∙ e.number_is
@@ -70,9 +74,11 @@ first_reach x y s k m e =
     most in
     subst (λ (i : ℕ). quanta_of s.high ≤ i) four_times quanta
 
+-- what is within a reach is within four times of it
 widened_reach : (t n : ℕ) → n ≤ t → n ≤ 4 * t
 widened_reach t n h = omega arith
 
+-- so is the third double
 third_reach : (z : Datum) → IsSummand reach_of_three z → quanta_of z ≤ sum_reach
 third_reach z s = subst (λ (i : ℕ). quanta_of z ≤ i) four_times
     (widened_reach reach_of_three (quanta_of z) s.within)

@@ -17,6 +17,7 @@ use Rattle.apfloat_base.proofs.ListLaws.{get_left, get_last}
 
 -- ---- counts
 
+-- one more outcome adds one to a count where it passes the test
 count_push : (test : Outcome → Bool) (outcomes : List Outcome) (outcome : Outcome)
     → count_by test (outcomes ++ outcome ∷ []) ≡ count_by test outcomes + one_if (test outcome)
 count_push test outcomes outcome =
@@ -108,6 +109,7 @@ none_of Holds source now outcomes k past =
 
 -- ---- blocks
 
+-- a block without values is converted
 pub block_none : (Holds : List ℕ → List ℕ → Outcome → Type 0) (source target : ℕ) (input output : List ℕ)
     → IsBlock Holds source target 0 input output (counts_of [])
 block_none Holds source target input output = record
