@@ -38,6 +38,7 @@ pub mod SumLaws
 pub mod ExactConversions
 pub mod NextBack
 pub mod SignedNumbers
+pub mod SignedTests
 pub mod RowsIn
 pub mod Rows
 pub mod RowsExact

@@ -1,5 +1,5 @@
 -- Whole numbers of so many binary digits, and the ends of their range.
-use Rattle.std.proofs.Common.{◌≡◌, ℕ, ◌+◌, ◌-◌, ◌*◌, ◌/◌, ◌^◌, ◌<◌, ◌≤◌, Bool, true, false, cond, ◌&&◌, eqb, sym, refl, ap, ◌∙◌, arith, ℤ, pos, neg_ℤ, ◌≤ℤ◌, ◌<ℤ◌, int_lt}
+use Rattle.std.proofs.Common.{◌≡◌, ℕ, ◌+◌, ◌-◌, ◌*◌, ◌/◌, ◌^◌, ◌<◌, ◌≤◌, Bool, true, false, cond, ◌&&◌, eqb, sym, refl, ap, ◌∙◌, arith, ℤ, pos, neg_ℤ, ◌≤ℤ◌, int_lt}
 use Rattle.std.proofs.Math.Nat.{div-eq_of_lt-le}
 use Rattle.std.proofs.lemmas.Nat.{pow-add, pow_pos}
 use Rattle.std.proofs.lemmas.Int.{ints}
@@ -11,6 +11,7 @@ use Rattle.apfloat_base.specs.arithmetic.Exact.{signed}
 use Rattle.apfloat_base.specs.whole_numbers.WholeNumbers.{whole_pick, whole_quanta, inexact_unless}
 use Rattle.apfloat_base.specs.whole_numbers.WholeNumbersOut.{IsToUnsigned, ranged, exact_or_not}
 use Rattle.apfloat_base.proofs.Choices.{no_zero}
+use Rattle.apfloat_base.proofs.SignedTests.{less_so, less_not}
 
 -- a word shifted to so many digits has them all set
 pub greatest_is : (width : ℕ) → width ≤ 128 → (2 ^ 128 - 1) / 2 ^ (128 - width) ≡ 2 ^ width - 1
@@ -23,22 +24,6 @@ greatest_is width h =
     let m : 2 ^ width * 2 ^ (128 - width) ≡ (2 ^ width - 1 + 1) * 2 ^ (128 - width) =
     ap (λ (x : ℕ). x * 2 ^ (128 - width)) k in
     div-eq_of_lt-le (2 ^ (128 - width)) (omega (arith, s, m, p)) (omega (arith, s, m, p))
-
--- a number that is less is found to be less
-pub less_so : (a b : ℤ) → a <ℤ b → int_lt a b ≡ true
-less_so a b h = by (int_lt a b) refl
-  where
-    by : (t : Bool) → int_lt a b ≡ t → t ≡ true
-    by true e = refl
-    by false e = absurd (omega (arith, ints))
-
--- a number that is not less is found not to be less
-pub less_not : (a b : ℤ) → b ≤ℤ a → int_lt a b ≡ false
-less_not a b h = by (int_lt a b) refl
-  where
-    by : (t : Bool) → int_lt a b ≡ t → t ≡ false
-    by false e = refl
-    by true e = absurd (omega (arith, ints))
 
 -- the end of the range on the side of a sign
 abbrev pub limit : ℕ → Bool → ℕ

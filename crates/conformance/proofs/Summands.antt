@@ -2,6 +2,7 @@
 use Rattle.std.proofs.Common.{◌≡◌, ℕ, ◌+◌, ◌*◌, ◌≤◌, refl, sym, ◌∙◌, subst, arith}
 use Rattle.std.specs.Prelude.{ℤ, ◌+ℤ◌}
 use Rattle.std.proofs.Math.IntN.{+ℤ_idr}
+use Rattle.std.proofs.Math.Path.{subst₂}
 use Rattle.rustc_apfloat.specs.Datum.{Datum}
 use Rattle.rustc_apfloat.specs.Classes.{quanta_of}
 use Rattle.rustc_apfloat.specs.Exact.{magnitude}
@@ -31,12 +32,10 @@ pub two_exactly : (x y : Datum) (first second answer : Pair) → first ≡ alone
     → IsSummand sum_reach x → IsSummand sum_reach y → IsErrorFreeSum first second answer
     → IsExactPair (number x +ℤ number y) 1 answer
 two_exactly x y p q answer e f s t law =
-    let at_first = subst (λ (i : Pair). IsErrorFreeSum i q answer) e law in
-    let at_both = subst (λ (i : Pair). IsErrorFreeSum (alone x) i answer) f at_first in
+    let at_both = subst₂ (λ (i : Pair) (j : Pair). IsErrorFreeSum i j answer) e f law in
     let exact =
     at_both (single sum_reach x s) (single sum_reach y t) (record { first = s.within; second = t.within }) in
-    let first = subst (λ (i : ℤ). IsExactPair (i +ℤ pair_number (alone y)) 1 answer) (alone_number x) exact in
-    subst (λ (i : ℤ). IsExactPair (number x +ℤ i) 1 answer) (alone_number y) first
+    subst₂ (λ (i : ℤ) (j : ℤ). IsExactPair (i +ℤ j) 1 answer) (alone_number x) (alone_number y) exact
 
 -- ---- three doubles
 
@@ -88,8 +87,7 @@ close_by : (m n p q : ℤ) (answer : Pair) → m ≡ n → p ≡ q
     → IsClosePair (m +ℤ p) 1 103 (magnitude m + magnitude p) answer
     → IsClosePair (n +ℤ q) 1 103 (magnitude n + magnitude q) answer
 close_by m n p q answer e f close =
-    subst (λ (i : ℤ). IsClosePair (n +ℤ i) 1 103 (magnitude n + magnitude i) answer) f
-    (subst (λ (i : ℤ). IsClosePair (i +ℤ p) 1 103 (magnitude i + magnitude p) answer) e close)
+    subst₂ (λ (i : ℤ) (j : ℤ). IsClosePair (i +ℤ j) 1 103 (magnitude i + magnitude j) answer) e f close
 
 -- of three doubles little is lost
 pub three_closely : (x y z : Datum) (sum third answer : Pair) → third ≡ alone z → IsMember double z

@@ -1,5 +1,6 @@
 -- Answers of calls on pairs, from the answers of their steps.
 use Rattle.std.proofs.Common.{◌≡◌, ℕ, Bool, true, false, not, ◌&&◌, ◌||◌, sym, ap, ◌∙◌, subst}
+use Rattle.std.proofs.Math.Path.{subst₂}
 use mathlib.Core.Bool.{beq}
 use Rattle.std.specs.Bool.{MatchBool}
 use Rattle.apfloat_base.specs.declared.kinds.Category.{Category}
@@ -40,8 +41,7 @@ product_by_steps mode x y a c t tau t_flags tau_flags flags is_number answer sta
       t = t;
       t_flags = t_flags;
       is_t =
-          subst (λ (d : Datum). IsProduct double mode d y.high t t_flags) i
-          (subst (λ (d : Datum). IsProduct double mode a d t t_flags) j product);
+          subst₂ (λ (left : Datum) (right : Datum). IsProduct double mode left right t t_flags) i j product;
       is_answer =
           match_true (is_finite_non_zero t) (IsNumberProduct mode x y t t_flags answer status)
           (IsPairAnswer (alone t) t_flags answer status)
@@ -202,12 +202,6 @@ anew_within mode x y big small z low flags all_flags is_within answer status o w
       };
     }))
 
--- an answer and its status, of which each is what was found
-pub answered : (P : Datum → ℕ → Type 0) (value answer : Datum) (flags status : ℕ) → answer ≡ value → status ≡ flags
-    → P value flags → P answer status
-answered P value answer flags status e s p =
-    subst (λ (d : Datum). P d status) (sym e) (subst (λ (i : ℕ). P value i) (sym s) p)
-
 -- ---- pairs in the wide format
 
 -- a pair of numbers in the wide format
@@ -266,16 +260,14 @@ pub sum_by_categories : (mode : Round) (x y : Pair) (first second : Category) (a
     → first ≡ pair_category x → second ≡ pair_category y
     → IsSumOfCategories first second mode x y answer status → IsPairSum mode x y answer status
 sum_by_categories mode x y first second answer status i j s =
-    subst (λ (k : Category). IsSumOfCategories k (pair_category y) mode x y answer status) i
-    (subst (λ (k : Category). IsSumOfCategories first k mode x y answer status) j s)
+    subst₂ (λ (k : Category) (l : Category). IsSumOfCategories k l mode x y answer status) i j s
 
 -- likewise the product
 pub product_by_categories : (mode : Round) (x y : Pair) (first second : Category) (answer : Pair) (status : ℕ)
     → first ≡ pair_category x → second ≡ pair_category y
     → IsProductOfCategories first second mode x y answer status → IsPairProduct mode x y answer status
 product_by_categories mode x y first second answer status i j s =
-    subst (λ (k : Category). IsProductOfCategories k (pair_category y) mode x y answer status) i
-    (subst (λ (k : Category). IsProductOfCategories first k mode x y answer status) j s)
+    subst₂ (λ (k : Category) (l : Category). IsProductOfCategories k l mode x y answer status) i j s
 
 -- a difference is the sum with the negated pair
 pub difference_by_negation : (mode : Round) (x y negated answer : Pair) (status : ℕ) → negated ≡ negated_pair y
