@@ -1,6 +1,7 @@
 -- The sum of two stored numbers, from the sum of their significands.
-use Rattle.std.proofs.Common.{◌≡◌, ℕ, zero, suc, ℤ, pos, negsuc, ◌+ℤ◌, ◌-ℤ◌, ◌≤ℤ◌, ◌+◌, ◌-◌, ◌*◌, ◌^◌, ◌<◌, ◌≤◌, ◌⊎◌, Bool, true, false, sym, refl, ap, ◌∙◌, subst, inl, inr, ⊎_elim, arith}
+use Rattle.std.proofs.Common.{◌≡◌, ℕ, zero, suc, ℤ, pos, negsuc, ◌+ℤ◌, ◌-ℤ◌, ◌≤ℤ◌, ◌+◌, ◌-◌, ◌*◌, ◌^◌, ◌<◌, ◌≤◌, ◌⊎◌, Bool, true, false, sym, refl, ap, ◌∙◌, inl, inr, ⊎_elim, arith}
 use Rattle.std.specs.Prelude.{unsigned_abs}
+use Rattle.std.proofs.Math.Path.{subst₂}
 use Rattle.std.proofs.Math.Nat.{eq_of_mul-eq-mul_right, pow-le-pow_right}
 use Rattle.std.proofs.lemmas.Nat.{pow-add, pow_pos}
 use Rattle.std.proofs.lemmas.Int.{ints}
@@ -101,8 +102,7 @@ read_stands base e unit k amount whole q loss l d a h =
     let t : StandsFor q loss (amount * 2 ^ down unit) (2 ^ up (e -ℤ base) * 2 ^ down unit) =
     stands_times q loss amount (2 ^ up (e -ℤ base)) (2 ^ down unit) (pow_pos (down unit)) h in
     stands_cancel q loss (whole * 2 ^ down unit) (1 * 2 ^ up unit) (2 ^ k) (pow_pos k)
-    (subst (λ (x : ℕ). StandsFor q loss x (1 * 2 ^ up unit * 2 ^ k)) w
-    (subst (λ (x : ℕ). StandsFor q loss (amount * 2 ^ down unit) x) p' t))
+    (subst₂ (StandsFor q loss) w p' t)
 
 -- what is not 0, or lost something, stands for an amount above 0
 not_zero_amount : (q : ℕ) (loss : Loss) (amount unit : ℕ) → 0 < unit → (q ≡ 0 → loss ≡ ExactlyZero → ⊥)
@@ -115,8 +115,7 @@ zero_amount : (q : ℕ) (loss : Loss) (amount unit : ℕ) → q ≡ 0 → loss �
     → amount ≡ 0
 zero_amount q loss amount unit a b h =
     let s : StandsFor 0 ExactlyZero amount unit =
-    subst (λ (x : ℕ). StandsFor x ExactlyZero amount unit) a
-    (subst (λ (x : Loss). StandsFor q x amount unit) b h) in
+    subst₂ (λ (x : ℕ) (y : Loss). StandsFor x y amount unit) a b h in
     omega (arith, s)
 
 -- the sum of two terms, as the sum of their numbers of quanta
@@ -172,8 +171,7 @@ sum_read of_zero precision scale min xe ye tx ty e unit s t negative mx my m n q
     let y : my * 2 ^ up (ty -ℤ base) ≡ n * 2 ^ k = quanta_counted min ye ty base k my n by (omega (arith, ints)) iy in
     let h : StandsForSigned base (counted base s tx mx +ℤ counted base t ty my) negative e q loss = f base bx by in
     let h' : StandsForSigned base (signed s (m * 2 ^ k) +ℤ signed t (n * 2 ^ k)) negative e q loss =
-    subst (λ (z : ℕ). StandsForSigned base (signed s (m * 2 ^ k) +ℤ signed t z) negative e q loss) y
-    (subst (λ (z : ℕ). StandsForSigned base (signed s z +ℤ counted base t ty my) negative e q loss) x h) in
+    subst₂ (λ (z : ℕ) (w : ℕ). StandsForSigned base (signed s z +ℤ signed t w) negative e q loss) x y h in
     read_sum of_zero base e unit k m n s t negative q loss (omega (arith, ints)) h'
 
 -- the least exponent and the scale, by the precision

@@ -94,7 +94,7 @@ both_negative m n =
     (λ e h. e ∙ int_cmp_is (neg_ℤ (pos m)) (neg_ℤ (pos n)) Equal (ap (λ x. neg_ℤ (pos x)) (sym h)))
     (λ e h. e ∙ int_cmp_is (neg_ℤ (pos m)) (neg_ℤ (pos n)) Greater (omega (arith, ints, h)))
 
--- and of two, where one may be zero
+-- ---- numbers of two signs
 
 -- -m is less than n, unless both are 0
 below_both : (m n : ℕ) → 0 < m + n → Less ≡ int_cmp (neg_ℤ (pos m)) (pos n)

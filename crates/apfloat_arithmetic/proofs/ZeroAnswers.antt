@@ -1,5 +1,6 @@
 -- Products and quotients that are zero, and values by their categories.
 use Rattle.std.proofs.Common.{sym, subst, ◌≡◌, ℕ, ◌*◌, ◌^◌, ◌<◌, Bool, arith}
+use Rattle.std.proofs.Math.Path.{subst₂}
 use Rattle.std.proofs.lemmas.Nat.{pow_pos}
 use Rattle.std.proofs.lemmas.Bool.{ne_eqb}
 use Rattle.apfloat_base.specs.declared.kinds.Round.{Round}
@@ -21,8 +22,7 @@ pub by_categories : (P : Datum → Datum → Type 0) (shape : Shape) (x y : Unpa
     → x.category ≡ first → y.category ≡ second → P (datum_by first shape x) (datum_by second shape y)
     → P (datum_at shape x) (datum_at shape y)
 by_categories P shape x y first second d e h =
-    subst (λ (a : Category). P (datum_by a shape x) (datum_at shape y)) (sym d)
-    (subst (λ (b : Category). P (datum_by first shape x) (datum_by b shape y)) (sym e) h)
+    subst₂ (λ (a : Category) (b : Category). P (datum_by a shape x) (datum_by b shape y)) (sym d) (sym e) h
 
 -- a product with a factor of 0
 pub zero_product : (format : Format) (mode : Round) (left right sign : Bool) (m n : ℕ) (value : Datum) (status : ℕ)

@@ -95,22 +95,32 @@ held_quanta source target m e from into h n =
     (target.precision - source.precision) (up (e -ℤ target.min_exp)) (down (e -ℤ target.min_exp)) n.whole b in
     omega (arith, q)
 
--- a number moved up by the digits that the other shape has more is stored as it wants it
+-- moved up by the digits that the other shape has more, a significand has all of its digits and no more
+moved_up : (source target : Shape) (m : ℕ) (e : ℤ) → IsShape source → source.precision ≤ target.precision
+    → IsNormalAt source m e
+    → (m * 2 ^ (target.precision - source.precision) < 2 ^ target.precision)
+    × (2 ^ (target.precision - 1) ≤ m * 2 ^ (target.precision - source.precision))
+moved_up source target m e from p n = (
+  fits_shifted m source.precision (target.precision - source.precision) target.precision n.operand.fits (omega arith),
+  full_shifted m source.precision (target.precision - source.precision) target.precision
+      (omega (arith, from.precision_low)) (λ _. n.operand.full) (omega arith),
+)
+
+-- a number moved up so is stored as the other shape wants it
 held_normal : (source target : Shape) (m : ℕ) (e : ℤ) → IsShape source → IsShape target → IsHeld source target
     → IsNormalAt source m e
     → IsNormalAt target (m * 2 ^ (target.precision - source.precision)) e
 held_normal source target m e from into h n =
     let q = held_quanta source target m e from into h n in
+    let digits = moved_up source target m e from h.precise n in
     let x = scale_is source from in
     let y = scale_is target into in
     let f = h.fine in
     let p = h.precise in
     record {
       operand = record {
-        fits = fits_shifted m source.precision (target.precision - source.precision) target.precision n.operand.fits
-            (omega arith);
-        full = full_shifted m source.precision (target.precision - source.precision) target.precision
-            (omega (arith, from.precision_low)) (λ _. n.operand.full) (omega arith);
+        fits = digits.0;
+        full = digits.1;
         least = omega (arith, ints, n.operand.least, from.precision_low);
         greatest =
             ⊎_elim (λ o. omega (arith, ints, n.operand.greatest))
@@ -155,14 +165,12 @@ inside_normal : (source target : Shape) (m : ℕ) (e : ℤ) → IsShape source �
     → IsNormalAt source m e
     → IsNormalAt target (m * 2 ^ (target.precision - source.precision)) e
 inside_normal source target m e from into h n =
-    let p = h.precise in
     let q = inside_quanta source target m e h in
+    let digits = moved_up source target m e from h.precise n in
     record {
       operand = record {
-        fits = fits_shifted m source.precision (target.precision - source.precision) target.precision n.operand.fits
-            (omega arith);
-        full = full_shifted m source.precision (target.precision - source.precision) target.precision
-            (omega (arith, from.precision_low)) (λ _. n.operand.full) (omega arith);
+        fits = digits.0;
+        full = digits.1;
         least = omega (arith, ints, h.least, into.precision_low);
         greatest = omega (arith, ints, h.below);
       };

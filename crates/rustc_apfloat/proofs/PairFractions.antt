@@ -1,4 +1,4 @@
--- The fraction of a pair: its exponent is a machine number, and so is its negation, by which the low part is scaled.
+-- The fraction of a pair: its exponent and the negation, which scales the low part, fit 32 bits.
 use Rattle.std.proofs.Common.{◌≡◌, ℕ, zero, suc, ◌-◌, ◌<◌, ◌≤◌, Bool, w32, to_z, of_z, sym, ap, ◌∙◌, subst, arith, FitsSigned}
 use Rattle.std.specs.Prelude.{ℤ, pos, neg_ℤ, ◌-ℤ◌, ◌≤ℤ◌}
 use Rattle.std.proofs.lemmas.Bool.{MatchBool-at_false, ne_eqb}
