@@ -1,6 +1,6 @@
 -- Exact inverses of stored numbers.
 use Rattle.std.proofs.Common.{refl, sym, ap, subst, ◌∙◌, ◌≡◌, ℕ, ◌+◌, ◌-◌, ◌*◌, ◌^◌, ◌<◌, ◌≤◌, ℤ, pos, ◌-ℤ◌, ◌≤ℤ◌, to_z, of_z, w32, Bool, arith}
-use Rattle.std.specs.Prelude.{neg_ℤ, unsigned_abs, Option, Some, None}
+use Rattle.std.specs.Prelude.{neg_ℤ, unsigned_abs, Some, None}
 use Rattle.std.proofs.Math.Nat.{mul-le-mul_left, mul-le-mul_right, mul-lt-mul_of_pos_right, pow-le-pow_right, mul-pos}
 use Rattle.std.proofs.lemmas.Nat.{pow_pos, pow-add}
 use Rattle.std.proofs.lemmas.Int.{ints, by_lt_z, to_z-of_z}
@@ -12,7 +12,6 @@ use Rattle.apfloat_base.specs.formats.Datum.{finite}
 use Rattle.apfloat_base.proofs.Greatest.{greatest_fits, greatest_full}
 use Rattle.apfloat_base.proofs.Powers.{pow3, pow22, exponent_at_most, exponent_below, two_pos}
 use Rattle.apfloat_unpacked.specs.declared.shape.Shape.{Shape}
-use Rattle.apfloat_unpacked.specs.declared.unpacked.Unpacked.{Unpacked}
 use Rattle.apfloat_unpacked.specs.Shapes.{IsShape, format_at}
 use Rattle.apfloat_unpacked.specs.Stored.{IsNormalAt, IsQuantaAt, quanta_at}
 use Rattle.apfloat_unpacked.proofs.ShapeExponents.{scale_is}
@@ -199,11 +198,3 @@ pub no_inverse_answer : (shape : Shape) (negative : Bool) (m : ℕ) (e : ℤ) �
     → (IsInvertible shape m e → ⊥)
     → IsExactInverse (format_at shape) (finite negative (quanta_at shape.min_exp m e)) None
 no_inverse_answer shape b m e law n i = λ inverse h. i (invertible_from shape m inverse e law n h)
-
-abbrev value_or : Unpacked → Option Unpacked → Unpacked
-value_or x (Some y) = y
-value_or x None = x
-
--- two values that make the same answer are equal
-pub same_value : (left right : Unpacked) → Some left ≡ Some right → left ≡ right
-same_value x y h = ap (value_or x) h

@@ -4,7 +4,7 @@ use Rattle.std.specs.Prelude.{ℤ, pos, ◌-ℤ◌, unsigned_abs}
 use Rattle.std.specs.Bool.{MatchBool}
 use Rattle.std.proofs.lemmas.Bool.{false≢true}
 use Rattle.std.proofs.lemmas.Int.{ints, fits_signed_from_abs}
-use Rattle.rustc_apfloat.specs.Format.{Format, largest}
+use Rattle.rustc_apfloat.specs.Format.{largest}
 use Rattle.rustc_apfloat.specs.Datum.{Datum, finite, infinite, nan}
 use Rattle.rustc_apfloat.specs.Exponents.{IsFraction, IsFrexp}
 use Rattle.rustc_apfloat.specs.Lawful.{Constants, IsLawful, format_with}

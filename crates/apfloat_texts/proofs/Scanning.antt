@@ -1,5 +1,6 @@
 -- A significand is read to its end.
-use Rattle.std.proofs.Common.{◌≡◌, ℕ, ◌+◌, ◌-◌, ◌<◌, ◌≤◌, Bool, true, false, not, ◌&&◌, if◌then◌else◌, refl, sym, ap, ◌∙◌, subst, arith, List, [], ◌∷◌, length, take, drop, get_or, ltb}
+use Rattle.std.proofs.Common.{◌≡◌, ℕ, ◌+◌, Bool, true, false, not, if◌then◌else◌, refl, sym, ap, ◌∙◌, subst, arith, List, [], ◌∷◌, ltb}
+use Rattle.std.proofs.Math.Bool.{and-true}
 use Rattle.std.specs.Prelude.{Result, Ok, Err, IsErrAnd, MatchResult}
 use Rattle.apfloat_base.specs.declared.sig.loss.Loss.{Loss}
 use Rattle.apfloat_base.specs.texts.Digits.{begins}
@@ -47,11 +48,6 @@ no_more : (pointed : Bool) (places : ℕ) → places + (if pointed then 0 else 0
 no_more true places = omega arith
 no_more false places = omega arith
 
--- with nothing left to read, there is no digit where none was read
-only_not : (some : Bool) → (not some && true) ≡ not some
-only_not true = refl
-only_not false = refl
-
 -- a scan that reaches no further digit or dot is that of the significand
 pub scan_ended : (rest left : List ℕ) (significand : ℕ) (loss : Loss) (cut places : ℕ) (pointed some : Bool)
     → IsScan rest left significand loss cut places pointed some → begins is_digit_or_dot left ≡ false
@@ -62,7 +58,7 @@ scan_ended rest left significand loss cut places pointed some s h =
       kept = subst (λ (n : ℕ). IsKept n significand loss cut) (sym (rw e at s.number_is)) s.kept;
       places_are = rw e at s.places_is ∙ no_more pointed places;
       one_dot = ap (λ (n : ℕ). ltb 1 n) (rw e at s.dots_are) ∙ one_at_most pointed;
-      empty_is = rw e at s.empty_is ∙ only_not some;
+      empty_is = rw e at s.empty_is ∙ and-true (not some);
       tail_is = s.tail_is ∙ unmoved left h;
       cut_fits = omega (arith, s.cut_fits);
       places_fit = omega (arith, s.places_fit);

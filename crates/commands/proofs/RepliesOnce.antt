@@ -2,7 +2,6 @@
 use Rattle.std.proofs.Common.{◌≡◌, ℕ, List, Some, refl}
 use Rattle.std.proofs.Math.Path.{subst₂, subst₃}
 use Rattle.rustc_apfloat.specs.declared.Round.{Round}
-use Rattle.rustc_apfloat.specs.Format.{Format}
 use Rattle.rustc_apfloat.specs.Datum.{Datum}
 use Rattle.rustc_apfloat.specs.WholeNumbers.{IsFromUnsigned}
 use Rattle.rustc_apfloat.specs.FusedSums.{IsFusedSum}
