@@ -158,7 +158,7 @@ converted_in_once constants mode x (of_format d) has =
     converted_once d has _ (conversion_once (format_with constants) (format_with d) mode (value_of constants x))
 converted_in_once constants mode x of_pairs has = λ a b h k. absurd h
 
--- nor more where the target's code may be unknown
+-- and so has one whose target may be an unknown code
 conversion_answer_once : (constants : Constants) (mode : Round) (x : ℕ) (target : Option Format)
     → OnceAnswer (IsConverted constants mode x target)
 conversion_answer_once constants mode x None = λ a b h k. absurd h
@@ -323,7 +323,7 @@ halves_once a b a_fits b_fits same =
     let high = high_once a b a_fits b_fits same in
     halves_of a b (low_once a b high same) high
 
--- so the same answer is the same value in C
+-- two answers as C holds them are equal where they say the same
 pub same_answer : (first second : Answer) → first.bits.low < 2 ^ 64 → second.bits.low < 2 ^ 64
     → SameAnswer first second → first ≡ second
 same_answer a b a_fits b_fits same =

@@ -95,7 +95,7 @@ held_quanta source target m e from into h n =
     (target.precision - source.precision) (up (e -ℤ target.min_exp)) (down (e -ℤ target.min_exp)) n.whole b in
     omega (arith, q)
 
--- moved up by the digits that the other shape has more, a significand has all of its digits and no more
+-- moved up to the precision of the other shape, a significand has just as many digits
 moved_up : (source target : Shape) (m : ℕ) (e : ℤ) → IsShape source → source.precision ≤ target.precision
     → IsNormalAt source m e
     → (m * 2 ^ (target.precision - source.precision) < 2 ^ target.precision)

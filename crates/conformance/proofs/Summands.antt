@@ -77,7 +77,7 @@ first_reach x y s k m e =
 widened_reach : (t n : ℕ) → n ≤ t → n ≤ 4 * t
 widened_reach t n h = omega arith
 
--- so is the third double
+-- the third double is within reach as well
 third_reach : (z : Datum) → IsSummand reach_of_three z → quanta_of z ≤ sum_reach
 third_reach z s = subst (λ (i : ℕ). quanta_of z ≤ i) four_times
     (widened_reach reach_of_three (quanta_of z) s.within)
