@@ -1,3 +1,4 @@
+pub mod LawTest
 pub mod Neighbours
 pub mod Existence
 pub mod Losses

@@ -12,7 +12,7 @@ use Rattle.rustc_apfloat.specs.WholeNumbersOut.{IsToUnsigned, IsToSigned, to_uns
 use Rattle.rustc_apfloat.specs.Pairs.{Pair, pair_of, IsPairEncodedBy}
 use Rattle.rustc_apfloat.specs.PairAnswers.{OncePair}
 use Rattle.apfloat_base.specs.Determined.{Determines, DeterminesBoth}
-use Rattle.rustc_apfloat.specs.LawTest.{lawful_from_test}
+use Rattle.rustc_apfloat.proofs.LawTest.{lawful_from_test}
 use Rattle.apfloat_base.proofs.Determined.{exponent_once, frexp_once, reading_once, scale_some}
 use Rattle.apfloat_base.proofs.Encodings.{lawful_interchange}
 use Rattle.apfloat_base.proofs.EncodedOnce.{encoded_once}

@@ -131,8 +131,8 @@ pub trait Semantics: Copy {
     }
 
     // The constants obey the rules above. If they are literals, the proof to write is `ghost lawful = {
-    // lawful_from_test _ refl };`, with `lawful_from_test` of `specs.LawTest` and `refl` of the standard `Prelude`; it
-    // fails if any of these rules is broken.
+    // lawful_from_test _ refl };`, with `lawful_from_test` of `rustc_apfloat.proofs.LawTest` and `refl` of the standard
+    // `Prelude`; it fails if any of these rules is broken.
     ghost lawful: { IsLawful
         (constants_with BITS EXP_BITS PRECISION NONFINITE_BEHAVIOR MAX_EXP IEEE_MAX_EXP MIN_EXP
         IEEE_MIN_EXP NAN_SIGNIFICAND_BASE NAN_PAYLOAD_MASK QNAN_SIGNIFICAND EXPLICIT_INTEGER_BIT

@@ -1,4 +1,3 @@
 pub mod Shapes
 pub mod Encoded
 pub mod Stored
-pub mod StoredBack

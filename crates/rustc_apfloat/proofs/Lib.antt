@@ -1,2 +1,3 @@
+pub use Rattle.apfloat_base.proofs.LawTest
 pub mod PairFractions
 pub mod PairSteps

@@ -1,7 +1,7 @@
 use Rattle.std.proofs.Common.{◌≤◌, subst, ℕ, arith, ◌^◌, ◌<◌, ◌∙◌}
 use Rattle.apfloat_unpacked.specs.Shapes.{format_at}
 use Rattle.apfloat_unpacked.specs.Stored.{quanta_at}
-use Rattle.apfloat_unpacked.specs.StoredBack.{quanta_some}
+use Rattle.apfloat_unpacked.proofs.StoredBack.{quanta_some}
 use Rattle.apfloat_conversions.proofs.Limits.{limit, in_range, out_of_range}
 use Rattle.std.proofs.Math.Nat.{pow-le-pow_right}
 use Rattle.apfloat_base.proofs.Powers.{two_pos}
