@@ -1,3 +1,3 @@
-pub use Rattle.apfloat_base.proofs.LawTest
+pub mod LawTest
 pub mod PairFractions
 pub mod PairSteps
