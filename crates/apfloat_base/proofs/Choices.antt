@@ -1,9 +1,10 @@
 -- Truth values, and what is chosen by them.
-use Rattle.std.proofs.Common.{◌≡◌, ℕ, ◌+◌, ◌*◌, ◌<◌, ◌≤◌, Bool, true, false, cond, not, ◌&&◌, eqb, if◌then◌else◌, Option, Some, None, refl, sym, arith}
+use Rattle.std.proofs.Common.{◌≡◌, ℕ, ◌+◌, ◌*◌, ◌<◌, ◌≤◌, Bool, true, false, cond, not, ◌&&◌, eqb, ltb, if◌then◌else◌, Option, Some, None, refl, sym, ◌∙◌, ⊎_elim, arith}
 use mathlib.Core.Bool.{beq}
 use Rattle.std.specs.Bool.{MatchBool}
-use Rattle.std.proofs.lemmas.Bool.{eq-eqb, false≢true}
+use Rattle.std.proofs.lemmas.Bool.{eq-eqb, ne_eqb, lt-ltb, le-ltb, cases_lt, false≢true}
 use Rattle.std.proofs.lemmas.Option.{none-some}
+use Rattle.std.proofs.Math.Nat.{mul-le-mul_right, mul-lt-mul_of_pos_right}
 use Rattle.apfloat_base.specs.arithmetic.Exact.{same_sign}
 
 -- ---- tests
@@ -150,3 +151,40 @@ unlike true true e d = absurd (false≢true (sym e))
 unlike false false e d = absurd (false≢true (sym e))
 unlike true false e d = false≢true (sym d)
 unlike false true e d = false≢true d
+
+-- ---- numbers compared, as truth values
+
+-- a number above 0 is not 0
+pub not_zero : (n : ℕ) → 0 < n → eqb n 0 ≡ false
+not_zero n h = ne_eqb n 0 (λ e. omega (arith, e, h))
+
+-- a factor above 0 leaves the order of two numbers
+pub ltb_times : (a b factor : ℕ) → 0 < factor → ltb a b ≡ ltb (a * factor) (b * factor)
+ltb_times a b u p =
+    ⊎_elim
+    (λ (h : a < b). lt-ltb a b h ∙ sym (lt-ltb (a * u) (b * u) (mul-lt-mul_of_pos_right h p)))
+    (λ (h : b ≤ a). le-ltb a b h ∙ sym (le-ltb (a * u) (b * u) (mul-le-mul_right u h)))
+    (cases_lt a b)
+
+-- ---- one of two equal things
+
+-- what is chosen from two equal things is the first of them
+pub either : {A : Type 0} (test : Bool) (x y : A) → x ≡ y → (if test then x else y) ≡ x
+either true x y e = refl
+either false x y e = sym e
+
+-- of three tests the last plays no part where it leads to the same as the other two
+pub needless_last : {A : Type 0} (first second last : Bool) (x y : A)
+    → (first ≡ true → second ≡ true → last ≡ true → x ≡ y)
+    → (if first && (second && not last) then x else y) ≡ (if first && second then x else y)
+needless_last false second last x y h = refl
+needless_last true false last x y h = refl
+needless_last true true false x y h = refl
+needless_last true true true x y h = sym (h refl refl refl)
+
+-- behind two tests, what is chosen where both fail may be given otherwise
+pub where_both_fail : {A : Type 0} (first second : Bool) (x y p q : A) → (first ≡ false → second ≡ false → p ≡ q)
+    → (if first then x else (if second then y else p)) ≡ (if first then x else (if second then y else q))
+where_both_fail true second x y p q h = refl
+where_both_fail false true x y p q h = refl
+where_both_fail false false x y p q h = h refl refl

@@ -4,7 +4,7 @@ use Rattle.std.proofs.Common.{◌≡◌, ℕ, true, false, refl, sym, ap, ◌∙
 use Rattle.std.specs.Prelude.{slice_get}
 use Rattle.std.proofs.lemmas.Bool.{and_parts, and_from}
 use Rattle.std.proofs.lemmas.List.{take_all}
-use Rattle.apfloat_base.specs.texts.Digits.{every, begins, run, behind_run}
+use Rattle.apfloat_base.specs.texts.Digits.{every, begins, run, behind_run, is_empty}
 
 -- ---- members that pass
 
@@ -113,3 +113,15 @@ pub begins_first : (test : ℕ → Bool) (xs : List ℕ) → 1 ≤ length xs →
     → begins test xs ≡ false
 begins_first test [] h e = refl
 begins_first test (x ∷ xs) h e = e
+
+-- ---- lists with items
+
+-- a list with an item is not empty
+pub not_empty : (xs : List ℕ) → 1 ≤ length xs → is_empty xs ≡ false
+not_empty [] h = absurd (omega (arith, h))
+not_empty (c ∷ xs) h = refl
+
+-- nor is one with an item behind it
+pub not_empty_through : (xs : List ℕ) (item : ℕ) (rest : List ℕ) → is_empty (xs ++ (item ∷ rest)) ≡ false
+not_empty_through [] item rest = refl
+not_empty_through (x ∷ xs) item rest = refl

@@ -57,6 +57,7 @@ in_e4m3fnuz bits = value_in e4m3fnuz_constants bits
 
 -- ---- answers that need no rounding
 
+-- a datum, a whole number out, and a conversion that are told outright
 pub answer : {value : Datum} {status : ℕ} → IsAnswer value status value status
 answer = record { value_is = refl; status_is = refl }
 
@@ -78,6 +79,7 @@ encloses precision m c amount parts =
     && (ltb amount ((m + 1) * 2 ^ c * parts)
     && ltb 0 parts))))
 
+-- the neighbour that is picked
 abbrev pub picked : Round → Bool → ℕ → ℕ → ℕ → ℕ → ℕ
 picked mode negative m c amount parts =
     if eqb amount (m * 2 ^ c * parts) then m * 2 ^ c
@@ -85,6 +87,7 @@ picked mode negative m c amount parts =
 
 module _ (precision : ℕ) (mode : Round) (negative : Bool) (m c amount parts : ℕ)
     (i : IsEnclosed precision (2 ^ (precision - 1)) m c amount parts) (p : 0 < parts) where
+  -- that neighbour is the pick, where it is known whether the magnitude is the lower one
   is_picked : (same : Bool) → eqb amount (m * 2 ^ c * parts) ≡ same
       → IsPick precision mode negative amount parts
       (if same then m * 2 ^ c else pick_between mode negative (m * 2 ^ c) ((m + 1) * 2 ^ c) amount parts)
