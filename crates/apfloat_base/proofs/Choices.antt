@@ -1,11 +1,11 @@
 -- Truth values, and what is chosen by them.
-use Rattle.std.proofs.Common.{◌≡◌, ℕ, ◌+◌, ◌*◌, ◌<◌, ◌≤◌, Bool, true, false, cond, not, ◌&&◌, eqb, ltb, if◌then◌else◌, Option, Some, None, refl, sym, ◌∙◌, ⊎_elim, arith}
+use Rattle.std.proofs.Common.{◌≡◌, ℕ, ◌+◌, ◌*◌, ◌<◌, ◌≤◌, Bool, true, false, cond, not, ◌&&◌, eqb, ltb, leb, if◌then◌else◌, Option, Some, None, refl, sym, ◌∙◌, ⊎_elim, arith}
 use mathlib.Core.Bool.{beq}
 use Rattle.std.specs.Bool.{MatchBool}
-use Rattle.std.proofs.lemmas.Bool.{eq-eqb, ne_eqb, lt-ltb, le-ltb, cases_lt, false≢true}
+use Rattle.std.proofs.lemmas.Bool.{eq-eqb, ne_eqb, lt-ltb, le-ltb, lt-leb, le-leb, cases_lt, false≢true}
 use Rattle.std.proofs.lemmas.Option.{none-some}
 use Rattle.std.proofs.Math.Nat.{mul-le-mul_right, mul-lt-mul_of_pos_right}
-use Rattle.apfloat_base.specs.arithmetic.Exact.{same_sign}
+use Rattle.apfloat_base.specs.arithmetic.Exact.{same_sign, product_sign}
 
 -- ---- tests
 
@@ -158,13 +158,31 @@ unlike false true e d = false≢true d
 pub not_zero : (n : ℕ) → 0 < n → eqb n 0 ≡ false
 not_zero n h = ne_eqb n 0 (λ e. omega (arith, e, h))
 
--- a factor above 0 leaves the order of two numbers
+-- a factor above 0 does not change the order of two numbers
 pub ltb_times : (a b factor : ℕ) → 0 < factor → ltb a b ≡ ltb (a * factor) (b * factor)
 ltb_times a b u p =
     ⊎_elim
     (λ (h : a < b). lt-ltb a b h ∙ sym (lt-ltb (a * u) (b * u) (mul-lt-mul_of_pos_right h p)))
     (λ (h : b ≤ a). le-ltb a b h ∙ sym (le-ltb (a * u) (b * u) (mul-le-mul_right u h)))
     (cases_lt a b)
+
+-- a number that is neither 0 nor below one above 0 is at least that one
+pub at_least : (n m : ℕ) → 0 < m
+    → (ltb 0 n && not (ltb 0 n && ltb n m)) ≡ leb m n
+at_least n m h =
+    ⊎_elim
+    (λ (l : n < m). rw (lt-ltb n m l, lt-leb m n l) (not_itself (ltb 0 n)))
+    (λ (l : m ≤ n). rw (lt-ltb 0 n (omega (arith, h, l)), le-ltb n m l, le-leb m n l) refl)
+    (cases_lt n m)
+
+-- ---- the sign of a product
+
+-- the negation of one factor negates the sign of the product
+pub other_sign : (left right : Bool) → not (product_sign left right) ≡ product_sign (not left) right
+other_sign true true = refl
+other_sign true false = refl
+other_sign false true = refl
+other_sign false false = refl
 
 -- ---- one of two equal things
 
@@ -173,7 +191,7 @@ pub either : {A : Type 0} (test : Bool) (x y : A) → x ≡ y → (if test then 
 either true x y e = refl
 either false x y e = sym e
 
--- of three tests the last plays no part where it leads to the same as the other two
+-- if both answers are the same where all three tests hold, the last test plays no part
 pub needless_last : {A : Type 0} (first second last : Bool) (x y : A)
     → (first ≡ true → second ≡ true → last ≡ true → x ≡ y)
     → (if first && (second && not last) then x else y) ≡ (if first && second then x else y)
@@ -182,7 +200,7 @@ needless_last true false last x y h = refl
 needless_last true true false x y h = refl
 needless_last true true true x y h = sym (h refl refl refl)
 
--- behind two tests, what is chosen where both fail may be given otherwise
+-- behind two tests, the last answer counts only where both fail
 pub where_both_fail : {A : Type 0} (first second : Bool) (x y p q : A) → (first ≡ false → second ≡ false → p ≡ q)
     → (if first then x else (if second then y else p)) ≡ (if first then x else (if second then y else q))
 where_both_fail true second x y p q h = refl

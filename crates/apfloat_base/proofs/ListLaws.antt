@@ -121,7 +121,7 @@ pub not_empty : (xs : List ℕ) → 1 ≤ length xs → is_empty xs ≡ false
 not_empty [] h = absurd (omega (arith, h))
 not_empty (c ∷ xs) h = refl
 
--- nor is one with an item behind it
+-- nor is a list with an item behind it
 pub not_empty_through : (xs : List ℕ) (item : ℕ) (rest : List ℕ) → is_empty (xs ++ (item ∷ rest)) ≡ false
 not_empty_through [] item rest = refl
 not_empty_through (x ∷ xs) item rest = refl

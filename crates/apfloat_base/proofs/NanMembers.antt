@@ -12,7 +12,7 @@ use Rattle.apfloat_base.specs.formats.Members.{IsNanSignificand}
 use Rattle.apfloat_base.specs.formats.Nan.{quiet_bit_of, quiet_significand, signaling_significand}
 use Rattle.apfloat_base.proofs.Choices.{if_case}
 
--- the powers of two at the first digits of a NaN, each as a multiple of a lower one
+-- 2 ^ (p - 1), 2 ^ p and 2 ^ (p - 2) as multiples of lower powers
 twice : (p : ℕ) → 3 ≤ p
     → (2 ^ (p - 1) ≡ 2 * 2 ^ (p - 2)) × (2 ^ p ≡ 4 * 2 ^ (p - 2)) × (2 ^ (p - 2) ≡ 2 * 2 ^ (p - 3))
     × (0 < 2 ^ (p - 3))
@@ -43,7 +43,7 @@ or_member IEEE754 true p s h (below, other) =
 or_member NanOnly e p s h m = rw (or_zero_r s) m
 or_member NanNegativeZero e p s h m = rw (or_zero_r s) m
 
--- the quiet bits and the digits of a payload that fit make one too, in each kind of format
+-- the quiet bits and the digits of a payload make one too, in each kind of format
 quiet_kinds : (kind : NonfiniteBehavior) (explicit : Bool) (p payload : ℕ) → 3 ≤ p
     → IsNanSignificand kind explicit p (bit_or (bit_or (nan_base_of kind p) (quiet_bits_of kind explicit p))
     (bit_and payload (payload_mask_of kind p)))
@@ -73,11 +73,11 @@ pub quiet_member : (format : Format) (payload : ℕ) → 3 ≤ format.precision
     → IsNanSignificand format.nonfinite format.explicit_integer_bit format.precision (quiet_significand format payload)
 quiet_member format payload h = quiet_kinds format.nonfinite format.explicit_integer_bit format.precision payload h
 
--- without a quiet bit nothing is taken from a significand
+-- without a quiet bit, clearing it changes nothing
 less_nothing : (q : ℕ) → q - bit_and q 0 ≡ q
 less_nothing q = let e : bit_and q 0 ≡ 0 = and_zero_r q in omega (arith, e)
 
--- and nothing is set in it
+-- nor does setting the bit below it
 or_nothing : (q : ℕ) → bit_or (q - bit_and q 0) (0 / 2) ≡ q
 or_nothing q = ap (λ (x : ℕ). bit_or x 0) (less_nothing q) ∙ or_zero_r q
 

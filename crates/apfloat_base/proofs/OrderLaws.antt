@@ -16,17 +16,17 @@ use Rattle.apfloat_base.specs.order.Order.{level, number, compared, is_equal}
 abbrev rank : Datum → Datum → Ordering
 rank = then_cmp (on level nat_cmp) (on number int_cmp)
 
--- it is total
+-- this is a total order
 rank_total : IsTotalOrder rank
 rank_total = then_total (on_total level nat_cmp_total) (on_total number int_cmp_total)
 
--- that order, or none where one of two tests holds
+-- an order, or none if one of two tests holds
 abbrev unless : Bool → Bool → Ordering → Option Ordering
 unless true n r = None
 unless false true r = None
 unless false false r = Some r
 
--- data are in the order of their ranks unless one of them is a NaN
+-- two data are compared by rank, unless one of them is a NaN
 by_rank : (x y : Datum) → compared x y ≡ unless (is_nan x) (is_nan y) (rank x y)
 by_rank (nan b s) y = refl
 by_rank (finite b m) (nan c t) = refl
@@ -36,7 +36,7 @@ by_rank (finite b m) (infinite c) = refl
 by_rank (infinite b) (finite c n) = refl
 by_rank (infinite b) (infinite c) = refl
 
--- turned round, the order is the opposite one
+-- with the operands swapped, the comparison is reversed
 turned : (left right : Bool) (order opposite : Ordering) → order ≡ ordering_reverse opposite
     → unless left right order ≡ option_map ordering_reverse (unless right left opposite)
 turned true true r s e = refl
@@ -44,26 +44,26 @@ turned true false r s e = refl
 turned false true r s e = refl
 turned false false r s e = ap Some e
 
--- where there is an order, both tests fail
+-- if there is an order, both tests fail
 told : (left right : Bool) (order answer : Ordering) → unless left right order ≡ Some answer
     → (left ≡ false) × (right ≡ false) × (order ≡ answer)
 told true n r o e = cc
 told false true r o e = cc
 told false false r o e = (refl, refl, same_Some r o e)
 
--- whether two are equal is whether their order is `Equal`
+-- the operands are equal if and only if their order is `Equal`
 decides : (left right : Bool) (order : Ordering)
     → Decides (is_some_and is_eq (unless left right order)) (unless left right order ≡ Some Equal)
 decides true n r = (λ e. cc, λ e. cc)
 decides false true r = (λ e. cc, λ e. cc)
 decides false false r = (λ e. ap Some ((Equal-is r).0 e), λ e. (Equal-is r).1 (cc))
 
--- where two are equal, both tests fail
+-- if the operands are equal, both tests fail
 equal : (left right : Bool) (order : Ordering) → is_some_and is_eq (unless left right order) ≡ true
     → (left ≡ false) × (right ≡ false) × (order ≡ Equal)
 equal m n r e = told m n r Equal ((decides m n r).0 e)
 
--- the order is antisymmetric and transitive, and agrees with equality
+-- the comparison is antisymmetric and transitive, and agrees with equality
 pub compared_laws : IsPartialOrder is_equal compared
 compared_laws = record {
   antisymm =
@@ -79,7 +79,7 @@ compared_laws = record {
       rw (by_rank x z, by_rank y z, a.0, a.1, rank_total.congr x y z a.2) refl;
 }
 
--- turned round, equal ones are equal
+-- equality stays the same with the operands swapped
 symmetric : (left right : Bool) (order opposite : Ordering) → order ≡ ordering_reverse opposite
     → is_some_and is_eq (unless left right order) ≡ is_some_and is_eq (unless right left opposite)
 symmetric true true r s e = refl

@@ -14,7 +14,7 @@ use Rattle.apfloat_base.proofs.Powers.{two_pos}
 use Rattle.apfloat_base.proofs.Losses.{twice_half}
 use Rattle.apfloat_base.proofs.Choices.{ltb_times}
 
--- one more than a significand still fits into 128 digits
+-- one more than a significand of at most 125 digits fits into a word of 128
 pub room : (n precision : ℕ) → precision ≤ 125 → n < 2 ^ precision → n + 1 < 2 ^ 128
 room n precision p h =
     let a : 2 ^ precision ≤ 2 ^ 125 = pow-le-pow_right two_pos p in

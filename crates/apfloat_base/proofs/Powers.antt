@@ -4,11 +4,11 @@ use Rattle.std.proofs.Math.Nat.{pow-le-pow_right}
 use Rattle.std.proofs.lemmas.Nat.{pow-add, pow_pos}
 use Rattle.std.proofs.lemmas.Bool.{cases_lt}
 
--- the base is not 0
+-- the base is above 0
 pub two_pos : 0 < 2
 two_pos = lit< tt
 
--- a sum of exponents is a product of powers: of three, of two and two, and of four
+-- 2 to the power of a sum is a product of powers: of three, of two pairs, and of four
 pub pow3 : (a b c : ℕ) → 2 ^ (a + b + c) ≡ 2 ^ a * 2 ^ b * 2 ^ c
 pow3 a b c = pow-add 2 (a + b) c ∙ ap (λ (x : ℕ). x * 2 ^ c) (pow-add 2 a b)
 
@@ -19,7 +19,7 @@ pow22 a b c d = pow-add 2 (a + b) (c + d) ∙ ap (λ (x : ℕ). x * 2 ^ (c + d))
 pub pow4 : (a b c d : ℕ) → 2 ^ (a + b + c + d) ≡ 2 ^ a * 2 ^ b * 2 ^ c * 2 ^ d
 pow4 a b c d = pow-add 2 (a + b + c) d ∙ ap (λ (x : ℕ). x * 2 ^ d) (pow3 a b c)
 
--- the next power is twice the power
+-- the next power of 2 is twice this one
 pub twice_power : (n : ℕ) → 2 ^ (n + 1) ≡ 2 * 2 ^ n
 twice_power n = let e : 2 ^ (n + 1) ≡ 2 ^ n * 2 = pow-add 2 n 1 in omega arith
 

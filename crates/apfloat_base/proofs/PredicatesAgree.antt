@@ -1,8 +1,8 @@
 -- The predicates by category, and the minima and maxima by order, are at data those of the model.
-use Rattle.std.specs.Prelude.{◌≡◌, ℕ, zero, suc, ◌-◌, ◌<◌, ◌≤◌, Bool, true, false, not, ◌&&◌, eqb, ltb, leb, if◌then◌else◌}
-use Rattle.std.proofs.Common.{sym, refl, ◌∙◌, ⊎_elim, arith}
+use Rattle.std.specs.Prelude.{◌≡◌, ℕ, zero, suc, ◌-◌, ◌<◌, Bool, true, false, not, ◌&&◌, eqb, ltb, if◌then◌else◌}
+use Rattle.std.proofs.Common.{sym, refl, ◌∙◌, arith}
 use Rattle.std.proofs.lemmas.Nat.{pow_pos}
-use Rattle.std.proofs.lemmas.Bool.{eqb-true, lt-ltb, lt-leb, le-leb, le-ltb, cases_lt}
+use Rattle.std.proofs.lemmas.Bool.{eqb-true, lt-ltb}
 use Rattle.std.specs.Ordering.{partial_lt}
 use Rattle.apfloat_base.specs.declared.kinds.NonfiniteBehavior.{NonfiniteBehavior}
 use Rattle.apfloat_base.specs.formats.Format.{Format, smallest_normalized, largest}
@@ -15,11 +15,11 @@ use Rattle.apfloat_base.specs.arithmetic.Exact.{same_sign}
 use Rattle.apfloat_base.specs.order.Classes.{is_finite, is_infinite, is_nan, is_negative, is_zero, is_denormal, is_normal, is_finite_non_zero, is_smallest, is_smallest_normalized, is_largest, quanta_of, same_datum, category_of, is_nan_category, is_finite_non_zero_category}
 use Rattle.apfloat_base.specs.order.Order.{compared, min_num, max_num, minimum, maximum}
 use Rattle.apfloat_base.specs.order.Predicates.{is_finite_category, is_infinite_category, is_zero_category, min_by, max_by, minimum_by, maximum_by, signed_like}
-use Rattle.apfloat_base.proofs.Choices.{same_sign_is, same_sign_self, not_itself, not_zero, either, needless_last, where_both_fail}
+use Rattle.apfloat_base.proofs.Choices.{same_sign_is, same_sign_self, not_zero, at_least, either, needless_last, where_both_fail}
 
 -- ---- predicates by category
 
--- what each predicate says of the category of a finite datum: of a zero where the test holds, and else of a number
+-- the predicates at the category of a finite datum, which is a zero or a number
 zero_or_not : (zero : Bool) → is_zero_category (if zero then Zero else Normal) ≡ zero
 zero_or_not true = refl
 zero_or_not false = refl
@@ -36,7 +36,7 @@ always_finite : (zero : Bool) → is_finite_category (if zero then Zero else Nor
 always_finite true = refl
 always_finite false = refl
 
--- the category of a datum says whether it is a NaN, infinite, a zero, and finite
+-- by category a datum is a NaN, infinite, a zero, or finite as in the model
 pub nan_agrees : (x : Datum) → is_nan_category (category_of x) ≡ is_nan x
 nan_agrees (finite b n) = never_nan (eqb n 0)
 nan_agrees (infinite b) = refl
@@ -57,24 +57,16 @@ finite_agrees (finite b n) = always_finite (eqb n 0)
 finite_agrees (infinite b) = refl
 finite_agrees (nan b s) = refl
 
--- a finite datum is a number that is not 0 where it has quanta
+-- by category a finite datum is a number if and only if it has quanta
 number_or_not : (n : ℕ) → is_finite_non_zero_category (if eqb n 0 then Zero else Normal) ≡ ltb 0 n
 number_or_not zero = refl
 number_or_not (suc n) = rw (not_zero (suc n) (omega arith), lt-ltb 0 (suc n) (omega arith)) refl
 
--- so the predicate says it of each datum
+-- by category a datum is a finite number that is not 0 as in the model
 pub number_agrees : (x : Datum) → is_finite_non_zero_category (category_of x) ≡ is_finite_non_zero x
 number_agrees (finite b n) = number_or_not n
 number_agrees (infinite b) = refl
 number_agrees (nan b s) = refl
-
--- what is not below a number that is not zero is not zero
-at_least : (n m : ℕ) → 0 < m → (ltb 0 n && not (ltb 0 n && ltb n m)) ≡ leb m n
-at_least n m h =
-    ⊎_elim
-    (λ (l : n < m). rw (lt-ltb n m l, lt-leb m n l) (not_itself (ltb 0 n)))
-    (λ (l : m ≤ n). rw (lt-ltb 0 n (omega (arith, h, l)), le-ltb n m l, le-leb m n l) refl)
-    (cases_lt n m)
 
 -- a number that is not denormal is normal
 pub normal_agrees : (format : Format) (x : Datum)
@@ -133,13 +125,13 @@ maximum_agrees x y =
 
 -- ---- named magnitudes that are not 0, with the sign of a datum
 
--- the number with the sign of its negation is the negation
+-- a number given the sign of one with the same magnitude is that one
 turned_number : (kind : NonfiniteBehavior) (negative : Bool) (m : ℕ) → 0 < m
     → signed_like is_negative (negated kind) (finite false m) (finite negative m) ≡ finite negative m
 turned_number kind true m h = rw (not_zero m h) refl
 turned_number kind false m h = refl
 
--- of the other operand the sign alone is taken
+-- only the sign of the second operand counts
 sign_alone : (kind : NonfiniteBehavior) (m : ℕ) (x y : Datum) → is_negative x ≡ is_negative y
     → signed_like is_negative (negated kind) (finite false m) x
     ≡ signed_like is_negative (negated kind) (finite false m) y
@@ -156,7 +148,7 @@ magnitude_agrees kind m (infinite b) h =
 magnitude_agrees kind m (nan b s) h =
     rw (sign_alone kind m (nan b s) (finite b m) refl, turned_number kind b m h) refl
 
--- the smallest number, the smallest normalized one and the largest
+-- the smallest number, the smallest normalized one and the largest are those of the model
 pub smallest_agrees : (format : Format) (x : Datum)
     → same_datum x (signed_like is_negative (negated format.nonfinite) smallest_datum x) ≡ is_smallest x
 smallest_agrees format x = magnitude_agrees format.nonfinite 1 x (omega arith)
@@ -171,7 +163,7 @@ pub largest_agrees : (format : Format) (x : Datum) → 0 < largest format
     → same_datum x (signed_like is_negative (negated format.nonfinite) (largest_datum format) x) ≡ is_largest format x
 largest_agrees format x h = magnitude_agrees format.nonfinite (largest format) x h
 
--- the magnitude of a datum
+-- so is a datum without its sign
 pub abs_agrees : (format : Format) (x : Datum)
     → (if is_negative x then negated format.nonfinite x else x) ≡ abs format x
 abs_agrees format x = refl

@@ -1,5 +1,5 @@
 -- Products under opposite rounding.
-use Rattle.std.proofs.Common.{◌≡◌, ℕ, zero, suc, ◌<◌, ◌*◌, ◌^◌, Bool, true, false, not, refl, subst, arith}
+use Rattle.std.proofs.Common.{ℕ, zero, suc, ◌<◌, ◌*◌, ◌^◌, Bool, not, subst, arith}
 use Rattle.std.proofs.lemmas.Bool.{false≢true}
 use Rattle.apfloat_base.specs.declared.kinds.Round.{Round}
 use Rattle.apfloat_base.specs.formats.Format.{Format, largest}
@@ -8,14 +8,8 @@ use Rattle.apfloat_base.specs.rounding.Rounding.{IsDelivered}
 use Rattle.apfloat_base.specs.rounding.Negation.{swapped, negated}
 use Rattle.apfloat_base.specs.arithmetic.Exact.{product_sign}
 use Rattle.apfloat_base.specs.arithmetic.Products.{IsProduct, IsOpposite}
+use Rattle.apfloat_base.proofs.Choices.{other_sign}
 use Rattle.apfloat_base.proofs.Laws.{delivered_swapped, number_swapped}
-
--- a product with one factor negated has the other sign
-other_sign : (left right : Bool) → not (product_sign left right) ≡ product_sign (not left) right
-other_sign true true = refl
-other_sign true false = refl
-other_sign false true = refl
-other_sign false false = refl
 
 -- for two numbers
 opposite_numbers : (format : Format) (mode : Round) (left right : Bool) (m n : ℕ) (value : Datum) (status : ℕ)

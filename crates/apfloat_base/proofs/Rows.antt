@@ -17,7 +17,7 @@ use Rattle.apfloat_base.proofs.RowsIn.{half, single, e5m2, e4m3fn, e4m3fnuz, hal
 
 -- ---- whole numbers in
 
--- a value of the format
+-- 464 is a value of half precision
 half_of_464 : (mode : Round) → IsFromUnsigned half mode 464 (in_half 0x5f40) ok_bits
 half_of_464 mode = rounded 1856 22 refl refl refl
 
@@ -31,11 +31,11 @@ only_half_of_464 mode value status is =
 tie_to_even_of_2049 : IsFromUnsigned half NearestTiesToEven 2049 (in_half 0x6800) inexact_bit
 tie_to_even_of_2049 = rounded 1024 25 refl refl refl
 
--- and 2051 between 2050 and 2052
+-- 2051 lies half way between 2050 and 2052
 tie_to_even_of_2051 : IsFromUnsigned half NearestTiesToEven 2051 (in_half 0x6802) inexact_bit
 tie_to_even_of_2051 = rounded 1025 25 refl refl refl
 
--- ties to away take the greater magnitude
+-- a tie to away takes the greater magnitude
 tie_to_away_of_2049 : IsFromUnsigned half NearestTiesToAway 2049 (in_half 0x6801) inexact_bit
 tie_to_away_of_2049 = rounded 1024 25 refl refl refl
 
@@ -52,7 +52,7 @@ downward_of_minus_2049 = rounded 1024 25 refl refl refl
 overflow_of_half : IsFromUnsigned half NearestTiesToEven 65520 (in_half 0x7c00) (overflow_bit + inexact_bit)
 overflow_of_half = rounded 2047 29 refl refl refl
 
--- a mode that rounds down keeps the largest value
+-- downward the largest value is kept
 kept_at_the_largest_of_half : IsFromUnsigned half TowardNegative 65520 (in_half 0x7bff) inexact_bit
 kept_at_the_largest_of_half = rounded 2047 29 refl refl refl
 
@@ -60,7 +60,7 @@ kept_at_the_largest_of_half = rounded 2047 29 refl refl refl
 tie_at_the_largest_of_e4m3fn : IsFromUnsigned e4m3fn NearestTiesToEven 464 (in_e4m3fn 0x7e) inexact_bit
 tie_at_the_largest_of_e4m3fn = rounded 14 14 refl refl refl
 
--- past the half way, the NaN
+-- 465 is nearer to 480
 overflow_of_e4m3fn : IsFromUnsigned e4m3fn NearestTiesToEven 465 (in_e4m3fn 0x7f) (overflow_bit + inexact_bit)
 overflow_of_e4m3fn = rounded 14 14 refl refl refl
 
@@ -68,7 +68,7 @@ overflow_of_e4m3fn = rounded 14 14 refl refl refl
 largest_of_e4m3fnuz : IsFromUnsigned e4m3fnuz NearestTiesToEven 240 (in_e4m3fnuz 0x7f) ok_bits
 largest_of_e4m3fnuz = rounded 15 14 refl refl refl
 
--- here the tie is past it
+-- the even one of them is 256
 overflow_of_e4m3fnuz : IsFromUnsigned e4m3fnuz NearestTiesToEven 248 (in_e4m3fnuz 0x80) (overflow_bit + inexact_bit)
 overflow_of_e4m3fnuz = rounded 15 14 refl refl refl
 
@@ -87,7 +87,7 @@ sum_kept_at_the_largest = rounded 2047 29 refl refl refl
 just_below_one : IsDifference half NearestTiesToEven (in_half 0x3c00) (in_half 0x0001) (in_half 0x3c00) inexact_bit
 just_below_one = rounded 2047 13 refl refl refl
 
--- toward zero the value below 1 is taken
+-- toward zero it is the value just below 1
 just_below_one_cut : IsDifference half TowardZero (in_half 0x3c00) (in_half 0x0001) (in_half 0x3bff) inexact_bit
 just_below_one_cut = rounded 2047 13 refl refl refl
 
@@ -95,11 +95,11 @@ just_below_one_cut = rounded 2047 13 refl refl refl
 zero_difference : IsDifference half NearestTiesToEven (in_half 0x3c00) (in_half 0x3c00) (in_half 0x0000) ok_bits
 zero_difference = rounded 0 0 refl refl refl
 
--- -0 toward negative
+-- downward it is -0
 zero_difference_downward : IsDifference half TowardNegative (in_half 0x3c00) (in_half 0x3c00) (in_half 0x8000) ok_bits
 zero_difference_downward = rounded 0 0 refl refl refl
 
--- but not where the format has no -0
+-- but +0 where the format has no -0
 zero_difference_without_minus : IsDifference e4m3fnuz TowardNegative (in_e4m3fnuz 0x40) (in_e4m3fnuz 0x40)
     (in_e4m3fnuz 0x00) ok_bits
 zero_difference_without_minus = rounded 0 0 refl refl refl
@@ -115,12 +115,12 @@ underflow : IsProduct half NearestTiesToEven (in_half 0x0001) (in_half 0x3800) (
     (underflow_bit + inexact_bit)
 underflow = rounded 0 0 refl refl refl
 
--- upward it is that value
+-- upward it is the least positive value
 underflow_upward : IsProduct half TowardPositive (in_half 0x0001) (in_half 0x3800) (in_half 0x0001)
     (underflow_bit + inexact_bit)
 underflow_upward = rounded 0 0 refl refl refl
 
--- a product below the smallest normal value is rounded to it: after rounding it is not tiny
+-- a product below the smallest normal value is rounded to it; after rounding it is not tiny
 tiny_after_rounding : IsProduct half NearestTiesToEven (in_half 0x0400) (in_half 0x3bff) (in_half 0x0400) inexact_bit
 tiny_after_rounding = rounded 1023 0 refl refl refl
 
@@ -131,7 +131,7 @@ tiny_before_rounding = rounded 1023 0 refl refl refl
 
 -- ---- quotients: 1 by 3
 
--- the digits of a third, as many as each format has
+-- rounded to 11, to 3, and to 4 digits
 third_in_half : IsQuotient half NearestTiesToEven (in_half 0x3c00) (in_half 0x4200) (in_half 0x3555) inexact_bit
 third_in_half = rounded 1365 12 refl refl refl
 
@@ -143,7 +143,7 @@ third_in_e4m3fn = rounded 10 4 refl refl refl
 
 -- ---- fused sums
 
--- the product is a little above the least positive value, which is taken away: what is left is not lost
+-- the product is a little above the least positive value, which is subtracted: the rest is not lost
 fused_rounded_once : IsFusedSum half TowardPositive (in_half 0x0d89) (in_half 0x09c8) (in_half 0x8001)
     (in_half 0x0001) (underflow_bit + inexact_bit)
 fused_rounded_once = rounded 0 0 refl refl refl
@@ -165,7 +165,7 @@ conversion_kept_at_the_largest : IsConversion single e4m3fn TowardPositive (in_s
     inexact_bit true
 conversion_kept_at_the_largest = record { is_delivered = rounded 15 14 refl refl refl; loses_is = refl }
 
--- downward, the NaN
+-- downward it becomes the NaN of its sign
 conversion_past_the_largest : IsConversion single e4m3fn TowardNegative (in_single 0xc3f00000) (in_e4m3fn 0xff)
     (overflow_bit + inexact_bit) true
 conversion_past_the_largest = record { is_delivered = rounded 15 14 refl refl refl; loses_is = refl }
@@ -177,9 +177,10 @@ conversion_of_the_least mode = record { is_delivered = rounded 0x800000 102 refl
 
 -- ---- scaling: 3 quanta by half
 
--- 1.5 quanta is half way
+-- 1.5 quanta: the even 2 is taken
 scaled_tie_to_even : IsScaling half NearestTiesToEven (in_half 0x0003) (neg_ℤ (pos 1)) (in_half 0x0002)
 scaled_tie_to_even = (_, rounded 1 0 refl refl refl)
 
+-- toward zero it is 1
 scaled_cut : IsScaling half TowardZero (in_half 0x0003) (neg_ℤ (pos 1)) (in_half 0x0001)
 scaled_cut = (_, rounded 1 0 refl refl refl)

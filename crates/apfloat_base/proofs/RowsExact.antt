@@ -30,7 +30,7 @@ signaling_made_quiet mode = answer
 left_of_two_nans : (mode : Round) → IsSum half mode (in_half 0x7e01) (in_half 0x7d00) (in_half 0x7e01) invalid_bit
 left_of_two_nans mode = answer
 
--- there is no difference of infinities, and no product of an infinity and a zero
+-- an infinity less itself is invalid, and so is an infinity times zero
 infinities_of_one_sign : IsDifference half NearestTiesToEven (in_half 0x7c00) (in_half 0x7c00) (in_half 0x7e00)
     invalid_bit
 infinities_of_one_sign = answer
@@ -43,7 +43,7 @@ invalid_product : IsFusedSum half NearestTiesToEven (in_half 0x7c00) (in_half 0x
     (in_half 0x7e00) invalid_bit
 invalid_product = record { product = in_half 0x7e00; flags = invalid_bit; is_product = answer; is = answer }
 
--- a format with one NaN has none of the other sign
+-- the only NaN of a format is not negated
 one_nan_is_not_negated : negated e4m3fnuz.nonfinite (in_e4m3fnuz 0x80) ≡ in_e4m3fnuz 0x80
 one_nan_is_not_negated = refl
 
@@ -53,27 +53,27 @@ one_nan_is_not_negated = refl
 nan_converted : IsConversion single half NearestTiesToEven (in_single 0x7fa00000) (in_half 0x7f00) invalid_bit false
 nan_converted = converted
 
--- and loses the others
+-- if a later bit is set, something is lost
 nan_with_loss : IsConversion single half NearestTiesToEven (in_single 0x7fc00001) (in_half 0x7e00) ok_bits true
 nan_with_loss = converted
 
--- a format without infinities has its NaN for them
+-- an infinity becomes a NaN in a format without infinities
 infinity_with_loss : IsConversion single e4m3fn NearestTiesToEven (in_single 0x7f800000) (in_e4m3fn 0x7f)
     inexact_bit true
 infinity_with_loss = converted
 
--- -0 loses its sign in a format without it
+-- -0 loses its sign in a format without -0
 zero_sign_lost : IsConversion half e4m3fnuz NearestTiesToEven (in_half 0x8000) (in_e4m3fnuz 0x00) inexact_bit true
 zero_sign_lost = converted
 
 -- ---- division by zero, in each of the three kinds of formats
 
--- an infinity with the sign of the quotient
+-- 1 by -0 is the negative infinity
 one_by_minus_zero : IsQuotient half NearestTiesToEven (in_half 0x3c00) (in_half 0x8000) (in_half 0xfc00)
     div_by_zero_bit
 one_by_minus_zero = answer
 
--- without infinities the NaN of that sign, or the one NaN
+-- without infinities it is the NaN of that sign, or the only NaN
 one_by_minus_zero_in_e4m3fn : (mode : Round)
     → IsQuotient e4m3fn mode (in_e4m3fn 0x38) (in_e4m3fn 0x80) (in_e4m3fn 0xff) div_by_zero_bit
 one_by_minus_zero_in_e4m3fn mode = answer
@@ -149,18 +149,18 @@ minus_zero_out = whole
 
 -- ---- the next value up
 
--- an infinity, or the NaN
+-- above the largest value stands the infinity, or the NaN in a format without infinities
 next_of_largest : IsNextUp half (in_half 0x7bff) (in_half 0x7c00) ok_bits
 next_of_largest = answer
 
 next_of_largest_in_e4m3fnuz : IsNextUp e4m3fnuz (in_e4m3fnuz 0x7f) (in_e4m3fnuz 0x80) ok_bits
 next_of_largest_in_e4m3fnuz = answer
 
--- both zeros have the least positive value above them
+-- above -0 stands the least positive value
 next_of_minus_zero : IsNextUp half (in_half 0x8000) (in_half 0x0001) ok_bits
 next_of_minus_zero = answer
 
--- the greatest magnitude with a minus sign
+-- above the negative infinity stands the least finite value
 next_of_minus_infinity : IsNextUp half (in_half 0xfc00) (in_half 0xfbff) ok_bits
 next_of_minus_infinity = answer
 
@@ -177,7 +177,7 @@ logarithm_of_the_least = record { place = 0; low = lit≤ tt; high = lit< tt; is
 logarithm_of_the_greatest_denormal : IsIlogb half (in_half 0x03ff) (neg_ℤ (pos 15))
 logarithm_of_the_greatest_denormal = record { place = 9; low = lit≤ tt; high = lit< tt; is = refl }
 
--- it is 0.5 times 2 ^ -23
+-- 2 ^ -24 is 0.5 times 2 ^ -23
 fraction_of_the_least : IsFrexp half (in_half 0x0001) (in_half 0x3800) (neg_ℤ (pos 23))
 fraction_of_the_least = record { fraction = 2 ^ 23; low = lit≤ tt; high = lit< tt; same = refl; is = refl }
 

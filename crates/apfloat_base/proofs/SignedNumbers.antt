@@ -12,7 +12,7 @@ use Rattle.apfloat_base.proofs.Laws.{delivered_swapped}
 use Rattle.apfloat_base.proofs.Greatest.{greatest_some}
 use Rattle.apfloat_base.proofs.Signs.{sign_signed, magnitude_signed}
 
--- a mode swapped twice is the mode
+-- a mode swapped twice is the mode itself
 swapped_back : (mode : Round) → swapped (swapped mode) ≡ mode
 swapped_back NearestTiesToEven = refl
 swapped_back TowardPositive = refl

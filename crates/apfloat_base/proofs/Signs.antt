@@ -43,7 +43,7 @@ pub and_zero : (z : ℤ) (negative : Bool) → (z +ℤ signed negative 0) ≡ z
 and_zero z true = omega (arith, ints)
 and_zero z false = omega (arith, ints)
 
--- nor does it as the first term
+-- nor does it in front
 pub zero_and : (negative : Bool) (z : ℤ) → (signed negative 0 +ℤ z) ≡ z
 zero_and negative z = swapped_sum (signed negative 0) z ∙ and_zero z negative
 

@@ -32,7 +32,7 @@ close_at precision d s p k h q l =
     let k' : k ≤ s = le_of_mul-le-mul_right l' (pow_pos p) in
     record { significand = k; place = p; fits = omega arith; is = q }
 
--- a point is a multiple of each lower place
+-- a point is a multiple of each lower power of 2
 raised_place : (t p j : ℕ) → p ≤ j → t * 2 ^ j ≡ t * 2 ^ (j - p) * 2 ^ p
 raised_place t p j l =
     let e : j ≡ (j - p) + p = omega arith in
@@ -79,7 +79,7 @@ close_on_grid precision m n d x y e a b =
     (λ (l : y.place ≤ x.place). close_low precision y.significand y.place x.significand x.place d y.fits l e' dy)
     (cases_lt x.place y.place)
 
--- two numbers are as far apart as the magnitude of their difference says
+-- the distance of two numbers is the magnitude of their difference
 far_apart : (m n : ℕ) → (m ≡ n + magnitude (pos m -ℤ pos n)) ⊎ (n ≡ m + magnitude (pos m -ℤ pos n))
 far_apart m n =
     ⊎_elim
@@ -139,7 +139,7 @@ nearby_numbers format mode of_zero m n v s x y a b h =
     (far_below m n d (largest format) e x.within y.within) (omega arith)) in
     exactly format.nonfinite of_zero (pos m -ℤ pos n) v s r.0 r.1
 
--- a number and a negative one add up to a difference
+-- a negative number added is a number subtracted
 minus_is : (m n : ℕ) → (signed false m +ℤ signed true n) ≡ (pos m -ℤ pos n)
 minus_is m n = omega (arith, ints)
 
@@ -165,7 +165,7 @@ pub signed_quanta_is : (negative : Bool) (p : ℕ) → signed_quanta IEEE754 neg
 signed_quanta_is negative zero = refl
 signed_quanta_is negative (suc n) = signed_some IEEE754 negative (suc n) (omega arith)
 
--- what is delivered is that value
+-- it is what is delivered
 value_is : (format : Format) (mode : Round) (negative : Bool) (p : ℕ) → format.nonfinite ≡ IEEE754
     → delivered_value format mode negative p ≡ at (ltb (largest format) p)
     (leads_out mode negative) negative (largest format) p
@@ -197,7 +197,7 @@ down_grows true false true top p q x y l = refl
 down_grows true false false top p q x y l = let h : q ≤ top = grind arith in omega (arith, ints)
 down_grows false false out top p q x y l = omega (arith, ints)
 
--- with a sign of minus it is at most each one with a sign of plus
+-- a value with a sign of minus is at most any value with a sign of plus
 across : (first second down up : Bool) (top p q : ℕ) → AtMost (at first down true top p) (at second up false top q)
 across true true true true top p q = inl refl
 across true true true false top p q = refl
@@ -240,7 +240,7 @@ ordered of_zero of_other (negsuc m) (pos (suc n)) l = apart (magnitude (negsuc m
 ordered of_zero of_other (negsuc m) (negsuc n) l =
     both_down (magnitude (negsuc m)) (magnitude (negsuc n)) (omega (arith, ints))
 
--- zeros are equal, whatever their signs
+-- two zeros are in order, whatever their signs
 zeros_ordered : (left right : Bool) → signed left 0 ≤ℤ signed right 0
 zeros_ordered left right = rw (no_sign left, no_sign right) (omega (arith, ints))
 
@@ -294,7 +294,7 @@ sum_grows format mode of_zero of_other a b v w i j e l d g =
     grows_at format mode (sign_of of_zero a) (sign_of of_other b) (magnitude a) (magnitude b) v w i j e
     (ordered of_zero of_other a b l) d g
 
--- sums with one term in common are in the order of the other terms
+-- the same added to both sides keeps their order
 more_together : (a b z : ℤ) → a ≤ℤ b → (a +ℤ z) ≤ℤ (b +ℤ z)
 more_together a b z l = omega (arith, ints)
 

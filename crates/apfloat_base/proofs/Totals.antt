@@ -112,7 +112,7 @@ together_stands base eh el s t mh ml gap q loss l e d h =
           (stands_times q loss (mh * 2 ^ gap + ml) (2 ^ gap) (2 ^ up (el -ℤ base)) (pow_pos (up (el -ℤ base))) h);
     }
 
--- a balance holds in smaller units as well
+-- a balance holds in smaller units too
 balances_times : (flipped : Bool) (n a b w : ℕ) → Balances flipped n a b → Balances flipped (n * w) (a * w) (b * w)
 balances_times true n a b w h = ap (λ (x : ℕ). x * w) h ∙ omega arith
 balances_times false n a b w h = ap (λ (x : ℕ). x * w) h ∙ omega arith
@@ -146,7 +146,7 @@ apart_stands base eh el er s t flipped mh ml gap q loss l e d n i =
 
 -- ---- a difference of magnitudes
 
--- and in units of 1
+-- in units of 1 it is the same balance
 balances_one : (flipped : Bool) (n a b : ℕ) → Balances flipped n a b → Balances flipped (n * 1) (a * 1) b
 balances_one true n a b h = omega (arith, h)
 balances_one false n a b h = omega (arith, h)
