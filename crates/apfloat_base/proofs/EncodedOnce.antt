@@ -14,7 +14,7 @@ use Rattle.apfloat_base.specs.formats.Lawful.{MayBeExplicit}
 use Rattle.apfloat_base.specs.bits.Interchange.{IsInterchange, AreWithin, bits_of_fields}
 use Rattle.apfloat_base.specs.formats.Log.{log2}
 use Rattle.apfloat_base.proofs.Logarithms.{log2_is}
-use Rattle.apfloat_base.proofs.Losses.{twice_half}
+use Rattle.apfloat_base.proofs.Powers.{twice_half}
 use Rattle.apfloat_base.proofs.Encodings.{fields_within, bits_back}
 
 abbrev pub fields_with : Bool → ℕ → ℕ → Fields

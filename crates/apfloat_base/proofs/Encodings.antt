@@ -8,7 +8,7 @@ use Rattle.apfloat_base.specs.formats.Format.{Format}
 use Rattle.apfloat_base.specs.bits.Layout.{Layout, Fields, trailing_bits, fields_of}
 use Rattle.apfloat_base.specs.formats.Lawful.{Constants, HasNoBits, HasBits, IsLawful, more_exponents, format_with, layout_with}
 use Rattle.apfloat_base.specs.bits.Interchange.{IsInterchange, AreWithin, bits_of_fields}
-use Rattle.apfloat_base.proofs.Losses.{twice_half}
+use Rattle.apfloat_base.proofs.Powers.{twice_half}
 use Rattle.apfloat_base.proofs.Choices.{digit_low, digit_odd, odd_digit}
 
 -- ---- the law

@@ -14,8 +14,7 @@ use Rattle.apfloat_base.specs.formats.Members.{IsNanSignificand}
 use Rattle.apfloat_base.specs.bits.Layout.{Layout, Fields, all_ones, trailing_bits, implied_datum, written_datum, datum_of_fields, is_canonical, is_canonical_written, IsEncodedBy}
 use Rattle.apfloat_base.specs.formats.Lawful.{MayBeExplicit}
 use Rattle.apfloat_base.specs.bits.Interchange.{IsInterchange, AreFieldsOf, bits_of_fields}
-use Rattle.apfloat_base.proofs.Powers.{two_pos}
-use Rattle.apfloat_base.proofs.Losses.{twice_half}
+use Rattle.apfloat_base.proofs.Powers.{two_pos, twice_half}
 use Rattle.apfloat_base.proofs.Choices.{eqb_self}
 use Rattle.apfloat_base.proofs.Greatest.{greatest_fits}
 use Rattle.apfloat_base.proofs.Encodings.{fields_back, bits_below}

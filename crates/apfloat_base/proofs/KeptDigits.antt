@@ -8,8 +8,8 @@ use Rattle.apfloat_base.specs.declared.sig.loss.Loss.{Loss}
 use Rattle.apfloat_base.specs.declared.sig.loss.Loss.TheVariants.{ExactlyZero, LessThanHalf, ExactlyHalf, MoreThanHalf}
 use Rattle.apfloat_base.specs.rounding.Standing.{StandsFor}
 use Rattle.apfloat_base.specs.rounding.Enclosure.{IsEnclosed}
-use Rattle.apfloat_base.proofs.Powers.{two_pos}
-use Rattle.apfloat_base.proofs.Losses.{stands_from, stands_to, twice_half}
+use Rattle.apfloat_base.proofs.Powers.{two_pos, twice_half}
+use Rattle.apfloat_base.proofs.Losses.{stands_from, stands_to}
 
 -- ---- the number of digits
 
@@ -163,7 +163,7 @@ shift_whole precision s digits j place up down p b c e =
     let m : 2 ^ precision ≤ 2 ^ 128 = pow-le-pow_right two_pos p₁ in
     sym (mod-eq_of_lt (omega arith))
 
--- no digits: the number is zero
+-- a significand that is not 0 has digits
 pub some_digits : (s digits : ℕ) → s < 2 ^ digits → (s ≡ 0 → ⊥) → 0 < digits
 some_digits s zero h n = absurd (n (omega arith))
 some_digits s (suc d) h n = omega arith

@@ -2,7 +2,7 @@
 use Rattle.std.proofs.Common.{◌≡◌, ℕ, ◌+◌, ◌-◌, ◌*◌, ◌/◌, ◌%◌, ◌^◌, ◌<◌, ◌≤◌, ◌⊎◌, sym, refl, ap, ◌∙◌, subst, inl, inr, ⊎_elim, arith}
 use Rattle.std.proofs.Math.Nat.{mul-le-mul_right, pow-le-pow_right, div-eq_of_lt, mod-eq_of_lt, div-add-mod'}
 use Rattle.std.proofs.lemmas.Nat.{pow-add, pow_below}
-use Rattle.apfloat_base.proofs.Powers.{two_pos}
+use Rattle.apfloat_base.proofs.Powers.{two_pos, twice_half}
 use Rattle.apfloat_base.specs.declared.sig.loss.Loss.{Loss}
 use Rattle.apfloat_base.specs.declared.sig.loss.Loss.TheVariants.{ExactlyZero, LessThanHalf, ExactlyHalf, MoreThanHalf}
 use Rattle.apfloat_base.specs.rounding.Standing.{StandsFor}
@@ -75,13 +75,6 @@ cut_more q half rest loss amount unit u l n h =
     let b : amount < (q * (2 * half) + 2 * half) * unit =
     stands_below (q * (2 * half) + 2 * half) _ loss amount unit u (omega arith) h in
     (omega arith, omega arith)
-
-pub twice_half : (places : ℕ) → 0 < places → 2 * 2 ^ (places - 1) ≡ 2 ^ places
-twice_half places h =
-    let e : (places - 1) + 1 ≡ places = omega arith in
-    let w : 2 ^ ((places - 1) + 1) ≡ 2 ^ (places - 1) * 2 = pow-add 2 (places - 1) 1 in
-    let v : 2 ^ ((places - 1) + 1) ≡ 2 ^ places = ap (λ (x : ℕ). 2 ^ x) e in
-    omega arith
 
 -- a cut by 2 ^ places, from what is said of the rest
 pub cut_at : (s places half rest : ℕ) (loss answer : Loss) → 0 < places → half ≡ 2 ^ (places - 1)

@@ -7,8 +7,7 @@ use Rattle.apfloat_base.specs.declared.kinds.NonfiniteBehavior.TheVariants.{IEEE
 use Rattle.apfloat_base.specs.formats.Format.{Format, largest, greatest_significand}
 use Rattle.apfloat_base.specs.bits.Layout.{Layout, all_ones}
 use Rattle.apfloat_base.specs.bits.Interchange.{IsInterchange}
-use Rattle.apfloat_base.proofs.Powers.{two_pos}
-use Rattle.apfloat_base.proofs.Losses.{twice_half}
+use Rattle.apfloat_base.proofs.Powers.{two_pos, twice_half}
 use Rattle.apfloat_base.proofs.Greatest.{greatest_low}
 
 -- a significand that is not greater at a place that is not higher

@@ -10,8 +10,8 @@ use Rattle.apfloat_base.specs.declared.sig.loss.Loss.TheVariants.{ExactlyZero, L
 use Rattle.apfloat_base.specs.arithmetic.Exact.{up, down, signed}
 use Rattle.apfloat_base.specs.rounding.Standing.{StandsFor}
 use Rattle.apfloat_base.specs.arithmetic.Totals.{counted, StandsForSigned, Balances, IsApart}
-use Rattle.apfloat_base.proofs.Powers.{two_pos}
-use Rattle.apfloat_base.proofs.Losses.{twice_half, stands_from, stands_to}
+use Rattle.apfloat_base.proofs.Powers.{two_pos, twice_half}
+use Rattle.apfloat_base.proofs.Losses.{stands_from, stands_to}
 use Rattle.apfloat_base.proofs.KeptDigits.{stands_times}
 
 -- ---- more units, and fewer
