@@ -1,5 +1,5 @@
 pub mod Neighbours
-pub mod Existence
+pub mod NeighboursExist
 pub mod Losses
 pub mod KeptDigits
 pub mod Picks
@@ -16,7 +16,7 @@ pub mod EncodedOnce
 pub mod Ranges
 pub mod FieldsOf
 pub mod Once
-pub mod Exists
+pub mod AnswersExist
 pub mod Scaled
 pub mod Powers
 pub mod MoreDigits

@@ -10,8 +10,7 @@ use Rattle.apfloat_base.specs.rounding.Enclosure.{IsEnclosed, rounds_up}
 use Rattle.apfloat_base.specs.rounding.Rounding.{IsPick}
 use Rattle.apfloat_base.proofs.Neighbours.{fine_point_at, carried}
 use Rattle.apfloat_base.proofs.Picks.{kept, pick_is}
-use Rattle.apfloat_base.proofs.Powers.{two_pos}
-use Rattle.apfloat_base.proofs.Losses.{twice_half}
+use Rattle.apfloat_base.proofs.Powers.{two_pos, twice_half}
 use Rattle.apfloat_base.proofs.Choices.{ltb_times}
 
 -- one more than a significand of at most 125 digits fits into a word of 128

@@ -26,7 +26,7 @@ pub magnitude_signed : (negative : Bool) (n : ℕ) → magnitude (signed negativ
 magnitude_signed true n = omega (arith, ints)
 magnitude_signed false n = omega (arith, ints)
 
--- a zero without a minus sign is of each kind
+-- each kind of format has a zero without a minus sign
 pub plus_zero : (kind : NonfiniteBehavior) → zero_sign kind false ≡ false
 plus_zero IEEE754 = refl
 plus_zero NanOnly = refl

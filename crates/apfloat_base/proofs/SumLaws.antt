@@ -209,7 +209,7 @@ across false true out true top p q = refl
 across false true out false top p q = omega (arith, ints)
 across false false out past top p q = omega (arith, ints)
 
--- how the signs and the magnitudes of two numbers in order are to each other
+-- the signs and the magnitudes of two numbers in order
 pub data Ordered : Bool → ℕ → Bool → ℕ → Type 0 where
   both_up : (x y : ℕ) → x ≤ y → Ordered false x false y
   both_down : (x y : ℕ) → y ≤ x → Ordered true x true y

@@ -9,9 +9,9 @@ use Rattle.apfloat_base.specs.declared.sig.loss.Loss.TheVariants.{ExactlyZero, L
 use Rattle.apfloat_base.specs.arithmetic.Exact.{up, down, signed}
 use Rattle.apfloat_base.specs.rounding.Standing.{StandsFor}
 use Rattle.apfloat_base.specs.arithmetic.Totals.{counted, StandsForSigned, Balances, IsApart}
-use Rattle.apfloat_base.proofs.Powers.{two_pos}
+use Rattle.apfloat_base.proofs.Powers.{two_pos, twice_half}
 use Rattle.apfloat_base.proofs.Signs.{no_sign, swapped_sum}
-use Rattle.apfloat_base.proofs.Losses.{twice_half, stands_from, stands_to}
+use Rattle.apfloat_base.proofs.Losses.{stands_from, stands_to}
 use Rattle.apfloat_base.proofs.KeptDigits.{stands_times}
 
 -- ---- more units, and fewer
@@ -24,7 +24,7 @@ stands_more q high LessThanHalf amount unit h = let a = h.0 in let b = h.1 in (o
 stands_more q high ExactlyHalf amount unit h = omega (arith, h)
 stands_more q high MoreThanHalf amount unit h = let a = h.0 in let b = h.1 in (omega (arith, a), omega (arith, b))
 
--- the same, without so many units
+-- and whole units taken from an amount are taken from its significand
 pub stands_less : (q high left : ℕ) (loss : Loss) (amount rest unit : ℕ) → q ≡ high + left
     → amount ≡ high * unit + rest → StandsFor q loss amount unit → StandsFor left loss rest unit
 stands_less q high left ExactlyZero amount rest unit e d h =
@@ -48,7 +48,7 @@ whole_exact q LessThanHalf amount h = let a = h.0 in let b = h.1 in absurd (omeg
 whole_exact q ExactlyHalf amount h = absurd (omega (arith, h))
 whole_exact q MoreThanHalf amount h = let a = h.0 in let b = h.1 in absurd (omega (arith, a, b))
 
--- nothing at all
+-- the significand for an amount of 0 is 0, with nothing lost
 pub zero_stands : (loss : Loss) (unit : ℕ) (q : ℕ) → 0 < unit → StandsFor q loss 0 unit
     → (q ≡ 0) × (loss ≡ ExactlyZero)
 zero_stands ExactlyZero unit zero p h = (refl, refl)
