@@ -29,7 +29,8 @@ use Rattle.apfloat_base.specs.texts.Faults.{words}
 use Rattle.apfloat_base.specs.texts.Readings.{IsMeant, IsReading, IsRefusal}
 use Rattle.apfloat_base.specs.texts.Parsing.{IsRead}
 use Rattle.apfloat_base.specs.Determined.{Determines, DeterminesBoth, AreOneReading, IsDetermined}
-use Rattle.apfloat_base.proofs.Once.{Once, answer_once, rounded_once, sum_once, difference_once, product_once, quotient_once, scaling_once, from_unsigned_once, from_signed_once, round_to_integral_once, whole_once, remainder_once, next_up_once, next_down_once}
+use Rattle.apfloat_base.proofs.Laws.{delivered_once}
+use Rattle.apfloat_base.proofs.Once.{Once, answer_once, sum_once, difference_once, product_once, quotient_once, scaling_once, from_unsigned_once, from_signed_once, round_to_integral_once, whole_once, remainder_once, next_up_once, next_down_once}
 use Rattle.apfloat_base.proofs.EncodedOnce.{encoded_once}
 use Rattle.apfloat_base.proofs.Inverses.{logarithm_once, fraction_once, inverse_once}
 use Rattle.apfloat_base.proofs.Choices.{match_one, match_case}
@@ -118,7 +119,7 @@ to_signed_once format mode width x r s a b h k =
 meant_once : (format : Format) (mode : Round) (meaning : Meaning) → Once (IsMeant format mode meaning)
 meant_once format mode (infinity negative) = answer_once _ _
 meant_once format mode (not_a_number negative signaling payload) = answer_once _ _
-meant_once format mode (hexadecimal negative h places e) = rounded_once format mode negative _ _
+meant_once format mode (hexadecimal negative h places e) = delivered_once format mode negative _ _
 
 -- a text that is read has one value and one status
 pub reading_once : (format : Format) (mode : Round) (text : List ℕ) → Once (IsReading format mode text)

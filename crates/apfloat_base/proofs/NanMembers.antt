@@ -22,7 +22,7 @@ twice p h =
     let c : 2 ^ (p - 2) ≡ 2 ^ (1 + (p - 3)) = ap (λ (x : ℕ). 2 ^ x) (omega arith) in
     (a ∙ pow-add 2 1 (p - 2), b ∙ pow-add 2 2 (p - 2), c ∙ pow-add 2 1 (p - 3), pow_pos (p - 3))
 
--- a number with a lower bit set is no power of two
+-- a number with the bit 2 ^ j set is not 2 ^ i for another i
 or_no_power : (s i j : ℕ) → i ≢ j → bit_or s (2 ^ j) ≢ 2 ^ i
 or_no_power s i j apart e =
     let a : bit_and (2 ^ i) (2 ^ j) ≡ 2 ^ j = ap (λ (x : ℕ). bit_and x (2 ^ j)) (sym e) ∙ and_or_self (2 ^ j) s in
@@ -81,7 +81,7 @@ less_nothing q = let e : bit_and q 0 ≡ 0 = and_zero_r q in omega (arith, e)
 or_nothing : (q : ℕ) → bit_or (q - bit_and q 0) (0 / 2) ≡ q
 or_nothing q = ap (λ (x : ℕ). bit_or x 0) (less_nothing q) ∙ or_zero_r q
 
--- a significand without its quiet bit, and with the bit below where nothing else is set
+-- without its quiet bit, and with the bit below it if no bit is left, it is one too
 signaling_kinds : (kind : NonfiniteBehavior) (explicit : Bool) (p q : ℕ) → 3 ≤ p → IsNanSignificand kind explicit p q
     → IsNanSignificand kind explicit p (let c = q - bit_and q (quiet_bit_of kind p) in
     if eqb (bit_and c (payload_mask_of kind p)) 0

@@ -106,7 +106,7 @@ next_down_zero format n v k e w =
       is = number_swapped format.nonfinite false n p;
     })
 
--- below the next number of less magnitude stands the number
+-- below the next number of lesser magnitude stands the number
 next_down_less : (format : Format) (n next : ℕ) (value : Datum) → 0 < n → 0 < next → n ≤ largest format
     → IsOnGrid format.precision n → IsBelow format.precision next (n - 1) 1 → value ≡ finite true next
     → IsNextDown format value (finite true n) 0
@@ -131,7 +131,7 @@ next_down_less format n next v p q m g b w =
       is = number_swapped format.nonfinite false n p;
     })
 
--- a number below 0
+-- below the neighbour above a negative number stands the number
 negative_back : (format : Format) (n : ℕ) (value : Datum) (status : ℕ) → format.nonfinite ≡ IEEE754
     → 1 < 2 ^ format.precision → 0 < n → IsFiniteOf format true n → IsNextLess format n value status
     → IsNextDown format value (finite true n) 0
@@ -148,7 +148,7 @@ negative_back format n v st k s p m u =
     next_down_zero format n v k o (u.is.value_is ∙ ap (λ (j : ℕ). signed_quanta format.nonfinite true j) e))
     (cases_lt 0 u.next)
 
--- a number above 0
+-- below the neighbour above a positive number stands the number
 positive_back : (format : Format) (n : ℕ) (value : Datum) (status : ℕ) → format.nonfinite ≡ IEEE754 → 0 < n
     → IsFiniteOf format false n → IsNextOfNumber format false n value status
     → IsNextDown format value (finite false n) 0
@@ -162,7 +162,7 @@ positive_back format n v st k p m u =
     next_down_greater format n a.next v p m.on_grid a.is_above a.is.value_is)
     (cases_eq n (largest format))
 
--- of a number that is not 0, in a format with infinities
+-- below the neighbour above a number that is not 0 stands the number, in a format with infinities
 pub next_back : (format : Format) (x value : Datum) (status : ℕ) → format.nonfinite ≡ IEEE754
     → 1 < 2 ^ format.precision → IsMember format x → is_finite_non_zero x ≡ true → IsNextUp format x value status
     → IsNextDown format value x 0

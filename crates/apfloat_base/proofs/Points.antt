@@ -68,7 +68,7 @@ past_above half s place greatest span g (inr f) l =
     let p : 0 < 2 ^ span = pow_pos span in
     omega arith
 
--- at another place, where the place is past the last one
+-- at another place, it is past the largest value where its place is past the last one
 pub past_other : (precision s place greatest span : ℕ) → 0 < precision → s < 2 ^ precision
     → (place ≡ 0) ⊎ (2 ^ (precision - 1) ≤ s) → greatest < 2 ^ precision → 2 ^ (precision - 1) ≤ greatest
     → (place ≡ span → ⊥) → ltb span place ≡ ltb (greatest * 2 ^ span) (s * 2 ^ place)

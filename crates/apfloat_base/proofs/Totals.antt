@@ -236,7 +236,7 @@ reversed_difference q high low gap lost p l h =
           r' h;
     }
 
--- a number of which a part was lost was cut by one place or more
+-- what is left of a number that lost a part is below half of its bound
 pub lossy_small : (q k low half : ℕ) (loss : Loss) → (loss ≡ ExactlyZero → ⊥) → StandsFor q loss low (2 ^ k)
     → low < 2 * half → q < half
 lossy_small q zero low half loss n h l = absurd (n (whole_exact q loss low h))
