@@ -41,6 +41,7 @@ lawful_interchange constants law wide =
       explicit = law.explicit;
     }
   where
+    -- the span of a lawful format, by the number of exponents that its bits have
     span_by : (constants : Constants) → IsLawful constants → HasBits constants
         → unsigned_abs (constants.max_exp -ℤ constants.min_exp) + 3
         ≡ 2 ^ constants.exp_bits + more_exponents constants.nonfinite
@@ -77,12 +78,13 @@ module _ (format : Format) (layout : Layout) (law : IsInterchange format layout)
     trailing = mod_below bits (2 ^ trailing_bits format) (pow_pos (trailing_bits format));
   }
 
+  -- the sign stands above the trailing bits and the exponent
   top : layout.bits - 1 ≡ trailing_bits format + layout.exponent_bits
   top = omega (arith, law.bits)
 
   -- the fields of the bits of fields
-  pub fields_back : (x : Fields) → AreWithin format layout x
-      → fields_of format layout (bits_of_fields format layout x) ≡ x
+  pub fields_back : (fields : Fields) → AreWithin format layout fields
+      → fields_of format layout (bits_of_fields format layout fields) ≡ fields
   fields_back x w =
       let t = mod_low (cond x.negative 1 0 * 2 ^ layout.exponent_bits + x.biased_exponent) (trailing_bits format)
       x.trailing w.trailing in
@@ -102,7 +104,8 @@ module _ (format : Format) (layout : Layout) (law : IsInterchange format layout)
       ) refl
 
   -- the bits of fields fit the width of the format
-  pub bits_below : (x : Fields) → AreWithin format layout x → bits_of_fields format layout x < 2 ^ layout.bits
+  pub bits_below : (fields : Fields) → AreWithin format layout fields
+      → bits_of_fields format layout fields < 2 ^ layout.bits
   bits_below x w =
       let a : cond x.negative 1 0 * 2 ^ layout.exponent_bits + x.biased_exponent < 2 ^ layout.exponent_bits * 2 =
       mul-add-lt (cond x.negative 1 0) (2 ^ layout.exponent_bits) x.biased_exponent 2 (digit_low x.negative)

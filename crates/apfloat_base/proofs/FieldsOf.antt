@@ -143,8 +143,8 @@ high_canonical true NanOnly format layout b j m may low n = absurd (true≢false
 high_canonical true NanNegativeZero format layout b j m may low n = absurd (true≢false may)
 high_canonical false kind format layout b j m may low n = refl
 
--- the exponent of a number within the largest value
 module _ (format : Format) (layout : Layout) (law : IsInterchange format layout) where
+  -- a number within the largest value has its place within the span
   place_within : (j m : ℕ) → smallest_normalized format ≤ m → m * 2 ^ j ≤ largest format → j ≤ format.span
   place_within j m low top =
       let t : 2 * 2 ^ (format.precision - 1) ≡ 2 ^ format.precision =

@@ -8,7 +8,7 @@ use Rattle.apfloat_base.specs.declared.sig.loss.Loss.{Loss}
 use Rattle.apfloat_base.specs.declared.sig.loss.Loss.TheVariants.{ExactlyZero, LessThanHalf, ExactlyHalf, MoreThanHalf}
 use Rattle.apfloat_base.specs.rounding.Standing.{StandsFor}
 use Rattle.apfloat_base.specs.rounding.Enclosure.{IsEnclosed}
-use Rattle.apfloat_base.proofs.Powers.{two_pos, twice_half}
+use Rattle.apfloat_base.proofs.Powers.{two_pos, twice_half, exponent_below}
 use Rattle.apfloat_base.proofs.Losses.{stands_from, stands_to}
 
 -- ---- the number of digits
@@ -255,23 +255,23 @@ zero_kept precision s up down loss amount parts p u z e h =
     subst (λ (x : Loss). StandsFor 0 x amount (2 ^ 0 * parts)) (sym e) g in
     (enclosed_from precision 0 0 loss amount parts p u (pow_pos precision) (inl refl) g', g')
 
+-- of three cases, the only one left is that nothing was lost
+nothing_lost : (loss : Loss) (P Q : Type 0) → (loss ≡ ExactlyZero) ⊎ (P ⊎ Q) → (P → ⊥) → (Q → ⊥)
+    → loss ≡ ExactlyZero
+nothing_lost loss P Q h n m = ⊎_elim (λ z. z) (λ o. absurd (⊎_elim n m o)) h
+
 -- nothing was lost, where the unit lies above the place that is kept
-pub exact_zero : (s precision : ℕ) (loss : Loss) (A : Type 0) → s ≡ 0
-    → (loss ≡ ExactlyZero) ⊎ (A ⊎ (2 ^ (precision - 1) ≤ s)) → (A → ⊥) → loss ≡ ExactlyZero
-exact_zero s precision loss A z (inl e) n = e
-exact_zero s precision loss A z (inr (inl a)) n = absurd (n a)
-exact_zero s precision loss A z (inr (inr l)) n = let p : 0 < 2 ^ (precision - 1) = pow_pos (precision - 1) in
-    absurd (omega arith)
+pub exact_zero : (s precision : ℕ) (loss : Loss) (P : Type 0) → s ≡ 0
+    → (loss ≡ ExactlyZero) ⊎ (P ⊎ (2 ^ (precision - 1) ≤ s)) → (P → ⊥) → loss ≡ ExactlyZero
+exact_zero s precision loss P z h n =
+    let p = pow_pos (precision - 1) in nothing_lost loss P _ h n (λ l. omega (arith, l, p))
 
 -- what is moved up has nothing lost below it: what has lost something is full already
-pub exact_shift : (s digits j place up down precision : ℕ) (loss : Loss) (A : Type 0) → s < 2 ^ digits → 0 < j
+pub exact_shift : (s digits j place up down precision : ℕ) (loss : Loss) (P : Type 0) → s < 2 ^ digits → 0 < j
     → digits + up ≤ place + precision + down → place + down + j ≡ up
-    → (loss ≡ ExactlyZero) ⊎ (A ⊎ (2 ^ (precision - 1) ≤ s)) → (A → ⊥) → loss ≡ ExactlyZero
-exact_shift s digits j place up down precision loss A b p c e (inl z) n = z
-exact_shift s digits j place up down precision loss A b p c e (inr (inl a)) n = absurd (n a)
-exact_shift s digits j place up down precision loss A b p c e (inr (inr l)) n =
-    let l₀ : digits + j ≤ precision = omega arith in
-    absurd (too_full s digits j precision b p l₀ l)
+    → (loss ≡ ExactlyZero) ⊎ (P ⊎ (2 ^ (precision - 1) ≤ s)) → (P → ⊥) → loss ≡ ExactlyZero
+exact_shift s digits j place up down precision loss P b p c e h n =
+    nothing_lost loss P _ h n (too_full s digits j precision b p (omega arith))
 
 -- ---- all digits
 
@@ -281,11 +281,9 @@ pub digits_le : (s digits precision : ℕ) → s < 2 ^ precision → (0 < digits
 digits_le s digits precision h f =
     ⊎_elim
     (λ (l : precision < digits).
-    let p : 0 < digits = omega arith in
-    let a : 2 ^ (digits - 1) ≤ s = f p in
-    let m : precision ≤ digits - 1 = omega arith in
-    let k : 2 ^ precision ≤ 2 ^ (digits - 1) = pow-le-pow_right two_pos m in
-    absurd (omega arith))
+    let a : 2 ^ (digits - 1) ≤ s = f (omega arith) in
+    let e = exponent_below (digits - 1) precision (omega arith) in
+    absurd (omega (arith, e)))
     (λ (l : digits ≤ precision). l)
     (cases_lt precision digits)
 
