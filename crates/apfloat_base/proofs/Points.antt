@@ -52,7 +52,7 @@ pick_carries precision mode negative m c amount parts loss s whole half l e w v 
 
 -- ---- past the largest
 
--- at the last place, a point is past the largest value where its significand is past the greatest one
+-- at the last place, a point is past the largest value if its significand is past the greatest
 pub past_same : (s place greatest span : ℕ) → place ≡ span
     → ltb greatest s ≡ ltb (greatest * 2 ^ span) (s * 2 ^ place)
 past_same s place greatest span e =
@@ -68,7 +68,7 @@ past_above half s place greatest span g (inr f) l =
     let p : 0 < 2 ^ span = pow_pos span in
     omega arith
 
--- at another place, it is past the largest value where its place is past the last one
+-- at another place, it is past the largest value if its place is past the last one
 pub past_other : (precision s place greatest span : ℕ) → 0 < precision → s < 2 ^ precision
     → (place ≡ 0) ⊎ (2 ^ (precision - 1) ≤ s) → greatest < 2 ^ precision → 2 ^ (precision - 1) ≤ greatest
     → (place ≡ span → ⊥) → ltb span place ≡ ltb (greatest * 2 ^ span) (s * 2 ^ place)

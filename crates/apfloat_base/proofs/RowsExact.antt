@@ -1,5 +1,5 @@
--- Worked rows of what needs no rounding: NaNs and infinities, remainders, whole numbers out, neighbours, exponents,
--- order. See `Rows`.
+-- Worked rows of what needs no rounding: NaNs and infinities, remainders, whole numbers out,
+-- neighbours, exponents, order. See `Rows`.
 use Rattle.std.proofs.Common.{◌≡◌, ◌^◌, true, false, refl, neg_ℤ, pos, lit<, lit≤, arith}
 use Rattle.std.specs.Prelude.{Some, None}
 use Rattle.apfloat_base.specs.declared.kinds.Round.{Round}
@@ -170,10 +170,11 @@ next_of_signaling = answer
 
 -- ---- exponents
 
--- the least positive value of half precision is 2 ^ -24, and the greatest denormal is a little below 2 ^ -14
+-- the least positive value of half precision is 2 ^ -24
 logarithm_of_the_least : IsIlogb half (in_half 0x0001) (neg_ℤ (pos 24))
 logarithm_of_the_least = record { place = 0; low = lit≤ tt; high = lit< tt; is = refl }
 
+-- the greatest denormal is a little below 2 ^ -14
 logarithm_of_the_greatest_denormal : IsIlogb half (in_half 0x03ff) (neg_ℤ (pos 15))
 logarithm_of_the_greatest_denormal = record { place = 9; low = lit≤ tt; high = lit< tt; is = refl }
 

@@ -1,4 +1,4 @@
--- What the worked rows share: formats by their names, values by their bits, and how a rounding is proved.
+-- What the worked rows share: formats by name, values by their bits, and how a rounding is proved.
 use Rattle.std.proofs.Common.{◌≡◌, ℕ, ◌+◌, ◌-◌, ◌*◌, ◌^◌, ◌<◌, Bool, true, false, ltb, leb, eqb, ◌&&◌, ◌||◌, if◌then◌else◌, refl, sym, ⊎_elim, inl, inr}
 use Rattle.std.proofs.Math.Arith.{lt_of_le-ne}
 use Rattle.std.proofs.lemmas.Bool.{and_parts, or_cases, leb-true, ltb-true, eqb-true, eqb-false}
@@ -67,7 +67,7 @@ whole = record { number_is = refl; status_is = refl; is_exact_is = refl }
 pub converted : {value : Datum} {status : ℕ} {loses : Bool} → IsConverted value status loses value status loses
 converted = record { value_is = refl; status_is = refl; loses_is = refl }
 
--- ---- a rounding: the neighbours of the magnitude are m * 2 ^ c and (m + 1) * 2 ^ c, or both m * 2 ^ c
+-- ---- a rounding: the neighbours of the magnitude are m * 2 ^ c and (m + 1) * 2 ^ c
 
 -- whether they are its neighbours
 abbrev pub encloses : ℕ → ℕ → ℕ → ℕ → ℕ → Bool
@@ -106,7 +106,7 @@ module _ (precision : ℕ) (mode : Round) (negative : Bool) (m c amount parts : 
     is = refl;
   }
 
--- a rounding is proved by the enclosing significand, and by the value and the status that follow from it
+-- a rounding is proved by the enclosing significand, and the value and the status that follow
 pub rounded : {format : Format} {mode : Round} {negative : Bool} {amount parts : ℕ} {value : Datum} {status : ℕ}
     (m c : ℕ) → encloses format.precision m c amount parts ≡ true
     → value ≡ delivered_value format mode negative (picked mode negative m c amount parts)
