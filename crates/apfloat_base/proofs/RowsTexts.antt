@@ -50,7 +50,7 @@ nan_of_e4m3fnuz = record { below = lit< tt; canonical = refl; is = refl }
 
 -- ---- hexadecimal texts, by their parts: digits, digits behind a dot, the exponent behind the p
 
--- a text of these parts is a hexadecimal number, with a dot or, below, without one
+-- a body of these parts is that of a hexadecimal number, with a dot
 with_dot : {body : List ℕ} (whole fraction exponent : List ℕ)
     → body ≡ codes "0x" ++ (whole ++ (codes "." ++ (fraction ++ (codes "p" ++ exponent))))
     → IsTrue (every is_hexadecimal (whole ++ fraction)) → 1 ≤ length (whole ++ fraction)
@@ -77,6 +77,7 @@ with_dot whole fraction exponent spelled digits some exponent_digits some_expone
   e_is = refl;
 }
 
+-- and without one
 without_dot : {body : List ℕ} (whole exponent : List ℕ) → body ≡ codes "0x" ++ (whole ++ (codes "p" ++ exponent))
     → IsTrue (every is_hexadecimal (whole ++ [])) → 1 ≤ length (whole ++ [])
     → IsTrue (every is_decimal (behind_mark exponent)) → 1 ≤ length (behind_mark exponent)
