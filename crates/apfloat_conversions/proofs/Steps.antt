@@ -12,7 +12,7 @@ use Rattle.apfloat_base.specs.arithmetic.NextUp.{IsNextGreater, IsNextLess}
 use Rattle.apfloat_base.specs.rounding.Standing.{up, down}
 use Rattle.apfloat_base.proofs.Deliveries.{signed_some}
 use Rattle.apfloat_base.proofs.Signs.{one_side}
-use Rattle.apfloat_base.proofs.Losses.{twice_half}
+use Rattle.apfloat_base.proofs.Powers.{twice_half}
 use Rattle.apfloat_base.proofs.SingleScalings.{up_le, up_far, quanta_below}
 use Rattle.apfloat_unpacked.specs.declared.shape.Shape.{Shape}
 use Rattle.apfloat_unpacked.specs.Shapes.{IsShape, format_at}
