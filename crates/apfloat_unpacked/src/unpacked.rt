@@ -4,7 +4,7 @@ ghost use Rattle.std.specs.Prelude.{◌≡◌, ◌+◌, ◌*◌, ◌^◌, ◌<�
 ghost use Rattle.apfloat_base.specs.arithmetic.Exact.{up, down};
 ghost use Rattle.apfloat_base.specs.formats.Format.{largest};
 ghost use Rattle.apfloat_base.specs.formats.Datum.{finite, infinite, nan};
-ghost use Rattle.apfloat_base.specs.rounding.Bounds.{place_bound};
+ghost use Rattle.apfloat_base.specs.rounding.Bounds.{format_bound, place_bound};
 ghost use Rattle.apfloat_base.specs.rounding.Rounding.{zero_sign, signed_quanta};
 ghost use Rattle.apfloat_base.specs.formats.Constants.{infinity_of, smallest_datum, smallest_normalized_datum};
 ghost use Rattle.apfloat_base.specs.formats.Members.{IsNanSignificand};
@@ -129,7 +129,7 @@ pub fn infinity_of(shape: Shape, negative: bool) -> Unpacked
 /// the smallest normalized value.
 #[inline(always)]
 fn exponent_at(min_exp: ExpInt, place: u32, shift: u32) -> ExpInt
-    requires least { neg_ℤ (pos (2 ^ 20)) ≤ℤ min_exp }
+    requires least { neg_ℤ (pos format_bound) ≤ℤ min_exp }
     requires below_one { min_exp ≤ℤ pos 0 }
     requires near { place ≤ place_bound }
     requires short { shift ≤ 128 }
