@@ -8,11 +8,12 @@ ghost use Rattle.apfloat_base.specs.rounding.Bounds.{IsWithin, exponent_bound, u
 ghost use Rattle.apfloat_base.specs.rounding.Flags.{bits_of};
 ghost use Rattle.apfloat_base.specs.formats.Format.{largest, nan_base};
 ghost use Rattle.apfloat_base.specs.formats.Datum.{finite};
+ghost use Rattle.apfloat_base.specs.rounding.Answer.{IsAnswer};
 ghost use Rattle.apfloat_base.specs.rounding.Standing.{StandsFor, up, down};
 ghost use Rattle.apfloat_base.specs.rounding.Enclosure.{IsEnclosed, rounds_up};
 ghost use Rattle.apfloat_base.specs.rounding.Rounding.{takes_above, ok_bits, overflow_bit, underflow_bit, inexact_bit, IsPick, IsDelivered, leads_out, past_largest};
 ghost use Rattle.apfloat_unpacked.specs.Shapes.{IsShape, format_at};
-ghost use Rattle.apfloat_unpacked.specs.Stored.{IsStored, datum_at, GivesAt};
+ghost use Rattle.apfloat_unpacked.specs.Stored.{IsStored, GivesAt};
 
 use crate::shape::Shape;
 use crate::unpacked::{Unpacked, from_rounded_quanta, infinity_of, largest_of};
@@ -67,6 +68,7 @@ fn steps_down(unit: ExpInt, place: u32) -> u32
 }
 
 /// Cuts a significand once, to the digits that a format keeps.
+/// The unit and the place of the result are counted from the quantum.
 #[inline(always)]
 fn keep(precision: u32, significand: u128, unit: ExpInt, loss: Loss) -> Kept
     requires some { 0 < precision }
@@ -216,11 +218,10 @@ fn is_tiny(shape: Shape, before: u128, after: u128) -> bool
 fn overflowed(shape: Shape, mode: Round, negative: bool) -> StatusAnd<Unpacked>
     requires { IsShape shape }
     ensures stored { IsStored shape result.value }
-    ensures value { datum_at shape result.value
-        ≡ (if leads_out mode negative then past_largest shape.nonfinite
-        (nan_base (format_at shape)) negative else finite negative (largest (format_at shape))) }
-    ensures status { bits_of result.status
-        ≡ (if leads_out mode negative then overflow_bit + inexact_bit else inexact_bit) }
+    ensures answer { GivesAt shape (IsAnswer (if leads_out mode negative
+        then past_largest shape.nonfinite (nan_base (format_at shape)) negative
+        else finite negative (largest (format_at shape)))
+        (if leads_out mode negative then overflow_bit + inexact_bit else inexact_bit)) result }
 {
     if leads_past(mode, negative) {
         Status::OVERFLOW

@@ -7,10 +7,9 @@ ghost use Rattle.apfloat_base.specs.formats.Datum.{finite, infinite, nan};
 ghost use Rattle.apfloat_base.specs.rounding.Bounds.{format_bound, place_bound};
 ghost use Rattle.apfloat_base.specs.rounding.Rounding.{zero_sign, signed_quanta};
 ghost use Rattle.apfloat_base.specs.formats.Constants.{infinity_of, smallest_datum, smallest_normalized_datum};
-ghost use Rattle.apfloat_base.specs.formats.Members.{IsNanSignificand};
 ghost use Rattle.apfloat_base.specs.formats.Nan.{nan_sign};
 ghost use Rattle.apfloat_unpacked.specs.Shapes.{IsShape, format_at};
-ghost use Rattle.apfloat_unpacked.specs.Stored.{IsStored, datum_at};
+ghost use Rattle.apfloat_unpacked.specs.Stored.{IsNanSignificandAt, IsStored, datum_at};
 
 use crate::shape::Shape;
 use apfloat_base::sig::digits;
@@ -89,8 +88,7 @@ pub fn zero_of(shape: Shape, negative: bool) -> Unpacked
 /// The NaN with that significand, and with that sign if NaNs have one.
 #[inline(always)]
 pub fn nan_of(shape: Shape, negative: bool, significand: u128) -> Unpacked
-    requires { IsNanSignificand shape.nonfinite shape.explicit_integer_bit shape.precision
-        significand }
+    requires { IsNanSignificandAt shape significand }
     ensures stored { IsStored shape result }
     ensures datum { datum_at shape result ≡ nan (nan_sign shape.nonfinite negative) significand }
 {

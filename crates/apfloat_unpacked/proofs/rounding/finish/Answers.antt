@@ -13,7 +13,7 @@ returns-then-is_past-clause-delivered c = λ amount parts u i h.
     let a = past_is f c.greatest_significand-greatest.result c.span.result p c.is_past.result true
     c.greatest_significand-greatest.ensures.value c.span.ensures.value c.is_past.ensures c.if-is_past.true in
     delivered_past f c.args.mode c.args.negative amount parts p _ _ (c.pick-point.ensures.picked amount parts u i h)
-    a c.overflowed.ensures.value c.overflowed.ensures.status
+    a c.overflowed.ensures.answer.value_is c.overflowed.ensures.answer.status_is
 
 pub returns-clause-delivered : goal.returns-clause-delivered
 returns-clause-delivered c = λ amount parts u i h.
