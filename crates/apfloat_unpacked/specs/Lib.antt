@@ -2,3 +2,4 @@ pub mod Shapes
 pub mod Encoded
 pub mod Stored
 pub mod StoredBack
+pub mod Cuts
