@@ -1,4 +1,4 @@
-use Rattle.std.proofs.Common.{◌-◌, ◌≡◌, ◌+◌, ◌*◌, ◌/◌, ◌%◌, ◌^◌, ◌<◌, ◌≤◌, ◌⊎◌, count_ones}
+use Rattle.std.proofs.Common.{◌-◌, ◌≡◌, ◌+◌, ◌/◌, ◌%◌, ◌^◌, ◌<◌, ◌≤◌, ◌⊎◌, count_ones}
 use Rattle.apfloat_arithmetic.specs.Points.{units_of}
 use Rattle.apfloat_arithmetic.proofs.remainders.rest_by.Given as goal
 
