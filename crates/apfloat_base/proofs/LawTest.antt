@@ -8,6 +8,7 @@ use lib.Signed.{le_z, le_z_yes}
 use Rattle.apfloat_base.specs.declared.kinds.NonfiniteBehavior.{NonfiniteBehavior}
 use Rattle.apfloat_base.specs.declared.kinds.NonfiniteBehavior.TheVariants.{IEEE754, NanOnly, NanNegativeZero}
 use Rattle.apfloat_base.specs.formats.Format.{nan_base_of, payload_mask_of, quiet_bits_of}
+use Rattle.apfloat_base.specs.rounding.Bounds.{format_bound}
 use Rattle.apfloat_base.specs.formats.Lawful.{Constants, HasNoBits, HasBits, MayBeExplicit, IsLawful, more_exponents}
 
 abbrev pub no_bits_test : Constants → Bool
@@ -39,10 +40,10 @@ abbrev pub lawful_test : Constants → Bool
 lawful_test c =
     leb 3 c.precision
     && (leb c.precision 125
-    && (le_z (neg_ℤ (pos (2 ^ 20))) c.min_exp
+    && (le_z (neg_ℤ (pos format_bound)) c.min_exp
     && (le_z c.min_exp (neg_ℤ (pos 1))
     && (le_z (pos c.precision) c.max_exp
-    && (le_z c.max_exp (pos (2 ^ 20))
+    && (le_z c.max_exp (pos format_bound)
     && ((no_bits_test c || bits_test c)
     && (may_be_explicit c.nonfinite c.explicit_integer_bit
     && nans_test c)))))))

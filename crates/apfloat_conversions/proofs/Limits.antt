@@ -12,6 +12,10 @@ use Rattle.apfloat_base.specs.whole_numbers.WholeNumbers.{whole_pick, whole_quan
 use Rattle.apfloat_base.specs.whole_numbers.WholeNumbersOut.{IsToUnsigned, ranged, exact_or_not}
 use Rattle.apfloat_base.proofs.Choices.{no_zero}
 
+-- the same whole number, also without a sign
+pub same_number : (m n : ℕ) → pos m ≡ pos n → m ≡ n
+same_number m n h = omega (arith, ints, h)
+
 -- a word shifted to so many digits has them all set
 pub greatest_is : (width : ℕ) → width ≤ 128 → (2 ^ 128 - 1) / 2 ^ (128 - width) ≡ 2 ^ width - 1
 greatest_is width h =

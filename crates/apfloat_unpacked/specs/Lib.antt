@@ -1,3 +1,4 @@
 pub mod Shapes
 pub mod Encoded
 pub mod Stored
+pub mod Cuts
