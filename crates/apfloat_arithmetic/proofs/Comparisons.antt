@@ -21,7 +21,7 @@ use Rattle.apfloat_base.specs.order.Order.{number, compared, compared_magnitudes
 use Rattle.apfloat_unpacked.specs.declared.shape.Shape.{Shape}
 use Rattle.apfloat_unpacked.specs.declared.unpacked.Unpacked.{Unpacked}
 use Rattle.apfloat_unpacked.specs.Stored.{IsNormal, IsNormalAt, IsStored, IsStoredBy, datum_at, datum_by, quanta_at, quanta_of, unpacked_of}
-use Rattle.apfloat_unpacked.specs.StoredBack.{IsFull, top_of, full_low, full_high, normal_full, quanta_some, comes_back}
+use Rattle.apfloat_unpacked.proofs.StoredBack.{IsFull, top_of, full_low, full_high, normal_full, quanta_some, comes_back}
 use Rattle.apfloat_arithmetic.specs.Sides.{number_side, side}
 use Rattle.apfloat_arithmetic.proofs.SumCases.{datum_is}
 

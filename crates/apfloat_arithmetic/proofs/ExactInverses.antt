@@ -16,7 +16,7 @@ use Rattle.apfloat_unpacked.specs.Shapes.{IsShape, format_at}
 use Rattle.apfloat_unpacked.specs.Stored.{IsNormalAt, IsQuantaAt, quanta_at}
 use Rattle.apfloat_unpacked.proofs.ShapeExponents.{scale_is}
 use Rattle.apfloat_unpacked.proofs.StoredNumbers.{whole_is, above_zero}
-use Rattle.apfloat_arithmetic.specs.ExactInverseParts.{IsInvertible}
+use Rattle.apfloat_arithmetic.specs.ExactInverseParts.{IsInvertibleAt}
 use Rattle.apfloat_arithmetic.proofs.ProductExponents.{normal_near}
 use Rattle.apfloat_arithmetic.proofs.PowerFactors.{factor_of_power, power_with_digits}
 use Rattle.apfloat_arithmetic.proofs.NumberClasses.{quanta_low_is, quanta_high_is}
@@ -46,7 +46,7 @@ power_within shape e law l h =
     omega arith
 
 -- the inverse of a power of two is a number of the format
-pub inverted_normal : (shape : Shape) (m : ℕ) (e : ℤ) → IsShape shape → IsNormalAt shape m e → IsInvertible shape m e
+pub inverted_normal : (shape : Shape) (m : ℕ) (e : ℤ) → IsShape shape → IsNormalAt shape m e → IsInvertibleAt shape m e
     → IsNormalAt shape m (neg_ℤ e)
 inverted_normal shape m e law n i =
     let g : m * 2 ^ steps_of shape (neg_ℤ e) ≤ largest (format_at shape) =
@@ -77,7 +77,7 @@ powers_product : (h j k w : ℕ) → (h + j) + (h + k) ≡ w + w → 2 ^ h * 2 ^
 powers_product h j k w e = sym (pow22 h j h k) ∙ ap (λ (x : ℕ). 2 ^ x) e ∙ pow-add 2 w w
 
 -- an invertible number and the one with the opposite exponent are inverse
-pub inverted_product : (shape : Shape) (m : ℕ) (e : ℤ) → IsShape shape → IsNormalAt shape m e → IsInvertible shape m e
+pub inverted_product : (shape : Shape) (m : ℕ) (e : ℤ) → IsShape shape → IsNormalAt shape m e → IsInvertibleAt shape m e
     → AreInverse (format_at shape) (quanta_at shape.min_exp m e) (quanta_at shape.min_exp m (neg_ℤ e))
 inverted_product shape m e law n i =
     let half = 2 ^ (shape.precision - 1) in
@@ -149,7 +149,7 @@ not_low shape m i e law n h =
 
 -- a number with an exact inverse is invertible
 pub invertible_from : (shape : Shape) (m i : ℕ) (e : ℤ) → IsShape shape → IsNormalAt shape m e
-    → AreInverse (format_at shape) (quanta_at shape.min_exp m e) i → IsInvertible shape m e
+    → AreInverse (format_at shape) (quanta_at shape.min_exp m e) i → IsInvertibleAt shape m e
 invertible_from shape m i e law n h =
     let high : ℕ = shape.precision - 1 in
     let p : m ≡ 2 ^ (shape.precision - 1) = is_power shape m i e law n h in
@@ -188,13 +188,13 @@ opposite_word shape m e law n =
 
 -- what is answered of a number
 pub inverse_answer : (shape : Shape) (negative : Bool) (m : ℕ) (e : ℤ) → IsShape shape → IsNormalAt shape m e
-    → IsInvertible shape m e
+    → IsInvertibleAt shape m e
     → IsExactInverse (format_at shape) (finite negative (quanta_at shape.min_exp m e))
     (Some (finite negative (quanta_at shape.min_exp m (neg_ℤ e))))
 inverse_answer shape b m e law n i = (quanta_at shape.min_exp m (neg_ℤ e), inverted_product shape m e law n i, refl)
 
 -- and one that is not invertible has none
 pub no_inverse_answer : (shape : Shape) (negative : Bool) (m : ℕ) (e : ℤ) → IsShape shape → IsNormalAt shape m e
-    → (IsInvertible shape m e → ⊥)
+    → (IsInvertibleAt shape m e → ⊥)
     → IsExactInverse (format_at shape) (finite negative (quanta_at shape.min_exp m e)) None
 no_inverse_answer shape b m e law n i = λ inverse h. i (invertible_from shape m inverse e law n h)

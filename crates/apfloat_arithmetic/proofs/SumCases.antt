@@ -14,7 +14,7 @@ use Rattle.apfloat_unpacked.specs.declared.shape.Shape.{Shape}
 use Rattle.apfloat_unpacked.specs.declared.unpacked.Unpacked.{Unpacked}
 use Rattle.apfloat_unpacked.specs.Shapes.{format_at}
 use Rattle.apfloat_unpacked.specs.Stored.{IsNormalAt, IsStored, IsStoredBy, datum_at, datum_by, quanta_at}
-use Rattle.apfloat_unpacked.specs.StoredBack.{quanta_some}
+use Rattle.apfloat_unpacked.proofs.StoredBack.{quanta_some}
 use Rattle.apfloat_unpacked.proofs.StoredMembers.{member_is}
 use Rattle.apfloat_arithmetic.specs.Subtrahends.{added}
 

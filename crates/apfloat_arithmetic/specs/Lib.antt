@@ -1,3 +1,4 @@
 pub mod Subtrahends
 pub mod Sides
 pub mod ExactInverseParts
+pub mod Points

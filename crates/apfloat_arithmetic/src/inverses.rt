@@ -16,8 +16,8 @@ use apfloat_unpacked::unpacked::Unpacked;
 fn is_invertible(shape: Shape, x: Unpacked) -> bool
     requires lawful { IsShape shape }
     requires normal { IsNormal shape x }
-    ensures yes { result ≡ true → IsInvertible shape x.significand x.exponent }
-    ensures no { result ≡ false → IsInvertible shape x.significand x.exponent → ⊥ }
+    ensures yes { result ≡ true → IsInvertible shape x }
+    ensures no { result ≡ false → IsInvertible shape x → ⊥ }
 {
     if x.significand != shape.integer_bit() || x.exponent < shape.min_exp {
         return false;

@@ -21,7 +21,8 @@ use apfloat_unpacked::rounding::deliver;
 use apfloat_unpacked::shape::Shape;
 use apfloat_unpacked::unpacked::{Unpacked, infinity_of, remade};
 
-/// The exponent of the last digit of a quotient with `places` digits below the difference of its operands' exponents.
+/// The exponent of the last digit of a quotient with `places` digits below the difference of the exponents of its
+/// operands' integer bits.
 #[inline(always)]
 fn quotient_exponent(left: ExpInt, right: ExpInt, places: u32) -> ExpInt
     requires left { IsWithin number_bound left }

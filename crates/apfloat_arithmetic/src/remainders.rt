@@ -8,12 +8,13 @@ ghost use Rattle.std.specs.Prelude.{◌≡◌, ℕ, ◌+◌, ◌-◌, ◌*◌, �
 ghost use Rattle.apfloat_base.specs.declared.kinds.Category.{Category};
 ghost use Rattle.apfloat_base.specs.declared.kinds.Round.{Round};
 ghost use Rattle.apfloat_base.specs.rounding.Bounds.{place_bound};
-ghost use Rattle.apfloat_base.specs.rounding.Flags.{bits_of};
+ghost use Rattle.apfloat_base.specs.rounding.Answer.{IsAnswer};
 ghost use Rattle.apfloat_base.specs.rounding.Rounding.{ok_bits, takes_above};
 ghost use Rattle.apfloat_base.specs.arithmetic.Exponents.{IsIlogb};
 ghost use Rattle.apfloat_base.specs.arithmetic.Remainders.{truncated_quotient, nearest_quotient, rest_of, IsRemainder, IsTruncatedRemainder, IsNearestRemainder, ones_of_quotient};
 ghost use Rattle.apfloat_unpacked.specs.Shapes.{IsShape, format_at};
-ghost use Rattle.apfloat_unpacked.specs.Stored.{IsOperandAt, IsNormal, IsStored, datum_at, quanta_of, GivesAt};
+ghost use Rattle.apfloat_unpacked.specs.Stored.{IsOperand, IsNormal, IsStored, datum_at, quanta_of, GivesAt};
+ghost use Rattle.apfloat_arithmetic.specs.Points.{units_of, HasAllDigits};
 
 use crate::classes::are_normal;
 use apfloat_base::sig::digits;
@@ -35,7 +36,7 @@ fn raised(precision: u32, point: Point, least: u32) -> Point
     requires precise { precision ≤ 125 }
     requires fits { point.significand < 2 ^ precision }
     requires above { least ≤ point.place }
-    ensures same { result.significand * 2 ^ result.place ≡ point.significand * 2 ^ point.place }
+    ensures same { units_of result ≡ units_of point }
     ensures fits { result.significand < 2 ^ precision }
     ensures full { (result.place ≡ least) ⊎ (2 ^ (precision - 1) ≤ result.significand) }
     ensures least { least ≤ result.place }
@@ -65,7 +66,7 @@ fn less_multiple(rest: Point, divisor: Point) -> Point
         × (divisor.significand ≤ 2 * rest.significand))
         ⊎ ((divisor.place ≡ rest.place) × (divisor.significand ≤ rest.significand)) }
     ensures taken { (result.significand + divisor.significand) * 2 ^ result.place
-        ≡ rest.significand * 2 ^ rest.place }
+        ≡ units_of rest }
     ensures below { result.significand < divisor.significand }
     ensures least { divisor.place ≤ result.place }
 {
@@ -94,17 +95,12 @@ struct Rest {
 fn rest_by(precision: u32, x: Point, y: Point) -> Rest
     requires some { 0 < precision }
     requires precise { precision ≤ 125 }
-    requires x_fits { x.significand < 2 ^ precision }
-    requires x_full { 2 ^ (precision - 1) ≤ x.significand }
-    requires y_fits { y.significand < 2 ^ precision }
-    requires y_full { 2 ^ (precision - 1) ≤ y.significand }
+    requires x { HasAllDigits precision x }
+    requires y { HasAllDigits precision y }
     requires near { x.place ≤ place_bound }
-    ensures rest { result.point.significand * 2 ^ result.point.place
-        ≡ x.significand * 2 ^ x.place % (y.significand * 2 ^ y.place) }
-    ensures steps { result.steps
-        ≡ count_ones (x.significand * 2 ^ x.place / (y.significand * 2 ^ y.place)) }
-    ensures odd { result.odd
-        ≡ eqb (x.significand * 2 ^ x.place / (y.significand * 2 ^ y.place) % 2) 1 }
+    ensures rest { units_of result.point ≡ units_of x % units_of y }
+    ensures steps { result.steps ≡ count_ones (units_of x / units_of y) }
+    ensures odd { result.odd ≡ eqb (units_of x / units_of y % 2) 1 }
     ensures fits { result.point.significand < 2 ^ precision }
     ensures low { result.point.place ≤ y.place }
 {
@@ -155,20 +151,14 @@ struct Nearest {
 fn nearest_by(precision: u32, x: Point, y: Point) -> Nearest
     requires some { 0 < precision }
     requires precise { precision ≤ 125 }
-    requires x_fits { x.significand < 2 ^ precision }
-    requires x_full { 2 ^ (precision - 1) ≤ x.significand }
-    requires y_fits { y.significand < 2 ^ precision }
-    requires y_full { 2 ^ (precision - 1) ≤ y.significand }
+    requires x { HasAllDigits precision x }
+    requires y { HasAllDigits precision y }
     requires near { x.place ≤ place_bound }
-    ensures past { result.past ≡ takes_above Round.NearestTiesToEven false
-        (x.significand * 2 ^ x.place % (y.significand * 2 ^ y.place))
-        (y.significand * 2 ^ y.place - x.significand * 2 ^ x.place
-        % (y.significand * 2 ^ y.place))
-        (eqb (x.significand * 2 ^ x.place / (y.significand * 2 ^ y.place) % 2) 1) }
-    ensures distance { result.point.significand * 2 ^ result.point.place
-        ≡ cond result.past (y.significand * 2 ^ y.place - x.significand * 2 ^ x.place
-        % (y.significand * 2 ^ y.place))
-        (x.significand * 2 ^ x.place % (y.significand * 2 ^ y.place)) }
+    ensures past { let m = units_of x in let n = units_of y in
+        result.past ≡ takes_above Round.NearestTiesToEven false (m % n) (n - m % n)
+        (eqb (m / n % 2) 1) }
+    ensures distance { let m = units_of x in let n = units_of y in
+        units_of result.point ≡ cond result.past (n - m % n) (m % n) }
     ensures fits { result.point.significand < 2 ^ precision }
     ensures low { result.point.place ≤ y.place }
 {
@@ -206,8 +196,7 @@ fn nearest_by(precision: u32, x: Point, y: Point) -> Nearest
 #[inline(always)]
 fn point_of(shape: Shape, x: Unpacked) -> Point
     requires lawful { IsShape shape }
-    requires operand { IsOperandAt shape.precision shape.min_exp shape.max_exp x.significand
-        x.exponent }
+    requires operand { IsOperand shape x }
     ensures significand { result.significand ≡ x.significand }
     ensures place { pos result.place
         ≡ ((x.exponent -ℤ shape.min_exp) +ℤ pos (shape.precision - 1)) }
@@ -227,8 +216,7 @@ fn in_quanta(precision: u32, point: Point) -> Point
     requires fits { point.significand < 2 ^ precision }
     ensures fits { result.significand < 2 ^ precision }
     ensures lower { result.place ≤ point.place }
-    ensures same { (n : ℕ) → point.significand * 2 ^ point.place ≡ n * 2 ^ (precision - 1)
-        → result.significand * 2 ^ result.place ≡ n }
+    ensures same { (n : ℕ) → units_of point ≡ n * 2 ^ (precision - 1) → units_of result ≡ n }
 {
     let quantum = precision - 1;
     if point.place > quantum {
@@ -252,8 +240,7 @@ fn truncated_rest(shape: Shape, x: Unpacked, y: Unpacked) -> Rest
     requires y { IsNormal shape y }
     ensures fits { result.point.significand < 2 ^ shape.precision }
     ensures near { result.point.place ≤ place_bound }
-    ensures quanta { result.point.significand * 2 ^ result.point.place
-        ≡ quanta_of shape x % quanta_of shape y }
+    ensures quanta { units_of result.point ≡ quanta_of shape x % quanta_of shape y }
     ensures steps { result.steps
         ≡ count_ones (truncated_quotient (quanta_of shape x) (quanta_of shape y)) }
 {
@@ -276,7 +263,7 @@ fn nearest_rest(shape: Shape, x: Unpacked, y: Unpacked) -> Nearest
         result.past ≡ takes_above Round.NearestTiesToEven false (m % n) (n - m % n)
         (eqb (m / n % 2) 1) }
     ensures quanta { let m = quanta_of shape x in let n = quanta_of shape y in
-        result.point.significand * 2 ^ result.point.place ≡ cond result.past (n - m % n) (m % n) }
+        units_of result.point ≡ cond result.past (n - m % n) (m % n) }
 {
     let number = point_of(shape, x);
     let divisor = point_of(shape, y);
@@ -302,10 +289,9 @@ fn truncated_number(shape: Shape, x: Unpacked, y: Unpacked) -> Remainder
     requires x { IsNormal shape x }
     requires y { IsNormal shape y }
     ensures stored { IsStored shape result.answer.value }
-    ensures value { let m = quanta_of shape x in let n = quanta_of shape y in
-        datum_at shape result.answer.value ≡ rest_of shape.nonfinite x.negative m
-        (n * truncated_quotient m n) }
-    ensures status { bits_of result.answer.status ≡ ok_bits }
+    ensures answer { let m = quanta_of shape x in let n = quanta_of shape y in
+        GivesAt shape (IsAnswer (rest_of shape.nonfinite x.negative m
+        (n * truncated_quotient m n)) ok_bits) result.answer }
     ensures steps { result.steps
         ≡ count_ones (truncated_quotient (quanta_of shape x) (quanta_of shape y)) }
 {
@@ -326,10 +312,9 @@ fn nearest_number(shape: Shape, x: Unpacked, y: Unpacked) -> StatusAnd<Unpacked>
     requires x { IsNormal shape x }
     requires y { IsNormal shape y }
     ensures stored { IsStored shape result.value }
-    ensures value { let m = quanta_of shape x in let n = quanta_of shape y in
-        datum_at shape result.value ≡ rest_of shape.nonfinite x.negative m
-        (n * nearest_quotient m n) }
-    ensures status { bits_of result.status ≡ ok_bits }
+    ensures answer { let m = quanta_of shape x in let n = quanta_of shape y in
+        GivesAt shape (IsAnswer (rest_of shape.nonfinite x.negative m
+        (n * nearest_quotient m n)) ok_bits) result }
 {
     let nearest = nearest_rest(shape, x, y);
     Status::OK.and(from_quanta(

@@ -1,6 +1,6 @@
 -- The value and the status that are delivered for a pick.
 use Rattle.std.proofs.Common.{◌≡◌, ℕ, ◌+◌, ◌-◌, ◌*◌, ◌%◌, ◌^◌, ◌<◌, ◌≤◌, ◌⊎◌, Bool, true, false, cond, ltb, eqb, sym, refl, ap, ◌∙◌, subst, inl, inr, ⊎_elim, arith}
-use Rattle.std.proofs.Math.Nat.{mul-le-mul_right, mul-le-mul_left, pow-le-pow_right, mul-pos, mul_assoc}
+use Rattle.std.proofs.Math.Nat.{mul-le-mul_right, mul-le-mul_left, mul-pos, mul_assoc}
 use Rattle.std.proofs.lemmas.Nat.{pow_pos}
 use Rattle.std.proofs.lemmas.Bool.{cases_lt, lt-ltb, le-ltb, eq-eqb, ne_eqb}
 use Rattle.apfloat_base.specs.declared.kinds.Round.{Round}
@@ -13,20 +13,13 @@ use Rattle.apfloat_base.specs.rounding.Standing.{StandsFor}
 use Rattle.apfloat_base.specs.rounding.Enclosure.{IsEnclosed, rounds_up}
 use Rattle.apfloat_base.specs.rounding.Rounding.{IsPick, IsDelivered, past_largest, signed_quanta, leads_out, is_tiny}
 use Rattle.apfloat_base.proofs.Picks.{kept, pick_is, pick_unique}
-use Rattle.apfloat_base.proofs.Powers.{two_pos}
 use Rattle.apfloat_base.proofs.Losses.{stands_past, stands_to}
 use Rattle.apfloat_base.proofs.Choices.{off_both}
 
-pub four : (precision : ℕ) → 3 ≤ precision → 4 ≤ 2 ^ (precision - 1)
-four precision h =
-    let l : 2 ≤ precision - 1 = omega arith in
-    let k : 2 ^ 2 ≤ 2 ^ (precision - 1) = pow-le-pow_right two_pos l in
-    k
-
 -- whether a pick is past the largest value, by the parts of that value
-pub past_is : (format : Format) (top place p : ℕ) (b v : Bool)
+pub past_is : (format : Format) (top place p : ℕ) (past answer : Bool)
     → top ≡ greatest_significand format.nonfinite format.precision
-    → place ≡ format.span → b ≡ ltb (top * 2 ^ place) p → b ≡ v → ltb (largest format) p ≡ v
+    → place ≡ format.span → past ≡ ltb (top * 2 ^ place) p → past ≡ answer → ltb (largest format) p ≡ answer
 past_is format top place p b v e d h k =
     ap (λ (x : ℕ). ltb (x * 2 ^ format.span) p) (sym e) ∙ ap (λ (x : ℕ). ltb (top * 2 ^ x) p) (sym d) ∙ sym h ∙ k
 
@@ -36,33 +29,37 @@ pub signed_some : (kind : NonfiniteBehavior) (negative : Bool) (p : ℕ) → 0 <
 signed_some kind negative p h = let e : eqb p 0 ≡ false = ne_eqb p 0 (λ z. omega arith) in rw e refl
 
 -- a pick past the largest value
-pub delivered_past : (format : Format) (mode : Round) (negative : Bool) (amount parts p : ℕ) (v : Datum) (s : ℕ)
-    → IsPick format.precision mode negative amount parts p → ltb (largest format) p ≡ true
-    → v ≡ cond (leads_out mode negative) (past_largest format.nonfinite (nan_base format) negative)
-    (finite negative (largest format)) → s ≡ cond (leads_out mode negative) 20 16
-    → IsDelivered format mode negative amount parts v s
+pub delivered_past : (format : Format) (mode : Round) (negative : Bool) (amount parts p : ℕ) (value : Datum)
+    (status : ℕ) → IsPick format.precision mode negative amount parts p → ltb (largest format) p ≡ true
+    → value ≡ cond (leads_out mode negative) (past_largest format.nonfinite (nan_base format) negative)
+    (finite negative (largest format)) → status ≡ cond (leads_out mode negative) 20 16
+    → IsDelivered format mode negative amount parts value status
 delivered_past format mode negative amount parts p v s i a e d =
     record { pick = p; is_pick = i; value_is = rw a e; status_is = rw a d }
 
 -- a pick within the format that is the magnitude
-pub delivered_exactly : (format : Format) (mode : Round) (negative : Bool) (amount parts p : ℕ) (v : Datum) (s : ℕ)
-    → IsPick format.precision mode negative amount parts p → ltb (largest format) p ≡ false → p * parts ≡ amount
-    → v ≡ signed_quanta format.nonfinite negative p → s ≡ 0 → IsDelivered format mode negative amount parts v s
+pub delivered_exactly : (format : Format) (mode : Round) (negative : Bool) (amount parts p : ℕ) (value : Datum)
+    (status : ℕ) → IsPick format.precision mode negative amount parts p → ltb (largest format) p ≡ false
+    → p * parts ≡ amount
+    → value ≡ signed_quanta format.nonfinite negative p → status ≡ 0
+    → IsDelivered format mode negative amount parts value status
 delivered_exactly format mode negative amount parts p v s i a e w d =
     let b : eqb (p * parts) amount ≡ true = eq-eqb (p * parts) amount e in
     record { pick = p; is_pick = i; value_is = rw a w; status_is = rw (a, b) d }
 
 -- a pick within the format that is not the magnitude
-pub delivered_inexactly : (format : Format) (mode : Round) (negative : Bool) (amount parts p : ℕ) (v : Datum) (s : ℕ)
-    → IsPick format.precision mode negative amount parts p → ltb (largest format) p ≡ false → (p * parts ≡ amount → ⊥)
-    → v ≡ signed_quanta format.nonfinite negative p → s ≡ cond (is_tiny format amount parts p) 24 16
-    → IsDelivered format mode negative amount parts v s
+pub delivered_inexactly : (format : Format) (mode : Round) (negative : Bool) (amount parts p : ℕ) (value : Datum)
+    (status : ℕ) → IsPick format.precision mode negative amount parts p → ltb (largest format) p ≡ false
+    → (p * parts ≡ amount → ⊥)
+    → value ≡ signed_quanta format.nonfinite negative p → status ≡ cond (is_tiny format amount parts p) 24 16
+    → IsDelivered format mode negative amount parts value status
 delivered_inexactly format mode negative amount parts p v s i a n w d =
     let b : eqb (p * parts) amount ≡ false = ne_eqb (p * parts) amount n in
     record { pick = p; is_pick = i; value_is = rw a w; status_is = rw (a, b) d }
 
 -- ---- exact, or not
 
+-- either nothing was lost or something was
 pub loss_cases : (loss : Loss) → (loss ≡ ExactlyZero) ⊎ (loss ≡ ExactlyZero → ⊥)
 loss_cases ExactlyZero = inl refl
 loss_cases LessThanHalf = inr (λ e. cc)
@@ -133,17 +130,19 @@ tiny_before precision half m c amount parts p i =
     sym (le-ltb amount (half * parts) (large_before precision half m c amount parts l i)))
     (cases_lt m half)
 
--- the significand that was picked tells whether the pick is tiny
+-- a significand below the half, at the lowest place, leaves the pick below it
 small_after : (half s place : ℕ) → s < half → (place ≡ 0) ⊎ (half ≤ s) → s * 2 ^ place < half
 small_after half s place l (inl z) = subst (λ (x : ℕ). s * 2 ^ x < half) (sym z) (omega arith)
 small_after half s place l (inr f) = absurd (omega arith)
 
+-- a significand from the half on leaves the pick there, at any place
 large_after : (half s place : ℕ) → half ≤ s → half ≤ s * 2 ^ place
 large_after half s place l =
     let w : 1 ≤ 2 ^ place = pow_pos place in
     let a : s * 1 ≤ s * 2 ^ place = mul-le-mul_left s w in
     omega arith
 
+-- so it is tiny after rounding where its significand is below the half
 tiny_after : (half s place : ℕ) → (place ≡ 0) ⊎ (half ≤ s) → ltb s half ≡ ltb (s * 2 ^ place) half
 tiny_after half s place f =
     ⊎_elim
@@ -152,11 +151,12 @@ tiny_after half s place f =
     (cases_lt s half)
 
 -- whether the magnitude is tiny, by the digits that were kept, before rounding or after it
-pub tiny_is : (format : Format) (m c amount parts s place : ℕ) (b : Bool) → 0 < parts
+pub tiny_is : (format : Format) (m c amount parts s place : ℕ) (tiny : Bool) → 0 < parts
     → IsEnclosed format.precision (2 ^ (format.precision - 1)) m c amount parts
     → (place ≡ 0) ⊎ (2 ^ (format.precision - 1) ≤ s)
-    → b ≡ cond format.tiny_before_rounding (ltb m (2 ^ (format.precision - 1))) (ltb s (2 ^ (format.precision - 1)))
-    → is_tiny format amount parts (s * 2 ^ place) ≡ b
+    → tiny ≡ cond format.tiny_before_rounding (ltb m (2 ^ (format.precision - 1)))
+    (ltb s (2 ^ (format.precision - 1)))
+    → is_tiny format amount parts (s * 2 ^ place) ≡ tiny
 tiny_is format m c amount parts s place b p i g e =
     ap (λ (x : Bool). cond format.tiny_before_rounding x (ltb (s * 2 ^ place) (2 ^ (format.precision - 1))))
     (sym (tiny_before format.precision (2 ^ (format.precision - 1)) m c amount parts p i))

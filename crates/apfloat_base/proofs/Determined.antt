@@ -1,7 +1,6 @@
 -- The relations of a format to its answers determine them.
-use Rattle.std.proofs.Common.{◌≡◌, ℕ, ◌-◌, ◌^◌, ◌<◌, ◌≤◌, Bool, true, false, eqb, List, Option, Some, None, Result, Ok, Err, sym, refl, ap, ◌∙◌, subst, arith}
+use Rattle.std.proofs.Common.{◌≡◌, ℕ, ◌-◌, ◌^◌, ◌<◌, ◌≤◌, Bool, eqb, List, Option, Some, None, Result, Ok, Err, sym, refl, ap, ◌∙◌, subst, arith}
 use Rattle.std.specs.Prelude.{ℤ, pos, ◌-ℤ◌, unsigned_abs}
-use Rattle.std.specs.Bool.{MatchBool}
 use Rattle.std.specs.Option.{unwrap_or}
 use Rattle.std.proofs.lemmas.Nat.{pow_pos}
 use Rattle.std.proofs.lemmas.Int.{ints}
@@ -30,13 +29,16 @@ use Rattle.apfloat_base.specs.texts.Faults.{words}
 use Rattle.apfloat_base.specs.texts.Readings.{IsMeant, IsReading, IsRefusal}
 use Rattle.apfloat_base.specs.texts.Parsing.{IsRead}
 use Rattle.apfloat_base.specs.Determined.{Determines, DeterminesBoth, AreOneReading, IsDetermined}
-use Rattle.apfloat_base.proofs.Once.{Once, answer_once, rounded_once, sum_once, difference_once, product_once, quotient_once, scaling_once, from_unsigned_once, from_signed_once, round_to_integral_once, whole_once, remainder_once, next_up_once, next_down_once}
+use Rattle.apfloat_base.proofs.Laws.{delivered_once}
+use Rattle.apfloat_base.proofs.Once.{Once, answer_once, sum_once, difference_once, product_once, quotient_once, scaling_once, from_unsigned_once, from_signed_once, round_to_integral_once, whole_once, remainder_once, next_up_once, next_down_once}
 use Rattle.apfloat_base.proofs.EncodedOnce.{encoded_once}
 use Rattle.apfloat_base.proofs.Inverses.{logarithm_once, fraction_once, inverse_once}
+use Rattle.apfloat_base.proofs.Choices.{match_one, match_case}
 use Rattle.apfloat_base.proofs.OneMeaning.{one_meaning, meaning_no_fault}
 
 -- an answer is its value and the bits of its status
-pub same_answer : {A : Type 0} (r s : StatusAnd A) → r.value ≡ s.value → bits_of r.status ≡ bits_of s.status → r ≡ s
+pub same_answer : {A : Type 0} (answer other : StatusAnd A) → answer.value ≡ other.value
+    → bits_of answer.status ≡ bits_of other.status → answer ≡ other
 same_answer {A} r s e d =
     ap (λ (v : A). record { status = r.status; value = v }) e
     ∙ ap (λ (b : ℕ). record { status = record { 0 = b }; value = s.value }) d
@@ -48,29 +50,22 @@ gives_once {A} Says once r s h k =
     let e = once r.value s.value (bits_of r.status) (bits_of s.status) h k in
     same_answer r s e.0 e.1
 
-match_determines : {A : Type 0} (b : Bool) (P Q : A → Type 0) → Determines P → Determines Q
-    → Determines (λ a. MatchBool b (P a) (Q a))
-match_determines true P Q p q = p
-match_determines false P Q p q = q
-
-match_determines_both : {A B : Type 0} (b : Bool) (P Q : A → B → Type 0) → DeterminesBoth P
-    → DeterminesBoth Q → DeterminesBoth (λ a c. MatchBool b (P a c) (Q a c))
-match_determines_both true P Q p q = p
-match_determines_both false P Q p q = q
-
 -- ---- exponents, fractions, exact inverses
 
-is_once : {A : Type 0} (given : A) → Determines (λ (a : A). a ≡ given)
+-- what is given determines an answer that it is
+is_once : {A : Type 0} (given : A) → Determines (λ (answer : A). answer ≡ given)
 is_once given a b h k = h ∙ sym k
 
-are_once : {A B : Type 0} (given : A) (other : B) → DeterminesBoth (λ (a : A) (b : B). (a ≡ given) × (b ≡ other))
+-- and so do two things that are given
+are_once : {A B : Type 0} (given : A) (other : B)
+    → DeterminesBoth (λ (first : A) (second : B). (first ≡ given) × (second ≡ other))
 are_once given other a c b d h k = (h.0 ∙ sym k.0, h.1 ∙ sym k.1)
 
 -- the exponent of a datum is determined
 pub exponent_once : (format : Format) (x : Datum) → Determines (IsIlogb format x)
 exponent_once format (nan b s) = is_once _
 exponent_once format (infinite b) = is_once _
-exponent_once format (finite b n) = match_determines (eqb n 0) _ (IsLogarithm format n) (is_once _)
+exponent_once format (finite b n) = match_one Determines (eqb n 0) _ (IsLogarithm format n) (is_once _)
     (logarithm_once format n)
 
 -- a fraction and its exponent are determined
@@ -78,7 +73,7 @@ pub frexp_once : (format : Format) (x : Datum) → 0 < format.scale → Determin
 frexp_once format (nan b s) p = are_once _ _
 frexp_once format (infinite b) p = are_once _ _
 frexp_once format (finite b n) p =
-    match_determines_both (eqb n 0) _ (IsFraction format b n) (are_once _ _)
+    match_case DeterminesBoth (eqb n 0) _ (IsFraction format b n) (are_once _ _)
     (λ v w d e. fraction_once format b n v w d e p)
 
 -- there is one exact inverse, or none
@@ -101,6 +96,7 @@ exact_inverse_once format (nan b s) None None h k = refl
 
 -- ---- whole numbers out
 
+-- a natural number that a datum is converted to, with its flags and its exactness, is determined
 pub to_unsigned_once : (format : Format) (mode : Round) (width : ℕ) (x : Datum)
     → DeterminesBoth (λ (answer : StatusAnd ℕ) (exact : Bool).
     IsToUnsigned format mode width x answer.value (bits_of answer.status) exact)
@@ -109,6 +105,7 @@ to_unsigned_once format mode width x r s a b h k =
     let e = whole_once whole (pos r.value) (pos s.value) (bits_of r.status) (bits_of s.status) a b h k in
     (same_answer r s (ap unsigned_abs e.0) e.1, e.2)
 
+-- and so is an integer
 pub to_signed_once : (format : Format) (mode : Round) (width : ℕ) (x : Datum)
     → DeterminesBoth (λ (answer : StatusAnd ℤ) (exact : Bool).
     IsToSigned format mode width x answer.value (bits_of answer.status) exact)
@@ -118,10 +115,11 @@ to_signed_once format mode width x r s a b h k =
 
 -- ---- texts
 
+-- what a text means has one answer
 meant_once : (format : Format) (mode : Round) (meaning : Meaning) → Once (IsMeant format mode meaning)
 meant_once format mode (infinity negative) = answer_once _ _
 meant_once format mode (not_a_number negative signaling payload) = answer_once _ _
-meant_once format mode (hexadecimal negative h places e) = rounded_once format mode negative _ _
+meant_once format mode (hexadecimal negative h places e) = delivered_once format mode negative _ _
 
 -- a text that is read has one value and one status
 pub reading_once : (format : Format) (mode : Round) (text : List ℕ) → Once (IsReading format mode text)
@@ -136,8 +134,8 @@ refusal_once text r s h k =
     h.says ∙ ap (λ (o : Option Fault). words (unwrap_or o h.fault)) (sym h.is_first ∙ k.is_first) ∙ sym k.says
 
 -- a text is read or refused, not both
-pub reading_or_refusal : (format : Format) (mode : Round) (text said : List ℕ) (v : Datum) (s : ℕ)
-    → IsReading format mode text v s → IsRefusal text said → ⊥
+pub reading_or_refusal : (format : Format) (mode : Round) (text said : List ℕ) (value : Datum) (status : ℕ)
+    → IsReading format mode text value status → IsRefusal text said → ⊥
 reading_or_refusal format mode text said v s h k =
     none-some _ (sym (meaning_no_fault text h.meaning h.means) ∙ k.is_first)
 
@@ -162,9 +160,7 @@ scale_some constants law =
     omega (arith, ints, law.precision_low, law.min_exp_high) in
     omega (arith, ints, law.precision_low, law.min_exp_high, e)
 
--- of a format of positive scale, with its bits if it has any
-
--- all relations of a format determine their answers
+-- all relations of a format of positive scale determine their answers, with its bits if it has any
 pub determined : (format : Format) (layout : Layout) (precision bits : ℕ) (mode : Round) → 0 < format.scale
     → (precision < bits → IsInterchange format layout)
     → IsDetermined mode precision bits

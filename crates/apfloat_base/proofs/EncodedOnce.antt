@@ -14,7 +14,7 @@ use Rattle.apfloat_base.specs.formats.Lawful.{MayBeExplicit}
 use Rattle.apfloat_base.specs.bits.Interchange.{IsInterchange, AreWithin, bits_of_fields}
 use Rattle.apfloat_base.specs.formats.Log.{log2}
 use Rattle.apfloat_base.proofs.Logarithms.{log2_is}
-use Rattle.apfloat_base.proofs.Losses.{twice_half}
+use Rattle.apfloat_base.proofs.Powers.{twice_half}
 use Rattle.apfloat_base.proofs.Encodings.{fields_within, bits_back}
 
 abbrev pub fields_with : Bool → ℕ → ℕ → Fields
@@ -51,13 +51,13 @@ module _ (format : Format) (layout : Layout) (precise : 3 ≤ format.precision) 
   -- ---- numbers
 
   -- below the smallest normalized number the number itself is written
-  low_fields : (b : Bool) (n : ℕ) → n < smallest_normalized format
-      → fields_by format layout (finite b n) ≡ fields_with b 0 n
+  low_fields : (negative : Bool) (n : ℕ) → n < smallest_normalized format
+      → fields_by format layout (finite negative n) ≡ fields_with negative 0 n
   low_fields b n h = rw (lt-leb (smallest_normalized format) n h) refl
 
   -- a significand with its integer bit, at a place
-  high_fields : (b : Bool) (m j : ℕ) → smallest_normalized format ≤ m → m < 2 ^ format.precision
-      → fields_by format layout (finite b (m * 2 ^ j)) ≡ fields_with b (j + 1) (m - hidden format)
+  high_fields : (negative : Bool) (m j : ℕ) → smallest_normalized format ≤ m → m < 2 ^ format.precision
+      → fields_by format layout (finite negative (m * 2 ^ j)) ≡ fields_with negative (j + 1) (m - hidden format)
   high_fields b m j low high =
       let t : 2 * 2 ^ (format.precision - 1) ≡ 2 ^ format.precision = twice_half format.precision (omega arith) in
       let p : 2 ^ (format.precision - 1 + j) ≡ 2 ^ (format.precision - 1) * 2 ^ j =
@@ -78,14 +78,17 @@ module _ (format : Format) (layout : Layout) (precise : 3 ≤ format.precision) 
   -- ---- an implied integer bit
 
   module _ (implied : format.explicit_integer_bit ≡ false) where
+    -- the part that is not written is the integer bit
     hidden_is : hidden format ≡ smallest_normalized format
     hidden_is = rw implied refl
 
+    -- the trailing bits are the others
     width_is : trailing_bits format ≡ format.precision - 1
     width_is = rw implied refl
 
-    number_fields : (b : Bool) (e t : ℕ) → t < smallest_normalized format
-        → fields_by format layout (implied_number format (fields_with b e t)) ≡ fields_with b e t
+    -- the fields of a number are those that it is read from
+    number_fields : (negative : Bool) (e t : ℕ) → t < smallest_normalized format
+        → fields_by format layout (implied_number format (fields_with negative e t)) ≡ fields_with negative e t
     number_fields b e t low =
         ⊎_elim
         (λ (z : e ≡ 0). rw (eq-eqb e 0 z) (low_fields b t low ∙ ap (λ (x : ℕ). fields_with b x t) (sym z)))
@@ -97,9 +100,11 @@ module _ (format : Format) (layout : Layout) (precise : 3 ≤ format.precision) 
         rw (ne_eqb e 0 n) (rw (c, d) at h))
         (cases_eq e 0)
 
-    implied_fields : (kind : NonfiniteBehavior) (b : Bool) (e t : ℕ) → format.nonfinite ≡ kind
+    -- and so are those of any datum
+    implied_fields : (kind : NonfiniteBehavior) (negative : Bool) (e t : ℕ) → format.nonfinite ≡ kind
         → t < smallest_normalized format
-        → fields_by format layout (implied_datum kind format layout (fields_with b e t)) ≡ fields_with b e t
+        → fields_by format layout (implied_datum kind format layout (fields_with negative e t))
+        ≡ fields_with negative e t
     implied_fields IEEE754 b e t k low =
         ⊎_elim
         (λ (o : e ≡ all_ones layout.exponent_bits).
@@ -137,16 +142,19 @@ module _ (format : Format) (layout : Layout) (precise : 3 ≤ format.precision) 
   -- ---- a written integer bit
 
   module _ (written : format.explicit_integer_bit ≡ true) (kind : format.nonfinite ≡ IEEE754) where
+    -- all of the significand is written
     whole_significand : (m : ℕ) → m - hidden format ≡ m
     whole_significand m = rw written (omega arith)
 
-    nan_fields : (b : Bool) (s : ℕ) → fields_by format layout (nan b s)
-        ≡ fields_with b (all_ones layout.exponent_bits) s
+    -- a NaN has the greatest exponent
+    nan_fields : (negative : Bool) (s : ℕ) → fields_by format layout (nan negative s)
+        ≡ fields_with negative (all_ones layout.exponent_bits) s
     nan_fields b s = rw kind refl
 
-    written_fields : (b : Bool) (e t : ℕ) → t < 2 ^ format.precision
-        → IsTrue (is_canonical_written format layout (fields_with b e t))
-        → fields_by format layout (written_datum format layout (fields_with b e t)) ≡ fields_with b e t
+    -- the fields of a datum are those that it is read from, where they are canonical
+    written_fields : (negative : Bool) (e t : ℕ) → t < 2 ^ format.precision
+        → IsTrue (is_canonical_written format layout (fields_with negative e t))
+        → fields_by format layout (written_datum format layout (fields_with negative e t)) ≡ fields_with negative e t
     written_fields b e t high canonical =
         ⊎_elim
         (λ (o : e ≡ all_ones layout.exponent_bits).
@@ -164,9 +172,10 @@ module _ (format : Format) (layout : Layout) (precise : 3 ≤ format.precision) 
         rw q (number_by b e t high c))
         (cases_eq e (all_ones layout.exponent_bits))
       where
-        number_by : (b : Bool) (e t : ℕ) → t < 2 ^ format.precision
+        -- below the greatest exponent they are those of a number
+        number_by : (negative : Bool) (e t : ℕ) → t < 2 ^ format.precision
             → IsTrue (cond (eqb e 0) (ltb t (smallest_normalized format)) (leb (smallest_normalized format) t))
-            → fields_by format layout (written_number format (fields_with b e t)) ≡ fields_with b e t
+            → fields_by format layout (written_number format (fields_with negative e t)) ≡ fields_with negative e t
         number_by b e t high c =
             ⊎_elim
             (λ (z : e ≡ 0).
@@ -185,10 +194,11 @@ module _ (format : Format) (layout : Layout) (precise : 3 ≤ format.precision) 
 -- ---- any layout
 
 -- fields that are canonical are those of the datum that they stand for
-by_layout : (explicit : Bool) (format : Format) (layout : Layout) (b : Bool) (e t : ℕ)
-    → format.explicit_integer_bit ≡ explicit → IsInterchange format layout → AreWithin format layout (fields_with b e t)
-    → IsTrue (is_canonical format layout (fields_with b e t))
-    → fields_by format layout (datum_of_fields format layout (fields_with b e t)) ≡ fields_with b e t
+by_layout : (explicit : Bool) (format : Format) (layout : Layout) (negative : Bool) (e t : ℕ)
+    → format.explicit_integer_bit ≡ explicit → IsInterchange format layout
+    → AreWithin format layout (fields_with negative e t)
+    → IsTrue (is_canonical format layout (fields_with negative e t))
+    → fields_by format layout (datum_of_fields format layout (fields_with negative e t)) ≡ fields_with negative e t
 by_layout true format layout b e t x law within canonical =
     let k : format.nonfinite ≡ IEEE754 = explicit_kind format.nonfinite format.explicit_integer_bit law.explicit x in
     let w : t < 2 ^ format.precision = rw x at within.trailing in

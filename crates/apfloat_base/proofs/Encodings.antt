@@ -1,5 +1,5 @@
 -- Bits and fields, and what the law of a format says of them.
-use Rattle.std.proofs.Common.{◌≡◌, ℕ, suc, zero, ◌+◌, ◌-◌, ◌*◌, ◌/◌, ◌%◌, ◌^◌, ◌<◌, ◌≤◌, Bool, true, false, cond, eqb, refl, ap, ⊎_elim, arith}
+use Rattle.std.proofs.Common.{◌≡◌, ℕ, suc, ◌+◌, ◌-◌, ◌*◌, ◌/◌, ◌%◌, ◌^◌, ◌<◌, ◌≤◌, Bool, true, false, cond, eqb, refl, ap, ⊎_elim, arith}
 use Rattle.std.specs.Prelude.{pos, ◌-ℤ◌, unsigned_abs}
 use Rattle.std.proofs.lemmas.Int.{ints}
 use Rattle.std.proofs.lemmas.Nat.{pow_pos, pow-add, mod_low, shr_high, shr-shr, mul-add-lt, div_below, shr_split, mod_below}
@@ -8,7 +8,8 @@ use Rattle.apfloat_base.specs.formats.Format.{Format}
 use Rattle.apfloat_base.specs.bits.Layout.{Layout, Fields, trailing_bits, fields_of}
 use Rattle.apfloat_base.specs.formats.Lawful.{Constants, HasNoBits, HasBits, IsLawful, more_exponents, format_with, layout_with}
 use Rattle.apfloat_base.specs.bits.Interchange.{IsInterchange, AreWithin, bits_of_fields}
-use Rattle.apfloat_base.proofs.Losses.{twice_half}
+use Rattle.apfloat_base.proofs.Powers.{twice_half}
+use Rattle.apfloat_base.proofs.Choices.{digit_low, digit_odd, odd_digit}
 
 -- ---- the law
 
@@ -17,6 +18,7 @@ pub has_bits : (constants : Constants) → IsLawful constants → constants.prec
 has_bits constants law wide = ⊎_elim (λ (n : HasNoBits constants). absurd (omega (arith, n.bits)))
     (λ (h : HasBits constants). h) law.layout
 
+-- the trailing bits and the sign: the precision, and one more where the integer bit is written
 trailing_by : (explicit : Bool) (precision : ℕ) → 1 ≤ precision
     → precision + cond explicit 1 0 ≡ cond explicit precision (precision - 1) + 1
 trailing_by true precision h = refl
@@ -39,6 +41,7 @@ lawful_interchange constants law wide =
       explicit = law.explicit;
     }
   where
+    -- the span of a lawful format, by the number of exponents that its bits have
     span_by : (constants : Constants) → IsLawful constants → HasBits constants
         → unsigned_abs (constants.max_exp -ℤ constants.min_exp) + 3
         ≡ 2 ^ constants.exp_bits + more_exponents constants.nonfinite
@@ -66,20 +69,8 @@ lawful_interchange constants law wide =
 
 -- ---- fields of bits, and bits of fields
 
-one_bit : (b : Bool) → eqb (cond b 1 0 % 2) 1 ≡ b
-one_bit true = refl
-one_bit false = refl
-
-bit_low : (b : Bool) → cond b 1 0 < 2
-bit_low true = omega arith
-bit_low false = omega arith
-
-top_bit : (n : ℕ) → n < 2 → cond (eqb (n % 2) 1) 1 0 ≡ n
-top_bit zero h = refl
-top_bit (suc zero) h = refl
-top_bit (suc (suc n)) h = absurd (omega arith)
-
 module _ (format : Format) (layout : Layout) (law : IsInterchange format layout) where
+  -- the fields of bits fit their widths
   pub fields_within : (bits : ℕ) → AreWithin format layout (fields_of format layout bits)
   fields_within bits = record {
     biased_exponent =
@@ -87,12 +78,13 @@ module _ (format : Format) (layout : Layout) (law : IsInterchange format layout)
     trailing = mod_below bits (2 ^ trailing_bits format) (pow_pos (trailing_bits format));
   }
 
+  -- the sign stands above the trailing bits and the exponent
   top : layout.bits - 1 ≡ trailing_bits format + layout.exponent_bits
   top = omega (arith, law.bits)
 
   -- the fields of the bits of fields
-  pub fields_back : (x : Fields) → AreWithin format layout x
-      → fields_of format layout (bits_of_fields format layout x) ≡ x
+  pub fields_back : (fields : Fields) → AreWithin format layout fields
+      → fields_of format layout (bits_of_fields format layout fields) ≡ fields
   fields_back x w =
       let t = mod_low (cond x.negative 1 0 * 2 ^ layout.exponent_bits + x.biased_exponent) (trailing_bits format)
       x.trailing w.trailing in
@@ -108,13 +100,15 @@ module _ (format : Format) (layout : Layout) (law : IsInterchange format layout)
         ← shr-shr (bits_of_fields format layout x) (trailing_bits format) layout.exponent_bits,
         h,
         g,
-        one_bit x.negative,
+        digit_odd x.negative,
       ) refl
 
-  pub bits_below : (x : Fields) → AreWithin format layout x → bits_of_fields format layout x < 2 ^ layout.bits
+  -- the bits of fields fit the width of the format
+  pub bits_below : (fields : Fields) → AreWithin format layout fields
+      → bits_of_fields format layout fields < 2 ^ layout.bits
   bits_below x w =
       let a : cond x.negative 1 0 * 2 ^ layout.exponent_bits + x.biased_exponent < 2 ^ layout.exponent_bits * 2 =
-      mul-add-lt (cond x.negative 1 0) (2 ^ layout.exponent_bits) x.biased_exponent 2 (bit_low x.negative)
+      mul-add-lt (cond x.negative 1 0) (2 ^ layout.exponent_bits) x.biased_exponent 2 (digit_low x.negative)
       w.biased_exponent in
       let b = mul-add-lt (cond x.negative 1 0 * 2 ^ layout.exponent_bits + x.biased_exponent) (2 ^ trailing_bits format)
       x.trailing (2 ^ layout.exponent_bits * 2) a w.trailing in
@@ -135,5 +129,5 @@ module _ (format : Format) (layout : Layout) (law : IsInterchange format layout)
       div_below bits (2 ^ (w + layout.exponent_bits)) 2 (pow_pos (w + layout.exponent_bits))
       (omega (arith, k)) in
       let s : cond (eqb (bits / 2 ^ (layout.bits - 1) % 2) 1) 1 0 ≡ bits / 2 ^ w / 2 ^ layout.exponent_bits =
-      rw (top, shr-shr bits w layout.exponent_bits) (top_bit (bits / 2 ^ (w + layout.exponent_bits)) d) in
+      rw (top, shr-shr bits w layout.exponent_bits) (odd_digit (bits / 2 ^ (w + layout.exponent_bits)) d) in
       rw s (rw (shr_split (bits / 2 ^ w) layout.exponent_bits) (shr_split bits w))

@@ -13,18 +13,23 @@ use Rattle.apfloat_base.proofs.Deliveries.{signed_some}
 use Rattle.apfloat_base.proofs.Laws.{exact_delivered, delivered_once}
 use Rattle.apfloat_base.proofs.Choices.{same_sign_self}
 
--- neither number is zero where the other is not
+-- a number that is the same as one other than zero is not zero
 pub both_some : (m n p q : ℕ) → n * 2 ^ p ≡ m * 2 ^ q → 0 < m → 0 < n
 both_some m zero p q e l =
     let a : 0 < m * 2 ^ q = mul-pos l (pow_pos q) in
     absurd (omega arith)
 both_some m (suc n) p q e l = omega arith
 
+-- and a number that is the same as zero is zero
+no_quanta : (n p q : ℕ) → n * 2 ^ p ≡ 0 * 2 ^ q → n ≡ 0
+no_quanta zero p q e = refl
+no_quanta (suc n) p q e = absurd (omega (arith, both_some (suc n) 0 q p (sym e) (omega arith)))
+
 -- a number that both formats have
-number_exactly : (from into : Format) (mode : Round) (b : Bool) (m n : ℕ) (value : Datum) (status : ℕ)
-    (loses_info : Bool) → 0 < m → n * 2 ^ from.scale ≡ m * 2 ^ into.scale → IsFiniteOf into b n
-    → IsConvertedNumber from into mode b m value status loses_info
-    → IsConverted (finite b n) ok_bits false value status loses_info
+number_exactly : (from into : Format) (mode : Round) (negative : Bool) (m n : ℕ) (value : Datum) (status : ℕ)
+    (loses_info : Bool) → 0 < m → n * 2 ^ from.scale ≡ m * 2 ^ into.scale → IsFiniteOf into negative n
+    → IsConvertedNumber from into mode negative m value status loses_info
+    → IsConverted (finite negative n) ok_bits false value status loses_info
 number_exactly from into mode b m n value status loses_info l e t h =
     let d = exact_delivered into mode b n (m * 2 ^ into.scale) (2 ^ from.scale)
     (pow_pos from.scale) t.on_grid t.within (sym e) in
@@ -39,10 +44,10 @@ number_exactly from into mode b m n value status loses_info l e t h =
     }
 
 -- a zero whose sign the format keeps
-zero_exactly : (format : Format) (b : Bool) (value : Datum) (status : ℕ) (loses_info : Bool)
-    → b ≡ zero_sign format.nonfinite b
-    → IsKept (finite (zero_sign format.nonfinite b) 0) (loses_zero_sign format b) value status loses_info
-    → IsConverted (finite b 0) ok_bits false value status loses_info
+zero_exactly : (format : Format) (negative : Bool) (value : Datum) (status : ℕ) (loses_info : Bool)
+    → negative ≡ zero_sign format.nonfinite negative
+    → IsKept (finite (zero_sign format.nonfinite negative) 0) (loses_zero_sign format negative) value status loses_info
+    → IsConverted (finite negative 0) ok_bits false value status loses_info
 zero_exactly format b value status loses_info z h =
     let k : loses_zero_sign format b ≡ false = rw (← z) (ap not (same_sign_self b)) in
     let r = rw k at h in
@@ -52,12 +57,6 @@ zero_exactly format b value status loses_info z h =
       loses_is =
           r.loses_is;
     }
-
-no_quanta : (n p q : ℕ) → n * 2 ^ p ≡ 0 * 2 ^ q → n ≡ 0
-no_quanta zero p q e = refl
-no_quanta (suc n) p q e =
-    let a : 0 < suc n * 2 ^ p = mul-pos (omega arith) (pow_pos p) in
-    absurd (omega arith)
 
 -- whatever answers the conversion, it keeps such a number and raises no flag
 pub exactly_converted : (from into : Format) (mode : Round) (x value : Datum) (status : ℕ) (loses_info : Bool)

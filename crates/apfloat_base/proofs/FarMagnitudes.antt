@@ -10,8 +10,8 @@ use Rattle.apfloat_base.specs.formats.Datum.{Datum}
 use Rattle.apfloat_base.specs.rounding.Grid.{IsOnGrid}
 use Rattle.apfloat_base.specs.rounding.Rounding.{IsPick, IsDelivered, delivered_value, delivered_status, is_tiny}
 use Rattle.apfloat_base.specs.rounding.Enclosure.{IsEnclosed, rounds_up}
-use Rattle.apfloat_base.proofs.Losses.{twice_half}
-use Rattle.apfloat_base.proofs.Powers.{two_pos}
+use Rattle.apfloat_base.proofs.Powers.{two_pos, twice_half}
+use Rattle.apfloat_base.proofs.Choices.{cond_within}
 use Rattle.apfloat_base.proofs.Greatest.{greatest_fits}
 use Rattle.apfloat_base.proofs.Picks.{kept, pick_is, pick_unique}
 use Rattle.apfloat_base.proofs.Laws.{pick_within, delivered_exists}
@@ -38,6 +38,7 @@ largest_below format =
     mul-lt-mul_of_pos_right (greatest_fits format.nonfinite format.precision) (pow_pos format.span) in
     subst (λ (x : ℕ). greatest_significand format.nonfinite format.precision * 2 ^ format.span < x) (sym e) a
 
+-- each power of two is on the grid
 power_on_grid : (precision k : ℕ) → 0 < precision → IsOnGrid precision (2 ^ k)
 power_on_grid precision k h =
     let l : 1 ≤ precision = h in
@@ -70,9 +71,10 @@ status_past : (format : Format) (mode : Round) (negative : Bool) (amount parts p
 status_past format mode negative amount parts p amount' parts' q a b = rw (a, b) refl
 
 -- one answer for all of them
-pub far_above : (format : Format) (mode : Round) (negative : Bool) (amount parts amount' parts' : ℕ) (v : Datum) (s : ℕ)
-    → 0 < format.precision → IsFarAbove format amount parts → IsFarAbove format amount' parts'
-    → IsDelivered format mode negative amount parts v s → IsDelivered format mode negative amount' parts' v s
+pub far_above : (format : Format) (mode : Round) (negative : Bool) (amount parts amount' parts' : ℕ) (value : Datum)
+    (status : ℕ) → 0 < format.precision → IsFarAbove format amount parts → IsFarAbove format amount' parts'
+    → IsDelivered format mode negative amount parts value status
+    → IsDelivered format mode negative amount' parts' value status
 far_above format mode negative amount parts amount' parts' v s h x y d =
     let e = (delivered_exists format mode negative amount' parts' h y.some).1.1 in
     let a = picks_past format mode negative amount parts d.pick h x d.is_pick in
@@ -113,13 +115,12 @@ picks_little precision mode negative amount parts h x =
     pick_is precision mode negative (2 ^ (precision - 1)) 0 0 amount parts LessThanHalf p
     (little_enclosed precision amount parts h x) (omega (arith, k), omega (arith, l))
 
-cond_little : (b : Bool) → cond b 1 0 * 2 ^ 0 ≤ 1
-cond_little true = omega arith
-cond_little false = omega arith
-
+-- which is no more than one quantum
 little_within : (mode : Round) (negative : Bool) → little_pick mode negative ≤ 1
 unfolding little_pick
-little_within mode negative = cond_little (rounds_up mode negative LessThanHalf (eqb 0 1))
+little_within mode negative =
+    let within = cond_within (rounds_up mode negative LessThanHalf (eqb 0 1)) 1 0 (omega arith) in
+    omega (arith, within.0)
 
 -- neither 0 nor one quantum is the magnitude
 off_little : (p amount parts : ℕ) → p ≤ 1 → 0 < amount → 2 * amount < parts → p * parts ≡ amount → ⊥
@@ -131,6 +132,7 @@ off_little (suc (suc p)) amount parts h k l e = omega arith
 inexact_little : (amount parts p : ℕ) → IsFarBelow amount parts → p ≤ 1 → eqb (p * parts) amount ≡ false
 inexact_little amount parts p x h = ne_eqb (p * parts) amount (off_little p amount parts h x.some x.to)
 
+-- such a magnitude is below the smallest normalized number
 before_little : (format : Format) (amount parts : ℕ) → IsFarBelow amount parts
     → ltb amount (smallest_normalized format * parts) ≡ true
 before_little format amount parts x =
@@ -158,9 +160,10 @@ status_little format mode negative amount parts amount' parts' p h x y =
     rw (a, b, t) refl
 
 -- one answer for all of them
-pub far_below : (format : Format) (mode : Round) (negative : Bool) (amount parts amount' parts' : ℕ) (v : Datum) (s : ℕ)
-    → 0 < format.precision → IsFarBelow amount parts → IsFarBelow amount' parts'
-    → IsDelivered format mode negative amount parts v s → IsDelivered format mode negative amount' parts' v s
+pub far_below : (format : Format) (mode : Round) (negative : Bool) (amount parts amount' parts' : ℕ) (value : Datum)
+    (status : ℕ) → 0 < format.precision → IsFarBelow amount parts → IsFarBelow amount' parts'
+    → IsDelivered format mode negative amount parts value status
+    → IsDelivered format mode negative amount' parts' value status
 far_below format mode negative amount parts amount' parts' v s h x y d =
     let p : ℕ = little_pick mode negative in
     let e : d.pick ≡ little_pick mode negative =

@@ -4,7 +4,7 @@ use Rattle.std.specs.Prelude.{◌&&◌, IsTrue}
 use mathlib.Core.Bool.{true≢false}
 use Rattle.std.proofs.lemmas.Nat.{pow_pos, pow-add}
 use Rattle.std.proofs.lemmas.Bool.{cases_eq, cases_lt, eq-eqb, ne_eqb, le-leb, lt-ltb, and_left, and_right}
-use Rattle.std.proofs.Math.Nat.{pow-le-pow_right, mul-le-mul_right, mul-le-mul_left, mul-lt-mul_of_pos_right, le_of_mul-le-mul_right}
+use Rattle.std.proofs.Math.Nat.{pow-le-pow_right, mul-le-mul_right, mul-le-mul_left, mul-lt-mul_of_pos_right, le_of_mul-le-mul_right, add-sub_of_le}
 use Rattle.apfloat_base.specs.declared.kinds.NonfiniteBehavior.{NonfiniteBehavior}
 use Rattle.apfloat_base.specs.declared.kinds.NonfiniteBehavior.TheVariants.{IEEE754, NanOnly, NanNegativeZero}
 use Rattle.apfloat_base.specs.formats.Format.{Format, smallest_normalized, largest, greatest_significand}
@@ -14,8 +14,7 @@ use Rattle.apfloat_base.specs.formats.Members.{IsNanSignificand}
 use Rattle.apfloat_base.specs.bits.Layout.{Layout, Fields, all_ones, trailing_bits, implied_datum, written_datum, datum_of_fields, is_canonical, is_canonical_written, IsEncodedBy}
 use Rattle.apfloat_base.specs.formats.Lawful.{MayBeExplicit}
 use Rattle.apfloat_base.specs.bits.Interchange.{IsInterchange, AreFieldsOf, bits_of_fields}
-use Rattle.apfloat_base.proofs.Powers.{two_pos}
-use Rattle.apfloat_base.proofs.Losses.{twice_half}
+use Rattle.apfloat_base.proofs.Powers.{two_pos, twice_half}
 use Rattle.apfloat_base.proofs.Choices.{eqb_self}
 use Rattle.apfloat_base.proofs.Greatest.{greatest_fits}
 use Rattle.apfloat_base.proofs.Encodings.{fields_back, bits_below}
@@ -34,16 +33,20 @@ fields_encode format layout fields datum law h =
 
 -- ---- each layout
 
+-- all ones of one digit or more are not 0
 ones_some : (k : ℕ) → 1 ≤ k → 1 ≤ all_ones k
 ones_some k h = let m : 2 ^ 1 ≤ 2 ^ k = pow-le-pow_right two_pos h in omega arith
 
+-- and fit as many digits
 ones_fit : (k : ℕ) → all_ones k < 2 ^ k
 ones_fit k = let p : 0 < 2 ^ k = pow_pos k in omega arith
 
+-- a number that fits the trailing bits fits its field, whether the integer bit is written or not
 width_low : (explicit : Bool) (p n : ℕ) → n < 2 ^ (p - 1) → n < 2 ^ cond explicit p (p - 1)
 width_low true p n h = let m : 2 ^ (p - 1) ≤ 2 ^ p = pow-le-pow_right two_pos (omega arith) in omega arith
 width_low false p n h = h
 
+-- a significand, less its integer bit where that is implied, fits its field
 width_high : (explicit : Bool) (p m : ℕ) → 1 ≤ p → m < 2 ^ p
     → m - cond explicit 0 (2 ^ (p - 1)) < 2 ^ cond explicit p (p - 1)
 width_high true p m o h = omega arith
@@ -56,11 +59,11 @@ abbrev pub MayHaveSign : NonfiniteBehavior → Bool → ℕ → Type 0
 MayHaveSign kind b n = n ≡ 0 → b ≡ zero_sign kind b
 
 -- the fields of a number with fewer digits are read as that number
-low_is : (explicit : Bool) (kind : NonfiniteBehavior) (format : Format) (layout : Layout) (b : Bool) (n : ℕ)
-    → eqb 0 (all_ones layout.exponent_bits) ≡ false → MayHaveSign kind b n
-    → cond explicit (written_datum format layout (fields_with b 0 n))
-    (implied_datum kind format layout (fields_with b 0 n))
-    ≡ finite b n
+low_is : (explicit : Bool) (kind : NonfiniteBehavior) (format : Format) (layout : Layout) (negative : Bool) (n : ℕ)
+    → eqb 0 (all_ones layout.exponent_bits) ≡ false → MayHaveSign kind negative n
+    → cond explicit (written_datum format layout (fields_with negative 0 n))
+    (implied_datum kind format layout (fields_with negative 0 n))
+    ≡ finite negative n
 low_is true kind format layout b n e h = rw e refl
 low_is false IEEE754 format layout b n e h = rw e refl
 low_is false NanOnly format layout b n e h = rw e refl
@@ -69,16 +72,16 @@ low_is false NanNegativeZero format layout true n e h =
     ⊎_elim (λ (z : n ≡ 0). absurd (true≢false (h z))) (λ (k : n ≡ 0 → ⊥). rw (ne_eqb n 0 k) refl) (cases_eq n 0)
 
 -- and are canonical
-low_canonical : (explicit : Bool) (format : Format) (layout : Layout) (b : Bool) (n : ℕ)
+low_canonical : (explicit : Bool) (format : Format) (layout : Layout) (negative : Bool) (n : ℕ)
     → eqb 0 (all_ones layout.exponent_bits) ≡ false → n < smallest_normalized format
-    → cond explicit (is_canonical_written format layout (fields_with b 0 n)) true ≡ true
+    → cond explicit (is_canonical_written format layout (fields_with negative 0 n)) true ≡ true
 low_canonical true format layout b n e h = rw (e, lt-ltb n (smallest_normalized format) h) refl
 low_canonical false format layout b n e h = refl
 
 -- the fields of zeros and denormal numbers
-pub low_fields_of : (format : Format) (layout : Layout) (b : Bool) (n : ℕ) → IsInterchange format layout
-    → n < smallest_normalized format → MayHaveSign format.nonfinite b n
-    → AreFieldsOf format layout (fields_with b 0 n) (finite b n)
+pub low_fields_of : (format : Format) (layout : Layout) (negative : Bool) (n : ℕ) → IsInterchange format layout
+    → n < smallest_normalized format → MayHaveSign format.nonfinite negative n
+    → AreFieldsOf format layout (fields_with negative 0 n) (finite negative n)
 low_fields_of format layout b n law h s =
     let o = ones_some layout.exponent_bits law.some in
     let e : eqb 0 (all_ones layout.exponent_bits) ≡ false =
@@ -102,16 +105,13 @@ IsNoSpecial NanOnly f layout e m =
     (eqb e (all_ones layout.exponent_bits) && eqb (m - smallest_normalized f) (all_ones (f.precision - 1))) ≡ false
 IsNoSpecial NanNegativeZero f layout e m = eqb e 0 ≡ false
 
-significand_back : (half m : ℕ) → half ≤ m → half + (m - half) ≡ m
-significand_back half m h = omega arith
-
 -- the fields of a number with all digits are read as that number
-high_is : (explicit : Bool) (kind : NonfiniteBehavior) (format : Format) (layout : Layout) (b : Bool) (j m : ℕ)
+high_is : (explicit : Bool) (kind : NonfiniteBehavior) (format : Format) (layout : Layout) (negative : Bool) (j m : ℕ)
     → MayBeExplicit kind explicit → smallest_normalized format ≤ m → IsNoSpecial kind format layout (j + 1) m
     → cond explicit (written_datum format layout
-    (fields_with b (j + 1) (m - cond explicit 0 (smallest_normalized format))))
-    (implied_datum kind format layout (fields_with b (j + 1) (m - cond explicit 0 (smallest_normalized format))))
-    ≡ finite b (m * 2 ^ j)
+    (fields_with negative (j + 1) (m - cond explicit 0 (smallest_normalized format))))
+    (implied_datum kind format layout (fields_with negative (j + 1) (m - cond explicit 0 (smallest_normalized format))))
+    ≡ finite negative (m * 2 ^ j)
 high_is true IEEE754 format layout b j m may low n =
     let z : m - 0 ≡ m = omega arith in
     let y : j + 1 - 1 ≡ j = omega arith in
@@ -120,22 +120,22 @@ high_is true NanOnly format layout b j m may low n = absurd (true≢false may)
 high_is true NanNegativeZero format layout b j m may low n = absurd (true≢false may)
 high_is false IEEE754 format layout b j m may low n =
     let y : j + 1 - 1 ≡ j = omega arith in
-    rw (n, ne_eqb (j + 1) 0 (λ q. omega (arith, q)), significand_back (smallest_normalized format) m low, y) refl
+    rw (n, ne_eqb (j + 1) 0 (λ q. omega (arith, q)), add-sub_of_le low, y) refl
 high_is false NanOnly format layout b j m may low n =
     let y : j + 1 - 1 ≡ j = omega arith in
-    rw (n, ne_eqb (j + 1) 0 (λ q. omega (arith, q)), significand_back (smallest_normalized format) m low, y) refl
+    rw (n, ne_eqb (j + 1) 0 (λ q. omega (arith, q)), add-sub_of_le low, y) refl
 high_is false NanNegativeZero format layout true j m may low n =
     let y : j + 1 - 1 ≡ j = omega arith in
-    rw (n, significand_back (smallest_normalized format) m low, y) refl
+    rw (n, add-sub_of_le low, y) refl
 high_is false NanNegativeZero format layout false j m may low n =
     let y : j + 1 - 1 ≡ j = omega arith in
-    rw (n, significand_back (smallest_normalized format) m low, y) refl
+    rw (n, add-sub_of_le low, y) refl
 
 -- and are canonical
-high_canonical : (explicit : Bool) (kind : NonfiniteBehavior) (format : Format) (layout : Layout) (b : Bool) (j m : ℕ)
-    → MayBeExplicit kind explicit → smallest_normalized format ≤ m → IsNoSpecial kind format layout (j + 1) m
+high_canonical : (explicit : Bool) (kind : NonfiniteBehavior) (format : Format) (layout : Layout) (negative : Bool)
+    (j m : ℕ) → MayBeExplicit kind explicit → smallest_normalized format ≤ m → IsNoSpecial kind format layout (j + 1) m
     → cond explicit (is_canonical_written format layout
-    (fields_with b (j + 1) (m - cond explicit 0 (smallest_normalized format)))) true ≡ true
+    (fields_with negative (j + 1) (m - cond explicit 0 (smallest_normalized format)))) true ≡ true
 high_canonical true IEEE754 format layout b j m may low n =
     let z : m - 0 ≡ m = omega arith in
     rw (z, n, ne_eqb (j + 1) 0 (λ q. omega (arith, q)), le-leb (smallest_normalized format) m low) refl
@@ -143,8 +143,8 @@ high_canonical true NanOnly format layout b j m may low n = absurd (true≢false
 high_canonical true NanNegativeZero format layout b j m may low n = absurd (true≢false may)
 high_canonical false kind format layout b j m may low n = refl
 
--- the exponent of a number within the largest value
 module _ (format : Format) (layout : Layout) (law : IsInterchange format layout) where
+  -- a number within the largest value has its place within the span
   place_within : (j m : ℕ) → smallest_normalized format ≤ m → m * 2 ^ j ≤ largest format → j ≤ format.span
   place_within j m low top =
       let t : 2 * 2 ^ (format.precision - 1) ≡ 2 ^ format.precision =
@@ -197,10 +197,10 @@ module _ (format : Format) (layout : Layout) (law : IsInterchange format layout)
   no_special NanNegativeZero j m k low top high = ne_eqb (j + 1) 0 (λ q. omega (arith, q))
 
   -- the fields of numbers whose significand has all its digits
-  pub high_fields_of : (b : Bool) (j m : ℕ) → smallest_normalized format ≤ m → m < 2 ^ format.precision
-      → m * 2 ^ j ≤ largest format → AreFieldsOf format layout (fields_with b (j + 1)
+  pub high_fields_of : (negative : Bool) (j m : ℕ) → smallest_normalized format ≤ m → m < 2 ^ format.precision
+      → m * 2 ^ j ≤ largest format → AreFieldsOf format layout (fields_with negative (j + 1)
       (m - cond format.explicit_integer_bit 0 (smallest_normalized format)))
-      (finite b (m * 2 ^ j))
+      (finite negative (m * 2 ^ j))
   high_fields_of b j m low high top =
       let h = place_within j m low top in
       let n = no_special format.nonfinite j m refl low top h in
@@ -216,11 +216,13 @@ module _ (format : Format) (layout : Layout) (law : IsInterchange format layout)
 
 -- ---- infinities and NaNs
 
-infinity_is : (explicit : Bool) (kind : NonfiniteBehavior) (format : Format) (layout : Layout) (b : Bool)
+-- the fields of an infinity are read as that infinity
+infinity_is : (explicit : Bool) (kind : NonfiniteBehavior) (format : Format) (layout : Layout) (negative : Bool)
     → kind ≡ IEEE754 → cond explicit (written_datum format layout
-    (fields_with b (all_ones layout.exponent_bits) (cond explicit (smallest_normalized format) 0)))
+    (fields_with negative (all_ones layout.exponent_bits) (cond explicit (smallest_normalized format) 0)))
     (implied_datum kind format layout
-    (fields_with b (all_ones layout.exponent_bits) (cond explicit (smallest_normalized format) 0))) ≡ infinite b
+    (fields_with negative (all_ones layout.exponent_bits) (cond explicit (smallest_normalized format) 0)))
+    ≡ infinite negative
 infinity_is true IEEE754 format layout b k =
     rw (eqb_self (all_ones layout.exponent_bits), eqb_self (smallest_normalized format)) refl
 infinity_is false IEEE754 format layout b k = rw (eqb_self (all_ones layout.exponent_bits)) refl
@@ -229,19 +231,22 @@ infinity_is false NanOnly format layout b k = cc
 infinity_is true NanNegativeZero format layout b k = cc
 infinity_is false NanNegativeZero format layout b k = cc
 
-ones_canonical : (explicit : Bool) (format : Format) (layout : Layout) (b : Bool) (t : ℕ)
-    → cond explicit (is_canonical_written format layout (fields_with b (all_ones layout.exponent_bits) t)) true ≡ true
+-- and those with the greatest exponent are canonical
+ones_canonical : (explicit : Bool) (format : Format) (layout : Layout) (negative : Bool) (t : ℕ)
+    → cond explicit (is_canonical_written format layout (fields_with negative (all_ones layout.exponent_bits) t)) true
+    ≡ true
 ones_canonical true format layout b t = rw (eqb_self (all_ones layout.exponent_bits)) refl
 ones_canonical false format layout b t = refl
 
+-- the significand of an infinity fits its field
 width_of_infinity : (explicit : Bool) (p : ℕ) → 1 ≤ p → cond explicit (2 ^ (p - 1)) 0 < 2 ^ cond explicit p (p - 1)
 width_of_infinity true p h = let t = twice_half p h in let q : 0 < 2 ^ (p - 1) = pow_pos (p - 1) in omega arith
 width_of_infinity false p h = pow_pos (p - 1)
 
 -- the fields of infinities
-pub infinity_fields_of : (format : Format) (layout : Layout) (b : Bool) → IsInterchange format layout
-    → format.nonfinite ≡ IEEE754 → AreFieldsOf format layout (fields_with b (all_ones layout.exponent_bits)
-    (cond format.explicit_integer_bit (smallest_normalized format) 0)) (infinite b)
+pub infinity_fields_of : (format : Format) (layout : Layout) (negative : Bool) → IsInterchange format layout
+    → format.nonfinite ≡ IEEE754 → AreFieldsOf format layout (fields_with negative (all_ones layout.exponent_bits)
+    (cond format.explicit_integer_bit (smallest_normalized format) 0)) (infinite negative)
 infinity_fields_of format layout b law k = record {
   within = record {
     biased_exponent = ones_fit layout.exponent_bits;
@@ -253,11 +258,11 @@ infinity_fields_of format layout b law k = record {
 }
 
 -- the fields of a NaN are read as that NaN
-nan_is : (explicit : Bool) (kind : NonfiniteBehavior) (format : Format) (layout : Layout) (b : Bool) (s : ℕ)
+nan_is : (explicit : Bool) (kind : NonfiniteBehavior) (format : Format) (layout : Layout) (negative : Bool) (s : ℕ)
     → format.nonfinite ≡ kind → (kind ≡ NanNegativeZero → ⊥) → MayBeExplicit kind explicit
     → IsNanSignificand kind explicit format.precision s
-    → cond explicit (written_datum format layout (fields_with b (all_ones layout.exponent_bits) s))
-    (implied_datum kind format layout (fields_with b (all_ones layout.exponent_bits) s)) ≡ nan b s
+    → cond explicit (written_datum format layout (fields_with negative (all_ones layout.exponent_bits) s))
+    (implied_datum kind format layout (fields_with negative (all_ones layout.exponent_bits) s)) ≡ nan negative s
 nan_is true IEEE754 format layout b s k n may h =
     rw (eqb_self (all_ones layout.exponent_bits), ne_eqb s (smallest_normalized format) h.1) refl
 nan_is false IEEE754 format layout b s k n may h =
@@ -277,10 +282,10 @@ width_of_nan false NanOnly p s n may h = let q : 0 < 2 ^ (p - 1) = pow_pos (p - 
 width_of_nan explicit NanNegativeZero p s n may h = absurd (n refl)
 
 -- with the greatest exponent
-pub nan_fields_of : (format : Format) (layout : Layout) (b : Bool) (s : ℕ) → IsInterchange format layout
+pub nan_fields_of : (format : Format) (layout : Layout) (negative : Bool) (s : ℕ) → IsInterchange format layout
     → (format.nonfinite ≡ NanNegativeZero → ⊥)
     → IsNanSignificand format.nonfinite format.explicit_integer_bit format.precision s
-    → AreFieldsOf format layout (fields_with b (all_ones layout.exponent_bits) s) (nan b s)
+    → AreFieldsOf format layout (fields_with negative (all_ones layout.exponent_bits) s) (nan negative s)
 nan_fields_of format layout b s law n h = record {
   within = record {
     biased_exponent = ones_fit layout.exponent_bits;

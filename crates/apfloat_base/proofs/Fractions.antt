@@ -1,4 +1,4 @@
--- The same fraction by other units; products and quotients of numbers of quanta, by their significands.
+-- Products and quotients of numbers of quanta, by their significands.
 use Rattle.std.proofs.Common.{◌≡◌, ℕ, ◌+◌, ◌-◌, ◌*◌, ◌/◌, ◌^◌, ◌<◌, ◌≤◌, sym, ap, ◌∙◌, subst, arith}
 use Rattle.std.proofs.Math.Nat.{mul-le-mul_left, pow-le-pow_right, eq_of_mul-eq-mul_right, mul-pos, le-div_iff_mul-le, mul-le-mul_right}
 use Rattle.std.proofs.lemmas.Nat.{pow_pos}
@@ -7,6 +7,7 @@ use Rattle.apfloat_base.specs.rounding.Standing.{StandsFor}
 use Rattle.apfloat_base.proofs.KeptDigits.{stands_cancel, stands_times}
 use Rattle.apfloat_base.proofs.Powers.{pow3, pow4, pow22, two_pos}
 
+-- significands and powers, each put together
 regroup_product : (sx sy pui puj pd : ℕ) → (sx * pui) * (sy * puj) * pd ≡ sx * sy * (pui * puj * pd)
 regroup_product sx sy pui puj pd = omega arith
 

@@ -5,9 +5,9 @@ use Rattle.std.proofs.lemmas.Nat.{pow_pos}
 use Rattle.apfloat_base.specs.declared.kinds.NonfiniteBehavior.{NonfiniteBehavior}
 use Rattle.apfloat_base.specs.declared.kinds.NonfiniteBehavior.TheVariants.{IEEE754, NanOnly, NanNegativeZero}
 use Rattle.apfloat_base.specs.formats.Format.{greatest_significand}
-use Rattle.apfloat_base.proofs.Powers.{two_pos}
-use Rattle.apfloat_base.proofs.Losses.{twice_half}
+use Rattle.apfloat_base.proofs.Powers.{two_pos, twice_half}
 
+-- it is below the power of two of its precision
 pub greatest_fits : (kind : NonfiniteBehavior) (precision : ℕ) → greatest_significand kind precision < 2 ^ precision
 greatest_fits IEEE754 precision = let p : 0 < 2 ^ precision = pow_pos precision in omega arith
 greatest_fits NanOnly precision = let p : 0 < 2 ^ precision = pow_pos precision in omega arith
@@ -36,6 +36,7 @@ greatest_full kind precision h =
     let a = greatest_half kind precision h in
     omega (arith, t, a)
 
+-- it is not 0
 pub greatest_some : (kind : NonfiniteBehavior) (precision : ℕ) → 3 ≤ precision
     → 0 < greatest_significand kind precision
 greatest_some kind precision h =

@@ -8,8 +8,8 @@ use Rattle.apfloat_base.specs.declared.sig.loss.Loss.{Loss}
 use Rattle.apfloat_base.specs.declared.sig.loss.Loss.TheVariants.{ExactlyZero, LessThanHalf, ExactlyHalf, MoreThanHalf}
 use Rattle.apfloat_base.specs.rounding.Standing.{StandsFor}
 use Rattle.apfloat_base.specs.rounding.Enclosure.{IsEnclosed}
-use Rattle.apfloat_base.proofs.Powers.{two_pos}
-use Rattle.apfloat_base.proofs.Losses.{stands_from, stands_to, twice_half}
+use Rattle.apfloat_base.proofs.Powers.{two_pos, twice_half, exponent_below}
+use Rattle.apfloat_base.proofs.Losses.{stands_from, stands_to}
 
 -- ---- the number of digits
 
@@ -48,6 +48,7 @@ stands_cancel s MoreThanHalf amount unit w p h =
     let a = h.0 in let b = h.1 in
     (lt_of_mul-lt-mul_right w (omega (arith, a)), lt_of_mul-lt-mul_right w (omega (arith, b)))
 
+-- and so does a factor that both get
 pub stands_times : (s : ℕ) (loss : Loss) (amount unit w : ℕ) → 0 < w → StandsFor s loss amount unit
     → StandsFor s loss (amount * w) (unit * w)
 stands_times s ExactlyZero amount unit w p h = let e : amount * w ≡ s * unit * w = ap (λ (x : ℕ). x * w) h in
@@ -136,6 +137,55 @@ full_shifted s digits j precision p h e =
     ap (λ (x : ℕ). 2 ^ x) w in
     omega arith
 
+-- by the place that a delivery aims at: what is cut fits
+pub cut_fits : (precision s q digits k place up down : ℕ) → s < 2 ^ digits → digits + up ≤ place + precision + down
+    → k + up ≡ place + down → q ≡ s / 2 ^ k → q < 2 ^ precision
+cut_fits precision s q digits k place up down b c e w =
+    let l₀ : digits ≤ k + precision = omega arith in
+    subst (λ (x : ℕ). x < 2 ^ precision) (sym w) (fits_cut s digits k precision b l₀)
+
+-- and has all its digits, above the lowest place
+pub cut_full : (precision s q digits k place up down : ℕ) → 0 < precision → (0 < digits → 2 ^ (digits - 1) ≤ s)
+    → (place ≡ 0) ⊎ (digits + up ≡ place + precision + down) → k + up ≡ place + down → q ≡ s / 2 ^ k
+    → (place ≡ 0) ⊎ (2 ^ (precision - 1) ≤ q)
+cut_full precision s q digits k place up down p f r e w =
+    ⊎_elim (λ z. inl z)
+    (λ z. inr (subst (λ (x : ℕ). 2 ^ (precision - 1) ≤ x) (sym w)
+    (full_cut s digits k precision p f (omega (arith, z))))) r
+
+-- what is moved up stays within the machine word
+pub shift_whole : (precision s digits j place up down : ℕ) → precision ≤ 125 → s < 2 ^ digits
+    → digits + up ≤ place + precision + down → place + down + j ≡ up → s * 2 ^ j ≡ s * 2 ^ j % 2 ^ 128
+shift_whole precision s digits j place up down p b c e =
+    let l₀ : digits + j ≤ precision = omega arith in
+    let l : s * 2 ^ j < 2 ^ precision = fits_shifted s digits j precision b l₀ in
+    let p₁ : precision ≤ 128 = omega arith in
+    let m : 2 ^ precision ≤ 2 ^ 128 = pow-le-pow_right two_pos p₁ in
+    sym (mod-eq_of_lt (omega arith))
+
+-- a significand that is not 0 has digits
+pub some_digits : (s digits : ℕ) → s < 2 ^ digits → (s ≡ 0 → ⊥) → 0 < digits
+some_digits s zero h n = absurd (n (omega arith))
+some_digits s (suc d) h n = omega arith
+
+-- likewise what is moved up fits
+pub shift_fits : (precision s digits j place up down : ℕ) → precision ≤ 125 → s < 2 ^ digits
+    → digits + up ≤ place + precision + down → place + down + j ≡ up → s * 2 ^ j % 2 ^ 128 < 2 ^ precision
+shift_fits precision s digits j place up down p' b c e =
+    let l₀ : digits + j ≤ precision = omega arith in
+    subst (λ (x : ℕ). x < 2 ^ precision) (shift_whole precision s digits j place up down p' b c e)
+    (fits_shifted s digits j precision b l₀)
+
+-- and has all its digits, above the lowest place
+pub shift_full : (precision s digits j place up down : ℕ) → precision ≤ 125 → s < 2 ^ digits
+    → (0 < digits → 2 ^ (digits - 1) ≤ s) → (s ≡ 0 → ⊥) → digits + up ≤ place + precision + down
+    → (place ≡ 0) ⊎ (digits + up ≡ place + precision + down) → place + down + j ≡ up
+    → (place ≡ 0) ⊎ (2 ^ (precision - 1) ≤ s * 2 ^ j % 2 ^ 128)
+shift_full precision s digits j place up down p' b f n c r e =
+    ⊎_elim (λ y. inl y)
+    (λ y. inr (subst (λ (x : ℕ). 2 ^ (precision - 1) ≤ x) (shift_whole precision s digits j place up down p' b c e)
+    (full_shifted s digits j precision (some_digits s digits b n) f (omega (arith, y))))) r
+
 -- a significand that fits and stands for the amount, full or at the lowest place, encloses it
 pub enclosed_from : (precision q c : ℕ) (loss : Loss) (amount parts : ℕ) → 0 < precision → 0 < parts
     → q < 2 ^ precision → (c ≡ 0) ⊎ (2 ^ (precision - 1) ≤ q) → StandsFor q loss amount (2 ^ c * parts)
@@ -156,45 +206,11 @@ pub cut_kept : (precision s q digits k place up down : ℕ) (loss : Loss) (amoun
     → StandsFor q loss (amount * 2 ^ down) (2 ^ k * (parts * 2 ^ up))
     → IsEnclosed precision (2 ^ (precision - 1)) q place amount parts × StandsFor q loss amount (2 ^ place * parts)
 cut_kept precision s q digits k place up down loss amount parts p u b f c r e w h =
-    let g : StandsFor q loss amount (2 ^ place * parts) = kept_stands q loss amount parts k up down place e h in
-    let l₀ : digits ≤ k + precision = omega arith in
-    let l : q < 2 ^ precision = subst (λ (x : ℕ). x < 2 ^ precision) (sym w) (fits_cut s digits k precision b l₀) in
-    let full : (place ≡ 0) ⊎ (2 ^ (precision - 1) ≤ q) =
-    ⊎_elim (λ z. inl z)
-    (λ z. inr (subst (λ (x : ℕ). 2 ^ (precision - 1) ≤ x) (sym w)
-    (full_cut s digits k precision p f (omega (arith, z))))) r in
-    (enclosed_from precision q place loss amount parts p u l full g, g)
-
-shift_kept_at : (precision s digits j place up down : ℕ) (loss : Loss) (amount parts : ℕ) → 0 < precision
-    → 0 < parts → s < 2 ^ digits → (0 < digits → 2 ^ (digits - 1) ≤ s) → 0 < digits
-    → digits + up ≤ place + precision + down → (place ≡ 0) ⊎ (digits + up ≡ place + precision + down)
-    → place + down + j ≡ up → loss ≡ ExactlyZero
-    → StandsFor s loss (amount * 2 ^ down) (parts * 2 ^ up)
-    → IsEnclosed precision (2 ^ (precision - 1)) (s * 2 ^ j) place amount parts
-    × StandsFor (s * 2 ^ j) loss amount (2 ^ place * parts)
-shift_kept_at precision s digits j place up down loss amount parts p u b f d c r e z h =
-    let g : StandsFor (s * 2 ^ j) loss amount (2 ^ place * parts) =
-    shifted_stands s loss amount parts j up down place z e h in
-    let l₀ : digits + j ≤ precision = omega arith in
-    let l : s * 2 ^ j < 2 ^ precision = fits_shifted s digits j precision b l₀ in
-    let full : (place ≡ 0) ⊎ (2 ^ (precision - 1) ≤ s * 2 ^ j) =
-    ⊎_elim (λ y. inl y) (λ y. inr (full_shifted s digits j precision d f (omega (arith, y)))) r in
-    (enclosed_from precision (s * 2 ^ j) place loss amount parts p u l full g, g)
-
--- what is moved up stays within the machine word
-pub shift_whole : (precision s digits j place up down : ℕ) → precision ≤ 125 → s < 2 ^ digits
-    → digits + up ≤ place + precision + down → place + down + j ≡ up → s * 2 ^ j ≡ s * 2 ^ j % 2 ^ 128
-shift_whole precision s digits j place up down p b c e =
-    let l₀ : digits + j ≤ precision = omega arith in
-    let l : s * 2 ^ j < 2 ^ precision = fits_shifted s digits j precision b l₀ in
-    let p₁ : precision ≤ 128 = omega arith in
-    let m : 2 ^ precision ≤ 2 ^ 128 = pow-le-pow_right two_pos p₁ in
-    sym (mod-eq_of_lt (omega arith))
-
--- no digits: the number is zero
-pub some_digits : (s digits : ℕ) → s < 2 ^ digits → (s ≡ 0 → ⊥) → 0 < digits
-some_digits s zero h n = absurd (n (omega arith))
-some_digits s (suc d) h n = omega arith
+    let g : StandsFor q loss amount (2 ^ place * parts) = kept_stands q loss amount parts k up down place e h in (
+      enclosed_from precision q place loss amount parts p u (cut_fits precision s q digits k place up down b c e w)
+          (cut_full precision s q digits k place up down p f r e w) g,
+      g,
+    )
 
 -- the digits that were moved up enclose the magnitude
 pub shift_kept : (precision s digits j place up down : ℕ) (loss : Loss) (amount parts : ℕ) → 0 < precision
@@ -205,10 +221,15 @@ pub shift_kept : (precision s digits j place up down : ℕ) (loss : Loss) (amoun
     → IsEnclosed precision (2 ^ (precision - 1)) (s * 2 ^ j % 2 ^ 128) place amount parts
     × StandsFor (s * 2 ^ j % 2 ^ 128) loss amount (2 ^ place * parts)
 shift_kept precision s digits j place up down loss amount parts p p' u b f n c r e z h =
-    subst (λ (x : ℕ). IsEnclosed precision (2 ^ (precision - 1)) x place amount parts
-    × StandsFor x loss amount (2 ^ place * parts))
+    let g : StandsFor (s * 2 ^ j % 2 ^ 128) loss amount (2 ^ place * parts) =
+    subst (λ (x : ℕ). StandsFor x loss amount (2 ^ place * parts))
     (shift_whole precision s digits j place up down p' b c e)
-    (shift_kept_at precision s digits j place up down loss amount parts p u b f (some_digits s digits b n) c r e z h)
+    (shifted_stands s loss amount parts j up down place z e h) in (
+      enclosed_from precision (s * 2 ^ j % 2 ^ 128) place loss amount parts p u
+          (shift_fits precision s digits j place up down p' b c e)
+          (shift_full precision s digits j place up down p' b f n c r e) g,
+      g,
+    )
 
 -- a significand with all its digits has no room to move up
 pub too_full : (s digits j precision : ℕ) → s < 2 ^ digits → 0 < j → digits + j ≤ precision
@@ -234,59 +255,23 @@ zero_kept precision s up down loss amount parts p u z e h =
     subst (λ (x : Loss). StandsFor 0 x amount (2 ^ 0 * parts)) (sym e) g in
     (enclosed_from precision 0 0 loss amount parts p u (pow_pos precision) (inl refl) g', g')
 
+-- of three cases, the only one left is that nothing was lost
+nothing_lost : (loss : Loss) (P Q : Type 0) → (loss ≡ ExactlyZero) ⊎ (P ⊎ Q) → (P → ⊥) → (Q → ⊥)
+    → loss ≡ ExactlyZero
+nothing_lost loss P Q h n m = ⊎_elim (λ z. z) (λ o. absurd (⊎_elim n m o)) h
+
 -- nothing was lost, where the unit lies above the place that is kept
-pub exact_zero : (s precision : ℕ) (loss : Loss) (A : Type 0) → s ≡ 0
-    → (loss ≡ ExactlyZero) ⊎ (A ⊎ (2 ^ (precision - 1) ≤ s)) → (A → ⊥) → loss ≡ ExactlyZero
-exact_zero s precision loss A z (inl e) n = e
-exact_zero s precision loss A z (inr (inl a)) n = absurd (n a)
-exact_zero s precision loss A z (inr (inr l)) n = let p : 0 < 2 ^ (precision - 1) = pow_pos (precision - 1) in
-    absurd (omega arith)
+pub exact_zero : (s precision : ℕ) (loss : Loss) (P : Type 0) → s ≡ 0
+    → (loss ≡ ExactlyZero) ⊎ (P ⊎ (2 ^ (precision - 1) ≤ s)) → (P → ⊥) → loss ≡ ExactlyZero
+exact_zero s precision loss P z h n =
+    let p = pow_pos (precision - 1) in nothing_lost loss P _ h n (λ l. omega (arith, l, p))
 
 -- what is moved up has nothing lost below it: what has lost something is full already
-pub exact_shift : (s digits j place up down precision : ℕ) (loss : Loss) (A : Type 0) → s < 2 ^ digits → 0 < j
+pub exact_shift : (s digits j place up down precision : ℕ) (loss : Loss) (P : Type 0) → s < 2 ^ digits → 0 < j
     → digits + up ≤ place + precision + down → place + down + j ≡ up
-    → (loss ≡ ExactlyZero) ⊎ (A ⊎ (2 ^ (precision - 1) ≤ s)) → (A → ⊥) → loss ≡ ExactlyZero
-exact_shift s digits j place up down precision loss A b p c e (inl z) n = z
-exact_shift s digits j place up down precision loss A b p c e (inr (inl a)) n = absurd (n a)
-exact_shift s digits j place up down precision loss A b p c e (inr (inr l)) n =
-    let l₀ : digits + j ≤ precision = omega arith in
-    absurd (too_full s digits j precision b p l₀ l)
-
--- ---- the same, whatever is lost
-
--- by the place that a delivery aims at: what is cut fits
-pub cut_fits : (precision s q digits k place up down : ℕ) → s < 2 ^ digits → digits + up ≤ place + precision + down
-    → k + up ≡ place + down → q ≡ s / 2 ^ k → q < 2 ^ precision
-cut_fits precision s q digits k place up down b c e w =
-    let l₀ : digits ≤ k + precision = omega arith in
-    subst (λ (x : ℕ). x < 2 ^ precision) (sym w) (fits_cut s digits k precision b l₀)
-
--- and has all its digits, above the lowest place
-pub cut_full : (precision s q digits k place up down : ℕ) → 0 < precision → (0 < digits → 2 ^ (digits - 1) ≤ s)
-    → (place ≡ 0) ⊎ (digits + up ≡ place + precision + down) → k + up ≡ place + down → q ≡ s / 2 ^ k
-    → (place ≡ 0) ⊎ (2 ^ (precision - 1) ≤ q)
-cut_full precision s q digits k place up down p f r e w =
-    ⊎_elim (λ z. inl z)
-    (λ z. inr (subst (λ (x : ℕ). 2 ^ (precision - 1) ≤ x) (sym w)
-    (full_cut s digits k precision p f (omega (arith, z))))) r
-
--- likewise what is moved up fits
-pub shift_fits : (precision s digits j place up down : ℕ) → precision ≤ 125 → s < 2 ^ digits
-    → digits + up ≤ place + precision + down → place + down + j ≡ up → s * 2 ^ j % 2 ^ 128 < 2 ^ precision
-shift_fits precision s digits j place up down p' b c e =
-    let l₀ : digits + j ≤ precision = omega arith in
-    subst (λ (x : ℕ). x < 2 ^ precision) (shift_whole precision s digits j place up down p' b c e)
-    (fits_shifted s digits j precision b l₀)
-
--- and has all its digits, above the lowest place
-pub shift_full : (precision s digits j place up down : ℕ) → precision ≤ 125 → s < 2 ^ digits
-    → (0 < digits → 2 ^ (digits - 1) ≤ s) → (s ≡ 0 → ⊥) → digits + up ≤ place + precision + down
-    → (place ≡ 0) ⊎ (digits + up ≡ place + precision + down) → place + down + j ≡ up
-    → (place ≡ 0) ⊎ (2 ^ (precision - 1) ≤ s * 2 ^ j % 2 ^ 128)
-shift_full precision s digits j place up down p' b f n c r e =
-    ⊎_elim (λ y. inl y)
-    (λ y. inr (subst (λ (x : ℕ). 2 ^ (precision - 1) ≤ x) (shift_whole precision s digits j place up down p' b c e)
-    (full_shifted s digits j precision (some_digits s digits b n) f (omega (arith, y))))) r
+    → (loss ≡ ExactlyZero) ⊎ (P ⊎ (2 ^ (precision - 1) ≤ s)) → (P → ⊥) → loss ≡ ExactlyZero
+exact_shift s digits j place up down precision loss P b p c e h n =
+    nothing_lost loss P _ h n (too_full s digits j precision b p (omega arith))
 
 -- ---- all digits
 
@@ -296,11 +281,9 @@ pub digits_le : (s digits precision : ℕ) → s < 2 ^ precision → (0 < digits
 digits_le s digits precision h f =
     ⊎_elim
     (λ (l : precision < digits).
-    let p : 0 < digits = omega arith in
-    let a : 2 ^ (digits - 1) ≤ s = f p in
-    let m : precision ≤ digits - 1 = omega arith in
-    let k : 2 ^ precision ≤ 2 ^ (digits - 1) = pow-le-pow_right two_pos m in
-    absurd (omega arith))
+    let a : 2 ^ (digits - 1) ≤ s = f (omega arith) in
+    let e = exponent_below (digits - 1) precision (omega arith) in
+    absurd (omega (arith, e)))
     (λ (l : digits ≤ precision). l)
     (cases_lt precision digits)
 

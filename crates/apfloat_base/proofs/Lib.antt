@@ -1,5 +1,6 @@
+pub mod LawTest
 pub mod Neighbours
-pub mod Existence
+pub mod NeighboursExist
 pub mod Losses
 pub mod KeptDigits
 pub mod Picks
@@ -16,7 +17,7 @@ pub mod EncodedOnce
 pub mod Ranges
 pub mod FieldsOf
 pub mod Once
-pub mod Exists
+pub mod AnswersExist
 pub mod Scaled
 pub mod Powers
 pub mod MoreDigits

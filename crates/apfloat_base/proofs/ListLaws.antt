@@ -1,10 +1,10 @@
 -- Lists: members that pass a test, runs, what filters leave, and items by their places.
 use mathlib.Core.Bool.{Bool}
-use Rattle.std.proofs.Common.{◌≡◌, ℕ, true, false, refl, sym, ap, ◌∙◌, List, [], ◌∷◌, ◌++◌, length, take, drop, get_or, filter, zero, suc, ◌-◌, ◌<◌, ◌≤◌, Some, subst, arith, append_assoc}
+use Rattle.std.proofs.Common.{◌≡◌, ◌⊎◌, ℕ, true, false, cond, refl, sym, ap, ◌∙◌, List, [], ◌∷◌, ◌++◌, length, take, drop, get_or, filter, zero, suc, ◌-◌, ◌<◌, ◌≤◌, Some, subst, inl, inr, arith, append_assoc}
 use Rattle.std.specs.Prelude.{slice_get}
-use Rattle.std.proofs.lemmas.Bool.{and_parts, and_from}
+use Rattle.std.proofs.lemmas.Bool.{and_parts, and_from, cases_Bool, false≢true}
 use Rattle.std.proofs.lemmas.List.{take_all}
-use Rattle.apfloat_base.specs.texts.Digits.{every, begins, run, behind_run}
+use Rattle.apfloat_base.specs.texts.Digits.{every, begins, run, behind_run, is_empty}
 
 -- ---- members that pass
 
@@ -35,7 +35,7 @@ every_weaker test other w (c ∷ xs) h =
 
 -- ---- runs
 
--- the run of a test goes through a list that passes it, and ends where the next list does not begin with one
+-- a run goes through a list that passes its test, up to a list that does not begin with one
 pub run_through : (test : ℕ → Bool) (xs rest : List ℕ) → every test xs ≡ true → begins test rest ≡ false
     → run test (xs ++ rest) ≡ xs
 run_through test [] [] h b = refl
@@ -52,6 +52,48 @@ behind_run_through test [] (c ∷ rest) h b = rw b refl
 behind_run_through test (c ∷ xs) rest h b =
     let p = and_parts (test c) (every test xs) h in
     rw p.0 (behind_run_through test xs rest p.1 b)
+
+-- a list is its run and what stands behind it
+pub split_run : (test : ℕ → Bool) (xs : List ℕ) → xs ≡ run test xs ++ behind_run test xs
+split_run test [] = refl
+split_run test (c ∷ xs) = go (test c) (split_run test xs)
+  where
+    go : (passes : Bool) → xs ≡ run test xs ++ behind_run test xs
+        → c ∷ xs ≡ cond passes (c ∷ run test xs) [] ++ cond passes (behind_run test xs) (c ∷ xs)
+    go true e = ap (λ (t : List ℕ). c ∷ t) e
+    go false e = refl
+
+-- the run passes its test
+pub run_passes : (test : ℕ → Bool) (xs : List ℕ) → every test (run test xs) ≡ true
+run_passes test [] = refl
+run_passes test (c ∷ xs) = go (cases_Bool (test c)) (run_passes test xs)
+  where
+    go : (test c ≡ true) ⊎ (test c ≡ false) → every test (run test xs) ≡ true
+        → every test (cond (test c) (c ∷ run test xs) []) ≡ true
+    go (inl e) h = rw (e, e, h) refl
+    go (inr e) h = rw e refl
+
+-- and what stands behind it does not begin with an item that passes
+pub run_stops : (test : ℕ → Bool) (xs : List ℕ) → begins test (behind_run test xs) ≡ false
+run_stops test [] = refl
+run_stops test (c ∷ xs) = go (cases_Bool (test c)) (run_stops test xs)
+  where
+    go : (test c ≡ true) ⊎ (test c ≡ false) → begins test (behind_run test xs) ≡ false
+        → begins test (cond (test c) (behind_run test xs) (c ∷ xs)) ≡ false
+    go (inl e) h = rw e h
+    go (inr e) h = rw e e
+
+-- what stands behind a run passes each test that the whole passes
+pub behind_passes : (test other : ℕ → Bool) (xs : List ℕ) → every other xs ≡ true
+    → every other (behind_run test xs) ≡ true
+behind_passes test other [] h = refl
+behind_passes test other (c ∷ xs) h =
+    go (test c) (behind_passes test other xs (and_parts (other c) (every other xs) h).1)
+  where
+    go : (passes : Bool) → every other (behind_run test xs) ≡ true
+        → every other (cond passes (behind_run test xs) (c ∷ xs)) ≡ true
+    go true g = g
+    go false g = h
 
 -- ---- filters
 
@@ -88,11 +130,16 @@ get_left (x ∷ xs) ys zero within = refl
 get_left (x ∷ xs) ys (suc k) within = get_left xs ys k (omega arith)
 
 -- and the one item of the second stands behind them
-pub get_last : {X : Type 0} (xs : List X) (y : X) → slice_get (xs ++ y ∷ []) (length xs) ≡ Some y
+pub get_last : {X : Type 0} (xs : List X) (last : X) → slice_get (xs ++ last ∷ []) (length xs) ≡ Some last
 get_last [] y = refl
 get_last (x ∷ xs) y = get_last xs y
 
 -- ---- first items
+
+-- a list that is not empty has an item
+pub some_length : (xs : List ℕ) → is_empty xs ≡ false → 1 ≤ length xs
+some_length [] h = absurd (false≢true (sym h))
+some_length (c ∷ xs) h = omega arith
 
 -- a list with a first item, as a pattern takes it apart
 pub parted : (P : List ℕ → Type 0) (xs : List ℕ) → 1 ≤ length xs → P xs
@@ -104,12 +151,25 @@ parted P (x ∷ xs) h p =
     take_all (length xs) xs (omega arith) in
     subst (λ (l : List ℕ). P (x ∷ l)) (sym t) p
 
--- a list without items, or whose first item fails a test, does not begin with one that passes it
+-- a list without items does not begin with one that passes a test
 pub begins_empty : (test : ℕ → Bool) (xs : List ℕ) → length xs < 1 → begins test xs ≡ false
 begins_empty test [] h = refl
 begins_empty test (x ∷ xs) h = absurd (omega (arith, h))
 
+-- nor does one whose first item fails it
 pub begins_first : (test : ℕ → Bool) (xs : List ℕ) → 1 ≤ length xs → test (get_or xs 0 0) ≡ false
     → begins test xs ≡ false
 begins_first test [] h e = refl
 begins_first test (x ∷ xs) h e = e
+
+-- ---- lists with items
+
+-- a list with an item is not empty
+pub not_empty : (xs : List ℕ) → 1 ≤ length xs → is_empty xs ≡ false
+not_empty [] h = absurd (omega (arith, h))
+not_empty (c ∷ xs) h = refl
+
+-- nor is a list with an item behind it
+pub not_empty_through : (xs : List ℕ) (item : ℕ) (rest : List ℕ) → is_empty (xs ++ (item ∷ rest)) ≡ false
+not_empty_through [] item rest = refl
+not_empty_through (x ∷ xs) item rest = refl

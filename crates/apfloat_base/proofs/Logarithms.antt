@@ -1,21 +1,18 @@
 -- The binary logarithm of a number that is not 0, rounded down.
-use Rattle.std.proofs.Common.{◌≡◌, ℕ, ◌+◌, ◌-◌, ◌*◌, ◌^◌, ◌<◌, ◌≤◌, suc, zero, ⊎_elim, arith}
+use Rattle.std.proofs.Common.{◌≡◌, ℕ, ◌+◌, ◌-◌, ◌*◌, ◌^◌, ◌<◌, ◌≤◌, suc, ⊎_elim, arith}
 use Rattle.std.specs.Int.Count.{count_leading_zeros}
 use Rattle.std.proofs.lemmas.Nat.{leading_top, pow_pos}
 use Rattle.std.proofs.lemmas.Bool.{cases_order}
 use Rattle.std.proofs.Math.Nat.{two-pow-succ}
 use Rattle.std.proofs.Math.Pow.{pow_mono}
 use Rattle.apfloat_base.specs.formats.Log.{log2}
-
-lt_pow : (n : ℕ) → n < 2 ^ n
-lt_pow zero = omega arith
-lt_pow (suc n) = omega (arith, lt_pow n, two-pow-succ n)
+use Rattle.apfloat_base.proofs.Powers.{below_power}
 
 -- a number is at least the power of its logarithm, and below twice that power
 pub log2_bounds : (n : ℕ) → 0 < n → (2 ^ log2 n ≤ n) × (n < 2 * 2 ^ log2 n)
 unfolding log2
 log2_bounds n h =
-    let t = leading_top n n h (lt_pow n) in
+    let t = leading_top n n h (below_power n) in
     let e : n - (count_leading_zeros n n + 1) ≡ t.0 = omega (arith, t.1) in
     rw e (t.2, omega (arith, t.3, two-pow-succ t.0))
 

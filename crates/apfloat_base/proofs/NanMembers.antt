@@ -12,6 +12,7 @@ use Rattle.apfloat_base.specs.formats.Members.{IsNanSignificand}
 use Rattle.apfloat_base.specs.formats.Nan.{quiet_bit_of, quiet_significand, signaling_significand}
 use Rattle.apfloat_base.proofs.Choices.{if_case}
 
+-- 2 ^ (p - 1), 2 ^ p and 2 ^ (p - 2) as multiples of lower powers
 twice : (p : ℕ) → 3 ≤ p
     → (2 ^ (p - 1) ≡ 2 * 2 ^ (p - 2)) × (2 ^ p ≡ 4 * 2 ^ (p - 2)) × (2 ^ (p - 2) ≡ 2 * 2 ^ (p - 3))
     × (0 < 2 ^ (p - 3))
@@ -21,7 +22,7 @@ twice p h =
     let c : 2 ^ (p - 2) ≡ 2 ^ (1 + (p - 3)) = ap (λ (x : ℕ). 2 ^ x) (omega arith) in
     (a ∙ pow-add 2 1 (p - 2), b ∙ pow-add 2 2 (p - 2), c ∙ pow-add 2 1 (p - 3), pow_pos (p - 3))
 
--- a number with a lower bit set is no power of two
+-- a number with the bit 2 ^ j set is not 2 ^ i for another i
 or_no_power : (s i j : ℕ) → i ≢ j → bit_or s (2 ^ j) ≢ 2 ^ i
 or_no_power s i j apart e =
     let a : bit_and (2 ^ i) (2 ^ j) ≡ 2 ^ j = ap (λ (x : ℕ). bit_and x (2 ^ j)) (sym e) ∙ and_or_self (2 ^ j) s in
@@ -29,8 +30,8 @@ or_no_power s i j apart e =
     omega (arith, a, pow_apart i j apart, z)
 
 -- a NaN made quiet has a significand of a NaN
-pub or_member : (kind : NonfiniteBehavior) (e : Bool) (p s : ℕ) → 3 ≤ p → IsNanSignificand kind e p s
-    → IsNanSignificand kind e p (bit_or s (quiet_bit_of kind p))
+pub or_member : (kind : NonfiniteBehavior) (explicit : Bool) (p s : ℕ) → 3 ≤ p → IsNanSignificand kind explicit p s
+    → IsNanSignificand kind explicit p (bit_or s (quiet_bit_of kind p))
 or_member IEEE754 false p s h (some, below) =
     let t = twice p h in let g = le_or_l s (2 ^ (p - 2)) in
     let l : 2 ^ (p - 2) < 2 ^ (p - 1) = omega (arith, t) in
@@ -42,8 +43,9 @@ or_member IEEE754 true p s h (below, other) =
 or_member NanOnly e p s h m = rw (or_zero_r s) m
 or_member NanNegativeZero e p s h m = rw (or_zero_r s) m
 
-quiet_kinds : (kind : NonfiniteBehavior) (e : Bool) (p payload : ℕ) → 3 ≤ p
-    → IsNanSignificand kind e p (bit_or (bit_or (nan_base_of kind p) (quiet_bits_of kind e p))
+-- the quiet bits and the digits of a payload make one too, in each kind of format
+quiet_kinds : (kind : NonfiniteBehavior) (explicit : Bool) (p payload : ℕ) → 3 ≤ p
+    → IsNanSignificand kind explicit p (bit_or (bit_or (nan_base_of kind p) (quiet_bits_of kind explicit p))
     (bit_and payload (payload_mask_of kind p)))
 quiet_kinds IEEE754 false p payload h =
     let t = twice p h in
@@ -71,18 +73,17 @@ pub quiet_member : (format : Format) (payload : ℕ) → 3 ≤ format.precision
     → IsNanSignificand format.nonfinite format.explicit_integer_bit format.precision (quiet_significand format payload)
 quiet_member format payload h = quiet_kinds format.nonfinite format.explicit_integer_bit format.precision payload h
 
-lit_apart : {A : Type 0} (n : ℕ) → n ≡ 0 → eqb n 0 ≡ false → A
-lit_apart n z e = absurd (eqb-false n 0 e z)
-
+-- without a quiet bit, clearing it changes nothing
 less_nothing : (q : ℕ) → q - bit_and q 0 ≡ q
 less_nothing q = let e : bit_and q 0 ≡ 0 = and_zero_r q in omega (arith, e)
 
+-- nor does setting the bit below it
 or_nothing : (q : ℕ) → bit_or (q - bit_and q 0) (0 / 2) ≡ q
 or_nothing q = ap (λ (x : ℕ). bit_or x 0) (less_nothing q) ∙ or_zero_r q
 
--- a significand without its quiet bit, and with the bit below where nothing else is set
-signaling_kinds : (kind : NonfiniteBehavior) (e : Bool) (p q : ℕ) → 3 ≤ p → IsNanSignificand kind e p q →
-    IsNanSignificand kind e p (let c = q - bit_and q (quiet_bit_of kind p) in
+-- without its quiet bit, and with the bit below it if no bit is left, it is one too
+signaling_kinds : (kind : NonfiniteBehavior) (explicit : Bool) (p q : ℕ) → 3 ≤ p → IsNanSignificand kind explicit p q
+    → IsNanSignificand kind explicit p (let c = q - bit_and q (quiet_bit_of kind p) in
     if eqb (bit_and c (payload_mask_of kind p)) 0
     then bit_or c (quiet_bit_of kind p / 2) else c)
 signaling_kinds IEEE754 false p q h (some, below) =
@@ -96,8 +97,8 @@ signaling_kinds IEEE754 false p q h (some, below) =
     (λ _. (omega (arith, t, half, g), or_lt (p - 1) c (2 ^ (p - 2) / 2) l m))
     (λ n. (
       pos_of_ne-zero {n = c}
-          (λ z. lit_apart (bit_and c (2 ^ (p - 1) - 1))
-          (ap (λ (x : ℕ). bit_and x (2 ^ (p - 1) - 1)) z ∙ and_zero_l (2 ^ (p - 1) - 1)) n),
+          (λ z. eqb-false (bit_and c (2 ^ (p - 1) - 1)) 0 n
+          (ap (λ (x : ℕ). bit_and x (2 ^ (p - 1) - 1)) z ∙ and_zero_l (2 ^ (p - 1) - 1))),
       l,
     ))
 signaling_kinds IEEE754 true p q h (below, other) =
@@ -113,9 +114,8 @@ signaling_kinds IEEE754 true p q h (below, other) =
     ))
     (λ n. (
       l,
-      λ e. lit_apart (bit_and c (2 ^ (p - 1) - 1))
-          (ap (λ (x : ℕ). bit_and x (2 ^ (p - 1) - 1)) e ∙ and_mask (2 ^ (p - 1)) (p - 1) ∙ mod_self (2 ^ (p - 1)))
-          n,
+      λ e. eqb-false (bit_and c (2 ^ (p - 1) - 1)) 0 n
+          (ap (λ (x : ℕ). bit_and x (2 ^ (p - 1) - 1)) e ∙ and_mask (2 ^ (p - 1)) (p - 1) ∙ mod_self (2 ^ (p - 1))),
     ))
 signaling_kinds NanOnly e p q h m =
     if_case (IsNanSignificand NanOnly e p) (eqb (bit_and (q - bit_and q 0) 0) 0)

@@ -39,6 +39,7 @@ takes_more TowardNegative negative odd x y h = refl
 takes_more TowardZero negative odd x y h = refl
 takes_more NearestTiesToAway negative odd x y h = grind arith
 
+-- the lower neighbour, counted in steps to the upper one, is odd if and only if its significand is
 odd_is : (m c : ℕ) → eqb (m * 2 ^ c / ((m + 1) * 2 ^ c - m * 2 ^ c) % 2) 1 ≡ eqb (m % 2) 1
 odd_is m c =
     let d : (m + 1) * 2 ^ c - m * 2 ^ c ≡ 2 ^ c = omega arith in

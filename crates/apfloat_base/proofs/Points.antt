@@ -1,6 +1,6 @@
 -- The point that is picked, and whether it is past the largest value.
 use Rattle.std.proofs.Common.{◌≡◌, ℕ, ◌+◌, ◌-◌, ◌*◌, ◌%◌, ◌^◌, ◌<◌, ◌≤◌, ◌⊎◌, Bool, true, false, cond, ltb, eqb, sym, ap, ◌∙◌, subst, inl, inr, ⊎_elim, arith}
-use Rattle.std.proofs.Math.Nat.{mul-le-mul_right, mul-lt-mul_of_pos_right, pow-le-pow_right}
+use Rattle.std.proofs.Math.Nat.{pow-le-pow_right}
 use Rattle.std.proofs.lemmas.Nat.{pow_pos}
 use Rattle.std.proofs.lemmas.Bool.{cases_lt, lt-ltb, le-ltb}
 use Rattle.apfloat_base.specs.declared.kinds.Round.{Round}
@@ -10,9 +10,10 @@ use Rattle.apfloat_base.specs.rounding.Enclosure.{IsEnclosed, rounds_up}
 use Rattle.apfloat_base.specs.rounding.Rounding.{IsPick}
 use Rattle.apfloat_base.proofs.Neighbours.{fine_point_at, carried}
 use Rattle.apfloat_base.proofs.Picks.{kept, pick_is}
-use Rattle.apfloat_base.proofs.Powers.{two_pos}
-use Rattle.apfloat_base.proofs.Losses.{twice_half}
+use Rattle.apfloat_base.proofs.Powers.{two_pos, twice_half}
+use Rattle.apfloat_base.proofs.Choices.{ltb_times}
 
+-- one more than a significand of at most 125 digits fits into a word of 128
 pub room : (n precision : ℕ) → precision ≤ 125 → n < 2 ^ precision → n + 1 < 2 ^ 128
 room n precision p h =
     let a : 2 ^ precision ≤ 2 ^ 125 = pow-le-pow_right two_pos p in
@@ -51,14 +52,7 @@ pick_carries precision mode negative m c amount parts loss s whole half l e w v 
 
 -- ---- past the largest
 
-ltb_times : (a b u : ℕ) → 0 < u → ltb a b ≡ ltb (a * u) (b * u)
-ltb_times a b u p =
-    ⊎_elim
-    (λ (h : a < b). lt-ltb a b h ∙ sym (lt-ltb (a * u) (b * u) (mul-lt-mul_of_pos_right h p)))
-    (λ (h : b ≤ a). le-ltb a b h ∙ sym (le-ltb (a * u) (b * u) (mul-le-mul_right u h)))
-    (cases_lt a b)
-
--- at the last place, a point is past the largest value where its significand is past the greatest one
+-- at the last place, a point is past the largest value if its significand is past the greatest
 pub past_same : (s place greatest span : ℕ) → place ≡ span
     → ltb greatest s ≡ ltb (greatest * 2 ^ span) (s * 2 ^ place)
 past_same s place greatest span e =
@@ -74,7 +68,7 @@ past_above half s place greatest span g (inr f) l =
     let p : 0 < 2 ^ span = pow_pos span in
     omega arith
 
--- at another place, where the place is past the last one
+-- at another place, it is past the largest value if its place is past the last one
 pub past_other : (precision s place greatest span : ℕ) → 0 < precision → s < 2 ^ precision
     → (place ≡ 0) ⊎ (2 ^ (precision - 1) ≤ s) → greatest < 2 ^ precision → 2 ^ (precision - 1) ≤ greatest
     → (place ≡ span → ⊥) → ltb span place ≡ ltb (greatest * 2 ^ span) (s * 2 ^ place)

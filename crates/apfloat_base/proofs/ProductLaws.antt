@@ -1,30 +1,20 @@
 -- Products under opposite rounding.
-use Rattle.std.proofs.Common.{◌≡◌, ℕ, zero, suc, ◌<◌, ◌*◌, ◌^◌, Bool, true, false, not, sym, refl, subst, arith}
-use Rattle.std.proofs.lemmas.Bool.{ne_eqb, false≢true}
+use Rattle.std.proofs.Common.{ℕ, zero, suc, ◌<◌, ◌*◌, ◌^◌, Bool, not, subst, arith}
+use Rattle.std.proofs.lemmas.Bool.{false≢true}
 use Rattle.apfloat_base.specs.declared.kinds.Round.{Round}
-use Rattle.apfloat_base.specs.declared.kinds.NonfiniteBehavior.{NonfiniteBehavior}
 use Rattle.apfloat_base.specs.formats.Format.{Format, largest}
 use Rattle.apfloat_base.specs.formats.Datum.{Datum, finite, infinite, nan}
 use Rattle.apfloat_base.specs.rounding.Rounding.{IsDelivered}
 use Rattle.apfloat_base.specs.rounding.Negation.{swapped, negated}
 use Rattle.apfloat_base.specs.arithmetic.Exact.{product_sign}
 use Rattle.apfloat_base.specs.arithmetic.Products.{IsProduct, IsOpposite}
-use Rattle.apfloat_base.proofs.Laws.{delivered_swapped}
-
-other_sign : (b c : Bool) → not (product_sign b c) ≡ product_sign (not b) c
-other_sign true true = refl
-other_sign true false = refl
-other_sign false true = refl
-other_sign false false = refl
-
-negated_some : (kind : NonfiniteBehavior) (b : Bool) (m : ℕ)
-    → negated kind (finite b (suc m)) ≡ finite (not b) (suc m)
-negated_some kind b m = rw (ne_eqb (suc m) 0 (λ z. omega (arith, z))) refl
+use Rattle.apfloat_base.proofs.Choices.{other_sign}
+use Rattle.apfloat_base.proofs.Laws.{delivered_swapped, number_swapped}
 
 -- for two numbers
-opposite_numbers : (format : Format) (mode : Round) (b c : Bool) (m n : ℕ) (value : Datum) (status : ℕ)
-    → 0 < largest format → IsProduct format mode (finite b m) (finite c n) value status
-    → IsOpposite format mode (finite b m) (finite c n) value status
+opposite_numbers : (format : Format) (mode : Round) (left right : Bool) (m n : ℕ) (value : Datum) (status : ℕ)
+    → 0 < largest format → IsProduct format mode (finite left m) (finite right n) value status
+    → IsOpposite format mode (finite left m) (finite right n) value status
 opposite_numbers format mode b c zero n value status l h x y = absurd (false≢true x)
 opposite_numbers format mode b c (suc m) n value status l h x y =
     let d : IsDelivered format (swapped mode) (product_sign (not b) c) (suc m * n) (2 ^ format.scale)
@@ -33,7 +23,7 @@ opposite_numbers format mode b c (suc m) n value status l h x y =
     (negated format.nonfinite value) status) (other_sign b c)
     (delivered_swapped format mode (product_sign b c) (suc m * n) (2 ^ format.scale) value status l h) in
     subst (λ (left : Datum). IsProduct format (swapped mode) left (finite c n) (negated format.nonfinite value) status)
-    (sym (negated_some format.nonfinite b m)) d
+    (number_swapped format.nonfinite b (suc m) (omega arith)) d
 
 -- the product with one factor negated, in the swapped mode, is the negated product
 pub opposite_product : (format : Format) (mode : Round) (x y value : Datum) (status : ℕ) → 0 < largest format

@@ -7,8 +7,7 @@ use Rattle.apfloat_base.specs.declared.kinds.NonfiniteBehavior.TheVariants.{IEEE
 use Rattle.apfloat_base.specs.formats.Format.{Format, largest, greatest_significand}
 use Rattle.apfloat_base.specs.bits.Layout.{Layout, all_ones}
 use Rattle.apfloat_base.specs.bits.Interchange.{IsInterchange}
-use Rattle.apfloat_base.proofs.Powers.{two_pos}
-use Rattle.apfloat_base.proofs.Losses.{twice_half}
+use Rattle.apfloat_base.proofs.Powers.{two_pos, twice_half, four}
 use Rattle.apfloat_base.proofs.Greatest.{greatest_low}
 
 -- a significand that is not greater at a place that is not higher
@@ -41,24 +40,21 @@ pub low_within : (format : Format) (m : ℕ) → 3 ≤ format.precision → m < 
     → m * 1 ≤ largest format
 low_within format m precise h =
     let t : 2 * 2 ^ (format.precision - 1) ≡ 2 ^ format.precision = twice_half format.precision (omega arith) in
-    let d : 2 ≤ format.precision - 1 = omega arith in
-    let p : 2 ^ 2 ≤ 2 ^ (format.precision - 1) = pow-le-pow_right two_pos d in
+    let p = four format.precision precise in
     let l = greatest_low format.nonfinite format.precision in
     at_top format m 0 (omega (arith, l, p)) (omega arith)
 
--- the smallest number, and the smallest normalized one
+-- the smallest number is within the largest value
 pub one_within : (format : Format) → 3 ≤ format.precision → 1 * 1 ≤ largest format
 one_within format precise =
-    let d : 2 ≤ format.precision - 1 = omega arith in
-    let p : 2 ^ 2 ≤ 2 ^ (format.precision - 1) = pow-le-pow_right two_pos d in
+    let p = four format.precision precise in
     low_within format 1 precise (omega (arith, p))
 
--- the least number with all digits is within the largest value
+-- and so is the smallest normalized one
 pub half_within : (format : Format) → 3 ≤ format.precision → 2 ^ (format.precision - 1) * 1 ≤ largest format
 half_within format precise =
     let t : 2 * 2 ^ (format.precision - 1) ≡ 2 ^ format.precision = twice_half format.precision (omega arith) in
-    let d : 2 ≤ format.precision - 1 = omega arith in
-    let p : 2 ^ 2 ≤ 2 ^ (format.precision - 1) = pow-le-pow_right two_pos d in
+    let p = four format.precision precise in
     let l = greatest_low format.nonfinite format.precision in
     at_top format (2 ^ (format.precision - 1)) 0 (omega (arith, l, p, t)) (omega arith)
 

@@ -1,5 +1,5 @@
--- Worked rows of what is rounded: known answers of the model. Operands and values are given by their bits in small
--- formats. That no other value and no other status is an answer, `Once` says.
+-- Worked rows of what is rounded: known answers of the model. Operands and values are given by
+-- their bits in small formats. That no other value and no other status is an answer, `Once` says.
 use Rattle.std.proofs.Common.{◌≡◌, ℕ, ◌+◌, true, false, refl, neg_ℤ, pos}
 use Rattle.apfloat_base.specs.declared.kinds.Round.{Round}
 use Rattle.apfloat_base.specs.declared.kinds.Round.TheVariants.{NearestTiesToEven, TowardPositive, TowardNegative, TowardZero, NearestTiesToAway}
@@ -17,6 +17,7 @@ use Rattle.apfloat_base.proofs.RowsIn.{half, single, e5m2, e4m3fn, e4m3fnuz, hal
 
 -- ---- whole numbers in
 
+-- 464 is a value of half precision
 half_of_464 : (mode : Round) → IsFromUnsigned half mode 464 (in_half 0x5f40) ok_bits
 half_of_464 mode = rounded 1856 22 refl refl refl
 
@@ -30,9 +31,11 @@ only_half_of_464 mode value status is =
 tie_to_even_of_2049 : IsFromUnsigned half NearestTiesToEven 2049 (in_half 0x6800) inexact_bit
 tie_to_even_of_2049 = rounded 1024 25 refl refl refl
 
+-- 2051 lies half way between 2050 and 2052
 tie_to_even_of_2051 : IsFromUnsigned half NearestTiesToEven 2051 (in_half 0x6802) inexact_bit
 tie_to_even_of_2051 = rounded 1025 25 refl refl refl
 
+-- a tie to away takes the greater magnitude
 tie_to_away_of_2049 : IsFromUnsigned half NearestTiesToAway 2049 (in_half 0x6801) inexact_bit
 tie_to_away_of_2049 = rounded 1024 25 refl refl refl
 
@@ -49,6 +52,7 @@ downward_of_minus_2049 = rounded 1024 25 refl refl refl
 overflow_of_half : IsFromUnsigned half NearestTiesToEven 65520 (in_half 0x7c00) (overflow_bit + inexact_bit)
 overflow_of_half = rounded 2047 29 refl refl refl
 
+-- downward the largest value is kept
 kept_at_the_largest_of_half : IsFromUnsigned half TowardNegative 65520 (in_half 0x7bff) inexact_bit
 kept_at_the_largest_of_half = rounded 2047 29 refl refl refl
 
@@ -56,6 +60,7 @@ kept_at_the_largest_of_half = rounded 2047 29 refl refl refl
 tie_at_the_largest_of_e4m3fn : IsFromUnsigned e4m3fn NearestTiesToEven 464 (in_e4m3fn 0x7e) inexact_bit
 tie_at_the_largest_of_e4m3fn = rounded 14 14 refl refl refl
 
+-- 465 is nearer to 480
 overflow_of_e4m3fn : IsFromUnsigned e4m3fn NearestTiesToEven 465 (in_e4m3fn 0x7f) (overflow_bit + inexact_bit)
 overflow_of_e4m3fn = rounded 14 14 refl refl refl
 
@@ -63,6 +68,7 @@ overflow_of_e4m3fn = rounded 14 14 refl refl refl
 largest_of_e4m3fnuz : IsFromUnsigned e4m3fnuz NearestTiesToEven 240 (in_e4m3fnuz 0x7f) ok_bits
 largest_of_e4m3fnuz = rounded 15 14 refl refl refl
 
+-- the even one of them is 256
 overflow_of_e4m3fnuz : IsFromUnsigned e4m3fnuz NearestTiesToEven 248 (in_e4m3fnuz 0x80) (overflow_bit + inexact_bit)
 overflow_of_e4m3fnuz = rounded 15 14 refl refl refl
 
@@ -73,6 +79,7 @@ sum_past_the_largest : IsSum half NearestTiesToEven (in_half 0x7bff) (in_half 0x
     (overflow_bit + inexact_bit)
 sum_past_the_largest = rounded 2047 29 refl refl refl
 
+-- toward zero the largest value is kept
 sum_kept_at_the_largest : IsSum half TowardZero (in_half 0x7bff) (in_half 0x4c00) (in_half 0x7bff) inexact_bit
 sum_kept_at_the_largest = rounded 2047 29 refl refl refl
 
@@ -80,6 +87,7 @@ sum_kept_at_the_largest = rounded 2047 29 refl refl refl
 just_below_one : IsDifference half NearestTiesToEven (in_half 0x3c00) (in_half 0x0001) (in_half 0x3c00) inexact_bit
 just_below_one = rounded 2047 13 refl refl refl
 
+-- toward zero it is the value just below 1
 just_below_one_cut : IsDifference half TowardZero (in_half 0x3c00) (in_half 0x0001) (in_half 0x3bff) inexact_bit
 just_below_one_cut = rounded 2047 13 refl refl refl
 
@@ -87,9 +95,11 @@ just_below_one_cut = rounded 2047 13 refl refl refl
 zero_difference : IsDifference half NearestTiesToEven (in_half 0x3c00) (in_half 0x3c00) (in_half 0x0000) ok_bits
 zero_difference = rounded 0 0 refl refl refl
 
+-- downward it is -0
 zero_difference_downward : IsDifference half TowardNegative (in_half 0x3c00) (in_half 0x3c00) (in_half 0x8000) ok_bits
 zero_difference_downward = rounded 0 0 refl refl refl
 
+-- but +0 where the format has no -0
 zero_difference_without_minus : IsDifference e4m3fnuz TowardNegative (in_e4m3fnuz 0x40) (in_e4m3fnuz 0x40)
     (in_e4m3fnuz 0x00) ok_bits
 zero_difference_without_minus = rounded 0 0 refl refl refl
@@ -105,20 +115,23 @@ underflow : IsProduct half NearestTiesToEven (in_half 0x0001) (in_half 0x3800) (
     (underflow_bit + inexact_bit)
 underflow = rounded 0 0 refl refl refl
 
+-- upward it is the least positive value
 underflow_upward : IsProduct half TowardPositive (in_half 0x0001) (in_half 0x3800) (in_half 0x0001)
     (underflow_bit + inexact_bit)
 underflow_upward = rounded 0 0 refl refl refl
 
--- A product below the smallest normal value is rounded to it. After rounding it is not tiny, before rounding it is.
+-- a product below the smallest normal value is rounded to it; after rounding it is not tiny
 tiny_after_rounding : IsProduct half NearestTiesToEven (in_half 0x0400) (in_half 0x3bff) (in_half 0x0400) inexact_bit
 tiny_after_rounding = rounded 1023 0 refl refl refl
 
+-- before rounding it is
 tiny_before_rounding : IsProduct half_tiny_before NearestTiesToEven (in_half 0x0400) (in_half 0x3bff)
     (in_half 0x0400) (underflow_bit + inexact_bit)
 tiny_before_rounding = rounded 1023 0 refl refl refl
 
 -- ---- quotients: 1 by 3
 
+-- rounded to 11, to 3, and to 4 digits
 third_in_half : IsQuotient half NearestTiesToEven (in_half 0x3c00) (in_half 0x4200) (in_half 0x3555) inexact_bit
 third_in_half = rounded 1365 12 refl refl refl
 
@@ -130,11 +143,12 @@ third_in_e4m3fn = rounded 10 4 refl refl refl
 
 -- ---- fused sums
 
--- The product is a little above the least positive value, which is taken away. Rounded once, what is left is not lost.
+-- the product is a little above the least positive value, which is subtracted: the rest is not lost
 fused_rounded_once : IsFusedSum half TowardPositive (in_half 0x0d89) (in_half 0x09c8) (in_half 0x8001)
     (in_half 0x0001) (underflow_bit + inexact_bit)
 fused_rounded_once = rounded 0 0 refl refl refl
 
+-- downward it is rounded to 0
 fused_rounded_once_to_zero : IsFusedSum half TowardNegative (in_half 0x0d89) (in_half 0x09c8) (in_half 0x8001)
     (in_half 0x0000) (underflow_bit + inexact_bit)
 fused_rounded_once_to_zero = rounded 0 0 refl refl refl
@@ -151,18 +165,22 @@ conversion_kept_at_the_largest : IsConversion single e4m3fn TowardPositive (in_s
     inexact_bit true
 conversion_kept_at_the_largest = record { is_delivered = rounded 15 14 refl refl refl; loses_is = refl }
 
+-- downward it becomes the NaN of its sign
 conversion_past_the_largest : IsConversion single e4m3fn TowardNegative (in_single 0xc3f00000) (in_e4m3fn 0xff)
     (overflow_bit + inexact_bit) true
 conversion_past_the_largest = record { is_delivered = rounded 15 14 refl refl refl; loses_is = refl }
 
+-- the least positive value of half precision is a normal value of single precision
 conversion_of_the_least : (mode : Round)
     → IsConversion half single mode (in_half 0x0001) (in_single 0x33800000) ok_bits false
 conversion_of_the_least mode = record { is_delivered = rounded 0x800000 102 refl refl refl; loses_is = refl }
 
 -- ---- scaling: 3 quanta by half
 
+-- 1.5 quanta: the even 2 is taken
 scaled_tie_to_even : IsScaling half NearestTiesToEven (in_half 0x0003) (neg_ℤ (pos 1)) (in_half 0x0002)
 scaled_tie_to_even = (_, rounded 1 0 refl refl refl)
 
+-- toward zero it is 1
 scaled_cut : IsScaling half TowardZero (in_half 0x0003) (neg_ℤ (pos 1)) (in_half 0x0001)
 scaled_cut = (_, rounded 1 0 refl refl refl)

@@ -1,5 +1,5 @@
--- Worked rows of what needs no rounding: NaNs and infinities, remainders, whole numbers out, neighbours, exponents,
--- order. See `Rows`.
+-- Worked rows of what needs no rounding: NaNs and infinities, remainders, whole numbers out,
+-- neighbours, exponents, order. See `Rows`.
 use Rattle.std.proofs.Common.{◌≡◌, ◌^◌, true, false, refl, neg_ℤ, pos, lit<, lit≤, arith}
 use Rattle.std.specs.Prelude.{Some, None}
 use Rattle.apfloat_base.specs.declared.kinds.Round.{Round}
@@ -30,6 +30,7 @@ signaling_made_quiet mode = answer
 left_of_two_nans : (mode : Round) → IsSum half mode (in_half 0x7e01) (in_half 0x7d00) (in_half 0x7e01) invalid_bit
 left_of_two_nans mode = answer
 
+-- an infinity less itself is invalid, and so is an infinity times zero
 infinities_of_one_sign : IsDifference half NearestTiesToEven (in_half 0x7c00) (in_half 0x7c00) (in_half 0x7e00)
     invalid_bit
 infinities_of_one_sign = answer
@@ -42,6 +43,7 @@ invalid_product : IsFusedSum half NearestTiesToEven (in_half 0x7c00) (in_half 0x
     (in_half 0x7e00) invalid_bit
 invalid_product = record { product = in_half 0x7e00; flags = invalid_bit; is_product = answer; is = answer }
 
+-- the only NaN of a format is not negated
 one_nan_is_not_negated : negated e4m3fnuz.nonfinite (in_e4m3fnuz 0x80) ≡ in_e4m3fnuz 0x80
 one_nan_is_not_negated = refl
 
@@ -51,22 +53,27 @@ one_nan_is_not_negated = refl
 nan_converted : IsConversion single half NearestTiesToEven (in_single 0x7fa00000) (in_half 0x7f00) invalid_bit false
 nan_converted = converted
 
+-- if a later bit is set, something is lost
 nan_with_loss : IsConversion single half NearestTiesToEven (in_single 0x7fc00001) (in_half 0x7e00) ok_bits true
 nan_with_loss = converted
 
+-- an infinity becomes a NaN in a format without infinities
 infinity_with_loss : IsConversion single e4m3fn NearestTiesToEven (in_single 0x7f800000) (in_e4m3fn 0x7f)
     inexact_bit true
 infinity_with_loss = converted
 
+-- -0 loses its sign in a format without -0
 zero_sign_lost : IsConversion half e4m3fnuz NearestTiesToEven (in_half 0x8000) (in_e4m3fnuz 0x00) inexact_bit true
 zero_sign_lost = converted
 
 -- ---- division by zero, in each of the three kinds of formats
 
+-- 1 by -0 is the negative infinity
 one_by_minus_zero : IsQuotient half NearestTiesToEven (in_half 0x3c00) (in_half 0x8000) (in_half 0xfc00)
     div_by_zero_bit
 one_by_minus_zero = answer
 
+-- without infinities it is the NaN of that sign, or the only NaN
 one_by_minus_zero_in_e4m3fn : (mode : Round)
     → IsQuotient e4m3fn mode (in_e4m3fn 0x38) (in_e4m3fn 0x80) (in_e4m3fn 0xff) div_by_zero_bit
 one_by_minus_zero_in_e4m3fn mode = answer
@@ -142,30 +149,36 @@ minus_zero_out = whole
 
 -- ---- the next value up
 
+-- above the largest value stands the infinity, or the NaN in a format without infinities
 next_of_largest : IsNextUp half (in_half 0x7bff) (in_half 0x7c00) ok_bits
 next_of_largest = answer
 
 next_of_largest_in_e4m3fnuz : IsNextUp e4m3fnuz (in_e4m3fnuz 0x7f) (in_e4m3fnuz 0x80) ok_bits
 next_of_largest_in_e4m3fnuz = answer
 
+-- above -0 stands the least positive value
 next_of_minus_zero : IsNextUp half (in_half 0x8000) (in_half 0x0001) ok_bits
 next_of_minus_zero = answer
 
+-- above the negative infinity stands the least finite value
 next_of_minus_infinity : IsNextUp half (in_half 0xfc00) (in_half 0xfbff) ok_bits
 next_of_minus_infinity = answer
 
+-- a signaling NaN is made quiet
 next_of_signaling : IsNextUp half (in_half 0xfd00) (in_half 0xfe00) invalid_bit
 next_of_signaling = answer
 
 -- ---- exponents
 
--- the least positive value of half precision is 2 ^ -24, and the greatest denormal is a little below 2 ^ -14
+-- the least positive value of half precision is 2 ^ -24
 logarithm_of_the_least : IsIlogb half (in_half 0x0001) (neg_ℤ (pos 24))
 logarithm_of_the_least = record { place = 0; low = lit≤ tt; high = lit< tt; is = refl }
 
+-- the greatest denormal is a little below 2 ^ -14
 logarithm_of_the_greatest_denormal : IsIlogb half (in_half 0x03ff) (neg_ℤ (pos 15))
 logarithm_of_the_greatest_denormal = record { place = 9; low = lit≤ tt; high = lit< tt; is = refl }
 
+-- 2 ^ -24 is 0.5 times 2 ^ -23
 fraction_of_the_least : IsFrexp half (in_half 0x0001) (in_half 0x3800) (neg_ℤ (pos 23))
 fraction_of_the_least = record { fraction = 2 ^ 23; low = lit≤ tt; high = lit< tt; same = refl; is = refl }
 

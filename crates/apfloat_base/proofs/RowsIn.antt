@@ -1,4 +1,4 @@
--- What the worked rows share: formats by their names, values by their bits, and how a rounding is proved.
+-- What the worked rows share: formats by name, values by their bits, and how a rounding is proved.
 use Rattle.std.proofs.Common.{◌≡◌, ℕ, ◌+◌, ◌-◌, ◌*◌, ◌^◌, ◌<◌, Bool, true, false, ltb, leb, eqb, ◌&&◌, ◌||◌, if◌then◌else◌, refl, sym, ⊎_elim, inl, inr}
 use Rattle.std.proofs.Math.Arith.{lt_of_le-ne}
 use Rattle.std.proofs.lemmas.Bool.{and_parts, or_cases, leb-true, ltb-true, eqb-true, eqb-false}
@@ -57,6 +57,7 @@ in_e4m3fnuz bits = value_in e4m3fnuz_constants bits
 
 -- ---- answers that need no rounding
 
+-- an answer given outright: a datum, a whole number, or a conversion
 pub answer : {value : Datum} {status : ℕ} → IsAnswer value status value status
 answer = record { value_is = refl; status_is = refl }
 
@@ -66,7 +67,7 @@ whole = record { number_is = refl; status_is = refl; is_exact_is = refl }
 pub converted : {value : Datum} {status : ℕ} {loses : Bool} → IsConverted value status loses value status loses
 converted = record { value_is = refl; status_is = refl; loses_is = refl }
 
--- ---- a rounding: the lower neighbour of the magnitude is m * 2 ^ c, and the upper one (m + 1) * 2 ^ c, or the same
+-- ---- a rounding: the neighbours of the magnitude are m * 2 ^ c and (m + 1) * 2 ^ c
 
 -- whether they are its neighbours
 abbrev pub encloses : ℕ → ℕ → ℕ → ℕ → ℕ → Bool
@@ -78,6 +79,7 @@ encloses precision m c amount parts =
     && (ltb amount ((m + 1) * 2 ^ c * parts)
     && ltb 0 parts))))
 
+-- the magnitude itself, or the neighbour that the mode picks
 abbrev pub picked : Round → Bool → ℕ → ℕ → ℕ → ℕ → ℕ
 picked mode negative m c amount parts =
     if eqb amount (m * 2 ^ c * parts) then m * 2 ^ c
@@ -85,6 +87,7 @@ picked mode negative m c amount parts =
 
 module _ (precision : ℕ) (mode : Round) (negative : Bool) (m c amount parts : ℕ)
     (i : IsEnclosed precision (2 ^ (precision - 1)) m c amount parts) (p : 0 < parts) where
+  -- it is the pick, where `same` tells whether the magnitude is the lower neighbour
   is_picked : (same : Bool) → eqb amount (m * 2 ^ c * parts) ≡ same
       → IsPick precision mode negative amount parts
       (if same then m * 2 ^ c else pick_between mode negative (m * 2 ^ c) ((m + 1) * 2 ^ c) amount parts)
@@ -103,7 +106,7 @@ module _ (precision : ℕ) (mode : Round) (negative : Bool) (m c amount parts : 
     is = refl;
   }
 
--- a rounding is proved by the enclosing significand, and by the value and the status that follow from it
+-- a rounding is proved by the enclosing significand, and the value and the status that follow
 pub rounded : {format : Format} {mode : Round} {negative : Bool} {amount parts : ℕ} {value : Datum} {status : ℕ}
     (m c : ℕ) → encloses format.precision m c amount parts ≡ true
     → value ≡ delivered_value format mode negative (picked mode negative m c amount parts)

@@ -20,6 +20,7 @@ use Rattle.apfloat_base.proofs.RowsIn.{half, single, e4m3fnuz, in_half, in_singl
 abbrev Encodes : Constants → ℕ → Datum → Type 0
 Encodes constants bits value = IsEncodedBy (format_with constants) (layout_with constants) bits value
 
+-- 1, a denormal, the largest value, an infinity and a NaN
 bits_of_one : Encodes half_constants 0x3c00 (finite false (2 ^ 24))
 bits_of_one = record { below = lit< tt; canonical = refl; is = refl }
 
@@ -39,6 +40,7 @@ bits_of_a_nan = record { below = lit< tt; canonical = refl; is = refl }
 largest_of_e4m3fn : Encodes e4m3fn_constants 0x7e (finite false (448 * 2 ^ 9))
 largest_of_e4m3fn = record { below = lit< tt; canonical = refl; is = refl }
 
+-- with the sign bit it is the negative NaN
 nan_of_e4m3fn : Encodes e4m3fn_constants 0xff (nan true 7)
 nan_of_e4m3fn = record { below = lit< tt; canonical = refl; is = refl }
 
@@ -48,6 +50,7 @@ nan_of_e4m3fnuz = record { below = lit< tt; canonical = refl; is = refl }
 
 -- ---- hexadecimal texts, by their parts: digits, digits behind a dot, the exponent behind the p
 
+-- a body of these parts is that of a hexadecimal number, with a dot
 with_dot : {body : List ℕ} (whole fraction exponent : List ℕ)
     → body ≡ codes "0x" ++ (whole ++ (codes "." ++ (fraction ++ (codes "p" ++ exponent))))
     → IsTrue (every is_hexadecimal (whole ++ fraction)) → 1 ≤ length (whole ++ fraction)
@@ -74,6 +77,7 @@ with_dot whole fraction exponent spelled digits some exponent_digits some_expone
   e_is = refl;
 }
 
+-- and without one
 without_dot : {body : List ℕ} (whole exponent : List ℕ) → body ≡ codes "0x" ++ (whole ++ (codes "p" ++ exponent))
     → IsTrue (every is_hexadecimal (whole ++ [])) → 1 ≤ length (whole ++ [])
     → IsTrue (every is_decimal (behind_mark exponent)) → 1 ≤ length (behind_mark exponent)
@@ -115,6 +119,7 @@ read_past_the_largest = record {
   is_meant = rounded 2047 29 refl refl refl;
 }
 
+-- toward zero the largest value is kept
 read_kept_at_the_largest : IsReading half TowardZero (codes "0x1.ffep+15") (in_half 0x7bff) inexact_bit
 read_kept_at_the_largest = record {
   meaning = hexadecimal false 0x1ffe 3 (pos 15);
@@ -140,6 +145,7 @@ read_zero_without_minus = record {
 
 -- ---- texts of NaNs
 
+-- a payload may be hexadecimal
 read_payload : IsReading single NearestTiesToEven (codes "nan(0x2a)") (in_single 0x7fc0002a) ok_bits
 read_payload = record { meaning = not_a_number false false 42; means = refl; is_meant = answer }
 
@@ -147,11 +153,13 @@ read_payload = record { meaning = not_a_number false false 42; means = refl; is_
 read_octal_payload : IsReading single NearestTiesToEven (codes "nan010") (in_single 0x7fc00008) ok_bits
 read_octal_payload = record { meaning = not_a_number false false 8; means = refl; is_meant = answer }
 
+-- an s makes a NaN signaling
 read_signaling : IsReading single NearestTiesToEven (codes "-snan") (in_single 0xffa00000) ok_bits
 read_signaling = record { meaning = not_a_number true true 0; means = refl; is_meant = answer }
 
 -- ---- texts that are refused, and the words
 
+-- no exponent, a second dot, and no prefix
 refused_without_exponent : IsRefusal (codes "0x1") (codes "Hex strings require an exponent")
 refused_without_exponent = record { fault = NoExponent; is_first = refl; says = refl }
 

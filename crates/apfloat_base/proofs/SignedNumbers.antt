@@ -12,6 +12,7 @@ use Rattle.apfloat_base.proofs.Laws.{delivered_swapped}
 use Rattle.apfloat_base.proofs.Greatest.{greatest_some}
 use Rattle.apfloat_base.proofs.Signs.{sign_signed, magnitude_signed}
 
+-- a mode swapped twice is the mode itself
 swapped_back : (mode : Round) → swapped (swapped mode) ≡ mode
 swapped_back NearestTiesToEven = refl
 swapped_back TowardPositive = refl
@@ -20,15 +21,15 @@ swapped_back TowardZero = refl
 swapped_back NearestTiesToAway = refl
 
 -- a number from 0 up is taken in as the unsigned one
-pub signed_above : (format : Format) (mode : Round) (n : ℕ) (v : Datum) (s : ℕ) → IsFromUnsigned format mode n v s
-    → IsFromSigned format mode (pos n) v s
+pub signed_above : (format : Format) (mode : Round) (n : ℕ) (value : Datum) (status : ℕ)
+    → IsFromUnsigned format mode n value status → IsFromSigned format mode (pos n) value status
 signed_above format mode zero v s h = h
 signed_above format mode (suc n) v s h = rw (magnitude_signed false (suc n)) h
 
 -- a negative number is taken in as its magnitude in the swapped mode, negated
-pub signed_below : (format : Format) (mode : Round) (n : ℕ) (v : Datum) (s : ℕ) → 0 < largest format → 0 < n
-    → IsFromUnsigned format (swapped mode) n v s
-    → IsFromSigned format mode (neg_ℤ (pos n)) (negated format.nonfinite v) s
+pub signed_below : (format : Format) (mode : Round) (n : ℕ) (value : Datum) (status : ℕ) → 0 < largest format → 0 < n
+    → IsFromUnsigned format (swapped mode) n value status
+    → IsFromSigned format mode (neg_ℤ (pos n)) (negated format.nonfinite value) status
 signed_below format mode n v s l p h =
     let d = delivered_swapped format (swapped mode) false (n * 2 ^ format.scale) 1 v s l h in
     rw (sign_signed false true n p, magnitude_signed true n) (rw (swapped_back mode) at d)

@@ -1,5 +1,5 @@
 -- Numbers by their signs and magnitudes.
-use Rattle.std.proofs.Common.{◌≡◌, ℕ, zero, suc, ℤ, pos, negsuc, ◌+ℤ◌, ◌<◌, ◌⊎◌, Bool, true, false, refl, inl, inr, arith}
+use Rattle.std.proofs.Common.{◌≡◌, ℕ, zero, suc, ℤ, pos, negsuc, ◌+ℤ◌, ◌<◌, ◌⊎◌, Bool, true, false, refl, ◌∙◌, inl, inr, arith}
 use Rattle.std.proofs.lemmas.Int.{ints}
 use Rattle.apfloat_base.specs.declared.kinds.Round.{Round}
 use Rattle.apfloat_base.specs.declared.kinds.NonfiniteBehavior.{NonfiniteBehavior}
@@ -9,7 +9,8 @@ use Rattle.apfloat_base.specs.formats.Format.{Format}
 use Rattle.apfloat_base.specs.formats.Datum.{Datum}
 use Rattle.apfloat_base.specs.rounding.Rounding.{zero_sign, IsDelivered}
 
-pub no_sign : (b : Bool) → signed b 0 ≡ pos 0
+-- 0 is the same integer with either sign
+pub no_sign : (negative : Bool) → signed negative 0 ≡ pos 0
 no_sign true = refl
 no_sign false = refl
 
@@ -25,24 +26,30 @@ pub magnitude_signed : (negative : Bool) (n : ℕ) → magnitude (signed negativ
 magnitude_signed true n = omega (arith, ints)
 magnitude_signed false n = omega (arith, ints)
 
--- a zero without a minus sign is of each kind
+-- each kind of format has a zero without a minus sign
 pub plus_zero : (kind : NonfiniteBehavior) → zero_sign kind false ≡ false
 plus_zero IEEE754 = refl
 plus_zero NanOnly = refl
 plus_zero NanNegativeZero = refl
 
--- ---- a sum with a zero
+-- ---- sums of integers
 
-pub and_zero : (z : ℤ) (c : Bool) → (z +ℤ signed c 0) ≡ z
+-- the terms of a sum may be swapped
+pub swapped_sum : (a b : ℤ) → (a +ℤ b) ≡ (b +ℤ a)
+swapped_sum a b = omega (arith, ints)
+
+-- a zero of either sign adds nothing
+pub and_zero : (z : ℤ) (negative : Bool) → (z +ℤ signed negative 0) ≡ z
 and_zero z true = omega (arith, ints)
 and_zero z false = omega (arith, ints)
 
-pub zero_and : (c : Bool) (z : ℤ) → (signed c 0 +ℤ z) ≡ z
-zero_and true z = omega (arith, ints)
-zero_and false z = omega (arith, ints)
+-- nor does it in front
+pub zero_and : (negative : Bool) (z : ℤ) → (signed negative 0 +ℤ z) ≡ z
+zero_and negative z = swapped_sum (signed negative 0) z ∙ and_zero z negative
 
--- ---- at least one of the two parts of an integer is zero
+-- ---- the two parts of an integer
 
+-- at least one of them is 0
 pub one_side : (z : ℤ) → (up z ≡ 0) ⊎ (down z ≡ 0)
 one_side (pos n) = inr refl
 one_side (negsuc n) = inl refl
@@ -50,8 +57,8 @@ one_side (negsuc n) = inl refl
 -- ---- a number that is not zero is delivered as its sign and magnitude
 
 -- the rounding of a magnitude is that of the signed number
-pub rounded_signed : (format : Format) (mode : Round) (of_zero s : Bool) (m parts : ℕ) (z : ℤ) (value : Datum)
-    (status : ℕ) → z ≡ signed s m → 0 < m → IsDelivered format mode s m parts value status
+pub rounded_signed : (format : Format) (mode : Round) (of_zero negative : Bool) (m parts : ℕ) (z : ℤ) (value : Datum)
+    (status : ℕ) → z ≡ signed negative m → 0 < m → IsDelivered format mode negative m parts value status
     → IsRounded format mode of_zero z parts value status
 rounded_signed format mode of_zero s m parts z value status e p h =
     rw (e, sign_signed of_zero s m p, magnitude_signed s m) h

@@ -124,10 +124,10 @@ down_far (pos k) bound h =
 down_far (negsuc k) bound h = let l : bound ≤ k + 1 = omega (arith, ints) in (omega (arith, l), refl)
 
 -- no answer changes where the clamp changes the amount
-pub clamp_kept : (format : Format) (mode : Round) (negative : Bool) (a k bound : ℕ) (j near : ℤ) (v : Datum) (s : ℕ)
-    → 0 < format.precision → 0 < a → a < 2 ^ k → format.precision + format.span ≤ bound → k + 1 ≤ bound
-    → IsClamped bound j near → IsDelivered format mode negative (a * 2 ^ up near) (2 ^ down near) v s
-    → IsDelivered format mode negative (a * 2 ^ up j) (2 ^ down j) v s
+pub clamp_kept : (format : Format) (mode : Round) (negative : Bool) (a k bound : ℕ) (j near : ℤ) (value : Datum)
+    (status : ℕ) → 0 < format.precision → 0 < a → a < 2 ^ k → format.precision + format.span ≤ bound → k + 1 ≤ bound
+    → IsClamped bound j near → IsDelivered format mode negative (a * 2 ^ up near) (2 ^ down near) value status
+    → IsDelivered format mode negative (a * 2 ^ up j) (2 ^ down j) value status
 clamp_kept format mode negative a k bound j near v s p h b l m c d =
     ⊎_elim
     (λ (e : near ≡ j). subst (λ (x : ℤ). IsDelivered format mode negative (a * 2 ^ up x) (2 ^ down x) v s) e d)

@@ -1,9 +1,10 @@
 -- Sums whose exact result is a value of the format, and sums that grow.
-use Rattle.std.proofs.Common.{◌≡◌, ℕ, zero, suc, ℤ, pos, negsuc, ◌+ℤ◌, ◌-ℤ◌, ◌≤ℤ◌, ◌+◌, ◌-◌, ◌*◌, ◌^◌, ◌<◌, ◌≤◌, ◌⊎◌, Bool, true, false, cond, ltb, eqb, sym, refl, ap, ◌∙◌, subst, inl, inr, ⊎_elim, lit<, arith}
+use Rattle.std.proofs.Common.{◌≡◌, ℕ, zero, suc, ℤ, pos, negsuc, ◌+ℤ◌, ◌-ℤ◌, ◌≤ℤ◌, ◌+◌, ◌-◌, ◌*◌, ◌^◌, ◌<◌, ◌≤◌, ◌⊎◌, Bool, true, false, cond, ltb, sym, refl, ap, ◌∙◌, subst, inl, inr, ⊎_elim, lit<, arith}
+use mathlib.Core.Logic.{⊎_swap}
 use Rattle.std.specs.Prelude.{IsTrue}
 use Rattle.std.proofs.Math.Nat.{le_of_mul-le-mul_right}
 use Rattle.std.proofs.lemmas.Nat.{pow-add, pow_pos}
-use Rattle.std.proofs.lemmas.Bool.{cases_lt, false≢true, ne_eqb}
+use Rattle.std.proofs.lemmas.Bool.{cases_lt, false≢true}
 use Rattle.std.proofs.lemmas.Int.{ints}
 use Rattle.apfloat_base.specs.declared.kinds.Round.{Round}
 use Rattle.apfloat_base.specs.declared.kinds.NonfiniteBehavior.{NonfiniteBehavior}
@@ -19,6 +20,7 @@ use Rattle.apfloat_base.specs.arithmetic.Sums.{IsSum, IsDifference, zero_sum_sig
 use Rattle.apfloat_base.specs.rounding.Rounding.{IsDelivered, delivered_value, leads_out, past_largest, zero_sign, signed_quanta, ok_bits}
 use Rattle.apfloat_base.proofs.Deliveries.{signed_some}
 use Rattle.apfloat_base.proofs.Laws.{delivered_once, exact_delivered, zero_delivered, pick_grows}
+use Rattle.apfloat_base.proofs.Choices.{not_zero}
 use Rattle.apfloat_base.proofs.Signs.{no_sign, magnitude_signed, one_side}
 
 -- ---- the difference of near numbers
@@ -30,6 +32,7 @@ close_at precision d s p k h q l =
     let k' : k ≤ s = le_of_mul-le-mul_right l' (pow_pos p) in
     record { significand = k; place = p; fits = omega arith; is = q }
 
+-- a point is a multiple of each lower power of 2
 raised_place : (t p j : ℕ) → p ≤ j → t * 2 ^ j ≡ t * 2 ^ (j - p) * 2 ^ p
 raised_place t p j l =
     let e : j ≡ (j - p) + p = omega arith in
@@ -57,10 +60,6 @@ close_low precision s p t j d h l (inr e) q =
     close_at precision d s p (s - t * 2 ^ (j - p)) h
     (left_over s (t * 2 ^ (j - p)) (2 ^ p) d (pow_pos p) (e ∙ ap (λ (x : ℕ). x + d) r)) q
 
-swap_sides : (A B : Type 0) → A ⊎ B → B ⊎ A
-swap_sides A B (inl a) = inr a
-swap_sides A B (inr b) = inl b
-
 -- the difference of two grid numbers within a factor of two is on the grid
 pub close_on_grid : (precision m n d : ℕ) → IsOnGrid precision m → IsOnGrid precision n → (m ≡ n + d) ⊎ (n ≡ m + d)
     → m ≤ 2 * n → n ≤ 2 * m → IsOnGrid precision d
@@ -76,10 +75,11 @@ close_on_grid precision m n d x y e a b =
     let dy : d ≤ y.significand * 2 ^ y.place = subst (λ (z : ℕ). d ≤ z) y.is f₁ in
     ⊎_elim
     (λ (l : x.place < y.place). let l' : x.place ≤ y.place = omega arith in
-    close_low precision x.significand x.place y.significand y.place d x.fits l' (swap_sides _ _ e') dx)
+    close_low precision x.significand x.place y.significand y.place d x.fits l' (⊎_swap e') dx)
     (λ (l : y.place ≤ x.place). close_low precision y.significand y.place x.significand x.place d y.fits l e' dy)
     (cases_lt x.place y.place)
 
+-- the distance of two numbers is the magnitude of their difference
 far_apart : (m n : ℕ) → (m ≡ n + magnitude (pos m -ℤ pos n)) ⊎ (n ≡ m + magnitude (pos m -ℤ pos n))
 far_apart m n =
     ⊎_elim
@@ -93,8 +93,8 @@ far_below m n d top (inl e) a b = omega arith
 far_below m n d top (inr e) a b = omega arith
 
 -- a value with the sign and the magnitude of a number is that number
-exactly : (kind : NonfiniteBehavior) (of_zero : Bool) (z : ℤ) (v : Datum) (s : ℕ)
-    → v ≡ signed_quanta kind (sign_of of_zero z) (magnitude z) → s ≡ ok_bits → IsExactly z v s
+exactly : (kind : NonfiniteBehavior) (of_zero : Bool) (z : ℤ) (value : Datum) (status : ℕ)
+    → value ≡ signed_quanta kind (sign_of of_zero z) (magnitude z) → status ≡ ok_bits → IsExactly z value status
 exactly kind of_zero (pos zero) v s h e =
     record {
       negative = zero_sign kind of_zero;
@@ -126,9 +126,9 @@ exactly kind of_zero (negsuc n) v s h e =
     }
 
 -- the difference of two numbers within a factor of two is exact
-pub nearby_numbers : (format : Format) (mode : Round) (of_zero : Bool) (m n : ℕ) (v : Datum) (s : ℕ)
+pub nearby_numbers : (format : Format) (mode : Round) (of_zero : Bool) (m n : ℕ) (value : Datum) (status : ℕ)
     → IsFiniteOf format false m → IsFiniteOf format false n → m ≤ 2 * n → n ≤ 2 * m
-    → IsRounded format mode of_zero (pos m -ℤ pos n) 1 v s → IsExactly (pos m -ℤ pos n) v s
+    → IsRounded format mode of_zero (pos m -ℤ pos n) 1 value status → IsExactly (pos m -ℤ pos n) value status
 nearby_numbers format mode of_zero m n v s x y a b h =
     let d = magnitude (pos m -ℤ pos n) in
     let e = far_apart m n in
@@ -139,15 +139,16 @@ nearby_numbers format mode of_zero m n v s x y a b h =
     (far_below m n d (largest format) e x.within y.within) (omega arith)) in
     exactly format.nonfinite of_zero (pos m -ℤ pos n) v s r.0 r.1
 
+-- a negative number added is a number subtracted
 minus_is : (m n : ℕ) → (signed false m +ℤ signed true n) ≡ (pos m -ℤ pos n)
 minus_is m n = omega (arith, ints)
 
 -- a difference of near numbers is exact
-pub nearby : (format : Format) (mode : Round) (x y v : Datum) (s : ℕ) → IsMember format x → IsMember format y
-    → IsDifference format mode x y v s → IsNearby x y v s
+pub nearby : (format : Format) (mode : Round) (x y value : Datum) (status : ℕ) → IsMember format x → IsMember format y
+    → IsDifference format mode x y value status → IsNearby x y value status
 nearby format mode x y v s hx hy h = λ m n p q sm sn a b.
     let d : IsDifference format mode (finite false m) (finite false n) v s = rw (p, q) at h in
-    let k : IsSum format mode (finite false m) (finite true n) v s = rw (ne_eqb n 0 (λ z. omega (arith, sn, z))) at d in
+    let k : IsSum format mode (finite false m) (finite true n) v s = rw (not_zero n sn) at d in
     let r = rw (minus_is m n) at k in
     let xm : IsFiniteOf format false m = rw p at hx in
     let yn : IsFiniteOf format false n = rw q at hy in
@@ -162,8 +163,9 @@ at past out negative top p = cond past (cond out (infinite negative) (finite neg
 -- with infinities each zero keeps its sign
 pub signed_quanta_is : (negative : Bool) (p : ℕ) → signed_quanta IEEE754 negative p ≡ finite negative p
 signed_quanta_is negative zero = refl
-signed_quanta_is negative (suc n) = let e : eqb (suc n) 0 ≡ false = ne_eqb (suc n) 0 (λ z. omega arith) in rw e refl
+signed_quanta_is negative (suc n) = signed_some IEEE754 negative (suc n) (omega arith)
 
+-- it is what is delivered
 value_is : (format : Format) (mode : Round) (negative : Bool) (p : ℕ) → format.nonfinite ≡ IEEE754
     → delivered_value format mode negative p ≡ at (ltb (largest format) p)
     (leads_out mode negative) negative (largest format) p
@@ -176,8 +178,8 @@ value_is format mode negative p e =
     (signed_quanta_is negative p)
 
 -- with a sign of plus the delivered value grows with the pick
-up_grows : (b d out : Bool) (top p q : ℕ) → ltb top p ≡ b → ltb top q ≡ d → p ≤ q
-    → AtMost (at b out false top p) (at d out false top q)
+up_grows : (first second out : Bool) (top p q : ℕ) → ltb top p ≡ first → ltb top q ≡ second → p ≤ q
+    → AtMost (at first out false top p) (at second out false top q)
 up_grows true true true top p q x y l = inr refl
 up_grows true true false top p q x y l = omega (arith, ints)
 up_grows true false out top p q x y l = absurd (grind arith)
@@ -186,8 +188,8 @@ up_grows false true false top p q x y l = let h : p ≤ top = grind arith in ome
 up_grows false false out top p q x y l = omega (arith, ints)
 
 -- with a sign of minus it falls
-down_grows : (b d out : Bool) (top p q : ℕ) → ltb top p ≡ b → ltb top q ≡ d → q ≤ p
-    → AtMost (at b out true top p) (at d out true top q)
+down_grows : (first second out : Bool) (top p q : ℕ) → ltb top p ≡ first → ltb top q ≡ second → q ≤ p
+    → AtMost (at first out true top p) (at second out true top q)
 down_grows true true true top p q x y l = inl refl
 down_grows true true false top p q x y l = omega (arith, ints)
 down_grows false true out top p q x y l = absurd (grind arith)
@@ -195,7 +197,8 @@ down_grows true false true top p q x y l = refl
 down_grows true false false top p q x y l = let h : q ≤ top = grind arith in omega (arith, ints)
 down_grows false false out top p q x y l = omega (arith, ints)
 
-across : (b d out past : Bool) (top p q : ℕ) → AtMost (at b out true top p) (at d past false top q)
+-- a value with a sign of minus is at most any value with a sign of plus
+across : (first second down up : Bool) (top p q : ℕ) → AtMost (at first down true top p) (at second up false top q)
 across true true true true top p q = inl refl
 across true true true false top p q = refl
 across true true false true top p q = refl
@@ -206,21 +209,24 @@ across false true out true top p q = refl
 across false true out false top p q = omega (arith, ints)
 across false false out past top p q = omega (arith, ints)
 
--- how the signs and the magnitudes of two numbers in order are to each other
+-- the signs and the magnitudes of two numbers in order
 pub data Ordered : Bool → ℕ → Bool → ℕ → Type 0 where
   both_up : (x y : ℕ) → x ≤ y → Ordered false x false y
   both_down : (x y : ℕ) → y ≤ x → Ordered true x true y
   apart : (x y : ℕ) → Ordered true x false y
-  zeros : (s t : Bool) → Ordered s 0 t 0
+  zeros : (left right : Bool) → Ordered left 0 right 0
 
-from_zero : (s : Bool) (n : ℕ) → Ordered s 0 false n
+-- a zero of either sign is not above a number with a sign of plus
+from_zero : (negative : Bool) (n : ℕ) → Ordered negative 0 false n
 from_zero true n = apart 0 n
 from_zero false n = both_up 0 n (omega arith)
 
-to_zero : (s : Bool) (n : ℕ) → Ordered true n s 0
+-- nor below one with a sign of minus
+to_zero : (negative : Bool) (n : ℕ) → Ordered true n negative 0
 to_zero true n = both_down n 0 (omega arith)
 to_zero false n = apart n 0
 
+-- integers in order have signs and magnitudes in order
 ordered : (of_zero of_other : Bool) (a b : ℤ) → a ≤ℤ b
     → Ordered (sign_of of_zero a) (magnitude a) (sign_of of_other b) (magnitude b)
 ordered of_zero of_other (pos zero) (pos zero) l = zeros of_zero of_other
@@ -234,23 +240,22 @@ ordered of_zero of_other (negsuc m) (pos (suc n)) l = apart (magnitude (negsuc m
 ordered of_zero of_other (negsuc m) (negsuc n) l =
     both_down (magnitude (negsuc m)) (magnitude (negsuc n)) (omega (arith, ints))
 
-zeros_ordered : (s t : Bool) → signed s 0 ≤ℤ signed t 0
-zeros_ordered true true = omega (arith, ints)
-zeros_ordered true false = omega (arith, ints)
-zeros_ordered false true = omega (arith, ints)
-zeros_ordered false false = omega (arith, ints)
+-- two zeros are in order, whatever their signs
+zeros_ordered : (left right : Bool) → signed left 0 ≤ℤ signed right 0
+zeros_ordered left right = rw (no_sign left, no_sign right) (omega (arith, ints))
 
 -- a magnitude of 0 is delivered as the zero of its sign
-zero_is : (format : Format) (mode : Round) (s : Bool) (v : Datum) (i : ℕ) → format.nonfinite ≡ IEEE754
-    → IsDelivered format mode s 0 1 v i → v ≡ finite s 0
+zero_is : (format : Format) (mode : Round) (negative : Bool) (value : Datum) (status : ℕ) → format.nonfinite ≡ IEEE754
+    → IsDelivered format mode negative 0 1 value status → value ≡ finite negative 0
 zero_is format mode s v i e d =
     let x = delivered_once format mode s 0 1 v (signed_quanta format.nonfinite s 0) i ok_bits d
     (zero_delivered format mode s 1 0 (omega arith) refl) in
     x.0 ∙ ap (λ (k : NonfiniteBehavior). signed_quanta k s 0) e
 
 -- of two signed magnitudes in order the delivered values are in order
-grows_at : (format : Format) (mode : Round) (s t : Bool) (x y : ℕ) (v w : Datum) (i j : ℕ) → format.nonfinite ≡ IEEE754
-    → Ordered s x t y → IsDelivered format mode s x 1 v i → IsDelivered format mode t y 1 w j → AtMost v w
+grows_at : (format : Format) (mode : Round) (left right : Bool) (x y : ℕ) (value greater : Datum) (i j : ℕ)
+    → format.nonfinite ≡ IEEE754 → Ordered left x right y → IsDelivered format mode left x 1 value i
+    → IsDelivered format mode right y 1 greater j → AtMost value greater
 grows_at format mode s t x y v w i j e (both_up a b l) d g =
     let k : d.pick ≤ g.pick =
     pick_grows format.precision mode false a b 1 d.pick g.pick (lit< tt) l d.is_pick g.is_pick in
@@ -282,22 +287,22 @@ grows_at format mode s t x y v w i j e (zeros b c) d g =
     rw (p, q) (zeros_ordered b c)
 
 -- a greater sum is not rounded to a lesser value
-pub sum_grows : (format : Format) (mode : Round) (of_zero of_other : Bool) (a b : ℤ) (v w : Datum) (i j : ℕ)
-    → format.nonfinite ≡ IEEE754 → a ≤ℤ b → IsRounded format mode of_zero a 1 v i
-    → IsRounded format mode of_other b 1 w j
-    → AtMost v w
+pub sum_grows : (format : Format) (mode : Round) (of_zero of_other : Bool) (a b : ℤ) (value greater : Datum) (i j : ℕ)
+    → format.nonfinite ≡ IEEE754 → a ≤ℤ b → IsRounded format mode of_zero a 1 value i
+    → IsRounded format mode of_other b 1 greater j → AtMost value greater
 sum_grows format mode of_zero of_other a b v w i j e l d g =
     grows_at format mode (sign_of of_zero a) (sign_of of_other b) (magnitude a) (magnitude b) v w i j e
     (ordered of_zero of_other a b l) d g
 
+-- the same added to both sides keeps their order
 more_together : (a b z : ℤ) → a ≤ℤ b → (a +ℤ z) ≤ℤ (b +ℤ z)
 more_together a b z l = omega (arith, ints)
 
 -- a sum grows with its first operand
-grows_to : (format : Format) (mode : Round) (b d : Bool) (m n : ℕ) (v : Datum) (s : ℕ)
-    → IsSum format mode (finite b m) (finite d n) v s → format.nonfinite ≡ IEEE754
-    → (y greater : Datum) (status : ℕ) → IsTrue (is_finite y) → signed b m ≤ℤ number y
-    → IsSum format mode y (finite d n) greater status → AtMost v greater
+grows_to : (format : Format) (mode : Round) (left right : Bool) (m n : ℕ) (value : Datum) (i : ℕ)
+    → IsSum format mode (finite left m) (finite right n) value i → format.nonfinite ≡ IEEE754
+    → (y greater : Datum) (status : ℕ) → IsTrue (is_finite y) → signed left m ≤ℤ number y
+    → IsSum format mode y (finite right n) greater status → AtMost value greater
 grows_to format mode b d m n v s h e (finite c k) w i p l g =
     sum_grows format mode (zero_sum_sign mode b d) (zero_sum_sign mode c d) (signed b m +ℤ signed d n)
     (signed c k +ℤ signed d n) v w s i e (more_together (signed b m) (signed c k) (signed d n) l) h g
@@ -305,8 +310,8 @@ grows_to format mode b d m n v s h e (infinite c) w i p l g = absurd (false≢tr
 grows_to format mode b d m n v s h e (nan c t) w i p l g = absurd (false≢true p)
 
 -- a sum of numbers does not fall as one of them grows
-pub monotone : (format : Format) (mode : Round) (x z v : Datum) (s : ℕ) → IsSum format mode x z v s
-    → IsMonotone format mode x z v
+pub monotone : (format : Format) (mode : Round) (x z value : Datum) (status : ℕ) → IsSum format mode x z value status
+    → IsMonotone format mode x z value
 monotone format mode (finite b m) (finite d n) v s h =
     λ e p q y w i r l g. grows_to format mode b d m n v s h e y w i r l g
 monotone format mode (finite b m) (infinite d) v s h = λ e p q. absurd (false≢true q)

@@ -1,8 +1,7 @@
 -- Sums and differences of magnitudes, and their signs.
 use Rattle.std.proofs.Common.{◌≡◌, ℕ, zero, suc, ℤ, pos, negsuc, ◌+ℤ◌, ◌-ℤ◌, ◌≤ℤ◌, ◌+◌, ◌-◌, ◌*◌, ◌^◌, ◌<◌, ◌≤◌, ◌⊎◌, Bool, true, false, cond, sym, refl, ap, ◌∙◌, subst, inl, inr, ⊎_elim, arith}
 use Rattle.std.proofs.Math.Nat.{mul-le-mul_right, mul-le-mul_left, pow-le-pow_right}
-use Rattle.std.proofs.lemmas.Bool.{cases_lt, false≢true}
-use mathlib.Core.Bool.{beq}
+use Rattle.std.proofs.lemmas.Bool.{cases_lt}
 use Rattle.std.proofs.lemmas.Nat.{pow-add, pow_pos}
 use Rattle.std.proofs.lemmas.Int.{ints}
 use Rattle.apfloat_base.specs.declared.sig.loss.Loss.{Loss}
@@ -10,8 +9,9 @@ use Rattle.apfloat_base.specs.declared.sig.loss.Loss.TheVariants.{ExactlyZero, L
 use Rattle.apfloat_base.specs.arithmetic.Exact.{up, down, signed}
 use Rattle.apfloat_base.specs.rounding.Standing.{StandsFor}
 use Rattle.apfloat_base.specs.arithmetic.Totals.{counted, StandsForSigned, Balances, IsApart}
-use Rattle.apfloat_base.proofs.Powers.{two_pos}
-use Rattle.apfloat_base.proofs.Losses.{twice_half, stands_from, stands_to}
+use Rattle.apfloat_base.proofs.Powers.{two_pos, twice_half}
+use Rattle.apfloat_base.proofs.Signs.{no_sign, swapped_sum}
+use Rattle.apfloat_base.proofs.Losses.{stands_from, stands_to}
 use Rattle.apfloat_base.proofs.KeptDigits.{stands_times}
 
 -- ---- more units, and fewer
@@ -24,7 +24,7 @@ stands_more q high LessThanHalf amount unit h = let a = h.0 in let b = h.1 in (o
 stands_more q high ExactlyHalf amount unit h = omega (arith, h)
 stands_more q high MoreThanHalf amount unit h = let a = h.0 in let b = h.1 in (omega (arith, a), omega (arith, b))
 
--- the same, without so many units
+-- and whole units taken from an amount are taken from its significand
 pub stands_less : (q high left : ℕ) (loss : Loss) (amount rest unit : ℕ) → q ≡ high + left
     → amount ≡ high * unit + rest → StandsFor q loss amount unit → StandsFor left loss rest unit
 stands_less q high left ExactlyZero amount rest unit e d h =
@@ -48,7 +48,7 @@ whole_exact q LessThanHalf amount h = let a = h.0 in let b = h.1 in absurd (omeg
 whole_exact q ExactlyHalf amount h = absurd (omega (arith, h))
 whole_exact q MoreThanHalf amount h = let a = h.0 in let b = h.1 in absurd (omega (arith, a, b))
 
--- nothing at all
+-- the significand for an amount of 0 is 0, with nothing lost
 pub zero_stands : (loss : Loss) (unit : ℕ) (q : ℕ) → 0 < unit → StandsFor q loss 0 unit
     → (q ≡ 0) × (loss ≡ ExactlyZero)
 zero_stands ExactlyZero unit zero p h = (refl, refl)
@@ -60,13 +60,13 @@ zero_stands MoreThanHalf unit q p h = let a = h.0 in absurd (omega (arith, a))
 -- ---- signs
 
 -- magnitudes of one sign are added
-pub like_signs : (s : Bool) (a b : ℕ) → signed s (a + b) ≡ (signed s a +ℤ signed s b)
+pub like_signs : (negative : Bool) (a b : ℕ) → signed negative (a + b) ≡ (signed negative a +ℤ signed negative b)
 like_signs true a b = omega (arith, ints)
 like_signs false a b = omega (arith, ints)
 
 -- of two signs, the difference of the magnitudes has the sign of the greater one
-pub unlike_signs : (s t flipped : Bool) (a b n : ℕ) → (s ≡ t → ⊥) → Balances flipped n a b
-    → signed (cond flipped t s) n ≡ (signed s a +ℤ signed t b)
+pub unlike_signs : (left right flipped : Bool) (a b n : ℕ) → (left ≡ right → ⊥) → Balances flipped n a b
+    → signed (cond flipped right left) n ≡ (signed left a +ℤ signed right b)
 unlike_signs true true flipped a b n d h = absurd (d refl)
 unlike_signs false false flipped a b n d h = absurd (d refl)
 unlike_signs true false true a b n d h = omega (arith, ints, h)
@@ -74,17 +74,9 @@ unlike_signs true false false a b n d h = omega (arith, ints, h)
 unlike_signs false true true a b n d h = omega (arith, ints, h)
 unlike_signs false true false a b n d h = omega (arith, ints, h)
 
-pub swapped_sum : (a b : ℤ) → (a +ℤ b) ≡ (b +ℤ a)
-swapped_sum a b = omega (arith, ints)
-
-pub zero_signs : (s t : Bool) → signed s 0 ≡ signed t 0
-zero_signs true true = refl
-zero_signs true false = refl
-zero_signs false true = refl
-zero_signs false false = refl
-
 -- ---- exponents
 
+-- an integer from 0 up has no part below 0
 pub no_down : (z : ℤ) → pos 0 ≤ℤ z → down z ≡ 0
 no_down (pos n) h = refl
 no_down (negsuc n) h = absurd (omega (arith, ints))
@@ -102,9 +94,9 @@ raised base e h k l q =
 -- ---- the two sums
 
 -- the sum of two terms of one sign
-pub together_stands : (base eh el : ℤ) (s t : Bool) (mh ml gap q : ℕ) (loss : Loss) → base ≤ℤ el
-    → (el +ℤ pos gap) ≡ eh → s ≡ t → StandsFor q loss (mh * 2 ^ gap + ml) (2 ^ gap)
-    → StandsForSigned base (counted base s eh mh +ℤ counted base t el ml) s eh q loss
+pub together_stands : (base eh el : ℤ) (left right : Bool) (mh ml gap q : ℕ) (loss : Loss) → base ≤ℤ el
+    → (el +ℤ pos gap) ≡ eh → left ≡ right → StandsFor q loss (mh * 2 ^ gap + ml) (2 ^ gap)
+    → StandsForSigned base (counted base left eh mh +ℤ counted base right el ml) left eh q loss
 together_stands base eh el s t mh ml gap q loss l e d h =
     let r = raised base el eh gap l e in
     let r₁ : 2 ^ up (eh -ℤ base) ≡ 2 ^ gap * 2 ^ up (el -ℤ base) = r.1 in
@@ -120,15 +112,16 @@ together_stands base eh el s t mh ml gap q loss l e d h =
           (stands_times q loss (mh * 2 ^ gap + ml) (2 ^ gap) (2 ^ up (el -ℤ base)) (pow_pos (up (el -ℤ base))) h);
     }
 
+-- a balance holds in smaller units too
 balances_times : (flipped : Bool) (n a b w : ℕ) → Balances flipped n a b → Balances flipped (n * w) (a * w) (b * w)
 balances_times true n a b w h = ap (λ (x : ℕ). x * w) h ∙ omega arith
 balances_times false n a b w h = ap (λ (x : ℕ). x * w) h ∙ omega arith
 
 -- the sum of two terms of different signs, from the difference of their magnitudes
-pub apart_stands : (base eh el er : ℤ) (s t flipped : Bool) (mh ml gap q : ℕ) (loss : Loss) → base ≤ℤ el
-    → (el +ℤ pos gap) ≡ eh → (el +ℤ pos (gap - 1)) ≡ er → (s ≡ t → ⊥)
+pub apart_stands : (base eh el er : ℤ) (left right flipped : Bool) (mh ml gap q : ℕ) (loss : Loss) → base ≤ℤ el
+    → (el +ℤ pos gap) ≡ eh → (el +ℤ pos (gap - 1)) ≡ er → (left ≡ right → ⊥)
     → IsApart (mh * 2 ^ gap) ml flipped q loss (2 ^ (gap - 1))
-    → StandsForSigned base (counted base s eh mh +ℤ counted base t el ml) (cond flipped t s) er q loss
+    → StandsForSigned base (counted base left eh mh +ℤ counted base right el ml) (cond flipped right left) er q loss
 apart_stands base eh el er s t flipped mh ml gap q loss l e d n i =
     let r = raised base el eh gap l e in
     let r₁ : 2 ^ up (eh -ℤ base) ≡ 2 ^ gap * 2 ^ up (el -ℤ base) = r.1 in
@@ -153,6 +146,7 @@ apart_stands base eh el er s t flipped mh ml gap q loss l e d n i =
 
 -- ---- a difference of magnitudes
 
+-- in units of 1 it is the same balance
 balances_one : (flipped : Bool) (n a b : ℕ) → Balances flipped n a b → Balances flipped (n * 1) (a * 1) b
 balances_one true n a b h = omega (arith, h)
 balances_one false n a b h = omega (arith, h)
@@ -173,6 +167,7 @@ level_difference flipped n high low gap loss z e h =
     subst (λ (g : ℕ). IsApart (high * 2 ^ g) low flipped n loss (2 ^ (g - 1))) (sym z)
     (exact_difference flipped n (high * 1) low 1 loss e (balances_one flipped n high low h))
 
+-- twice as many units of half the size
 doubled : (high gap : ℕ) → 0 < gap → high * 2 * 2 ^ (gap - 1) ≡ high * 2 ^ gap
 doubled high gap p =
     let t : 2 * 2 ^ (gap - 1) ≡ 2 ^ gap = twice_half gap p in
@@ -241,7 +236,7 @@ reversed_difference q high low gap lost p l h =
           r' h;
     }
 
--- a number of which a part was lost was cut by one place or more
+-- what is left of a number that lost a part is below half of its bound
 pub lossy_small : (q k low half : ℕ) (loss : Loss) → (loss ≡ ExactlyZero → ⊥) → StandsFor q loss low (2 ^ k)
     → low < 2 * half → q < half
 lossy_small q zero low half loss n h l = absurd (n (whole_exact q loss low h))
@@ -264,9 +259,9 @@ exponent_is eh el er gap e f g =
     (cases_lt 0 gap)
 
 -- a sum in the other order, where a zero may have either sign
-pub resigned : (base a b : ℤ) (n t : Bool) (e : ℤ) (q : ℕ) (loss : Loss)
-    → (n ≡ t) ⊎ ((q ≡ 0) × (loss ≡ ExactlyZero)) → StandsForSigned base (a +ℤ b) n e q loss
-    → StandsForSigned base (b +ℤ a) t e q loss
+pub resigned : (base a b : ℤ) (negative other : Bool) (e : ℤ) (q : ℕ) (loss : Loss)
+    → (negative ≡ other) ⊎ ((q ≡ 0) × (loss ≡ ExactlyZero)) → StandsForSigned base (a +ℤ b) negative e q loss
+    → StandsForSigned base (b +ℤ a) other e q loss
 resigned base a b n t e q loss (inl d) h = record {
   above = h.above;
   amount = h.amount;
@@ -281,7 +276,7 @@ resigned base a b n t e q loss (inr d) h =
     record {
       above = h.above;
       amount = h.amount;
-      is = ap (λ (x : ℕ). signed t x) z ∙ zero_signs t n ∙ ap (λ (x : ℕ). signed n x) (sym z) ∙ h.is ∙
+      is = ap (λ (x : ℕ). signed t x) z ∙ no_sign t ∙ sym (no_sign n) ∙ ap (λ (x : ℕ). signed n x) (sym z) ∙ h.is ∙
           swapped_sum a b;
       stands = h.stands;
     }

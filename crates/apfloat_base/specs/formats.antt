@@ -4,6 +4,5 @@ pub mod Members
 pub mod Constants
 pub mod Nan
 pub mod Lawful
-pub mod LawTest
 pub mod Formats
 pub mod Log

@@ -54,10 +54,10 @@ pub trait Float: Copy
     /// How many binary digits a significand has, including the integer bit.
     const PRECISION: usize;
 
-    /// The greatest exponent of a finite value.
+    /// The greatest exponent of a finite value, that of its highest digit.
     const MAX_EXP: ExpInt;
 
-    /// The least exponent of a value that is not denormal.
+    /// The least exponent of a value that is not denormal, that of its highest digit.
     const MIN_EXP: ExpInt;
 
     /// Whether the type has products: their digits, twice the precision, fit in one integer type of the machine.
@@ -614,12 +614,12 @@ pub trait Float: Copy
     }
 
     /// The fraction of the value, with magnitude from 0.5 to below 1, and its exponent in `exp`: the value is exactly
-    /// the fraction times 2 to the power of `exp`. A zero is its own fraction with exponent 0, an infinity its own with
-    /// `IEK_INF`, and a NaN is quieted and has `IEK_NAN`.
+    /// the fraction times 2 to the power of `exp`, which is one more than `ilogb`. A zero is its own fraction with
+    /// exponent 0, an infinity its own with `IEK_INF`, and a NaN is quieted and has `IEK_NAN`.
     fn frexp_r(self, exp: &mut ExpInt, round: Round) -> Self
         ensures { has_fraction self round result exp.new };
 
-    /// The fraction of the value and its exponent, rounding to nearest, ties to even.
+    /// The fraction of the value and its exponent, one more than `ilogb`, rounding to nearest, ties to even.
     fn frexp(self, exp: &mut ExpInt) -> Self
         ensures { has_fraction self NearestTiesToEven result exp.new }
     {

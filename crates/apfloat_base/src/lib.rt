@@ -7,10 +7,10 @@
 pub mod convert;
 pub mod float;
 pub mod kinds;
+pub mod marks;
 pub mod parse_error;
 pub mod sig;
 pub mod status;
-pub mod texts;
 
 pub use bitflags::Flags;
 pub use convert::FloatConvert;

@@ -25,7 +25,7 @@ use Rattle.rustc_apfloat.specs.PairParts.{compared_pairs, is_denormal_pair, is_n
 use Rattle.rustc_apfloat.specs.PairCalls.{IsPairFromSigned, IsPairFromUnsigned, IsPairNextDown, IsPairNextUp, IsPairReading, IsPairRoundToIntegral, IsPairToSigned, IsPairToUnsigned}
 use Rattle.apfloat_c.specs.declared.data.Halves.{Halves}
 use Rattle.apfloat_c.specs.declared.data.Answer.{Answer}
-use Rattle.dispatch.specs.Kinds.{Kind, of_format, of_pairs, value_of}
+use Rattle.dispatch.specs.ValueKinds.{Kind, of_format, of_pairs, value_of}
 use Rattle.dispatch.specs.OfTwo.{IsOfTwo, IsPairOfTwo}
 use Rattle.apfloat_c.specs.declared.call.Call.{Call}
 use Rattle.apfloat_c.specs.declared.call.Call.TheVariants.{OfTwo, FusedSum, FromUnsigned, FromSigned, ToUnsigned, ToSigned, RoundToIntegral, Scaling, Fraction, Exponent, NextUp, NextDown, Comparison, Class, Conversion, Text}

@@ -9,7 +9,7 @@ use Rattle.rustc_apfloat.specs.Faults.{fault_of}
 use Rattle.rustc_apfloat.specs.Formats.{half_constants, single_constants, double_constants, quad_constants, bfloat_constants, e5m2_constants, e4m3fn_constants, e4m3fnuz_constants, x87_constants}
 use Rattle.apfloat_c.specs.declared.codes.Format.{Format}
 use Rattle.apfloat_c.specs.declared.codes.Format.TheVariants.{Half, Single, Double, Quad, BFloat, E5M2, E4M3FN, E4M3FNUZ, X87, DoubleDouble}
-use Rattle.dispatch.specs.Kinds.{Kind, of_format, of_pairs}
+use Rattle.dispatch.specs.ValueKinds.{Kind, of_format, of_pairs}
 use Rattle.dispatch.specs.OfTwo.{has_operation}
 use Rattle.apfloat_c.specs.declared.call.Call.{Call}
 use Rattle.apfloat_c.specs.declared.call.Call.TheVariants.{OfTwo, FusedSum, ToUnsigned, ToSigned, Conversion, Text}

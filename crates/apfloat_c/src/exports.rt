@@ -8,10 +8,10 @@ ghost use Rattle.apfloat_c.specs.declared.call.Call.TheVariants.{OfTwo, FusedSum
 ghost use Rattle.apfloat_c.specs.Requests.{asked, formats, found, modes};
 ghost use Rattle.apfloat_c.specs.Answers.{IsReply, whole};
 
+use crate::by_code::reply;
 use crate::call::Call;
 use crate::codes::{format_of, mode_of};
 use crate::data::{Answer, Halves};
-use crate::reply::reply;
 use dispatch::Arithmetic;
 use rustc_apfloat::Round;
 

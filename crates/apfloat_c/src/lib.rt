@@ -4,13 +4,13 @@
 //! success, and an error code otherwise. It is total: it requires nothing of the contents of its arguments.
 #![tactic(auto)]
 
+mod ascii;
+mod by_code;
 mod call;
 mod codes;
 mod data;
 mod exports;
-mod pairs;
-mod reply;
+mod format_answers;
+mod pair_answers;
 #[cfg(test)]
 mod tests;
-mod texts;
-mod values;

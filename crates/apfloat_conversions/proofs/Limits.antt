@@ -13,6 +13,10 @@ use Rattle.apfloat_base.specs.whole_numbers.WholeNumbersOut.{IsToUnsigned, range
 use Rattle.apfloat_base.proofs.Choices.{no_zero}
 use Rattle.apfloat_base.proofs.SignedTests.{less_so, less_not}
 
+-- the same whole number, also without a sign
+pub same_number : (m n : ℕ) → pos m ≡ pos n → m ≡ n
+same_number m n h = omega (arith, ints, h)
+
 -- a word shifted to so many digits has them all set
 pub greatest_is : (width : ℕ) → width ≤ 128 → (2 ^ 128 - 1) / 2 ^ (128 - width) ≡ 2 ^ width - 1
 greatest_is width h =

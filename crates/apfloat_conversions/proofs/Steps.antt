@@ -12,12 +12,12 @@ use Rattle.apfloat_base.specs.arithmetic.NextUp.{IsNextGreater, IsNextLess}
 use Rattle.apfloat_base.specs.rounding.Standing.{up, down}
 use Rattle.apfloat_base.proofs.Deliveries.{signed_some}
 use Rattle.apfloat_base.proofs.Signs.{one_side}
-use Rattle.apfloat_base.proofs.Losses.{twice_half}
+use Rattle.apfloat_base.proofs.Powers.{twice_half}
 use Rattle.apfloat_base.proofs.SingleScalings.{up_le, up_far, quanta_below}
 use Rattle.apfloat_unpacked.specs.declared.shape.Shape.{Shape}
 use Rattle.apfloat_unpacked.specs.Shapes.{IsShape, format_at}
 use Rattle.apfloat_unpacked.specs.Stored.{IsOperandAt, IsQuantaAt, IsNormalAt, quanta_at}
-use Rattle.apfloat_unpacked.specs.StoredBack.{quanta_some}
+use Rattle.apfloat_unpacked.proofs.StoredBack.{quanta_some}
 use Rattle.apfloat_unpacked.proofs.StoredNumbers.{quanta_is}
 use Rattle.apfloat_unpacked.proofs.ShapeExponents.{span_is}
 use Rattle.apfloat_conversions.proofs.StoredExponents.{half_within, number_of}

@@ -18,7 +18,7 @@ use Rattle.apfloat_base.proofs.SingleScalings.{IsClamped, up_le, quanta_below, s
 use Rattle.apfloat_unpacked.specs.declared.shape.Shape.{Shape}
 use Rattle.apfloat_unpacked.specs.Shapes.{IsShape, format_at}
 use Rattle.apfloat_unpacked.specs.Stored.{IsOperandAt, IsQuantaAt, IsNormalAt, quanta_at}
-use Rattle.apfloat_unpacked.specs.StoredBack.{quanta_some}
+use Rattle.apfloat_unpacked.proofs.StoredBack.{quanta_some}
 use Rattle.apfloat_unpacked.proofs.ShapeExponents.{exponent_word, scale_is, span_is}
 use Rattle.apfloat_unpacked.proofs.StoredNumbers.{quanta_is, whole_is}
 use Rattle.apfloat_conversions.proofs.Wholes.{up_of, places_up, places_down}

@@ -14,9 +14,9 @@ use Rattle.apfloat_base.specs.formats.Format.{Format}
 use Rattle.apfloat_base.specs.formats.Datum.{Datum, finite}
 use Rattle.apfloat_base.specs.rounding.Rounding.{takes_above, pick_between, signed_quanta}
 use Rattle.apfloat_base.specs.whole_numbers.WholeNumbers.{whole_pick, whole_quanta, inexact_unless, IsRoundToIntegral}
-use Rattle.apfloat_base.proofs.Powers.{two_pos}
+use Rattle.apfloat_base.proofs.Powers.{two_pos, twice_half}
 use Rattle.apfloat_base.proofs.Deliveries.{signed_some}
-use Rattle.apfloat_base.proofs.Losses.{stands_to, stands_past, twice_half}
+use Rattle.apfloat_base.proofs.Losses.{stands_to, stands_past}
 use Rattle.apfloat_base.proofs.KeptDigits.{stands_cancel}
 use Rattle.apfloat_base.proofs.Picks.{kept, takes_less, takes_half, takes_more}
 use Rattle.apfloat_base.proofs.SingleScalings.{scaled_stands}

@@ -2,6 +2,7 @@
 use Rattle.std.specs.Prelude.{◌≡◌, ◌-◌, ◌*◌, ◌^◌, ◌≤◌, ◌⊎◌, ℤ, pos, ◌+ℤ◌, ◌≤ℤ◌}
 use Rattle.apfloat_base.specs.formats.Format.{greatest_significand}
 use Rattle.apfloat_unpacked.specs.declared.shape.Shape.{Shape}
+use Rattle.apfloat_unpacked.specs.declared.unpacked.Unpacked.{Unpacked}
 use Rattle.apfloat_unpacked.specs.Shapes.{format_at}
 
 -- with equal greatest exponents, the greatest significands decide
@@ -28,3 +29,7 @@ pub record IsInside (from into : Shape) (exponent : ℤ) : Type 0 where
 -- every number of the one shape with this exponent is a number of the other
 abbrev pub IsHeldAt : Shape → Shape → ℤ → Type 0
 IsHeldAt from into exponent = IsHeld from into ⊎ IsInside from into exponent
+
+-- an unpacked number of the one shape is a number of the other
+abbrev pub IsHeldNumber : Shape → Shape → Unpacked → Type 0
+IsHeldNumber from into x = IsHeldAt from into x.exponent

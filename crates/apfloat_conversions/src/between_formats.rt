@@ -9,6 +9,7 @@ ghost use Rattle.apfloat_base.specs.formats.Constants.{infinity_of};
 ghost use Rattle.apfloat_base.specs.arithmetic.Conversions.{IsConversion, IsConvertedNumber, IsExactlyConverted, IsKept, loses_zero_sign, has_infinities};
 ghost use Rattle.apfloat_unpacked.specs.Shapes.{IsShape, format_at};
 ghost use Rattle.apfloat_unpacked.specs.Stored.{IsNormal, IsStored, datum_at, quanta_of};
+ghost use Rattle.apfloat_conversions.specs.Results.{ConvertsAt};
 
 use crate::held::{has, widened};
 use crate::payloads::converted_nan;
@@ -34,9 +35,8 @@ fn converted_number(from: Shape, into: Shape, x: Unpacked, round: Round) -> Conv
     requires into { IsShape into }
     requires x { IsNormal from x }
     ensures stored { IsStored into result.answer.value }
-    ensures converted { IsConvertedNumber (format_at from) (format_at into) round x.negative
-        (quanta_of from x) (datum_at into result.answer.value) (bits_of result.answer.status)
-        result.loses_info }
+    ensures converted { ConvertsAt into (IsConvertedNumber (format_at from) (format_at into) round
+        x.negative (quanta_of from x)) result }
 {
     if has(from, into, x) {
         return Converted {
@@ -81,9 +81,8 @@ fn kept(value: Unpacked, loses_info: bool) -> Converted
 fn converted_infinity(into: Shape, negative: bool) -> Converted
     requires { IsShape into }
     ensures stored { IsStored into result.answer.value }
-    ensures converted { IsKept (infinity_of (format_at into) negative)
-        (not (has_infinities into.nonfinite)) (datum_at into result.answer.value)
-        (bits_of result.answer.status) result.loses_info }
+    ensures converted { ConvertsAt into (IsKept (infinity_of (format_at into) negative)
+        (not (has_infinities into.nonfinite))) result }
 {
     let loses_info = match into.nonfinite {
         NonfiniteBehavior::IEEE754 => false,
@@ -97,9 +96,8 @@ fn converted_infinity(into: Shape, negative: bool) -> Converted
 #[inline(always)]
 fn converted_zero(into: Shape, negative: bool) -> Converted
     ensures stored { IsStored into result.answer.value }
-    ensures converted { IsKept (finite (zero_sign into.nonfinite negative) 0)
-        (loses_zero_sign (format_at into) negative) (datum_at into result.answer.value)
-        (bits_of result.answer.status) result.loses_info }
+    ensures converted { ConvertsAt into (IsKept (finite (zero_sign into.nonfinite negative) 0)
+        (loses_zero_sign (format_at into) negative)) result }
 {
     let zero = zero_of(into, negative);
     kept(zero, zero.negative != negative)
@@ -113,10 +111,10 @@ fn convert_apart(from: Shape, into: Shape, x: Unpacked, round: Round) -> Convert
     requires into { IsShape into }
     requires x { IsStored from x }
     ensures stored { IsStored into result.answer.value }
-    ensures converted { IsConversion (format_at from) (format_at into) round (datum_at from x)
-        (datum_at into result.answer.value) (bits_of result.answer.status) result.loses_info }
-    ensures exact { IsExactlyConverted (format_at from) (format_at into) (datum_at from x)
-        (datum_at into result.answer.value) (bits_of result.answer.status) result.loses_info }
+    ensures converted { ConvertsAt into
+        (IsConversion (format_at from) (format_at into) round (datum_at from x)) result }
+    ensures exact { ConvertsAt into
+        (IsExactlyConverted (format_at from) (format_at into) (datum_at from x)) result }
 {
     match x.category {
         Category::Normal => converted_number(from, into, x, round),
@@ -134,10 +132,10 @@ pub fn convert(from: Shape, into: Shape, x: Unpacked, round: Round) -> Converted
     requires into { IsShape into }
     requires x { IsStored from x }
     ensures stored { IsStored into result.answer.value }
-    ensures converted { IsConversion (format_at from) (format_at into) round (datum_at from x)
-        (datum_at into result.answer.value) (bits_of result.answer.status) result.loses_info }
-    ensures exact { IsExactlyConverted (format_at from) (format_at into) (datum_at from x)
-        (datum_at into result.answer.value) (bits_of result.answer.status) result.loses_info }
+    ensures converted { ConvertsAt into
+        (IsConversion (format_at from) (format_at into) round (datum_at from x)) result }
+    ensures exact { ConvertsAt into
+        (IsExactlyConverted (format_at from) (format_at into) (datum_at from x)) result }
 {
     match x.category {
         Category::Normal => converted_number(from, into, x, round),

@@ -5,7 +5,7 @@ ghost use Rattle.apfloat_base.specs.rounding.Bounds.{exponent_bound};
 
 use apfloat_base::ExpInt;
 
-/// The exponent one place higher.
+/// The exponent of an integer bit one place higher.
 #[inline(always)]
 pub fn raised(exponent: ExpInt) -> ExpInt
     requires { exponent ≤ℤ pos exponent_bound }
@@ -14,7 +14,7 @@ pub fn raised(exponent: ExpInt) -> ExpInt
     exponent + 1
 }
 
-/// The exponent one place lower.
+/// The exponent of an integer bit one place lower.
 #[inline(always)]
 pub fn lowered(exponent: ExpInt) -> ExpInt
     requires { neg_ℤ (pos exponent_bound) ≤ℤ exponent }

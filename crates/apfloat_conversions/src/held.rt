@@ -5,7 +5,7 @@ ghost use Rattle.std.specs.Prelude.{◌≡◌, ◌-◌, ◌*◌, ◌^◌, ◌≤
 ghost use Rattle.apfloat_base.specs.formats.Datum.{finite};
 ghost use Rattle.apfloat_unpacked.specs.Shapes.{IsShape, format_at};
 ghost use Rattle.apfloat_unpacked.specs.Stored.{IsNormal, IsStored, datum_at, quanta_of};
-ghost use Rattle.apfloat_conversions.specs.Held.{IsHeld, IsHeldAt, IsInside, IsReached};
+ghost use Rattle.apfloat_conversions.specs.Held.{IsHeld, IsHeldNumber, IsInside, IsReached};
 
 use apfloat_base::{Category, ExpInt};
 use apfloat_unpacked::shape::Shape;
@@ -40,7 +40,8 @@ fn holds(from: Shape, into: Shape) -> bool
     reaches(from, into)
 }
 
-/// Whether another format has at least as many digits as a number, and has all of them at its exponent.
+/// Whether another format has at least as many digits as a number, and has all of them at that exponent of the integer
+/// bit.
 #[inline(always)]
 fn is_inside(from: Shape, into: Shape, exponent: ExpInt) -> bool
     ensures { result ≡ true → IsInside from into exponent }
@@ -53,7 +54,7 @@ fn is_inside(from: Shape, into: Shape, exponent: ExpInt) -> bool
 pub fn has(from: Shape, into: Shape, x: Unpacked) -> bool
     requires from { IsShape from }
     requires into { IsShape into }
-    ensures { result ≡ true → IsHeldAt from into x.exponent }
+    ensures { result ≡ true → IsHeldNumber from into x }
 {
     holds(from, into) || is_inside(from, into, x.exponent)
 }
@@ -63,7 +64,7 @@ pub fn has(from: Shape, into: Shape, x: Unpacked) -> bool
 pub fn widened(from: Shape, into: Shape, x: Unpacked) -> Unpacked
     requires from { IsShape from }
     requires into { IsShape into }
-    requires held { IsHeldAt from into x.exponent }
+    requires held { IsHeldNumber from into x }
     requires x { IsNormal from x }
     ensures stored { IsStored into result }
     ensures datum { datum_at into result ≡ finite x.negative (quanta_of into result) }

@@ -1,12 +1,13 @@
 //! Conversion from and to whole numbers.
 
-ghost use Rattle.std.specs.Prelude.{◌≡◌, ◌-◌, ◌^◌, ◌<◌, ◌≤◌, false, if◌then◌else◌};
+ghost use Rattle.std.specs.Prelude.{◌≡◌, ◌-◌, ◌^◌, ◌<◌, ◌≤◌, pos, if◌then◌else◌};
 ghost use Rattle.apfloat_base.specs.formats.Datum.{finite};
 ghost use Rattle.apfloat_base.specs.rounding.Flags.{bits_of};
 ghost use Rattle.apfloat_base.specs.whole_numbers.WholeNumbers.{IsFromUnsigned, inexact_unless};
-ghost use Rattle.apfloat_base.specs.whole_numbers.WholeNumbersOut.{IsToUnsigned};
+ghost use Rattle.apfloat_base.specs.whole_numbers.WholeNumbersOut.{invalid_whole, to_unsigned};
 ghost use Rattle.apfloat_unpacked.specs.Shapes.{IsShape, format_at};
 ghost use Rattle.apfloat_unpacked.specs.Stored.{IsStored, IsNormal, datum_at, number_of, GivesAt};
+ghost use Rattle.apfloat_conversions.specs.Results.{GivesWhole};
 
 use crate::whole::{Whole, whole_of};
 use apfloat_base::sig::Loss;
@@ -55,9 +56,7 @@ fn greatest(width: u32) -> u128
 /// The result for a value out of range: the end of the range.
 #[inline(always)]
 fn out_of_range(number: u128) -> Unsigned
-    ensures number { result.answer.value ≡ number }
-    ensures status { bits_of result.answer.status ≡ 1 }
-    ensures inexact { result.is_exact ≡ false }
+    ensures { GivesWhole (invalid_whole (pos number)) result }
 {
     Unsigned {
         answer: Status::INVALID_OP.and(number),
@@ -83,9 +82,8 @@ fn number_to_unsigned(shape: Shape, x: Unpacked, width: u32, round: Round) -> Un
     requires normal { IsNormal shape x }
     requires low { 1 ≤ width }
     requires high { width ≤ 128 }
-    ensures whole { IsToUnsigned (format_at shape) round width
-        (number_of shape x) result.answer.value (bits_of result.answer.status)
-        result.is_exact }
+    ensures whole { GivesWhole (to_unsigned (format_at shape) round width (number_of shape x))
+        result }
     ensures fits { result.answer.value < 2 ^ width }
 {
     let limit = limit_of(width, x.negative);
@@ -112,8 +110,8 @@ fn any_to_unsigned(shape: Shape, x: Unpacked, width: u32, round: Round) -> Unsig
     requires stored { IsStored shape x }
     requires low { 1 ≤ width }
     requires high { width ≤ 128 }
-    ensures whole { IsToUnsigned (format_at shape) round width (datum_at shape x)
-        result.answer.value (bits_of result.answer.status) result.is_exact }
+    ensures whole { GivesWhole (to_unsigned (format_at shape) round width (datum_at shape x))
+        result }
     ensures fits { result.answer.value < 2 ^ width }
 {
     match x.category {
@@ -134,8 +132,8 @@ pub fn to_unsigned(shape: Shape, x: Unpacked, width: u32, round: Round) -> Unsig
     requires stored { IsStored shape x }
     requires low { 1 ≤ width }
     requires high { width ≤ 128 }
-    ensures whole { IsToUnsigned (format_at shape) round width (datum_at shape x)
-        result.answer.value (bits_of result.answer.status) result.is_exact }
+    ensures whole { GivesWhole (to_unsigned (format_at shape) round width (datum_at shape x))
+        result }
     ensures fits { result.answer.value < 2 ^ width }
 {
     match x.category {

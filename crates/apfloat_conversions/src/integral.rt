@@ -8,8 +8,7 @@ ghost use Rattle.apfloat_unpacked.specs.Shapes.{IsShape, format_at};
 ghost use Rattle.apfloat_unpacked.specs.Stored.{IsStored, IsNormal, quanta_of, datum_at, GivesAt};
 
 use crate::integers::status_of;
-use crate::whole::round_fraction;
-use apfloat_base::sig::steps_between;
+use crate::whole::round_at_dot;
 use apfloat_base::{Category, Round, Status, StatusAnd};
 use apfloat_unpacked::nans::propagated;
 use apfloat_unpacked::shape::{Shape, last_exponent};
@@ -29,8 +28,7 @@ fn round_number(shape: Shape, x: Unpacked, round: Round) -> StatusAnd<Unpacked>
     if exponent >= 0 {
         return Status::OK.and(x);
     }
-    let places = steps_between(0, exponent);
-    let whole = round_fraction(x.significand, places, round, x.negative);
+    let whole = round_at_dot(shape, x, exponent, round);
     status_of(whole.exact).and(from_quanta(shape, x.negative, whole.magnitude, shape.scale()))
 }
 
@@ -62,8 +60,7 @@ fn is_whole_number(shape: Shape, x: Unpacked) -> bool
     if exponent >= 0 {
         return true;
     }
-    let places = steps_between(0, exponent);
-    round_fraction(x.significand, places, Round::TowardZero, x.negative).exact
+    round_at_dot(shape, x, exponent, Round::TowardZero).exact
 }
 
 /// Whether a value is finite and a whole number; true for zeros.

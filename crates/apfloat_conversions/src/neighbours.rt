@@ -31,7 +31,7 @@ fn step(shape: Shape, exponent: ExpInt) -> u128
     }
 }
 
-/// The exponent of one quantum.
+/// The exponent of the integer bit of one quantum.
 #[inline(always)]
 fn least_exponent(shape: Shape) -> ExpInt
     requires { IsShape shape }

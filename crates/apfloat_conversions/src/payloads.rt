@@ -2,12 +2,11 @@
 //! (IEEE 754-2008 6.2.3).
 
 ghost use Rattle.std.specs.Prelude.{◌≡◌, ◌-◌, ◌*◌, ◌/◌, ◌^◌, ◌<◌};
-ghost use Rattle.apfloat_base.specs.rounding.Flags.{bits_of};
 ghost use Rattle.apfloat_base.specs.arithmetic.Conversions.{IsConverted, places_out, nan_loses, converted_nan};
-ghost use Rattle.apfloat_base.specs.formats.Members.{IsNanSignificand};
 ghost use Rattle.apfloat_base.specs.formats.Nan.{invalid_if, is_signaling};
 ghost use Rattle.apfloat_unpacked.specs.Shapes.{IsShape, format_at};
-ghost use Rattle.apfloat_unpacked.specs.Stored.{IsNan, IsStored, datum_at};
+ghost use Rattle.apfloat_unpacked.specs.Stored.{IsNan, IsNanSignificandAt, IsStored};
+ghost use Rattle.apfloat_conversions.specs.Results.{ConvertsAt};
 
 use crate::between_formats::Converted;
 use apfloat_base::sig::low_digits;
@@ -49,8 +48,7 @@ fn carried_payload(from: Shape, into: Shape, significand: u128) -> u128
 fn nan_loses(from: Shape, into: Shape, significand: u128) -> bool
     requires from { IsShape from }
     requires into { IsShape into }
-    requires nan { IsNanSignificand from.nonfinite from.explicit_integer_bit from.precision
-        significand }
+    requires nan { IsNanSignificandAt from significand }
     ensures { result ≡ nan_loses (format_at from) (format_at into) significand }
 {
     let cut = low_digits(
@@ -69,11 +67,10 @@ pub(crate) fn converted_nan(from: Shape, into: Shape, x: Unpacked) -> Converted
     requires into { IsShape into }
     requires x { IsNan from x }
     ensures stored { IsStored into result.answer.value }
-    ensures converted { IsConverted
+    ensures converted { ConvertsAt into (IsConverted
         (converted_nan (format_at from) (format_at into) x.negative x.significand)
         (invalid_if (is_signaling (format_at from) x.significand))
-        (nan_loses (format_at from) (format_at into) x.significand)
-        (datum_at into result.answer.value) (bits_of result.answer.status) result.loses_info }
+        (nan_loses (format_at from) (format_at into) x.significand)) result }
 {
     let quieted = quieted_significand(from, x.significand);
     let payload = carried_payload(from, into, quieted);

@@ -101,12 +101,13 @@ pub fn ilogb(shape: Shape, x: Unpacked) -> ExpInt
     }
 }
 
-/// A value of magnitude from 0.5 to below 1, and an exponent.
+/// A value of magnitude from 0.5 to below 1, and the exponent of the power of two that it is multiplied by.
 #[derive(Clone, Copy, Debug)]
 pub struct Fraction {
     /// The fraction, with the sign of the value; a zero or an infinity itself, and a NaN quieted.
     pub value: Unpacked,
-    /// The exponent: 0 for a zero, `IEK_INF` for an infinity, `IEK_NAN` for a NaN.
+    /// One more than the exponent of a number's integer bit; 0 for a zero, `IEK_INF` for an infinity, `IEK_NAN` for a
+    /// NaN.
     pub exponent: ExpInt,
 }
 

@@ -1,12 +1,12 @@
 //! The whole number that a mode picks for a number.
 
-ghost use Rattle.std.specs.Prelude.{◌≡◌, ℕ, ◌+◌, ◌*◌, ◌/◌, ◌^◌, ◌<◌, ◌≤◌};
+ghost use Rattle.std.specs.Prelude.{◌≡◌, ℕ, ◌+◌, ◌-◌, ◌*◌, ◌/◌, ◌^◌, ◌<◌, ◌≤◌, pos, ◌+ℤ◌, ◌-ℤ◌, ◌≤ℤ◌};
 ghost use Rattle.apfloat_unpacked.specs.Shapes.{IsShape, format_at};
 ghost use Rattle.apfloat_unpacked.specs.Stored.{IsNormal, quanta_of};
 ghost use Rattle.apfloat_conversions.specs.Wholes.{IsPicked, IsPickedWithin};
 
-use apfloat_base::Round;
 use apfloat_base::sig::{Loss, is_exact, power_of_two, shift_right, steps_between};
+use apfloat_base::{ExpInt, Round};
 use apfloat_unpacked::rounding::moves_up;
 use apfloat_unpacked::shape::{Shape, last_exponent};
 use apfloat_unpacked::unpacked::Unpacked;
@@ -22,7 +22,7 @@ pub struct Whole {
 
 /// `significand * 2^-places`, rounded by the mode to a whole number.
 #[inline(always)]
-pub fn round_fraction(significand: u128, places: u32, round: Round, negative: bool) -> Whole
+fn round_fraction(significand: u128, places: u32, round: Round, negative: bool) -> Whole
     requires { significand < 2 ^ 125 }
     ensures bound { result.magnitude ≤ significand / 2 ^ places + 1 }
     ensures picked { (amount parts : ℕ) → 0 < parts → amount * 2 ^ places ≡ significand * parts
@@ -41,6 +41,21 @@ pub fn round_fraction(significand: u128, places: u32, round: Round, negative: bo
             exact,
         }
     }
+}
+
+/// A nonzero number with digits behind its dot, rounded by the mode to a whole number; `exponent` is that of its last
+/// digit.
+#[inline(always)]
+pub(crate) fn round_at_dot(shape: Shape, x: Unpacked, exponent: ExpInt, round: Round) -> Whole
+    requires lawful { IsShape shape }
+    requires normal { IsNormal shape x }
+    requires last { exponent ≡ x.exponent -ℤ pos (shape.precision - 1) }
+    requires behind { (exponent +ℤ pos 1) ≤ℤ pos 0 }
+    ensures bound { result.magnitude ≤ 2 ^ (shape.precision - 1) }
+    ensures picked { IsPicked round x.negative (quanta_of shape x) (2 ^ (format_at shape).scale)
+        result }
+{
+    round_fraction(x.significand, steps_between(0, exponent), round, x.negative)
 }
 
 /// The whole number `significand * 2^places`.
@@ -72,5 +87,5 @@ pub fn whole_of(shape: Shape, x: Unpacked, round: Round) -> Option<Whole>
             exact: true,
         });
     }
-    Some(round_fraction(x.significand, steps_between(0, exponent), round, x.negative))
+    Some(round_at_dot(shape, x, exponent, round))
 }

@@ -14,7 +14,7 @@ use apfloat_unpacked::shape::Shape;
 use apfloat_unpacked::unpacked::Unpacked;
 use std::fmt;
 
-/// The significand and the exponent that are shown for a value.
+/// The significand and the exponent of the integer bit that are shown for a value.
 struct Text {
     significand: u128,
     exponent: ExpInt,
@@ -38,7 +38,7 @@ fn number_text(shape: Shape, x: Unpacked) -> Text
     }
 }
 
-/// The exponent with which NaNs are written, or the value shown in its place.
+/// The exponent of the integer bit with which NaNs are written, or the value shown in its place.
 fn nan_exponent(shape: Shape) -> ExpInt
     requires { IsShape shape }
 {

@@ -34,7 +34,7 @@ pub struct IeeeFloat<S: Semantics> {
 impl<S: Semantics> Model for IeeeFloat<S> {
     ghost use Rattle.apfloat_base.specs.formats.Datum.{Datum};
     ghost use Rattle.apfloat_unpacked.specs.Stored.{IsStored, datum_at, unpacked_of};
-    ghost use Rattle.apfloat_unpacked.specs.StoredBack.{comes_back};
+    ghost use Rattle.apfloat_unpacked.proofs.StoredBack.{comes_back};
     ghost use Rattle.apfloat_ieee.specs.Types.{shape_of};
 
     ghost Value = { Datum };

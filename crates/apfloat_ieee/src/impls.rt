@@ -30,10 +30,10 @@ ghost use Rattle.apfloat_ieee.specs.Types.{constants_of, format_of, layout_of};
 
 use crate::ieee_float::{IeeeFloat, decode, encode, shape_of};
 use crate::products::{product, quotient};
+use crate::reading::read;
 use crate::remainders::truncated;
 use crate::semantics::Semantics;
 use crate::sums::{difference, sum};
-use crate::texts::read;
 use apfloat_arithmetic::classes::is_denormal;
 use apfloat_arithmetic::inverses::exact_inverse;
 use apfloat_arithmetic::order::{compare_magnitudes, is_same};

@@ -12,10 +12,10 @@ pub mod ieee_float;
 pub mod impls;
 pub mod order;
 pub mod products;
+pub mod reading;
 pub mod remainders;
 pub mod semantics;
 pub mod sums;
-pub mod texts;
 
 pub use apfloat_base::NonfiniteBehavior;
 pub use ieee_float::{IeeeFloat, deliver};

@@ -27,7 +27,7 @@ pub trait Semantics: Copy {
     /// Which non-finite values the format has.
     const NONFINITE_BEHAVIOR: NonfiniteBehavior;
 
-    /// The greatest exponent of a finite value, from `PRECISION` to 2^20.
+    /// The greatest exponent of a finite value, that of its integer bit, from `PRECISION` to 2^20.
     ///
     /// In a format with bits it is `IEEE_MAX_EXP + (MIN_EXP - IEEE_MIN_EXP)`, and 1 more for the kinds `NanOnly` and
     /// `NanNegativeZero`, which have numbers at the greatest biased exponent too.
@@ -37,8 +37,8 @@ pub trait Semantics: Copy {
     /// bits.
     const IEEE_MAX_EXP: ExpInt;
 
-    /// The least exponent of a value that is not denormal, from -2^20 to -1. In a format with bits it may differ from
-    /// `IEEE_MIN_EXP`: all exponents are then shifted by the difference.
+    /// The least exponent of a value that is not denormal, that of its integer bit, from -2^20 to -1. In a format with
+    /// bits it may differ from `IEEE_MIN_EXP`: all exponents are then shifted by the difference.
     const MIN_EXP: ExpInt;
 
     /// The least exponent in IEEE 754 for this count of exponent bits, `2 - 2^(EXP_BITS - 1)`; 0 in a format without
@@ -131,8 +131,8 @@ pub trait Semantics: Copy {
     }
 
     // The constants obey the rules above. If they are literals, the proof to write is `ghost lawful = {
-    // lawful_from_test _ refl };`, with `lawful_from_test` of `specs.LawTest` and `refl` of the standard `Prelude`; it
-    // fails if any of these rules is broken.
+    // lawful_from_test _ refl };`, with `lawful_from_test` of `rustc_apfloat.proofs.LawTest` and `refl` of the standard
+    // `Prelude`; it fails if any of these rules is broken.
     ghost lawful: { IsLawful
         (constants_with BITS EXP_BITS PRECISION NONFINITE_BEHAVIOR MAX_EXP IEEE_MAX_EXP MIN_EXP
         IEEE_MIN_EXP NAN_SIGNIFICAND_BASE NAN_PAYLOAD_MASK QNAN_SIGNIFICAND EXPLICIT_INTEGER_BIT

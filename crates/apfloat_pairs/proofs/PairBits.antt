@@ -5,7 +5,7 @@ use Rattle.std.proofs.lemmas.Nat.{pow_pos, pow-add, mod_below, div_below, mod_lo
 use Rattle.apfloat_base.specs.formats.Datum.{Datum}
 use Rattle.apfloat_base.specs.formats.Formats.{double_constants}
 use Rattle.apfloat_base.specs.formats.Lawful.{IsLawful, layout_with}
-use Rattle.apfloat_base.specs.formats.LawTest.{lawful_from_test}
+use Rattle.apfloat_base.proofs.LawTest.{lawful_from_test}
 use Rattle.apfloat_base.specs.bits.Layout.{Fields, datum_of, datum_of_fields, fields_of, IsEncodedBy}
 use Rattle.apfloat_base.specs.bits.Interchange.{IsInterchange}
 use Rattle.apfloat_base.proofs.Encodings.{lawful_interchange}

@@ -5,7 +5,7 @@ use Rattle.std.proofs.Common.{lit<}
 use Rattle.apfloat_base.specs.declared.kinds.Round.TheVariants.{NearestTiesToEven}
 use Rattle.apfloat_base.specs.formats.Datum.{Datum}
 use Rattle.apfloat_base.specs.arithmetic.Sums.{IsSum}
-use Rattle.apfloat_base.proofs.Exists.{sum_exists}
+use Rattle.apfloat_base.proofs.AnswersExist.{sum_exists}
 use Rattle.apfloat_pairs.specs.PairFormats.{double}
 
 pub nearest_sum : Datum → Datum → Datum

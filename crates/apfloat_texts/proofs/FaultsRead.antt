@@ -1,11 +1,10 @@
 -- What was read of a text is what the model says of it.
-use Rattle.std.proofs.Common.{◌≡◌, ℕ, ◌*◌, Bool, true, false, refl, sym, List, [], ◌∷◌, length, drop, ◌==◌, None, ℤ, pos, negsuc, neg_ℤ, ◌+ℤ◌, ◌-ℤ◌, ◌≤ℤ◌, ◌^◌, ◌<◌, ◌≤◌, arith, FitsSigned}
+use Rattle.std.proofs.Common.{◌≡◌, ℕ, ◌*◌, Bool, true, false, refl, sym, List, [], ◌∷◌, length, drop, ◌==◌, None, ℤ, pos, negsuc, ◌+ℤ◌, ◌-ℤ◌, ◌^◌, ◌<◌, ◌≤◌, arith, FitsSigned}
 use Rattle.std.proofs.lemmas.Bool.{eqb-true}
 use Rattle.std.proofs.lemmas.Int.{ints}
 use Rattle.std.specs.Int.{w128}
 use Rattle.apfloat_base.specs.declared.kinds.Round.{Round}
 use Rattle.apfloat_base.specs.declared.status.StatusAnd.{StatusAnd}
-use Rattle.apfloat_base.specs.declared.sig.loss.Loss.{Loss}
 use Rattle.apfloat_base.specs.rounding.Bounds.{IsWithin}
 use Rattle.apfloat_base.specs.rounding.Flags.{bits_of}
 use Rattle.apfloat_base.specs.texts.Digits.{is_empty}
@@ -16,6 +15,7 @@ use Rattle.apfloat_unpacked.specs.declared.shape.Shape.{Shape}
 use Rattle.apfloat_unpacked.specs.declared.unpacked.Unpacked.{Unpacked}
 use Rattle.apfloat_unpacked.specs.Shapes.{format_at}
 use Rattle.apfloat_unpacked.specs.Stored.{IsStored, datum_at}
+use Rattle.apfloat_texts.specs.declared.significand.Scan.{Scan}
 use Rattle.apfloat_texts.specs.Scans.{IsScanned}
 use Rattle.apfloat_texts.specs.Saturation.{count_bound, fault_behind}
 use Rattle.apfloat_texts.specs.LiteralParts.{IsLiteralRead}
@@ -23,24 +23,22 @@ use Rattle.apfloat_texts.specs.LiteralParts.{IsLiteralRead}
 -- ---- the number behind the prefix
 
 -- what was scanned, with an exponent behind it, has no fault
-fault_free : (rest tail : List ℕ) (significand : ℕ) (loss : Loss) (cut places : ℕ) (some : Bool)
-    → is_empty rest ≡ false
-    → IsScanned rest tail significand loss cut places some → fault_behind some tail ≡ None
-    → behind_prefix_fault rest ≡ None
-fault_free rest tail significand loss cut places some n s f = rw (n, s.one_dot, s.empty_is, s.tail_is) f
+fault_free : (rest tail : List ℕ) (scan : Scan) → is_empty rest ≡ false
+    → IsScanned rest tail scan → fault_behind scan.some tail ≡ None → behind_prefix_fault rest ≡ None
+fault_free rest tail scan n s f = rw (n, s.one_dot, s.empty_is, s.tail_is) f
 
 -- the number behind the prefix, where no fault was found
-pub literal_read : (shape : Shape) (mode : Round) (negative : Bool) (rest tail : List ℕ) (significand : ℕ)
-    (loss : Loss) (cut places : ℕ) (some : Bool) (answer : StatusAnd Unpacked)
-    → is_empty rest ≡ false → IsScanned rest tail significand loss cut places some → fault_behind some tail ≡ None
+pub literal_read : (shape : Shape) (mode : Round) (negative : Bool) (rest tail : List ℕ) (scan : Scan)
+    (answer : StatusAnd Unpacked)
+    → is_empty rest ≡ false → IsScanned rest tail scan → fault_behind scan.some tail ≡ None
     → IsStored shape answer.value
     → IsScaledDelivery (format_at shape) mode negative (digits_number rest)
-    ((exponent_number (drop 1 tail) -ℤ pos (4 * places)) +ℤ pos (format_at shape).scale)
+    ((exponent_number (drop 1 tail) -ℤ pos (4 * scan.places)) +ℤ pos (format_at shape).scale)
     (datum_at shape answer.value) (bits_of answer.status)
     → IsLiteralRead shape mode negative rest answer
-literal_read shape mode negative rest tail significand loss cut places some answer n s f stored d =
+literal_read shape mode negative rest tail scan answer n s f stored d =
     record {
-      no_fault = fault_free rest tail significand loss cut places some n s f;
+      no_fault = fault_free rest tail scan n s f;
       stored = stored;
       delivered = rw (s.tail_is, s.places_are) d;
     }

@@ -4,7 +4,7 @@ use Rattle.std.proofs.lemmas.Nat.{pow-add, pow_pos}
 use Rattle.apfloat_base.specs.declared.sig.loss.Loss.{Loss}
 use Rattle.apfloat_base.specs.declared.sig.loss.Loss.TheVariants.{ExactlyZero}
 use Rattle.apfloat_base.specs.rounding.Standing.{StandsFor}
-use Rattle.apfloat_texts.specs.Scans.{IsKept}
+use Rattle.apfloat_texts.specs.Scans.{IsKeptAt}
 
 -- with one more digit cut off, the unit is 16 times as large
 sixteenfold : (cut : ℕ) → 2 ^ (4 * (cut + 1)) ≡ 16 * 2 ^ (4 * cut)
@@ -20,10 +20,10 @@ even cut p =
 
 -- one more digit is cut off, where some are already
 pub with_next_cut : (number significand digit cut : ℕ) (loss after : Loss) → 0 < cut → 2 ^ 124 ≤ significand
-    → IsKept number significand loss cut
+    → IsKeptAt number significand loss cut
     → ((half : ℕ) → 0 < half → StandsFor significand loss number (2 * half)
     → StandsFor significand after (number * 16 + digit) (16 * (2 * half)))
-    → IsKept (number * 16 + digit) significand after (cut + 1)
+    → IsKeptAt (number * 16 + digit) significand after (cut + 1)
 with_next_cut number significand digit cut loss after p full k step =
     let before : StandsFor significand loss number (2 * 2 ^ (4 * cut - 1)) =
     subst (λ (u : ℕ). StandsFor significand loss number u) (even cut p) k.stands in
@@ -38,10 +38,10 @@ with_next_cut number significand digit cut loss after p full k step =
 
 -- the first digit is cut off
 pub with_first_cut : (number significand digit cut : ℕ) (loss after : Loss) → cut ≡ 0 → 2 ^ 124 ≤ significand
-    → IsKept number significand loss cut
+    → IsKeptAt number significand loss cut
     → ((quotient amount unit : ℕ) → 0 < unit → StandsFor (quotient * (2 * 8) + digit) ExactlyZero amount unit
     → StandsFor quotient after amount (2 * 8 * unit))
-    → IsKept (number * 16 + digit) significand after (cut + 1)
+    → IsKeptAt (number * 16 + digit) significand after (cut + 1)
 with_first_cut number significand digit cut loss after none full k step =
     let l : loss ≡ ExactlyZero = k.exact none in
     let one : 2 ^ (4 * cut) ≡ 1 = ap (λ (n : ℕ). 2 ^ (4 * n)) none in

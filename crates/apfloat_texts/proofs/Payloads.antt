@@ -1,8 +1,8 @@
 -- The digits of a payload are read one by one.
 use Rattle.std.proofs.Common.{◌≡◌, ℕ, ◌^◌, ◌<◌, ◌≤◌, Bool, true, false, ◌&&◌, ltb, if◌then◌else◌, List, [], ◌∷◌, fold, Some, None, refl, ap, ◌∙◌, arith}
 use Rattle.std.proofs.lemmas.Bool.{le-ltb, ltb-false, ltb-true}
-use Rattle.apfloat_base.specs.declared.texts.Radix.{Radix}
-use Rattle.apfloat_base.specs.declared.texts.Radix.TheVariants.{Sixteen, Eight, Ten}
+use Rattle.apfloat_base.specs.declared.marks.Radix.{Radix}
+use Rattle.apfloat_base.specs.declared.marks.Radix.TheVariants.{Sixteen, Eight, Ten}
 use Rattle.apfloat_base.specs.texts.Digits.{every}
 use Rattle.apfloat_base.specs.texts.Specials.{is_digit_of, payload_of_digits}
 use Rattle.apfloat_base.proofs.Choices.{first_holds, first_fails, last_fails}

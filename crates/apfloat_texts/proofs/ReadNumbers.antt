@@ -21,7 +21,7 @@ use Rattle.apfloat_base.proofs.FarMagnitudes.{IsFarAbove, IsFarBelow, far_above,
 use Rattle.apfloat_base.proofs.ZeroTexts.{zero_text}
 use Rattle.apfloat_unpacked.specs.declared.shape.Shape.{Shape}
 use Rattle.apfloat_unpacked.specs.Shapes.{IsShape, format_at}
-use Rattle.apfloat_texts.specs.Scans.{IsKept}
+use Rattle.apfloat_texts.specs.Scans.{IsKeptAt}
 use Rattle.apfloat_texts.specs.Saturation.{IsNear}
 
 -- ---- far magnitudes, by the place z of the lowest digit that is kept
@@ -70,7 +70,7 @@ pub record IsBounded (format : Format) : Type 0 where
 
 -- a delivery with the clamped exponent is that with the exact one
 moved : (format : Format) (mode : Round) (negative : Bool) (number s cut : ℕ) (loss : Loss) (exact unit : ℤ)
-    (value : Datum) (status : ℕ) → IsBounded format → 0 < s → s < 2 ^ 128 → IsKept number s loss cut
+    (value : Datum) (status : ℕ) → IsBounded format → 0 < s → s < 2 ^ 128 → IsKeptAt number s loss cut
     → IsNear text_bound exact unit
     → IsScaledDelivery format mode negative number (power_at (4 * cut) format.scale unit) value status
     → IsScaledDelivery format mode negative number (power_at (4 * cut) format.scale exact) value status
@@ -124,7 +124,7 @@ stands_at number s k scale loss unit h =
 -- a rounding of the kept digits, with a clamped exponent, is that of the number
 pub number_delivered : (format : Format) (mode : Round) (negative : Bool) (number s cut places : ℕ) (loss : Loss)
     (exact unit : ℤ) (value : Datum) (status : ℕ)
-    → IsBounded format → 0 < s → s < 2 ^ 128 → IsKept number s loss cut
+    → IsBounded format → 0 < s → s < 2 ^ 128 → IsKeptAt number s loss cut
     → IsNear text_bound ((exact +ℤ pos (4 * cut)) -ℤ pos (4 * places)) unit
     → ((amount parts : ℕ) → 0 < parts
     → StandsFor s loss (amount * 2 ^ down (unit +ℤ pos format.scale)) (parts * 2 ^ up (unit +ℤ pos format.scale))
@@ -144,7 +144,7 @@ number_delivered format mode negative number s cut places loss exact unit v stat
 -- ---- nothing
 
 -- digits that are all 0 stand for 0
-pub nothing_read : (number cut : ℕ) (loss : Loss) → IsKept number 0 loss cut → number ≡ 0
+pub nothing_read : (number cut : ℕ) (loss : Loss) → IsKeptAt number 0 loss cut → number ≡ 0
 nothing_read number cut loss k =
     ⊎_elim
     (λ (e : cut ≡ 0).
@@ -156,18 +156,18 @@ nothing_read number cut loss k =
 
 -- and then the zero of the sign is delivered
 pub zero_delivered : (format : Format) (mode : Round) (negative : Bool) (number s cut : ℕ) (loss : Loss) (power : ℤ)
-    (value : Datum) (status : ℕ) → s ≡ 0 → IsKept number s loss cut
+    (value : Datum) (status : ℕ) → s ≡ 0 → IsKeptAt number s loss cut
     → value ≡ finite (zero_sign format.nonfinite negative) 0 → status ≡ 0
     → IsScaledDelivery format mode negative number power value status
 zero_delivered format mode negative number s cut loss power v status z k e o =
-    let n : number ≡ 0 = nothing_read number cut loss (subst (λ (x : ℕ). IsKept number x loss cut) z k) in
+    let n : number ≡ 0 = nothing_read number cut loss (subst (λ (x : ℕ). IsKeptAt number x loss cut) z k) in
     rw (n, e, o) (zero_text format mode negative power)
 
 -- ---- for the kernel
 
 -- a number that lost digits keeps at least as many as a format has
 pub fine_digits : {A : Type 0} (precision number s cut : ℕ) (loss : Loss) → precision ≤ 125
-    → IsKept number s loss cut → (loss ≡ ExactlyZero) ⊎ (A ⊎ (2 ^ (precision - 1) ≤ s))
+    → IsKeptAt number s loss cut → (loss ≡ ExactlyZero) ⊎ (A ⊎ (2 ^ (precision - 1) ≤ s))
 fine_digits precision number s cut loss p k =
     ⊎_elim
     (λ (e : cut ≡ 0). inl (k.exact e))

@@ -2,7 +2,6 @@
 use Rattle.std.proofs.Common.{◌≡◌, ℕ, ◌+◌, Bool, true, false, not, if◌then◌else◌, refl, sym, ap, ◌∙◌, subst, arith, List, [], ◌∷◌, ltb}
 use Rattle.std.proofs.Math.Bool.{and-true}
 use Rattle.std.specs.Prelude.{Result, Ok, Err, IsErrAnd, MatchResult}
-use Rattle.apfloat_base.specs.declared.sig.loss.Loss.{Loss}
 use Rattle.apfloat_base.specs.texts.Digits.{begins}
 use Rattle.apfloat_base.specs.texts.Faults.{is_digit_or_dot, significand_of, behind_significand}
 use Rattle.apfloat_texts.specs.declared.significand.Scan.{Scan}
@@ -20,11 +19,8 @@ refused_by (Err y) e P Q is q = subst Q (sym is) q
 
 -- a scan made anew of its parts says the same
 pub scan_remade : (rest left : List ℕ) (next made : Scan) → made ≡ next
-    → IsScan rest left next.digits.significand next.digits.loss next.digits.cut next.places next.pointed next.some
-    → IsScan rest left made.digits.significand made.digits.loss made.digits.cut made.places made.pointed made.some
-scan_remade rest left next made e s =
-    subst (λ (x : Scan). IsScan rest left x.digits.significand x.digits.loss x.digits.cut x.places x.pointed x.some)
-    (sym e) s
+    → IsScan rest left next → IsScan rest left made
+scan_remade rest left next made e s = subst (λ (x : Scan). IsScan rest left x) (sym e) s
 
 -- ---- the end of a significand
 
@@ -49,16 +45,15 @@ no_more true places = omega arith
 no_more false places = omega arith
 
 -- a scan that reaches no further digit or dot is that of the significand
-pub scan_ended : (rest left : List ℕ) (significand : ℕ) (loss : Loss) (cut places : ℕ) (pointed some : Bool)
-    → IsScan rest left significand loss cut places pointed some → begins is_digit_or_dot left ≡ false
-    → IsScanned rest left significand loss cut places some
-scan_ended rest left significand loss cut places pointed some s h =
+pub scan_ended : (rest left : List ℕ) (scan : Scan) → IsScan rest left scan → begins is_digit_or_dot left ≡ false
+    → IsScanned rest left scan
+scan_ended rest left scan s h =
     let e = ended left h in
     record {
-      kept = subst (λ (n : ℕ). IsKept n significand loss cut) (sym (rw e at s.number_is)) s.kept;
-      places_are = rw e at s.places_is ∙ no_more pointed places;
-      one_dot = ap (λ (n : ℕ). ltb 1 n) (rw e at s.dots_are) ∙ one_at_most pointed;
-      empty_is = rw e at s.empty_is ∙ and-true (not some);
+      kept = subst (λ (n : ℕ). IsKept n scan.digits) (sym (rw e at s.number_is)) s.kept;
+      places_are = rw e at s.places_is ∙ no_more scan.pointed scan.places;
+      one_dot = ap (λ (n : ℕ). ltb 1 n) (rw e at s.dots_are) ∙ one_at_most scan.pointed;
+      empty_is = rw e at s.empty_is ∙ and-true (not scan.some);
       tail_is = s.tail_is ∙ unmoved left h;
       cut_fits = omega (arith, s.cut_fits);
       places_fit = omega (arith, s.places_fit);

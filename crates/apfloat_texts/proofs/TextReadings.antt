@@ -2,8 +2,8 @@
 use Rattle.std.proofs.Common.{◌≡◌, ℕ, Bool, true, false, refl, sym, ap, ◌∙◌, ⊎_elim, subst, List, ◌++◌, drop, codes, Some, None}
 use Rattle.std.specs.Prelude.{Result, Ok, Err, MatchResult}
 use Rattle.apfloat_base.specs.declared.parse_error.Fault.{Fault}
-use Rattle.apfloat_base.specs.declared.texts.Mark.{Mark}
-use Rattle.apfloat_base.specs.declared.texts.Mark.TheVariants.{Unmarked, Plus, Minus}
+use Rattle.apfloat_base.specs.declared.marks.Mark.{Mark}
+use Rattle.apfloat_base.specs.declared.marks.Mark.TheVariants.{Unmarked, Plus, Minus}
 use Rattle.apfloat_base.specs.declared.kinds.Round.{Round}
 use Rattle.apfloat_base.specs.declared.status.StatusAnd.{StatusAnd}
 use Rattle.apfloat_base.specs.rounding.Flags.{bits_of}

@@ -1,6 +1,6 @@
 -- Payloads read so far, and the special values of the code as those of the model.
 use Rattle.std.specs.Prelude.{◌≡◌, ℕ, ◌+◌, ◌*◌, ◌^◌, ◌<◌, Bool, false, true, ◌&&◌, ltb, if◌then◌else◌, List, take, drop, fold, Option, Some, None}
-use Rattle.apfloat_base.specs.declared.texts.Radix.{Radix}
+use Rattle.apfloat_base.specs.declared.marks.Radix.{Radix}
 use Rattle.apfloat_base.specs.texts.Digits.{every, digit_value}
 use Rattle.apfloat_base.specs.texts.Specials as model
 use Rattle.apfloat_texts.specs.declared.special.Special.{Special}

@@ -1,4 +1,4 @@
-//! The exponent of a hexadecimal text.
+//! The exponent of a hexadecimal text: as it is written it counts from the dot, and it is returned for the last digit.
 
 ghost use Rattle.std.specs.Prelude.{◌≡◌, ℕ, ◌+◌, ◌*◌, ◌<◌, ℤ, pos, ◌+ℤ◌, ◌-ℤ◌, ◌≤ℤ◌, drop, Some, None, MatchResult};
 ghost use Rattle.apfloat_base.specs.rounding.Bounds.{IsWithin, text_bound};
@@ -58,7 +58,7 @@ fn magnitude(digits: &[u8]) -> Result<u128, Fault>
     Ok(number)
 }
 
-/// The exponent written after the letter.
+/// The exponent written after the letter, which counts from the dot.
 #[inline(always)]
 fn signed(text: &[u8]) -> Result<i128, Fault>
     ensures { MatchResult result (λ e. IsNear far_bound (exponent_number text.now) e
@@ -75,7 +75,8 @@ fn signed(text: &[u8]) -> Result<i128, Fault>
     })
 }
 
-/// The exponent in the text after a significand; `some` says whether the significand has a digit.
+/// The exponent in the text after a significand, which counts from the dot; `some` says whether the significand has a
+/// digit.
 #[inline(always)]
 pub fn exponent_in(tail: &[u8], some: bool) -> Result<i128, Fault>
     ensures { MatchResult result (λ e. IsNear far_bound (exponent_number (drop 1 tail.now)) e
@@ -92,7 +93,8 @@ pub fn exponent_in(tail: &[u8], some: bool) -> Result<i128, Fault>
     }
 }
 
-/// The exponent of the last kept digit of a number with `cut` digits cut off and `places` digits after its dot.
+/// The exponent of the last kept digit of a number with `cut` digits cut off and `places` digits after its dot, from
+/// the exponent that counts from the dot.
 #[inline(always)]
 fn unit_of(exponent: i128, cut: usize, places: usize) -> i128
     requires { IsWithin count_bound exponent }
@@ -101,7 +103,7 @@ fn unit_of(exponent: i128, cut: usize, places: usize) -> i128
     exponent + 4 * cut as i128 - 4 * places as i128
 }
 
-/// The exponent, or the farthest one on its side.
+/// The exponent of a last digit, or the farthest one on its side.
 #[inline(always)]
 fn clamped(exponent: i128) -> ExpInt
     ensures near { IsNear text_bound exponent result }
@@ -116,7 +118,8 @@ fn clamped(exponent: i128) -> ExpInt
     }
 }
 
-/// The exponent of the last kept digit, or one that is past every value on its side.
+/// The exponent of the last kept digit, from the one that counts from the dot; or one that is past every value on its
+/// side.
 #[inline(always)]
 pub fn unit_exponent(exponent: i128, cut: usize, places: usize) -> ExpInt
     requires { IsWithin count_bound exponent }

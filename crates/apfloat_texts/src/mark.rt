@@ -3,7 +3,7 @@
 ghost use Rattle.std.specs.Prelude.{◌≡◌};
 ghost use Rattle.apfloat_base.specs.texts.Specials.{mark_of, behind_mark};
 
-use apfloat_base::texts::Mark;
+use apfloat_base::marks::Mark;
 
 /// The sign, and what follows it.
 #[inline(always)]

@@ -27,12 +27,11 @@ pub fn delivered(
     round: Round,
 ) -> StatusAnd<Unpacked>
     requires lawful { IsShape shape }
-    requires kept { (number : ℕ) × IsKept number digits.significand digits.loss digits.cut }
+    requires kept { (number : ℕ) × IsKept number digits }
     requires within { IsWithin count_bound exponent }
     ensures stored { IsStored shape result.value }
     ensures delivered { (number : ℕ) (exact : ℤ)
-        → IsKept number digits.significand digits.loss digits.cut
-        → IsNear far_bound exact exponent
+        → IsKept number digits → IsNear far_bound exact exponent
         → GivesAt shape (IsScaledDelivery (format_at shape) round negative number
         ((exact -ℤ pos (4 * places)) +ℤ pos (format_at shape).scale)) result }
 {

@@ -5,7 +5,7 @@ ghost use Rattle.apfloat_base.specs.texts.Specials.{radix_of, behind_prefix, beh
 ghost use Rattle.apfloat_texts.specs.Payloads.{next};
 
 use crate::characters::{digit_value, is_decimal, is_hexadecimal, is_octal};
-use apfloat_base::texts::Radix;
+use apfloat_base::marks::Radix;
 
 /// Whether the character is a digit in that base.
 #[inline(always)]

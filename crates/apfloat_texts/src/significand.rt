@@ -57,7 +57,7 @@ impl Digits {
 
     /// No digits yet.
     fn none() -> Digits
-        ensures kept { IsKept 0 result.significand result.loss result.cut }
+        ensures kept { IsKept 0 result }
         ensures cut { result.cut ≡ 0 }
     {
         Digits {
@@ -72,8 +72,7 @@ impl Digits {
     fn followed_by(self, digit: u8) -> Digits
         requires small { digit < 16 }
         requires room { self.cut < usize.MAX }
-        ensures kept { (number : ℕ) → IsKept number self.significand self.loss self.cut
-            → IsKept (number * 16 + digit) result.significand result.loss result.cut }
+        ensures kept { (number : ℕ) → IsKept number self → IsKept (number * 16 + digit) result }
         ensures cut { result.cut ≤ self.cut + 1 }
     {
         if self.significand < 1 << 124 {
@@ -119,8 +118,7 @@ impl Scan {
 
     /// Nothing was read.
     fn none() -> Scan
-        ensures { (rest : List ℕ) → IsScan rest rest result.digits.significand
-            result.digits.loss result.digits.cut result.places result.pointed result.some }
+        ensures { (rest : List ℕ) → IsScan rest rest result }
     {
         Scan {
             digits: Digits::none(),
@@ -136,10 +134,7 @@ impl Scan {
         requires digit { IsTrue (is_hexadecimal byte) }
         requires cut { self.digits.cut < usize.MAX }
         requires places { self.places < usize.MAX }
-        ensures { (rest left : List ℕ) → IsScan rest (byte ∷ left) self.digits.significand
-            self.digits.loss self.digits.cut self.places self.pointed self.some
-            → IsScan rest left result.digits.significand result.digits.loss result.digits.cut
-            result.places result.pointed result.some }
+        ensures { (rest left : List ℕ) → IsScan rest (byte ∷ left) self → IsScan rest left result }
     {
         Scan {
             digits: self.digits.followed_by(digit_value(byte)),
@@ -156,10 +151,8 @@ impl Scan {
     /// The scan with the dot.
     #[inline(always)]
     fn with_dot(self) -> Result<Scan, Fault>
-        ensures { (rest left : List ℕ) → IsScan rest (46 ∷ left) self.digits.significand
-            self.digits.loss self.digits.cut self.places self.pointed self.some
-            → MatchResult result (λ scan. IsScan rest left scan.digits.significand
-            scan.digits.loss scan.digits.cut scan.places scan.pointed scan.some)
+        ensures { (rest left : List ℕ) → IsScan rest (46 ∷ left) self
+            → MatchResult result (λ scan. IsScan rest left scan)
             (λ fault. (fault ≡ SecondDot)
             × (ltb 1 (length (filter is_dot (significand_of rest))) ≡ true)) }
     {
@@ -197,10 +190,8 @@ impl Scan {
         requires passes { IsTrue (is_digit_or_dot byte) }
         requires cut { self.digits.cut < usize.MAX }
         requires places { self.places < usize.MAX }
-        ensures { (rest left : List ℕ) → IsScan rest (byte ∷ left) self.digits.significand
-            self.digits.loss self.digits.cut self.places self.pointed self.some
-            → MatchResult result (λ scan. IsScan rest left scan.digits.significand
-            scan.digits.loss scan.digits.cut scan.places scan.pointed scan.some)
+        ensures { (rest left : List ℕ) → IsScan rest (byte ∷ left) self
+            → MatchResult result (λ scan. IsScan rest left scan)
             (λ fault. (fault ≡ SecondDot)
             × (ltb 1 (length (filter is_dot (significand_of rest))) ≡ true)) }
     {
@@ -218,9 +209,8 @@ impl Scan {
 /// registers; few texts reach the second loop.
 #[inline(always)]
 pub fn scanned(rest: &[u8]) -> Result<(Scan, &[u8]), Fault>
-    ensures { MatchResult result (λ answer. IsScanned rest.now answer.1.now
-        answer.0.digits.significand answer.0.digits.loss answer.0.digits.cut answer.0.places
-        answer.0.some) (λ fault. (fault ≡ SecondDot)
+    ensures { MatchResult result (λ answer. IsScanned rest.now answer.1.now answer.0)
+        (λ fault. (fault ≡ SecondDot)
         × (ltb 1 (length (filter is_dot (significand_of rest.now))) ≡ true)) }
 {
     let mut scan = Scan::none();

@@ -6,7 +6,7 @@ ghost use Rattle.apfloat_base.specs.texts.Specials.{is_infinity, is_minus, is_s,
 ghost use Rattle.apfloat_texts.specs.Payloads.{named_payload, meaning_at};
 
 use crate::payload::payload;
-use apfloat_base::texts::Mark;
+use apfloat_base::marks::Mark;
 
 /// An infinity or a NaN with its payload.
 #[derive(Clone, Copy, Debug)]

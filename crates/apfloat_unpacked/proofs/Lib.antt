@@ -1,3 +1,4 @@
+pub mod StoredBack
 pub mod StoredNumbers
 pub mod StoredMembers
 pub mod ShapeExponents

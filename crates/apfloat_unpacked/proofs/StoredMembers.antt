@@ -14,7 +14,7 @@ use Rattle.apfloat_unpacked.specs.declared.shape.Shape.{Shape}
 use Rattle.apfloat_unpacked.specs.declared.unpacked.Unpacked.{Unpacked}
 use Rattle.apfloat_unpacked.specs.Shapes.{format_at}
 use Rattle.apfloat_unpacked.specs.Stored.{IsStored, IsStoredBy, datum_at, datum_by, quanta_at}
-use Rattle.apfloat_unpacked.specs.StoredBack.{quanta_some}
+use Rattle.apfloat_unpacked.proofs.StoredBack.{quanta_some}
 
 -- what is stored as of a category stands for a datum of that category
 category_by : (category : Category) (shape : Shape) (x : Unpacked) → IsStoredBy category shape x

@@ -1,4 +1,4 @@
 pub mod Shapes
 pub mod Encoded
 pub mod Stored
-pub mod StoredBack
+pub mod Cuts

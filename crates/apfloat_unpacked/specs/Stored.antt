@@ -8,7 +8,7 @@ use Rattle.apfloat_base.specs.formats.Format.{largest}
 use Rattle.apfloat_base.specs.formats.Datum.{Datum, finite, infinite, nan}
 use Rattle.apfloat_base.specs.rounding.Flags.{bits_of}
 use Rattle.apfloat_base.specs.rounding.Rounding.{zero_sign}
-use Rattle.apfloat_base.specs.formats.Members.{IsNanOf}
+use Rattle.apfloat_base.specs.formats.Members.{IsNanSignificand, IsNanOf}
 use Rattle.apfloat_base.specs.arithmetic.Exact.{up, down}
 use Rattle.apfloat_unpacked.specs.declared.shape.Shape.{Shape}
 use Rattle.apfloat_unpacked.specs.declared.unpacked.Unpacked.{Unpacked}
@@ -40,6 +40,9 @@ pub record IsNormalAt (s : Shape) (significand : ℕ) (exponent : ℤ) : Type 0 
 
 -- the same for an unpacked value
 
+abbrev pub IsOperand : Shape → Unpacked → Type 0
+IsOperand s x = IsOperandAt s.precision s.min_exp s.max_exp x.significand x.exponent
+
 abbrev pub quanta_of : Shape → Unpacked → ℕ
 quanta_of s x = quanta_at s.min_exp x.significand x.exponent
 
@@ -60,6 +63,10 @@ pub record IsInfinity (s : Shape) (x : Unpacked) : Type 0 where
   pub significand_is : x.significand ≡ 0
   pub exponent_is : x.exponent ≡ pos 0
   pub kind : s.nonfinite ≡ IEEE754
+
+-- the digits of a NaN of the shape's format
+abbrev pub IsNanSignificandAt : Shape → ℕ → Type 0
+IsNanSignificandAt s significand = IsNanSignificand s.nonfinite s.explicit_integer_bit s.precision significand
 
 pub record IsNan (s : Shape) (x : Unpacked) : Type 0 where
   pub exponent_is : x.exponent ≡ pos 0

@@ -5,10 +5,9 @@ ghost use Rattle.apfloat_base.specs.declared.kinds.Category.TheVariants.{NaN};
 ghost use Rattle.apfloat_base.specs.rounding.Flags.{bits_of};
 ghost use Rattle.apfloat_base.specs.formats.Format.{nan_base, payload_mask, quiet_bits};
 ghost use Rattle.apfloat_base.specs.formats.Datum.{nan};
-ghost use Rattle.apfloat_base.specs.formats.Members.{IsNanSignificand};
 ghost use Rattle.apfloat_base.specs.formats.Nan.{quiet_bit, is_signaling, is_signaling_nan, quieted, quiet_significand, signaling_significand, with_payload, qnan, snan, invalid_if, IsOfNan, IsOfNans, IsInvalid};
 ghost use Rattle.apfloat_unpacked.specs.Shapes.{IsShape, format_at};
-ghost use Rattle.apfloat_unpacked.specs.Stored.{IsStored, datum_at, GivesAt};
+ghost use Rattle.apfloat_unpacked.specs.Stored.{IsNanSignificandAt, IsStored, datum_at, GivesAt};
 
 use crate::shape::Shape;
 use crate::unpacked::{Unpacked, nan_of};
@@ -102,11 +101,9 @@ pub fn is_signaling(shape: Shape, x: Unpacked) -> bool
 #[inline(always)]
 pub fn quieted_significand(shape: Shape, significand: u128) -> u128
     requires lawful { IsShape shape }
-    requires nan { IsNanSignificand shape.nonfinite shape.explicit_integer_bit shape.precision
-        significand }
+    requires nan { IsNanSignificandAt shape significand }
     ensures value { result ≡ quieted (format_at shape) significand }
-    ensures nan { IsNanSignificand shape.nonfinite shape.explicit_integer_bit shape.precision
-        result }
+    ensures nan { IsNanSignificandAt shape result }
 {
     if signals(shape, significand) {
         significand | quiet_bit(shape)
@@ -120,8 +117,7 @@ pub fn quieted_significand(shape: Shape, significand: u128) -> u128
 pub fn quiet_significand(shape: Shape, payload: u128) -> u128
     requires { IsShape shape }
     ensures value { result ≡ quiet_significand (format_at shape) payload }
-    ensures nan { IsNanSignificand shape.nonfinite shape.explicit_integer_bit shape.precision
-        result }
+    ensures nan { IsNanSignificandAt shape result }
 {
     (nan_base(shape) | quiet_bits(shape)) | (payload & payload_mask(shape))
 }
@@ -144,8 +140,7 @@ fn with_payload(shape: Shape, significand: u128) -> u128
 pub fn signaling_significand(shape: Shape, payload: u128) -> u128
     requires { IsShape shape }
     ensures value { result ≡ signaling_significand (format_at shape) payload }
-    ensures nan { IsNanSignificand shape.nonfinite shape.explicit_integer_bit shape.precision
-        result }
+    ensures nan { IsNanSignificandAt shape result }
 {
     let quiet = quiet_significand(shape, payload);
     with_payload(shape, quiet - (quiet & quiet_bit(shape)))

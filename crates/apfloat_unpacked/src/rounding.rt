@@ -8,11 +8,13 @@ ghost use Rattle.apfloat_base.specs.rounding.Bounds.{IsWithin, exponent_bound, u
 ghost use Rattle.apfloat_base.specs.rounding.Flags.{bits_of};
 ghost use Rattle.apfloat_base.specs.formats.Format.{largest, nan_base};
 ghost use Rattle.apfloat_base.specs.formats.Datum.{finite};
+ghost use Rattle.apfloat_base.specs.rounding.Answer.{IsAnswer};
 ghost use Rattle.apfloat_base.specs.rounding.Standing.{StandsFor, up, down};
-ghost use Rattle.apfloat_base.specs.rounding.Enclosure.{IsEnclosed, rounds_up};
+ghost use Rattle.apfloat_base.specs.rounding.Enclosure.{rounds_up};
 ghost use Rattle.apfloat_base.specs.rounding.Rounding.{takes_above, ok_bits, overflow_bit, underflow_bit, inexact_bit, IsPick, IsDelivered, leads_out, past_largest};
+ghost use Rattle.apfloat_unpacked.specs.Cuts.{IsCut};
 ghost use Rattle.apfloat_unpacked.specs.Shapes.{IsShape, format_at};
-ghost use Rattle.apfloat_unpacked.specs.Stored.{IsStored, datum_at, GivesAt};
+ghost use Rattle.apfloat_unpacked.specs.Stored.{IsStored, GivesAt};
 
 use crate::shape::Shape;
 use crate::unpacked::{Unpacked, from_rounded_quanta, infinity_of, largest_of};
@@ -67,6 +69,7 @@ fn steps_down(unit: ExpInt, place: u32) -> u32
 }
 
 /// Cuts a significand once, to the digits that a format keeps.
+/// The unit and the place of the result are counted from the quantum.
 #[inline(always)]
 fn keep(precision: u32, significand: u128, unit: ExpInt, loss: Loss) -> Kept
     requires some { 0 < precision }
@@ -77,13 +80,9 @@ fn keep(precision: u32, significand: u128, unit: ExpInt, loss: Loss) -> Kept
     ensures fits { result.significand < 2 ^ precision }
     ensures full { (result.place ≡ 0) ⊎ (2 ^ (precision - 1) ≤ result.significand) }
     ensures near { result.place < place_bound }
-    ensures enclosed { (amount parts : ℕ) → 0 < parts
+    ensures cut { (amount parts : ℕ) → 0 < parts
         → StandsFor significand loss (amount * 2 ^ down unit) (parts * 2 ^ up unit)
-        → IsEnclosed precision (2 ^ (precision - 1)) result.significand result.place amount
-        parts }
-    ensures stands { (amount parts : ℕ) → 0 < parts
-        → StandsFor significand loss (amount * 2 ^ down unit) (parts * 2 ^ up unit)
-        → StandsFor result.significand result.loss amount (2 ^ result.place * parts) }
+        → IsCut precision result amount parts }
 {
     let place = kept_place(precision, digits(significand), unit);
     if unit > place as ExpInt {
@@ -144,9 +143,7 @@ fn pick(precision: u32, kept: Kept, mode: Round, negative: bool) -> Point
     requires fits { kept.significand < 2 ^ precision }
     requires full { (kept.place ≡ 0) ⊎ (2 ^ (precision - 1) ≤ kept.significand) }
     requires near { kept.place < place_bound }
-    ensures picked { (amount parts : ℕ) → 0 < parts
-        → IsEnclosed precision (2 ^ (precision - 1)) kept.significand kept.place amount parts
-        → StandsFor kept.significand kept.loss amount (2 ^ kept.place * parts)
+    ensures picked { (amount parts : ℕ) → 0 < parts → IsCut precision kept amount parts
         → IsPick precision mode negative amount parts (result.significand * 2 ^ result.place) }
     ensures fits { result.significand < 2 ^ precision }
     ensures full { (result.place ≡ 0) ⊎ (2 ^ (precision - 1) ≤ result.significand) }
@@ -216,11 +213,10 @@ fn is_tiny(shape: Shape, before: u128, after: u128) -> bool
 fn overflowed(shape: Shape, mode: Round, negative: bool) -> StatusAnd<Unpacked>
     requires { IsShape shape }
     ensures stored { IsStored shape result.value }
-    ensures value { datum_at shape result.value
-        ≡ (if leads_out mode negative then past_largest shape.nonfinite
-        (nan_base (format_at shape)) negative else finite negative (largest (format_at shape))) }
-    ensures status { bits_of result.status
-        ≡ (if leads_out mode negative then overflow_bit + inexact_bit else inexact_bit) }
+    ensures answer { GivesAt shape (IsAnswer (if leads_out mode negative
+        then past_largest shape.nonfinite (nan_base (format_at shape)) negative
+        else finite negative (largest (format_at shape)))
+        (if leads_out mode negative then overflow_bit + inexact_bit else inexact_bit)) result }
 {
     if leads_past(mode, negative) {
         Status::OVERFLOW
@@ -258,9 +254,7 @@ fn finish(shape: Shape, kept: Kept, mode: Round, negative: bool) -> StatusAnd<Un
     requires full { (kept.place ≡ 0) ⊎ (2 ^ (shape.precision - 1) ≤ kept.significand) }
     requires near { kept.place < place_bound }
     ensures stored { IsStored shape result.value }
-    ensures delivered { (amount parts : ℕ) → 0 < parts
-        → IsEnclosed shape.precision (2 ^ (shape.precision - 1)) kept.significand kept.place
-        amount parts → StandsFor kept.significand kept.loss amount (2 ^ kept.place * parts)
+    ensures delivered { (amount parts : ℕ) → 0 < parts → IsCut shape.precision kept amount parts
         → GivesAt shape (IsDelivered (format_at shape) mode negative amount parts) result }
 {
     let point = pick(shape.precision, kept, mode, negative);

@@ -4,13 +4,12 @@ ghost use Rattle.std.specs.Prelude.{◌≡◌, ◌+◌, ◌*◌, ◌^◌, ◌<�
 ghost use Rattle.apfloat_base.specs.arithmetic.Exact.{up, down};
 ghost use Rattle.apfloat_base.specs.formats.Format.{largest};
 ghost use Rattle.apfloat_base.specs.formats.Datum.{finite, infinite, nan};
-ghost use Rattle.apfloat_base.specs.rounding.Bounds.{place_bound};
+ghost use Rattle.apfloat_base.specs.rounding.Bounds.{format_bound, place_bound};
 ghost use Rattle.apfloat_base.specs.rounding.Rounding.{zero_sign, signed_quanta};
 ghost use Rattle.apfloat_base.specs.formats.Constants.{infinity_of, smallest_datum, smallest_normalized_datum};
-ghost use Rattle.apfloat_base.specs.formats.Members.{IsNanSignificand};
 ghost use Rattle.apfloat_base.specs.formats.Nan.{nan_sign};
 ghost use Rattle.apfloat_unpacked.specs.Shapes.{IsShape, format_at};
-ghost use Rattle.apfloat_unpacked.specs.Stored.{IsStored, datum_at};
+ghost use Rattle.apfloat_unpacked.specs.Stored.{IsNanSignificandAt, IsStored, datum_at};
 
 use crate::shape::Shape;
 use apfloat_base::sig::digits;
@@ -89,8 +88,7 @@ pub fn zero_of(shape: Shape, negative: bool) -> Unpacked
 /// The NaN with that significand, and with that sign if NaNs have one.
 #[inline(always)]
 pub fn nan_of(shape: Shape, negative: bool, significand: u128) -> Unpacked
-    requires { IsNanSignificand shape.nonfinite shape.explicit_integer_bit shape.precision
-        significand }
+    requires { IsNanSignificandAt shape significand }
     ensures stored { IsStored shape result }
     ensures datum { datum_at shape result ≡ nan (nan_sign shape.nonfinite negative) significand }
 {
@@ -129,7 +127,7 @@ pub fn infinity_of(shape: Shape, negative: bool) -> Unpacked
 /// the smallest normalized value.
 #[inline(always)]
 fn exponent_at(min_exp: ExpInt, place: u32, shift: u32) -> ExpInt
-    requires least { neg_ℤ (pos (2 ^ 20)) ≤ℤ min_exp }
+    requires least { neg_ℤ (pos format_bound) ≤ℤ min_exp }
     requires below_one { min_exp ≤ℤ pos 0 }
     requires near { place ≤ place_bound }
     requires short { shift ≤ 128 }

@@ -8,7 +8,7 @@ use Rattle.rustc_apfloat.specs.PairCalls.{IsPairFromUnsigned, IsPairReading}
 use Rattle.apfloat_pairs.proofs.CallsOnce.{pair_from_unsigned_once, pair_reading_once}
 use Rattle.apfloat_pairs.proofs.PairBits.{pair_encoded_once}
 use Rattle.dispatch.specs.declared.Arithmetic.{Arithmetic}
-use Rattle.dispatch.specs.Kinds.{of_pairs}
+use Rattle.dispatch.specs.ValueKinds.{of_pairs}
 use Rattle.dispatch.specs.OfTwo.{IsPairOfTwo}
 use Rattle.dispatch.proofs.OfTwoOnce.{pair_of_two_once}
 use Rattle.commands.specs.Commands.{bits_in, Call, of_two, fused_sum, from_whole_number, from_text, bits_of_word, requested, whole_number_of, with_text, with_two, with_whole_number}

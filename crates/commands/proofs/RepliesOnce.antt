@@ -13,7 +13,7 @@ use Rattle.apfloat_base.proofs.Once.{Once, fused_sum_once, from_unsigned_once}
 use Rattle.apfloat_base.proofs.OneMeaning.{meaning_no_fault}
 use Rattle.apfloat_base.proofs.Determined.{reading_once}
 use Rattle.dispatch.specs.declared.Arithmetic.{Arithmetic}
-use Rattle.dispatch.specs.Kinds.{Kind, of_format, value_of}
+use Rattle.dispatch.specs.ValueKinds.{Kind, of_format, value_of}
 use Rattle.dispatch.specs.OfTwo.{IsOfTwo}
 use Rattle.dispatch.proofs.OfTwoOnce.{of_two_once}
 use Rattle.commands.specs.Commands.{bits_in, Call, of_two, fused_sum, from_whole_number, from_text, bits_of_word, requested, whole_number_of, with_text, with_three, with_two, with_whole_number}

@@ -9,7 +9,7 @@ use Rattle.apfloat_base.specs.declared.parse_error.Fault.{Fault}
 use Rattle.rustc_apfloat.specs.Faults.{fault_of, words}
 use Rattle.dispatch.specs.declared.Arithmetic.{Arithmetic}
 use Rattle.dispatch.specs.declared.Arithmetic.TheVariants.{Sum, Difference, Product, Quotient, NearestRemainder, TruncatedRemainder}
-use Rattle.dispatch.specs.Kinds.{Kind, of_format, of_pairs}
+use Rattle.dispatch.specs.ValueKinds.{Kind, of_format, of_pairs}
 use Rattle.dispatch.specs.OfTwo.{has_operation}
 use Rattle.commands.specs.declared.operation.Operation.{Operation}
 use Rattle.commands.specs.declared.operation.Operation.TheVariants.{OfTwo, FusedSum, WholeNumber, Text}

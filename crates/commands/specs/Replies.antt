@@ -16,7 +16,7 @@ use Rattle.rustc_apfloat.specs.Lawful.{Constants, format_with, layout_with}
 use Rattle.rustc_apfloat.specs.Pairs.{Pair, pair_of, IsPairEncodedBy}
 use Rattle.rustc_apfloat.specs.PairCalls.{IsPairFromUnsigned, IsPairReading}
 use Rattle.commands.specs.declared.reply.Reply as program
-use Rattle.dispatch.specs.Kinds.{Kind, of_format, of_pairs, value_of}
+use Rattle.dispatch.specs.ValueKinds.{Kind, of_format, of_pairs, value_of}
 use Rattle.dispatch.specs.OfTwo.{IsOfTwo, IsPairOfTwo}
 use Rattle.commands.specs.Commands.{bits_in, Call, of_two, fused_sum, from_whole_number, from_text, Request, asked}
 

@@ -11,15 +11,15 @@
 //! A value is given as its bits: 1 to 32 hexadecimal digits, with or without `0x` in front.
 #![tactic(auto)]
 
+mod expected_reply;
 mod operation;
 mod output;
-mod pairs;
+mod pair_reply;
 mod reply;
-mod row;
 mod text_buffer;
 mod words;
 
+pub use expected_reply::agrees;
 pub use output::{run, run_given, write_line, write_status};
 pub use reply::{Reply, command};
-pub use row::agrees;
 pub use words::{bits_of, mode_named, number_of};

@@ -4,12 +4,12 @@ ghost use Rattle.std.specs.Prelude.{◌≡◌, ◌≤◌, ◌<◌, length, map, 
 ghost use Rattle.rustc_apfloat.specs.Flags.{bits_of};
 ghost use Rattle.rustc_apfloat.specs.Types.{constants_of};
 ghost use Rattle.commands.specs.declared.operation.Operation.TheVariants.{OfTwo, FusedSum};
-ghost use Rattle.dispatch.specs.Kinds.{of_format};
+ghost use Rattle.dispatch.specs.ValueKinds.{of_format};
 ghost use Rattle.commands.specs.Commands.{bits_of_word, is_supported, operand_count, requested, with_format, with_operands, with_operation, with_three, with_two, with_text, with_whole_number};
 ghost use Rattle.commands.specs.Replies.{IsLineOf, IsOnly, IsReply, IsReplyTo, digit_count, reply_of};
 
 use crate::operation::Operation;
-use crate::pairs::answer_in_pairs;
+use crate::pair_reply::answer_in_pairs;
 use crate::words::{ARGUMENTS, bits_of, named, number_of};
 use dispatch::Arithmetic;
 use rustc_apfloat::ieee::{

@@ -10,7 +10,7 @@ pub mod written_bit;
 
 ghost use Rattle.std.specs.Prelude.{◌-◌, ◌^◌, pos, negsuc, true, false, refl};
 ghost use Rattle.apfloat_base.specs.declared.kinds.NonfiniteBehavior.TheVariants.{IEEE754};
-ghost use Rattle.rustc_apfloat.specs.LawTest.{lawful_from_test};
+ghost use Rattle.rustc_apfloat.proofs.LawTest.{lawful_from_test};
 
 pub use broad::{Broad, BroadS};
 pub use deep::{Deep, DeepS};

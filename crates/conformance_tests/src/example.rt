@@ -6,7 +6,7 @@ ghost use Rattle.rustc_apfloat.specs.declared.Round.TheVariants.{NearestTiesToEv
 ghost use Rattle.rustc_apfloat.specs.Flags.{Gives};
 ghost use Rattle.rustc_apfloat.specs.Types.{format_of};
 ghost use Rattle.rustc_apfloat.specs.WholeNumbers.{IsFromUnsigned};
-ghost use Rattle.rustc_apfloat.specs.LawTest.{lawful_from_test};
+ghost use Rattle.rustc_apfloat.proofs.LawTest.{lawful_from_test};
 
 use rustc_apfloat::ieee::{Half, IeeeFloat, NonfiniteBehavior, Semantics};
 use rustc_apfloat::{ExpInt, Flags, Float, Round, Status, StatusAnd, unpack};

@@ -2,4 +2,4 @@ pub mod Bytes
 pub mod Outcomes
 pub mod Values
 pub mod Blocks
-pub mod Formats
+pub mod FormatNames

@@ -6,7 +6,7 @@ ghost use Rattle.convert_values.specs.Values.{IsConvertedValue};
 ghost use Rattle.convert_values.specs.Blocks.{IsBlock};
 
 use crate::counts::Counts;
-use crate::values::convert_value;
+use crate::one_value::convert_value;
 use rustc_apfloat::Round;
 use rustc_apfloat::ieee::Semantics;
 

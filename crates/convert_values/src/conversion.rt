@@ -2,7 +2,7 @@
 
 ghost use Rattle.std.specs.Prelude.{◌≡◌, ◌*◌, ◌<◌, ◌≤◌, length};
 ghost use Rattle.rustc_apfloat.specs.Types.{constants_of};
-ghost use Rattle.convert_values.specs.Formats.{constants_in, source_width, target_width, width_of};
+ghost use Rattle.convert_values.specs.FormatNames.{constants_in, source_width, target_width, width_of};
 ghost use Rattle.convert_values.specs.Values.{IsConvertedValue};
 ghost use Rattle.convert_values.specs.Blocks.{IsBlock};
 

@@ -2,7 +2,7 @@
 
 ghost use Rattle.std.specs.Prelude.{◌≡◌};
 ghost use Rattle.commands.specs.Commands.{found};
-ghost use Rattle.convert_values.specs.Formats.{formats, width_of};
+ghost use Rattle.convert_values.specs.FormatNames.{formats, width_of};
 
 /// The built-in formats that have bits.
 #[derive(Clone, Copy, Debug)]

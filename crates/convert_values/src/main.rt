@@ -13,14 +13,14 @@ mod bytes;
 mod conversion;
 mod counts;
 mod format;
-mod report;
+mod one_value;
 mod request;
+mod run;
 mod stream;
 #[cfg(test)]
 mod tests;
-mod values;
 
-use crate::report::run;
+use crate::run::run;
 use std::alloc::Alloc;
 use std::env::Env;
 use std::process::ExitCode;

@@ -1,7 +1,7 @@
 //! Streams of values.
 
 ghost use Rattle.std.specs.Prelude.{◌≡◌, ◌+◌, ◌*◌, ◌/◌, ◌≤◌, IfOk, length, take};
-ghost use Rattle.convert_values.specs.Formats.{constants_in, source_width, target_width};
+ghost use Rattle.convert_values.specs.FormatNames.{constants_in, source_width, target_width};
 ghost use Rattle.convert_values.specs.Values.{IsConvertedValue};
 ghost use Rattle.convert_values.specs.Blocks.{IsBlock};
 

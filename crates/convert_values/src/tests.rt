@@ -5,7 +5,7 @@ mod rows;
 use crate::conversion::Conversion;
 use crate::counts::Counts;
 use crate::format::{Extended, Format};
-use crate::report::run;
+use crate::run::run;
 use crate::stream::convert_stream;
 use rows::{
     FROM_BFLOAT, FROM_DOUBLE, FROM_E4M3FN, FROM_E4M3FNUZ, FROM_E5M2, FROM_HALF, FROM_QUAD,

@@ -1,2 +1,2 @@
-pub mod Kinds
+pub mod ValueKinds
 pub mod OfTwo

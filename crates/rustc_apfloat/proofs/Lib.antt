@@ -1,2 +1,3 @@
+pub mod LawTest
 pub mod PairFractions
 pub mod PairSteps

@@ -1,54 +1,63 @@
-pub use Rattle.apfloat_base.specs.rounding.Flags
+-- formats and data
 pub use Rattle.apfloat_base.specs.formats.Format
 pub use Rattle.apfloat_base.specs.formats.Datum
+pub use Rattle.apfloat_base.specs.formats.Members
+pub use Rattle.apfloat_base.specs.formats.Constants
+pub use Rattle.apfloat_base.specs.formats.Nan
+pub use Rattle.apfloat_base.specs.formats.Lawful
+pub use Rattle.apfloat_base.specs.formats.Formats
+pub use Rattle.apfloat_base.specs.formats.Log
+-- one rounding
 pub use Rattle.apfloat_base.specs.rounding.Grid
 pub use Rattle.apfloat_base.specs.rounding.Rounding
-pub use Rattle.apfloat_base.specs.rounding.Negation
 pub use Rattle.apfloat_base.specs.rounding.Answer
-pub use Rattle.apfloat_base.specs.formats.Nan
-pub use Rattle.apfloat_base.specs.formats.Constants
-pub use Rattle.apfloat_base.specs.formats.Members
+pub use Rattle.apfloat_base.specs.rounding.Negation
+pub use Rattle.apfloat_base.specs.rounding.Flags
+pub use Rattle.apfloat_base.specs.rounding.Standing
+pub use Rattle.apfloat_base.specs.rounding.Enclosure
+pub use Rattle.apfloat_base.specs.rounding.Bounds
+-- arithmetic
 pub use Rattle.apfloat_base.specs.arithmetic.Exact
-pub use Rattle.apfloat_base.specs.arithmetic.Totals
 pub use Rattle.apfloat_base.specs.arithmetic.Sums
 pub use Rattle.apfloat_base.specs.arithmetic.Products
 pub use Rattle.apfloat_base.specs.arithmetic.Quotients
 pub use Rattle.apfloat_base.specs.arithmetic.FusedSums
-pub use Rattle.apfloat_base.specs.arithmetic.Scaling
-pub use Rattle.apfloat_base.specs.whole_numbers.WholeNumbers
-pub use Rattle.apfloat_base.specs.whole_numbers.WholeNumbersOut
-pub use Rattle.apfloat_base.specs.whole_numbers.SignedWholes
-pub use Rattle.apfloat_base.specs.arithmetic.Conversions
 pub use Rattle.apfloat_base.specs.arithmetic.Remainders
+pub use Rattle.apfloat_base.specs.arithmetic.Totals
+pub use Rattle.apfloat_base.specs.arithmetic.Exponents
+pub use Rattle.apfloat_base.specs.arithmetic.Scaling
+pub use Rattle.apfloat_base.specs.arithmetic.NextUp
+pub use Rattle.apfloat_base.specs.arithmetic.Signs
+pub use Rattle.apfloat_base.specs.arithmetic.Conversions
+-- order and classes
 pub use Rattle.apfloat_base.specs.order.Classes
 pub use Rattle.apfloat_base.specs.order.Order
 pub use Rattle.apfloat_base.specs.order.Predicates
-pub use Rattle.apfloat_base.specs.arithmetic.Signs
-pub use Rattle.apfloat_base.specs.arithmetic.NextUp
-pub use Rattle.apfloat_base.specs.arithmetic.Exponents
+-- integers
+pub use Rattle.apfloat_base.specs.whole_numbers.WholeNumbers
+pub use Rattle.apfloat_base.specs.whole_numbers.WholeNumbersOut
+pub use Rattle.apfloat_base.specs.whole_numbers.SignedWholes
+-- bits
 pub use Rattle.apfloat_base.specs.bits.Layout
-pub use Rattle.apfloat_base.specs.formats.Lawful
-pub use Rattle.apfloat_base.specs.formats.LawTest
 pub use Rattle.apfloat_base.specs.bits.Interchange
-pub use Rattle.apfloat_base.specs.formats.Formats
+-- texts
 pub use Rattle.apfloat_base.specs.texts.Digits
 pub use Rattle.apfloat_base.specs.texts.Specials
 pub use Rattle.apfloat_base.specs.texts.Texts
 pub use Rattle.apfloat_base.specs.texts.Faults
-pub use Rattle.apfloat_base.specs.texts.Readings
 pub use Rattle.apfloat_base.specs.texts.Literals
+pub use Rattle.apfloat_base.specs.texts.Readings
 pub use Rattle.apfloat_base.specs.texts.Parsing
+-- what a type has to provide, and its constants as a format
 pub use Rattle.apfloat_base.specs.Determined
-pub use Rattle.apfloat_base.specs.formats.Log
-pub use Rattle.apfloat_base.specs.rounding.Standing
-pub use Rattle.apfloat_base.specs.rounding.Enclosure
 pub use Rattle.apfloat_ieee.specs.Types
+-- pairs of doubles
 pub use Rattle.apfloat_pairs.specs.PairFormats
 pub use Rattle.apfloat_pairs.specs.Pairs
+pub use Rattle.apfloat_pairs.specs.NearestSums
 pub use Rattle.apfloat_pairs.specs.PairSums
 pub use Rattle.apfloat_pairs.specs.PairProducts
 pub use Rattle.apfloat_pairs.specs.PairParts
 pub use Rattle.apfloat_pairs.specs.PairCalls
 pub use Rattle.apfloat_pairs.specs.PairAnswers
 pub use Rattle.apfloat_pairs.specs.PairAccuracy
-pub use Rattle.apfloat_pairs.specs.NearestSums

@@ -2,14 +2,13 @@
 
 mod answer;
 mod arithmetic;
-mod call;
 mod constants;
 mod conversions;
-mod formats;
 mod ieee;
+mod in_format;
+mod named_call;
 mod order;
 mod pairs;
-mod parts;
 mod quanta;
 mod questions;
 mod row;
@@ -17,6 +16,7 @@ mod text;
 mod texts;
 mod values;
 mod whole_numbers;
+mod without_status;
 
 use crate::calls::answer::Answer;
 use crate::row_error::RowError;
@@ -41,7 +41,7 @@ pub fn agrees(row: Row<'_>) -> Result<bool, RowError<'_>> {
 
 /// What the call of a row answers.
 fn answer_of(row: Row<'_>) -> Result<Answer, RowError<'_>> {
-    formats::answer(row.asked()?, row.round()?, row)
+    in_format::answer(row.asked()?, row.round()?, row)
 }
 
 /// Writes what a row expects, and what is given in each mode of the row in which that differs.

@@ -4,6 +4,7 @@ use Rattle.apfloat_base.specs.declared.kinds.NonfiniteBehavior.{NonfiniteBehavio
 use Rattle.apfloat_base.specs.declared.kinds.NonfiniteBehavior.TheVariants.{IEEE754, NanOnly, NanNegativeZero}
 use Rattle.apfloat_base.specs.formats.Format.{Format, nan_base_of, payload_mask_of, quiet_bits_of}
 use Rattle.apfloat_base.specs.bits.Layout.{Layout}
+use Rattle.apfloat_base.specs.rounding.Bounds.{format_bound}
 
 -- named as in the types of formats
 pub record Constants : Type 0 where
@@ -89,10 +90,10 @@ MayBeExplicit NanNegativeZero explicit = explicit ≡ false
 pub record IsLawful (c : Constants) : Type 0 where
   pub precision_low : 3 ≤ c.precision
   pub precision_high : c.precision ≤ 125
-  pub min_exp_low : neg_ℤ (pos (2 ^ 20)) ≤ℤ c.min_exp
+  pub min_exp_low : neg_ℤ (pos format_bound) ≤ℤ c.min_exp
   pub min_exp_high : c.min_exp ≤ℤ neg_ℤ (pos 1)
   pub max_exp_low : pos c.precision ≤ℤ c.max_exp
-  pub max_exp_high : c.max_exp ≤ℤ pos (2 ^ 20)
+  pub max_exp_high : c.max_exp ≤ℤ pos format_bound
   pub layout : HasNoBits c ⊎ HasBits c
   pub explicit : MayBeExplicit c.nonfinite c.explicit_integer_bit
   pub base : c.nan_significand_base ≡ nan_base_of c.nonfinite c.precision

@@ -1,13 +1,18 @@
 -- How far exponents, units and places are from 0, so that signed 32-bit integers hold them.
 --
--- By the law of formats, exponents are within 2 ^ 20, and a significand has at most 125 digits. So a format's scale and
--- the span of its exponents are at most 2 ^ 21. Each bound below has room for everything that leads to it.
+-- By the law of formats, `MIN_EXP` and `MAX_EXP` are within `format_bound`, and a significand has at most 125 digits. So
+-- a format's scale and the span of its exponents are at most 2 ^ 21. Each further bound has room for everything that
+-- leads to it.
 use Rattle.std.specs.Prelude.{ℕ, ◌-◌, ◌^◌, ℤ, pos, neg_ℤ, ◌≤ℤ◌}
 
 -- at most `bound` away from 0, on either side
 pub record IsWithin (bound : ℕ) (x : ℤ) : Type 0 where
   pub low : neg_ℤ (pos bound) ≤ℤ x
   pub high : x ≤ℤ pos bound
+
+-- the least and the greatest exponent that a format may have, of integer bits
+abbrev pub format_bound : ℕ
+format_bound = 2 ^ 20
 
 -- exponents of the integer bits of a format's numbers, including denormal ones
 abbrev pub number_bound : ℕ

@@ -1,9 +1,9 @@
 -- The texts of infinities and NaNs (IEEE 754-2008 5.12.1), and the meanings that a text can have.
 use Rattle.std.specs.Prelude.{ℕ, ◌-◌, ◌^◌, ℤ, Bool, true, false, ◌&&◌, ◌||◌, not, ltb, eqb, if◌then◌else◌, List, [], ◌∷◌, ◌++◌, length, take, drop, codes, Option, Some, None}
-use Rattle.apfloat_base.specs.declared.texts.Mark.{Mark}
-use Rattle.apfloat_base.specs.declared.texts.Mark.TheVariants.{Unmarked, Plus, Minus}
-use Rattle.apfloat_base.specs.declared.texts.Radix.{Radix}
-use Rattle.apfloat_base.specs.declared.texts.Radix.TheVariants.{Sixteen, Eight, Ten}
+use Rattle.apfloat_base.specs.declared.marks.Mark.{Mark}
+use Rattle.apfloat_base.specs.declared.marks.Mark.TheVariants.{Unmarked, Plus, Minus}
+use Rattle.apfloat_base.specs.declared.marks.Radix.{Radix}
+use Rattle.apfloat_base.specs.declared.marks.Radix.TheVariants.{Sixteen, Eight, Ten}
 use Rattle.apfloat_base.specs.texts.Digits.{same, every, begins, is_empty, is_decimal, is_octal, is_hexadecimal, number}
 
 -- negative; negative, signaling and payload; negative and h, f, e of h * 2 ^ (e - 4 * f)

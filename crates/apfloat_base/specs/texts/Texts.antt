@@ -1,7 +1,7 @@
 -- What texts mean (IEEE 754-2008 5.12).
 use Rattle.std.specs.Prelude.{◌≡◌, ◌⊎◌, ℕ, ◌≤◌, ℤ, pos, neg_ℤ, IsTrue, List, [], ◌++◌, length, codes, Some}
-use Rattle.apfloat_base.specs.declared.texts.Mark.{Mark}
-use Rattle.apfloat_base.specs.declared.texts.Mark.TheVariants.{Unmarked, Plus, Minus}
+use Rattle.apfloat_base.specs.declared.marks.Mark.{Mark}
+use Rattle.apfloat_base.specs.declared.marks.Mark.TheVariants.{Unmarked, Plus, Minus}
 use Rattle.apfloat_base.specs.texts.Digits.{every, is_decimal, is_hexadecimal, number}
 use Rattle.apfloat_base.specs.texts.Specials.{Meaning, infinity, not_a_number, hexadecimal, mark_of, behind_mark, is_minus, special_of}
 

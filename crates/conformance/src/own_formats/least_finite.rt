@@ -2,7 +2,7 @@
 
 ghost use Rattle.std.specs.Prelude.{◌-◌, ◌*◌, ◌^◌, pos, negsuc, true, false, refl};
 ghost use Rattle.apfloat_base.specs.declared.kinds.NonfiniteBehavior.TheVariants.{NanOnly};
-ghost use Rattle.rustc_apfloat.specs.LawTest.{lawful_from_test};
+ghost use Rattle.rustc_apfloat.proofs.LawTest.{lawful_from_test};
 
 use rustc_apfloat::ExpInt;
 use rustc_apfloat::ieee::{IeeeFloat, NonfiniteBehavior, Semantics};

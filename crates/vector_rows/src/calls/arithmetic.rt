@@ -1,7 +1,7 @@
 //! Calls whose operands are values, and whose answer is a value, by itself or with a status.
 
 use crate::calls::answer::{Answer, Extra};
-use crate::calls::call::{Direction, Operator, Quotient};
+use crate::calls::named_call::{Direction, Operator, Quotient};
 use crate::calls::row::Row;
 use crate::calls::values::{one_value, two_values, word_of};
 use crate::row_error::RowError;

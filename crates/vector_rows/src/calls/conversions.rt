@@ -1,7 +1,7 @@
 //! Conversions between two formats.
 
 use crate::calls::answer::{Answer, Extra};
-use crate::calls::call::Call;
+use crate::calls::named_call::Call;
 use crate::calls::row::Row;
 use crate::calls::values::{one_value, word_of};
 use crate::row_error::RowError;

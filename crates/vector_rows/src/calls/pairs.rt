@@ -4,7 +4,7 @@ ghost use Rattle.std.specs.Prelude.{◌≡◌, true};
 ghost use Rattle.rustc_apfloat.specs.PairParts.{CanComparePairMagnitudes};
 
 use crate::calls::answer::{Answer, Word};
-use crate::calls::call::Call;
+use crate::calls::named_call::Call;
 use crate::calls::row::Row;
 use crate::calls::values::{one_value, two_values, word_of};
 use crate::row_error::RowError;

@@ -3,7 +3,7 @@
 ghost use Rattle.std.specs.Prelude.{◌≡◌, ◌++◌, ◌∷◌};
 ghost use Rattle.std.specs.Option.{IfSome};
 
-use crate::calls::call::{Call, call_with_mode, call_without_mode};
+use crate::calls::named_call::{Call, call_with_mode, call_without_mode};
 use crate::row_error::RowError;
 use commands::mode_named;
 use rustc_apfloat::Round;

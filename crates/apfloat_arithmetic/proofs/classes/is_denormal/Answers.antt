@@ -3,7 +3,7 @@ use Rattle.apfloat_base.specs.declared.kinds.Category.{Category}
 use Rattle.apfloat_base.specs.order.Classes.{is_denormal}
 use Rattle.apfloat_unpacked.specs.Shapes.{format_at}
 use Rattle.apfloat_unpacked.specs.Stored.{IsStoredBy, IsNormalAt, quanta_at, datum_by}
-use Rattle.apfloat_unpacked.specs.StoredBack.{quanta_some}
+use Rattle.apfloat_unpacked.proofs.StoredBack.{quanta_some}
 use Rattle.apfloat_arithmetic.proofs.NumberClasses.{denormal_number}
 use Rattle.apfloat_arithmetic.proofs.classes.is_denormal.Goals as goal
 

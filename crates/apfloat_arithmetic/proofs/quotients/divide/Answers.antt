@@ -3,7 +3,7 @@ use Rattle.apfloat_base.specs.declared.kinds.Category.{Category}
 use Rattle.apfloat_base.specs.declared.kinds.Category.TheVariants.{Normal}
 use Rattle.apfloat_unpacked.specs.Shapes.{format_at}
 use Rattle.apfloat_unpacked.specs.Stored.{IsStoredBy, IsNormalAt, quanta_at}
-use Rattle.apfloat_unpacked.specs.StoredBack.{quanta_some}
+use Rattle.apfloat_unpacked.proofs.StoredBack.{quanta_some}
 use Rattle.apfloat_arithmetic.proofs.ZeroAnswers.{some_quotient}
 use Rattle.apfloat_arithmetic.proofs.SumCases.{datum_is}
 use Rattle.apfloat_arithmetic.proofs.quotients.divide.Goals as goal

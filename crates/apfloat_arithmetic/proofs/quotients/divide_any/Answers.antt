@@ -8,7 +8,7 @@ use Rattle.apfloat_base.specs.rounding.Flags.{bits_of}
 use Rattle.apfloat_base.specs.arithmetic.Quotients.{IsQuotient}
 use Rattle.apfloat_unpacked.specs.Shapes.{format_at}
 use Rattle.apfloat_unpacked.specs.Stored.{IsStoredBy, IsNormalAt, quanta_at, datum_at}
-use Rattle.apfloat_unpacked.specs.StoredBack.{quanta_some}
+use Rattle.apfloat_unpacked.proofs.StoredBack.{quanta_some}
 use Rattle.apfloat_arithmetic.proofs.ZeroAnswers.{by_categories, some_quotient, zero_quotient, number_by_zero}
 use Rattle.apfloat_arithmetic.proofs.quotients.divide_any.Goals as goal
 

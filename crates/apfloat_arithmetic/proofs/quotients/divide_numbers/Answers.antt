@@ -5,7 +5,7 @@ use Rattle.apfloat_base.specs.rounding.Rounding.{IsDelivered}
 use Rattle.apfloat_base.proofs.Fractions.{quotient_full}
 use Rattle.apfloat_unpacked.specs.Shapes.{format_at}
 use Rattle.apfloat_unpacked.specs.Stored.{quanta_at, datum_at}
-use Rattle.apfloat_unpacked.specs.StoredBack.{quanta_some}
+use Rattle.apfloat_unpacked.proofs.StoredBack.{quanta_some}
 use Rattle.apfloat_arithmetic.proofs.ProductExponents.{normal_near, normal_some, quotient_is}
 use Rattle.apfloat_arithmetic.proofs.quotients.divide_numbers.Goals as goal
 

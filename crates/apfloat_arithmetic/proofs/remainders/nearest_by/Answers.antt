@@ -21,13 +21,13 @@ returns-then-gap-gt1-clause-past c =
     let low = c.rest_by-rest.ensures.low in
     let f : 2 * (s * 2 ^ p) < y =
     far_below c.args.precision s p c.args.y.significand c.args.y.place c.requires.some
-    c.rest_by-rest.ensures.fits c.requires.y_full (omega arith) in
+    c.rest_by-rest.ensures.fits c.requires.y.full (omega arith) in
     lower_near (x % y) y (eqb (x / y % 2) 1) (subst (λ (z : ℕ). 2 * z < y) e f)
 
 pub overflow_mul-divisor : goal.overflow_mul-divisor
 overflow_mul-divisor c =
     let m : 2 ^ c.args.precision ≤ 2 ^ 125 = pow-le-pow_right two_pos c.requires.precise in
-    let f = c.requires.y_fits in
+    let f = c.requires.y.fits in
     record { fits = omega arith }
 
 pub overflow_sub-other : goal.overflow_sub-other
@@ -46,7 +46,7 @@ overflow_sub-other c =
           level_places c.args.y.significand c.rest_by-rest.result.point.place c.args.y.place (omega arith)
     ] in
     let l : x % y < y =
-    mod-lt x (divisor_pos c.args.precision c.args.y.significand c.args.y.place c.requires.y_full) in
+    mod-lt x (divisor_pos c.args.precision c.args.y.significand c.args.y.place c.requires.y.full) in
     let k : s < d = digits_less s d (2 ^ p) (x % y) y e f l in
     omega arith
 

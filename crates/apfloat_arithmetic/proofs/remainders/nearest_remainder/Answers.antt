@@ -9,11 +9,7 @@ pub returns-then-are_normal-clause-delivered : goal.returns-then-are_normal-clau
 returns-then-are_normal-clause-delivered c =
     let n = c.are_normal.ensures.yes c.if-are_normal.true in
     of_numbers c.args.shape nearest_quotient c.args.x.category c.args.y.category c.args.x c.args.y _ _ n.0 n.1
-    c.requires.y record {
-      value_is = c.nearest_number.ensures.value;
-      status_is =
-          c.nearest_number.ensures.status;
-    }
+    c.requires.y c.nearest_number.ensures.answer
 
 pub returns-else-are_normal-clause-stored : goal.returns-else-are_normal-clause-stored
 returns-else-are_normal-clause-stored c = c.special_remainder.ensures.stored

@@ -10,7 +10,7 @@ returns-then-x-y-clause-rest c =
     let r : ℕ = c.args.x.significand * 2 ^ c.args.x.place in
     let l : r < d =
     below_divisor c.args.precision c.args.x.significand c.args.x.place c.args.y.significand c.args.y.place
-    c.requires.some c.requires.x_fits c.requires.y_full (omega arith) in
+    c.requires.some c.requires.x.fits c.requires.y.full (omega arith) in
     left_all d r l
 
 pub returns-then-x-y-clause-steps : goal.returns-then-x-y-clause-steps
@@ -19,7 +19,7 @@ returns-then-x-y-clause-steps c =
     let r : ℕ = c.args.x.significand * 2 ^ c.args.x.place in
     let l : r < d =
     below_divisor c.args.precision c.args.x.significand c.args.x.place c.args.y.significand c.args.y.place
-    c.requires.some c.requires.x_fits c.requires.y_full (omega arith) in
+    c.requires.some c.requires.x.fits c.requires.y.full (omega arith) in
     none_set d r l
 
 pub returns-then-x-y-clause-odd : goal.returns-then-x-y-clause-odd
@@ -28,7 +28,7 @@ returns-then-x-y-clause-odd c =
     let r : ℕ = c.args.x.significand * 2 ^ c.args.x.place in
     let l : r < d =
     below_divisor c.args.precision c.args.x.significand c.args.x.place c.args.y.significand c.args.y.place
-    c.requires.some c.requires.x_fits c.requires.y_full (omega arith) in
+    c.requires.some c.requires.x.fits c.requires.y.full (omega arith) in
     not_odd d r l
 
 pub less_multiple-less-requires-clause-narrow : goal.less_multiple-less-requires-clause-narrow
@@ -43,7 +43,7 @@ overflow_add-steps c =
     let r : ℕ = c.loop-rest.rest.significand * 2 ^ c.loop-rest.rest.place in
     let s : ℕ = c.less_multiple-less.result.significand * 2 ^ c.less_multiple-less.result.place in
     let k : ℕ = c.less_multiple-less.result.place - c.args.y.place in
-    let p : 0 < d = divisor_pos c.args.precision c.args.y.significand c.args.y.place c.requires.y_full in
+    let p : 0 < d = divisor_pos c.args.precision c.args.y.significand c.args.y.place c.requires.y.full in
     let t : IsTurn d r s k =
     is_turn c.loop-rest.rest.significand c.loop-rest.rest.place c.args.y.significand c.args.y.place
     c.less_multiple-less.result.significand c.less_multiple-less.result.place
@@ -52,7 +52,7 @@ overflow_add-steps c =
     let f : count_ones (c.args.x.significand * 2 ^ c.args.x.place / (c.args.y.significand * 2 ^ c.args.y.place))
     ≤ c.args.x.place + 1 - c.args.y.place =
     few_digits c.args.precision c.args.x.significand c.args.x.place c.args.y.significand c.args.y.place
-    c.requires.some c.requires.x_fits c.requires.y_full (omega arith) in
+    c.requires.some c.requires.x.fits c.requires.y.full (omega arith) in
     let o : count_ones (c.loop-rest.rest.significand * 2 ^ c.loop-rest.rest.place
     / (c.args.y.significand * 2 ^ c.args.y.place))
     ≡ 1 + count_ones (c.less_multiple-less.result.significand * 2 ^ c.less_multiple-less.result.place
@@ -66,7 +66,7 @@ returns-then-less-y-clause-rest c =
     let r : ℕ = c.loop-rest.rest.significand * 2 ^ c.loop-rest.rest.place in
     let s : ℕ = c.less_multiple-less.result.significand * 2 ^ c.less_multiple-less.result.place in
     let k : ℕ = c.less_multiple-less.result.place - c.args.y.place in
-    let p : 0 < d = divisor_pos c.args.precision c.args.y.significand c.args.y.place c.requires.y_full in
+    let p : 0 < d = divisor_pos c.args.precision c.args.y.significand c.args.y.place c.requires.y.full in
     let t : IsTurn d r s k =
     is_turn c.loop-rest.rest.significand c.loop-rest.rest.place c.args.y.significand c.args.y.place
     c.less_multiple-less.result.significand c.less_multiple-less.result.place
@@ -83,7 +83,7 @@ returns-then-less-y-clause-steps c =
     let r : ℕ = c.loop-rest.rest.significand * 2 ^ c.loop-rest.rest.place in
     let s : ℕ = c.less_multiple-less.result.significand * 2 ^ c.less_multiple-less.result.place in
     let k : ℕ = c.less_multiple-less.result.place - c.args.y.place in
-    let p : 0 < d = divisor_pos c.args.precision c.args.y.significand c.args.y.place c.requires.y_full in
+    let p : 0 < d = divisor_pos c.args.precision c.args.y.significand c.args.y.place c.requires.y.full in
     let t : IsTurn d r s k =
     is_turn c.loop-rest.rest.significand c.loop-rest.rest.place c.args.y.significand c.args.y.place
     c.less_multiple-less.result.significand c.less_multiple-less.result.place
@@ -107,7 +107,7 @@ returns-then-less-y-clause-odd c =
     let r : ℕ = c.loop-rest.rest.significand * 2 ^ c.loop-rest.rest.place in
     let s : ℕ = c.less_multiple-less.result.significand * 2 ^ c.less_multiple-less.result.place in
     let k : ℕ = c.less_multiple-less.result.place - c.args.y.place in
-    let p : 0 < d = divisor_pos c.args.precision c.args.y.significand c.args.y.place c.requires.y_full in
+    let p : 0 < d = divisor_pos c.args.precision c.args.y.significand c.args.y.place c.requires.y.full in
     let t : IsTurn d r s k =
     is_turn c.loop-rest.rest.significand c.loop-rest.rest.place c.args.y.significand c.args.y.place
     c.less_multiple-less.result.significand c.less_multiple-less.result.place
@@ -124,7 +124,7 @@ loop-rest-smaller c =
     let r : ℕ = c.loop-rest.rest.significand * 2 ^ c.loop-rest.rest.place in
     let s : ℕ = c.less_multiple-less.result.significand * 2 ^ c.less_multiple-less.result.place in
     let k : ℕ = c.less_multiple-less.result.place - c.args.y.place in
-    let p : 0 < d = divisor_pos c.args.precision c.args.y.significand c.args.y.place c.requires.y_full in
+    let p : 0 < d = divisor_pos c.args.precision c.args.y.significand c.args.y.place c.requires.y.full in
     let t : IsTurn d r s k =
     is_turn c.loop-rest.rest.significand c.loop-rest.rest.place c.args.y.significand c.args.y.place
     c.less_multiple-less.result.significand c.less_multiple-less.result.place
@@ -139,7 +139,7 @@ loop-rest-preserved c =
     let r : ℕ = c.loop-rest.rest.significand * 2 ^ c.loop-rest.rest.place in
     let s : ℕ = c.less_multiple-less.result.significand * 2 ^ c.less_multiple-less.result.place in
     let k : ℕ = c.less_multiple-less.result.place - c.args.y.place in
-    let p : 0 < d = divisor_pos c.args.precision c.args.y.significand c.args.y.place c.requires.y_full in
+    let p : 0 < d = divisor_pos c.args.precision c.args.y.significand c.args.y.place c.requires.y.full in
     let t : IsTurn d r s k =
     is_turn c.loop-rest.rest.significand c.loop-rest.rest.place c.args.y.significand c.args.y.place
     c.less_multiple-less.result.significand c.less_multiple-less.result.place

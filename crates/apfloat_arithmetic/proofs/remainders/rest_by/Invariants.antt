@@ -1,4 +1,5 @@
-use Rattle.std.proofs.Common.{◌-◌, ◌≡◌, ◌+◌, ◌*◌, ◌/◌, ◌%◌, ◌^◌, ◌<◌, ◌≤◌, ◌⊎◌, count_ones}
+use Rattle.std.proofs.Common.{◌-◌, ◌≡◌, ◌+◌, ◌/◌, ◌%◌, ◌^◌, ◌<◌, ◌≤◌, ◌⊎◌, count_ones}
+use Rattle.apfloat_arithmetic.specs.Points.{units_of}
 use Rattle.apfloat_arithmetic.proofs.remainders.rest_by.Given as goal
 
 abbrev pub invariant-loop-rest : goal.invariant-loop-rest
@@ -6,13 +7,11 @@ invariant-loop-rest l = record {
   above : l.y.place ≤ l.rest.place;
   fits : l.rest.significand < 2 ^ l.precision;
   full : (l.rest.place ≡ l.y.place) ⊎ (2 ^ (l.precision - 1) ≤ l.rest.significand);
-  left : l.rest.significand * 2 ^ l.rest.place % (l.y.significand * 2 ^ l.y.place)
-      ≡ l.fn.x.significand * 2 ^ l.fn.x.place % (l.y.significand * 2 ^ l.y.place);
-  counted : l.steps + count_ones (l.rest.significand * 2 ^ l.rest.place / (l.y.significand * 2 ^ l.y.place))
-      ≡ count_ones (l.fn.x.significand * 2 ^ l.fn.x.place / (l.y.significand * 2 ^ l.y.place));
-  parity : l.rest.significand * 2 ^ l.rest.place / (l.y.significand * 2 ^ l.y.place) % 2
-      ≡ l.fn.x.significand * 2 ^ l.fn.x.place / (l.y.significand * 2 ^ l.y.place) % 2;
+  left : units_of l.rest % units_of l.y ≡ units_of l.fn.x % units_of l.y;
+  counted : l.steps + count_ones (units_of l.rest / units_of l.y)
+      ≡ count_ones (units_of l.fn.x / units_of l.y);
+  parity : units_of l.rest / units_of l.y % 2 ≡ units_of l.fn.x / units_of l.y % 2;
 }
 
 abbrev pub decreases-loop-rest : goal.decreases-loop-rest
-decreases-loop-rest l = l.rest.significand * 2 ^ l.rest.place
+decreases-loop-rest l = units_of l.rest

@@ -28,11 +28,7 @@ pub returns-then-are_normal-clause-delivered : goal.returns-then-are_normal-clau
 returns-then-are_normal-clause-delivered c =
     let n = c.are_normal.ensures.yes c.if-are_normal.true in
     of_numbers c.args.shape truncated_quotient c.args.x.category c.args.y.category c.args.x c.args.y _ _ n.0 n.1
-    c.requires.y record {
-      value_is = c.truncated_number.ensures.value;
-      status_is =
-          c.truncated_number.ensures.status;
-    }
+    c.requires.y c.truncated_number.ensures.answer
 
 pub returns-then-are_normal-clause-steps : goal.returns-then-are_normal-clause-steps
 returns-then-are_normal-clause-steps c =

@@ -7,7 +7,7 @@ use Rattle.apfloat_base.specs.formats.Members.{IsMember}
 use Rattle.apfloat_base.proofs.SingleScalings.{converted_is}
 use Rattle.apfloat_unpacked.specs.Shapes.{format_at}
 use Rattle.apfloat_unpacked.specs.Stored.{quanta_at, datum_at}
-use Rattle.apfloat_unpacked.specs.StoredBack.{quanta_some}
+use Rattle.apfloat_unpacked.proofs.StoredBack.{quanta_some}
 use Rattle.apfloat_unpacked.proofs.ShapeExponents.{exponent_word, scale_is}
 use Rattle.apfloat_unpacked.proofs.StoredMembers.{member_is}
 use Rattle.apfloat_conversions.proofs.HeldNumbers.{same_converted}

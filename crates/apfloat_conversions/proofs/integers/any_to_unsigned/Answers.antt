@@ -1,4 +1,5 @@
 use Rattle.std.proofs.lemmas.Nat.{pow_pos}
+use Rattle.apfloat_conversions.proofs.Limits.{same_number}
 use Rattle.apfloat_conversions.proofs.integers.any_to_unsigned.Goals as goal
 
 pub number_to_unsigned-requires-clause-lawful : goal.number_to_unsigned-requires-clause-lawful
@@ -29,4 +30,4 @@ pub returns-in-Zero-clause-fits : goal.returns-in-Zero-clause-fits
 returns-in-Zero-clause-fits c = rw c.and.ensures.value (pow_pos c.args.width)
 
 pub returns-in-Infinity-clause-fits : goal.returns-in-Infinity-clause-fits
-returns-in-Infinity-clause-fits c = rw c.out_of_range.ensures.number c.limit_of.ensures.fits
+returns-in-Infinity-clause-fits c = rw (same_number _ _ c.out_of_range.ensures.number_is) c.limit_of.ensures.fits

@@ -1,8 +1,8 @@
 use Rattle.std.proofs.Common.{◌≤◌, subst, ℕ, arith, ◌^◌, ◌<◌, ◌∙◌}
 use Rattle.apfloat_unpacked.specs.Shapes.{format_at}
 use Rattle.apfloat_unpacked.specs.Stored.{quanta_at}
-use Rattle.apfloat_unpacked.specs.StoredBack.{quanta_some}
-use Rattle.apfloat_conversions.proofs.Limits.{limit, in_range, out_of_range}
+use Rattle.apfloat_unpacked.proofs.StoredBack.{quanta_some}
+use Rattle.apfloat_conversions.proofs.Limits.{limit, in_range, out_of_range, same_number}
 use Rattle.std.proofs.Math.Nat.{pow-le-pow_right}
 use Rattle.apfloat_base.proofs.Powers.{two_pos}
 use Rattle.apfloat_base.specs.whole_numbers.WholeNumbers.{whole_pick}
@@ -33,10 +33,11 @@ returns-in-None-clause-whole c =
     (omega (arith, i, w, c.limit_of-limit.ensures.fits)) in
     out_of_range (format_at s) c.args.round c.args.width c.args.x.negative n c.out_of_range.result.answer.value _
     c.out_of_range.result.is_exact (quanta_some s c.args.x.significand c.args.x.exponent c.requires.normal) l
-    (c.out_of_range.ensures.number ∙ e) c.out_of_range.ensures.status c.out_of_range.ensures.inexact
+    (same_number _ _ c.out_of_range.ensures.number_is ∙ e) c.out_of_range.ensures.status_is
+    c.out_of_range.ensures.is_exact_is
 
 pub returns-in-None-clause-fits : goal.returns-in-None-clause-fits
-returns-in-None-clause-fits c = rw c.out_of_range.ensures.number c.limit_of-limit.ensures.fits
+returns-in-None-clause-fits c = rw (same_number _ _ c.out_of_range.ensures.number_is) c.limit_of-limit.ensures.fits
 
 pub returns-then-whole-limit-clause-whole : goal.returns-then-whole-limit-clause-whole
 returns-then-whole-limit-clause-whole c =
@@ -53,12 +54,12 @@ returns-then-whole-limit-clause-whole c =
     out_of_range (format_at s) c.args.round c.args.width c.args.x.negative n
     c.out_of_range-then-whole-limit.result.answer.value _ c.out_of_range-then-whole-limit.result.is_exact
     (quanta_some s c.args.x.significand c.args.x.exponent c.requires.normal) l
-    (c.out_of_range-then-whole-limit.ensures.number ∙ e) c.out_of_range-then-whole-limit.ensures.status
-    c.out_of_range-then-whole-limit.ensures.inexact
+    (same_number _ _ c.out_of_range-then-whole-limit.ensures.number_is ∙ e)
+    c.out_of_range-then-whole-limit.ensures.status_is c.out_of_range-then-whole-limit.ensures.is_exact_is
 
 pub returns-then-whole-limit-clause-fits : goal.returns-then-whole-limit-clause-fits
 returns-then-whole-limit-clause-fits c =
-    rw c.out_of_range-then-whole-limit.ensures.number c.limit_of-limit.ensures.fits
+    rw (same_number _ _ c.out_of_range-then-whole-limit.ensures.number_is) c.limit_of-limit.ensures.fits
 
 pub returns-else-whole-limit-clause-whole : goal.returns-else-whole-limit-clause-whole
 returns-else-whole-limit-clause-whole c =

@@ -5,10 +5,11 @@ use Rattle.apfloat_base.specs.formats.Format.{largest}
 use Rattle.apfloat_base.specs.rounding.Standing.{up}
 use Rattle.apfloat_unpacked.specs.Shapes.{format_at}
 use Rattle.apfloat_unpacked.specs.Stored.{quanta_at, datum_at}
-use Rattle.apfloat_unpacked.specs.StoredBack.{quanta_some}
-use Rattle.apfloat_base.proofs.Losses.{twice_half}
-use Rattle.apfloat_conversions.proofs.StoredExponents.{whole_places, fraction_places, scale_in_span, half_within, significand_small}
-use Rattle.apfloat_conversions.proofs.Wholes.{whole_fits, integral_picked, integral_stays}
+use Rattle.apfloat_unpacked.proofs.StoredBack.{quanta_some}
+use Rattle.apfloat_base.proofs.Powers.{twice_half}
+use Rattle.apfloat_unpacked.proofs.ShapeExponents.{exponent_word}
+use Rattle.apfloat_conversions.proofs.StoredExponents.{whole_places, scale_in_span, half_within}
+use Rattle.apfloat_conversions.proofs.Wholes.{integral_picked, integral_stays}
 use Rattle.apfloat_conversions.proofs.integral.round_number.Goals as goal
 
 pub last_exponent-exponent-requires-clause-lawful : goal.last_exponent-exponent-requires-clause-lawful
@@ -19,20 +20,6 @@ last_exponent-exponent-requires-clause-within c =
     record {
       low = omega (arith, ints, c.requires.lawful, c.requires.normal.operand);
       high = omega (arith, ints, c.requires.lawful, c.requires.normal.operand);
-    }
-
-pub steps_between-places-requires-clause-above : goal.steps_between-places-requires-clause-above
-steps_between-places-requires-clause-above c = omega (arith, ints)
-
-pub steps_between-places-requires-clause-high : goal.steps_between-places-requires-clause-high
-steps_between-places-requires-clause-high c =
-    record { low = omega (arith, ints); high = omega (arith, ints) }
-
-pub steps_between-places-requires-clause-low : goal.steps_between-places-requires-clause-low
-steps_between-places-requires-clause-low c =
-    record {
-      low = omega (arith, ints, c.last_exponent-exponent.ensures.within);
-      high = omega (arith, ints, c.last_exponent-exponent.ensures.within);
     }
 
 pub returns-then-exponent-ge0-clause-stored : goal.returns-then-exponent-ge0-clause-stored
@@ -66,27 +53,25 @@ returns-then-exponent-ge0-clause-delivered c =
     rw (c.and.ensures.value, c.and.ensures.status, c.requires.number)
     (integral_stays (format_at s) c.args.round c.args.x.negative a (m * 2 ^ up r) (quanta_some s m x n) e)
 
-pub round_fraction-whole-requires : goal.round_fraction-whole-requires
-round_fraction-whole-requires c =
-    significand_small c.args.shape c.args.x.significand c.requires.lawful c.requires.normal.operand.fits
+pub round_at_dot-whole-requires-clause-lawful : goal.round_at_dot-whole-requires-clause-lawful
+round_at_dot-whole-requires-clause-lawful c = c.requires.lawful
 
-half_bound : (state : goal.After-scale)
-    → state.round_fraction-whole.result.magnitude ≤ 2 ^ (state.args.shape.precision - 1)
-half_bound c =
-    let three = c.requires.lawful.precision_low in
-    let g = c.if-exponent-ge0.false in
-    let w : to_z w32 (of_z w32 c.last_exponent-exponent.result) ≡ c.last_exponent-exponent.result =
-    to_z-of_z w32 c.last_exponent-exponent.result (record { sfits = c.last_exponent-exponent.type_inv }) in
-    let k = rw w at c.steps_between-places.ensures in
-    let l : 1 ≤ c.steps_between-places.result = omega (arith, ints, g, w, k) in
-    whole_fits c.args.shape.precision c.args.x.significand c.steps_between-places.result
-    c.round_fraction-whole.result.magnitude (omega (arith, three)) c.requires.normal.operand.fits l
-    c.round_fraction-whole.ensures.bound
+pub round_at_dot-whole-requires-clause-normal : goal.round_at_dot-whole-requires-clause-normal
+round_at_dot-whole-requires-clause-normal c = c.requires.normal
+
+pub round_at_dot-whole-requires-clause-last : goal.round_at_dot-whole-requires-clause-last
+round_at_dot-whole-requires-clause-last c =
+    let e = exponent_word c.args.shape c.args.x.significand c.args.x.exponent c.requires.lawful c.requires.normal in
+    rw (to_z-of_z w32 c.last_exponent-exponent.result (record { sfits = c.last_exponent-exponent.type_inv }))
+    (rw e at c.last_exponent-exponent.ensures.value)
+
+pub round_at_dot-whole-requires-clause-behind : goal.round_at_dot-whole-requires-clause-behind
+round_at_dot-whole-requires-clause-behind c = let g = c.if-exponent-ge0.false in omega (arith, ints, g)
 
 pub from_quanta-requires-clause-fits : goal.from_quanta-requires-clause-fits
 from_quanta-requires-clause-fits c =
     let s = c.args.shape in
-    let h = half_bound c in
+    let h = c.round_at_dot-whole.ensures.bound in
     let three = c.requires.lawful.precision_low in
     let t : 2 * 2 ^ (s.precision - 1) ≡ 2 ^ s.precision = twice_half s.precision (omega (arith, three)) in
     let p : 0 < 2 ^ (s.precision - 1) = pow_pos (s.precision - 1) in
@@ -95,28 +80,19 @@ from_quanta-requires-clause-fits c =
 pub from_quanta-requires-clause-within : goal.from_quanta-requires-clause-within
 from_quanta-requires-clause-within c =
     let s = c.args.shape in
-    let h = half_bound c in
+    let h = c.round_at_dot-whole.ensures.bound in
     let r = scale_in_span s c.requires.lawful in
-    subst (λ (k : ℕ). c.round_fraction-whole.result.magnitude * 2 ^ k ≤ largest (format_at s))
+    subst (λ (k : ℕ). c.round_at_dot-whole.result.magnitude * 2 ^ k ≤ largest (format_at s))
     (sym c.scale.ensures.value)
-    (half_within s c.round_fraction-whole.result.magnitude (format_at s).scale c.requires.lawful h (omega (arith, r)))
+    (half_within s c.round_at_dot-whole.result.magnitude (format_at s).scale c.requires.lawful h (omega (arith, r)))
 
 pub returns-clause-delivered : goal.returns-clause-delivered
 returns-clause-delivered c =
     let s = c.args.shape in
-    let m = c.args.x.significand in
-    let x = c.args.x.exponent in
-    let n = c.requires.normal in
-    let a = quanta_at s.min_exp m x in
-    let r = c.last_exponent-exponent.result in
-    let w : to_z w32 (of_z w32 c.last_exponent-exponent.result) ≡ c.last_exponent-exponent.result =
-    to_z-of_z w32 c.last_exponent-exponent.result (record { sfits = c.last_exponent-exponent.type_inv }) in
-    let k = rw w at c.steps_between-places.ensures in
-    let i = c.round_fraction-whole.ensures.picked a (2 ^ (format_at s).scale) (pow_pos (format_at s).scale)
-    (fraction_places s m c.steps_between-places.result x r c.requires.lawful n
-    c.last_exponent-exponent.ensures.value k) in
+    let a = quanta_at s.min_exp c.args.x.significand c.args.x.exponent in
+    let i = c.round_at_dot-whole.ensures.picked in
     let d = rw c.scale.ensures.value at c.from_quanta.ensures.datum in
     rw (c.and-2.ensures.value, c.and-2.ensures.status, c.requires.number)
-    (integral_picked (format_at s) c.args.round c.args.x.negative a c.round_fraction-whole.result.magnitude
-    c.round_fraction-whole.result.exact (datum_at s c.from_quanta.result) _ i.magnitude_is i.exact_is d
+    (integral_picked (format_at s) c.args.round c.args.x.negative a c.round_at_dot-whole.result.magnitude
+    c.round_at_dot-whole.result.exact (datum_at s c.from_quanta.result) _ i.magnitude_is i.exact_is d
     c.status_of.ensures)

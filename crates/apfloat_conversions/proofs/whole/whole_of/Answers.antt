@@ -1,12 +1,9 @@
-use Rattle.std.proofs.Common.{◌≡◌, ◌-◌, ◌*◌, ◌^◌, ◌≤◌, sym, ◌∙◌, arith, w32, to_z, of_z}
-use Rattle.std.proofs.Math.Nat.{pow-le-pow_right}
+use Rattle.std.proofs.Common.{◌≡◌, ◌-◌, ◌*◌, ◌^◌, sym, ◌∙◌, arith, w32, to_z, of_z}
 use Rattle.std.proofs.lemmas.Int.{ints, to_z-of_z}
 use Rattle.std.proofs.lemmas.Nat.{pow_pos}
-use Rattle.apfloat_base.proofs.Powers.{two_pos}
 use Rattle.apfloat_unpacked.specs.Shapes.{format_at}
 use Rattle.apfloat_unpacked.specs.Stored.{quanta_at}
 use Rattle.apfloat_unpacked.proofs.ShapeExponents.{exponent_word, scale_is}
-use Rattle.apfloat_conversions.proofs.StoredExponents.{fraction_places}
 use Rattle.apfloat_conversions.proofs.Wholes.{too_large, places_up, whole_exactly, exactly_so}
 use Rattle.apfloat_conversions.proofs.whole.whole_of.Goals as goal
 
@@ -50,20 +47,6 @@ raised-requires-clause-near c =
       c.steps_between.ensures,
     )
 
-pub steps_between-requires-2-clause-above : goal.steps_between-requires-2-clause-above
-steps_between-requires-2-clause-above c = omega (arith, ints)
-
-pub steps_between-requires-2-clause-high : goal.steps_between-requires-2-clause-high
-steps_between-requires-2-clause-high c =
-    record { low = omega (arith, ints); high = omega (arith, ints) }
-
-pub steps_between-requires-2-clause-low : goal.steps_between-requires-2-clause-low
-steps_between-requires-2-clause-low c =
-    record {
-      low = omega (arith, ints, c.last_exponent-exponent.ensures.within);
-      high = omega (arith, ints, c.last_exponent-exponent.ensures.within);
-    }
-
 pub returns-then-x-ge128 : goal.returns-then-x-ge128
 returns-then-x-ge128 c =
     let s = c.args.shape in
@@ -96,21 +79,20 @@ returns-then-exponent-ge0 c =
           (2 ^ (format_at s).scale) p e;
     }
 
-pub round_fraction-requires : goal.round_fraction-requires
-round_fraction-requires c =
-    let l = c.requires.lawful.precision_high in
-    let a : 2 ^ c.args.shape.precision ≤ 2 ^ 125 = pow-le-pow_right two_pos l in
-    let f = c.requires.normal.operand.fits in
-    omega (arith, a, f)
+pub round_at_dot-requires-clause-lawful : goal.round_at_dot-requires-clause-lawful
+round_at_dot-requires-clause-lawful c = c.requires.lawful
+
+pub round_at_dot-requires-clause-normal : goal.round_at_dot-requires-clause-normal
+round_at_dot-requires-clause-normal c = c.requires.normal
+
+pub round_at_dot-requires-clause-last : goal.round_at_dot-requires-clause-last
+round_at_dot-requires-clause-last c =
+    let e = exponent_word c.args.shape c.args.x.significand c.args.x.exponent c.requires.lawful c.requires.normal in
+    rw (to_z-of_z w32 c.last_exponent-exponent.result (record { sfits = c.last_exponent-exponent.type_inv }))
+    (rw e at c.last_exponent-exponent.ensures.value)
+
+pub round_at_dot-requires-clause-behind : goal.round_at_dot-requires-clause-behind
+round_at_dot-requires-clause-behind c = let g = c.if-exponent-ge0.false in omega (arith, ints, g)
 
 pub returns : goal.returns
-returns c =
-    let s = c.args.shape in
-    let a = quanta_at s.min_exp c.args.x.significand c.args.x.exponent in
-    let w : to_z w32 (of_z w32 c.last_exponent-exponent.result) ≡ c.last_exponent-exponent.result =
-    to_z-of_z w32 c.last_exponent-exponent.result (record { sfits = c.last_exponent-exponent.type_inv }) in
-    let k = rw w at c.steps_between-2.ensures in
-    c.round_fraction.ensures.picked a (2 ^ (format_at s).scale) (pow_pos (format_at s).scale)
-    (fraction_places s c.args.x.significand c.steps_between-2.result c.args.x.exponent
-    c.last_exponent-exponent.result c.requires.lawful c.requires.normal c.last_exponent-exponent.ensures.value
-    k)
+returns c = c.round_at_dot.ensures.picked

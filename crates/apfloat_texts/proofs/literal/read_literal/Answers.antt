@@ -24,7 +24,7 @@ pub returns : goal.returns
 returns c =
     let s = c.in_ok-scan.ensures in
     let e = c.in_ok-exponent.ensures in
-    literal_read c.args.shape c.args.round c.args.negative c.args.rest.now _ _ _ _ _ _ c.delivered.result
+    literal_read c.args.shape c.args.round c.args.negative c.args.rest.now _ _ c.delivered.result
     (some_text c.args.rest.now c.if-is_empty.ensures) s e.2
     c.delivered.ensures.stored
     (c.delivered.ensures.delivered _ _ s.kept

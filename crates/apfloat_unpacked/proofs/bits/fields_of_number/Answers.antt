@@ -9,7 +9,7 @@ use Rattle.apfloat_unpacked.specs.Shapes.{format_at, IsShape}
 use Rattle.apfloat_unpacked.specs.Stored.{quanta_at, IsNormalAt}
 use Rattle.apfloat_unpacked.specs.declared.shape.Shape.{Shape}
 use Rattle.apfloat_unpacked.specs.declared.bits.Widths.{Widths}
-use Rattle.apfloat_unpacked.specs.StoredBack.{quanta_some}
+use Rattle.apfloat_unpacked.proofs.StoredBack.{quanta_some}
 use Rattle.apfloat_unpacked.specs.Encoded.{layout_at}
 use Rattle.apfloat_unpacked.proofs.StoredNumbers.{quanta_low, quanta_low_below, quanta_high}
 use Rattle.apfloat_unpacked.proofs.bits.fields_of_number.Goals as goal

@@ -9,7 +9,7 @@ overflow_add-significand c =
     record { fits = room c.args.kept.significand c.args.precision c.requires.precise c.requires.fits }
 
 pub returns-then-significand-power_of_two-clause-picked : goal.returns-then-significand-power_of_two-clause-picked
-returns-then-significand-power_of_two-clause-picked c = λ amount parts u i h.
+returns-then-significand-power_of_two-clause-picked c = λ amount parts u h.
     let e : c.if-moved.significand ≡ kept c.args.mode c.args.negative c.args.kept.loss c.args.kept.significand =
     elim c.if-moved.branch [
       | then-moved w ↦ w.significand-is ∙
@@ -22,10 +22,10 @@ returns-then-significand-power_of_two-clause-picked c = λ amount parts u i h.
     pick_carries c.args.precision c.args.mode c.args.negative c.args.kept.significand c.args.kept.place amount parts
     c.args.kept.loss c.if-moved.significand c.power_of_two.result
     c.power_of_two-then-significand-power_of_two.result c.requires.some e c.if-significand-power_of_two.true
-    c.power_of_two.ensures c.power_of_two-then-significand-power_of_two.ensures u i h
+    c.power_of_two.ensures c.power_of_two-then-significand-power_of_two.ensures u h.0 h.1
 
 pub returns-else-significand-power_of_two-clause-picked : goal.returns-else-significand-power_of_two-clause-picked
-returns-else-significand-power_of_two-clause-picked c = λ amount parts u i h.
+returns-else-significand-power_of_two-clause-picked c = λ amount parts u h.
     let e : c.if-moved.significand ≡ kept c.args.mode c.args.negative c.args.kept.loss c.args.kept.significand =
     elim c.if-moved.branch [
       | then-moved w ↦ w.significand-is ∙
@@ -36,4 +36,4 @@ returns-else-significand-power_of_two-clause-picked c = λ amount parts u i h.
           c.moves_up-moved.ensures w.if-moved.false
     ] in
     pick_stays c.args.precision c.args.mode c.args.negative (2 ^ (c.args.precision - 1)) c.args.kept.significand
-    c.args.kept.place amount parts c.args.kept.loss c.if-moved.significand e u i h
+    c.args.kept.place amount parts c.args.kept.loss c.if-moved.significand e u h.0 h.1

@@ -1,5 +1,5 @@
 use Rattle.rustc_apfloat.specs.Types.{constants_of}
-use Rattle.dispatch.specs.Kinds.{of_format}
+use Rattle.dispatch.specs.ValueKinds.{of_format}
 use Rattle.commands.proofs.RepliesOnce.{only_text, only_refusal}
 use Rattle.commands.proofs.reply.from_text.Goals as goal
 

@@ -1,7 +1,7 @@
 use Rattle.std.proofs.Common.{◌≡◌, ◌*◌, ◌/◌, ◌≤◌, length, take, sym, ap, ◌∙◌, arith}
 use Rattle.std.proofs.lemmas.List.{length-take-le, take_at}
 use Rattle.convert_values.specs.declared.stream.TheConstants.{BLOCK}
-use Rattle.convert_values.specs.Formats.{constants_in, source_width, target_width}
+use Rattle.convert_values.specs.FormatNames.{constants_in, source_width, target_width}
 use Rattle.convert_values.specs.Values.{IsConvertedValue}
 use Rattle.convert_values.proofs.Places.{block_named}
 use Rattle.convert_values.proofs.Sizes.{target_within}

@@ -6,6 +6,7 @@ use Rattle.apfloat_base.specs.order.Classes.{is_nan_category}
 use Rattle.apfloat_base.specs.order.Predicates.{is_infinite_category, is_finite_category}
 use Rattle.apfloat_base.proofs.float.Float.is_finite.Goals as goal
 
+-- a category that is neither NaN nor infinite is finite
 finite_is : (category : Category) → is_nan_category category ≡ false
     → not (is_infinite_category category) ≡ is_finite_category category
 finite_is Infinity h = refl

@@ -6,6 +6,7 @@ use Rattle.apfloat_base.specs.contracts.kinds.Category.{the_type}
 use Rattle.apfloat_base.specs.order.Predicates.{is_infinite_category}
 use Rattle.apfloat_base.proofs.float.Float.is_infinite.Goals as goal
 
+-- infinity is the only infinite category
 is_it : (category : Category) → sameb the_type category Infinity ≡ is_infinite_category category
 is_it Infinity = refl
 is_it NaN = refl

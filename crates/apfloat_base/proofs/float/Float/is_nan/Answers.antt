@@ -6,6 +6,7 @@ use Rattle.apfloat_base.specs.contracts.kinds.Category.{the_type}
 use Rattle.apfloat_base.specs.order.Classes.{is_nan_category}
 use Rattle.apfloat_base.proofs.float.Float.is_nan.Goals as goal
 
+-- NaN is the only category of NaNs
 is_it : (category : Category) → sameb the_type category NaN ≡ is_nan_category category
 is_it Infinity = refl
 is_it NaN = refl

@@ -1,0 +1,33 @@
+use Rattle.std.proofs.Common.{◌^◌, ◌≤◌, arith, w32}
+use Rattle.std.proofs.lemmas.Int.{ints, to_z-of_z}
+use Rattle.std.proofs.lemmas.Nat.{pow_pos}
+use Rattle.apfloat_unpacked.specs.Shapes.{format_at}
+use Rattle.apfloat_unpacked.specs.Stored.{quanta_at}
+use Rattle.apfloat_unpacked.proofs.ShapeExponents.{exponent_word}
+use Rattle.apfloat_conversions.proofs.StoredExponents.{fraction_places, significand_small}
+use Rattle.apfloat_conversions.proofs.Wholes.{whole_fits}
+use Rattle.apfloat_conversions.proofs.whole.round_at_dot.Goals as goal
+
+pub round_fraction-requires : goal.round_fraction-requires
+round_fraction-requires c =
+    significand_small c.args.shape c.args.x.significand c.requires.lawful c.requires.normal.operand.fits
+
+pub returns-clause-bound : goal.returns-clause-bound
+returns-clause-bound c =
+    let three = c.requires.lawful.precision_low in
+    let b = c.requires.behind in
+    let k = rw (to_z-of_z w32 c.args.exponent c.ranges.exponent) at c.steps_between.ensures in
+    let l : 1 ≤ c.steps_between.result = omega (arith, ints, b, k) in
+    whole_fits c.args.shape.precision c.args.x.significand c.steps_between.result c.round_fraction.result.magnitude
+    (omega (arith, three)) c.requires.normal.operand.fits l c.round_fraction.ensures.bound
+
+pub returns-clause-picked : goal.returns-clause-picked
+returns-clause-picked c =
+    let s = c.args.shape in
+    let m = c.args.x.significand in
+    let x = c.args.x.exponent in
+    let n = c.requires.normal in
+    let k = rw (to_z-of_z w32 c.args.exponent c.ranges.exponent) at c.steps_between.ensures in
+    c.round_fraction.ensures.picked (quanta_at s.min_exp m x) (2 ^ (format_at s).scale) (pow_pos (format_at s).scale)
+    (fraction_places s m c.steps_between.result x c.args.exponent c.requires.lawful n
+    (rw (exponent_word s m x c.requires.lawful n) c.requires.last) k)

@@ -1,0 +1,18 @@
+-- The results of conversions, in terms of the data and the whole numbers that they are.
+use Rattle.std.specs.Prelude.{ℕ, Bool, pos}
+use Rattle.apfloat_base.specs.formats.Datum.{Datum}
+use Rattle.apfloat_base.specs.rounding.Flags.{bits_of}
+use Rattle.apfloat_base.specs.whole_numbers.WholeNumbersOut.{Whole, IsWhole}
+use Rattle.apfloat_unpacked.specs.declared.shape.Shape.{Shape}
+use Rattle.apfloat_unpacked.specs.Stored.{datum_at}
+use Rattle.apfloat_conversions.specs.declared.between_formats.Converted.{Converted}
+use Rattle.apfloat_conversions.specs.declared.integers.Unsigned.{Unsigned}
+
+-- a result whose datum, status and loss of information satisfy the relation
+abbrev pub ConvertsAt : Shape → (Datum → ℕ → Bool → Type 0) → Converted → Type 0
+ConvertsAt s Says converted =
+    Says (datum_at s converted.answer.value) (bits_of converted.answer.status) converted.loses_info
+
+-- the whole number with its status, and whether it is exact
+abbrev pub GivesWhole : Whole → Unsigned → Type 0
+GivesWhole answer whole = IsWhole answer (pos whole.answer.value) (bits_of whole.answer.status) whole.is_exact
