@@ -16,7 +16,7 @@ use Rattle.apfloat_pairs.specs.Pairs.{IsNormalised}
 use Rattle.apfloat_pairs.specs.PairAccuracy.{HaveExponents, IsErrorFreeSum, IsAccurateSum, IsAccurateProduct}
 use Rattle.apfloat_pairs.specs.WrongAnswers.{one, least, half_unit, one_and_half_unit, one_and_quarter_unit, before_closing}
 
--- 1 plus the least double is not 1
+-- 1 is no error-free sum of 1 and the least double
 pub dropped_error : IsErrorFreeSum one least one → ⊥
 dropped_error law =
     let e = law (record { is_finite = refl; low_is = refl }) (record { is_finite = refl; low_is = refl })
@@ -76,7 +76,7 @@ not_normalised n =
     (finite false (2 ^ 1074 + 2 ^ 1022)) n.status ok_bits n.is_nearest sum_is_double in
     false≢true (subst (λ (d : Datum). is_equal (finite false (2 ^ 1074)) d ≡ true) only.0 n.same_number)
 
--- and is not the sum of 1 + 2 ^ -53 and 2 ^ -53
+-- and no accurate sum of 1 + 2 ^ -53 and 2 ^ -53
 pub skipped_closing_step : IsAccurateSum one_and_half_unit half_unit before_closing → ⊥
 skipped_closing_step law =
     let a = law one_and_half_unit_normalised half_unit_normalised (record { first = lit≤ tt; second = lit≤ tt }) in
@@ -95,7 +95,7 @@ exponents = record {
   not_above = omega (arith, ints);
 }
 
--- 1 + 2 ^ -54 times 1 is not 1
+-- 1 is no accurate product of 1 + 2 ^ -54 and 1
 pub dropped_cross_term : IsAccurateProduct one_and_quarter_unit one one → ⊥
 dropped_cross_term law =
     let a = law one_and_quarter_unit_normalised one_normalised exponents in
