@@ -1,6 +1,7 @@
 -- The sum of two stored numbers, from the sum of their significands.
-use Rattle.std.proofs.Common.{◌≡◌, ℕ, zero, suc, ℤ, pos, negsuc, ◌+ℤ◌, ◌-ℤ◌, ◌≤ℤ◌, ◌+◌, ◌-◌, ◌*◌, ◌^◌, ◌<◌, ◌≤◌, ◌⊎◌, Bool, true, false, sym, refl, ap, ◌∙◌, subst, inl, inr, ⊎_elim, arith}
+use Rattle.std.proofs.Common.{◌≡◌, ℕ, zero, suc, ℤ, pos, negsuc, ◌+ℤ◌, ◌-ℤ◌, ◌≤ℤ◌, ◌+◌, ◌-◌, ◌*◌, ◌^◌, ◌<◌, ◌≤◌, ◌⊎◌, Bool, true, false, sym, refl, ap, ◌∙◌, inl, inr, ⊎_elim, arith}
 use Rattle.std.specs.Prelude.{unsigned_abs}
+use Rattle.std.proofs.Math.Path.{subst₂}
 use Rattle.std.proofs.Math.Nat.{eq_of_mul-eq-mul_right, pow-le-pow_right}
 use Rattle.std.proofs.lemmas.Nat.{pow-add, pow_pos}
 use Rattle.std.proofs.lemmas.Int.{ints}
@@ -32,8 +33,8 @@ quanta_counted min xe tx base k mx m l e i =
     (m * 2 ^ k) (omega arith)
 
 -- the sum of two multiples is that multiple of the sum
-pub scaled_sum : (s t : Bool) (m n w : ℕ) (y z : ℤ) → y ≡ (signed s (m * w) +ℤ signed t (n * w))
-    → z ≡ (signed s m +ℤ signed t n) → up y + down z * w ≡ down y + up z * w
+pub scaled_sum : (left right : Bool) (m n w : ℕ) (y z : ℤ) → y ≡ (signed left (m * w) +ℤ signed right (n * w))
+    → z ≡ (signed left m +ℤ signed right n) → up y + down z * w ≡ down y + up z * w
 scaled_sum true true m n w y z e d =
     let a : up z + (m + n) ≡ down z = omega (arith, ints) in
     let b : (up z + (m + n)) * w ≡ down z * w = ap (λ (x : ℕ). x * w) a in
@@ -100,8 +101,7 @@ read_stands base e unit k amount whole q loss l d a h =
     let t : StandsFor q loss (amount * 2 ^ down unit) (2 ^ up (e -ℤ base) * 2 ^ down unit) =
     stands_times q loss amount (2 ^ up (e -ℤ base)) (2 ^ down unit) (pow_pos (down unit)) h in
     stands_cancel q loss (whole * 2 ^ down unit) (1 * 2 ^ up unit) (2 ^ k) (pow_pos k)
-    (subst (λ (x : ℕ). StandsFor q loss x (1 * 2 ^ up unit * 2 ^ k)) w
-    (subst (λ (x : ℕ). StandsFor q loss (amount * 2 ^ down unit) x) p' t))
+    (subst₂ (StandsFor q loss) w p' t)
 
 -- what is not 0, or lost something, stands for an amount above 0
 not_zero_amount : (q : ℕ) (loss : Loss) (amount unit : ℕ) → 0 < unit → (q ≡ 0 → loss ≡ ExactlyZero → ⊥)
@@ -114,15 +114,14 @@ zero_amount : (q : ℕ) (loss : Loss) (amount unit : ℕ) → q ≡ 0 → loss �
     → amount ≡ 0
 zero_amount q loss amount unit a b h =
     let s : StandsFor 0 ExactlyZero amount unit =
-    subst (λ (x : ℕ). StandsFor x ExactlyZero amount unit) a
-    (subst (λ (x : Loss). StandsFor q x amount unit) b h) in
+    subst₂ (λ (x : ℕ) (y : Loss). StandsFor x y amount unit) a b h in
     omega (arith, s)
 
 -- the sum of two terms, as the sum of their numbers of quanta
-pub read_sum : (of_zero : Bool) (base e unit : ℤ) (k m n : ℕ) (s t negative : Bool) (q : ℕ) (loss : Loss)
+pub read_sum : (of_zero : Bool) (base e unit : ℤ) (k m n : ℕ) (left right negative : Bool) (q : ℕ) (loss : Loss)
     → e ≡ ((unit +ℤ base) +ℤ pos k)
-    → StandsForSigned base (signed s (m * 2 ^ k) +ℤ signed t (n * 2 ^ k)) negative e q loss
-    → IsRepresented of_zero (signed s m +ℤ signed t n) negative unit q loss
+    → StandsForSigned base (signed left (m * 2 ^ k) +ℤ signed right (n * 2 ^ k)) negative e q loss
+    → IsRepresented of_zero (signed left m +ℤ signed right n) negative unit q loss
 read_sum of_zero base e unit k m n s t negative q loss d h =
     let w : 0 < 2 ^ k = pow_pos k in
     let u : 0 < 2 ^ up (e -ℤ base) = pow_pos (up (e -ℤ base)) in
@@ -153,15 +152,15 @@ read_negative of_zero exact unit negative answer (suc n) loss r f g =
     let k = λ (x : suc n ≡ 0) (y : loss ≡ ExactlyZero). absurd (omega arith) in g k ∙ r.other_sign k
 
 -- the two numbers and the sum of their terms
-pub sum_read : (of_zero : Bool) (precision scale : ℕ) (min xe ye tx ty e unit : ℤ) (s t negative : Bool)
+pub sum_read : (of_zero : Bool) (precision scale : ℕ) (min xe ye tx ty e unit : ℤ) (left right negative : Bool)
     (mx my m n q : ℕ) (loss : Loss)
     → ((min +ℤ pos 1) -ℤ pos precision) ≤ℤ xe → ((min +ℤ pos 1) -ℤ pos precision) ≤ℤ ye
     → (tx +ℤ pos precision) ≡ (xe +ℤ pos 1) → (ty +ℤ pos precision) ≡ (ye +ℤ pos 1)
     → (pos scale +ℤ min) +ℤ pos 1 ≡ pos precision → unit ≡ (e +ℤ pos scale) → IsQuantaAt min mx xe m
     → IsQuantaAt min my ye n
     → ((base : ℤ) → base ≤ℤ tx → base ≤ℤ ty
-    → StandsForSigned base (counted base s tx mx +ℤ counted base t ty my) negative e q loss)
-    → IsRepresented of_zero (signed s m +ℤ signed t n) negative unit q loss
+    → StandsForSigned base (counted base left tx mx +ℤ counted base right ty my) negative e q loss)
+    → IsRepresented of_zero (signed left m +ℤ signed right n) negative unit q loss
 sum_read of_zero precision scale min xe ye tx ty e unit s t negative mx my m n q loss lx ly ax ay w u ix iy f =
     let base = (min -ℤ pos precision) -ℤ pos precision in
     let k = precision + 1 in
@@ -171,8 +170,7 @@ sum_read of_zero precision scale min xe ye tx ty e unit s t negative mx my m n q
     let y : my * 2 ^ up (ty -ℤ base) ≡ n * 2 ^ k = quanta_counted min ye ty base k my n by (omega (arith, ints)) iy in
     let h : StandsForSigned base (counted base s tx mx +ℤ counted base t ty my) negative e q loss = f base bx by in
     let h' : StandsForSigned base (signed s (m * 2 ^ k) +ℤ signed t (n * 2 ^ k)) negative e q loss =
-    subst (λ (z : ℕ). StandsForSigned base (signed s (m * 2 ^ k) +ℤ signed t z) negative e q loss) y
-    (subst (λ (z : ℕ). StandsForSigned base (signed s z +ℤ counted base t ty my) negative e q loss) x h) in
+    subst₂ (λ (z : ℕ) (w : ℕ). StandsForSigned base (signed s z +ℤ signed t w) negative e q loss) x y h in
     read_sum of_zero base e unit k m n s t negative q loss (omega (arith, ints)) h'
 
 -- the least exponent and the scale, by the precision

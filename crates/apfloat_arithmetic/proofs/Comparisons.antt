@@ -94,7 +94,7 @@ both_negative m n =
     (λ e h. e ∙ int_cmp_is (neg_ℤ (pos m)) (neg_ℤ (pos n)) Equal (ap (λ x. neg_ℤ (pos x)) (sym h)))
     (λ e h. e ∙ int_cmp_is (neg_ℤ (pos m)) (neg_ℤ (pos n)) Greater (omega (arith, ints, h)))
 
--- and of two, where one may be zero
+-- ---- numbers of two signs
 
 -- -m is less than n, unless both are 0
 below_both : (m n : ℕ) → 0 < m + n → Less ≡ int_cmp (neg_ℤ (pos m)) (pos n)
@@ -107,34 +107,34 @@ above_both m n h = int_cmp_is (pos m) (neg_ℤ (pos n)) Greater (omega (arith, i
 -- ---- where a value stands
 
 -- a number other than 0 stands on the side of its sign
-some_side : (b : Bool) (n : ℕ) → 0 < n → number_side b ≡ side (finite b n)
+some_side : (negative : Bool) (n : ℕ) → 0 < n → number_side negative ≡ side (finite negative n)
 some_side b zero h = absurd (omega arith)
 some_side b (suc n) h = refl
 
 -- a stored number other than 0 stands on the side of its sign
-pub side_of_normal : (shape : Shape) (x : Unpacked) (b : Bool) → x.category ≡ Normal → x.negative ≡ b
-    → IsStored shape x → number_side b ≡ side (datum_at shape x)
+pub side_of_normal : (shape : Shape) (x : Unpacked) (negative : Bool) → x.category ≡ Normal → x.negative ≡ negative
+    → IsStored shape x → number_side negative ≡ side (datum_at shape x)
 side_of_normal shape x b e f h =
     let n : IsNormalAt shape x.significand x.exponent = rw e at h in
     rw (e, ← f) (some_side x.negative _ (quanta_some shape x.significand x.exponent n))
 
 -- numbers on one side have one sign
-one_sign : (a b : Bool) → number_side a ≡ number_side b → b ≡ a
+one_sign : (left right : Bool) → number_side left ≡ number_side right → right ≡ left
 one_sign true true e = refl
 one_sign true false e = cc
 one_sign false true e = cc
 one_sign false false e = refl
 
 -- no number stands on the side of an infinity
-near_end : (a b : Bool) → number_side a ≡ side (infinite b) → ⊥
+near_end : (left right : Bool) → number_side left ≡ side (infinite right) → ⊥
 near_end true true e = cc
 near_end true false e = cc
 near_end false true e = cc
 near_end false false e = cc
 
 -- beside a number that is not zero stands only one of its sign
-number_beside : (category : Category) (shape : Shape) (y : Unpacked) (b : Bool) → IsStoredBy category shape y
-    → number_side b ≡ side (datum_by category shape y) → (category ≡ Normal) × (y.negative ≡ b)
+number_beside : (category : Category) (shape : Shape) (y : Unpacked) (negative : Bool) → IsStoredBy category shape y
+    → number_side negative ≡ side (datum_by category shape y) → (category ≡ Normal) × (y.negative ≡ negative)
 number_beside Normal shape y b h e =
     let q = some_side y.negative _ (quanta_some shape y.significand y.exponent h) in
     (refl, one_sign b y.negative (e ∙ sym q))
@@ -145,17 +145,17 @@ number_beside NaN shape y true h e = cc
 number_beside NaN shape y false h e = cc
 
 -- a stored value on the side of the numbers of one sign is a number other than 0 with that sign
-pub beside_normal : (shape : Shape) (y : Unpacked) (b : Bool) → IsStored shape y
-    → number_side b ≡ side (datum_at shape y) → (y.category ≡ Normal) × (y.negative ≡ b)
+pub beside_normal : (shape : Shape) (y : Unpacked) (negative : Bool) → IsStored shape y
+    → number_side negative ≡ side (datum_at shape y) → (y.category ≡ Normal) × (y.negative ≡ negative)
 beside_normal shape y b h e = number_beside y.category shape y b h e
 
 -- two numbers of one sign
 pub beside_negative : (shape : Shape) (x y : Unpacked) → x.category ≡ Normal → x.negative ≡ true → IsStored shape x
-    → IsStored shape y → side (datum_at shape x) ≡ side (datum_at shape y) → (r : Ordering)
+    → IsStored shape y → side (datum_at shape x) ≡ side (datum_at shape y) → (order : Ordering)
     → (IsNormalAt shape y.significand y.exponent → IsNormalAt shape x.significand x.exponent
-    → r ≡ nat_cmp (quanta_at shape.min_exp y.significand y.exponent)
+    → order ≡ nat_cmp (quanta_at shape.min_exp y.significand y.exponent)
     (quanta_at shape.min_exp x.significand x.exponent))
-    → r ≡ int_cmp (number (datum_at shape x)) (number (datum_at shape y))
+    → order ≡ int_cmp (number (datum_at shape x)) (number (datum_at shape y))
 beside_negative shape x y e f h k s r g =
     let p = beside_normal shape y true k (side_of_normal shape x true e f h ∙ s) in
     let a : IsNormalAt shape x.significand x.exponent = rw e at h in
@@ -166,11 +166,11 @@ beside_negative shape x y e f h k s r g =
 
 -- two numbers above 0 are compared by their quanta
 pub beside_positive : (shape : Shape) (x y : Unpacked) → x.category ≡ Normal → x.negative ≡ false → IsStored shape x
-    → IsStored shape y → side (datum_at shape x) ≡ side (datum_at shape y) → (r : Ordering)
+    → IsStored shape y → side (datum_at shape x) ≡ side (datum_at shape y) → (order : Ordering)
     → (IsNormalAt shape x.significand x.exponent → IsNormalAt shape y.significand y.exponent
-    → r ≡ nat_cmp (quanta_at shape.min_exp x.significand x.exponent)
+    → order ≡ nat_cmp (quanta_at shape.min_exp x.significand x.exponent)
     (quanta_at shape.min_exp y.significand y.exponent))
-    → r ≡ int_cmp (number (datum_at shape x)) (number (datum_at shape y))
+    → order ≡ int_cmp (number (datum_at shape x)) (number (datum_at shape y))
 beside_positive shape x y e f h k s r g =
     let p = beside_normal shape y false k (side_of_normal shape x false e f h ∙ s) in
     let a : IsNormalAt shape x.significand x.exponent = rw e at h in
@@ -182,9 +182,9 @@ beside_positive shape x y e f h k s r g =
 -- ---- by the sides, and on one side by the numbers
 
 -- data on two sides are compared by those, and on one side by their numbers
-pub by_sides : (x y : Datum) (r : Ordering) → is_nan x ≡ false → is_nan y ≡ false
-    → (side x ≡ side y → r ≡ int_cmp (number x) (number y))
-    → Some (ordering_then (nat_cmp (side x) (side y)) r) ≡ compared x y
+pub by_sides : (x y : Datum) (order : Ordering) → is_nan x ≡ false → is_nan y ≡ false
+    → (side x ≡ side y → order ≡ int_cmp (number x) (number y))
+    → Some (ordering_then (nat_cmp (side x) (side y)) order) ≡ compared x y
 by_sides (nan a s) y r e f h = cc
 by_sides (infinite a) (nan b t) r e f h = cc
 by_sides (finite a m) (nan b t) r e f h = cc
@@ -262,9 +262,9 @@ abbrev pub IsSameNumber : Unpacked → Unpacked → Type 0
 IsSameNumber x y = (x.significand ≡ y.significand) × (x.exponent ≡ y.exponent)
 
 -- values of one class are one datum where significands and exponents are equal
-pub same_both : (shape : Shape) (x y : Unpacked) (a b : Bool) → IsStored shape x → IsStored shape y
-    → Decides a (IsSameClass x y) → Decides b (IsSameNumber x y) → a ≡ true
-    → b ≡ same_datum (datum_at shape x) (datum_at shape y)
+pub same_both : (shape : Shape) (x y : Unpacked) (same_class same_number : Bool) → IsStored shape x → IsStored shape y
+    → Decides same_class (IsSameClass x y) → Decides same_number (IsSameNumber x y) → same_class ≡ true
+    → same_number ≡ same_datum (datum_at shape x) (datum_at shape y)
 same_both shape x y a true h k c n e =
     let p = c.0 e in
     let q = n.0 refl in
@@ -278,8 +278,9 @@ same_both shape x y a false h k c n e = off_by _ (λ t.
     cc)
 
 -- values of other classes are different data
-pub other_class : (shape : Shape) (x y : Unpacked) (a : Bool) → IsStored shape x → IsStored shape y
-    → Decides a (IsSameClass x y) → a ≡ false → a ≡ same_datum (datum_at shape x) (datum_at shape y)
+pub other_class : (shape : Shape) (x y : Unpacked) (same_class : Bool) → IsStored shape x → IsStored shape y
+    → Decides same_class (IsSameClass x y) → same_class ≡ false
+    → same_class ≡ same_datum (datum_at shape x) (datum_at shape y)
 other_class shape x y a h k c e = e ∙ off_by _ (λ t.
     let z : a ≡ true =
     c.1 (

@@ -1,6 +1,6 @@
 -- Exact inverses of stored numbers.
 use Rattle.std.proofs.Common.{refl, sym, ap, subst, ◌∙◌, ◌≡◌, ℕ, ◌+◌, ◌-◌, ◌*◌, ◌^◌, ◌<◌, ◌≤◌, ℤ, pos, ◌-ℤ◌, ◌≤ℤ◌, to_z, of_z, w32, Bool, arith}
-use Rattle.std.specs.Prelude.{neg_ℤ, unsigned_abs, Option, Some, None}
+use Rattle.std.specs.Prelude.{neg_ℤ, unsigned_abs, Some, None}
 use Rattle.std.proofs.Math.Nat.{mul-le-mul_left, mul-le-mul_right, mul-lt-mul_of_pos_right, pow-le-pow_right, mul-pos}
 use Rattle.std.proofs.lemmas.Nat.{pow_pos, pow-add}
 use Rattle.std.proofs.lemmas.Int.{ints, by_lt_z, to_z-of_z}
@@ -12,7 +12,6 @@ use Rattle.apfloat_base.specs.formats.Datum.{finite}
 use Rattle.apfloat_base.proofs.Greatest.{greatest_fits, greatest_full}
 use Rattle.apfloat_base.proofs.Powers.{pow3, pow22, exponent_at_most, exponent_below, two_pos}
 use Rattle.apfloat_unpacked.specs.declared.shape.Shape.{Shape}
-use Rattle.apfloat_unpacked.specs.declared.unpacked.Unpacked.{Unpacked}
 use Rattle.apfloat_unpacked.specs.Shapes.{IsShape, format_at}
 use Rattle.apfloat_unpacked.specs.Stored.{IsNormalAt, IsQuantaAt, quanta_at}
 use Rattle.apfloat_unpacked.proofs.ShapeExponents.{scale_is}
@@ -188,22 +187,14 @@ opposite_word shape m e law n =
     to_z-of_z w32 (pos 0 -ℤ e) (fits_in w32 (pos 0 -ℤ e) (omega (arith, ints, x.within))) ∙ z
 
 -- what is answered of a number
-pub inverse_answer : (shape : Shape) (b : Bool) (m : ℕ) (e : ℤ) → IsShape shape → IsNormalAt shape m e
+pub inverse_answer : (shape : Shape) (negative : Bool) (m : ℕ) (e : ℤ) → IsShape shape → IsNormalAt shape m e
     → IsInvertibleAt shape m e
-    → IsExactInverse (format_at shape) (finite b (quanta_at shape.min_exp m e))
-    (Some (finite b (quanta_at shape.min_exp m (neg_ℤ e))))
+    → IsExactInverse (format_at shape) (finite negative (quanta_at shape.min_exp m e))
+    (Some (finite negative (quanta_at shape.min_exp m (neg_ℤ e))))
 inverse_answer shape b m e law n i = (quanta_at shape.min_exp m (neg_ℤ e), inverted_product shape m e law n i, refl)
 
 -- and one that is not invertible has none
-pub no_inverse_answer : (shape : Shape) (b : Bool) (m : ℕ) (e : ℤ) → IsShape shape → IsNormalAt shape m e
+pub no_inverse_answer : (shape : Shape) (negative : Bool) (m : ℕ) (e : ℤ) → IsShape shape → IsNormalAt shape m e
     → (IsInvertibleAt shape m e → ⊥)
-    → IsExactInverse (format_at shape) (finite b (quanta_at shape.min_exp m e)) None
+    → IsExactInverse (format_at shape) (finite negative (quanta_at shape.min_exp m e)) None
 no_inverse_answer shape b m e law n i = λ inverse h. i (invertible_from shape m inverse e law n h)
-
-abbrev value_or : Unpacked → Option Unpacked → Unpacked
-value_or x (Some y) = y
-value_or x None = x
-
--- two values that make the same answer are equal
-pub same_value : (x y : Unpacked) → Some x ≡ Some y → x ≡ y
-same_value x y h = ap (value_or x) h

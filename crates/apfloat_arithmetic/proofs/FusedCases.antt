@@ -12,28 +12,28 @@ use Rattle.apfloat_base.specs.arithmetic.FusedSums.{IsFusedSum}
 use Rattle.apfloat_base.proofs.Signs.{no_sign, and_zero, zero_and, rounded_signed}
 
 -- the exact sum where one of the two is zero
-product_alone : (s d : Bool) (m n : ℕ) → n ≡ 0 → (signed s m +ℤ signed d n) ≡ signed s m
+product_alone : (left right : Bool) (m n : ℕ) → n ≡ 0 → (signed left m +ℤ signed right n) ≡ signed left m
 product_alone s d m n z = rw z (and_zero (signed s m) d)
 
 -- where the product is zero, the exact sum is the addend
-addend_alone : (s d : Bool) (m n : ℕ) → m ≡ 0 → (signed s m +ℤ signed d n) ≡ signed d n
+addend_alone : (left right : Bool) (m n : ℕ) → m ≡ 0 → (signed left m +ℤ signed right n) ≡ signed right n
 addend_alone s d m n z = rw z (zero_and s (signed d n))
 
 -- the product alone
-pub product_rounded : (format : Format) (mode : Round) (b c d : Bool) (l m : ℕ) (value : Datum) (status : ℕ) → 0 < l
-    → 0 < m
-    → IsDelivered format mode (product_sign b c) (l * m) (2 ^ format.scale) value status
-    → IsFusedSum format mode (finite b l) (finite c m) (finite d 0) value status
+pub product_rounded : (format : Format) (mode : Round) (left right addend : Bool) (l m : ℕ) (value : Datum)
+    (status : ℕ) → 0 < l → 0 < m
+    → IsDelivered format mode (product_sign left right) (l * m) (2 ^ format.scale) value status
+    → IsFusedSum format mode (finite left l) (finite right m) (finite addend 0) value status
 product_rounded format mode b c d l m value status p q h =
     rounded_signed format mode (zero_sum_sign mode (product_sign b c) d) (product_sign b c) (l * m) (2 ^ format.scale)
     (signed (product_sign b c) (l * m) +ℤ signed d (0 * 2 ^ format.scale)) value status
     (product_alone (product_sign b c) d (l * m) (0 * 2 ^ format.scale) (omega arith)) (mul-pos p q) h
 
 -- an exact zero
-pub zeros_rounded : (format : Format) (mode : Round) (b c d sign : Bool) (l m : ℕ) (value : Datum) (status : ℕ)
-    → l * m ≡ 0 → sign ≡ zero_sum_sign mode (product_sign b c) d
+pub zeros_rounded : (format : Format) (mode : Round) (left right addend sign : Bool) (l m : ℕ) (value : Datum)
+    (status : ℕ) → l * m ≡ 0 → sign ≡ zero_sum_sign mode (product_sign left right) addend
     → ((parts : ℕ) → 0 < parts → IsDelivered format mode sign 0 parts value status)
-    → IsFusedSum format mode (finite b l) (finite c m) (finite d 0) value status
+    → IsFusedSum format mode (finite left l) (finite right m) (finite addend 0) value status
 zeros_rounded format mode b c d sign l m value status z e h =
     let n : 0 * 2 ^ format.scale ≡ 0 = omega arith in
     let w : (signed (product_sign b c) (l * m) +ℤ signed d (0 * 2 ^ format.scale)) ≡ pos 0 =
@@ -42,6 +42,6 @@ zeros_rounded format mode b c d sign l m value status z e h =
     (h (2 ^ format.scale) (pow_pos format.scale)))
 
 -- equal operands and answers make an equal fused sum
-pub same_fused : (format : Format) (mode : Round) (x y z v d w : Datum) (i j : ℕ) → z ≡ d → v ≡ w → i ≡ j
-    → IsFusedSum format mode x y d w j → IsFusedSum format mode x y z v i
+pub same_fused : (format : Format) (mode : Round) (x y z value addend answer : Datum) (i j : ℕ) → z ≡ addend
+    → value ≡ answer → i ≡ j → IsFusedSum format mode x y addend answer j → IsFusedSum format mode x y z value i
 same_fused format mode x y z v d w i j p q r h = rw (p, q, r) h

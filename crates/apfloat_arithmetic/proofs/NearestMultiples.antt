@@ -127,7 +127,7 @@ rest_past kind negative a taken n l e =
     sym (ap (λ (x : Bool). cond x (signed_quanta kind (not negative) (taken - a))
     (signed_quanta kind negative (a - taken))) (lt-ltb a taken l))
 
--- the rest of the magnitudes, with the sign of the dividend, is the remainder by the truncated quotient
+-- by the truncated quotient the remainder is the rest of the magnitudes, with the dividend's sign
 pub truncated_value : (kind : NonfiniteBehavior) (negative : Bool) (a b n : ℕ) → n ≡ a % b
     → signed_quanta kind negative n ≡ rest_of kind negative a (b * (a / b))
 truncated_value kind negative a b n e =
@@ -149,7 +149,7 @@ upper_is a b =
     ∙ ap (λ (x : ℕ). upper (a % b) x (eqb (a / b / (a / b + 1 - a / b) % 2) 1)) f
     ∙ ap (λ (x : ℕ). upper (a % b) (b - a % b) (eqb (x % 2) 1)) h
 
--- the nearest quotient is the truncated one, or one more if there is a rest and the upper multiple is nearest
+-- the nearest quotient is the truncated one, or one more where the upper multiple is nearest
 nearest_is : (a b : ℕ) (past : Bool) → past ≡ upper (a % b) (b - a % b) (eqb (a / b % 2) 1)
     → nearest_quotient a b ≡ cond (eqb (a % b) 0) (a / b) (cond past (a / b + 1) (a / b))
 nearest_is a b past e =
@@ -189,7 +189,7 @@ nearest_within kind negative a b n t e =
     subst (λ (x : ℕ). signed_quanta kind negative n ≡ rest_of kind negative a x) (sym g)
     (truncated_value kind negative a b n e)
 
--- the distance from the nearest multiple, its sign turned if that one is above, is the remainder by it
+-- the remainder is the distance from the nearest multiple, its sign turned if that one is above
 pub nearest_value : (kind : NonfiniteBehavior) (negative past : Bool) (a b n : ℕ) → 0 < b
     → past ≡ upper (a % b) (b - a % b) (eqb (a / b % 2) 1) → n ≡ cond past (b - a % b) (a % b)
     → signed_quanta kind (not (beq negative past)) n ≡ rest_of kind negative a (b * nearest_quotient a b)

@@ -14,7 +14,8 @@ use Rattle.apfloat_unpacked.specs.Stored.{IsNormalAt, quanta_at}
 use Rattle.apfloat_unpacked.proofs.StoredNumbers.{quanta_low_below, quanta_high}
 
 -- what a comparison of signed numbers answers
-pub compares_as : (t : Bool) (a b : ℤ) (x : Bool) → lt_z a b ≡ t → (a <ℤ b → x ≡ true) → (b ≤ℤ a → x ≡ false) → t ≡ x
+pub compares_as : (less : Bool) (a b : ℤ) (holds : Bool) → lt_z a b ≡ less
+    → (a <ℤ b → holds ≡ true) → (b ≤ℤ a → holds ≡ false) → less ≡ holds
 compares_as true a b x e f g = sym (f (lt_z_yes (subst T (sym e) tt)))
 compares_as false a b x e f g = sym (g (lt_z_no (subst (λ (y : Bool). T (not y)) (sym e) tt)))
 
@@ -48,6 +49,6 @@ below_is shape m e n p =
     (λ l. le-ltb (quanta_at shape.min_exp m e) (2 ^ (shape.precision - 1)) (quanta_full shape m e n l))
 
 -- a number other than 0 is denormal where it is less than the smallest one with all digits
-pub denormal_number : (format : Format) (b : Bool) (n : ℕ) → 0 < n
-    → is_denormal format (finite b n) ≡ ltb n (smallest_normalized format)
+pub denormal_number : (format : Format) (negative : Bool) (n : ℕ) → 0 < n
+    → is_denormal format (finite negative n) ≡ ltb n (smallest_normalized format)
 denormal_number format b n p = rw (lt-ltb 0 n p) refl

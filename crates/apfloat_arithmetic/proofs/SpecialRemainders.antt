@@ -31,8 +31,8 @@ by_number shape quotient x y m value status t h =
     rw (ne_eqb (quanta_at shape.min_exp y.significand y.exponent) 0 (λ z. omega (arith, z, p))) h
 
 -- 0 less 0 is the zero of the dividend
-zero_rest : (kind : NonfiniteBehavior) (b : Bool) (n q : ℕ) → q ≡ 0 → b ≡ zero_sign kind b
-    → finite b 0 ≡ rest_of kind b 0 (n * q)
+zero_rest : (kind : NonfiniteBehavior) (negative : Bool) (n q : ℕ) → q ≡ 0 → negative ≡ zero_sign kind negative
+    → finite negative 0 ≡ rest_of kind negative 0 (n * q)
 zero_rest kind b n q e z = let w : n * 0 ≡ 0 = omega arith in rw (e, w) (ap (λ (u : Bool). finite u 0) z)
 
 -- a dividend of 0 and a divisor that is a number

@@ -47,7 +47,7 @@ of_numbers format m n a b d h k p =
     omega (arith, ints))
     (cases_lt m n)
 
--- the ones of a quotient, if any, are at most one more than the difference of the operands' exponents
+-- the ones of a quotient are at most one more than the difference of the operands' exponents
 pub few_steps : (format : Format) (x y : Datum) (a b : ℤ) → IsIlogb format x a → IsIlogb format y b
     → 0 < ones_of_quotient x y → pos (ones_of_quotient x y) ≤ℤ ((a -ℤ b) +ℤ pos 1)
 few_steps format (finite s zero) (finite t zero) a b h k p = absurd (omega (arith, p))

@@ -29,8 +29,8 @@ number_stored shape x e h =
     )
 
 -- equal operands and answers make an equal sum
-pub same_sum : (format : Format) (mode : Round) (x y v a b d : Datum) (i j : ℕ) → x ≡ a → y ≡ b → v ≡ d → i ≡ j
-    → IsSum format mode a b d j → IsSum format mode x y v i
+pub same_sum : (format : Format) (mode : Round) (x y value left right answer : Datum) (i j : ℕ) → x ≡ left → y ≡ right
+    → value ≡ answer → i ≡ j → IsSum format mode left right answer j → IsSum format mode x y value i
 same_sum format mode x y v a b d i j p q r e h = rw (p, q, r, e) h
 
 -- a value of a given category stands for the datum that the category makes of it
@@ -39,14 +39,13 @@ pub datum_is : (category : Category) (shape : Shape) (x : Unpacked) → x.catego
 datum_is category shape x e = ap (λ (l : Category). datum_by l shape x) e
 
 -- a negated number is no signaling NaN
-not_signaling : (format : Format) (kind : NonfiniteBehavior) (b : Bool) (n : ℕ)
-    → is_signaling_nan format (negated kind (finite b n)) ≡ false
+not_signaling : (format : Format) (kind : NonfiniteBehavior) (negative : Bool) (n : ℕ)
+    → is_signaling_nan format (negated kind (finite negative n)) ≡ false
 not_signaling format kind b n = search rules
 
 -- a difference is the sum with the negated operand
-pub difference_is : (format : Format) (mode : Round) (x y v : Datum) (i : ℕ)
-    → IsSum format mode x (added format.nonfinite y) v i
-    → IsDifference format mode x y v i
+pub difference_is : (format : Format) (mode : Round) (x y value : Datum) (i : ℕ)
+    → IsSum format mode x (added format.nonfinite y) value i → IsDifference format mode x y value i
 difference_is format mode (nan b s) (nan c t) v i h = h
 difference_is format mode (nan b s) (infinite c) v i h = h
 difference_is format mode (nan b s) (finite c n) v i h = rw (not_signaling format format.nonfinite c n) at h

@@ -22,6 +22,7 @@ pub mod Scaled
 pub mod Powers
 pub mod MoreDigits
 pub mod Fractions
+pub mod FractionExponents
 pub mod Divisions
 pub mod ProductLaws
 pub mod Inverses
@@ -38,6 +39,7 @@ pub mod SumLaws
 pub mod ExactConversions
 pub mod NextBack
 pub mod SignedNumbers
+pub mod SignedTests
 pub mod RowsIn
 pub mod Rows
 pub mod RowsExact

@@ -31,14 +31,14 @@ use Rattle.apfloat_c.specs.Requests.{asked, fault_in, kind_of, without}
 use Rattle.apfloat_c.specs.Answers.{IsAnswer, IsAnswerOf, IsConverted, IsConvertedIn, IsConvertedTo, IsFractionOf, IsNumber, IsPairAnswer, IsPairFractionOf, IsPairUntold, IsPairValue, IsPairWritten, IsReply, IsSigned, IsUnsigned, IsUntold, IsValue, IsWritten, one_if, whole}
 
 -- two answers with the same number of 128 bits, the same flags, and the same other number
-pub record SameAnswer (first other : Answer) : Type 0 where
-  pub bits : whole first.bits ≡ whole other.bits
-  pub status : first.status ≡ other.status
-  pub number : first.number ≡ other.number
+pub record SameAnswer (first second : Answer) : Type 0 where
+  pub bits : whole first.bits ≡ whole second.bits
+  pub status : first.status ≡ second.status
+  pub number : first.number ≡ second.number
 
 -- at most one answer
 abbrev pub OnceAnswer : (Answer → Type 0) → Type 0
-OnceAnswer Holds = (a b : Answer) → Holds a → Holds b → SameAnswer a b
+OnceAnswer Holds = (first second : Answer) → Holds first → Holds second → SameAnswer first second
 
 -- ---- answers without a value
 
@@ -70,6 +70,7 @@ number_once Holds once a b x y = record {
   number = once a.number b.number x.holds y.holds;
 }
 
+-- the answer that is a given number is one
 given_once : (given : ℤ) → OnceAnswer (IsNumber (λ (n : ℤ). n ≡ given))
 given_once given = number_once (λ (n : ℤ). n ≡ given) (λ m n h k. h ∙ sym k)
 
@@ -80,8 +81,8 @@ pub record HasLaw (constants : Constants) : Type 0 where
   pub wide : constants.precision < constants.bits
 
 module _ (constants : Constants) (has : HasLaw constants) where
-  written_once : (v w : Datum) (s t : ℕ) (i j : ℤ) (a b : Answer) → v ≡ w → s ≡ t → i ≡ j → IsWritten constants v s i a
-      → IsWritten constants w t j b → SameAnswer a b
+  written_once : (value other : Datum) (s t : ℕ) (i j : ℤ) (first second : Answer) → value ≡ other → s ≡ t → i ≡ j
+      → IsWritten constants value s i first → IsWritten constants other t j second → SameAnswer first second
   written_once v w s t i j a b value_is status_is number_is x y =
       let encodes = λ (d : Datum). IsEncodedBy (format_with constants) (layout_with constants) (whole a.bits) d in
       record {
@@ -116,12 +117,14 @@ module _ (constants : Constants) (has : HasLaw constants) where
       written_once x.value y.value x.status y.status _ _ a b same.0 same.1 (ap one_if same.2) x.is_written
       y.is_written
 
+-- a value has one unsigned whole number of a width
 to_unsigned_once : (constants : Constants) (mode : Round) (width : ℕ) (x : Datum)
     → OnceWhole (IsToUnsigned (format_with constants) mode width x)
 to_unsigned_once constants mode width x m n r s a b h k =
     let same = whole_once (to_unsigned (format_with constants) mode width x) (pos m) (pos n) r s a b h k in
     (ap unsigned_abs same.0, same.1, same.2)
 
+-- and one signed whole number
 to_signed_once : (constants : Constants) (mode : Round) (width : ℕ) (x : Datum)
     → OnceWhole (IsToSigned (format_with constants) mode width x)
 to_signed_once constants mode width x m n r s a b h k =
@@ -133,6 +136,7 @@ abbrev pub KindHasLaw : Kind → Type 0
 KindHasLaw (of_format c) = HasLaw c
 KindHasLaw of_pairs = ⊤
 
+-- each format of the codes is lawful, and its encoding wider than its precision
 kind_law : (known : Format) → KindHasLaw (kind_of known)
 kind_law Half = record { law = lawful_from_test half_constants refl; wide = lit< tt }
 kind_law Single = record { law = lawful_from_test single_constants refl; wide = lit< tt }
@@ -147,12 +151,14 @@ kind_law DoubleDouble = tt
 
 -- ---- conversions
 
+-- a conversion to a known kind has at most one answer, and none to pairs
 converted_in_once : (constants : Constants) (mode : Round) (x : ℕ) (target : Kind) → KindHasLaw target
     → OnceAnswer (IsConvertedIn constants mode x target)
 converted_in_once constants mode x (of_format d) has =
     converted_once d has _ (conversion_once (format_with constants) (format_with d) mode (value_of constants x))
 converted_in_once constants mode x of_pairs has = λ a b h k. absurd h
 
+-- and so has one whose target may be an unknown code
 conversion_answer_once : (constants : Constants) (mode : Round) (x : ℕ) (target : Option Format)
     → OnceAnswer (IsConverted constants mode x target)
 conversion_answer_once constants mode x None = λ a b h k. absurd h
@@ -165,7 +171,8 @@ conversion_answer_once constants mode x (Some target) = converted_in_once consta
 answer_once : (constants : Constants) → HasLaw constants → (mode : Round) (call : Call)
     → OnceAnswer (IsAnswer constants mode call)
 answer_once constants has mode (OfTwo arithmetic x y) =
-    value_once constants has _ (of_two_once arithmetic (format_with constants) mode (value_of constants x) (value_of constants y))
+    value_once constants has _ (of_two_once arithmetic (format_with constants) mode (value_of constants x)
+    (value_of constants y))
 answer_once constants has mode (FusedSum x y z) =
     value_once constants has _ (fused_sum_once (format_with constants) mode (value_of constants x)
     (value_of constants y) (value_of constants z))
@@ -199,8 +206,8 @@ answer_once constants has mode (Text text) = value_once constants has _
 -- ---- one answer of pairs
 
 -- pairs that are equal are written as one answer
-pair_written_once : (v w : Pair) (s t : ℕ) (i j : ℤ) (a b : Answer) → v ≡ w → s ≡ t → i ≡ j
-    → IsPairWritten v s i a → IsPairWritten w t j b → SameAnswer a b
+pair_written_once : (value other : Pair) (s t : ℕ) (i j : ℤ) (first second : Answer) → value ≡ other → s ≡ t → i ≡ j
+    → IsPairWritten value s i first → IsPairWritten other t j second → SameAnswer first second
 pair_written_once v w s t i j a b value_is status_is number_is x y = record {
   bits = pair_encoded_once w (whole a.bits) (whole b.bits)
       (subst (λ (p : Pair). IsPairEncodedBy (whole a.bits) p) value_is x.is_encoded) y.is_encoded;
@@ -227,6 +234,7 @@ pair_fraction_answer_once Holds once a b x y =
     let same = once x.value y.value x.exponent y.exponent x.holds y.holds in
     pair_written_once x.value y.value _ _ x.exponent y.exponent a b same.0 refl same.1 x.is_written y.is_written
 
+-- a call on pairs has one answer
 pair_answer_once : (mode : Round) (call : Call) → OnceAnswer (IsPairAnswer mode call)
 pair_answer_once mode (OfTwo arithmetic x y) =
     pair_value_once _ (pair_of_two_once arithmetic mode (pair_of x) (pair_of y))
@@ -254,7 +262,7 @@ kind_once (of_format c) has mode call = answer_once c has mode call
 kind_once of_pairs has mode call = pair_answer_once mode call
 
 -- an answer that is left as it was
-unchanged : (old a b : Answer) → a ≡ old → b ≡ old → SameAnswer a b
+unchanged : (old first second : Answer) → first ≡ old → second ≡ old → SameAnswer first second
 unchanged old a b a_is b_is =
     let same = a_is ∙ sym b_is in
     record {
@@ -264,19 +272,21 @@ unchanged old a b a_is b_is =
     }
 
 -- and one code
-without_once : (fault : Option ℕ) (known : Format) (mode : Round) (call : Call) (old a b : Answer) (code other : ℕ)
-    → IsReply (without fault (record { kind = kind_of known; mode = mode; call = call })) old a code
-    → IsReply (without fault (record { kind = kind_of known; mode = mode; call = call })) old b other
-    → (code ≡ other) × SameAnswer a b
+without_once : (fault : Option ℕ) (known : Format) (mode : Round) (call : Call) (old first second : Answer)
+    (code other : ℕ)
+    → IsReply (without fault (record { kind = kind_of known; mode = mode; call = call })) old first code
+    → IsReply (without fault (record { kind = kind_of known; mode = mode; call = call })) old second other
+    → (code ≡ other) × SameAnswer first second
 without_once None known mode call old a b code other x y =
     (x.0 ∙ sym y.0, kind_once (kind_of known) (kind_law known) mode call a b x.1 y.1)
 without_once (Some fault) known mode call old a b code other x y =
     (x.0 ∙ sym y.0, unchanged old a b x.1 y.1)
 
 -- two replies to the same arguments are one
-pub reply_once : (format : Option Format) (mode : Option Round) (call : Call) (old a b : Answer) (code other : ℕ)
-    → IsReply (asked format mode call) old a code → IsReply (asked format mode call) old b other
-    → (code ≡ other) × SameAnswer a b
+pub reply_once : (format : Option Format) (mode : Option Round) (call : Call) (old first second : Answer)
+    (code other : ℕ)
+    → IsReply (asked format mode call) old first code → IsReply (asked format mode call) old second other
+    → (code ≡ other) × SameAnswer first second
 reply_once None mode call old a b code other x y = (x.0 ∙ sym y.0, unchanged old a b x.1 y.1)
 reply_once (Some known) None call old a b code other x y = (x.0 ∙ sym y.0, unchanged old a b x.1 y.1)
 reply_once (Some known) (Some mode) call old a b code other x y =
@@ -285,7 +295,8 @@ reply_once (Some known) (Some mode) call old a b code other x y =
 -- ---- answers as C holds them, whose halves have 64 bits
 
 -- two halves that say one number have one upper half
-high_once : (a b : Halves) → a.low < 2 ^ 64 → b.low < 2 ^ 64 → whole a ≡ whole b → a.high ≡ b.high
+high_once : (first second : Halves) → first.low < 2 ^ 64 → second.low < 2 ^ 64 → whole first ≡ whole second
+    → first.high ≡ second.high
 high_once a b a_fits b_fits same =
     ⊎_elim
     (λ (c : a.high < b.high). absurd (omega arith))
@@ -297,20 +308,24 @@ high_once a b a_fits b_fits same =
     (cases_lt a.high b.high)
 
 -- and then one lower half
-low_once : (a b : Halves) → a.high ≡ b.high → whole a ≡ whole b → a.low ≡ b.low
+low_once : (first second : Halves) → first.high ≡ second.high → whole first ≡ whole second → first.low ≡ second.low
 low_once a b high same = omega arith
 
-halves_of : (a b : Halves) → a.low ≡ b.low → a.high ≡ b.high → a ≡ b
+-- two numbers of two halves are equal where both halves are
+halves_of : (first second : Halves) → first.low ≡ second.low → first.high ≡ second.high → first ≡ second
 halves_of a b low high =
     ap (λ (n : ℕ). record { low = n; high = a.high }) low ∙ ap (λ (n : ℕ). record { low = b.low; high = n }) high
 
 -- so the halves are the same
-halves_once : (a b : Halves) → a.low < 2 ^ 64 → b.low < 2 ^ 64 → whole a ≡ whole b → a ≡ b
+halves_once : (first second : Halves) → first.low < 2 ^ 64 → second.low < 2 ^ 64 → whole first ≡ whole second
+    → first ≡ second
 halves_once a b a_fits b_fits same =
     let high = high_once a b a_fits b_fits same in
     halves_of a b (low_once a b high same) high
 
-pub same_answer : (a b : Answer) → a.bits.low < 2 ^ 64 → b.bits.low < 2 ^ 64 → SameAnswer a b → a ≡ b
+-- two answers as C holds them are equal where they say the same
+pub same_answer : (first second : Answer) → first.bits.low < 2 ^ 64 → second.bits.low < 2 ^ 64
+    → SameAnswer first second → first ≡ second
 same_answer a b a_fits b_fits same =
     ap (λ (h : Halves). record { bits = h; status = a.status; number = a.number })
     (halves_once a.bits b.bits a_fits b_fits same.bits)

@@ -44,6 +44,7 @@ fraction_answer constants law bits x value exponent answer read member holds wri
       is_written = subst (λ (n : ℤ). IsWritten constants value 0 n answer) (to_z-of_z w32 exponent fits) written;
     }
 
+-- likewise for the fraction of a pair
 pub pair_fraction_answer : (mode : Round) (bits : ℕ) (x value : Pair) (exponent : ℤ) (answer : Answer)
     → x ≡ pair_of bits → IsMember double x.high
     → IsPairFraction mode x value exponent → IsPairWritten value 0 (to_z w32 (of_z w32 exponent)) answer
@@ -59,6 +60,7 @@ pair_fraction_answer mode bits x value exponent answer read member holds written
 
 -- ---- answers where nothing is refused
 
+-- where the test holds, the answer is no refusal
 answered_if : (holds : Bool) (error : ℕ) (Holds : Answer → Type 0) (answer : Answer) → holds ≡ true → Holds answer
     → IsOutcomeBy (unless holds error) Holds (Ok answer)
 answered_if true error Holds answer e h = h
@@ -66,6 +68,7 @@ answered_if false error Holds answer e h = absurd (false≢true e)
 
 -- ---- whole numbers of pairs
 
+-- a pair as a whole number with a sign, in a width that is not refused
 pub pair_signed_answer : (mode : Round) (width bits : ℕ) (x : Pair) (integer : ℤ) (status : ℕ) (exact : Bool)
     (answer : Answer)
     → FitsSigned w128 integer → (nat_le 2 width && nat_le width 128) ≡ true → x ≡ pair_of bits
@@ -73,7 +76,7 @@ pub pair_signed_answer : (mode : Round) (width bits : ℕ) (x : Pair) (integer :
     → whole answer.bits ≡ of_z w128 (to_z w128 (of_z w128 integer))
     → answer.status ≡ status → answer.number ≡ one_if exact
     → IsOutcomeBy (width_fault 2 width)
-    (λ (a : Answer). IsSigned (IsPairToSigned mode width (pair_of bits)) a) (Ok answer)
+    (λ (given : Answer). IsSigned (IsPairToSigned mode width (pair_of bits)) given) (Ok answer)
 pair_signed_answer mode width bits x integer status exact answer small fits read holds bits_are status_is
     number_is =
     let of_bits = subst (λ (d : Pair). IsPairToSigned mode width d integer status exact) read holds in
@@ -93,12 +96,13 @@ text_with_meaning : (text : List ℕ) (meaning : Meaning) → every is_ascii tex
     → is_text text ≡ true
 text_with_meaning text meaning ascii means = rw (ascii, meaning_no_fault text meaning means) refl
 
+-- a text that was read is not refused, and its value is what is written
 pub read_answer : (constants : Constants) (mode : Round) (bytes text : List ℕ) (value : Datum) (status : ℕ)
     (answer : Answer)
     → text ≡ bytes → every is_ascii bytes ≡ true → IsReading (format_with constants) mode text value status
     → IsWritten constants value status (pos 0) answer
     → IsOutcomeBy (unless (is_text bytes) refused_text)
-    (λ (a : Answer). IsValue constants (IsReading (format_with constants) mode bytes) a)
+    (λ (given : Answer). IsValue constants (IsReading (format_with constants) mode bytes) given)
     (Ok answer)
 read_answer constants mode bytes text value status answer same ascii holds written =
     let reading = subst (λ (t : List ℕ). IsReading (format_with constants) mode t value status) same holds in
@@ -106,10 +110,12 @@ read_answer constants mode bytes text value status answer same ascii holds writt
     (text_with_meaning bytes reading.meaning ascii reading.means)
     (record { value = value; status = status; holds = reading; is_written = written })
 
+-- likewise for a pair
 pub pair_read_answer : (mode : Round) (bytes text : List ℕ) (value : Pair) (status : ℕ) (answer : Answer)
     → text ≡ bytes → every is_ascii bytes ≡ true → IsPairReading mode text value status
     → IsPairWritten value status (pos 0) answer
-    → IsOutcomeBy (unless (is_text bytes) refused_text) (λ (a : Answer). IsPairValue (IsPairReading mode bytes) a)
+    → IsOutcomeBy (unless (is_text bytes) refused_text)
+    (λ (given : Answer). IsPairValue (IsPairReading mode bytes) given)
     (Ok answer)
 pair_read_answer mode bytes text value status answer same ascii holds written =
     let reading = subst (λ (t : List ℕ). IsPairReading mode t value status) same holds in

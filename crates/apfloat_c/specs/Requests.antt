@@ -97,7 +97,8 @@ target_fault (Some target) = None
 
 -- a product needs a precision of 64 at most, for its digits; a fused sum one of 63
 abbrev pub format_fault : ℕ → Call → Option ℕ
-format_fault precision (OfTwo arithmetic x y) = unless (has_operation (nat_le precision 64) arithmetic) no_such_operation
+format_fault precision (OfTwo arithmetic x y) =
+    unless (has_operation (nat_le precision 64) arithmetic) no_such_operation
 format_fault precision (FusedSum x y z) = unless (nat_le precision 63) no_such_operation
 format_fault precision (ToUnsigned x width) = width_fault 1 width
 format_fault precision (ToSigned x width) = width_fault 2 width

@@ -1,6 +1,6 @@
 -- Numbers of a shape in another that has them: all of its numbers, or those of one exponent.
-use Rattle.std.proofs.Common.{◌≡◌, ℕ, zero, suc, ◌+◌, ◌-◌, ◌*◌, ◌%◌, ◌^◌, ◌<◌, ◌≤◌, Bool, false, ℤ, ◌-ℤ◌, sym, refl, ap, ◌∙◌, ⊎_elim, arith}
-use Rattle.std.proofs.Math.Nat.{mul-le-mul_right, mul-pos, pow-le-pow_right, mod-eq_of_lt, eq_of_mul-eq-mul_right}
+use Rattle.std.proofs.Common.{◌≡◌, ℕ, ◌+◌, ◌-◌, ◌*◌, ◌%◌, ◌^◌, ◌<◌, ◌≤◌, Bool, false, ℤ, ◌-ℤ◌, sym, refl, ap, ◌∙◌, ⊎_elim, arith}
+use Rattle.std.proofs.Math.Nat.{mul-le-mul_right, pow-le-pow_right, mod-eq_of_lt, eq_of_mul-eq-mul_right}
 use Rattle.std.proofs.lemmas.Nat.{pow-add, pow_pos}
 use Rattle.std.proofs.lemmas.Int.{ints}
 use Rattle.apfloat_base.specs.declared.kinds.Round.{Round}
@@ -11,6 +11,7 @@ use Rattle.apfloat_base.specs.formats.Format.{Format, largest, greatest_signific
 use Rattle.apfloat_base.specs.formats.Members.{IsFiniteOf}
 use Rattle.apfloat_base.specs.rounding.Rounding.{ok_bits}
 use Rattle.apfloat_base.proofs.Deliveries.{signed_some}
+use Rattle.apfloat_base.proofs.ExactConversions.{both_some}
 use Rattle.apfloat_base.proofs.Greatest.{greatest_fits, greatest_full}
 use Rattle.apfloat_base.proofs.KeptDigits.{fits_shifted, full_shifted}
 use Rattle.apfloat_base.proofs.Laws.{exact_delivered}
@@ -94,22 +95,32 @@ held_quanta source target m e from into h n =
     (target.precision - source.precision) (up (e -ℤ target.min_exp)) (down (e -ℤ target.min_exp)) n.whole b in
     omega (arith, q)
 
--- a number moved up by the digits that the other shape has more is stored as it wants it
+-- moved up to the precision of the other shape, a significand has just as many digits
+moved_up : (source target : Shape) (m : ℕ) (e : ℤ) → IsShape source → source.precision ≤ target.precision
+    → IsNormalAt source m e
+    → (m * 2 ^ (target.precision - source.precision) < 2 ^ target.precision)
+    × (2 ^ (target.precision - 1) ≤ m * 2 ^ (target.precision - source.precision))
+moved_up source target m e from p n = (
+  fits_shifted m source.precision (target.precision - source.precision) target.precision n.operand.fits (omega arith),
+  full_shifted m source.precision (target.precision - source.precision) target.precision
+      (omega (arith, from.precision_low)) (λ _. n.operand.full) (omega arith),
+)
+
+-- a number moved up so is stored as the other shape wants it
 held_normal : (source target : Shape) (m : ℕ) (e : ℤ) → IsShape source → IsShape target → IsHeld source target
     → IsNormalAt source m e
     → IsNormalAt target (m * 2 ^ (target.precision - source.precision)) e
 held_normal source target m e from into h n =
     let q = held_quanta source target m e from into h n in
+    let digits = moved_up source target m e from h.precise n in
     let x = scale_is source from in
     let y = scale_is target into in
     let f = h.fine in
     let p = h.precise in
     record {
       operand = record {
-        fits = fits_shifted m source.precision (target.precision - source.precision) target.precision n.operand.fits
-            (omega arith);
-        full = full_shifted m source.precision (target.precision - source.precision) target.precision
-            (omega (arith, from.precision_low)) (λ _. n.operand.full) (omega arith);
+        fits = digits.0;
+        full = digits.1;
         least = omega (arith, ints, n.operand.least, from.precision_low);
         greatest =
             ⊎_elim (λ o. omega (arith, ints, n.operand.greatest))
@@ -154,14 +165,12 @@ inside_normal : (source target : Shape) (m : ℕ) (e : ℤ) → IsShape source �
     → IsNormalAt source m e
     → IsNormalAt target (m * 2 ^ (target.precision - source.precision)) e
 inside_normal source target m e from into h n =
-    let p = h.precise in
     let q = inside_quanta source target m e h in
+    let digits = moved_up source target m e from h.precise n in
     record {
       operand = record {
-        fits = fits_shifted m source.precision (target.precision - source.precision) target.precision n.operand.fits
-            (omega arith);
-        full = full_shifted m source.precision (target.precision - source.precision) target.precision
-            (omega (arith, from.precision_low)) (λ _. n.operand.full) (omega arith);
+        fits = digits.0;
+        full = digits.1;
         least = omega (arith, ints, h.least, into.precision_low);
         greatest = omega (arith, ints, h.below);
       };
@@ -194,11 +203,6 @@ same_quanta m a b f g k d u d' u' h h' e =
     let t : m * 2 ^ k * 2 ^ u' * 2 ^ f ≡ m * (2 ^ f * 2 ^ (k + u')) = rw (pow-add 2 k u') (omega arith) in
     eq_of_mul-eq-mul_right (2 ^ d') (pow_pos d') (a * 2 ^ g) (b * 2 ^ f) (l ∙ sym (q ∙ r ∙ t))
 
--- and it is not zero there either
-some_there : (a b f g : ℕ) → 0 < a → a * 2 ^ g ≡ b * 2 ^ f → 0 < b
-some_there a zero f g p e = let q : 0 < a * 2 ^ g = mul-pos p (pow_pos g) in omega arith
-some_there a (suc b) f g p e = omega arith
-
 -- it stands for so many quanta more, or less, as the quantum is finer, or coarser
 pub same_there : (source target : Shape) (m : ℕ) (e : ℤ) → IsShape source → IsShape target
     → source.precision ≤ target.precision → IsNormalAt source m e
@@ -225,13 +229,13 @@ held_shift s t m p q f =
 -- ---- its conversion rounds nothing
 
 -- so that the conversion has no flag
-pub same_converted : (from into : Format) (mode : Round) (negative : Bool) (a b : ℕ) (v : Datum) (status : ℕ)
+pub same_converted : (from into : Format) (mode : Round) (negative : Bool) (a b : ℕ) (value : Datum) (status : ℕ)
     → 0 < a
-    → a * 2 ^ into.scale ≡ b * 2 ^ from.scale → v ≡ finite negative b → IsFiniteOf into negative b
+    → a * 2 ^ into.scale ≡ b * 2 ^ from.scale → value ≡ finite negative b → IsFiniteOf into negative b
     → status ≡ ok_bits
-    → IsConvertedNumber from into mode negative a v status false
+    → IsConvertedNumber from into mode negative a value status false
 same_converted from into mode negative a b v status p e d t s =
-    let o : 0 < b = some_there a b from.scale into.scale p e in
+    let o : 0 < b = both_some a b from.scale into.scale (sym e) p in
     record {
       is_delivered = rw (d, s, ← signed_some into.nonfinite negative b o)
           (exact_delivered into mode negative b (a * 2 ^ into.scale) (2 ^ from.scale) (pow_pos from.scale) t.on_grid

@@ -1,5 +1,5 @@
 -- Whole numbers of so many binary digits, and the ends of their range.
-use Rattle.std.proofs.Common.{◌≡◌, ℕ, ◌+◌, ◌-◌, ◌*◌, ◌/◌, ◌^◌, ◌<◌, ◌≤◌, Bool, true, false, cond, ◌&&◌, eqb, sym, refl, ap, ◌∙◌, arith, ℤ, pos, neg_ℤ, ◌≤ℤ◌, ◌<ℤ◌, int_lt}
+use Rattle.std.proofs.Common.{◌≡◌, ℕ, ◌+◌, ◌-◌, ◌*◌, ◌/◌, ◌^◌, ◌<◌, ◌≤◌, Bool, true, false, cond, ◌&&◌, eqb, sym, refl, ap, ◌∙◌, arith, ℤ, pos, neg_ℤ, ◌≤ℤ◌, int_lt}
 use Rattle.std.proofs.Math.Nat.{div-eq_of_lt-le}
 use Rattle.std.proofs.lemmas.Nat.{pow-add, pow_pos}
 use Rattle.std.proofs.lemmas.Int.{ints}
@@ -11,6 +11,7 @@ use Rattle.apfloat_base.specs.arithmetic.Exact.{signed}
 use Rattle.apfloat_base.specs.whole_numbers.WholeNumbers.{whole_pick, whole_quanta, inexact_unless}
 use Rattle.apfloat_base.specs.whole_numbers.WholeNumbersOut.{IsToUnsigned, ranged, exact_or_not}
 use Rattle.apfloat_base.proofs.Choices.{no_zero}
+use Rattle.apfloat_base.proofs.SignedTests.{less_so, less_not}
 
 -- the same whole number, also without a sign
 pub same_number : (m n : ℕ) → pos m ≡ pos n → m ≡ n
@@ -28,39 +29,24 @@ greatest_is width h =
     ap (λ (x : ℕ). x * 2 ^ (128 - width)) k in
     div-eq_of_lt-le (2 ^ (128 - width)) (omega (arith, s, m, p)) (omega (arith, s, m, p))
 
--- a number that is less is found to be less
-pub less_so : (a b : ℤ) → a <ℤ b → int_lt a b ≡ true
-less_so a b h = by (int_lt a b) refl
-  where
-    by : (t : Bool) → int_lt a b ≡ t → t ≡ true
-    by true e = refl
-    by false e = absurd (omega (arith, ints))
-
--- a number that is not less is found not to be less
-pub less_not : (a b : ℤ) → b ≤ℤ a → int_lt a b ≡ false
-less_not a b h = by (int_lt a b) refl
-  where
-    by : (t : Bool) → int_lt a b ≡ t → t ≡ false
-    by false e = refl
-    by true e = absurd (omega (arith, ints))
-
 -- the end of the range on the side of a sign
 abbrev pub limit : ℕ → Bool → ℕ
 limit width negative = cond negative 0 (2 ^ width - 1)
 
 -- a number in the unsigned range is its own magnitude
-signed_in : (b : Bool) (width mag : ℕ) → mag ≤ limit width b → signed b mag ≡ pos mag
+signed_in : (negative : Bool) (width mag : ℕ) → mag ≤ limit width negative → signed negative mag ≡ pos mag
 signed_in true width mag h = let e : mag ≡ 0 = omega arith in rw e refl
 signed_in false width mag h = refl
 
 -- a magnitude in range is at most the greatest number of so many digits
-limit_high : (b : Bool) (width mag : ℕ) → mag ≤ limit width b → pos mag ≤ℤ pos (2 ^ width - 1)
+limit_high : (negative : Bool) (width mag : ℕ) → mag ≤ limit width negative → pos mag ≤ℤ pos (2 ^ width - 1)
 limit_high true width mag h = omega (arith, ints)
 limit_high false width mag h = omega (arith, ints)
 
 -- a number in range is given as it is
-pub ranged_in : (width : ℕ) (b : Bool) (mag : ℕ) (exact : Bool) → mag ≤ limit width b
-    → ranged (pos 0) (pos (2 ^ width - 1)) (signed b mag) (exact_or_not (signed b mag) exact (b && false))
+pub ranged_in : (width : ℕ) (negative : Bool) (mag : ℕ) (exact : Bool) → mag ≤ limit width negative
+    → ranged (pos 0) (pos (2 ^ width - 1)) (signed negative mag)
+    (exact_or_not (signed negative mag) exact (negative && false))
     ≡ record { number = pos mag; status = inexact_unless exact; is_exact = exact }
 ranged_in width b mag exact h =
     let low : int_lt (pos mag) (pos 0) ≡ false = less_not (pos mag) (pos 0) (omega (arith, ints)) in
@@ -69,19 +55,20 @@ ranged_in width b mag exact h =
     rw (signed_in b width mag h, low, high, no_zero b exact) refl
 
 -- and is the answer
-pub in_range : (format : Format) (mode : Round) (width : ℕ) (b : Bool) (n mag st : ℕ) (exact : Bool) → 0 < n
-    → mag ≡ whole_pick mode b n (2 ^ format.scale) → exact ≡ eqb (whole_quanta format mode b n) n → mag ≤ limit width b
-    → st ≡ inexact_unless exact
-    → IsToUnsigned format mode width (finite b n) mag st exact
+pub in_range : (format : Format) (mode : Round) (width : ℕ) (negative : Bool) (n mag st : ℕ) (exact : Bool) → 0 < n
+    → mag ≡ whole_pick mode negative n (2 ^ format.scale) → exact ≡ eqb (whole_quanta format mode negative n) n
+    → mag ≤ limit width negative → st ≡ inexact_unless exact
+    → IsToUnsigned format mode width (finite negative n) mag st exact
 in_range format mode width b n mag st exact p i x h t =
     let z : eqb n 0 ≡ false = ne_eqb n 0 (λ e. omega (arith, e, p)) in
     let r = ranged_in width b mag exact h in
     rw (z, ← x, ← i, r) (record { number_is = refl; status_is = t; is_exact_is = refl })
 
 -- one out of range is replaced by the end of the range
-pub ranged_out : (width : ℕ) (b : Bool) (mag : ℕ) (exact : Bool) → limit width b < mag
-    → ranged (pos 0) (pos (2 ^ width - 1)) (signed b mag) (exact_or_not (signed b mag) exact (b && false))
-    ≡ record { number = pos (limit width b); status = 1; is_exact = false }
+pub ranged_out : (width : ℕ) (negative : Bool) (mag : ℕ) (exact : Bool) → limit width negative < mag
+    → ranged (pos 0) (pos (2 ^ width - 1)) (signed negative mag)
+    (exact_or_not (signed negative mag) exact (negative && false))
+    ≡ record { number = pos (limit width negative); status = 1; is_exact = false }
 ranged_out width true mag exact h =
     let low : int_lt (neg_ℤ (pos mag)) (pos 0) ≡ true = less_so (neg_ℤ (pos mag)) (pos 0) (omega (arith, ints, h)) in
     rw low refl
@@ -92,9 +79,9 @@ ranged_out width false mag exact h =
     rw (low, high) refl
 
 -- and the answer is that end, with INVALID_OP
-pub out_of_range : (format : Format) (mode : Round) (width : ℕ) (b : Bool) (n number st : ℕ) (exact : Bool) → 0 < n
-    → limit width b < whole_pick mode b n (2 ^ format.scale) → number ≡ limit width b → st ≡ 1 → exact ≡ false
-    → IsToUnsigned format mode width (finite b n) number st exact
+pub out_of_range : (format : Format) (mode : Round) (width : ℕ) (negative : Bool) (n number st : ℕ) (exact : Bool)
+    → 0 < n → limit width negative < whole_pick mode negative n (2 ^ format.scale) → number ≡ limit width negative
+    → st ≡ 1 → exact ≡ false → IsToUnsigned format mode width (finite negative n) number st exact
 out_of_range format mode width b n number st exact p h m t x =
     let z : eqb n 0 ≡ false = ne_eqb n 0 (λ e. omega (arith, e, p)) in
     let r = ranged_out width b (whole_pick mode b n (2 ^ format.scale)) (eqb (whole_quanta format mode b n) n) h in

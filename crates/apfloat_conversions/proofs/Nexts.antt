@@ -1,5 +1,6 @@
 -- The neighbours of a number of the grid, its logarithm and its fraction.
 use Rattle.std.proofs.Common.{◌≡◌, ℕ, ◌+◌, ◌-◌, ◌*◌, ◌^◌, ◌<◌, ◌≤◌, ◌⊎◌, sym, refl, ap, ◌∙◌, subst, inl, inr, ⊎_elim, arith, zero, suc, lit<, ℤ, pos, negsuc, neg_ℤ, ◌+ℤ◌, ◌-ℤ◌, ◌≤ℤ◌}
+use Rattle.std.proofs.Math.Path.{subst₂}
 use Rattle.std.proofs.Math.Nat.{mul-le-mul_right, mul-le-mul_left, pow-le-pow_right, mul-lt-mul_of_pos_right, lt_of_mul-lt-mul_right, le_of_mul-le-mul_right, eq_of_mul-eq-mul_right}
 use Rattle.std.proofs.lemmas.Nat.{pow-add, pow_pos}
 use Rattle.std.proofs.lemmas.Int.{ints}
@@ -293,7 +294,7 @@ least_less p min x s a t e f h =
     let v : down (x -ℤ min) ≤ p - 1 = down_le (x -ℤ min) (p - 1) m in
     let g : down (x -ℤ min) ≡ p - 1 = let w₀ = w.0 in omega (arith, v, w₀) in
     let i : a * 2 ^ (p - 1) ≡ s * 2 ^ 0 =
-    subst (λ (z : ℕ). a * 2 ^ z ≡ s * 2 ^ 0) g (subst (λ (z : ℕ). a * 2 ^ down (x -ℤ min) ≡ s * 2 ^ z) w.1 h) in
+    subst₂ (λ (z : ℕ) (y : ℕ). a * 2 ^ z ≡ s * 2 ^ y) g w.1 h in
     let j : a * 2 ^ (p - 1) ≡ 1 * 2 ^ (p - 1) = omega (arith, i, e) in
     let k : a ≡ 1 = eq_of_mul-eq-mul_right (2 ^ (p - 1)) (pow_pos (p - 1)) a 1 j in
     let r : a - 1 ≡ 0 = omega (arith, k) in

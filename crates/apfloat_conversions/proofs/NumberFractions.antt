@@ -26,7 +26,8 @@ fraction_size shape m e law n =
     law.precision_low (scale_is shape law) o q)
 
 -- and is stored as the format wants it
-pub fraction_number : (shape : Shape) (m : ℕ) (e : ℤ) → IsShape shape → IsNormalAt shape m e → IsNormalAt shape m (negsuc 0)
+pub fraction_number : (shape : Shape) (m : ℕ) (e : ℤ) → IsShape shape → IsNormalAt shape m e
+    → IsNormalAt shape m (negsuc 0)
 fraction_number shape m e law n =
     let o = fraction_operand shape.precision shape.min_exp shape.max_exp e m law.precision_low law.min_exp_high
     law.max_exp_low n.operand in

@@ -193,8 +193,8 @@ before_is shape n m e b h =
     })
 
 -- below the least number stands the zero
-pub before_least : (shape : Shape) (m : ℕ) (e : ℤ) → IsShape shape → IsNormalAt shape m e → m ≡ 2 ^ (shape.precision - 1)
-    → e ≡ ((shape.min_exp +ℤ pos 1) -ℤ pos shape.precision)
+pub before_least : (shape : Shape) (m : ℕ) (e : ℤ) → IsShape shape → IsNormalAt shape m e
+    → m ≡ 2 ^ (shape.precision - 1) → e ≡ ((shape.min_exp +ℤ pos 1) -ℤ pos shape.precision)
     → IsNextLess (format_at shape) (quanta_at shape.min_exp m e) (finite (zero_sign shape.nonfinite true) 0) 0
 before_least shape m e law n i k =
     record {

@@ -53,10 +53,10 @@ DeliversOf s mode negative m r v st =
     (parts * 2 ^ up (r +ℤ pos (format_at s).scale)) → IsDelivered (format_at s) mode negative amount parts v st
 
 -- a number times a power of two is delivered with the clamped exponent
-pub scale_delivered : (shape : Shape) (m : ℕ) (e j near r : ℤ) (mode : Round) (negative : Bool) (v : Datum) (st : ℕ)
-    → IsShape shape → IsNormalAt shape m e → IsClamped scaling_bound j near → r ≡ ((e +ℤ near) -ℤ pos (shape.precision - 1))
-    → DeliversOf shape mode negative m r v st
-    → IsDelivered (format_at shape) mode negative (quanta_at shape.min_exp m e * 2 ^ up j) (2 ^ down j) v st
+pub scale_delivered : (shape : Shape) (m : ℕ) (e j near r : ℤ) (mode : Round) (negative : Bool) (value : Datum) (st : ℕ)
+    → IsShape shape → IsNormalAt shape m e → IsClamped scaling_bound j near
+    → r ≡ ((e +ℤ near) -ℤ pos (shape.precision - 1)) → DeliversOf shape mode negative m r value st
+    → IsDelivered (format_at shape) mode negative (quanta_at shape.min_exp m e * 2 ^ up j) (2 ^ down j) value st
 scale_delivered shape m e j near r mode negative v st law n c i d =
     let a = quanta_at shape.min_exp m e in
     let k = scale_is shape law in

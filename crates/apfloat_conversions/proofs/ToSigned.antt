@@ -19,8 +19,9 @@ use Rattle.apfloat_base.specs.rounding.Rounding.{takes_above}
 use Rattle.apfloat_base.specs.whole_numbers.WholeNumbers.{whole_pick, whole_quanta, inexact_unless}
 use Rattle.apfloat_base.specs.whole_numbers.WholeNumbersOut.{IsToUnsigned, IsToSigned, IsWhole, Whole, ranged, exact_or_not, invalid_whole}
 use Rattle.apfloat_base.proofs.Powers.{two_pos, twice_half}
+use Rattle.apfloat_base.proofs.SignedTests.{less_so, less_not}
 use Rattle.apfloat_base.proofs.Signs.{no_sign}
-use Rattle.apfloat_conversions.proofs.Limits.{less_so, less_not, ranged_in, ranged_out}
+use Rattle.apfloat_conversions.proofs.Limits.{ranged_in, ranged_out}
 use Rattle.apfloat_conversions.proofs.Wholes.{whole_exactly}
 
 -- ---- of a value without a minus sign: one binary digit less
@@ -67,7 +68,7 @@ nan_unsigned NanOnly format mode width s number st exact h = h
 nan_unsigned NanNegativeZero format mode width s number st exact h = h
 
 -- of 0 every mode picks 0
-no_whole : (mode : Round) (b : Bool) (scale : ℕ) → whole_pick mode b 0 (2 ^ scale) ≡ 0
+no_whole : (mode : Round) (negative : Bool) (scale : ℕ) → whole_pick mode negative 0 (2 ^ scale) ≡ 0
 no_whole mode b scale = whole_exactly mode b 0 0 (2 ^ scale) (pow_pos scale) (omega arith)
 
 -- 0 times the quanta of 1 is 0
@@ -79,8 +80,8 @@ zero_ranged : (low high : ℤ) (answer : Whole) → low ≤ℤ pos 0 → pos 0 �
 zero_ranged low high answer l h = rw (less_not (pos 0) low l, less_not high (pos 0) h) refl
 
 -- of a zero of either sign the unsigned whole number is 0, with no flag
-zero_unsigned_of : (format : Format) (mode : Round) (width number st : ℕ) (b exact : Bool)
-    → IsToUnsigned format mode width (finite b 0) number st exact → (number ≡ 0) × (st ≡ 0)
+zero_unsigned_of : (format : Format) (mode : Round) (width number st : ℕ) (negative exact : Bool)
+    → IsToUnsigned format mode width (finite negative 0) number st exact → (number ≡ 0) × (st ≡ 0)
 zero_unsigned_of format mode width number st b exact h =
     let h' = rw (
       no_whole mode b format.scale,

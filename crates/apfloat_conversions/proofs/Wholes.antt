@@ -108,9 +108,9 @@ whole_at mode negative q amount parts MoreThanHalf p h =
     whole_inexactly mode negative q amount parts MoreThanHalf p (λ e. cc) h
 
 -- and whether it is exact
-pub exact_at : (mode : Round) (negative : Bool) (q amount parts : ℕ) (loss : Loss) (b : Bool) → 0 < parts
-    → StandsFor q loss amount parts → (b ≡ true → loss ≡ ExactlyZero) → (b ≡ false → loss ≡ ExactlyZero → ⊥)
-    → b ≡ eqb (whole_pick mode negative amount parts * parts) amount
+pub exact_at : (mode : Round) (negative : Bool) (q amount parts : ℕ) (loss : Loss) (exact : Bool) → 0 < parts
+    → StandsFor q loss amount parts → (exact ≡ true → loss ≡ ExactlyZero) → (exact ≡ false → loss ≡ ExactlyZero → ⊥)
+    → exact ≡ eqb (whole_pick mode negative amount parts * parts) amount
 exact_at mode negative q amount parts loss true p h f g =
     exactly_so mode negative q amount parts p (subst (λ (x : Loss). StandsFor q x amount parts) (f refl) h)
 exact_at mode negative q amount parts loss false p h f g = inexactly_so mode negative q amount parts loss p (g refl) h
@@ -200,18 +200,18 @@ whole_fits p s k mag q f l h =
 -- ---- a number rounded to a whole number
 
 -- a number rounded to a whole one, by its magnitude
-pub integral_picked : (format : Format) (mode : Round) (b : Bool) (n mag : ℕ) (exact : Bool) (v : Datum) (st : ℕ)
-    → mag ≡ whole_pick mode b n (2 ^ format.scale) → exact ≡ eqb (whole_quanta format mode b n) n
-    → v ≡ signed_quanta format.nonfinite b (mag * 2 ^ format.scale) → st ≡ inexact_unless exact
-    → IsRoundToIntegral format mode (finite b n) v st
+pub integral_picked : (format : Format) (mode : Round) (negative : Bool) (n mag : ℕ) (exact : Bool) (value : Datum)
+    (st : ℕ) → mag ≡ whole_pick mode negative n (2 ^ format.scale) → exact ≡ eqb (whole_quanta format mode negative n) n
+    → value ≡ signed_quanta format.nonfinite negative (mag * 2 ^ format.scale) → st ≡ inexact_unless exact
+    → IsRoundToIntegral format mode (finite negative n) value st
 integral_picked format mode b n mag exact v st i x w t = record {
   value_is = w ∙ ap (λ (k : ℕ). signed_quanta format.nonfinite b (k * 2 ^ format.scale)) i;
   status_is = t ∙ ap (λ (k : Bool). inexact_unless k) x;
 }
 
 -- a whole number stays as it is
-pub integral_stays : (format : Format) (mode : Round) (b : Bool) (n q : ℕ) → 0 < n → n ≡ q * 2 ^ format.scale
-    → IsRoundToIntegral format mode (finite b n) (finite b n) 0
+pub integral_stays : (format : Format) (mode : Round) (negative : Bool) (n q : ℕ) → 0 < n → n ≡ q * 2 ^ format.scale
+    → IsRoundToIntegral format mode (finite negative n) (finite negative n) 0
 integral_stays format mode b n q p e =
     integral_picked format mode b n q true (finite b n) 0
     (sym (whole_exactly mode b q n (2 ^ format.scale) (pow_pos format.scale) e))

@@ -8,17 +8,14 @@ use Rattle.apfloat_base.specs.order.Classes.{category_of, is_negative}
 use Rattle.apfloat_base.specs.order.Predicates.{is_zero_category}
 use Rattle.apfloat_base.proofs.PredicatesAgree.{zero_agrees}
 use Rattle.apfloat_base.proofs.Choices.{match_true, match_false}
+use Rattle.apfloat_base.proofs.SignedTests.{less_not}
 use Rattle.apfloat_base.specs.whole_numbers.SignedWholes.{IsNegatedWhole}
 use Rattle.apfloat_pairs.specs.Pairs.{Pair, negated_pair}
 use Rattle.apfloat_pairs.specs.PairCalls.{IsPairFromUnsigned, IsPairFromNegative, IsPairFromSigned, IsPairToUnsigned, IsPairToNegative, IsPairToNatural, IsPairToSigned}
 
 -- a natural number is not below 0
 not_below : (n : ℕ) → int_lt (pos n) (pos 0) ≡ false
-not_below n = by (int_lt (pos n) (pos 0)) refl
-  where
-    by : (t : Bool) → int_lt (pos n) (pos 0) ≡ t → t ≡ false
-    by false e = refl
-    by true e = absurd (omega (arith, ints))
+not_below n = less_not (pos n) (pos 0) (omega (arith, ints))
 
 -- ---- in
 

@@ -25,9 +25,9 @@ fold_grows radix n (c ∷ digits) =
     omega (arith, more, one)
 
 -- a character that is no digit, or leads past the bound, ends the reading
-stops : (radix : Radix) (n c : ℕ) (digits : List ℕ) (b l : Bool) → is_digit_of radix c ≡ b
-    → ltb (longer radix n c) (2 ^ 128) ≡ l
-    → (if b && l then Some (longer radix n c) else None) ≡ None → read_on radix n (c ∷ digits) ≡ None
+stops : (radix : Radix) (n c : ℕ) (digits : List ℕ) (is_digit fits : Bool) → is_digit_of radix c ≡ is_digit
+    → ltb (longer radix n c) (2 ^ 128) ≡ fits
+    → (if is_digit && fits then Some (longer radix n c) else None) ≡ None → read_on radix n (c ∷ digits) ≡ None
 stops radix n c digits false l p q e = first_fails (is_digit_of radix c) (every (is_digit_of radix) digits) _ _ p
 stops radix n c digits true false p q e =
     let g = fold_grows radix (longer radix n c) digits in
@@ -37,9 +37,9 @@ stops radix n c digits true false p q e =
 stops radix n c digits true true p q e = cc
 
 -- another one goes on with the longer number
-goes : (radix : Radix) (n c m : ℕ) (digits : List ℕ) (b l : Bool) → is_digit_of radix c ≡ b
-    → ltb (longer radix n c) (2 ^ 128) ≡ l
-    → (if b && l then Some (longer radix n c) else None) ≡ Some m
+goes : (radix : Radix) (n c m : ℕ) (digits : List ℕ) (is_digit fits : Bool) → is_digit_of radix c ≡ is_digit
+    → ltb (longer radix n c) (2 ^ 128) ≡ fits
+    → (if is_digit && fits then Some (longer radix n c) else None) ≡ Some m
     → (m < 2 ^ 128) × (read_on radix n (c ∷ digits) ≡ read_on radix m digits)
 goes radix n c m digits false l p q e = cc
 goes radix n c m digits true false p q e = cc

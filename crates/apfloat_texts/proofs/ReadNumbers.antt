@@ -69,11 +69,11 @@ pub record IsBounded (format : Format) : Type 0 where
   pub below : format.scale ≤ 4000000
 
 -- a delivery with the clamped exponent is that with the exact one
-moved : (format : Format) (mode : Round) (negative : Bool) (number s cut : ℕ) (loss : Loss) (exact unit : ℤ) (v : Datum)
-    (status : ℕ)
-    → IsBounded format → 0 < s → s < 2 ^ 128 → IsKeptAt number s loss cut → IsNear text_bound exact unit
-    → IsScaledDelivery format mode negative number (power_at (4 * cut) format.scale unit) v status
-    → IsScaledDelivery format mode negative number (power_at (4 * cut) format.scale exact) v status
+moved : (format : Format) (mode : Round) (negative : Bool) (number s cut : ℕ) (loss : Loss) (exact unit : ℤ)
+    (value : Datum) (status : ℕ) → IsBounded format → 0 < s → s < 2 ^ 128 → IsKeptAt number s loss cut
+    → IsNear text_bound exact unit
+    → IsScaledDelivery format mode negative number (power_at (4 * cut) format.scale unit) value status
+    → IsScaledDelivery format mode negative number (power_at (4 * cut) format.scale exact) value status
 moved format mode negative number s cut loss exact unit v status b some small k (inl e) d =
     subst (λ (z : ℤ). IsScaledDelivery format mode negative number (power_at (4 * cut) format.scale z) v status) e d
 moved format mode negative number s cut loss exact unit v status b some small k (inr (inl e)) d =
@@ -123,13 +123,13 @@ stands_at number s k scale loss unit h =
 
 -- a rounding of the kept digits, with a clamped exponent, is that of the number
 pub number_delivered : (format : Format) (mode : Round) (negative : Bool) (number s cut places : ℕ) (loss : Loss)
-    (exact unit : ℤ) (v : Datum) (status : ℕ)
+    (exact unit : ℤ) (value : Datum) (status : ℕ)
     → IsBounded format → 0 < s → s < 2 ^ 128 → IsKeptAt number s loss cut
     → IsNear text_bound ((exact +ℤ pos (4 * cut)) -ℤ pos (4 * places)) unit
     → ((amount parts : ℕ) → 0 < parts
     → StandsFor s loss (amount * 2 ^ down (unit +ℤ pos format.scale)) (parts * 2 ^ up (unit +ℤ pos format.scale))
-    → IsDelivered format mode negative amount parts v status)
-    → IsScaledDelivery format mode negative number ((exact -ℤ pos (4 * places)) +ℤ pos format.scale) v status
+    → IsDelivered format mode negative amount parts value status)
+    → IsScaledDelivery format mode negative number ((exact -ℤ pos (4 * places)) +ℤ pos format.scale) value status
 number_delivered format mode negative number s cut places loss exact unit v status b some small k near step =
     let d = step (number * 2 ^ up (power_at (4 * cut) format.scale unit))
     (2 ^ down (power_at (4 * cut) format.scale unit))
@@ -156,9 +156,9 @@ nothing_read number cut loss k =
 
 -- and then the zero of the sign is delivered
 pub zero_delivered : (format : Format) (mode : Round) (negative : Bool) (number s cut : ℕ) (loss : Loss) (power : ℤ)
-    (v : Datum) (status : ℕ) → s ≡ 0 → IsKeptAt number s loss cut
-    → v ≡ finite (zero_sign format.nonfinite negative) 0 → status ≡ 0
-    → IsScaledDelivery format mode negative number power v status
+    (value : Datum) (status : ℕ) → s ≡ 0 → IsKeptAt number s loss cut
+    → value ≡ finite (zero_sign format.nonfinite negative) 0 → status ≡ 0
+    → IsScaledDelivery format mode negative number power value status
 zero_delivered format mode negative number s cut loss power v status z k e o =
     let n : number ≡ 0 = nothing_read number cut loss (subst (λ (x : ℕ). IsKeptAt number x loss cut) z k) in
     rw (n, e, o) (zero_text format mode negative power)

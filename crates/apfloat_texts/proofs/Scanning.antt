@@ -1,5 +1,6 @@
 -- A significand is read to its end.
-use Rattle.std.proofs.Common.{◌≡◌, ℕ, ◌+◌, Bool, true, false, not, ◌&&◌, if◌then◌else◌, refl, sym, ap, ◌∙◌, subst, arith, List, [], ◌∷◌, ltb}
+use Rattle.std.proofs.Common.{◌≡◌, ℕ, ◌+◌, Bool, true, false, not, if◌then◌else◌, refl, sym, ap, ◌∙◌, subst, arith, List, [], ◌∷◌, ltb}
+use Rattle.std.proofs.Math.Bool.{and-true}
 use Rattle.std.specs.Prelude.{Result, Ok, Err, IsErrAnd, MatchResult}
 use Rattle.apfloat_base.specs.texts.Digits.{begins}
 use Rattle.apfloat_base.specs.texts.Faults.{is_digit_or_dot, significand_of, behind_significand}
@@ -9,8 +10,8 @@ use Rattle.apfloat_texts.specs.Scans.{IsKept, IsScan, IsScanned}
 -- ---- results
 
 -- what the exit of a `?` returns
-pub refused_by : {T E : Type 0} (r : Result T E) (e : E) (P : T → Type 0) (Q : E → Type 0) → IsErrAnd r (λ y. y ≡ e)
-    → Q e → MatchResult r P Q
+pub refused_by : {T E : Type 0} (result : Result T E) (error : E) (P : T → Type 0) (Q : E → Type 0)
+    → IsErrAnd result (λ y. y ≡ error) → Q error → MatchResult result P Q
 refused_by (Ok x) e P Q is q = absurd is
 refused_by (Err y) e P Q is q = subst Q (sym is) q
 
@@ -34,19 +35,14 @@ unmoved [] h = refl
 unmoved (c ∷ left) h = rw h refl
 
 -- with no dot left to read, a significand has at most one
-one_at_most : (b : Bool) → ltb 1 ((if b then 1 else 0) + 0) ≡ false
+one_at_most : (pointed : Bool) → ltb 1 ((if pointed then 1 else 0) + 0) ≡ false
 one_at_most true = refl
 one_at_most false = refl
 
 -- with nothing left to read, no place behind the dot is added
-no_more : (b : Bool) (places : ℕ) → places + (if b then 0 else 0) ≡ places
+no_more : (pointed : Bool) (places : ℕ) → places + (if pointed then 0 else 0) ≡ places
 no_more true places = omega arith
 no_more false places = omega arith
-
--- with nothing left to read, there is no digit where none was read
-only_not : (b : Bool) → (not b && true) ≡ not b
-only_not true = refl
-only_not false = refl
 
 -- a scan that reaches no further digit or dot is that of the significand
 pub scan_ended : (rest left : List ℕ) (scan : Scan) → IsScan rest left scan → begins is_digit_or_dot left ≡ false
@@ -57,7 +53,7 @@ scan_ended rest left scan s h =
       kept = subst (λ (n : ℕ). IsKept n scan.digits) (sym (rw e at s.number_is)) s.kept;
       places_are = rw e at s.places_is ∙ no_more scan.pointed scan.places;
       one_dot = ap (λ (n : ℕ). ltb 1 n) (rw e at s.dots_are) ∙ one_at_most scan.pointed;
-      empty_is = rw e at s.empty_is ∙ only_not scan.some;
+      empty_is = rw e at s.empty_is ∙ and-true (not scan.some);
       tail_is = s.tail_is ∙ unmoved left h;
       cut_fits = omega (arith, s.cut_fits);
       places_fit = omega (arith, s.places_fit);

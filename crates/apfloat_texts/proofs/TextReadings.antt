@@ -36,7 +36,7 @@ means_special text negative (Signaling payload) e = e
 pub special_read : (shape : Shape) (mode : Round) (text : List ℕ) (negative : Bool) (special : Special)
     (value : Unpacked) (answer : StatusAnd Unpacked)
     → special_of text ≡ Some (meaning_of negative special) → IsStored shape value
-    → ((m : Round) → IsMeant (format_at shape) m (meaning_of negative special) (datum_at shape value) 0)
+    → ((any : Round) → IsMeant (format_at shape) any (meaning_of negative special) (datum_at shape value) 0)
     → answer.value ≡ value → bits_of answer.status ≡ 0 → IsTextRead shape mode text answer
 special_read shape mode text negative special value answer e stored meant v s =
     record {

@@ -38,11 +38,10 @@ bar-push [] name = refl
 bar-push (x ∷ names) name = refl
 
 -- the names of one more row
-names_more : (status place : ℕ) (table : List (List ℕ × ℕ)) (flag d : List ℕ × ℕ) (b : Bool) → place < length table
-    → get_or table place d ≡ flag
-    → is_raised status flag ≡ b
+names_more : (status place : ℕ) (table : List (List ℕ × ℕ)) (flag fallback : List ℕ × ℕ) (raised : Bool)
+    → place < length table → get_or table place fallback ≡ flag → is_raised status flag ≡ raised
     → raised_names status (take (place + 1) table)
-    ≡ raised_names status (take place table) ++ map (λ (x : List ℕ × ℕ). x.0) (cond b (flag ∷ []) [])
+    ≡ raised_names status (take place table) ++ map (λ (row : List ℕ × ℕ). row.0) (cond raised (flag ∷ []) [])
 names_more status place table flag d b within e raised =
     let one : List ℕ × ℕ → List (List ℕ × ℕ) =
     λ x. filter (is_raised status) (take place table) ++ cond (is_raised status x) (x ∷ []) [] in
@@ -53,9 +52,9 @@ names_more status place table flag d b within e raised =
     ∙ map-append _ (filter (is_raised status) (take place table)) (cond b (flag ∷ []) [])
 
 -- a raised flag is named behind those before it
-named : (status place : ℕ) (table : List (List ℕ × ℕ)) (flag d : List ℕ × ℕ) (separator : List ℕ)
+named : (status place : ℕ) (table : List (List ℕ × ℕ)) (flag fallback : List ℕ × ℕ) (separator : List ℕ)
     (old now new : Option (List ℕ))
-    → place < length table → get_or table place d ≡ flag → is_raised status flag ≡ true
+    → place < length table → get_or table place fallback ≡ flag → is_raised status flag ≡ true
     → IsNamedTo status table place separator old now → Appends now new (separator ++ flag.0)
     → IsNamedTo status table (place + 1) (bar ∷ []) old new
 named status place table flag d separator old now new within e raised so_far more_is =
@@ -71,9 +70,9 @@ named status place table flag d separator old now new within e raised so_far mor
     }
 
 -- a flag that is not raised is passed over
-passed : (status place : ℕ) (table : List (List ℕ × ℕ)) (flag d : List ℕ × ℕ) (separator : List ℕ)
+passed : (status place : ℕ) (table : List (List ℕ × ℕ)) (flag fallback : List ℕ × ℕ) (separator : List ℕ)
     (old now : Option (List ℕ))
-    → place < length table → get_or table place d ≡ flag → is_raised status flag ≡ false
+    → place < length table → get_or table place fallback ≡ flag → is_raised status flag ≡ false
     → IsNamedTo status table place separator old now → IsNamedTo status table (place + 1) separator old now
 passed status place table flag d separator old now within e raised so_far =
     let same : raised_names status (take (place + 1) table) ≡ raised_names status (take place table) =
@@ -84,15 +83,15 @@ passed status place table flag d separator old now within e raised so_far =
     }
 
 -- at a place of a table that is made of other items
-at_place : {A : Type 0} (row : A → List ℕ × ℕ) (items : List A) (place : ℕ) (d : A) → place < length items
-    → get_or (map row items) place (row d) ≡ row (get_or items place d)
+at_place : {A : Type 0} (row : A → List ℕ × ℕ) (items : List A) (place : ℕ) (fallback : A) → place < length items
+    → get_or (map row items) place (row fallback) ≡ row (get_or items place fallback)
 at_place row items place d within = get_or-map row items place d (row d) within
 
 -- a flag that is raised is written behind those before it
-pub name_more : {A : Type 0} (row : A → List ℕ × ℕ) (items : List A) (d : A) (status place : ℕ)
+pub name_more : {A : Type 0} (row : A → List ℕ × ℕ) (items : List A) (fallback : A) (status place : ℕ)
     (separator name : List ℕ) (old now new : Option (List ℕ))
-    → place < length items → is_raised status (row (get_or items place d)) ≡ true
-    → name ≡ (row (get_or items place d)).0
+    → place < length items → is_raised status (row (get_or items place fallback)) ≡ true
+    → name ≡ (row (get_or items place fallback)).0
     → IsNamedTo status (map row items) place separator old now → Appends now new (separator ++ name)
     → IsNamedTo status (map row items) (place + 1) (bar ∷ []) old new
 name_more row items d status place separator name old now new within raised name_is so_far more_is =
@@ -102,9 +101,9 @@ name_more row items d status place separator name old now new within raised name
     (subst (λ l. Appends now new (separator ++ l)) name_is more_is)
 
 -- and one that is not leaves what is written
-pub name_same : {A : Type 0} (row : A → List ℕ × ℕ) (items : List A) (d : A) (status place : ℕ) (separator : List ℕ)
-    (old now : Option (List ℕ))
-    → place < length items → is_raised status (row (get_or items place d)) ≡ false
+pub name_same : {A : Type 0} (row : A → List ℕ × ℕ) (items : List A) (fallback : A) (status place : ℕ)
+    (separator : List ℕ) (old now : Option (List ℕ)) → place < length items
+    → is_raised status (row (get_or items place fallback)) ≡ false
     → IsNamedTo status (map row items) place separator old now
     → IsNamedTo status (map row items) (place + 1) separator old now
 name_same row items d status place separator old now within raised so_far =

@@ -28,15 +28,15 @@ unfolding read_on
 read_on-cons n c digits e = passed (is_hexadecimal c) (every is_hexadecimal digits) _ e
 
 -- a character that is no digit ends the reading
-stops : (n c : ℕ) (digits : List ℕ) (b : Bool) → is_hexadecimal c ≡ b
-    → (if b then Some (digit_value c) else None) ≡ None → read_on n (c ∷ digits) ≡ None
+stops : (n c : ℕ) (digits : List ℕ) (is_digit : Bool) → is_hexadecimal c ≡ is_digit
+    → (if is_digit then Some (digit_value c) else None) ≡ None → read_on n (c ∷ digits) ≡ None
 unfolding read_on
 stops n c digits true p e = cc
 stops n c digits false p e = refused (is_hexadecimal c) (every is_hexadecimal digits) _ p
 
 -- a digit goes on with the longer number
-goes : (n c d : ℕ) (digits : List ℕ) (b : Bool) → is_hexadecimal c ≡ b
-    → (if b then Some (digit_value c) else None) ≡ Some d
+goes : (n c d : ℕ) (digits : List ℕ) (is_digit : Bool) → is_hexadecimal c ≡ is_digit
+    → (if is_digit then Some (digit_value c) else None) ≡ Some d
     → read_on n (c ∷ digits) ≡ read_on (n * 16 + d) digits
 goes n c d digits true p e =
     let same : digit_value c ≡ d = cc in

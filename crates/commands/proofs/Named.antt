@@ -7,8 +7,8 @@ use Rattle.commands.specs.declared.operation.Operation.{Operation}
 use Rattle.commands.specs.Commands.{◌>>=◌, arguments, found, modes, named, operand_count, operations, provided}
 
 -- what comes through a condition is what was given, and the condition holds
-provided_passed : {A : Type 0} (holds : Bool) (word : List ℕ) (x y : A) → provided holds word (Ok x) ≡ Ok y
-    → (holds ≡ true) × (x ≡ y)
+provided_passed : {A : Type 0} (holds : Bool) (word : List ℕ) (given passed : A)
+    → provided holds word (Ok given) ≡ Ok passed → (holds ≡ true) × (given ≡ passed)
 provided_passed true word x y e = (refl, cc)
 provided_passed false word x y e = cc
 

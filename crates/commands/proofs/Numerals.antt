@@ -53,15 +53,17 @@ unfolding read_on
 read_on-nil n h = grind (arith, nat_tests)
 
 -- a character that is no digit, or leads past the bound, ends the reading
-stops : (n c : ℕ) (digits : List ℕ) (b l : Bool) → is_decimal c ≡ b → nat_lt (longer n c) (2 ^ 128) ≡ l
-    → (if b && l then Some (longer n c) else None) ≡ None → read_on n (c ∷ digits) ≡ None
+stops : (n c : ℕ) (digits : List ℕ) (is_digit fits : Bool) → is_decimal c ≡ is_digit
+    → nat_lt (longer n c) (2 ^ 128) ≡ fits
+    → (if is_digit && fits then Some (longer n c) else None) ≡ None → read_on n (c ∷ digits) ≡ None
 stops n c digits false l p q e = read_on-no_digit n c digits p
 stops n c digits true false p q e = read_on-cons n c digits p ∙ read_on-too_large _ digits (ltb-false _ _ q)
 stops n c digits true true p q e = cc
 
 -- another one goes on with the longer number
-goes : (n c m : ℕ) (digits : List ℕ) (b l : Bool) → is_decimal c ≡ b → nat_lt (longer n c) (2 ^ 128) ≡ l
-    → (if b && l then Some (longer n c) else None) ≡ Some m
+goes : (n c m : ℕ) (digits : List ℕ) (is_digit fits : Bool) → is_decimal c ≡ is_digit
+    → nat_lt (longer n c) (2 ^ 128) ≡ fits
+    → (if is_digit && fits then Some (longer n c) else None) ≡ Some m
     → (m < 2 ^ 128) × (read_on n (c ∷ digits) ≡ read_on m digits)
 goes n c m digits false l p q e = cc
 goes n c m digits true false p q e = cc

@@ -1,5 +1,6 @@
 -- A command of pairs of doubles has one reply.
-use Rattle.std.proofs.Common.{◌≡◌, ℕ, ◌/◌, List, Some, subst, sym, ap, ◌∙◌}
+use Rattle.std.proofs.Common.{◌≡◌, ℕ, ◌/◌, List, Some, sym, ap, ◌∙◌}
+use Rattle.std.proofs.Math.Path.{subst₂}
 use Rattle.rustc_apfloat.specs.declared.Round.{Round}
 use Rattle.rustc_apfloat.specs.Pairs.{Pair, pair_of, IsPairEncodedBy}
 use Rattle.rustc_apfloat.specs.PairAnswers.{OncePair}
@@ -37,12 +38,6 @@ only_pair_line value status bits width encoded width_is =
           h.is ∙ ap (λ (b : ℕ). line b (bits_in of_pairs / 4) status) same ∙ sym digits;
     }
 
--- equal pairs with equal statuses have the same lines
-line_of : (v w : Pair) (s t : ℕ) (reply : Reply) → v ≡ w → s ≡ t → IsPairLineOf v s reply → IsPairLineOf w t reply
-line_of v w s t reply value_is status_is is_line =
-    subst (λ (x : ℕ). IsPairLineOf w x reply) status_is
-    (subst (λ (x : Pair). IsPairLineOf x s reply) value_is is_line)
-
 -- ---- one reply
 
 -- the only line of an answer is the only reply
@@ -53,19 +48,17 @@ only_pair_answer mode call value status reply answers is_line = record {
   holds = record { value = value; status = status; answers = answers; is_line = is_line.holds };
   only = λ other h.
       let same = pair_call_once call mode h.value value h.status status h.answers answers in
-      is_line.only other (line_of h.value value h.status status other same.0 same.1 h.is_line);
+      is_line.only other (subst₂ (λ (v : Pair) (s : ℕ). IsPairLineOf v s other) same.0 same.1 h.is_line);
 }
 
 -- an operation on two pairs has one reply
-pub only_pair_of_two : (arithmetic : Arithmetic) (mode : Round) (left right : List ℕ) (x y : ℕ) (a b value : Pair)
-    (status : ℕ) (reply : Reply)
-    → bits_of_word (bits_in of_pairs) left ≡ Some x → bits_of_word (bits_in of_pairs) right ≡ Some y
-    → a ≡ pair_of x → b ≡ pair_of y
-    → IsPairOfTwo arithmetic mode a b value status → IsOnly (IsPairLineOf value status) reply
+pub only_pair_of_two : (arithmetic : Arithmetic) (mode : Round) (left right : List ℕ) (x y : ℕ)
+    (left_value right_value value : Pair) (status : ℕ) (reply : Reply) → bits_of_word (bits_in of_pairs) left ≡ Some x
+    → bits_of_word (bits_in of_pairs) right ≡ Some y → left_value ≡ pair_of x → right_value ≡ pair_of y
+    → IsPairOfTwo arithmetic mode left_value right_value value status → IsOnly (IsPairLineOf value status) reply
     → IsOnly (IsReplyTo (requested of_pairs mode (with_two (bits_in of_pairs) arithmetic left right))) reply
 only_pair_of_two arithmetic mode left right x y a b value status reply first second a_is b_is answers is_line =
-    let of_first = subst (λ (d : Pair). IsPairOfTwo arithmetic mode d b value status) a_is answers in
-    let of_both = subst (λ (d : Pair). IsPairOfTwo arithmetic mode (pair_of x) d value status) b_is of_first in
+    let of_both = subst₂ (λ (d : Pair) (e : Pair). IsPairOfTwo arithmetic mode d e value status) a_is b_is answers in
     only_with_two of_pairs arithmetic mode left right x y reply first second
     (only_pair_answer mode (of_two arithmetic x y) value status reply of_both is_line)
 

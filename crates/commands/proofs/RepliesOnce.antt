@@ -1,7 +1,7 @@
 -- A command has one reply.
-use Rattle.std.proofs.Common.{◌≡◌, ℕ, List, Some, subst, refl}
+use Rattle.std.proofs.Common.{◌≡◌, ℕ, List, Some, refl}
+use Rattle.std.proofs.Math.Path.{subst₂, subst₃}
 use Rattle.rustc_apfloat.specs.declared.Round.{Round}
-use Rattle.rustc_apfloat.specs.Format.{Format}
 use Rattle.rustc_apfloat.specs.Datum.{Datum}
 use Rattle.rustc_apfloat.specs.WholeNumbers.{IsFromUnsigned}
 use Rattle.rustc_apfloat.specs.FusedSums.{IsFusedSum}
@@ -32,12 +32,6 @@ call_once (from_text text) constants mode = reading_once (format_with constants)
 
 -- ---- one reply
 
--- equal data with equal statuses have the same lines
-line_of : (constants : Constants) (v w : Datum) (s t : ℕ) (reply : Reply) → v ≡ w → s ≡ t → IsLineOf constants v s reply
-    → IsLineOf constants w t reply
-line_of constants v w s t reply value_is status_is line =
-    subst (λ x. IsLineOf constants w x reply) status_is (subst (λ x. IsLineOf constants x s reply) value_is line)
-
 -- the only line of an answer is the only reply
 only_answer : (constants : Constants) (mode : Round) (call : Call) (value : Datum) (status : ℕ) (reply : Reply)
     → IsAnswerOf call constants mode value status → IsOnly (IsLineOf constants value status) reply
@@ -46,7 +40,7 @@ only_answer constants mode call value status reply answers line = record {
   holds = record { value = value; status = status; answers = answers; is_line = line.holds };
   only = λ other h.
       let same = call_once call constants mode h.value value h.status status h.answers answers in
-      line.only other (line_of constants h.value value h.status status other same.0 same.1 h.is_line);
+      line.only other (subst₂ (λ (v : Datum) (s : ℕ). IsLineOf constants v s other) same.0 same.1 h.is_line);
 }
 
 -- ---- the reply to operands, of any kind of values
@@ -80,33 +74,32 @@ only_refusal kind mode text word refusal =
 
 -- an operation on two values has one reply
 pub only_of_two : (constants : Constants) (arithmetic : Arithmetic) (mode : Round) (left right : List ℕ) (x y : ℕ)
-    (a b value : Datum) (status : ℕ) (reply : Reply)
-    → bits_of_word constants.bits left ≡ Some x → bits_of_word constants.bits right ≡ Some y → a ≡ value_of constants x
-    → b ≡ value_of constants y
-    → IsOfTwo arithmetic (format_with constants) mode a b value status → IsOnly (IsLineOf constants value status) reply
+    (left_value right_value value : Datum) (status : ℕ) (reply : Reply) → bits_of_word constants.bits left ≡ Some x
+    → bits_of_word constants.bits right ≡ Some y → left_value ≡ value_of constants x
+    → right_value ≡ value_of constants y
+    → IsOfTwo arithmetic (format_with constants) mode left_value right_value value status
+    → IsOnly (IsLineOf constants value status) reply
     → IsOnly (IsReplyTo (requested (of_format constants) mode (with_two constants.bits arithmetic left right))) reply
 only_of_two constants arithmetic mode left right x y a b value status reply first second a_is b_is answers line =
-    let of_first = subst (λ d. IsOfTwo arithmetic (format_with constants) mode d b value status) a_is answers in
-    let of_both = subst (λ d. IsOfTwo arithmetic (format_with constants) mode (value_of constants x) d value status)
-    b_is of_first in
+    let of_both = subst₂ (λ (d : Datum) (e : Datum). IsOfTwo arithmetic (format_with constants) mode d e value status)
+    a_is b_is answers in
     only_with_two (of_format constants) arithmetic mode left right x y reply first second
     (only_answer constants mode (of_two arithmetic x y) value status reply of_both line)
 
 -- a fused sum has one reply
 pub only_fused_sum : (constants : Constants) (mode : Round) (left right addend : List ℕ) (x y z : ℕ)
-    (a b d value : Datum) (status : ℕ) (reply : Reply)
+    (left_value right_value addend_value value : Datum) (status : ℕ) (reply : Reply)
     → bits_of_word constants.bits left ≡ Some x → bits_of_word constants.bits right ≡ Some y
-    → bits_of_word constants.bits addend ≡ Some z
-    → a ≡ value_of constants x → b ≡ value_of constants y → d ≡ value_of constants z
-    → IsFusedSum (format_with constants) mode a b d value status → IsOnly (IsLineOf constants value status) reply
+    → bits_of_word constants.bits addend ≡ Some z → left_value ≡ value_of constants x
+    → right_value ≡ value_of constants y → addend_value ≡ value_of constants z
+    → IsFusedSum (format_with constants) mode left_value right_value addend_value value status
+    → IsOnly (IsLineOf constants value status) reply
     → IsOnly (IsReplyTo (requested (of_format constants) mode (with_three constants.bits left right addend))) reply
 only_fused_sum constants mode left right addend x y z a b d value status reply first second third a_is b_is d_is answers
     line =
-    let of_first = subst (λ e. IsFusedSum (format_with constants) mode e b d value status) a_is answers in
-    let of_second = subst (λ e. IsFusedSum (format_with constants) mode (value_of constants x) e d value status) b_is
-    of_first in
-    let of_all = subst (λ e. IsFusedSum (format_with constants) mode (value_of constants x)
-    (value_of constants y) e value status) d_is of_second in
+    let of_all = subst₃
+    (λ (e : Datum) (f : Datum) (g : Datum). IsFusedSum (format_with constants) mode e f g value status)
+    a_is b_is d_is answers in
     rw (first, second, third) (only_answer constants mode (fused_sum x y z) value status reply of_all line)
 
 -- a whole number taken in has one reply

@@ -23,6 +23,7 @@ pick_fits precision mode negative amount parts pick h p i a b =
     let k : pick * parts ≤ i.above * parts = mul-le-mul_right parts w in
     omega arith
 
+-- the plain program's test for tiny numbers is the format's
 tiny_is : (format : Format) (bounds : Bounds) (amount parts pick : ℕ) → HasBounds format bounds
     → tiny_of bounds amount parts pick ≡ is_tiny format amount parts pick
 tiny_is format bounds amount parts pick h =

@@ -11,9 +11,11 @@ pub record IsReached (precision amount parts spacing : ℕ) : Type 0 where
   pub is : spacing ≡ 2 ^ place
   pub many : (place ≡ 0) ⊎ (2 ^ (precision - 1) * (parts * spacing) ≤ amount)
 
+-- a spacing is not zero
 pub spacing_some : (precision amount parts spacing : ℕ) → IsReached precision amount parts spacing → 0 < spacing
 spacing_some precision amount parts spacing r = subst (λ (x : ℕ). 0 < x) (sym r.is) (pow_pos r.place)
 
+-- nor is its multiple by which the magnitude is divided
 divisor_some : (precision amount parts spacing : ℕ) → 0 < parts → IsReached precision amount parts spacing
     → 0 < parts * spacing
 divisor_some precision amount parts spacing h r = mul-pos h (spacing_some precision amount parts spacing r)

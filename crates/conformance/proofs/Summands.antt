@@ -2,6 +2,7 @@
 use Rattle.std.proofs.Common.{◌≡◌, ℕ, ◌+◌, ◌*◌, ◌≤◌, refl, sym, ◌∙◌, subst, arith}
 use Rattle.std.specs.Prelude.{ℤ, ◌+ℤ◌}
 use Rattle.std.proofs.Math.IntN.{+ℤ_idr}
+use Rattle.std.proofs.Math.Path.{subst₂}
 use Rattle.rustc_apfloat.specs.Datum.{Datum}
 use Rattle.rustc_apfloat.specs.Classes.{quanta_of}
 use Rattle.rustc_apfloat.specs.Exact.{magnitude}
@@ -20,21 +21,21 @@ use Rattle.conformance.specs.Summands.{reach_of_three, IsSummand}
 alone_number : (x : Datum) → pair_number (alone x) ≡ number x
 alone_number x = +ℤ_idr (number x)
 
+-- a summand alone is a pair of one double
 single : (reach : ℕ) (x : Datum) → IsSummand reach x → IsSingle (alone x)
 single reach x s = record { is_finite = s.is_finite; low_is = refl }
 
 -- ---- two doubles
 
 -- of two doubles nothing is lost
-pub two_exactly : (x y : Datum) (p q answer : Pair) → p ≡ alone x → q ≡ alone y → IsSummand sum_reach x
-    → IsSummand sum_reach y → IsErrorFreeSum p q answer → IsExactPair (number x +ℤ number y) 1 answer
+pub two_exactly : (x y : Datum) (first second answer : Pair) → first ≡ alone x → second ≡ alone y
+    → IsSummand sum_reach x → IsSummand sum_reach y → IsErrorFreeSum first second answer
+    → IsExactPair (number x +ℤ number y) 1 answer
 two_exactly x y p q answer e f s t law =
-    let at_first = subst (λ (i : Pair). IsErrorFreeSum i q answer) e law in
-    let at_both = subst (λ (i : Pair). IsErrorFreeSum (alone x) i answer) f at_first in
+    let at_both = subst₂ (λ (i : Pair) (j : Pair). IsErrorFreeSum i j answer) e f law in
     let exact =
     at_both (single sum_reach x s) (single sum_reach y t) (record { first = s.within; second = t.within }) in
-    let first = subst (λ (i : ℤ). IsExactPair (i +ℤ pair_number (alone y)) 1 answer) (alone_number x) exact in
-    subst (λ (i : ℤ). IsExactPair (number x +ℤ i) 1 answer) (alone_number y) first
+    subst₂ (λ (i : ℤ) (j : ℤ). IsExactPair (i +ℤ j) 1 answer) (alone_number x) (alone_number y) exact
 
 -- ---- three doubles
 
@@ -42,19 +43,22 @@ two_exactly x y p q answer e f s t law =
 high_most : (t h l n a b : ℕ) → 7 * l ≤ h → h ≤ n + l → n ≤ a + b → a ≤ t → b ≤ t → h ≤ 4 * t
 high_most t h l n a b low high sum first second = omega arith
 
+-- four times the reach of three summands is that of a sum
 four_times : 4 * reach_of_three ≡ sum_reach
 four_times = refl
 
+-- the number of a summand is within its reach
 summand_size : (reach : ℕ) (x : Datum) → IsSummand reach x → magnitude (number x) ≤ reach
 summand_size reach x s = subst (λ (i : ℕ). i ≤ reach) (sym (magnitude_quanta x s.is_finite)) s.within
 
-exact_number : (x y : Datum) (s : Pair) → IsExactPair (number x +ℤ number y) 1 s
-    → pair_number s ≡ (number x +ℤ number y)
+-- the number of an exact sum is the sum of the numbers
+exact_number : (x y : Datum) (sum : Pair) → IsExactPair (number x +ℤ number y) 1 sum
+    → pair_number sum ≡ (number x +ℤ number y)
 exact_number x y s e = sym (times_one (pair_number s)) ∙ e.number_is
 
 -- the exact sum of two of three doubles is within reach
-first_reach : (x y : Datum) (s : Pair) → IsSummand reach_of_three x → IsSummand reach_of_three y
-    → IsExactPair (number x +ℤ number y) 1 s → quanta_of s.high ≤ sum_reach
+first_reach : (x y : Datum) (sum : Pair) → IsSummand reach_of_three x → IsSummand reach_of_three y
+    → IsExactPair (number x +ℤ number y) 1 sum → quanta_of sum.high ≤ sum_reach
 first_reach x y s k m e =
     let n = exact_number x y s e in
     let sum : magnitude (pair_number s) ≤ magnitude (number x) + magnitude (number y) =
@@ -69,9 +73,11 @@ first_reach x y s k m e =
     most in
     subst (λ (i : ℕ). quanta_of s.high ≤ i) four_times quanta
 
+-- what is within a reach is within four times of it
 widened_reach : (t n : ℕ) → n ≤ t → n ≤ 4 * t
 widened_reach t n h = omega arith
 
+-- the third double is within reach as well
 third_reach : (z : Datum) → IsSummand reach_of_three z → quanta_of z ≤ sum_reach
 third_reach z s = subst (λ (i : ℕ). quanta_of z ≤ i) four_times
     (widened_reach reach_of_three (quanta_of z) s.within)
@@ -81,13 +87,12 @@ close_by : (m n p q : ℤ) (answer : Pair) → m ≡ n → p ≡ q
     → IsClosePair (m +ℤ p) 1 103 (magnitude m + magnitude p) answer
     → IsClosePair (n +ℤ q) 1 103 (magnitude n + magnitude q) answer
 close_by m n p q answer e f close =
-    subst (λ (i : ℤ). IsClosePair (n +ℤ i) 1 103 (magnitude n + magnitude i) answer) f
-    (subst (λ (i : ℤ). IsClosePair (i +ℤ p) 1 103 (magnitude i + magnitude p) answer) e close)
+    subst₂ (λ (i : ℤ) (j : ℤ). IsClosePair (i +ℤ j) 1 103 (magnitude i + magnitude j) answer) e f close
 
 -- of three doubles little is lost
-pub three_closely : (x y z : Datum) (s t answer : Pair) → t ≡ alone z → IsMember double z
+pub three_closely : (x y z : Datum) (sum third answer : Pair) → third ≡ alone z → IsMember double z
     → IsSummand reach_of_three x → IsSummand reach_of_three y → IsSummand reach_of_three z
-    → IsExactPair (number x +ℤ number y) 1 s → IsAccurateSum s t answer
+    → IsExactPair (number x +ℤ number y) 1 sum → IsAccurateSum sum third answer
     → IsClosePair ((number x +ℤ number y) +ℤ number z) 1 103
     (magnitude (number x +ℤ number y) + magnitude (number z)) answer
 three_closely x y z s t answer f member a b c exact law =

@@ -13,6 +13,7 @@ pub record IsReadDown (bytes : List ℕ) (number place : ℕ) : Type 0 where
   pub below : number < 256 ^ place
   pub read : number ≡ number_of (drop (length bytes - place) bytes)
 
+-- before the first byte nothing is read
 pub read_none : (bytes : List ℕ) → IsReadDown bytes 0 0
 read_none bytes = record {
   below = lit< tt;
@@ -65,6 +66,7 @@ shifted first n more power wider byte told scale =
     let scaled_byte : wider * byte ≡ power * 256 * byte = ap (λ k. k * byte) scale in
     omega arith
 
+-- a byte behind the others stands above them
 number_of-push : (bytes : List ℕ) (byte : ℕ)
     → number_of (bytes ++ byte ∷ []) ≡ number_of bytes + 256 ^ length bytes * byte
 number_of-push [] byte = omega arith
@@ -78,6 +80,7 @@ number_of-push (first ∷ bytes) byte =
 pub record IsWrittenUp (number rest place : ℕ) (bytes : List ℕ) : Type 0 where
   pub written : number_of (take place bytes) + 256 ^ place * rest ≡ number
 
+-- before the first byte the whole number is still to be written
 pub write_none : (number : ℕ) (bytes : List ℕ) → IsWrittenUp number number 0 bytes
 write_none number bytes = record { written = omega arith }
 
@@ -129,6 +132,7 @@ write_to_end number rest place bytes all small so_far =
 
 -- ---- numbers of so many bits
 
+-- n bytes have as many values as 8 n bits
 bytes_of_bits : (n : ℕ) → 256 ^ n ≡ 2 ^ (8 * n)
 bytes_of_bits zero = refl
 bytes_of_bits (suc n) =

@@ -2,6 +2,7 @@
 use Rattle.std.proofs.Common.{◌≡◌, ℕ, suc, ◌+◌, ◌-◌, ◌*◌, ◌<◌, ◌≤◌, Bool, ⊎_elim, if◌then◌else◌, List, [], ◌∷◌, ◌++◌, length, drop, Option, Some, refl, sym, ◌∙◌, ap, subst, arith, zero-add}
 use Rattle.std.specs.Prelude.{slice_get, IfSome, count_by}
 use Rattle.std.proofs.Math.Nat.{mul-le-mul_right, suc-mul}
+use Rattle.std.proofs.Math.Path.{subst₃}
 use Rattle.std.proofs.lemmas.Bool.{cases_lt, cases_eq}
 use Rattle.std.proofs.lemmas.List.{length_push}
 use Rattle.std.proofs.lemmas.List.Edits.{length-between}
@@ -17,6 +18,7 @@ use Rattle.apfloat_base.proofs.ListLaws.{get_left, get_last}
 
 -- ---- counts
 
+-- one more outcome adds one to a count where it passes the test
 count_push : (test : Outcome → Bool) (outcomes : List Outcome) (outcome : Outcome)
     → count_by test (outcomes ++ outcome ∷ []) ≡ count_by test outcomes + one_if (test outcome)
 count_push test outcomes outcome =
@@ -108,6 +110,7 @@ none_of Holds source now outcomes k past =
 
 -- ---- blocks
 
+-- a block without values is converted
 pub block_none : (Holds : List ℕ → List ℕ → Outcome → Type 0) (source target : ℕ) (input output : List ℕ)
     → IsBlock Holds source target 0 input output (counts_of [])
 block_none Holds source target input output = record
@@ -156,7 +159,5 @@ pub block_named : (Holds : List ℕ → List ℕ → Outcome → Type 0) (source
     → IsBlock Holds source target count' input' output' counts
 block_named Holds source target count count' input input' output output' counts same_count same_input same_output
     block =
-    let At : ℕ → Type 0 = λ n. IsBlock Holds source target n input' output' counts in
-    let Of : List ℕ → Type 0 = λ bytes. IsBlock Holds source target count bytes output' counts in
-    let To : List ℕ → Type 0 = λ bytes. IsBlock Holds source target count input bytes counts in
-    subst At same_count (subst Of same_input (subst To same_output block))
+    subst₃ (λ (n : ℕ) (bytes : List ℕ) (new : List ℕ). IsBlock Holds source target n bytes new counts) same_count
+    same_input same_output block

@@ -11,6 +11,7 @@ use Rattle.dispatch.specs.declared.arithmetic.Arithmetic.{Arithmetic}
 use Rattle.dispatch.specs.declared.arithmetic.Arithmetic.TheVariants.{Sum, Difference, Product, Quotient, NearestRemainder, TruncatedRemainder}
 use Rattle.dispatch.specs.OfTwo.{IsOfTwo, IsPairOfTwo}
 
+-- of two values of a format
 pub of_two_once : (arithmetic : Arithmetic) (format : Format) (mode : Round) (x y : Datum)
     → Once (IsOfTwo arithmetic format mode x y)
 of_two_once Sum format mode x y = sum_once format mode x y
@@ -20,6 +21,7 @@ of_two_once Quotient format mode x y = quotient_once format mode x y
 of_two_once NearestRemainder format mode x y = remainder_once format _ x y
 of_two_once TruncatedRemainder format mode x y = remainder_once format _ x y
 
+-- of two pairs of doubles
 pub pair_of_two_once : (arithmetic : Arithmetic) (mode : Round) (x y : Pair)
     → OncePair (IsPairOfTwo arithmetic mode x y)
 pair_of_two_once Sum mode x y = pair_sum_once mode x y

@@ -1,6 +1,8 @@
 -- Answers of calls on pairs, from the answers of their steps.
 use Rattle.std.proofs.Common.{◌≡◌, ℕ, Bool, true, false, not, ◌&&◌, ◌||◌, sym, ap, ◌∙◌, subst}
+use Rattle.std.proofs.Math.Path.{subst₂}
 use mathlib.Core.Bool.{beq}
+use Rattle.std.specs.Bool.{MatchBool}
 use Rattle.apfloat_base.specs.declared.kinds.Category.{Category}
 use Rattle.apfloat_base.specs.declared.kinds.Round.{Round}
 use Rattle.apfloat_base.specs.formats.Datum.{Datum}
@@ -28,11 +30,10 @@ use Rattle.apfloat_pairs.proofs.DifferenceLaws.{error_free_difference, accurate_
 use Rattle.apfloat_pairs.proofs.PairProductLaws.{error_free_product, accurate_product}
 
 -- the product of two pairs of numbers
-pub product_by_steps : (mode : Round) (x y : Pair) (a c t tau : Datum) (t_flags tau_flags flags : ℕ)
-    (is_number : Bool)
-    (answer : Pair) (status : ℕ) → a ≡ x.high → c ≡ y.high → IsProduct double mode a c t t_flags
-    → is_number ≡ is_finite_non_zero_category (category_of t) → is_number ≡ true
-    → IsLostOfProduct mode x.high x.low y.high y.low t tau tau_flags → flags ≡ t_flags ∪ tau_flags
+pub product_by_steps : (mode : Round) (x y : Pair) (left right t tau : Datum) (t_flags tau_flags flags : ℕ)
+    (is_number : Bool) (answer : Pair) (status : ℕ) → left ≡ x.high → right ≡ y.high
+    → IsProduct double mode left right t t_flags → is_number ≡ is_finite_non_zero_category (category_of t)
+    → is_number ≡ true → IsLostOfProduct mode x.high x.low y.high y.low t tau tau_flags → flags ≡ t_flags ∪ tau_flags
     → IsClosed mode t tau flags answer status → IsProductOfNumbers mode x y answer status
 product_by_steps mode x y a c t tau t_flags tau_flags flags is_number answer status i j product e some lost joined
     closed =
@@ -40,8 +41,7 @@ product_by_steps mode x y a c t tau t_flags tau_flags flags is_number answer sta
       t = t;
       t_flags = t_flags;
       is_t =
-          subst (λ (d : Datum). IsProduct double mode d y.high t t_flags) i
-          (subst (λ (d : Datum). IsProduct double mode a d t t_flags) j product);
+          subst₂ (λ (left : Datum) (right : Datum). IsProduct double mode left right t t_flags) i j product;
       is_answer =
           match_true (is_finite_non_zero t) (IsNumberProduct mode x y t t_flags answer status)
           (IsPairAnswer (alone t) t_flags answer status)
@@ -122,12 +122,21 @@ pub record IsClosedAnew (mode : Round) (x y : Pair) (big small z : Datum) (flags
 two_joined : (a b c ab abc : ℕ) → ab ≡ a ∪ b → abc ≡ ab ∪ c → abc ≡ a ∪ b ∪ c
 two_joined a b c ab abc e f = f ∙ ap (λ (i : ℕ). i ∪ c) e
 
--- where it is not finite it stands alone
-pub anew_beyond : (mode : Round) (x y : Pair) (big small z : Datum) (flags : ℕ) (is_within : Bool) (answer : Pair)
-    (status : ℕ) → IsOpenedAnew mode x y big small z flags → is_within ≡ is_finite_category (category_of z)
-    → is_within ≡ false → answer ≡ alone z → status ≡ flags → IsSumAnew mode x y answer status
-anew_beyond mode x y big small z flags is_within answer status o w e v s =
-    let all = o.lows_flags ∪ o.with_lesser_flags ∪ o.z_flags in
+-- the flags so far are those of the three sums
+flags_of_opened : (mode : Round) (x y : Pair) (big small z : Datum) (flags : ℕ)
+    → (opened : IsOpenedAnew mode x y big small z flags)
+    → flags ≡ opened.lows_flags ∪ opened.with_lesser_flags ∪ opened.z_flags
+flags_of_opened mode x y big small z flags o =
+    two_joined o.lows_flags o.with_lesser_flags o.z_flags o.flags_with_lesser flags o.joined o.flags_are
+
+-- a sum that was opened so is taken anew, with the answer that its high part calls for
+anew : (mode : Round) (x y : Pair) (big small z : Datum) (flags : ℕ) (answer : Pair) (status : ℕ)
+    → (opened : IsOpenedAnew mode x y big small z flags)
+    → MatchBool (is_finite z)
+    (IsSumAnewLow mode x y z (opened.lows_flags ∪ opened.with_lesser_flags ∪ opened.z_flags) answer status)
+    (IsPairAnswer (alone z) (opened.lows_flags ∪ opened.with_lesser_flags ∪ opened.z_flags) answer status)
+    → IsSumAnew mode x y answer status
+anew mode x y big small z flags answer status o is_answer =
     record {
       lows = o.lows;
       with_lesser = o.with_lesser;
@@ -140,17 +149,20 @@ anew_beyond mode x y big small z flags is_within answer status o w e v s =
           subst (λ (d : Datum). IsSum double mode o.lows d o.with_lesser o.with_lesser_flags) o.small_is
           o.is_with_lesser;
       is_z = subst (λ (d : Datum). IsSum double mode o.with_lesser d z o.z_flags) o.big_is o.is_z;
-      is_answer =
-          match_false (is_finite z) (IsSumAnewLow mode x y z all answer status)
-          (IsPairAnswer (alone z) all answer status)
-          (sym (finite_agrees z) ∙ sym w ∙ e)
-          (record {
-            answer_is = v;
-            status_is = s ∙
-                two_joined o.lows_flags o.with_lesser_flags o.z_flags o.flags_with_lesser flags o.joined
-                o.flags_are;
-          });
+      is_answer = is_answer;
     }
+
+-- where it is not finite it stands alone
+pub anew_beyond : (mode : Round) (x y : Pair) (big small z : Datum) (flags : ℕ) (is_within : Bool) (answer : Pair)
+    (status : ℕ) → IsOpenedAnew mode x y big small z flags → is_within ≡ is_finite_category (category_of z)
+    → is_within ≡ false → answer ≡ alone z → status ≡ flags → IsSumAnew mode x y answer status
+anew_beyond mode x y big small z flags is_within answer status o w e v s =
+    let all = o.lows_flags ∪ o.with_lesser_flags ∪ o.z_flags in
+    anew mode x y big small z flags answer status o
+    (match_false (is_finite z) (IsSumAnewLow mode x y z all answer status)
+    (IsPairAnswer (alone z) all answer status)
+    (sym (finite_agrees z) ∙ sym w ∙ e)
+    (record { answer_is = v; status_is = s ∙ flags_of_opened mode x y big small z flags o }))
 
 -- and else with what was lost of it
 pub anew_within : (mode : Round) (x y : Pair) (big small z low : Datum) (flags all_flags : ℕ) (is_within : Bool)
@@ -160,55 +172,35 @@ pub anew_within : (mode : Round) (x y : Pair) (big small z low : Datum) (flags a
     → status ≡ all_flags → IsSumAnew mode x y answer status
 anew_within mode x y big small z low flags all_flags is_within answer status o w e k v s =
     let all = o.lows_flags ∪ o.with_lesser_flags ∪ o.z_flags in
-    let opened =
-    two_joined o.lows_flags o.with_lesser_flags o.z_flags o.flags_with_lesser flags o.joined o.flags_are in
-    record {
-      lows = o.lows;
-      with_lesser = o.with_lesser;
-      z = z;
-      lows_flags = o.lows_flags;
-      with_lesser_flags = o.with_lesser_flags;
-      z_flags = o.z_flags;
-      is_lows = o.is_lows;
+    anew mode x y big small z flags answer status o
+    (match_true (is_finite z) (IsSumAnewLow mode x y z all answer status)
+    (IsPairAnswer (alone z) all answer status)
+    (sym (finite_agrees z) ∙ sym w ∙ e)
+    (record {
+      zz = k.zz;
+      left = k.left;
+      with_lesser = k.with_lesser;
+      low = low;
+      zz_flags = k.zz_flags;
+      left_flags = k.left_flags;
+      with_lesser_flags = k.with_lesser_flags;
+      low_flags = k.low_flags;
+      is_zz = k.is_zz;
+      is_left = subst (λ (d : Datum). IsDifference double mode d z k.left k.left_flags) o.big_is k.is_left;
       is_with_lesser =
-          subst (λ (d : Datum). IsSum double mode o.lows d o.with_lesser o.with_lesser_flags) o.small_is
-          o.is_with_lesser;
-      is_z = subst (λ (d : Datum). IsSum double mode o.with_lesser d z o.z_flags) o.big_is o.is_z;
-      is_answer =
-          match_true (is_finite z) (IsSumAnewLow mode x y z all answer status)
-          (IsPairAnswer (alone z) all answer status)
-          (sym (finite_agrees z) ∙ sym w ∙ e)
-          (record {
-            zz = k.zz;
-            left = k.left;
-            with_lesser = k.with_lesser;
-            low = low;
-            zz_flags = k.zz_flags;
-            left_flags = k.left_flags;
-            with_lesser_flags = k.with_lesser_flags;
-            low_flags = k.low_flags;
-            is_zz = k.is_zz;
-            is_left = subst (λ (d : Datum). IsDifference double mode d z k.left k.left_flags) o.big_is k.is_left;
-            is_with_lesser =
-                subst (λ (d : Datum). IsSum double mode k.left d k.with_lesser k.with_lesser_flags) o.small_is
-                k.is_with_lesser;
-            is_low = k.is_low;
-            is_answer = record {
-              answer_is = v;
-              status_is =
-                  s ∙ k.flags_are ∙ ap (λ (i : ℕ). i ∪ k.low_flags)
-                  (k.lesser_joined ∙ ap (λ (i : ℕ). i ∪ k.with_lesser_flags)
-                  (k.left_joined ∙ ap (λ (i : ℕ). i ∪ k.left_flags)
-                  (k.zz_joined ∙ ap (λ (i : ℕ). i ∪ k.zz_flags) opened)));
-            };
-          });
-    }
-
--- an answer and its status, of which each is what was found
-pub answered : (P : Datum → ℕ → Type 0) (value answer : Datum) (flags status : ℕ) → answer ≡ value → status ≡ flags
-    → P value flags → P answer status
-answered P value answer flags status e s p =
-    subst (λ (d : Datum). P d status) (sym e) (subst (λ (i : ℕ). P value i) (sym s) p)
+          subst (λ (d : Datum). IsSum double mode k.left d k.with_lesser k.with_lesser_flags) o.small_is
+          k.is_with_lesser;
+      is_low = k.is_low;
+      is_answer = record {
+        answer_is = v;
+        status_is =
+            s ∙ k.flags_are ∙ ap (λ (i : ℕ). i ∪ k.low_flags)
+            (k.lesser_joined ∙ ap (λ (i : ℕ). i ∪ k.with_lesser_flags)
+            (k.left_joined ∙ ap (λ (i : ℕ). i ∪ k.left_flags)
+            (k.zz_joined ∙ ap (λ (i : ℕ). i ∪ k.zz_flags)
+            (flags_of_opened mode x y big small z flags o))));
+      };
+    }))
 
 -- ---- pairs in the wide format
 
@@ -222,8 +214,9 @@ joined_by_sum x high low answer status is_number n e h l s =
     (record { high = high; low = low; status = status; high_is = h; low_is = l; is_sum = s })
 
 -- and another pair, by its high part
-pub joined_alone : (x : Pair) (high : Datum) (is_number : Bool) → is_number ≡ is_finite_non_zero_category (category_of x.high)
-    → is_number ≡ false → IsWidened x.high high → IsJoined x high
+pub joined_alone : (x : Pair) (high : Datum) (is_number : Bool)
+    → is_number ≡ is_finite_non_zero_category (category_of x.high) → is_number ≡ false → IsWidened x.high high
+    → IsJoined x high
 joined_alone x high is_number n e h =
     match_false (is_finite_non_zero x.high) (IsSumOfParts x high) (IsWidened x.high high)
     (sym (number_agrees x.high) ∙ sym n ∙ e) h
@@ -262,23 +255,23 @@ wide_of_one call x joined value flags answer status j h e s =
 
 -- ---- by categories, and by the negation
 
+-- the sum that the categories of the operands call for is their sum
 pub sum_by_categories : (mode : Round) (x y : Pair) (first second : Category) (answer : Pair) (status : ℕ)
     → first ≡ pair_category x → second ≡ pair_category y
     → IsSumOfCategories first second mode x y answer status → IsPairSum mode x y answer status
 sum_by_categories mode x y first second answer status i j s =
-    subst (λ (k : Category). IsSumOfCategories k (pair_category y) mode x y answer status) i
-    (subst (λ (k : Category). IsSumOfCategories first k mode x y answer status) j s)
+    subst₂ (λ (k : Category) (l : Category). IsSumOfCategories k l mode x y answer status) i j s
 
+-- likewise the product
 pub product_by_categories : (mode : Round) (x y : Pair) (first second : Category) (answer : Pair) (status : ℕ)
     → first ≡ pair_category x → second ≡ pair_category y
     → IsProductOfCategories first second mode x y answer status → IsPairProduct mode x y answer status
 product_by_categories mode x y first second answer status i j s =
-    subst (λ (k : Category). IsProductOfCategories k (pair_category y) mode x y answer status) i
-    (subst (λ (k : Category). IsProductOfCategories first k mode x y answer status) j s)
+    subst₂ (λ (k : Category) (l : Category). IsProductOfCategories k l mode x y answer status) i j s
 
 -- a difference is the sum with the negated pair
-pub difference_by_negation : (mode : Round) (x y z answer : Pair) (status : ℕ) → z ≡ negated_pair y
-    → IsPairSum mode x z answer status → IsPairDifference mode x y answer status
+pub difference_by_negation : (mode : Round) (x y negated answer : Pair) (status : ℕ) → negated ≡ negated_pair y
+    → IsPairSum mode x negated answer status → IsPairDifference mode x y answer status
 difference_by_negation mode x y z answer status e s = subst (λ (p : Pair). IsPairSum mode x p answer status) e s
 
 -- ---- the laws of sums and products, in a mode that is to the nearest
@@ -288,24 +281,28 @@ at_nearest : (P : Round → Type 0) (Q : Type 0) → (P NearestTiesToEven → Q)
     → mode ≡ NearestTiesToEven → Q
 at_nearest P Q law mode p e = law (subst P e p)
 
+-- to the nearest, the sum of two doubles loses nothing
 pub sum_error_free : (mode : Round) (x y answer : Pair) (status : ℕ) → IsMember double x.high → IsMember double y.high
     → IsPairSum mode x y answer status → mode ≡ NearestTiesToEven → IsErrorFreeSum x y answer
 sum_error_free mode x y answer status m n =
     at_nearest (λ (i : Round). IsPairSum i x y answer status) (IsErrorFreeSum x y answer)
     (error_free_sum x y answer status m n) mode
 
+-- that of two normalised pairs loses little
 pub sum_accurate : (mode : Round) (x y answer : Pair) (status : ℕ) → IsPairSum mode x y answer status
     → mode ≡ NearestTiesToEven → IsAccurateSum x y answer
 sum_accurate mode x y answer status =
     at_nearest (λ (i : Round). IsPairSum i x y answer status) (IsAccurateSum x y answer)
     (accurate_sum x y answer status) mode
 
+-- and raises INEXACT at most
 pub sum_plain : (mode : Round) (x y answer : Pair) (status : ℕ) → IsPairSum mode x y answer status
     → mode ≡ NearestTiesToEven → HasPlainStatus x y status
 sum_plain mode x y answer status =
     at_nearest (λ (i : Round). IsPairSum i x y answer status) (HasPlainStatus x y status)
     (plain_sum x y answer status) mode
 
+-- to the nearest, the difference of two doubles loses nothing
 pub difference_error_free : (mode : Round) (x y answer : Pair) (status : ℕ) → IsMember double x.high
     → IsMember double y.high → IsPairDifference mode x y answer status → mode ≡ NearestTiesToEven
     → IsErrorFreeDifference x y answer
@@ -313,18 +310,21 @@ difference_error_free mode x y answer status m n =
     at_nearest (λ (i : Round). IsPairDifference i x y answer status) (IsErrorFreeDifference x y answer)
     (error_free_difference x y answer status m n) mode
 
+-- that of two normalised pairs loses little
 pub difference_accurate : (mode : Round) (x y answer : Pair) (status : ℕ) → IsPairDifference mode x y answer status
     → mode ≡ NearestTiesToEven → IsAccurateDifference x y answer
 difference_accurate mode x y answer status =
     at_nearest (λ (i : Round). IsPairDifference i x y answer status) (IsAccurateDifference x y answer)
     (accurate_difference x y answer status) mode
 
+-- and raises INEXACT at most
 pub difference_plain : (mode : Round) (x y answer : Pair) (status : ℕ) → IsPairDifference mode x y answer status
     → mode ≡ NearestTiesToEven → HasPlainStatus x y status
 difference_plain mode x y answer status =
     at_nearest (λ (i : Round). IsPairDifference i x y answer status) (HasPlainStatus x y status)
     (plain_difference x y answer status) mode
 
+-- to the nearest, the product of two doubles loses nothing
 pub product_error_free : (mode : Round) (x y answer : Pair) (status : ℕ) → IsMember double x.high
     → IsMember double y.high → IsPairProduct mode x y answer status → mode ≡ NearestTiesToEven
     → IsErrorFreeProduct x y answer
@@ -332,6 +332,7 @@ product_error_free mode x y answer status m n =
     at_nearest (λ (i : Round). IsPairProduct i x y answer status) (IsErrorFreeProduct x y answer)
     (error_free_product x y answer status m n) mode
 
+-- that of two normalised pairs loses little
 pub product_accurate : (mode : Round) (x y answer : Pair) (status : ℕ) → IsPairProduct mode x y answer status
     → mode ≡ NearestTiesToEven → IsAccurateProduct x y answer
 product_accurate mode x y answer status =

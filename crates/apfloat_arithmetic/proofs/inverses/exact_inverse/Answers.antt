@@ -1,4 +1,5 @@
 use Rattle.std.proofs.Common.{sym, subst}
+use Rattle.std.proofs.lemmas.Option.{same_Some}
 use Rattle.std.specs.Prelude.{neg_ℤ, Some, None}
 use Rattle.apfloat_base.specs.declared.kinds.Category.{Category}
 use Rattle.apfloat_base.specs.formats.Datum.{finite}
@@ -7,7 +8,7 @@ use Rattle.apfloat_unpacked.specs.declared.unpacked.Unpacked.{Unpacked}
 use Rattle.apfloat_unpacked.specs.Shapes.{format_at}
 use Rattle.apfloat_unpacked.specs.Stored.{IsStored, IsStoredBy, IsNormalAt, quanta_at, datum_by}
 use Rattle.apfloat_arithmetic.proofs.ProductExponents.{normal_near}
-use Rattle.apfloat_arithmetic.proofs.ExactInverses.{same_value, opposite_word, inverted_normal, inverse_answer, no_inverse_answer}
+use Rattle.apfloat_arithmetic.proofs.ExactInverses.{opposite_word, inverted_normal, inverse_answer, no_inverse_answer}
 use Rattle.apfloat_arithmetic.proofs.inverses.exact_inverse.Goals as goal
 
 pub returns-then-is_invertible-clause-stored : goal.returns-then-is_invertible-clause-stored
@@ -20,7 +21,7 @@ returns-then-is_invertible-clause-stored c = λ inverse h.
     let e = opposite_word s x.significand x.exponent c.requires.lawful n in
     let i = inverted_normal s x.significand x.exponent c.requires.lawful n
     (c.is_invertible.ensures.yes c.if-is_invertible.true) in
-    subst (λ (y : Unpacked). IsStored s y) (same_value _ inverse h) (rw (w, e) i)
+    subst (λ (y : Unpacked). IsStored s y) (same_Some _ inverse h) (rw (w, e) i)
 
 pub returns-then-is_invertible-clause-inverse : goal.returns-then-is_invertible-clause-inverse
 returns-then-is_invertible-clause-inverse c =

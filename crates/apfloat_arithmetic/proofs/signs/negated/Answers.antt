@@ -10,8 +10,9 @@ use Rattle.apfloat_arithmetic.proofs.SumCases.{number_stored, datum_is}
 use Rattle.apfloat_arithmetic.proofs.signs.negated.Goals as goal
 
 -- a number or an infinity
-turned_datum : (k : Category) (s : Shape) (x : Unpacked) → x.category ≡ k → IsStored s x → (k ≡ Zero → ⊥)
-    → (k ≡ NaN → ⊥) → datum_at s (record x { negative = not x.negative }) ≡ negated s.nonfinite (datum_at s x)
+turned_datum : (category : Category) (shape : Shape) (x : Unpacked) → x.category ≡ category → IsStored shape x
+    → (category ≡ Zero → ⊥) → (category ≡ NaN → ⊥)
+    → datum_at shape (record x { negative = not x.negative }) ≡ negated shape.nonfinite (datum_at shape x)
 turned_datum Normal s x e h a b =
     let n = number_stored s x e h in
     datum_is Normal s (record x { negative = not x.negative }) e

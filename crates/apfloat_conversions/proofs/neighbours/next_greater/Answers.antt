@@ -32,9 +32,9 @@ overflow_add-significand c =
           c.requires.normal (rw ex at c.step.ensures);
     }
 
-stays : (c : goal.After-struct_told-then-significand-power_of_two-1)
-    → IsAfter c.args.shape (quanta_at c.args.shape.min_exp c.args.x.significand c.args.x.exponent)
-    (c.args.x.significand + c.step.result) c.args.x.exponent
+stays : (state : goal.After-struct_told-then-significand-power_of_two-1)
+    → IsAfter state.args.shape (quanta_at state.args.shape.min_exp state.args.x.significand state.args.x.exponent)
+    (state.args.x.significand + state.step.result) state.args.x.exponent
 stays c =
     let s = c.args.shape in
     let ex = exponent_word s c.args.x.significand c.args.x.exponent c.requires.lawful c.requires.normal in
@@ -57,9 +57,9 @@ returns-then-significand-power_of_two-clause-next c =
     rw ex (after_is s (quanta_at s.min_exp c.args.x.significand c.args.x.exponent)
     (c.args.x.significand + c.step.result) c.args.x.exponent (stays c))
 
-carries : (c : goal.After-raised)
-    → IsAfter c.args.shape (quanta_at c.args.shape.min_exp c.args.x.significand c.args.x.exponent)
-    c.integer_bit.result c.raised.result
+carries : (state : goal.After-raised)
+    → IsAfter state.args.shape (quanta_at state.args.shape.min_exp state.args.x.significand state.args.x.exponent)
+    state.integer_bit.result state.raised.result
 carries c =
     let s = c.args.shape in
     let ex = exponent_word s c.args.x.significand c.args.x.exponent c.requires.lawful c.requires.normal in

@@ -52,9 +52,9 @@ overflow_sub-result c =
     step_below s c.args.x.significand c.step.result c.args.x.exponent c.requires.lawful
     c.requires.normal.operand.least c.requires.normal.operand.full (rw ex at c.step.ensures)
 
-stays : (c : goal.After-struct_told-then-x-integer_bit-1)
-    → IsBefore c.args.shape (quanta_at c.args.shape.min_exp c.args.x.significand c.args.x.exponent)
-    (c.args.x.significand - c.step.result) c.args.x.exponent
+stays : (state : goal.After-struct_told-then-x-integer_bit-1)
+    → IsBefore state.args.shape (quanta_at state.args.shape.min_exp state.args.x.significand state.args.x.exponent)
+    (state.args.x.significand - state.step.result) state.args.x.exponent
 stays c =
     let s = c.args.shape in
     let ex = exponent_word s c.args.x.significand c.args.x.exponent c.requires.lawful c.requires.normal in
@@ -93,8 +93,8 @@ returns-then-x-least_exponent-clause-next c =
     c.requires.normal (is_half c.args.x.significand c.integer_bit.result (2 ^ (s.precision - 1))
     c.if-x-integer_bit.false c.integer_bit.ensures c.requires.normal.operand.full) i)
 
-low : (c : goal.After-step-2)
-    → ((c.args.shape.min_exp +ℤ pos 1) -ℤ pos c.args.shape.precision) ≤ℤ c.lowered-exponent.result
+low : (state : goal.After-step-2)
+    → ((state.args.shape.min_exp +ℤ pos 1) -ℤ pos state.args.shape.precision) ≤ℤ state.lowered-exponent.result
 low c =
     let s = c.args.shape in
     let ex = exponent_word s c.args.x.significand c.args.x.exponent c.requires.lawful c.requires.normal in
@@ -116,9 +116,9 @@ overflow_sub-result-2 c =
     step_below s c.power_of_two.result c.step-2.result c.lowered-exponent.result c.requires.lawful (low c)
     (omega (arith, p, t)) (rw ey at c.step-2.ensures)
 
-lowers : (c : goal.After-step-2)
-    → IsBefore c.args.shape (quanta_at c.args.shape.min_exp c.args.x.significand c.args.x.exponent)
-    (c.power_of_two.result - c.step-2.result) c.lowered-exponent.result
+lowers : (state : goal.After-step-2)
+    → IsBefore state.args.shape (quanta_at state.args.shape.min_exp state.args.x.significand state.args.x.exponent)
+    (state.power_of_two.result - state.step-2.result) state.lowered-exponent.result
 lowers c =
     let s = c.args.shape in
     let ex = exponent_word s c.args.x.significand c.args.x.exponent c.requires.lawful c.requires.normal in

@@ -7,8 +7,8 @@ use Rattle.apfloat_unpacked.specs.Stored.{datum_at}
 use Rattle.apfloat_ieee.specs.Types.{shape_of, format_of, layout_of}
 use Rattle.apfloat_ieee.proofs.ieee_float.decode.Goals as goal
 
-implied_is_canonical : (f : Format) (layout : Layout) (x : Fields) → f.explicit_integer_bit ≡ false
-    → IsTrue (is_canonical f layout x)
+implied_is_canonical : (format : Format) (layout : Layout) (fields : Fields) → format.explicit_integer_bit ≡ false
+    → IsTrue (is_canonical format layout fields)
 implied_is_canonical f layout x e = rw e refl
 
 pub returns-clause-read : goal.returns-clause-read

@@ -12,7 +12,8 @@ no_significand : (kind : NonfiniteBehavior) (explicit : Bool) (precision s : ℕ
     → IsNanSignificand kind explicit precision s → s ≡ 0
 no_significand kind explicit precision s e h = rw e at h
 
-no_sign : (kind : NonfiniteBehavior) (b : Bool) → kind ≡ NanNegativeZero → b ≡ nan_sign kind b → b ≡ false
+no_sign : (kind : NonfiniteBehavior) (negative : Bool) → kind ≡ NanNegativeZero → negative ≡ nan_sign kind negative
+    → negative ≡ false
 no_sign kind b e h = rw e at h
 
 pub returns-in-NanNegativeZero : goal.returns-in-NanNegativeZero

@@ -78,10 +78,11 @@ pub overflow_sub-result : goal.overflow_sub-result
 overflow_sub-result c = omega (arith, c.requires.normal.operand.full)
 
 -- the fields of a number with its integer bit, by what is written of its significand
-high : (s : Shape) (widths : Widths) (b : Bool) (m j t : ℕ) (e : ℤ) → IsShape s
-    → IsInterchange (format_at s) (layout_at widths) → IsNormalAt s m e → pos j ≡ e -ℤ s.min_exp
-    → m - cond s.explicit_integer_bit 0 (smallest_normalized (format_at s)) ≡ t
-    → AreFieldsOf (format_at s) (layout_at widths) (fields_with b (j + 1) t) (finite b (quanta_at s.min_exp m e))
+high : (shape : Shape) (widths : Widths) (negative : Bool) (m j t : ℕ) (e : ℤ) → IsShape shape
+    → IsInterchange (format_at shape) (layout_at widths) → IsNormalAt shape m e → pos j ≡ e -ℤ shape.min_exp
+    → m - cond shape.explicit_integer_bit 0 (smallest_normalized (format_at shape)) ≡ t
+    → AreFieldsOf (format_at shape) (layout_at widths) (fields_with negative (j + 1) t)
+    (finite negative (quanta_at shape.min_exp m e))
 high s widths b m j t e law interchange n d w =
     let q = quanta_high s m e j d in
     let top : m * 2 ^ j ≤ largest (format_at s) = rw q at n.within in

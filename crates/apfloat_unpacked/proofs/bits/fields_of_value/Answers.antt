@@ -15,10 +15,10 @@ returns-in-Zero c =
     rw c.in-Zero.is (low_fields_of (format_at c.args.shape) (layout_at c.args.widths) c.args.x.negative 0
     c.requires.interchange (pow_pos (c.args.shape.precision - 1)) (λ _. z.sign_is))
 
-written : (b : Bool) (half : ℕ) → b ≡ true → cond b half 0 ≡ half
+written : (explicit : Bool) (half : ℕ) → explicit ≡ true → cond explicit half 0 ≡ half
 written b half e = rw e refl
 
-unwritten : (b : Bool) (half : ℕ) → b ≡ false → cond b half 0 ≡ 0
+unwritten : (explicit : Bool) (half : ℕ) → explicit ≡ false → cond explicit half 0 ≡ 0
 unwritten b half e = rw e refl
 
 pub returns-then-shape : goal.returns-then-shape

@@ -5,7 +5,7 @@ use Rattle.apfloat_base.specs.bits.Layout.{trailing_bits}
 use Rattle.apfloat_unpacked.specs.Shapes.{format_at}
 use Rattle.apfloat_unpacked.proofs.bits.join.Goals as goal
 
-short : (b : Bool) → cond b 1 0 < 2 ^ 1
+short : (negative : Bool) → cond negative 1 0 < 2 ^ 1
 short true = omega arith
 short false = omega arith
 

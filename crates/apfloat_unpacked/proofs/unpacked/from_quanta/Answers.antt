@@ -11,10 +11,10 @@ pub overflow_sub-shift : goal.overflow_sub-shift
 overflow_sub-shift c =
     digits_le c.args.significand c.digits.result c.args.shape.precision c.requires.fits c.digits.ensures.full
 
-moved_up : (c : goal.After-exponent_at)
-    → IsMovedUp c.args.shape c.args.significand c.digits.result c.args.place
-    (c.args.significand * 2 ^ (c.args.shape.precision - c.digits.result) % 2 ^ 128)
-    (to_z w32 (of_z w32 c.exponent_at.result))
+moved_up : (state : goal.After-exponent_at)
+    → IsMovedUp state.args.shape state.args.significand state.digits.result state.args.place
+    (state.args.significand * 2 ^ (state.args.shape.precision - state.digits.result) % 2 ^ 128)
+    (to_z w32 (of_z w32 state.exponent_at.result))
 moved_up c =
     let l = digits_le c.args.significand c.digits.result c.args.shape.precision c.requires.fits
     c.digits.ensures.full in

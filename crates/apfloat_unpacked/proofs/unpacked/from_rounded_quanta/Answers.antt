@@ -7,9 +7,9 @@ use Rattle.apfloat_unpacked.proofs.StoredNumbers.{IsMovedUp, moved_up_quanta, mo
 use Rattle.apfloat_unpacked.proofs.unpacked.from_rounded_quanta.Goals as goal
 
 -- a significand with all its digits is moved up by none
-full : (c : goal.After-exponent_at)
-    → IsMovedUp c.args.shape c.args.significand c.args.shape.precision c.args.place c.args.significand
-    (to_z w32 (of_z w32 c.exponent_at.result))
+full : (state : goal.After-exponent_at)
+    → IsMovedUp state.args.shape state.args.significand state.args.shape.precision state.args.place
+    state.args.significand (to_z w32 (of_z w32 state.exponent_at.result))
 full c =
     let p = c.requires.lawful.precision_low in
     let f : 2 ^ (c.args.shape.precision - 1) ≤ c.args.significand =

@@ -5,10 +5,10 @@ use Rattle.rustc_apfloat.specs.Lawful.{Constants, format_with, layout_with}
 use Rattle.commands.specs.Replies.{IsLineOf, IsOnly, line}
 use Rattle.commands.proofs.reply.line.Goals as goal
 
-only_line : (c : Constants) (value : Datum) (status bits width : ℕ)
-    → IsEncodedBy (format_with c) (layout_with c) bits value
-    → ((other : ℕ) → IsEncodedBy (format_with c) (layout_with c) other value → other ≡ bits) → width ≡ c.bits
-    → IsOnly (IsLineOf c value status) (line bits (width / 4) status)
+only_line : (constants : Constants) (value : Datum) (status bits width : ℕ)
+    → IsEncodedBy (format_with constants) (layout_with constants) bits value
+    → ((other : ℕ) → IsEncodedBy (format_with constants) (layout_with constants) other value → other ≡ bits)
+    → width ≡ constants.bits → IsOnly (IsLineOf constants value status) (line bits (width / 4) status)
 only_line c value status bits width encoded only width_is = record {
   holds = record { bits = bits; is_encoded = encoded; is = ap (λ w. line bits (w / 4) status) width_is };
   only = λ other h.

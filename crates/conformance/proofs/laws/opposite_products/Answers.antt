@@ -8,9 +8,9 @@ use Rattle.rustc_apfloat.specs.Types.{format_of}
 use Rattle.apfloat_base.proofs.Once.{product_once}
 use Rattle.conformance.proofs.laws.opposite_products.Goals as goal
 
-turned_once : (f : Format) (opposite other : Round) (x turned y v w : Datum) (s t : ℕ) → other ≡ opposite
+turned_once : (format : Format) (opposite other : Round) (x turned y value answer : Datum) (s t : ℕ) → other ≡ opposite
     → turned ≡ x
-    → IsProduct f other turned y v s → IsProduct f opposite x y w t → (v ≡ w) × (s ≡ t)
+    → IsProduct format other turned y value s → IsProduct format opposite x y answer t → (value ≡ answer) × (s ≡ t)
 turned_once f opposite other x turned y v w s t m e h k =
     product_once f opposite x y v w s t
     (subst (λ (z : Datum). IsProduct f opposite z y v s) e

@@ -8,7 +8,7 @@ use Rattle.apfloat_unpacked.specs.Stored.{datum_by}
 use Rattle.apfloat_ieee.specs.Types.{shape_of}
 use Rattle.apfloat_ieee.proofs.impls.IeeeFloatFloat.is_negative.Goals as goal
 
-sign_by : (category : Category) (s : Shape) (x : Unpacked) → x.negative ≡ is_negative (datum_by category s x)
+sign_by : (category : Category) (shape : Shape) (x : Unpacked) → x.negative ≡ is_negative (datum_by category shape x)
 sign_by Normal s x = refl
 sign_by Zero s x = refl
 sign_by Infinity s x = refl

@@ -7,8 +7,9 @@ use Rattle.apfloat_unpacked.specs.Shapes.{format_at}
 use Rattle.apfloat_unpacked.specs.Stored.{datum_at}
 use Rattle.apfloat_ieee.proofs.impls.IeeeFloatFloat.smallest_normalized.Goals as goal
 
-of_shape : (datum : Datum) (x : Unpacked) (s t : Shape) → datum ≡ datum_at t x → s ≡ t
-    → datum_at s x ≡ smallest_normalized_datum (format_at s) → datum ≡ smallest_normalized_datum (format_at t)
+of_shape : (datum : Datum) (x : Unpacked) (shape other : Shape) → datum ≡ datum_at other x → shape ≡ other
+    → datum_at shape x ≡ smallest_normalized_datum (format_at shape)
+    → datum ≡ smallest_normalized_datum (format_at other)
 of_shape datum x s t d e h = d ∙ subst (λ (r : Shape). datum_at r x ≡ smallest_normalized_datum (format_at r)) e h
 
 pub returns : goal.returns

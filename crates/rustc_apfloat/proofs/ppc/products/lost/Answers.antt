@@ -1,19 +1,19 @@
-use Rattle.std.proofs.Common.{ℕ, ap, ◌∙◌, subst}
+use Rattle.std.proofs.Common.{ℕ, sym, ap, ◌∙◌, subst}
+use Rattle.std.proofs.Math.Path.{subst₂}
 use Rattle.apfloat_base.specs.formats.Datum.{Datum}
 use Rattle.apfloat_base.specs.rounding.Flags.{bits_of}
 use Rattle.apfloat_base.specs.arithmetic.FusedSums.{IsFusedSum}
 use Rattle.apfloat_pairs.specs.PairFormats.{double}
 use Rattle.apfloat_pairs.specs.PairProducts.{IsLostOfProduct}
 use Rattle.apfloat_pairs.specs.PairSums.{◌∪◌}
-use Rattle.rustc_apfloat.proofs.PairSteps.{answered}
 use Rattle.rustc_apfloat.proofs.ppc.products.lost.Goals as goal
 
 pub returns : goal.returns
 returns c =
     rw (← c.x.view_is)
     (rw (← c.y.view_is)
-    (answered (IsLostOfProduct c.args.round _ _ _ _ c.args.t) _ _ _ _ c.and.ensures.value
-    (ap bits_of c.and.ensures.status)
+    (subst₂ (IsLostOfProduct c.args.round _ _ _ _ c.args.t) (sym c.and.ensures.value)
+    (sym (ap bits_of c.and.ensures.status))
     (record {
       lost = c.mul_add_r-answer.result.value;
       v = c.mul_r-answer.result.value;

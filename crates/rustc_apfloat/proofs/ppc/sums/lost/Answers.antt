@@ -1,17 +1,17 @@
-use Rattle.std.proofs.Common.{ℕ, ap, ◌∙◌, subst}
+use Rattle.std.proofs.Common.{ℕ, sym, ap, ◌∙◌, subst}
+use Rattle.std.proofs.Math.Path.{subst₂}
 use Rattle.apfloat_base.specs.formats.Datum.{Datum}
 use Rattle.apfloat_base.specs.rounding.Flags.{bits_of}
 use Rattle.apfloat_base.specs.arithmetic.Sums.{IsSum}
 use Rattle.apfloat_pairs.specs.PairFormats.{double}
 use Rattle.apfloat_pairs.specs.PairSums.{◌∪◌, IsLost}
-use Rattle.rustc_apfloat.proofs.PairSteps.{answered}
 use Rattle.rustc_apfloat.proofs.ppc.sums.lost.Goals as goal
 
 pub returns : goal.returns
 returns c =
     rw (← c.x.view_is)
     (rw (← c.y.view_is)
-    (answered (IsLost c.args.round _ _ _ _ c.args.z) _ _ _ _ c.and.ensures.value (ap bits_of c.and.ensures.status)
+    (subst₂ (IsLost c.args.round _ _ _ _ c.args.z) (sym c.and.ensures.value) (sym (ap bits_of c.and.ensures.status))
     (record {
       q = c.sub_r-answer.result.value;
       lost_of_c = c.add_r-answer.result.value;

@@ -1,0 +1,19 @@
+-- What a comparison of signed numbers finds.
+use Rattle.std.proofs.Common.{◌≡◌, Bool, true, false, refl, arith, ℤ, ◌≤ℤ◌, ◌<ℤ◌, int_lt}
+use Rattle.std.proofs.lemmas.Int.{ints}
+
+-- a number that is less is found to be less
+pub less_so : (a b : ℤ) → a <ℤ b → int_lt a b ≡ true
+less_so a b h = by (int_lt a b) refl
+  where
+    by : (test : Bool) → int_lt a b ≡ test → test ≡ true
+    by true e = refl
+    by false e = absurd (omega (arith, ints))
+
+-- a number that is not less is found not to be less
+pub less_not : (a b : ℤ) → b ≤ℤ a → int_lt a b ≡ false
+less_not a b h = by (int_lt a b) refl
+  where
+    by : (test : Bool) → int_lt a b ≡ test → test ≡ false
+    by false e = refl
+    by true e = absurd (omega (arith, ints))
