@@ -32,14 +32,14 @@ no_zero false false = refl
 
 -- ---- signs that are the same
 
--- as the language compares them and as the model does
+-- the model compares signs as the language does
 pub same_beq : (left right : Bool) → beq left right ≡ same_sign left right
 same_beq true true = refl
 same_beq true false = refl
 same_beq false true = refl
 same_beq false false = refl
 
--- signs that pass for the same are the same
+-- what passes for the same sign is the same
 pub same_sign_is : (left right : Bool) → same_sign left right ≡ true → left ≡ right
 same_sign_is true true e = refl
 same_sign_is true false e = cc
@@ -51,11 +51,11 @@ pub same_sign_self : (sign : Bool) → same_sign sign sign ≡ true
 same_sign_self true = refl
 same_sign_self false = refl
 
--- and so as the language compares them
+-- truth values that compare as equal are the same
 pub like : (left right : Bool) → beq left right ≡ true → left ≡ right
 like left right e = same_sign_is left right (sym (same_beq left right) ∙ e)
 
--- signs that do not are not
+-- those that compare as different are not
 pub unlike : (left right : Bool) → beq left right ≡ false → left ≡ right → ⊥
 unlike true true e d = absurd (false≢true (sym e))
 unlike false false e d = absurd (false≢true (sym e))
@@ -69,7 +69,7 @@ pub cond_times : (test : Bool) (x y factor : ℕ) → (cond test x y) * factor �
 cond_times true x y factor = refl
 cond_times false x y factor = refl
 
--- what is chosen of a number and the same number is that number
+-- a choice between a number and itself is that number
 pub cond_same : (test : Bool) (x : ℕ) → x ≡ cond test x x
 cond_same true x = refl
 cond_same false x = refl
@@ -105,12 +105,12 @@ pub digit_low : (value : Bool) → cond value 1 0 < 2
 digit_low true = omega arith
 digit_low false = omega arith
 
--- and says whether it is odd
+-- its oddness is the truth value
 pub digit_odd : (value : Bool) → eqb (cond value 1 0 % 2) 1 ≡ value
 digit_odd true = refl
 digit_odd false = refl
 
--- and a number below 2 is the digit of its oddness
+-- a number below 2 is the digit of its own oddness
 pub odd_digit : (n : ℕ) → n < 2 → cond (eqb (n % 2) 1) 1 0 ≡ n
 odd_digit zero h = refl
 odd_digit (suc zero) h = refl
@@ -118,7 +118,7 @@ odd_digit (suc (suc n)) h = absurd (omega arith)
 
 -- ---- a fact chosen by a test
 
--- each of the following chooses one of two facts by a test whose value is known
+-- each of the following: the fact that a test of a known value chooses is proved
 pub match_true : (test : Bool) (P Q : Type 0) → test ≡ true → P → MatchBool test P Q
 match_true true P Q e p = p
 match_true false P Q e p = cc
@@ -127,13 +127,13 @@ pub match_false : (test : Bool) (P Q : Type 0) → test ≡ false → Q → Matc
 match_false true P Q e q = cc
 match_false false P Q e q = q
 
--- what holds of two relations holds of the one that a test chooses, be they of one thing
+-- what holds of two predicates holds of the one that a test chooses
 pub match_one : {A : Type 0} (Holds : (A → Type 0) → Type 0) (test : Bool) (P Q : A → Type 0) → Holds P → Holds Q
     → Holds (λ a. MatchBool test (P a) (Q a))
 match_one Holds true P Q p q = p
 match_one Holds false P Q p q = q
 
--- or of two
+-- and so for relations of two things
 pub match_case : {A B : Type 0} (Holds : (A → B → Type 0) → Type 0) (test : Bool) (P Q : A → B → Type 0) → Holds P
     → Holds Q → Holds (λ a b. MatchBool test (P a b) (Q a b))
 match_case Holds true P Q p q = p

@@ -52,11 +52,11 @@ gives_once {A} Says once r s h k =
 
 -- ---- exponents, fractions, exact inverses
 
--- what is given determines an answer that it is
+-- at most one thing is the given one
 is_once : {A : Type 0} (given : A) → Determines (λ (answer : A). answer ≡ given)
 is_once given a b h k = h ∙ sym k
 
--- and so do two things that are given
+-- at most one pair is the given pair
 are_once : {A B : Type 0} (given : A) (other : B)
     → DeterminesBoth (λ (first : A) (second : B). (first ≡ given) × (second ≡ other))
 are_once given other a c b d h k = (h.0 ∙ sym k.0, h.1 ∙ sym k.1)

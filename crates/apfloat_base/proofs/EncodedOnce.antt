@@ -86,7 +86,7 @@ module _ (format : Format) (layout : Layout) (precise : 3 ≤ format.precision) 
     width_is : trailing_bits format ≡ format.precision - 1
     width_is = rw implied refl
 
-    -- the fields of a number are those that it is read from
+    -- a number that is read from fields has those fields
     number_fields : (negative : Bool) (e t : ℕ) → t < smallest_normalized format
         → fields_by format layout (implied_number format (fields_with negative e t)) ≡ fields_with negative e t
     number_fields b e t low =
@@ -100,7 +100,7 @@ module _ (format : Format) (layout : Layout) (precise : 3 ≤ format.precision) 
         rw (ne_eqb e 0 n) (rw (c, d) at h))
         (cases_eq e 0)
 
-    -- and so are those of any datum
+    -- and so has any datum
     implied_fields : (kind : NonfiniteBehavior) (negative : Bool) (e t : ℕ) → format.nonfinite ≡ kind
         → t < smallest_normalized format
         → fields_by format layout (implied_datum kind format layout (fields_with negative e t))
@@ -151,7 +151,7 @@ module _ (format : Format) (layout : Layout) (precise : 3 ≤ format.precision) 
         ≡ fields_with negative (all_ones layout.exponent_bits) s
     nan_fields b s = rw kind refl
 
-    -- the fields of a datum are those that it is read from, where they are canonical
+    -- a datum that is read from canonical fields has those fields
     written_fields : (negative : Bool) (e t : ℕ) → t < 2 ^ format.precision
         → IsTrue (is_canonical_written format layout (fields_with negative e t))
         → fields_by format layout (written_datum format layout (fields_with negative e t)) ≡ fields_with negative e t
@@ -172,7 +172,7 @@ module _ (format : Format) (layout : Layout) (precise : 3 ≤ format.precision) 
         rw q (number_by b e t high c))
         (cases_eq e (all_ones layout.exponent_bits))
       where
-        -- below the greatest exponent they are those of a number
+        -- and so has a number, below the greatest exponent
         number_by : (negative : Bool) (e t : ℕ) → t < 2 ^ format.precision
             → IsTrue (cond (eqb e 0) (ltb t (smallest_normalized format)) (leb (smallest_normalized format) t))
             → fields_by format layout (written_number format (fields_with negative e t)) ≡ fields_with negative e t

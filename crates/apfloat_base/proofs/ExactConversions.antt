@@ -1,29 +1,17 @@
 -- A finite datum whose number is one of the other format too comes through as it is.
-use Rattle.std.proofs.Common.{◌≡◌, ℕ, Bool, false, not, eqb, zero, suc, ◌*◌, ◌^◌, ◌<◌, refl, sym, ap, ◌∙◌, arith}
+use Rattle.std.proofs.Common.{◌≡◌, ℕ, Bool, false, not, eqb, zero, suc, ◌*◌, ◌^◌, ◌<◌, sym, ap, ◌∙◌, arith}
 use Rattle.std.proofs.lemmas.Bool.{ne_eqb}
 use Rattle.std.proofs.lemmas.Nat.{pow_pos}
-use Rattle.std.proofs.Math.Nat.{mul-pos}
 use Rattle.apfloat_base.specs.declared.kinds.Round.{Round}
 use Rattle.apfloat_base.specs.formats.Format.{Format}
 use Rattle.apfloat_base.specs.formats.Datum.{Datum, finite, infinite, nan}
 use Rattle.apfloat_base.specs.rounding.Rounding.{ok_bits, zero_sign, signed_quanta}
 use Rattle.apfloat_base.specs.formats.Members.{IsFiniteOf}
 use Rattle.apfloat_base.specs.arithmetic.Conversions.{IsConversion, IsConverted, IsConvertedNumber, IsExactlyConverted, loses_zero_sign, IsKept}
+use Rattle.apfloat_base.proofs.Powers.{both_above_zero, both_zero}
 use Rattle.apfloat_base.proofs.Deliveries.{signed_some}
 use Rattle.apfloat_base.proofs.Laws.{exact_delivered, delivered_once}
 use Rattle.apfloat_base.proofs.Choices.{same_sign_self}
-
--- a number that is the same as one other than zero is not zero
-pub both_some : (m n p q : ℕ) → n * 2 ^ p ≡ m * 2 ^ q → 0 < m → 0 < n
-both_some m zero p q e l =
-    let a : 0 < m * 2 ^ q = mul-pos l (pow_pos q) in
-    absurd (omega arith)
-both_some m (suc n) p q e l = omega arith
-
--- and a number that is the same as zero is zero
-no_quanta : (n p q : ℕ) → n * 2 ^ p ≡ 0 * 2 ^ q → n ≡ 0
-no_quanta zero p q e = refl
-no_quanta (suc n) p q e = absurd (omega (arith, both_some (suc n) 0 q p (sym e) (omega arith)))
 
 -- a number that both formats have
 number_exactly : (from into : Format) (mode : Round) (negative : Bool) (m n : ℕ) (value : Datum) (status : ℕ)
@@ -36,7 +24,7 @@ number_exactly from into mode b m n value status loses_info l e t h =
     let o = delivered_once into mode b (m * 2 ^ into.scale)
     (2 ^ from.scale) value (signed_quanta into.nonfinite b n) status
     ok_bits h.is_delivered d in
-    let p : 0 < n = both_some m n from.scale into.scale e l in
+    let p : 0 < n = both_above_zero m n from.scale into.scale e l in
     record {
       value_is = o.0 ∙ signed_some into.nonfinite b n p;
       status_is = o.1;
@@ -64,7 +52,7 @@ pub exactly_converted : (from into : Format) (mode : Round) (x value : Datum) (s
 exactly_converted from into mode (nan b s) value status loses_info h = tt
 exactly_converted from into mode (infinite b) value status loses_info h = tt
 exactly_converted from into mode (finite b zero) value status loses_info h = λ n e t.
-    let z = no_quanta n from.scale into.scale e in
+    let z = both_zero n from.scale into.scale e in
     rw z (zero_exactly into b value status loses_info (t.zero_has z) h)
 exactly_converted from into mode (finite b (suc m)) value status loses_info h = λ n e t.
     let k : eqb (suc m) 0 ≡ false = ne_eqb (suc m) 0 (λ z. absurd (omega (arith, z))) in

@@ -7,7 +7,7 @@ use Rattle.apfloat_base.specs.rounding.Standing.{StandsFor}
 use Rattle.apfloat_base.proofs.KeptDigits.{stands_cancel, stands_times}
 use Rattle.apfloat_base.proofs.Powers.{pow3, pow4, pow22, two_pos}
 
--- significands and powers, each put together
+-- the significands and the powers of a product, each grouped together
 regroup_product : (sx sy pui puj pd : ℕ) → (sx * pui) * (sy * puj) * pd ≡ sx * sy * (pui * puj * pd)
 regroup_product sx sy pui puj pd = omega arith
 

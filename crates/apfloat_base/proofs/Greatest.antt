@@ -7,7 +7,7 @@ use Rattle.apfloat_base.specs.declared.kinds.NonfiniteBehavior.TheVariants.{IEEE
 use Rattle.apfloat_base.specs.formats.Format.{greatest_significand}
 use Rattle.apfloat_base.proofs.Powers.{two_pos, twice_half}
 
--- it is below the power of two of its precision
+-- the greatest significand has no more digits than the precision
 pub greatest_fits : (kind : NonfiniteBehavior) (precision : ℕ) → greatest_significand kind precision < 2 ^ precision
 greatest_fits IEEE754 precision = let p : 0 < 2 ^ precision = pow_pos precision in omega arith
 greatest_fits NanOnly precision = let p : 0 < 2 ^ precision = pow_pos precision in omega arith

@@ -48,7 +48,7 @@ stands_cancel s MoreThanHalf amount unit w p h =
     let a = h.0 in let b = h.1 in
     (lt_of_mul-lt-mul_right w (omega (arith, a)), lt_of_mul-lt-mul_right w (omega (arith, b)))
 
--- and so does a factor that both get
+-- and so does one that both are multiplied by
 pub stands_times : (s : ℕ) (loss : Loss) (amount unit w : ℕ) → 0 < w → StandsFor s loss amount unit
     → StandsFor s loss (amount * w) (unit * w)
 stands_times s ExactlyZero amount unit w p h = let e : amount * w ≡ s * unit * w = ap (λ (x : ℕ). x * w) h in
@@ -255,7 +255,7 @@ zero_kept precision s up down loss amount parts p u z e h =
     subst (λ (x : Loss). StandsFor 0 x amount (2 ^ 0 * parts)) (sym e) g in
     (enclosed_from precision 0 0 loss amount parts p u (pow_pos precision) (inl refl) g', g')
 
--- of three cases, the only one left is that nothing was lost
+-- nothing was lost, where the two other cases are excluded
 nothing_lost : (loss : Loss) (P Q : Type 0) → (loss ≡ ExactlyZero) ⊎ (P ⊎ Q) → (P → ⊥) → (Q → ⊥)
     → loss ≡ ExactlyZero
 nothing_lost loss P Q h n m = ⊎_elim (λ z. z) (λ o. absurd (⊎_elim n m o)) h

@@ -1,12 +1,11 @@
 -- The binary logarithm of a number that is not 0, rounded down.
-use Rattle.std.proofs.Common.{◌≡◌, ℕ, ◌+◌, ◌-◌, ◌*◌, ◌^◌, ◌<◌, ◌≤◌, suc, ⊎_elim, arith}
+use Rattle.std.proofs.Common.{◌≡◌, ℕ, ◌+◌, ◌-◌, ◌*◌, ◌^◌, ◌<◌, ◌≤◌, ⊎_elim, arith}
 use Rattle.std.specs.Int.Count.{count_leading_zeros}
 use Rattle.std.proofs.lemmas.Nat.{leading_top, pow_pos}
 use Rattle.std.proofs.lemmas.Bool.{cases_order}
 use Rattle.std.proofs.Math.Nat.{two-pow-succ}
-use Rattle.std.proofs.Math.Pow.{pow_mono}
 use Rattle.apfloat_base.specs.formats.Log.{log2}
-use Rattle.apfloat_base.proofs.Powers.{below_power}
+use Rattle.apfloat_base.proofs.Powers.{below_power, half_at_most}
 
 -- a number is at least the power of its logarithm, and below twice that power
 pub log2_bounds : (n : ℕ) → 0 < n → (2 ^ log2 n ≤ n) × (n < 2 * 2 ^ log2 n)
@@ -16,10 +15,6 @@ log2_bounds n h =
     let e : n - (count_leading_zeros n n + 1) ≡ t.0 = omega (arith, t.1) in
     rw e (t.2, omega (arith, t.3, two-pow-succ t.0))
 
--- a lower power of two is at most half of a higher one
-lower : (j k : ℕ) → j < k → 2 * 2 ^ j ≤ 2 ^ k
-lower j k h = let m : 2 ^ suc j ≤ 2 ^ k = pow_mono (omega arith) in omega (arith, two-pow-succ j)
-
 -- only one power of two begins where a number does
 pub log2_is : (n k : ℕ) → 2 ^ k ≤ n → n < 2 * 2 ^ k → log2 n ≡ k
 log2_is n k low high =
@@ -27,6 +22,6 @@ log2_is n k low high =
     ⊎_elim
     (λ (p : log2 n ≡ k). p)
     (⊎_elim
-    (λ (p : log2 n < k). absurd (omega (arith, lower (log2 n) k p, b)))
-    (λ (p : k < log2 n). absurd (omega (arith, lower k (log2 n) p, b))))
+    (λ (p : log2 n < k). absurd (omega (arith, half_at_most (log2 n) k p, b)))
+    (λ (p : k < log2 n). absurd (omega (arith, half_at_most k (log2 n) p, b))))
     (cases_order (log2 n) k)

@@ -1,6 +1,6 @@
 -- Powers of two: products of them, and their exponents.
-use Rattle.std.proofs.Common.{◌≡◌, ℕ, zero, suc, ◌+◌, ◌-◌, ◌*◌, ◌^◌, ◌<◌, ◌≤◌, ap, ◌∙◌, ⊎_elim, arith, lit<}
-use Rattle.std.proofs.Math.Nat.{pow-le-pow_right, two-pow-succ}
+use Rattle.std.proofs.Common.{◌≡◌, ℕ, zero, suc, ◌+◌, ◌-◌, ◌*◌, ◌^◌, ◌<◌, ◌≤◌, refl, sym, ap, ◌∙◌, ⊎_elim, arith, lit<}
+use Rattle.std.proofs.Math.Nat.{pow-le-pow_right, two-pow-succ, mul-pos}
 use Rattle.std.proofs.lemmas.Nat.{pow-add, pow_pos}
 use Rattle.std.proofs.lemmas.Bool.{cases_lt}
 
@@ -23,15 +23,18 @@ pow4 a b c d = pow-add 2 (a + b + c) d ∙ ap (λ (x : ℕ). x * 2 ^ d) (pow3 a 
 pub twice_power : (n : ℕ) → 2 ^ (n + 1) ≡ 2 * 2 ^ n
 twice_power n = let e : 2 ^ (n + 1) ≡ 2 ^ n * 2 = pow-add 2 n 1 in omega arith
 
+-- a lower power of two is at most half of a higher one
+pub half_at_most : (a b : ℕ) → a < b → 2 * 2 ^ a ≤ 2 ^ b
+half_at_most a b h =
+    let k : 2 ^ (a + 1) ≤ 2 ^ b = pow-le-pow_right two_pos (omega arith) in
+    let t : 2 ^ (a + 1) ≡ 2 * 2 ^ a = twice_power a in
+    omega arith
+
 -- a power that is no greater has no greater exponent
 pub exponent_at_most : (a b : ℕ) → 2 ^ a ≤ 2 ^ b → a ≤ b
 exponent_at_most a b h =
     ⊎_elim
-    (λ (c : b < a).
-    let k : 2 ^ (b + 1) ≤ 2 ^ a = pow-le-pow_right two_pos (omega arith) in
-    let t : 2 ^ (b + 1) ≡ 2 * 2 ^ b = twice_power b in
-    let p : 0 < 2 ^ b = pow_pos b in
-    absurd (omega arith))
+    (λ (c : b < a). absurd (omega (arith, h, half_at_most b a c, pow_pos b)))
     (λ (c : a ≤ b). c)
     (cases_lt b a)
 
@@ -43,12 +46,12 @@ exponent_below a b h =
     (λ (c : b ≤ a). let k : 2 ^ b ≤ 2 ^ a = pow-le-pow_right two_pos c in absurd (omega arith))
     (cases_lt a b)
 
--- a number is below the power of two that it is the exponent of
+-- a number is below the power of two whose exponent it is
 pub below_power : (n : ℕ) → n < 2 ^ n
 below_power zero = omega arith
 below_power (suc n) = omega (arith, below_power n, two-pow-succ n)
 
--- half of a power, twice
+-- twice half a power of two is that power
 pub twice_half : (places : ℕ) → 0 < places → 2 * 2 ^ (places - 1) ≡ 2 ^ places
 twice_half places h =
     let e : (places - 1) + 1 ≡ places = omega arith in
@@ -56,9 +59,25 @@ twice_half places h =
     let v : 2 ^ ((places - 1) + 1) ≡ 2 ^ places = ap (λ (x : ℕ). 2 ^ x) e in
     omega arith
 
--- half of what three digits or more make is 4 or more
+-- half the power of three digits or more is at least 4
 pub four : (precision : ℕ) → 3 ≤ precision → 4 ≤ 2 ^ (precision - 1)
 four precision h =
     let l : 2 ≤ precision - 1 = omega arith in
     let k : 2 ^ 2 ≤ 2 ^ (precision - 1) = pow-le-pow_right two_pos l in
     k
+
+-- where a number is at least 2 ^ a and below 2 ^ (b + 1), a is at most b
+pub exponent_between : (n a b : ℕ) → 2 ^ a ≤ n → n < 2 ^ (b + 1) → a ≤ b
+exponent_between n a b l h = let e = exponent_below a (b + 1) (omega arith) in omega arith
+
+-- a multiple of a power of two that equals one above 0 is above 0
+pub both_above_zero : (m n p q : ℕ) → n * 2 ^ p ≡ m * 2 ^ q → 0 < m → 0 < n
+both_above_zero m zero p q e l =
+    let a : 0 < m * 2 ^ q = mul-pos l (pow_pos q) in
+    absurd (omega arith)
+both_above_zero m (suc n) p q e l = omega arith
+
+-- and one that equals 0 is 0
+pub both_zero : (n p q : ℕ) → n * 2 ^ p ≡ 0 * 2 ^ q → n ≡ 0
+both_zero zero p q e = refl
+both_zero (suc n) p q e = absurd (omega (arith, both_above_zero (suc n) 0 q p (sym e) (omega arith)))

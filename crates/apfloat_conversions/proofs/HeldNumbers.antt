@@ -11,11 +11,10 @@ use Rattle.apfloat_base.specs.formats.Format.{Format, largest, greatest_signific
 use Rattle.apfloat_base.specs.formats.Members.{IsFiniteOf}
 use Rattle.apfloat_base.specs.rounding.Rounding.{ok_bits}
 use Rattle.apfloat_base.proofs.Deliveries.{signed_some}
-use Rattle.apfloat_base.proofs.ExactConversions.{both_some}
 use Rattle.apfloat_base.proofs.Greatest.{greatest_fits, greatest_full}
 use Rattle.apfloat_base.proofs.KeptDigits.{fits_shifted, full_shifted}
 use Rattle.apfloat_base.proofs.Laws.{exact_delivered}
-use Rattle.apfloat_base.proofs.Powers.{pow3, two_pos}
+use Rattle.apfloat_base.proofs.Powers.{both_above_zero, both_above_zero, pow3, two_pos}
 use Rattle.apfloat_base.proofs.SingleScalings.{scaled_stands}
 use Rattle.apfloat_base.proofs.Totals.{no_down}
 use Rattle.apfloat_unpacked.specs.declared.shape.Shape.{Shape}
@@ -235,7 +234,7 @@ pub same_converted : (from into : Format) (mode : Round) (negative : Bool) (a b 
     → status ≡ ok_bits
     → IsConvertedNumber from into mode negative a value status false
 same_converted from into mode negative a b v status p e d t s =
-    let o : 0 < b = both_some a b from.scale into.scale (sym e) p in
+    let o : 0 < b = both_above_zero a b from.scale into.scale (sym e) p in
     record {
       is_delivered = rw (d, s, ← signed_some into.nonfinite negative b o)
           (exact_delivered into mode negative b (a * 2 ^ into.scale) (2 ^ from.scale) (pow_pos from.scale) t.on_grid

@@ -19,6 +19,7 @@ not_below n = less_not (pos n) (pos 0) (omega (arith, ints))
 
 -- ---- in
 
+-- a number from 0 on is converted as an unsigned one
 pub pair_signed_above : (mode : Round) (n : ℕ) (answer : Pair) (status : ℕ) → IsPairFromUnsigned mode n answer status
     → IsPairFromSigned mode (pos n) answer status
 pair_signed_above mode n answer status h =
@@ -26,6 +27,7 @@ pair_signed_above mode n answer status h =
     match_false (int_lt (pos n) (pos 0)) (IsPairFromNegative mode n answer status)
     (IsPairFromUnsigned mode n answer status) e h
 
+-- a negative number is the negation of its magnitude, converted in the swapped mode
 pub pair_signed_below : (mode : Round) (n : ℕ) (answer : Pair) (status : ℕ) → 0 < n
     → IsPairFromUnsigned (swapped mode) n answer status
     → IsPairFromSigned mode (neg_ℤ (pos n)) (negated_pair answer) status
@@ -35,6 +37,7 @@ pair_signed_below mode (suc n) answer status p h =
 
 -- ---- out
 
+-- without a minus sign, the result is the unsigned one at a width of one bit less
 pub pair_to_signed_above : (mode : Round) (width : ℕ) (x : Pair) (number status : ℕ) (is_exact : Bool)
     → is_negative x.high ≡ false → IsPairToUnsigned mode (width - 1) x number status is_exact
     → IsPairToSigned mode width x (pos number) status is_exact
@@ -43,6 +46,7 @@ pair_to_signed_above mode width x number status is_exact e h =
     (IsPairToNatural mode (width - 1) x (pos number) status is_exact) e
     (record { magnitude = number; is_magnitude = h; is = refl })
 
+-- with one, it is the negation of the magnitude, which is taken in the swapped mode
 pub pair_to_signed_below : (mode : Round) (width : ℕ) (x : Pair) (number flags : ℕ) (exact : Bool) (answer : ℤ)
     (status : ℕ) (is_exact : Bool) → is_negative x.high ≡ true
     → IsPairToUnsigned (swapped mode) width (negated_pair x) number flags exact

@@ -26,6 +26,7 @@ use Rattle.apfloat_pairs.proofs.ClosingSums.{wide_enough}
 use Rattle.apfloat_pairs.proofs.WholeProducts.{product_error_on_grid}
 use Rattle.apfloat_pairs.proofs.Normalised.{rounded_exactly}
 use Rattle.apfloat_pairs.proofs.Roundings.{finite_is, signed_not, negated_is, IsRoundedTo}
+use Rattle.apfloat_pairs.proofs.ProductAnswers.{finite_number}
 use Rattle.apfloat_pairs.proofs.SplitLaws.{delivered_whole, high_rounded_to, number_converted, wide_number}
 
 -- the steps
@@ -45,6 +46,7 @@ pub record IsRestBySteps (x high low : Datum) (status : ℕ) : Type 0 where
 
 -- ---- a double is a wide number
 
+-- the grid of doubles is within that of the wide format
 more_digits : (n : ℕ) → IsOnGrid double.precision n → IsOnGrid wide.precision n
 more_digits n g = let powers : 2 ^ double.precision ≤ 2 ^ wide.precision = lit≤ tt in record {
   significand = g.significand;
@@ -54,8 +56,8 @@ more_digits n g = let powers : 2 ^ double.precision ≤ 2 ^ wide.precision = lit
 }
 
 -- a double in the wide format is the same datum
-widened_same : (b : Bool) (n : ℕ) (value : Datum) → IsFiniteOf double b n → IsWidened (finite b n) value
-    → value ≡ finite b n
+widened_same : (negative : Bool) (n : ℕ) (value : Datum) → IsFiniteOf double negative n
+    → IsWidened (finite negative n) value → value ≡ finite negative n
 widened_same b n value m w =
     let t : IsFiniteOf wide b n = record {
       on_grid = more_digits n m.on_grid;
@@ -68,17 +70,20 @@ widened_same b n value m w =
 
 -- ---- the difference
 
-no_zero_sign : (b : Bool) → zero_sum_sign NearestTiesToEven b (not b) ≡ false
+-- an exact difference of two numbers of one sign is +0 where it is zero
+no_zero_sign : (negative : Bool) → zero_sum_sign NearestTiesToEven negative (not negative) ≡ false
 no_zero_sign true = refl
 no_zero_sign false = refl
 
-plus_negated : (b : Bool) (m n : ℕ) → (signed b m +ℤ signed (not b) n) ≡ (signed b m -ℤ signed b n)
+-- adding the number with the other sign subtracts it
+plus_negated : (negative : Bool) (m n : ℕ)
+    → (signed negative m +ℤ signed (not negative) n) ≡ (signed negative m -ℤ signed negative n)
 plus_negated b m n = let e = signed_not b n in omega (arith, ints, e)
 
 -- the difference of numbers of one sign is rounded once
-difference_rounded : (b : Bool) (m n : ℕ) (value : Datum) (status : ℕ)
-    → IsDifference wide NearestTiesToEven (finite b m) (finite b n) value status
-    → IsRounded wide NearestTiesToEven false (signed b m -ℤ signed b n) 1 value status
+difference_rounded : (negative : Bool) (m n : ℕ) (value : Datum) (status : ℕ)
+    → IsDifference wide NearestTiesToEven (finite negative m) (finite negative n) value status
+    → IsRounded wide NearestTiesToEven false (signed negative m -ℤ signed negative n) 1 value status
 difference_rounded b m n value status d =
     let s : IsSum wide NearestTiesToEven (finite b m) (finite (not b) n) value status =
     subst (λ (i : Datum). IsSum wide NearestTiesToEven (finite b m) i value status) (negated_is b n) d in
@@ -88,10 +93,11 @@ difference_rounded b m n value status d =
     (plus_negated b m n) s)
 
 -- a difference that the wide format has is exact
-difference_exactly : (b : Bool) (m n : ℕ) (value : Datum) (status : ℕ)
-    → IsGridNumber wide.precision (signed b m -ℤ signed b n) → magnitude (signed b m -ℤ signed b n) ≤ largest wide
-    → IsDifference wide NearestTiesToEven (finite b m) (finite b n) value status
-    → value ≡ left_over (finite b m) (finite b n)
+difference_exactly : (negative : Bool) (m n : ℕ) (value : Datum) (status : ℕ)
+    → IsGridNumber wide.precision (signed negative m -ℤ signed negative n)
+    → magnitude (signed negative m -ℤ signed negative n) ≤ largest wide
+    → IsDifference wide NearestTiesToEven (finite negative m) (finite negative n) value status
+    → value ≡ left_over (finite negative m) (finite negative n)
 difference_exactly b m n value status g l d =
     let e = signed b m -ℤ signed b n in
     (delivered_once wide NearestTiesToEven (sign_of false (signed b m -ℤ signed b n))
@@ -102,16 +108,17 @@ difference_exactly b m n value status g l d =
 -- ---- what the high part leaves is a double
 
 -- on the grid of doubles, and within their range
-record IsSmallRest (b : Bool) (m n : ℕ) : Type 0 where
-  on_grid : IsGridNumber double.precision (signed b m -ℤ signed b n)
-  within : magnitude (signed b m -ℤ signed b n) ≤ largest double
+record IsSmallRest (negative : Bool) (m n : ℕ) : Type 0 where
+  on_grid : IsGridNumber double.precision (signed negative m -ℤ signed negative n)
+  within : magnitude (signed negative m -ℤ signed negative n) ≤ largest double
 
+-- an eighth of a wide number is within the largest double
 eighth_within : (e m l w : ℕ) → 8 * e ≤ m → m ≤ w → w ≤ 8 * l → e ≤ l
 eighth_within e m l w h k i = omega arith
 
 -- what is left over has few enough digits for a double
-small_rest : (b : Bool) (m n : ℕ) → IsFiniteOf wide b m → IsRoundedTo double.precision (signed b m) (finite b n)
-    → IsSmallRest b m n
+small_rest : (negative : Bool) (m n : ℕ) → IsFiniteOf wide negative m
+    → IsRoundedTo double.precision (signed negative m) (finite negative n) → IsSmallRest negative m n
 small_rest b m n t r =
     let v = magnitude-sub (signed b n) (signed b m) in
     let o = product_error_on_grid double.precision wide_enough 0 (signed b m) (pos 1) (signed b m) (signed b n)
@@ -124,11 +131,11 @@ small_rest b m n t r =
     }
 
 -- so it comes through both steps as it is
-rest_exactly : (b : Bool) (m n : ℕ) (rest low : Datum) (rest_status low_status : ℕ) (loses_info : Bool)
-    → IsSmallRest b m n
-    → IsDifference wide NearestTiesToEven (finite b m) (finite b n) rest rest_status
+rest_exactly : (negative : Bool) (m n : ℕ) (rest low : Datum) (rest_status low_status : ℕ) (loses_info : Bool)
+    → IsSmallRest negative m n
+    → IsDifference wide NearestTiesToEven (finite negative m) (finite negative n) rest rest_status
     → IsConversion wide double NearestTiesToEven rest low low_status loses_info
-    → low ≡ left_over (finite b m) (finite b n)
+    → low ≡ left_over (finite negative m) (finite negative n)
 rest_exactly b m n rest low rest_status low_status loses_info s d c =
     let e = difference_exactly b m n rest rest_status (more_digits _ s.on_grid) (le_trans s.within (lit≤ tt)) d in
     let c' = subst (λ (i : Datum). IsConversion wide double NearestTiesToEven i low low_status loses_info) e c in
@@ -139,14 +146,9 @@ rest_exactly b m n rest low rest_status low_status loses_info s d c =
 
 -- ---- the high part is finite, and so is the wide number
 
-finite_high : (x high low : Datum) (status : ℕ) → is_finite_non_zero high ≡ true → is_finite high ≡ true
-finite_high x (finite c n) low status f = refl
-finite_high x (infinite c) low status f = f
-finite_high x (nan c s) low status f = f
-
 -- for a number other than 0
-some_rest : (b : Bool) (m : ℕ) (high low : Datum) (status : ℕ) → 0 < m → is_finite high ≡ true
-    → IsRestBySteps (finite b m) high low status → low ≡ left_over (finite b m) high
+some_rest : (negative : Bool) (m : ℕ) (high low : Datum) (status : ℕ) → 0 < m → is_finite high ≡ true
+    → IsRestBySteps (finite negative m) high low status → low ≡ left_over (finite negative m) high
 some_rest b m high low status p f s =
     let k = number_converted b m high status s.loses_info p s.high_is in
     let w = delivered_whole double b m (2 ^ double.scale) high status (pow_pos double.scale) k.is_delivered in
@@ -169,7 +171,7 @@ pub rest_by_steps : (x high low : Datum) (status : ℕ) → is_finite_non_zero h
 rest_by_steps (finite b zero) high low status f s =
     absurd (false≢true (ap is_finite_non_zero (sym s.high_is.value_is) ∙ f))
 rest_by_steps (finite b (suc m)) high low status f s =
-    some_rest b (suc m) high low status (omega arith) (finite_high (finite b (suc m)) high low status f) s
+    some_rest b (suc m) high low status (omega arith) (finite_number high f) s
 rest_by_steps (infinite b) high low status f s =
     absurd (false≢true (ap is_finite_non_zero (sym s.high_is.value_is) ∙ f))
 rest_by_steps (nan b q) high low status f s =
