@@ -28,8 +28,9 @@ denormal_by_sum x sum status s =
     (nearest_sum_at x.high x.low sum status s)
 
 -- where the pair is a number, the sum of its parts decides
-by_category : (b t : Bool) (x : Pair) → ((a : Bool) → a ≡ t → IsDenormalByParts x a)
-    → MatchBool b (IsDenormalByParts x (b && t)) ((b && t) ≡ false)
+by_category : (is_number denormal : Bool) (x : Pair)
+    → ((answer : Bool) → answer ≡ denormal → IsDenormalByParts x answer)
+    → MatchBool is_number (IsDenormalByParts x (is_number && denormal)) ((is_number && denormal) ≡ false)
 by_category true t x f = f t refl
 by_category false t x f = refl
 

@@ -23,6 +23,7 @@ exact_answer_of_two call x y answer status a = record {
   exactly = exact_split a.is_answer.value answer a.is_answer.is_split;
 }
 
+-- so quotients and both remainders add up exactly
 pub exact_quotient : (mode : Round) (x y answer : Pair) (status : ℕ) → IsPairQuotient mode x y answer status
     → IsExactQuotient mode x y answer status
 exact_quotient mode x y answer status a = exact_answer_of_two (IsQuotient wide mode) x y answer status a

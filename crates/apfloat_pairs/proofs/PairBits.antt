@@ -14,9 +14,11 @@ use Rattle.apfloat_pairs.specs.PairFormats.{double}
 use Rattle.apfloat_pairs.specs.Pairs.{Pair, pair_of, IsPairEncodedBy}
 use Rattle.apfloat_pairs.proofs.PairsOnce.{parts_same}
 
+-- the double is a lawful format
 pub double_is_lawful : IsLawful double_constants
 double_is_lawful = lawful_from_test double_constants refl
 
+-- so its bits are those of an interchange format
 pub double_interchange : IsInterchange double (layout_with double_constants)
 double_interchange = lawful_interchange double_constants double_is_lawful (lit< tt)
 
@@ -39,10 +41,12 @@ mod-mod n j k =
 field-mod : (n i j k : ℕ) → n % 2 ^ (i + j + k) / 2 ^ k % 2 ^ j ≡ n / 2 ^ k % 2 ^ j
 field-mod n i j k = ap (λ (m : ℕ). m % 2 ^ j) (field_of n (i + j) k) ∙ mod-mod (n / 2 ^ k) i j
 
+-- the lower half of two halves is the first one
 lower_half : (k h l : ℕ) → h < 2 ^ k → (h + 2 ^ k * l) % 2 ^ k ≡ h
 lower_half k h l b =
     let e : h + 2 ^ k * l ≡ l * 2 ^ k + h = omega arith in ap (λ (i : ℕ). i % 2 ^ k) e ∙ mod_low l k h b
 
+-- and the upper half the second one
 upper_half : (k h l : ℕ) → h < 2 ^ k → (h + 2 ^ k * l) / 2 ^ k ≡ l
 upper_half k h l b =
     let e : h + 2 ^ k * l ≡ l * 2 ^ k + h = omega arith in ap (λ (i : ℕ). i / 2 ^ k) e ∙ shr_high l k h b
@@ -55,6 +59,7 @@ both_below k h l a b =
     let q : l * 2 ^ k + h < 2 ^ k * 2 ^ k = mul-add-lt l (2 ^ k) h (2 ^ k) b a in
     omega arith
 
+-- a number is its two halves
 halves_joined : (k n : ℕ) → n ≡ n % 2 ^ k + 2 ^ k * (n / 2 ^ k)
 halves_joined k n = let e : n / 2 ^ k * 2 ^ k + n % 2 ^ k ≡ n = shr_split n k in omega arith
 
@@ -71,10 +76,13 @@ joined_bits h l a b = or_halves 64 h l a b
 
 -- ---- a double does not look at bits above its own
 
-same_fields : (b c : Bool) (e g t u : ℕ) → b ≡ c → e ≡ g → t ≡ u → fields_with b e t ≡ fields_with c g u
+-- equal parts make equal fields
+same_fields : (negative other : Bool) (e g t u : ℕ) → negative ≡ other → e ≡ g → t ≡ u
+    → fields_with negative e t ≡ fields_with other g u
 same_fields b c e g t u p q r =
     ap (λ (i : Bool). fields_with i e t) p ∙ ap (λ (i : ℕ). fields_with c i t) q ∙ ap (λ (i : ℕ). fields_with c g i) r
 
+-- the fields of a double are in its lower 64 bits
 lower_fields : (bits : ℕ)
     → fields_of double (layout_with double_constants) (bits % 2 ^ 64)
     ≡ fields_of double (layout_with double_constants) bits

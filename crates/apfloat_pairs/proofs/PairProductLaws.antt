@@ -40,6 +40,7 @@ none_left p u v e q w h l =
     let d : 2 * v ≤ 1 = le_of_mul-le-mul_right c w in
     omega arith
 
+-- only 0 has the magnitude 0
 nothing : (v : ℤ) → magnitude v ≡ 0 → v ≡ pos 0
 nothing v h = omega (arith, ints, h)
 
@@ -70,19 +71,23 @@ exact_steps precision wide scale a c x ad bc t tau w za zb nt l =
     let et = nearest_exact precision (x -ℤ t) tau o (subst (λ (i : ℤ). IsNearest precision i tau) q l.tau_is) in
     omega (arith, ints, et)
 
+-- a product with 0 has the magnitude 0
 no_product : (m n : ℤ) → n ≡ pos 0 → magnitude (m *ℤ n) ≡ 0
 no_product m n e =
     let z : magnitude m * magnitude n ≡ magnitude m * 0 = ap (λ (i : ℤ). magnitude m * magnitude i) e in
     magnitude-mul m n ∙ z ∙ omega arith
 
+-- also where the first factor is 0
 no_product_first : (m n : ℤ) → m ≡ pos 0 → magnitude (m *ℤ n) ≡ 0
 no_product_first m n e =
     let z : magnitude m * magnitude n ≡ 0 * magnitude n = ap (λ (i : ℤ). magnitude i * magnitude n) e in
     magnitude-mul m n ∙ z ∙ omega arith
 
+-- adding 0 changes nothing
 high_alone : (a b : ℤ) → b ≡ pos 0 → a ≡ (a +ℤ b)
 high_alone a b e = omega (arith, ints, e)
 
+-- a low part that is 0 is within every bound
 no_low : (z : ℤ) (n : ℕ) → z ≡ pos 0 → 64 * magnitude z ≤ n
 no_low z n e = let m : magnitude z ≡ 0 = ap magnitude e in omega (arith, m)
 
@@ -119,6 +124,7 @@ alone_product x y answer status k s t e =
           ap (λ (i : ℤ). pair_number x *ℤ i) (high_alone (number y.high) (number y.low) zy);
     }
 
+-- so the product of two doubles is free of errors
 pub error_free_product : (x y answer : Pair) (status : ℕ) → IsMember double x.high → IsMember double y.high
     → IsPairProduct NearestTiesToEven x y answer status → IsErrorFreeProduct x y answer
 error_free_product x y answer status mx my k s t e =
@@ -134,6 +140,7 @@ low_below p k m s w h l = let b : 128 * k ≤ p * k = mul-le-mul_right k w in om
 half_of : (m s k : ℕ) → m ≤ s + k → 64 * k ≤ m → m ≤ 2 * s
 half_of m s k h l = omega arith
 
+-- a product far above a quantum has high parts whose product is far above one
 big_enough : (p u x A C m n w : ℕ) → 32 * (p * p) ≤ w → w ≤ x → x * u ≡ m * n → m ≤ 2 * A → n ≤ 2 * C
     → 8 * (p * (p * u)) ≤ A * C
 big_enough p u x A C m n w h l e f g =
@@ -142,6 +149,7 @@ big_enough p u x A C m n w h l e f g =
     let b : 32 * (p * p) * u ≤ x * u = mul-le-mul_right u d in
     omega arith
 
+-- an error of at most 16 * 2 ^ -106 of a size is at most 2 ^ -102 of it
 sixteenth : (e s : ℕ) → 2 ^ 53 * (2 ^ 53 * e) ≤ 16 * s → e * 2 ^ 102 ≤ s
 sixteenth e s h = omega arith
 
@@ -149,10 +157,12 @@ sixteenth e s h = omega arith
 number_low : (x : Pair) → IsNormalised x → 2 ^ double.precision * size x.low ≤ magnitude (pair_number x)
 number_low x n = low_small double.precision wide_enough (number x.high) (number x.low) (normalised_nearest x n)
 
+-- so it is at most a 64th of the high part
 low_quanta : (x : Pair) → IsNormalised x → 64 * size x.low ≤ size x.high
 low_quanta x n =
     low_below (2 ^ double.precision) _ _ _ (lit≤ tt) (number_low x n) (magnitude_le (number x.high) (number x.low))
 
+-- and the high part is at most twice the number of the pair
 half_high : (x : Pair) → IsNormalised x → size x.high ≤ 2 * magnitude (pair_number x)
 half_high x n = half_of _ _ _ (first_most (number x.high) (number x.low)) (low_quanta x n)
 

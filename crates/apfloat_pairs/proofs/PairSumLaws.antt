@@ -29,12 +29,16 @@ use Rattle.apfloat_pairs.proofs.SumAnswers.{IsPairSummand, IsPairOpening, IsShar
 
 -- ---- two doubles
 
-within_quanta : (h : Datum) → is_finite h ≡ true → quanta_of h ≤ sum_reach → magnitude (number h) ≤ sum_reach
+-- a count of quanta within the reach bounds the number
+within_quanta : (datum : Datum) → is_finite datum ≡ true → quanta_of datum ≤ sum_reach
+    → magnitude (number datum) ≤ sum_reach
 within_quanta h e w = subst (λ (i : ℕ). i ≤ sum_reach) (sym (magnitude_quanta h e)) w
 
+-- what is within the reach is within the largest value
 reach_within : (t l n : ℕ) → n ≤ t → 3 * t ≤ l → n ≤ l
 reach_within t l n h k = omega arith
 
+-- a low part that is 0 is within every bound
 no_sevenths : (t : ℕ) (z : ℤ) → z ≡ pos 0 → 7 * magnitude z ≤ t
 no_sevenths t z e = let m : magnitude z ≡ 0 = ap magnitude e in omega arith
 
@@ -75,9 +79,11 @@ singles_open x y z q v r d e u w s t k =
     (member_on_grid x.high s.is_finite s.is_double) (member_on_grid y.high t.is_finite t.is_double) (single_low x s)
     (single_low y t) k
 
+-- adding a pair that is 0 leaves the first pair
 first_back : (a aa c cc : ℤ) → c ≡ pos 0 → cc ≡ pos 0 → (a +ℤ aa) ≡ ((a +ℤ aa) +ℤ (c +ℤ cc))
 first_back a aa c cc e g = omega (arith, ints)
 
+-- or the second one
 second_back : (a aa c cc : ℤ) → a ≡ pos 0 → aa ≡ pos 0 → (c +ℤ cc) ≡ ((a +ℤ aa) +ℤ (c +ℤ cc))
 second_back a aa c cc e g = omega (arith, ints)
 
@@ -85,10 +91,12 @@ second_back a aa c cc e g = omega (arith, ints)
 in_quanta : (p s : ℤ) → p ≡ s → (p *ℤ pos 1) ≡ s
 in_quanta p s e = times_one p ∙ e
 
+-- the same for an error
 close_in_quanta : (p s : ℤ) (digits size : ℕ) → magnitude (p -ℤ s) * 2 ^ digits ≤ size
     → magnitude ((p *ℤ pos 1) -ℤ s) * 2 ^ digits ≤ size
 close_in_quanta p s digits size h = subst (λ (i : ℤ). magnitude (i -ℤ s) * 2 ^ digits ≤ size) (sym (times_one p)) h
 
+-- parts that are 0 leave the sum of the high parts
 highs_alone : (a aa c cc p s : ℤ) → aa ≡ pos 0 → cc ≡ pos 0 → p ≡ s → s ≡ (a +ℤ c) → p ≡ ((a +ℤ aa) +ℤ (c +ℤ cc))
 highs_alone a aa c cc p s e g h k = omega (arith, ints)
 
@@ -134,6 +142,7 @@ alone_sum x y answer status k s t r =
     h)
     (sum_rows x y answer status s.is_finite t.is_finite k)
 
+-- so the sum of two doubles is free of errors
 pub error_free_sum : (x y answer : Pair) (status : ℕ) → IsMember double x.high → IsMember double y.high
     → IsPairSum NearestTiesToEven x y answer status → IsErrorFreeSum x y answer
 error_free_sum x y answer status mx my k s t r =
@@ -141,6 +150,7 @@ error_free_sum x y answer status mx my k s t r =
 
 -- ---- two normalised pairs
 
+-- a low part of at most a seventh is at most a seventh of a bound of the high part
 low_enough : (t h l : ℕ) → 7 * l ≤ h → h ≤ t → 7 * l ≤ t
 low_enough t h l a b = omega arith
 
@@ -157,6 +167,7 @@ normalised_summand x s r =
       low_within = low_enough sum_reach (magnitude (number x.high)) (magnitude (number x.low)) (normalised_low x s) w;
     }
 
+-- the sum and the rest of two normalised pairs are multiples of one power of two
 normalised_share : (x y : Pair) → IsNormalised x → IsNormalised y → IsSharing x y
 normalised_share x y s t z q v r d e u w k =
     let m = normalised_nearest x s in
@@ -186,6 +197,7 @@ given_closely x y given answer e n s =
           (magnitude (pair_number y)) s);
     })
 
+-- an error of at most 8 * 2 ^ -106 of a size is at most 2 ^ -103 of it
 small_error : (d s : ℕ) → 2 ^ 53 * (2 ^ 53 * d) ≤ 8 * s → d * 2 ^ 103 ≤ s
 small_error d s h = omega arith
 

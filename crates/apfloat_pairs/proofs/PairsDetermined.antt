@@ -17,18 +17,21 @@ use Rattle.apfloat_pairs.proofs.PairsOnce.{pair_sum_once, pair_difference_once, 
 use Rattle.apfloat_pairs.proofs.PairBits.{pair_encoded_once}
 use Rattle.apfloat_pairs.proofs.CallsOnce.{OnceWhole, pair_quotient_once, pair_truncated_remainder_once, pair_nearest_remainder_once, pair_round_to_integral_once, pair_next_up_once, pair_next_down_once, pair_reading_once, pair_exact_inverse_once, pair_from_unsigned_once, pair_from_signed_once, pair_to_unsigned_once, pair_to_signed_once, pair_ilogb_once, pair_scaling_once, pair_fraction_once}
 
+-- a relation with one pair and status is met by one value with its flags
 pair_gives_once : (Says : Pair → ℕ → Type 0) → OncePair Says
     → Determines (λ (answer : StatusAnd Pair). Gives Says answer)
 pair_gives_once Says once r s h k =
     let e = once r.value s.value (bits_of r.status) (bits_of s.status) h k in
     same_answer r s e.0 e.1
 
-whole_gives_once : {N : Type 0} (Says : N → ℕ → Bool → Type 0) → OnceWhole Says
-    → DeterminesBoth (λ (answer : StatusAnd N) (exact : Bool). Says answer.value (bits_of answer.status) exact)
+-- and so is one that also says whether the number is exact
+whole_gives_once : {Number : Type 0} (Says : Number → ℕ → Bool → Type 0) → OnceWhole Says
+    → DeterminesBoth (λ (answer : StatusAnd Number) (exact : Bool). Says answer.value (bits_of answer.status) exact)
 whole_gives_once Says once r s a b h k =
     let e = once r.value s.value (bits_of r.status) (bits_of s.status) a b h k in
     (same_answer r s e.0 e.1, e.2)
 
+-- a text has one reading as a pair, which is a value or a refusal
 pair_read_once : (mode : Round) (text : List ℕ) (answer other : Result (StatusAnd Pair) ParseError)
     → IsPairRead mode text answer → IsPairRead mode text other → AreOneReading answer other
 pair_read_once mode text (Ok r) (Ok s) h k =
@@ -39,6 +42,7 @@ pair_read_once mode text (Err e) (Ok r) h k =
     reading_or_refusal wide mode text e.0.now k.value (bits_of r.status) k.is_value h
 pair_read_once mode text (Err e) (Err d) h k = refusal_once text e.0.now d.0.now h k
 
+-- each operation on pairs determines its answer
 pub pairs_determined : (mode : Round)
     → IsDetermined mode 106 128
     (λ x y round answer. Gives (IsPairSum round x y) answer)
