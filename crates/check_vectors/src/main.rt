@@ -4,10 +4,8 @@
 //! how they are checked.
 #![tactic(auto)]
 
-use std::alloc::Alloc;
-use std::env::Env;
+use commands::words_of_system;
 use std::process::ExitCode;
-use std::{env, io};
 use vector_rows::run;
 
 #[cfg(test)]
@@ -21,10 +19,4 @@ fn main(rt: HostRuntime) -> ExitCode {
         &mut rt.stdout(),
         &mut rt.stderr(),
     ))
-}
-
-/// The words without the program's own name.
-fn words_of_system<R: Env + Alloc>(rt: &R) -> io::Result<Vec<String<R::A>, R::A>> {
-    let words = env::args(rt)?.skip(1).collect(rt.alloc())?;
-    Ok(words)
 }

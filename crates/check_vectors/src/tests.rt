@@ -1,7 +1,7 @@
 //! Checks of short inputs, including failures of reading, writing and memory.
 
-use crate::words_of_system;
 use bumpalo::Bump;
+use commands::words_of_system;
 use std::alloc::{AllocError, Global};
 use std::env::{Env, FillError};
 use std::io::{BufRead, BufReader, ErrorKind, Read, Write};

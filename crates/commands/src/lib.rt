@@ -16,10 +16,12 @@ mod operation;
 mod output;
 mod pair_reply;
 mod reply;
+mod system_words;
 mod text_buffer;
 mod words;
 
 pub use expected_reply::agrees;
 pub use output::{run, run_given, write_line, write_status};
 pub use reply::{Reply, command};
+pub use system_words::words_of_system;
 pub use words::{bits_of, mode_named, number_of};

@@ -21,10 +21,8 @@ mod stream;
 mod tests;
 
 use crate::run::run;
-use std::alloc::Alloc;
-use std::env::Env;
+use commands::words_of_system;
 use std::process::ExitCode;
-use std::{env, io};
 
 /// Runs the program and returns its exit status.
 fn main(rt: HostRuntime) -> ExitCode {
@@ -37,10 +35,4 @@ fn main(rt: HostRuntime) -> ExitCode {
         &mut rt.stderr(),
     );
     ExitCode::from(status)
-}
-
-/// The words without the program's own name.
-fn words_of_system<R: Env + Alloc>(rt: &R) -> io::Result<Vec<String<R::A>, R::A>> {
-    let words = env::args(rt)?.skip(1).collect(rt.alloc())?;
-    Ok(words)
 }

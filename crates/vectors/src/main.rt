@@ -6,11 +6,8 @@
 //! write fails or the arguments are not valid text.
 #![tactic(auto)]
 
-use commands::run_given;
-use std::alloc::Alloc;
-use std::env::Env;
+use commands::{run_given, words_of_system};
 use std::process::ExitCode;
-use std::{env, io};
 
 #[cfg(test)]
 mod tests;
@@ -18,10 +15,4 @@ mod tests;
 /// Runs the program and returns its exit status.
 fn main(rt: HostRuntime) -> ExitCode {
     ExitCode::from(run_given(words_of_system(&rt), &mut rt.stdout(), &mut rt.stderr()))
-}
-
-/// The words without the program's own name.
-fn words_of_system<R: Env + Alloc>(rt: &R) -> io::Result<Vec<String<R::A>, R::A>> {
-    let words = env::args(rt)?.skip(1).collect(rt.alloc())?;
-    Ok(words)
 }

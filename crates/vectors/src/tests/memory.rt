@@ -1,8 +1,7 @@
 //! Words for which there is not enough memory.
 
-use crate::words_of_system;
 use bumpalo::Bump;
-use commands::run_given;
+use commands::{run_given, words_of_system};
 use std::alloc::{AllocError, Global};
 use std::env::{Env, FillError};
 use std::test::Fail;
