@@ -139,6 +139,12 @@ pub match_case : {A B : Type 0} (Holds : (A → B → Type 0) → Type 0) (test 
 match_case Holds true P Q p q = p
 match_case Holds false P Q p q = q
 
+-- and of three
+pub match_three : {A B C : Type 0} (Holds : (A → B → C → Type 0) → Type 0) (test : Bool) (P Q : A → B → C → Type 0)
+    → Holds P → Holds Q → Holds (λ a b c. MatchBool test (P a b c) (Q a b c))
+match_three Holds true P Q p q = p
+match_three Holds false P Q p q = q
+
 -- what holds of both choices, each under its test, holds of the choice
 pub if_case : {A : Type 0} (P : A → Type 0) {first second : A} (test : Bool) → (test ≡ true → P first)
     → (test ≡ false → P second) → P (if test then first else second)

@@ -8,8 +8,8 @@ use Rattle.apfloat_texts.proofs.significand.scanned.Goals.{then-left-lt1-2, in-l
 
 pub returns-in_err-next : goal.returns-in_err-next
 returns-in_err-next c =
-    let i = parted (λ (l : List ℕ). IsScan c.args.rest.now l c.loop-left.scan) c.loop-left.left.now c.in-len1-up.len_at_least
-    c.loop-left.invariant in
+    let i = parted (λ (l : List ℕ). IsScan c.args.rest.now l c.loop-left.scan) c.loop-left.left.now
+    c.in-len1-up.len_at_least c.loop-left.invariant in
     refused_by c.from_residual.result c.in_err-next.field-0.0 _ _ c.from_residual.ensures.1
     (c.in_err-next.ensures c.args.rest.now _ i)
 
@@ -22,8 +22,8 @@ returns-in_err-next-2 c =
 
 pub loop-left-preserved : goal.loop-left-preserved
 loop-left-preserved c =
-    let i = parted (λ (l : List ℕ). IsScan c.args.rest.now l c.loop-left.scan) c.loop-left.left.now c.in-len1-up.len_at_least
-    c.loop-left.invariant in
+    let i = parted (λ (l : List ℕ). IsScan c.args.rest.now l c.loop-left.scan) c.loop-left.left.now
+    c.in-len1-up.len_at_least c.loop-left.invariant in
     scan_remade c.args.rest.now _ c.in_ok-next.next c.remade-scan.result c.remade-scan.ensures
     (c.in_ok-next.ensures c.args.rest.now _ i)
 
