@@ -11,6 +11,8 @@ use Rattle.apfloat_base.specs.formats.Format.{nan_base_of, payload_mask_of, quie
 use Rattle.apfloat_base.specs.rounding.Bounds.{format_bound}
 use Rattle.apfloat_base.specs.formats.Lawful.{Constants, HasNoBits, HasBits, MayBeExplicit, IsLawful, more_exponents}
 
+-- ---- each part of the law as a test
+
 abbrev pub no_bits_test : Constants → Bool
 no_bits_test c =
     eqb c.bits 0 && (eqb c.exp_bits 0 &&
@@ -47,6 +49,8 @@ lawful_test c =
     && ((no_bits_test c || bits_test c)
     && (may_be_explicit c.nonfinite c.explicit_integer_bit
     && nans_test c)))))))
+
+-- ---- what a test that passes says
 
 at_most : (a b : ℤ) → le_z a b ≡ true → a ≤ℤ b
 at_most a b e = le_z_yes (subst T (sym e) tt)

@@ -15,8 +15,9 @@ use Rattle.apfloat_base.specs.formats.Log.{log2}
 use Rattle.apfloat_base.proofs.Logarithms.{log2_is}
 use Rattle.apfloat_unpacked.specs.Stored.{quanta_at, IsNormalAt, IsStored, IsStoredBy, datum_at, datum_by, unpacked_of, unpacked_number, exponent_at}
 
--- ---- a number: n * 2 ^ d is s * 2 ^ u, and s has all its digits
+-- ---- a number of all digits
 
+-- n * 2 ^ d is s * 2 ^ u, and s has exactly that many digits
 pub record IsFull (precision s n u d : ℕ) : Type 0 where
   pub some : 0 < precision
   pub fits : s < 2 ^ precision
@@ -28,11 +29,13 @@ pub record IsFull (precision s n u d : ℕ) : Type 0 where
 abbrev pub top_of : ℕ → ℕ → ℕ → ℕ
 top_of precision u d = precision - 1 + u - d
 
+-- the least significand of all digits, moved up, is the power at that place
 moved : (precision u d : ℕ) → d ≤ precision - 1 + u → 2 ^ (precision - 1) * 2 ^ u ≡ 2 ^ top_of precision u d * 2 ^ d
 moved precision u d h =
     let e : top_of precision u d + d ≡ precision - 1 + u = omega arith in
     sym (pow-add 2 (precision - 1) u) ∙ ap (λ (x : ℕ). 2 ^ x) (sym e) ∙ pow-add 2 (top_of precision u d) d
 
+-- the highest digit of n stands at that place
 pub full_low : (precision s n u d : ℕ) → IsFull precision s n u d → 2 ^ top_of precision u d ≤ n
 full_low precision s n u d h =
     let m = moved precision u d h.short in
@@ -41,6 +44,7 @@ full_low precision s n u d h =
     let l : 2 ^ top_of precision u d * 2 ^ d ≤ n * 2 ^ d = omega arith in
     le_of_mul-le-mul_right l (pow_pos d)
 
+-- and none above it
 pub full_high : (precision s n u d : ℕ) → IsFull precision s n u d → n < 2 * 2 ^ top_of precision u d
 full_high precision s n u d h =
     let m = moved precision u d h.short in
@@ -52,6 +56,7 @@ full_high precision s n u d h =
     let l : n * 2 ^ d < 2 * 2 ^ top_of precision u d * 2 ^ d = omega arith in
     lt_of_mul-lt-mul_right (2 ^ d) l
 
+-- so that n, moved up and cut there, is the significand
 pub full_back : (precision s n u d : ℕ) → IsFull precision s n u d
     → n * 2 ^ (precision - 1) / 2 ^ top_of precision u d ≡ s
 full_back precision s n u d h =
@@ -67,63 +72,71 @@ full_back precision s n u d h =
 
 -- ---- a stored number
 
+-- a significand above 0 has a digit
 some_digit : (precision m : ℕ) → m < 2 ^ precision → 0 < m → 0 < precision
 some_digit zero m h p = absurd (omega arith)
 some_digit (suc precision) m h p = omega arith
 
-pub normal_full : (s : Shape) (m : ℕ) (e : ℤ) → IsNormalAt s m e
-    → IsFull s.precision m (quanta_at s.min_exp m e) (up (e -ℤ s.min_exp)) (down (e -ℤ s.min_exp))
-normal_full s m e h =
+-- a stored number and its quanta
+pub normal_full : (shape : Shape) (m : ℕ) (e : ℤ) → IsNormalAt shape m e
+    → IsFull shape.precision m (quanta_at shape.min_exp m e) (up (e -ℤ shape.min_exp)) (down (e -ℤ shape.min_exp))
+normal_full shape m e h =
     let o = h.operand in
-    let p : 0 < 2 ^ (s.precision - 1) = pow_pos (s.precision - 1) in
+    let p : 0 < 2 ^ (shape.precision - 1) = pow_pos (shape.precision - 1) in
     record {
-      some = some_digit s.precision m o.fits (omega (arith, o.full));
+      some = some_digit shape.precision m o.fits (omega (arith, o.full));
       fits = o.fits;
       full = o.full;
       short = omega (arith, ints, o.least);
       same = h.whole;
     }
 
-pub top_is : (s : Shape) (m : ℕ) (e : ℤ) → IsNormalAt s m e
-    → log2 (quanta_at s.min_exp m e) ≡ top_of s.precision (up (e -ℤ s.min_exp)) (down (e -ℤ s.min_exp))
-top_is s m e h =
-    let f = normal_full s m e h in
-    log2_is (quanta_at s.min_exp m e) _ (full_low _ _ _ _ _ f) (full_high _ _ _ _ _ f)
+-- the logarithm of its quanta is the place of its highest digit
+pub top_is : (shape : Shape) (m : ℕ) (e : ℤ) → IsNormalAt shape m e
+    → log2 (quanta_at shape.min_exp m e) ≡ top_of shape.precision (up (e -ℤ shape.min_exp)) (down (e -ℤ shape.min_exp))
+top_is shape m e h =
+    let f = normal_full shape m e h in
+    log2_is (quanta_at shape.min_exp m e) _ (full_low _ _ _ _ _ f) (full_high _ _ _ _ _ f)
 
-pub quanta_some : (s : Shape) (m : ℕ) (e : ℤ) → IsNormalAt s m e → 0 < quanta_at s.min_exp m e
-quanta_some s m e h =
-    let f = normal_full s m e h in
+-- its quanta are above 0
+pub quanta_some : (shape : Shape) (m : ℕ) (e : ℤ) → IsNormalAt shape m e → 0 < quanta_at shape.min_exp m e
+quanta_some shape m e h =
+    let f = normal_full shape m e h in
     let l = full_low _ _ _ _ _ f in
-    let p : 0 < 2 ^ top_of s.precision (up (e -ℤ s.min_exp)) (down (e -ℤ s.min_exp)) =
-    pow_pos (top_of s.precision (up (e -ℤ s.min_exp)) (down (e -ℤ s.min_exp))) in
+    let p : 0 < 2 ^ top_of shape.precision (up (e -ℤ shape.min_exp)) (down (e -ℤ shape.min_exp)) =
+    pow_pos (top_of shape.precision (up (e -ℤ shape.min_exp)) (down (e -ℤ shape.min_exp))) in
     omega arith
 
 abbrev record_of : ℕ → ℤ → Category → Bool → Unpacked
-record_of m e k b = record { significand = m; exponent = e; category = k; negative = b }
+record_of m e category negative = record { significand = m; exponent = e; category = category; negative = negative }
 
-number_back : (s : Shape) (b : Bool) (m : ℕ) (e : ℤ) → IsNormalAt s m e
-    → unpacked_number s b (quanta_at s.min_exp m e)
-    ≡ record { significand = m; exponent = e; category = Normal; negative = b }
-number_back s b m e h =
-    let f = normal_full s m e h in
-    let t = top_is s m e h in
-    let x : exponent_at s (top_of s.precision (up (e -ℤ s.min_exp)) (down (e -ℤ s.min_exp))) ≡ e =
+-- its quanta give the number back
+number_back : (shape : Shape) (negative : Bool) (m : ℕ) (e : ℤ) → IsNormalAt shape m e
+    → unpacked_number shape negative (quanta_at shape.min_exp m e)
+    ≡ record { significand = m; exponent = e; category = Normal; negative = negative }
+number_back shape negative m e h =
+    let f = normal_full shape m e h in
+    let t = top_is shape m e h in
+    let x : exponent_at shape (top_of shape.precision (up (e -ℤ shape.min_exp)) (down (e -ℤ shape.min_exp))) ≡ e =
     omega (arith, ints, h.operand.least, f.some) in
     rw (t, full_back _ _ _ _ _ f, x) refl
 
-same_parts : (m n : ℕ) (d e : ℤ) (k l : Category) (b : Bool) → m ≡ n → d ≡ e → k ≡ l
-    → record_of m d k b ≡ record_of n e l b
-same_parts m n d e k l b p q r = rw (p, q, r) refl
+-- values of equal parts are equal
+same_parts : (m n : ℕ) (d e : ℤ) (category other : Category) (negative : Bool) → m ≡ n → d ≡ e → category ≡ other
+    → record_of m d category negative ≡ record_of n e other negative
+same_parts m n d e category other negative p q r = rw (p, q, r) refl
 
-back_by : (k : Category) (s : Shape) (x : Unpacked) → k ≡ x.category → IsStoredBy k s x
-    → unpacked_of s (datum_by k s x) ≡ x
-back_by Normal s x k h =
-    let n : eqb (quanta_at s.min_exp x.significand x.exponent) 0 ≡ false =
-    ne_eqb _ 0 (λ z. omega (arith, quanta_some s x.significand x.exponent h, z)) in
-    rw n (number_back s x.negative x.significand x.exponent h ∙ same_parts _ _ _ _ _ _ x.negative refl refl k)
-back_by Zero s x k h = same_parts _ _ _ _ _ _ x.negative (sym h.significand_is) (sym h.exponent_is) k
-back_by Infinity s x k h = same_parts _ _ _ _ _ _ x.negative (sym h.significand_is) (sym h.exponent_is) k
-back_by NaN s x k h = same_parts x.significand _ _ _ _ _ x.negative refl (sym h.exponent_is) k
+-- each category by itself
+back_by : (category : Category) (shape : Shape) (x : Unpacked) → category ≡ x.category → IsStoredBy category shape x
+    → unpacked_of shape (datum_by category shape x) ≡ x
+back_by Normal shape x k h =
+    let n : eqb (quanta_at shape.min_exp x.significand x.exponent) 0 ≡ false =
+    ne_eqb _ 0 (λ z. omega (arith, quanta_some shape x.significand x.exponent h, z)) in
+    rw n (number_back shape x.negative x.significand x.exponent h ∙ same_parts _ _ _ _ _ _ x.negative refl refl k)
+back_by Zero shape x k h = same_parts _ _ _ _ _ _ x.negative (sym h.significand_is) (sym h.exponent_is) k
+back_by Infinity shape x k h = same_parts _ _ _ _ _ _ x.negative (sym h.significand_is) (sym h.exponent_is) k
+back_by NaN shape x k h = same_parts x.significand _ _ _ _ _ x.negative refl (sym h.exponent_is) k
 
-pub comes_back : (s : Shape) (x : Unpacked) → IsStored s x → unpacked_of s (datum_at s x) ≡ x
-comes_back s x h = back_by x.category s x refl h
+-- a stored value is that of its datum
+pub comes_back : (shape : Shape) (x : Unpacked) → IsStored shape x → unpacked_of shape (datum_at shape x) ≡ x
+comes_back shape x h = back_by x.category shape x refl h

@@ -1,35 +1,25 @@
 use Rattle.std.proofs.Common.{◌≡◌, ℕ, ◌+◌, ◌-◌, ◌*◌, ◌/◌, ◌%◌, ◌^◌, ◌<◌, ◌≤◌, eqb, count_ones, sym, ap, ◌∙◌, subst, arith}
 use Rattle.std.proofs.Math.Nat.{pow-le-pow_right}
 use Rattle.apfloat_base.proofs.Powers.{two_pos}
+use Rattle.apfloat_arithmetic.specs.Points.{units_of}
 use Rattle.apfloat_arithmetic.proofs.WholeQuotients.{IsTurn, is_turn, turn_rest, turn_ones, turn_even, turn_less, below_divisor, few_digits, left_all, none_set, not_odd, at_place, divisor_pos, last_turn, last_below, last_odd}
+use Rattle.apfloat_arithmetic.proofs.remainders.rest_by.Goals.{Then-x-y, After-less_multiple-less, Then-less-y, Else-rest-y-2}
 use Rattle.apfloat_arithmetic.proofs.remainders.rest_by.Goals as goal
 
-pub returns-then-x-y-clause-rest : goal.returns-then-x-y-clause-rest
-returns-then-x-y-clause-rest c =
-    let d : ℕ = c.args.y.significand * 2 ^ c.args.y.place in
-    let r : ℕ = c.args.x.significand * 2 ^ c.args.x.place in
-    let l : r < d =
+-- a number at a place below the divisor's is less than it
+is_less : (state : Then-x-y) → units_of state.args.x < units_of state.args.y
+is_less c =
     below_divisor c.args.precision c.args.x.significand c.args.x.place c.args.y.significand c.args.y.place
-    c.requires.some c.requires.x.fits c.requires.y.full (omega arith) in
-    left_all d r l
+    c.requires.some c.requires.x.fits c.requires.y.full (omega arith)
+
+pub returns-then-x-y-clause-rest : goal.returns-then-x-y-clause-rest
+returns-then-x-y-clause-rest c = left_all (units_of c.args.y) (units_of c.args.x) (is_less c)
 
 pub returns-then-x-y-clause-steps : goal.returns-then-x-y-clause-steps
-returns-then-x-y-clause-steps c =
-    let d : ℕ = c.args.y.significand * 2 ^ c.args.y.place in
-    let r : ℕ = c.args.x.significand * 2 ^ c.args.x.place in
-    let l : r < d =
-    below_divisor c.args.precision c.args.x.significand c.args.x.place c.args.y.significand c.args.y.place
-    c.requires.some c.requires.x.fits c.requires.y.full (omega arith) in
-    none_set d r l
+returns-then-x-y-clause-steps c = none_set (units_of c.args.y) (units_of c.args.x) (is_less c)
 
 pub returns-then-x-y-clause-odd : goal.returns-then-x-y-clause-odd
-returns-then-x-y-clause-odd c =
-    let d : ℕ = c.args.y.significand * 2 ^ c.args.y.place in
-    let r : ℕ = c.args.x.significand * 2 ^ c.args.x.place in
-    let l : r < d =
-    below_divisor c.args.precision c.args.x.significand c.args.x.place c.args.y.significand c.args.y.place
-    c.requires.some c.requires.x.fits c.requires.y.full (omega arith) in
-    not_odd d r l
+returns-then-x-y-clause-odd c = not_odd (units_of c.args.y) (units_of c.args.x) (is_less c)
 
 pub less_multiple-less-requires-clause-narrow : goal.less_multiple-less-requires-clause-narrow
 less_multiple-less-requires-clause-narrow c =
@@ -37,166 +27,121 @@ less_multiple-less-requires-clause-narrow c =
     let f = c.loop-rest.invariant.fits in
     omega arith
 
-pub overflow_add-steps : goal.overflow_add-steps
-overflow_add-steps c =
-    let d : ℕ = c.args.y.significand * 2 ^ c.args.y.place in
-    let r : ℕ = c.loop-rest.rest.significand * 2 ^ c.loop-rest.rest.place in
-    let s : ℕ = c.less_multiple-less.result.significand * 2 ^ c.less_multiple-less.result.place in
-    let k : ℕ = c.less_multiple-less.result.place - c.args.y.place in
-    let p : 0 < d = divisor_pos c.args.precision c.args.y.significand c.args.y.place c.requires.y.full in
-    let t : IsTurn d r s k =
+-- ---- one turn
+
+divides : (state : After-less_multiple-less) → 0 < units_of state.args.y
+divides c = divisor_pos c.args.precision c.args.y.significand c.args.y.place c.requires.y.full
+
+turn : (state : After-less_multiple-less)
+    → IsTurn (units_of state.args.y) (units_of state.loop-rest.rest) (units_of state.less_multiple-less.result)
+    (state.less_multiple-less.result.place - state.args.y.place)
+turn c =
     is_turn c.loop-rest.rest.significand c.loop-rest.rest.place c.args.y.significand c.args.y.place
     c.less_multiple-less.result.significand c.less_multiple-less.result.place
     c.less_multiple-less.ensures.taken c.less_multiple-less.ensures.below
-    c.less_multiple-less.ensures.least in
-    let f : count_ones (c.args.x.significand * 2 ^ c.args.x.place / (c.args.y.significand * 2 ^ c.args.y.place))
-    ≤ c.args.x.place + 1 - c.args.y.place =
+    c.less_multiple-less.ensures.least
+
+-- it takes one digit off the quotient
+one_digit : (state : After-less_multiple-less)
+    → count_ones (units_of state.loop-rest.rest / units_of state.args.y)
+    ≡ 1 + count_ones (units_of state.less_multiple-less.result / units_of state.args.y)
+one_digit c =
+    turn_ones (units_of c.args.y) (units_of c.loop-rest.rest) (units_of c.less_multiple-less.result)
+    (c.less_multiple-less.result.place - c.args.y.place) (divides c) (turn c)
+
+pub overflow_add-steps : goal.overflow_add-steps
+overflow_add-steps c =
+    let f : count_ones (units_of c.args.x / units_of c.args.y) ≤ c.args.x.place + 1 - c.args.y.place =
     few_digits c.args.precision c.args.x.significand c.args.x.place c.args.y.significand c.args.y.place
     c.requires.some c.requires.x.fits c.requires.y.full (omega arith) in
-    let o : count_ones (c.loop-rest.rest.significand * 2 ^ c.loop-rest.rest.place
-    / (c.args.y.significand * 2 ^ c.args.y.place))
-    ≡ 1 + count_ones (c.less_multiple-less.result.significand * 2 ^ c.less_multiple-less.result.place
-    / (c.args.y.significand * 2 ^ c.args.y.place)) = turn_ones d r s k p t in
+    let o = one_digit c in
     let i = c.loop-rest.invariant.counted in
     record { fits = omega arith }
 
+-- ---- the last turn
+
+last : (state : Then-less-y)
+    → IsTurn (units_of state.args.y) (units_of state.loop-rest.rest) (units_of state.less_multiple-less.result) 0
+last c =
+    last_turn (units_of c.args.y) (units_of c.loop-rest.rest) (units_of c.less_multiple-less.result)
+    (c.less_multiple-less.result.place - c.args.y.place) (omega arith)
+    (turn (goal.at.returns-then-less-y-clause-rest c).After-less_multiple-less)
+
+leaves_less : (state : Then-less-y) → units_of state.less_multiple-less.result < units_of state.args.y
+leaves_less c =
+    last_below (units_of c.args.y) (units_of c.loop-rest.rest) (units_of c.less_multiple-less.result) (last c)
+
 pub returns-then-less-y-clause-rest : goal.returns-then-less-y-clause-rest
 returns-then-less-y-clause-rest c =
-    let d : ℕ = c.args.y.significand * 2 ^ c.args.y.place in
-    let r : ℕ = c.loop-rest.rest.significand * 2 ^ c.loop-rest.rest.place in
-    let s : ℕ = c.less_multiple-less.result.significand * 2 ^ c.less_multiple-less.result.place in
-    let k : ℕ = c.less_multiple-less.result.place - c.args.y.place in
-    let p : 0 < d = divisor_pos c.args.precision c.args.y.significand c.args.y.place c.requires.y.full in
-    let t : IsTurn d r s k =
-    is_turn c.loop-rest.rest.significand c.loop-rest.rest.place c.args.y.significand c.args.y.place
-    c.less_multiple-less.result.significand c.less_multiple-less.result.place
-    c.less_multiple-less.ensures.taken c.less_multiple-less.ensures.below
-    c.less_multiple-less.ensures.least in
-    let z : k ≡ 0 = omega arith in
-    let u : IsTurn d r s 0 = last_turn d r s k z t in
-    let l : s < d = last_below d r s u in
-    left_all d s l ∙ sym (turn_rest d r s k t) ∙ c.loop-rest.invariant.left
+    left_all (units_of c.args.y) (units_of c.less_multiple-less.result) (leaves_less c) ∙
+    sym (turn_rest (units_of c.args.y) (units_of c.loop-rest.rest) (units_of c.less_multiple-less.result) 0
+    (last c)) ∙
+    c.loop-rest.invariant.left
 
 pub returns-then-less-y-clause-steps : goal.returns-then-less-y-clause-steps
 returns-then-less-y-clause-steps c =
-    let d : ℕ = c.args.y.significand * 2 ^ c.args.y.place in
-    let r : ℕ = c.loop-rest.rest.significand * 2 ^ c.loop-rest.rest.place in
-    let s : ℕ = c.less_multiple-less.result.significand * 2 ^ c.less_multiple-less.result.place in
-    let k : ℕ = c.less_multiple-less.result.place - c.args.y.place in
-    let p : 0 < d = divisor_pos c.args.precision c.args.y.significand c.args.y.place c.requires.y.full in
-    let t : IsTurn d r s k =
-    is_turn c.loop-rest.rest.significand c.loop-rest.rest.place c.args.y.significand c.args.y.place
-    c.less_multiple-less.result.significand c.less_multiple-less.result.place
-    c.less_multiple-less.ensures.taken c.less_multiple-less.ensures.below
-    c.less_multiple-less.ensures.least in
-    let z : k ≡ 0 = omega arith in
-    let u : IsTurn d r s 0 = last_turn d r s k z t in
-    let l : s < d = last_below d r s u in
-    let o : count_ones (c.loop-rest.rest.significand * 2 ^ c.loop-rest.rest.place
-    / (c.args.y.significand * 2 ^ c.args.y.place))
-    ≡ 1 + count_ones (c.less_multiple-less.result.significand * 2 ^ c.less_multiple-less.result.place
-    / (c.args.y.significand * 2 ^ c.args.y.place)) = turn_ones d r s k p t in
+    let o = one_digit (goal.at.returns-then-less-y-clause-steps c).After-less_multiple-less in
     let i = c.loop-rest.invariant.counted in
-    let n : 0 ≡ count_ones (c.less_multiple-less.result.significand * 2 ^ c.less_multiple-less.result.place
-    / (c.args.y.significand * 2 ^ c.args.y.place)) = none_set d s l in
+    let n = none_set (units_of c.args.y) (units_of c.less_multiple-less.result) (leaves_less c) in
     omega arith
 
 pub returns-then-less-y-clause-odd : goal.returns-then-less-y-clause-odd
 returns-then-less-y-clause-odd c =
-    let d : ℕ = c.args.y.significand * 2 ^ c.args.y.place in
-    let r : ℕ = c.loop-rest.rest.significand * 2 ^ c.loop-rest.rest.place in
-    let s : ℕ = c.less_multiple-less.result.significand * 2 ^ c.less_multiple-less.result.place in
-    let k : ℕ = c.less_multiple-less.result.place - c.args.y.place in
-    let p : 0 < d = divisor_pos c.args.precision c.args.y.significand c.args.y.place c.requires.y.full in
-    let t : IsTurn d r s k =
-    is_turn c.loop-rest.rest.significand c.loop-rest.rest.place c.args.y.significand c.args.y.place
-    c.less_multiple-less.result.significand c.less_multiple-less.result.place
-    c.less_multiple-less.ensures.taken c.less_multiple-less.ensures.below
-    c.less_multiple-less.ensures.least in
-    let z : k ≡ 0 = omega arith in
-    let u : IsTurn d r s 0 = last_turn d r s k z t in
-    let l : s < d = last_below d r s u in
-    last_odd d r s (c.args.x.significand * 2 ^ c.args.x.place) p u c.loop-rest.invariant.parity
+    last_odd (units_of c.args.y) (units_of c.loop-rest.rest) (units_of c.less_multiple-less.result)
+    (units_of c.args.x) (divides (goal.at.returns-then-less-y-clause-odd c).After-less_multiple-less) (last c)
+    c.loop-rest.invariant.parity
+
+-- ---- any other turn
 
 pub loop-rest-smaller : goal.loop-rest-smaller
 loop-rest-smaller c =
-    let d : ℕ = c.args.y.significand * 2 ^ c.args.y.place in
-    let r : ℕ = c.loop-rest.rest.significand * 2 ^ c.loop-rest.rest.place in
-    let s : ℕ = c.less_multiple-less.result.significand * 2 ^ c.less_multiple-less.result.place in
-    let k : ℕ = c.less_multiple-less.result.place - c.args.y.place in
-    let p : 0 < d = divisor_pos c.args.precision c.args.y.significand c.args.y.place c.requires.y.full in
-    let t : IsTurn d r s k =
-    is_turn c.loop-rest.rest.significand c.loop-rest.rest.place c.args.y.significand c.args.y.place
-    c.less_multiple-less.result.significand c.less_multiple-less.result.place
-    c.less_multiple-less.ensures.taken c.less_multiple-less.ensures.below
-    c.less_multiple-less.ensures.least in
-    subst (λ (x : ℕ). x < c.loop-rest.rest.significand * 2 ^ c.loop-rest.rest.place)
-    (sym c.raised-rest.ensures.same) (turn_less d r s k p t)
+    let state = (goal.at.loop-rest-smaller c).After-less_multiple-less in
+    subst (λ (x : ℕ). x < units_of c.loop-rest.rest) (sym c.raised-rest.ensures.same)
+    (turn_less (units_of c.args.y) (units_of c.loop-rest.rest) (units_of c.less_multiple-less.result)
+    (c.less_multiple-less.result.place - c.args.y.place) (divides state) (turn state))
 
 pub loop-rest-preserved : goal.loop-rest-preserved
 loop-rest-preserved c =
-    let d : ℕ = c.args.y.significand * 2 ^ c.args.y.place in
-    let r : ℕ = c.loop-rest.rest.significand * 2 ^ c.loop-rest.rest.place in
-    let s : ℕ = c.less_multiple-less.result.significand * 2 ^ c.less_multiple-less.result.place in
+    let state = (goal.at.loop-rest-preserved c).After-less_multiple-less in
+    let d : ℕ = units_of c.args.y in
+    let r : ℕ = units_of c.loop-rest.rest in
+    let s : ℕ = units_of c.less_multiple-less.result in
     let k : ℕ = c.less_multiple-less.result.place - c.args.y.place in
-    let p : 0 < d = divisor_pos c.args.precision c.args.y.significand c.args.y.place c.requires.y.full in
-    let t : IsTurn d r s k =
-    is_turn c.loop-rest.rest.significand c.loop-rest.rest.place c.args.y.significand c.args.y.place
-    c.less_multiple-less.result.significand c.less_multiple-less.result.place
-    c.less_multiple-less.ensures.taken c.less_multiple-less.ensures.below
-    c.less_multiple-less.ensures.least in
-    let o : count_ones (c.loop-rest.rest.significand * 2 ^ c.loop-rest.rest.place
-    / (c.args.y.significand * 2 ^ c.args.y.place))
-    ≡ 1 + count_ones (c.less_multiple-less.result.significand * 2 ^ c.less_multiple-less.result.place
-    / (c.args.y.significand * 2 ^ c.args.y.place)) = turn_ones d r s k p t in
+    let o = one_digit state in
     let i = c.loop-rest.invariant.counted in
-    let e : count_ones (c.raised-rest.result.significand * 2 ^ c.raised-rest.result.place
-    / (c.args.y.significand * 2 ^ c.args.y.place))
-    ≡ count_ones (c.less_multiple-less.result.significand * 2 ^ c.less_multiple-less.result.place
-    / (c.args.y.significand * 2 ^ c.args.y.place)) =
-    ap (λ (x : ℕ). count_ones (x / (c.args.y.significand * 2 ^ c.args.y.place)))
-    c.raised-rest.ensures.same in
-    let g : 0 < k = omega arith in
+    let e : count_ones (units_of c.raised-rest.result / units_of c.args.y)
+    ≡ count_ones (units_of c.less_multiple-less.result / units_of c.args.y) =
+    ap (λ (x : ℕ). count_ones (x / units_of c.args.y)) c.raised-rest.ensures.same in
     record {
       above = c.raised-rest.ensures.least;
       fits = c.raised-rest.ensures.fits;
       full = c.raised-rest.ensures.full;
-      left = ap (λ (x : ℕ). x % d) c.raised-rest.ensures.same ∙ sym (turn_rest d r s k t) ∙
+      left = ap (λ (x : ℕ). x % d) c.raised-rest.ensures.same ∙ sym (turn_rest d r s k (turn state)) ∙
           c.loop-rest.invariant.left;
       counted = omega arith;
-      parity = ap (λ (x : ℕ). x / d % 2) c.raised-rest.ensures.same ∙ sym (turn_even d r s k p g t) ∙
-          c.loop-rest.invariant.parity;
+      parity = ap (λ (x : ℕ). x / d % 2) c.raised-rest.ensures.same ∙
+          sym (turn_even d r s k (divides state) (omega arith) (turn state)) ∙ c.loop-rest.invariant.parity;
     }
+
+-- ---- after the loop
+
+is_left : (state : Else-rest-y-2) → units_of state.loop-rest.rest < units_of state.args.y
+is_left c =
+    let a = c.loop-rest.invariant.above in
+    at_place c.loop-rest.rest.significand c.args.y.significand c.loop-rest.rest.place c.args.y.place
+    (omega arith) (omega arith)
 
 pub returns-clause-rest : goal.returns-clause-rest
 returns-clause-rest c =
-    let d : ℕ = c.args.y.significand * 2 ^ c.args.y.place in
-    let r : ℕ = c.loop-rest.rest.significand * 2 ^ c.loop-rest.rest.place in
-    let a = c.loop-rest.invariant.above in
-    let l : r < d =
-    at_place c.loop-rest.rest.significand c.args.y.significand c.loop-rest.rest.place c.args.y.place
-    (omega arith) (omega arith) in
-    left_all d r l ∙ c.loop-rest.invariant.left
+    left_all (units_of c.args.y) (units_of c.loop-rest.rest) (is_left c) ∙ c.loop-rest.invariant.left
 
 pub returns-clause-steps : goal.returns-clause-steps
 returns-clause-steps c =
-    let d : ℕ = c.args.y.significand * 2 ^ c.args.y.place in
-    let r : ℕ = c.loop-rest.rest.significand * 2 ^ c.loop-rest.rest.place in
-    let a = c.loop-rest.invariant.above in
-    let l : r < d =
-    at_place c.loop-rest.rest.significand c.args.y.significand c.loop-rest.rest.place c.args.y.place
-    (omega arith) (omega arith) in
     let i = c.loop-rest.invariant.counted in
-    let n : 0 ≡ count_ones (c.loop-rest.rest.significand * 2 ^ c.loop-rest.rest.place
-    / (c.args.y.significand * 2 ^ c.args.y.place)) = none_set d r l in
+    let n = none_set (units_of c.args.y) (units_of c.loop-rest.rest) (is_left c) in
     omega arith
 
 pub returns-clause-odd : goal.returns-clause-odd
 returns-clause-odd c =
-    let d : ℕ = c.args.y.significand * 2 ^ c.args.y.place in
-    let r : ℕ = c.loop-rest.rest.significand * 2 ^ c.loop-rest.rest.place in
-    let a = c.loop-rest.invariant.above in
-    let l : r < d =
-    at_place c.loop-rest.rest.significand c.args.y.significand c.loop-rest.rest.place c.args.y.place
-    (omega arith) (omega arith) in
-    not_odd d r l ∙ ap (λ (x : ℕ). eqb x 1) c.loop-rest.invariant.parity
+    not_odd (units_of c.args.y) (units_of c.loop-rest.rest) (is_left c) ∙
+    ap (λ (x : ℕ). eqb x 1) c.loop-rest.invariant.parity
