@@ -6,17 +6,20 @@ use Rattle.apfloat_base.specs.formats.Datum.{finite}
 use Rattle.apfloat_base.specs.arithmetic.Exponents.{IsExactInverse}
 use Rattle.apfloat_unpacked.specs.declared.unpacked.Unpacked.{Unpacked}
 use Rattle.apfloat_unpacked.specs.Shapes.{format_at}
-use Rattle.apfloat_unpacked.specs.Stored.{IsStored, IsStoredBy, IsNormalAt, quanta_at, datum_by}
+use Rattle.apfloat_unpacked.specs.Stored.{IsStored, IsStoredBy, IsNormal, quanta_at, datum_by}
 use Rattle.apfloat_arithmetic.proofs.ProductExponents.{normal_near}
 use Rattle.apfloat_arithmetic.proofs.ExactInverses.{opposite_word, inverted_normal, inverse_answer, no_inverse_answer}
+use Rattle.apfloat_arithmetic.proofs.inverses.exact_inverse.Goals.{In-Normal}
 use Rattle.apfloat_arithmetic.proofs.inverses.exact_inverse.Goals as goal
+
+number_of : (state : In-Normal) → IsNormal state.args.shape state.args.x
+number_of c = subst (λ (k : Category). IsStoredBy k c.args.shape c.args.x) c.in-Normal.is c.requires.stored
 
 pub returns-then-is_invertible-clause-stored : goal.returns-then-is_invertible-clause-stored
 returns-then-is_invertible-clause-stored c = λ inverse h.
     let s = c.args.shape in
     let x = c.args.x in
-    let n : IsNormalAt s x.significand x.exponent =
-    subst (λ (k : Category). IsStoredBy k s x) c.in-Normal.is c.requires.stored in
+    let n = number_of (goal.at.returns-then-is_invertible-clause-stored c).In-Normal in
     let w = (normal_near s x.significand x.exponent c.requires.lawful n).word in
     let e = opposite_word s x.significand x.exponent c.requires.lawful n in
     let i = inverted_normal s x.significand x.exponent c.requires.lawful n
@@ -27,8 +30,7 @@ pub returns-then-is_invertible-clause-inverse : goal.returns-then-is_invertible-
 returns-then-is_invertible-clause-inverse c =
     let s = c.args.shape in
     let x = c.args.x in
-    let n : IsNormalAt s x.significand x.exponent =
-    subst (λ (k : Category). IsStoredBy k s x) c.in-Normal.is c.requires.stored in
+    let n = number_of (goal.at.returns-then-is_invertible-clause-inverse c).In-Normal in
     let w = (normal_near s x.significand x.exponent c.requires.lawful n).word in
     let e = opposite_word s x.significand x.exponent c.requires.lawful n in
     let a = inverse_answer s x.negative x.significand x.exponent c.requires.lawful n
@@ -40,8 +42,7 @@ pub returns-else-is_invertible-clause-inverse : goal.returns-else-is_invertible-
 returns-else-is_invertible-clause-inverse c =
     let s = c.args.shape in
     let x = c.args.x in
-    let n : IsNormalAt s x.significand x.exponent =
-    subst (λ (k : Category). IsStoredBy k s x) c.in-Normal.is c.requires.stored in
+    let n = number_of (goal.at.returns-else-is_invertible-clause-inverse c).In-Normal in
     subst (λ (k : Category). IsExactInverse (format_at s) (datum_by k s x) None) (sym c.in-Normal.is)
     (no_inverse_answer s x.negative x.significand x.exponent c.requires.lawful n
     (c.is_invertible.ensures.no c.if-is_invertible.false))

@@ -1,6 +1,8 @@
-use Rattle.std.proofs.Common.{◌*◌, sym, ◌∙◌, refl}
+use Rattle.std.proofs.Common.{◌≡◌, ℕ, ◌*◌, ◌^◌, ◌<◌, sym, ◌∙◌, refl}
+use Rattle.apfloat_base.specs.rounding.Standing.{StandsFor}
 use Rattle.apfloat_base.proofs.Points.{kept_moved, kept_stayed}
 use Rattle.apfloat_conversions.proofs.Wholes.{whole_at, exact_at, cut_whole_stands, cut_below}
+use Rattle.apfloat_conversions.proofs.whole.round_fraction.Goals.{After-shift_right-kept}
 use Rattle.apfloat_conversions.proofs.whole.round_fraction.Goals as goal
 
 pub overflow_add-result : goal.overflow_add-result
@@ -11,18 +13,26 @@ overflow_add-result c =
           c.shift_right-kept.ensures.quotient;
     }
 
+-- the digits kept, with the loss, stand for any amount that has the value
+stands : (state : After-shift_right-kept) (amount parts : ℕ) → 0 < parts
+    → amount * 2 ^ state.args.places ≡ state.args.significand * parts
+    → StandsFor state.shift_right-kept.result.significand state.shift_right-kept.result.loss amount parts
+stands c amount parts p e =
+    cut_whole_stands c.args.significand c.shift_right-kept.result.significand c.args.places amount parts
+    c.shift_right-kept.result.loss e
+    (c.shift_right-kept.ensures.stands (c.args.significand * parts) parts p refl)
+
 pub returns-then-moves_up-clause-picked : goal.returns-then-moves_up-clause-picked
 returns-then-moves_up-clause-picked c = λ amount parts p e.
     let q = c.shift_right-kept.result.significand in
     let loss = c.shift_right-kept.result.loss in
-    let st = cut_whole_stands c.args.significand q c.args.places amount parts loss e
-    (c.shift_right-kept.ensures.stands (c.args.significand * parts) parts p refl) in
+    let s = stands (goal.at.returns-then-moves_up-clause-picked c).After-shift_right-kept amount parts p e in
     record {
       magnitude_is =
           kept_moved c.args.round c.args.negative loss q c.moves_up.result c.moves_up.ensures c.if-moves_up.true ∙
-          sym (whole_at c.args.round c.args.negative q amount parts loss p st);
+          sym (whole_at c.args.round c.args.negative q amount parts loss p s);
       exact_is =
-          exact_at c.args.round c.args.negative q amount parts loss c.is_exact-exact.result p st
+          exact_at c.args.round c.args.negative q amount parts loss c.is_exact-exact.result p s
           c.is_exact-exact.ensures.yes c.is_exact-exact.ensures.no;
     }
 
@@ -30,13 +40,12 @@ pub returns-else-moves_up-clause-picked : goal.returns-else-moves_up-clause-pick
 returns-else-moves_up-clause-picked c = λ amount parts p e.
     let q = c.shift_right-kept.result.significand in
     let loss = c.shift_right-kept.result.loss in
-    let st = cut_whole_stands c.args.significand q c.args.places amount parts loss e
-    (c.shift_right-kept.ensures.stands (c.args.significand * parts) parts p refl) in
+    let s = stands (goal.at.returns-else-moves_up-clause-picked c).After-shift_right-kept amount parts p e in
     record {
       magnitude_is =
           kept_stayed c.args.round c.args.negative loss q c.moves_up.result c.moves_up.ensures c.if-moves_up.false ∙
-          sym (whole_at c.args.round c.args.negative q amount parts loss p st);
+          sym (whole_at c.args.round c.args.negative q amount parts loss p s);
       exact_is =
-          exact_at c.args.round c.args.negative q amount parts loss c.is_exact-exact.result p st
+          exact_at c.args.round c.args.negative q amount parts loss c.is_exact-exact.result p s
           c.is_exact-exact.ensures.yes c.is_exact-exact.ensures.no;
     }
