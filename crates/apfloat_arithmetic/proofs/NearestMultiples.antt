@@ -1,7 +1,7 @@
 -- The nearest multiple of a divisor, and remainders in other units.
 use Rattle.std.proofs.Common.{◌≡◌, ℕ, Bool, true, false, not, cond, eqb, ◌+◌, ◌-◌, ◌*◌, ◌/◌, ◌%◌, ◌^◌, ◌<◌, ◌≤◌, sym, refl, ap, ◌∙◌, subst, ⊎_elim, arith, ℤ, pos, ◌+ℤ◌}
 use Rattle.std.proofs.Math.Bool.{beq}
-use Rattle.std.proofs.Math.Nat.{mul-lt-mul_of_pos_right, lt_of_mul-lt-mul_right, eq_of_mul-eq-mul_right, mod-lt, mod-add-div', mul-div-mul_right, div-one}
+use Rattle.std.proofs.Math.Nat.{lt_of_mul-lt-mul_right, eq_of_mul-eq-mul_right, mod-lt, mod-add-div', mul-div-mul_right, div-one}
 use Rattle.std.proofs.lemmas.Bool.{cases_lt, le-ltb, lt-ltb, ne_eqb, false≢true}
 use Rattle.std.proofs.lemmas.Nat.{pow-add, pow_pos}
 use Rattle.std.proofs.lemmas.Int.{ints}
@@ -10,7 +10,7 @@ use Rattle.apfloat_base.specs.declared.kinds.Round.TheVariants.{NearestTiesToEve
 use Rattle.apfloat_base.specs.rounding.Rounding.{takes_above, signed_quanta}
 use Rattle.apfloat_base.specs.arithmetic.Remainders.{nearest_quotient, rest_of}
 use Rattle.apfloat_base.specs.arithmetic.Exact.{up, down}
-use Rattle.apfloat_base.proofs.Picks.{takes_less, takes_half, takes_more}
+use Rattle.apfloat_base.proofs.Picks.{takes_less, takes_scaled}
 use Rattle.apfloat_base.proofs.Powers.{twice_power}
 use Rattle.apfloat_base.proofs.Scaled.{less_scaled}
 use Rattle.apfloat_base.proofs.Choices.{cond_same}
@@ -20,30 +20,11 @@ use Rattle.apfloat_arithmetic.proofs.WholeQuotients.{below_divisor}
 abbrev pub upper : ℕ → ℕ → Bool → Bool
 upper r s odd = takes_above NearestTiesToEven false r s odd
 
--- which multiple is nearest does not depend on the unit
-pub upper_scaled : (r s w : ℕ) (odd : Bool) → 0 < w → upper r s odd ≡ upper (r * w) (s * w) odd
-upper_scaled r s w odd p =
-    ⊎_elim
-    (λ (l : r < s).
-    let m : r * w < s * w = mul-lt-mul_of_pos_right l p in
-    takes_less NearestTiesToEven false odd r s l ∙ sym (takes_less NearestTiesToEven false odd (r * w) (s * w) m))
-    (λ (l : s ≤ r).
-    ⊎_elim
-    (λ (g : s < r).
-    let m : s * w < r * w = mul-lt-mul_of_pos_right g p in
-    takes_more NearestTiesToEven false odd r s g ∙ sym (takes_more NearestTiesToEven false odd (r * w) (s * w) m))
-    (λ (g : r ≤ s).
-    let e : r ≡ s = omega arith in
-    takes_half NearestTiesToEven false odd r s e ∙
-    sym (takes_half NearestTiesToEven false odd (r * w) (s * w) (ap (λ (x : ℕ). x * w) e)))
-    (cases_lt s r))
-    (cases_lt r s)
-
--- nor on the units that rest and divisor are counted in
+-- which multiple is nearest does not depend on the units that rest and divisor are counted in
 pub upper_level : (r d w s t : ℕ) (odd odd2 : Bool) → 0 < w → r * w ≡ s → d * w ≡ t → odd ≡ odd2
     → upper r (d - r) odd ≡ upper s (t - s) odd2
 upper_level r d w s t odd odd2 p e f o =
-    upper_scaled r (d - r) w odd p
+    takes_scaled NearestTiesToEven false odd r (d - r) w p
     ∙ ap (λ (x : ℕ). upper (r * w) x odd) (less_scaled d r w)
     ∙ ap (λ (x : ℕ). upper x (d * w - x) odd) e
     ∙ ap (λ (x : ℕ). upper s (x - s) odd) f

@@ -4,7 +4,7 @@ pub mod NeighboursExist
 pub mod Losses
 pub mod KeptDigits
 pub mod Picks
-pub mod Points
+pub mod PickedPoints
 pub mod Deliveries
 pub mod Signs
 pub mod Greatest

@@ -1,5 +1,5 @@
 -- Which neighbour is picked, by what is left of the magnitude.
-use Rattle.std.proofs.Common.{◌≡◌, ℕ, ◌+◌, ◌-◌, ◌*◌, ◌/◌, ◌%◌, ◌^◌, ◌<◌, Bool, cond, eqb, sym, refl, ap, ◌∙◌, arith}
+use Rattle.std.proofs.Common.{◌≡◌, ℕ, ◌+◌, ◌-◌, ◌*◌, ◌/◌, ◌%◌, ◌^◌, ◌<◌, ◌≤◌, Bool, cond, eqb, sym, refl, ap, ◌∙◌, ⊎_elim, arith}
 use Rattle.apfloat_base.specs.declared.kinds.Round.{Round}
 use Rattle.apfloat_base.specs.declared.kinds.Round.TheVariants.{NearestTiesToEven, TowardPositive, TowardNegative, TowardZero, NearestTiesToAway}
 use Rattle.apfloat_base.specs.declared.sig.loss.Loss.{Loss}
@@ -9,7 +9,8 @@ use Rattle.apfloat_base.specs.rounding.Standing.{StandsFor}
 use Rattle.apfloat_base.specs.rounding.Enclosure.{IsEnclosed, rounds_up}
 use Rattle.apfloat_base.proofs.Neighbours.{below_is, above_is_same, above_is_next, below_unique, above_unique}
 use Rattle.apfloat_base.proofs.Choices.{cond_times, cond_same}
-use Rattle.std.proofs.Math.Nat.{mul-div_cancel, mul-pos}
+use Rattle.std.proofs.Math.Nat.{mul-div_cancel, mul-pos, mul-lt-mul_of_pos_right}
+use Rattle.std.proofs.lemmas.Bool.{cases_lt}
 use Rattle.std.proofs.lemmas.Nat.{pow_pos}
 
 -- below the middle a mode takes the neighbour that it takes at 1 to 2
@@ -38,6 +39,26 @@ takes_more TowardPositive negative odd x y h = refl
 takes_more TowardNegative negative odd x y h = refl
 takes_more TowardZero negative odd x y h = refl
 takes_more NearestTiesToAway negative odd x y h = grind arith
+
+-- a factor above 0 does not change which neighbour a mode takes
+pub takes_scaled : (mode : Round) (negative odd : Bool) (x y factor : ℕ) → 0 < factor
+    → takes_above mode negative x y odd ≡ takes_above mode negative (x * factor) (y * factor) odd
+takes_scaled mode negative odd x y w p =
+    ⊎_elim
+    (λ (l : x < y).
+    takes_less mode negative odd x y l ∙
+    sym (takes_less mode negative odd (x * w) (y * w) (mul-lt-mul_of_pos_right l p)))
+    (λ (l : y ≤ x).
+    ⊎_elim
+    (λ (g : y < x).
+    takes_more mode negative odd x y g ∙
+    sym (takes_more mode negative odd (x * w) (y * w) (mul-lt-mul_of_pos_right g p)))
+    (λ (g : x ≤ y).
+    let e : x ≡ y = omega arith in
+    takes_half mode negative odd x y e ∙
+    sym (takes_half mode negative odd (x * w) (y * w) (ap (λ (z : ℕ). z * w) e)))
+    (cases_lt y x))
+    (cases_lt x y)
 
 -- the lower neighbour, counted in steps to the upper one, is odd if and only if its significand is
 odd_is : (m c : ℕ) → eqb (m * 2 ^ c / ((m + 1) * 2 ^ c - m * 2 ^ c) % 2) 1 ≡ eqb (m % 2) 1

@@ -1,4 +1,4 @@
 pub mod AsciiTexts
-pub mod FractionExponents
+pub mod ExponentWords
 pub mod WrittenAnswers
 pub mod ExportsOnce

@@ -20,7 +20,7 @@ use Rattle.rustc_apfloat.specs.Specials.{Meaning}
 use Rattle.rustc_apfloat.specs.Texts.{Means}
 use Rattle.apfloat_base.proofs.OneMeaning.{meaning_no_fault}
 use Rattle.apfloat_pairs.proofs.PairBits.{double_is_lawful}
-use Rattle.apfloat_c.proofs.FractionExponents.{frexp_fits}
+use Rattle.apfloat_c.proofs.ExponentWords.{frexp_fits}
 use Rattle.dispatch.specs.ValueKinds.{value_of}
 use Rattle.apfloat_c.specs.declared.data.Answer.{Answer}
 use Rattle.apfloat_c.specs.Requests.{is_text, refused_text, unless, width_fault, wrong_width}

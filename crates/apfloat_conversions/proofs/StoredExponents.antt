@@ -7,7 +7,7 @@ use Rattle.apfloat_base.specs.declared.kinds.Round.{Round}
 use Rattle.apfloat_base.specs.declared.sig.loss.Loss.TheVariants.{ExactlyZero}
 use Rattle.apfloat_base.specs.formats.Format.{Format, largest, greatest_significand}
 use Rattle.apfloat_base.specs.formats.Datum.{Datum, finite}
-use Rattle.apfloat_base.specs.rounding.Bounds.{scaling_bound}
+use Rattle.apfloat_base.specs.rounding.Bounds.{scaling_bound, span_bound}
 use Rattle.apfloat_base.specs.rounding.Rounding.{IsDelivered, zero_sign}
 use Rattle.apfloat_base.specs.arithmetic.Scaling.{IsScaling}
 use Rattle.apfloat_base.specs.rounding.Standing.{StandsFor, up, down}
@@ -62,9 +62,9 @@ scale_delivered shape m e j near r mode negative v st law n c i d =
     let k = scale_is shape law in
     let w = span_is shape law in
     let o = n.operand in
-    let g : (e -ℤ shape.min_exp) ≤ℤ pos (2 ^ 21) = omega (arith, ints, law, o) in
-    let g' = up_le (e -ℤ shape.min_exp) (2 ^ 21) g in
-    let f : (format_at shape).span ≤ 2 ^ 21 = omega (arith, ints, law, w) in
+    let g : (e -ℤ shape.min_exp) ≤ℤ pos span_bound = omega (arith, ints, law, o) in
+    let g' = up_le (e -ℤ shape.min_exp) span_bound g in
+    let f : (format_at shape).span ≤ span_bound = omega (arith, ints, law, w) in
     clamp_kept (format_at shape) mode negative (quanta_at shape.min_exp m e)
     (shape.precision + up (e -ℤ shape.min_exp)) scaling_bound j
     near v st (omega (arith, law)) (quanta_some shape m e n)

@@ -2,7 +2,7 @@
 
 ghost use Rattle.std.specs.Prelude.{◌≡◌, ◌-◌, ◌^◌, ◌<◌, ◌≤◌, pos, ◌-ℤ◌};
 ghost use Rattle.apfloat_base.specs.formats.Format.{greatest_significand};
-ghost use Rattle.apfloat_base.specs.rounding.Bounds.{IsWithin, integer_bit_bound, exponent_bound};
+ghost use Rattle.apfloat_base.specs.rounding.Bounds.{IsWithin, span_bound, integer_bit_bound, exponent_bound};
 ghost use Rattle.apfloat_unpacked.specs.Shapes.{IsShape};
 
 use apfloat_base::sig::power_of_two;
@@ -51,7 +51,7 @@ impl Shape {
     pub fn scale(self) -> u32
         requires { IsShape self }
         ensures value { result ≡ (format_at self).scale }
-        ensures bound { result ≤ 2 ^ 21 }
+        ensures bound { result ≤ span_bound }
     {
         (self.precision as ExpInt - 1 - self.min_exp) as u32
     }
@@ -61,7 +61,7 @@ impl Shape {
     pub fn span(self) -> u32
         requires { IsShape self }
         ensures value { result ≡ (format_at self).span }
-        ensures bound { result ≤ 2 ^ 21 }
+        ensures bound { result ≤ span_bound }
     {
         (self.max_exp - self.min_exp) as u32
     }

@@ -1,8 +1,7 @@
 -- How far exponents, units and places are from 0, so that signed 32-bit integers hold them.
 --
 -- By the law of formats, `MIN_EXP` and `MAX_EXP` are within `format_bound`, and a significand has at most 125 digits.
--- So a format's scale and the span of its exponents are at most 2 ^ 21. Each further bound has room for everything that
--- leads to it.
+-- Each further bound has room for everything that leads to it.
 use Rattle.std.specs.Prelude.{ℕ, ◌-◌, ◌^◌, ℤ, pos, neg_ℤ, ◌≤ℤ◌}
 
 -- at most `bound` away from 0, on either side
@@ -13,6 +12,10 @@ pub record IsWithin (bound : ℕ) (x : ℤ) : Type 0 where
 -- the least and the greatest exponent that a format may have, of integer bits
 abbrev pub format_bound : ℕ
 format_bound = 2 ^ 20
+
+-- a format's scale, and the span of its exponents
+abbrev pub span_bound : ℕ
+span_bound = 2 ^ 21
 
 -- exponents of the integer bits of a format's numbers, including denormal ones
 abbrev pub number_bound : ℕ
