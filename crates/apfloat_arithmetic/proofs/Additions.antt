@@ -10,10 +10,10 @@ use Rattle.apfloat_base.specs.declared.sig.loss.Loss.TheVariants.{ExactlyZero}
 use Rattle.apfloat_base.specs.arithmetic.Exact.{up, down, signed, sign_of, magnitude}
 use Rattle.apfloat_base.specs.rounding.Standing.{StandsFor}
 use Rattle.apfloat_base.specs.arithmetic.Totals.{counted, StandsForSigned}
-use Rattle.apfloat_base.proofs.Powers.{two_pos, twice_half}
-use Rattle.apfloat_base.proofs.Deliveries.{loss_cases}
-use Rattle.apfloat_base.proofs.KeptDigits.{stands_cancel, stands_times}
-use Rattle.apfloat_base.proofs.Totals.{zero_stands, no_down}
+use Rattle.apfloat_base.proofs.general.Powers.{two_pos, twice_half}
+use Rattle.apfloat_base.proofs.rounding.Deliveries.{loss_cases}
+use Rattle.apfloat_base.proofs.rounding.KeptDigits.{stands_cancel, stands_times}
+use Rattle.apfloat_base.proofs.arithmetic.Totals.{zero_stands, no_down}
 use Rattle.apfloat_unpacked.specs.Stored.{IsQuantaAt}
 
 -- ---- a finer count of quanta

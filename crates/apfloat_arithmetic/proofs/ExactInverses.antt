@@ -9,8 +9,8 @@ use Rattle.apfloat_base.specs.arithmetic.Exact.{up, down}
 use Rattle.apfloat_base.specs.formats.Format.{largest, greatest_significand}
 use Rattle.apfloat_base.specs.arithmetic.Exponents.{AreInverse, IsExactInverse}
 use Rattle.apfloat_base.specs.formats.Datum.{finite}
-use Rattle.apfloat_base.proofs.Greatest.{greatest_fits, greatest_full}
-use Rattle.apfloat_base.proofs.Powers.{pow3, pow22, exponent_at_most, exponent_below, two_pos}
+use Rattle.apfloat_base.proofs.formats.Greatest.{greatest_fits, greatest_full}
+use Rattle.apfloat_base.proofs.general.Powers.{pow3, pow22, exponent_at_most, exponent_below, two_pos}
 use Rattle.apfloat_unpacked.specs.declared.shape.Shape.{Shape}
 use Rattle.apfloat_unpacked.specs.Shapes.{IsShape, format_at}
 use Rattle.apfloat_unpacked.specs.Stored.{IsNormalAt, IsQuantaAt, quanta_at}

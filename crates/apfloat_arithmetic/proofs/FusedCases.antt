@@ -9,7 +9,7 @@ use Rattle.apfloat_base.specs.arithmetic.Exact.{product_sign, signed}
 use Rattle.apfloat_base.specs.rounding.Rounding.{IsDelivered}
 use Rattle.apfloat_base.specs.arithmetic.Sums.{zero_sum_sign}
 use Rattle.apfloat_base.specs.arithmetic.FusedSums.{IsFusedSum}
-use Rattle.apfloat_base.proofs.Signs.{no_sign, and_zero, zero_and, rounded_signed}
+use Rattle.apfloat_base.proofs.arithmetic.Signs.{no_sign, and_zero, zero_and, rounded_signed}
 
 -- the exact sum where one of the two is zero
 product_alone : (left right : Bool) (m n : ℕ) → n ≡ 0 → (signed left m +ℤ signed right n) ≡ signed left m

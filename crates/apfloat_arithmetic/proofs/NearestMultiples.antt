@@ -10,10 +10,10 @@ use Rattle.apfloat_base.specs.declared.kinds.Round.TheVariants.{NearestTiesToEve
 use Rattle.apfloat_base.specs.rounding.Rounding.{takes_above, signed_quanta}
 use Rattle.apfloat_base.specs.arithmetic.Remainders.{nearest_quotient, rest_of}
 use Rattle.apfloat_base.specs.arithmetic.Exact.{up, down}
-use Rattle.apfloat_base.proofs.Picks.{takes_less, takes_scaled}
-use Rattle.apfloat_base.proofs.Powers.{twice_power}
-use Rattle.apfloat_base.proofs.Scaled.{less_scaled}
-use Rattle.apfloat_base.proofs.Choices.{cond_same}
+use Rattle.apfloat_base.proofs.rounding.Picks.{takes_less, takes_scaled}
+use Rattle.apfloat_base.proofs.general.Powers.{twice_power}
+use Rattle.apfloat_base.proofs.general.Scaled.{less_scaled}
+use Rattle.apfloat_base.proofs.general.Choices.{cond_same}
 use Rattle.apfloat_arithmetic.proofs.WholeQuotients.{below_divisor}
 
 -- whether the multiple above is the nearest

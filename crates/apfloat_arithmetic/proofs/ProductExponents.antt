@@ -5,7 +5,7 @@ use Rattle.std.proofs.lemmas.Nat.{pow_pos}
 use Rattle.apfloat_base.specs.declared.sig.loss.Loss.{Loss}
 use Rattle.apfloat_base.specs.rounding.Bounds.{IsWithin, number_bound}
 use Rattle.apfloat_base.specs.rounding.Standing.{StandsFor, up, down}
-use Rattle.apfloat_base.proofs.Fractions.{product_stands, quotient_stands}
+use Rattle.apfloat_base.proofs.arithmetic.Fractions.{product_stands, quotient_stands}
 use Rattle.apfloat_unpacked.specs.declared.shape.Shape.{Shape}
 use Rattle.apfloat_unpacked.specs.Shapes.{IsShape, format_at}
 use Rattle.apfloat_unpacked.specs.Stored.{IsNormalAt, quanta_at}

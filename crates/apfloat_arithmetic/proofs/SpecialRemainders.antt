@@ -9,7 +9,7 @@ use Rattle.apfloat_base.specs.formats.Datum.{Datum, finite}
 use Rattle.apfloat_base.specs.rounding.Answer.{IsAnswer}
 use Rattle.apfloat_base.specs.rounding.Rounding.{ok_bits, zero_sign}
 use Rattle.apfloat_base.specs.arithmetic.Remainders.{IsRemainder, ones_of_quotient, rest_of}
-use Rattle.apfloat_base.proofs.Choices.{zero_if}
+use Rattle.apfloat_base.proofs.general.Choices.{zero_if}
 use Rattle.apfloat_unpacked.specs.declared.shape.Shape.{Shape}
 use Rattle.apfloat_unpacked.specs.declared.unpacked.Unpacked.{Unpacked}
 use Rattle.apfloat_unpacked.specs.Shapes.{format_at}

@@ -8,7 +8,7 @@ use Rattle.apfloat_base.specs.formats.Format.{Format}
 use Rattle.apfloat_base.specs.formats.Datum.{Datum, finite, infinite, nan}
 use Rattle.apfloat_base.specs.arithmetic.Exponents.{IsIlogb, IsLogarithm}
 use Rattle.apfloat_base.specs.arithmetic.Remainders.{ones_of_quotient}
-use Rattle.apfloat_base.proofs.Powers.{two_pos}
+use Rattle.apfloat_base.proofs.general.Powers.{two_pos}
 
 -- a quotient below 1 has no ones
 none : (m n : ℕ) → m < n → 0 < count_ones (m / n) → ⊥

@@ -29,12 +29,12 @@ use Rattle.apfloat_base.specs.texts.Faults.{words}
 use Rattle.apfloat_base.specs.texts.Readings.{IsMeant, IsReading, IsRefusal}
 use Rattle.apfloat_base.specs.texts.Parsing.{IsRead}
 use Rattle.apfloat_base.specs.Determined.{Determines, DeterminesBoth, AreOneReading, IsDetermined}
-use Rattle.apfloat_base.proofs.Laws.{delivered_once}
+use Rattle.apfloat_base.proofs.rounding.Laws.{delivered_once}
 use Rattle.apfloat_base.proofs.Once.{Once, answer_once, sum_once, difference_once, product_once, quotient_once, scaling_once, from_unsigned_once, from_signed_once, round_to_integral_once, whole_once, remainder_once, next_up_once, next_down_once}
-use Rattle.apfloat_base.proofs.EncodedOnce.{encoded_once}
-use Rattle.apfloat_base.proofs.Inverses.{logarithm_once, fraction_once, inverse_once}
-use Rattle.apfloat_base.proofs.Choices.{match_one, match_case}
-use Rattle.apfloat_base.proofs.OneMeaning.{one_meaning, meaning_no_fault}
+use Rattle.apfloat_base.proofs.bits.EncodedOnce.{encoded_once}
+use Rattle.apfloat_base.proofs.arithmetic.Inverses.{logarithm_once, fraction_once, inverse_once}
+use Rattle.apfloat_base.proofs.general.Choices.{match_one, match_case}
+use Rattle.apfloat_base.proofs.texts.OneMeaning.{one_meaning, meaning_no_fault}
 
 -- an answer is its value and the bits of its status
 pub same_answer : {A : Type 0} (answer other : StatusAnd A) → answer.value ≡ other.value

@@ -14,11 +14,11 @@ use Rattle.rustc_apfloat.specs.PairAnswers.{OncePair}
 use Rattle.apfloat_base.specs.Determined.{Determines, DeterminesBoth}
 use Rattle.rustc_apfloat.proofs.LawTest.{lawful_from_test}
 use Rattle.apfloat_base.proofs.Determined.{exponent_once, frexp_once, reading_once, scale_some}
-use Rattle.apfloat_base.proofs.Encodings.{lawful_interchange}
-use Rattle.apfloat_base.proofs.EncodedOnce.{encoded_once}
+use Rattle.apfloat_base.proofs.bits.Encodings.{lawful_interchange}
+use Rattle.apfloat_base.proofs.bits.EncodedOnce.{encoded_once}
 use Rattle.apfloat_base.proofs.Once.{Once, OnceWith, conversion_once, from_signed_once, from_unsigned_once, fused_sum_once, next_down_once, next_up_once, round_to_integral_once, scaling_once, whole_once}
-use Rattle.apfloat_pairs.proofs.CallsOnce.{OnceWhole, pair_fraction_once, pair_from_signed_once, pair_from_unsigned_once, pair_ilogb_once, pair_next_down_once, pair_next_up_once, pair_reading_once, pair_round_to_integral_once, pair_scaling_once, pair_to_signed_once, pair_to_unsigned_once}
-use Rattle.apfloat_pairs.proofs.PairBits.{pair_encoded_once}
+use Rattle.apfloat_pair_theory.proofs.calls.CallsOnce.{OnceWhole, pair_fraction_once, pair_from_signed_once, pair_from_unsigned_once, pair_ilogb_once, pair_next_down_once, pair_next_up_once, pair_reading_once, pair_round_to_integral_once, pair_scaling_once, pair_to_signed_once, pair_to_unsigned_once}
+use Rattle.apfloat_pair_theory.proofs.pairs.PairBits.{pair_encoded_once}
 use Rattle.apfloat_c.specs.declared.data.Answer.{Answer}
 use Rattle.apfloat_c.specs.declared.data.Halves.{Halves}
 use Rattle.dispatch.specs.ValueKinds.{Kind, of_format, of_pairs, value_of}

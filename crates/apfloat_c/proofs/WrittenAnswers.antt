@@ -18,8 +18,8 @@ use Rattle.rustc_apfloat.specs.PairCalls.{IsPairReading, IsPairToSigned}
 use Rattle.rustc_apfloat.specs.Readings.{IsReading}
 use Rattle.rustc_apfloat.specs.Specials.{Meaning}
 use Rattle.rustc_apfloat.specs.Texts.{Means}
-use Rattle.apfloat_base.proofs.OneMeaning.{meaning_no_fault}
-use Rattle.apfloat_pairs.proofs.PairBits.{double_is_lawful}
+use Rattle.apfloat_base.proofs.texts.OneMeaning.{meaning_no_fault}
+use Rattle.apfloat_pair_theory.proofs.pairs.PairBits.{double_is_lawful}
 use Rattle.apfloat_c.proofs.ExponentWords.{frexp_fits}
 use Rattle.dispatch.specs.ValueKinds.{value_of}
 use Rattle.apfloat_c.specs.declared.data.Answer.{Answer}

@@ -12,8 +12,8 @@ use Rattle.apfloat_base.specs.formats.Datum.{Datum, finite}
 use Rattle.apfloat_base.specs.rounding.Rounding.{zero_sign}
 use Rattle.apfloat_base.specs.formats.Members.{IsNanSignificand}
 use Rattle.apfloat_base.specs.arithmetic.Conversions.{IsConversion, IsConvertedNumber, IsKept, loses_zero_sign}
-use Rattle.apfloat_base.proofs.Powers.{twice_half}
-use Rattle.apfloat_base.proofs.KeptDigits.{fits_shifted}
+use Rattle.apfloat_base.proofs.general.Powers.{twice_half}
+use Rattle.apfloat_base.proofs.rounding.KeptDigits.{fits_shifted}
 use Rattle.apfloat_unpacked.specs.declared.shape.Shape.{Shape}
 use Rattle.apfloat_unpacked.specs.declared.unpacked.Unpacked.{Unpacked}
 use Rattle.apfloat_unpacked.specs.Shapes.{format_at}

@@ -10,13 +10,13 @@ use Rattle.apfloat_base.specs.arithmetic.Exact.{up, down}
 use Rattle.apfloat_base.specs.formats.Format.{Format, largest, greatest_significand}
 use Rattle.apfloat_base.specs.formats.Members.{IsFiniteOf}
 use Rattle.apfloat_base.specs.rounding.Rounding.{ok_bits}
-use Rattle.apfloat_base.proofs.Deliveries.{signed_some}
-use Rattle.apfloat_base.proofs.Greatest.{greatest_fits, greatest_full}
-use Rattle.apfloat_base.proofs.KeptDigits.{fits_shifted, full_shifted}
-use Rattle.apfloat_base.proofs.Laws.{exact_delivered}
-use Rattle.apfloat_base.proofs.Powers.{both_above_zero, both_above_zero, pow3, two_pos}
-use Rattle.apfloat_base.proofs.SingleScalings.{scaled_stands}
-use Rattle.apfloat_base.proofs.Totals.{no_down}
+use Rattle.apfloat_base.proofs.rounding.Deliveries.{signed_some}
+use Rattle.apfloat_base.proofs.formats.Greatest.{greatest_fits, greatest_full}
+use Rattle.apfloat_base.proofs.rounding.KeptDigits.{fits_shifted, full_shifted}
+use Rattle.apfloat_base.proofs.rounding.Laws.{exact_delivered}
+use Rattle.apfloat_base.proofs.general.Powers.{both_above_zero, both_above_zero, pow3, two_pos}
+use Rattle.apfloat_base.proofs.arithmetic.SingleScalings.{scaled_stands}
+use Rattle.apfloat_base.proofs.arithmetic.Totals.{no_down}
 use Rattle.apfloat_unpacked.specs.declared.shape.Shape.{Shape}
 use Rattle.apfloat_unpacked.specs.Shapes.{IsShape, format_at}
 use Rattle.apfloat_unpacked.specs.Stored.{IsNormalAt, IsQuantaAt, quanta_at}

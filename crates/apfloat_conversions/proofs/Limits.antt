@@ -10,8 +10,8 @@ use Rattle.apfloat_base.specs.formats.Datum.{finite}
 use Rattle.apfloat_base.specs.arithmetic.Exact.{signed}
 use Rattle.apfloat_base.specs.whole_numbers.WholeNumbers.{whole_pick, whole_quanta, inexact_unless}
 use Rattle.apfloat_base.specs.whole_numbers.WholeNumbersOut.{IsToUnsigned, ranged, exact_or_not}
-use Rattle.apfloat_base.proofs.Choices.{no_zero}
-use Rattle.apfloat_base.proofs.SignedTests.{less_so, less_not}
+use Rattle.apfloat_base.proofs.general.Choices.{no_zero}
+use Rattle.apfloat_base.proofs.whole_numbers.SignedTests.{less_so, less_not}
 
 -- the same whole number, also without a sign
 pub same_number : (m n : ℕ) → pos m ≡ pos n → m ≡ n

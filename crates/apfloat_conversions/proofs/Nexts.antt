@@ -11,11 +11,11 @@ use Rattle.apfloat_base.specs.rounding.Grid.{IsOnGrid, IsBelow, IsAbove}
 use Rattle.apfloat_base.specs.rounding.Enclosure.{IsEnclosed}
 use Rattle.apfloat_base.specs.arithmetic.Exponents.{IsLogarithm}
 use Rattle.apfloat_base.specs.rounding.Standing.{up, down}
-use Rattle.apfloat_base.proofs.Powers.{two_pos, twice_half}
-use Rattle.apfloat_base.proofs.Laws.{exact_below, zero_on_grid}
-use Rattle.apfloat_base.proofs.Neighbours.{next_multiple, next_on_grid, none_between, below_is}
-use Rattle.apfloat_base.proofs.SingleScalings.{scaled_stands, up_far, down_far}
-use Rattle.apfloat_base.proofs.Greatest.{greatest_fits}
+use Rattle.apfloat_base.proofs.general.Powers.{two_pos, twice_half}
+use Rattle.apfloat_base.proofs.rounding.Laws.{exact_below, zero_on_grid}
+use Rattle.apfloat_base.proofs.rounding.Neighbours.{next_multiple, next_on_grid, none_between, below_is}
+use Rattle.apfloat_base.proofs.arithmetic.SingleScalings.{scaled_stands, up_far, down_far}
+use Rattle.apfloat_base.proofs.formats.Greatest.{greatest_fits}
 use Rattle.apfloat_unpacked.specs.Stored.{IsOperandAt, IsQuantaAt}
 use Rattle.apfloat_conversions.proofs.Wholes.{up_of}
 

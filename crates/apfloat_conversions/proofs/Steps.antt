@@ -10,10 +10,10 @@ use Rattle.apfloat_base.specs.rounding.Grid.{IsBelow, IsAbove}
 use Rattle.apfloat_base.specs.rounding.Rounding.{zero_sign}
 use Rattle.apfloat_base.specs.arithmetic.NextUp.{IsNextGreater, IsNextLess}
 use Rattle.apfloat_base.specs.rounding.Standing.{up, down}
-use Rattle.apfloat_base.proofs.Deliveries.{signed_some}
-use Rattle.apfloat_base.proofs.Signs.{one_side}
-use Rattle.apfloat_base.proofs.Powers.{twice_half}
-use Rattle.apfloat_base.proofs.SingleScalings.{up_le, up_far, quanta_below}
+use Rattle.apfloat_base.proofs.rounding.Deliveries.{signed_some}
+use Rattle.apfloat_base.proofs.arithmetic.Signs.{one_side}
+use Rattle.apfloat_base.proofs.general.Powers.{twice_half}
+use Rattle.apfloat_base.proofs.arithmetic.SingleScalings.{up_le, up_far, quanta_below}
 use Rattle.apfloat_unpacked.specs.declared.shape.Shape.{Shape}
 use Rattle.apfloat_unpacked.specs.Shapes.{IsShape, format_at}
 use Rattle.apfloat_unpacked.specs.Stored.{IsOperandAt, IsQuantaAt, IsNormalAt, quanta_at}

@@ -11,10 +11,10 @@ use Rattle.apfloat_base.specs.rounding.Bounds.{scaling_bound, span_bound}
 use Rattle.apfloat_base.specs.rounding.Rounding.{IsDelivered, zero_sign}
 use Rattle.apfloat_base.specs.arithmetic.Scaling.{IsScaling}
 use Rattle.apfloat_base.specs.rounding.Standing.{StandsFor, up, down}
-use Rattle.apfloat_base.proofs.Powers.{two_pos}
-use Rattle.apfloat_base.proofs.Greatest.{greatest_full}
-use Rattle.apfloat_base.proofs.Tables.{scaling_zero}
-use Rattle.apfloat_base.proofs.SingleScalings.{IsClamped, up_le, quanta_below, scaled_is, clamp_kept}
+use Rattle.apfloat_base.proofs.general.Powers.{two_pos}
+use Rattle.apfloat_base.proofs.formats.Greatest.{greatest_full}
+use Rattle.apfloat_base.proofs.arithmetic.Tables.{scaling_zero}
+use Rattle.apfloat_base.proofs.arithmetic.SingleScalings.{IsClamped, up_le, quanta_below, scaled_is, clamp_kept}
 use Rattle.apfloat_unpacked.specs.declared.shape.Shape.{Shape}
 use Rattle.apfloat_unpacked.specs.Shapes.{IsShape, format_at}
 use Rattle.apfloat_unpacked.specs.Stored.{IsOperandAt, IsQuantaAt, IsNormalAt, quanta_at}

@@ -18,9 +18,9 @@ use Rattle.apfloat_base.specs.rounding.Negation.{swapped, negated, negated_nan, 
 use Rattle.apfloat_base.specs.rounding.Rounding.{takes_above}
 use Rattle.apfloat_base.specs.whole_numbers.WholeNumbers.{whole_pick, whole_quanta, inexact_unless}
 use Rattle.apfloat_base.specs.whole_numbers.WholeNumbersOut.{IsToUnsigned, IsToSigned, IsWhole, Whole, ranged, exact_or_not, invalid_whole}
-use Rattle.apfloat_base.proofs.Powers.{two_pos, twice_half}
-use Rattle.apfloat_base.proofs.SignedTests.{less_so, less_not}
-use Rattle.apfloat_base.proofs.Signs.{no_sign}
+use Rattle.apfloat_base.proofs.general.Powers.{two_pos, twice_half}
+use Rattle.apfloat_base.proofs.whole_numbers.SignedTests.{less_so, less_not}
+use Rattle.apfloat_base.proofs.arithmetic.Signs.{no_sign}
 use Rattle.apfloat_conversions.proofs.Limits.{ranged_in, ranged_out}
 use Rattle.apfloat_conversions.proofs.Wholes.{whole_exactly}
 

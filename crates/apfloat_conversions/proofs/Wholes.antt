@@ -14,13 +14,13 @@ use Rattle.apfloat_base.specs.formats.Format.{Format}
 use Rattle.apfloat_base.specs.formats.Datum.{Datum, finite}
 use Rattle.apfloat_base.specs.rounding.Rounding.{takes_above, pick_between, signed_quanta}
 use Rattle.apfloat_base.specs.whole_numbers.WholeNumbers.{whole_pick, whole_quanta, inexact_unless, IsRoundToIntegral}
-use Rattle.apfloat_base.proofs.Powers.{two_pos, twice_half}
-use Rattle.apfloat_base.proofs.Deliveries.{signed_some}
-use Rattle.apfloat_base.proofs.Losses.{stands_to, stands_past}
-use Rattle.apfloat_base.proofs.KeptDigits.{stands_cancel}
-use Rattle.apfloat_base.proofs.Picks.{kept, takes_less, takes_half, takes_more}
-use Rattle.apfloat_base.proofs.SingleScalings.{scaled_stands}
-use Rattle.apfloat_base.proofs.Choices.{off_both}
+use Rattle.apfloat_base.proofs.general.Powers.{two_pos, twice_half}
+use Rattle.apfloat_base.proofs.rounding.Deliveries.{signed_some}
+use Rattle.apfloat_base.proofs.rounding.Losses.{stands_to, stands_past}
+use Rattle.apfloat_base.proofs.rounding.KeptDigits.{stands_cancel}
+use Rattle.apfloat_base.proofs.rounding.Picks.{kept, takes_less, takes_half, takes_more}
+use Rattle.apfloat_base.proofs.arithmetic.SingleScalings.{scaled_stands}
+use Rattle.apfloat_base.proofs.general.Choices.{off_both}
 
 -- a whole number that is an odd multiple of the distance to the next one is odd
 whole_odd : (q : ℕ) → eqb (q / (q + 1 - q) % 2) 1 ≡ eqb (q % 2) 1

@@ -1,13 +1,11 @@
 //! The formats of the library.
 
 pub mod basic;
-pub mod computing;
 pub mod extended;
 pub mod short;
 
 use apfloat_ieee::IeeeFloat;
 pub use basic::{DoubleS, HalfS, QuadS, SingleS};
-pub use computing::{FallbackExtendedS, FallbackS};
 pub use extended::X87DoubleExtendedS;
 pub use short::{BFloatS, Float8E4M3FNS, Float8E4M3FNUZS, Float8E5M2S};
 

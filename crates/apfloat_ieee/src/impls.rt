@@ -5,7 +5,7 @@ ghost use Rattle.apfloat_base.specs.rounding.Flags.{Gives, bits_of};
 ghost use Rattle.apfloat_base.specs.formats.Nan.{qnan, snan, is_signaling_nan};
 ghost use Rattle.apfloat_base.specs.rounding.Negation.{negated};
 ghost use Rattle.apfloat_base.specs.arithmetic.Sums.{IsSum, IsDifference, IsMonotone, IsNearby};
-ghost use Rattle.apfloat_base.proofs.SignedNumbers.{signed_above, signed_below, largest_some};
+ghost use Rattle.apfloat_base.proofs.whole_numbers.SignedNumbers.{signed_above, signed_below, largest_some};
 ghost use Rattle.apfloat_base.specs.arithmetic.Remainders.{IsTruncatedRemainder, IsNearestRemainder};
 ghost use Rattle.apfloat_base.specs.arithmetic.Exponents.{IsExactInverse, IsIlogb, IsFrexp};
 ghost use Rattle.apfloat_base.specs.formats.Members.{IsMember};
@@ -25,7 +25,7 @@ ghost use Rattle.apfloat_base.specs.whole_numbers.WholeNumbersOut.{IsToUnsigned,
 ghost use Rattle.apfloat_conversions.proofs.ToSigned.{to_signed_above, to_signed_below};
 ghost use Rattle.apfloat_base.specs.texts.Parsing.{IsRead};
 ghost use Rattle.apfloat_base.proofs.Determined.{determined, scale_some};
-ghost use Rattle.apfloat_base.proofs.Encodings.{lawful_interchange};
+ghost use Rattle.apfloat_base.proofs.bits.Encodings.{lawful_interchange};
 ghost use Rattle.apfloat_ieee.specs.Types.{constants_of, format_of, layout_of};
 
 use crate::ieee_float::{IeeeFloat, decode, encode, shape_of};

@@ -18,7 +18,7 @@ fn compare<S: Semantics>(x: IeeeFloat<S>, y: IeeeFloat<S>) -> Option<Ordering>
 
 impl<S: Semantics> PartialEq for IeeeFloat<S> {
     ghost use Rattle.apfloat_base.specs.order.Order.{is_equal};
-    ghost use Rattle.apfloat_base.proofs.OrderLaws.{equal_laws};
+    ghost use Rattle.apfloat_base.proofs.order.OrderLaws.{equal_laws};
 
     ghost eq = { is_equal };
 
@@ -36,7 +36,7 @@ impl<S: Semantics> PartialEq for IeeeFloat<S> {
 
 impl<S: Semantics> PartialOrd for IeeeFloat<S> {
     ghost use Rattle.apfloat_base.specs.order.Order.{compared};
-    ghost use Rattle.apfloat_base.proofs.OrderLaws.{compared_laws};
+    ghost use Rattle.apfloat_base.proofs.order.OrderLaws.{compared_laws};
 
     ghost partial_cmp = { compared };
 

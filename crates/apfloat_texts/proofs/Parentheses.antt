@@ -4,7 +4,7 @@ use Rattle.std.proofs.Math.Bool.{and-true}
 use Rattle.std.proofs.lemmas.Bool.{eq-eqb, ne_eqb, and_right, cond-true, cond-false}
 use Rattle.apfloat_base.specs.texts.Digits.{same}
 use Rattle.apfloat_base.specs.texts.Specials.{inside, in_parentheses, plain_payload, payload_of}
-use Rattle.apfloat_base.proofs.Choices.{eqb_self}
+use Rattle.apfloat_base.proofs.general.Choices.{eqb_self}
 
 -- with another last character it is the same only if it had that one
 last_same : (d : ℕ) (ys : List ℕ)

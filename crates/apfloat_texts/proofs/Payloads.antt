@@ -5,7 +5,7 @@ use Rattle.apfloat_base.specs.declared.marks.Radix.{Radix}
 use Rattle.apfloat_base.specs.declared.marks.Radix.TheVariants.{Sixteen, Eight, Ten}
 use Rattle.apfloat_base.specs.texts.Digits.{every}
 use Rattle.apfloat_base.specs.texts.Specials.{is_digit_of, payload_of_digits}
-use Rattle.apfloat_base.proofs.Choices.{first_holds, first_fails, last_fails}
+use Rattle.apfloat_base.proofs.general.Choices.{first_holds, first_fails, last_fails}
 use Rattle.apfloat_texts.specs.Payloads.{longer, next, read_on, IsPayloadRead}
 
 -- ---- one digit

@@ -14,11 +14,11 @@ use Rattle.apfloat_base.specs.arithmetic.Exact.{up, down}
 use Rattle.apfloat_base.specs.rounding.Standing.{StandsFor}
 use Rattle.apfloat_base.specs.rounding.Rounding.{IsDelivered, zero_sign}
 use Rattle.apfloat_base.specs.texts.Readings.{IsScaledDelivery}
-use Rattle.apfloat_base.proofs.Powers.{two_pos}
-use Rattle.apfloat_base.proofs.Losses.{stands_from, stands_to}
-use Rattle.apfloat_base.proofs.KeptDigits.{stands_times}
-use Rattle.apfloat_base.proofs.FarMagnitudes.{IsFarAbove, IsFarBelow, far_above, far_below}
-use Rattle.apfloat_base.proofs.ZeroTexts.{zero_text}
+use Rattle.apfloat_base.proofs.general.Powers.{two_pos}
+use Rattle.apfloat_base.proofs.rounding.Losses.{stands_from, stands_to}
+use Rattle.apfloat_base.proofs.rounding.KeptDigits.{stands_times}
+use Rattle.apfloat_base.proofs.rounding.FarMagnitudes.{IsFarAbove, IsFarBelow, far_above, far_below}
+use Rattle.apfloat_base.proofs.texts.ZeroTexts.{zero_text}
 use Rattle.apfloat_unpacked.specs.declared.shape.Shape.{Shape}
 use Rattle.apfloat_unpacked.specs.Shapes.{IsShape, format_at}
 use Rattle.apfloat_texts.specs.Scans.{IsKeptAt}

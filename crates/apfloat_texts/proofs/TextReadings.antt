@@ -13,8 +13,8 @@ use Rattle.apfloat_base.specs.texts.Texts.{Means}
 use Rattle.apfloat_base.specs.texts.Faults.{begins_literal, behind_prefix_fault, fault_of}
 use Rattle.apfloat_base.specs.texts.Literals.{digits_number, places_behind_dot, exponent_text, exponent_number}
 use Rattle.apfloat_base.specs.texts.Readings.{IsMeant}
-use Rattle.apfloat_base.proofs.EachText.{begun_of}
-use Rattle.apfloat_base.proofs.LiteralMeanings.{literal_meaning}
+use Rattle.apfloat_base.proofs.texts.EachText.{begun_of}
+use Rattle.apfloat_base.proofs.texts.LiteralMeanings.{literal_meaning}
 use Rattle.apfloat_unpacked.specs.declared.shape.Shape.{Shape}
 use Rattle.apfloat_unpacked.specs.declared.unpacked.Unpacked.{Unpacked}
 use Rattle.apfloat_unpacked.specs.Shapes.{format_at}

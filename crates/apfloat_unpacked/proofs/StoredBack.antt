@@ -8,11 +8,11 @@ use Rattle.std.proofs.Math.Nat.{mul-le-mul_right, mul-lt-mul_of_pos_right, le_of
 use Rattle.apfloat_base.specs.declared.kinds.Category.{Category}
 use Rattle.apfloat_base.specs.declared.kinds.Category.TheVariants.{Infinity, NaN, Normal, Zero}
 use Rattle.apfloat_base.specs.arithmetic.Exact.{up, down}
-use Rattle.apfloat_base.proofs.Powers.{twice_half}
+use Rattle.apfloat_base.proofs.general.Powers.{twice_half}
 use Rattle.apfloat_unpacked.specs.declared.shape.Shape.{Shape}
 use Rattle.apfloat_unpacked.specs.declared.unpacked.Unpacked.{Unpacked}
 use Rattle.apfloat_base.specs.formats.Log.{log2}
-use Rattle.apfloat_base.proofs.Logarithms.{log2_is}
+use Rattle.apfloat_base.proofs.general.Logarithms.{log2_is}
 use Rattle.apfloat_unpacked.specs.Stored.{quanta_at, IsNormalAt, IsStored, IsStoredBy, datum_at, datum_by, unpacked_of, unpacked_number, exponent_at}
 
 -- ---- a number of all digits

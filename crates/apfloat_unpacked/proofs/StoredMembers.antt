@@ -8,8 +8,8 @@ use Rattle.apfloat_base.specs.declared.kinds.Category.TheVariants.{Infinity, NaN
 use Rattle.apfloat_base.specs.rounding.Grid.{IsOnGrid}
 use Rattle.apfloat_base.specs.order.Classes.{category_of}
 use Rattle.apfloat_base.specs.formats.Members.{IsMember}
-use Rattle.apfloat_base.proofs.Laws.{zero_on_grid}
-use Rattle.apfloat_base.proofs.Signs.{one_side}
+use Rattle.apfloat_base.proofs.rounding.Laws.{zero_on_grid}
+use Rattle.apfloat_base.proofs.arithmetic.Signs.{one_side}
 use Rattle.apfloat_unpacked.specs.declared.shape.Shape.{Shape}
 use Rattle.apfloat_unpacked.specs.declared.unpacked.Unpacked.{Unpacked}
 use Rattle.apfloat_unpacked.specs.Shapes.{format_at}

@@ -7,9 +7,9 @@ use Rattle.std.proofs.lemmas.Int.{ints}
 use Rattle.std.proofs.lemmas.Bool.{cases_lt}
 use Rattle.apfloat_base.specs.formats.Format.{greatest_significand}
 use Rattle.apfloat_base.specs.arithmetic.Exact.{up, down}
-use Rattle.apfloat_base.proofs.Powers.{two_pos, twice_half}
-use Rattle.apfloat_base.proofs.Greatest.{greatest_fits}
-use Rattle.apfloat_base.proofs.KeptDigits.{digits_le, some_digits, fits_shifted, full_shifted, same_quanta}
+use Rattle.apfloat_base.proofs.general.Powers.{two_pos, twice_half}
+use Rattle.apfloat_base.proofs.formats.Greatest.{greatest_fits}
+use Rattle.apfloat_base.proofs.rounding.KeptDigits.{digits_le, some_digits, fits_shifted, full_shifted, same_quanta}
 use Rattle.apfloat_unpacked.specs.declared.shape.Shape.{Shape}
 use Rattle.apfloat_unpacked.specs.Shapes.{IsShape, format_at}
 use Rattle.apfloat_unpacked.specs.Stored.{IsQuantaAt, quanta_at, IsNormalAt}

@@ -2,8 +2,8 @@
 use Rattle.std.proofs.Common.{◌≡◌, ℕ, ◌+◌, ◌*◌, ◌^◌, ◌<◌, ◌≤◌, Bool, true, false, if◌then◌else◌, List, ◌∷◌, drop, length, get_or, fold, Option, Some, None, refl, ap, ◌∙◌, lit<}
 use Rattle.std.proofs.lemmas.List.{at_drop_more, at_drop_all}
 use Rattle.rustc_apfloat.specs.Digits.{every, is_hexadecimal, digit_value, number}
-use Rattle.apfloat_base.proofs.Choices.{passed, refused}
-use Rattle.apfloat_base.proofs.MoreDigits.{digit_more, digit_fits}
+use Rattle.apfloat_base.proofs.general.Choices.{passed, refused}
+use Rattle.apfloat_base.proofs.general.MoreDigits.{digit_more, digit_fits}
 
 -- a number with one more digit behind it
 abbrev pub longer : ℕ → ℕ → ℕ

@@ -3,7 +3,7 @@ use Rattle.std.proofs.Common.{◌≡◌, ℕ, ◌+◌, ◌*◌, ◌^◌, ◌<◌
 use Rattle.std.proofs.lemmas.Bool.{le-ltb, ltb-false, ltb-true}
 use Rattle.std.proofs.lemmas.Bool.Decides.{nat_tests}
 use Rattle.std.proofs.lemmas.List.{at_drop_more, at_drop_all}
-use Rattle.apfloat_base.proofs.Choices.{first_holds, first_fails, last_fails}
+use Rattle.apfloat_base.proofs.general.Choices.{first_holds, first_fails, last_fails}
 use Rattle.rustc_apfloat.specs.Digits.{every, is_decimal, digit_value}
 use Rattle.commands.specs.Commands.{whole_number_of}
 

@@ -5,8 +5,8 @@ use Rattle.rustc_apfloat.specs.declared.Round.{Round}
 use Rattle.rustc_apfloat.specs.Pairs.{Pair, pair_of, IsPairEncodedBy}
 use Rattle.rustc_apfloat.specs.PairAnswers.{OncePair}
 use Rattle.rustc_apfloat.specs.PairCalls.{IsPairFromUnsigned, IsPairReading}
-use Rattle.apfloat_pairs.proofs.CallsOnce.{pair_from_unsigned_once, pair_reading_once}
-use Rattle.apfloat_pairs.proofs.PairBits.{pair_encoded_once}
+use Rattle.apfloat_pair_theory.proofs.calls.CallsOnce.{pair_from_unsigned_once, pair_reading_once}
+use Rattle.apfloat_pair_theory.proofs.pairs.PairBits.{pair_encoded_once}
 use Rattle.dispatch.specs.declared.Arithmetic.{Arithmetic}
 use Rattle.dispatch.specs.ValueKinds.{of_pairs}
 use Rattle.dispatch.specs.OfTwo.{IsPairOfTwo}

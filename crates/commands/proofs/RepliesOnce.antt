@@ -10,7 +10,7 @@ use Rattle.rustc_apfloat.specs.Specials.{Meaning}
 use Rattle.rustc_apfloat.specs.Texts.{Means}
 use Rattle.rustc_apfloat.specs.Readings.{IsReading, IsRefusal}
 use Rattle.apfloat_base.proofs.Once.{Once, fused_sum_once, from_unsigned_once}
-use Rattle.apfloat_base.proofs.OneMeaning.{meaning_no_fault}
+use Rattle.apfloat_base.proofs.texts.OneMeaning.{meaning_no_fault}
 use Rattle.apfloat_base.proofs.Determined.{reading_once}
 use Rattle.dispatch.specs.declared.Arithmetic.{Arithmetic}
 use Rattle.dispatch.specs.ValueKinds.{Kind, of_format, value_of}

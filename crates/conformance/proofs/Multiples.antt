@@ -6,9 +6,9 @@ use Rattle.std.proofs.lemmas.Bool.{cases_lt}
 use Rattle.std.specs.Int.{div_ceil}
 use Rattle.apfloat_base.specs.rounding.Grid.{IsBelow, IsAbove}
 use Rattle.apfloat_base.specs.rounding.Enclosure.{IsEnclosed}
-use Rattle.apfloat_base.proofs.Powers.{twice_half}
-use Rattle.apfloat_base.proofs.Neighbours.{below_is, above_is_same, above_is_next}
-use Rattle.apfloat_base.proofs.NeighboursExist.{enclosed_by_quotient}
+use Rattle.apfloat_base.proofs.general.Powers.{twice_half}
+use Rattle.apfloat_base.proofs.rounding.Neighbours.{below_is, above_is_same, above_is_next}
+use Rattle.apfloat_base.proofs.rounding.NeighboursExist.{enclosed_by_quotient}
 use Rattle.conformance.specs.Plain.{IsSpacing}
 
 -- a spacing that leaves few enough multiples encloses the magnitude

@@ -7,8 +7,8 @@ use Rattle.apfloat_base.specs.declared.kinds.NonfiniteBehavior.{NonfiniteBehavio
 use Rattle.apfloat_base.specs.formats.Format.{Format, largest}
 use Rattle.apfloat_base.specs.formats.Datum.{Datum}
 use Rattle.apfloat_base.specs.rounding.Rounding.{IsPick, IsDelivered, signed_quanta, is_tiny}
-use Rattle.apfloat_base.proofs.Laws.{pick_within}
-use Rattle.apfloat_base.proofs.Deliveries.{delivered_exactly, delivered_inexactly}
+use Rattle.apfloat_base.proofs.rounding.Laws.{pick_within}
+use Rattle.apfloat_base.proofs.rounding.Deliveries.{delivered_exactly, delivered_inexactly}
 use Rattle.conformance.specs.Plain.{HasBounds, tiny_of}
 use Rattle.conformance.specs.declared.plain.Bounds.{Bounds}
 use Rattle.conformance.proofs.Multiples.{above_fits}

@@ -6,10 +6,9 @@ ghost use Rattle.conformance.specs.Plain.{HasBounds};
 
 use crate::small::magnitude_bits;
 use crate::tables::MODES;
-use apfloat_base::sig::Loss;
 use conformance::own_formats::{HalfTinyBeforeS, SevenS};
 use conformance::plain::{Answer, Bounds, deliver};
-use rustc_apfloat::ieee::{Half, HalfS, NonfiniteBehavior, Semantics};
+use rustc_apfloat::ieee::{Half, HalfS, Loss, NonfiniteBehavior, Semantics};
 use rustc_apfloat::{ExpInt, Float, Round, ieee};
 use std::process::Abort;
 

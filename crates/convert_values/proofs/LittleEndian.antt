@@ -4,7 +4,7 @@ use Rattle.std.proofs.Math.Nat.{pow-le-pow_right, pow-suc, mul_assoc, mul_comm, 
 use Rattle.std.proofs.Math.ListN.{drop_of_length-le}
 use Rattle.std.proofs.lemmas.List.{drop_more, take_more_set, take_all, length-take-le}
 use Rattle.convert_values.specs.Bytes.{number_of}
-use Rattle.apfloat_base.proofs.MoreDigits.{digit_more, digit_fits}
+use Rattle.apfloat_base.proofs.general.MoreDigits.{digit_more, digit_fits}
 
 -- ---- reading, from the last byte down
 

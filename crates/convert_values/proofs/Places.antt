@@ -14,7 +14,7 @@ use Rattle.convert_values.specs.declared.counts.Outcome.{Outcome}
 use Rattle.convert_values.specs.declared.counts.Counts.{Counts}
 use Rattle.convert_values.specs.Outcomes.{counts_of, with_outcome, one_if, raised, became_nan}
 use Rattle.convert_values.specs.Blocks.{IsBlock, value_at}
-use Rattle.apfloat_base.proofs.ListLaws.{get_left, get_last}
+use Rattle.apfloat_base.proofs.general.ListLaws.{get_left, get_last}
 
 -- ---- counts
 

@@ -5,8 +5,8 @@ use Rattle.rustc_apfloat.specs.Datum.{Datum}
 use Rattle.rustc_apfloat.specs.Pairs.{Pair}
 use Rattle.rustc_apfloat.specs.PairAnswers.{OncePair}
 use Rattle.apfloat_base.proofs.Once.{Once, sum_once, difference_once, product_once, quotient_once, remainder_once}
-use Rattle.apfloat_pairs.proofs.PairsOnce.{pair_sum_once, pair_difference_once, pair_product_once}
-use Rattle.apfloat_pairs.proofs.CallsOnce.{pair_quotient_once, pair_nearest_remainder_once, pair_truncated_remainder_once}
+use Rattle.apfloat_pair_theory.proofs.calls.PairsOnce.{pair_sum_once, pair_difference_once, pair_product_once}
+use Rattle.apfloat_pair_theory.proofs.calls.CallsOnce.{pair_quotient_once, pair_nearest_remainder_once, pair_truncated_remainder_once}
 use Rattle.dispatch.specs.declared.arithmetic.Arithmetic.{Arithmetic}
 use Rattle.dispatch.specs.declared.arithmetic.Arithmetic.TheVariants.{Sum, Difference, Product, Quotient, NearestRemainder, TruncatedRemainder}
 use Rattle.dispatch.specs.OfTwo.{IsOfTwo, IsPairOfTwo}

@@ -1,3 +1,1 @@
 pub mod LawTest
-pub mod PairFractions
-pub mod PairSteps

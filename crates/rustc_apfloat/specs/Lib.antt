@@ -52,12 +52,12 @@ pub use Rattle.apfloat_base.specs.texts.Parsing
 pub use Rattle.apfloat_base.specs.Determined
 pub use Rattle.apfloat_ieee.specs.Types
 -- pairs of doubles
-pub use Rattle.apfloat_pairs.specs.PairFormats
-pub use Rattle.apfloat_pairs.specs.Pairs
-pub use Rattle.apfloat_pairs.specs.NearestSums
-pub use Rattle.apfloat_pairs.specs.PairSums
-pub use Rattle.apfloat_pairs.specs.PairProducts
-pub use Rattle.apfloat_pairs.specs.PairParts
-pub use Rattle.apfloat_pairs.specs.PairCalls
-pub use Rattle.apfloat_pairs.specs.PairAnswers
-pub use Rattle.apfloat_pairs.specs.PairAccuracy
+pub use Rattle.apfloat_pair_theory.specs.PairFormats
+pub use Rattle.apfloat_pair_theory.specs.Pairs
+pub use Rattle.apfloat_pair_theory.specs.NearestSums
+pub use Rattle.apfloat_pair_theory.specs.PairSums
+pub use Rattle.apfloat_pair_theory.specs.PairProducts
+pub use Rattle.apfloat_pair_theory.specs.PairParts
+pub use Rattle.apfloat_pair_theory.specs.PairCalls
+pub use Rattle.apfloat_pair_theory.specs.PairAnswers
+pub use Rattle.apfloat_pair_theory.specs.PairAccuracy

@@ -13,10 +13,10 @@ use conformance::own_formats::{
     WrittenBitS,
 };
 use rustc_apfloat::ieee::{
-    BFloatS, DoubleS, FallbackExtendedS, FallbackS, Float8E4M3FNS, Float8E4M3FNUZS, Float8E5M2S,
-    HalfS, IeeeFloat, QuadS, Semantics, SingleS, X87DoubleExtendedS,
+    BFloatS, DoubleS, Float8E4M3FNS, Float8E4M3FNUZS, Float8E5M2S, HalfS, IeeeFloat, QuadS,
+    Semantics, SingleS, X87DoubleExtendedS,
 };
-use rustc_apfloat::ppc::DoubleDouble;
+use rustc_apfloat::ppc::{DoubleDouble, FallbackExtendedS, FallbackS};
 use rustc_apfloat::{Float, Round};
 use std::fmt::Debug;
 

@@ -9,8 +9,8 @@ use crate::calls::row::Row;
 use crate::calls::values::{one_value, two_values, word_of};
 use crate::row_error::RowError;
 use rustc_apfloat::Float;
-use rustc_apfloat::ieee::{Double, FallbackS, IeeeFloat};
-use rustc_apfloat::ppc::DoubleDouble;
+use rustc_apfloat::ieee::{Double, IeeeFloat};
+use rustc_apfloat::ppc::{DoubleDouble, FallbackS};
 use std::cmp::Ordering;
 
 /// The wide format, of the exact sums of the parts.

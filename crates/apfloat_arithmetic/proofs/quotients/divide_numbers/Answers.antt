@@ -2,7 +2,7 @@ use Rattle.std.proofs.Common.{◌≡◌, ◌+◌, ◌*◌, ◌^◌, Bool, w32, t
 use Rattle.std.proofs.lemmas.Int.{to_z-of_z, ints}
 use Rattle.apfloat_base.specs.rounding.Flags.{bits_of}
 use Rattle.apfloat_base.specs.rounding.Rounding.{IsDelivered}
-use Rattle.apfloat_base.proofs.Fractions.{quotient_full}
+use Rattle.apfloat_base.proofs.arithmetic.Fractions.{quotient_full}
 use Rattle.apfloat_unpacked.specs.Shapes.{format_at}
 use Rattle.apfloat_unpacked.specs.Stored.{quanta_at, datum_at}
 use Rattle.apfloat_unpacked.proofs.StoredBack.{quanta_some}

@@ -1,7 +1,7 @@
 use Rattle.std.proofs.Common.{◌+◌, ◌^◌, ◌≤◌, arith}
 use Rattle.std.proofs.Math.Nat.{pow-le-pow_right}
-use Rattle.apfloat_base.proofs.Powers.{two_pos}
-use Rattle.apfloat_base.proofs.KeptDigits.{fits_shifted}
+use Rattle.apfloat_base.proofs.general.Powers.{two_pos}
+use Rattle.apfloat_base.proofs.rounding.KeptDigits.{fits_shifted}
 use Rattle.apfloat_arithmetic.proofs.quotients.quotient_of.Goals as goal
 
 pub divide-requires-clause-narrow : goal.divide-requires-clause-narrow

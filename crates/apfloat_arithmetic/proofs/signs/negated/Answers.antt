@@ -2,7 +2,7 @@ use Rattle.std.proofs.Common.{◌≡◌, rules, not, refl, sym, ap, ◌∙◌}
 use Rattle.apfloat_base.specs.declared.kinds.Category.{Category}
 use Rattle.apfloat_base.specs.declared.kinds.Category.TheVariants.{Normal, Zero, Infinity, NaN}
 use Rattle.apfloat_base.specs.rounding.Negation.{negated}
-use Rattle.apfloat_base.proofs.Laws.{number_swapped}
+use Rattle.apfloat_base.proofs.rounding.Laws.{number_swapped}
 use Rattle.apfloat_unpacked.specs.declared.shape.Shape.{Shape}
 use Rattle.apfloat_unpacked.specs.declared.unpacked.Unpacked.{Unpacked}
 use Rattle.apfloat_unpacked.specs.Stored.{IsStored, datum_at, quanta_at}

@@ -6,7 +6,7 @@ use Rattle.apfloat_base.specs.rounding.Standing.{up}
 use Rattle.apfloat_unpacked.specs.Shapes.{format_at}
 use Rattle.apfloat_unpacked.specs.Stored.{quanta_at, datum_at}
 use Rattle.apfloat_unpacked.proofs.StoredBack.{quanta_some}
-use Rattle.apfloat_base.proofs.Powers.{twice_half}
+use Rattle.apfloat_base.proofs.general.Powers.{twice_half}
 use Rattle.apfloat_unpacked.proofs.ShapeExponents.{exponent_word}
 use Rattle.apfloat_conversions.proofs.StoredExponents.{whole_places, scale_in_span, half_within}
 use Rattle.apfloat_conversions.proofs.Wholes.{integral_picked, integral_stays}

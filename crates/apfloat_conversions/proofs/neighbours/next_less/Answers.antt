@@ -1,6 +1,6 @@
 use Rattle.std.proofs.Common.{◌≡◌, ℕ, ◌-◌, ◌^◌, ◌≤◌, ℤ, pos, ◌+ℤ◌, ◌-ℤ◌, ◌≤ℤ◌, to_z, of_z, w32, arith, ap, subst, ◌∙◌, sym}
 use Rattle.std.proofs.lemmas.Int.{to_z-of_z, ints}
-use Rattle.apfloat_base.proofs.Powers.{twice_half}
+use Rattle.apfloat_base.proofs.general.Powers.{twice_half}
 use Rattle.apfloat_unpacked.specs.Stored.{quanta_at}
 use Rattle.apfloat_unpacked.proofs.ShapeExponents.{exponent_word}
 use Rattle.apfloat_conversions.proofs.Nexts.{room_below}

@@ -1,6 +1,6 @@
 use Rattle.std.proofs.Common.{◌≡◌, ℕ, ◌*◌, ◌^◌, ◌<◌, sym, ◌∙◌, refl}
 use Rattle.apfloat_base.specs.rounding.Standing.{StandsFor}
-use Rattle.apfloat_base.proofs.PickedPoints.{kept_moved, kept_stayed}
+use Rattle.apfloat_base.proofs.rounding.PickedPoints.{kept_moved, kept_stayed}
 use Rattle.apfloat_conversions.proofs.Wholes.{whole_at, exact_at, cut_whole_stands, cut_below}
 use Rattle.apfloat_conversions.proofs.whole.round_fraction.Goals.{After-shift_right-kept}
 use Rattle.apfloat_conversions.proofs.whole.round_fraction.Goals as goal

@@ -1,4 +1,4 @@
-use Rattle.apfloat_base.proofs.Encodings.{lawful_interchange}
+use Rattle.apfloat_base.proofs.bits.Encodings.{lawful_interchange}
 use Rattle.apfloat_ieee.specs.Types.{constants_of}
 use Rattle.apfloat_ieee.proofs.ieee_float.widths_of.Goals as goal
 

@@ -1,5 +1,5 @@
 use Rattle.apfloat_base.specs.rounding.Flags.{bits_of}
-use Rattle.apfloat_base.proofs.SumLaws.{nearby}
+use Rattle.apfloat_base.proofs.arithmetic.SumLaws.{nearby}
 use Rattle.apfloat_unpacked.specs.Stored.{datum_at}
 use Rattle.apfloat_unpacked.proofs.StoredMembers.{member_is}
 use Rattle.apfloat_ieee.specs.Types.{format_of, shape_of}

@@ -1,5 +1,5 @@
 use Rattle.apfloat_base.specs.rounding.Flags.{bits_of}
-use Rattle.apfloat_base.proofs.SumLaws.{monotone}
+use Rattle.apfloat_base.proofs.arithmetic.SumLaws.{monotone}
 use Rattle.apfloat_unpacked.specs.Stored.{datum_at}
 use Rattle.apfloat_ieee.specs.Types.{format_of, shape_of}
 use Rattle.apfloat_ieee.proofs.sums.sum.Goals as goal

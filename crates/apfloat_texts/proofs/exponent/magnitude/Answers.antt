@@ -1,6 +1,6 @@
 use Rattle.std.proofs.Common.{List, ℕ, sym}
 use Rattle.apfloat_texts.specs.Saturation.{IsCounted}
-use Rattle.apfloat_base.proofs.ListLaws.{parted}
+use Rattle.apfloat_base.proofs.general.ListLaws.{parted}
 use Rattle.apfloat_texts.proofs.Saturations.{count_goes}
 use Rattle.apfloat_texts.proofs.exponent.magnitude.Goals as goal
 

@@ -1,6 +1,6 @@
 use Rattle.std.proofs.Common.{◌∙◌, List, ℕ, sym}
 use Rattle.apfloat_texts.specs.Payloads.{IsPayloadRead}
-use Rattle.apfloat_base.proofs.ListLaws.{parted}
+use Rattle.apfloat_base.proofs.general.ListLaws.{parted}
 use Rattle.apfloat_texts.proofs.Payloads.{payload_stops, payload_goes}
 use Rattle.apfloat_texts.proofs.payload.number_of.Goals as goal
 

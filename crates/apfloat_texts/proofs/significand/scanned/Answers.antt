@@ -2,7 +2,7 @@ use Rattle.std.proofs.Common.{List, ℕ, sym, rules}
 use Rattle.apfloat_base.specs.texts.Faults.{is_digit_or_dot}
 use Rattle.apfloat_texts.specs.Scans.{IsScan}
 use Rattle.apfloat_texts.proofs.Scanning.{refused_by, scan_remade, scan_ended}
-use Rattle.apfloat_base.proofs.ListLaws.{parted, begins_empty, begins_first}
+use Rattle.apfloat_base.proofs.general.ListLaws.{parted, begins_empty, begins_first}
 use Rattle.apfloat_texts.proofs.significand.scanned.Goals as goal
 use Rattle.apfloat_texts.proofs.significand.scanned.Goals.{then-left-lt1-2, in-len1-up-left+else-is_digit_or_dot-2}
 

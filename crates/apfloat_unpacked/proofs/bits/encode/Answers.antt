@@ -1,5 +1,5 @@
-use Rattle.apfloat_base.proofs.FieldsOf.{fields_encode}
-use Rattle.apfloat_base.proofs.EncodedOnce.{encoded_once}
+use Rattle.apfloat_base.proofs.bits.FieldsOf.{fields_encode}
+use Rattle.apfloat_base.proofs.bits.EncodedOnce.{encoded_once}
 use Rattle.apfloat_unpacked.specs.Shapes.{format_at}
 use Rattle.apfloat_unpacked.specs.Encoded.{layout_at, fields_at}
 use Rattle.apfloat_unpacked.specs.Stored.{datum_at}

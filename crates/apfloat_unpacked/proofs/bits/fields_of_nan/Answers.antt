@@ -3,7 +3,7 @@ use Rattle.apfloat_base.specs.declared.kinds.NonfiniteBehavior.{NonfiniteBehavio
 use Rattle.apfloat_base.specs.declared.kinds.NonfiniteBehavior.TheVariants.{NanNegativeZero}
 use Rattle.apfloat_base.specs.formats.Members.{IsNanSignificand}
 use Rattle.apfloat_base.specs.formats.Nan.{nan_sign}
-use Rattle.apfloat_base.proofs.FieldsOf.{nan_fields_of, one_nan_fields_of}
+use Rattle.apfloat_base.proofs.bits.FieldsOf.{nan_fields_of, one_nan_fields_of}
 use Rattle.apfloat_unpacked.specs.Shapes.{format_at}
 use Rattle.apfloat_unpacked.specs.Encoded.{layout_at}
 use Rattle.apfloat_unpacked.proofs.bits.fields_of_nan.Goals as goal

@@ -3,8 +3,8 @@ use Rattle.std.proofs.lemmas.Int.{ints}
 use Rattle.apfloat_base.specs.formats.Format.{smallest_normalized, largest}
 use Rattle.apfloat_base.specs.formats.Datum.{finite}
 use Rattle.apfloat_base.specs.bits.Interchange.{IsInterchange, AreFieldsOf}
-use Rattle.apfloat_base.proofs.EncodedOnce.{fields_with}
-use Rattle.apfloat_base.proofs.FieldsOf.{low_fields_of, high_fields_of}
+use Rattle.apfloat_base.proofs.bits.EncodedOnce.{fields_with}
+use Rattle.apfloat_base.proofs.bits.FieldsOf.{low_fields_of, high_fields_of}
 use Rattle.apfloat_unpacked.specs.Shapes.{format_at, IsShape}
 use Rattle.apfloat_unpacked.specs.Stored.{quanta_at, IsNormalAt}
 use Rattle.apfloat_unpacked.specs.declared.shape.Shape.{Shape}

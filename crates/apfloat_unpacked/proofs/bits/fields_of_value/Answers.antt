@@ -3,8 +3,8 @@ use Rattle.std.proofs.lemmas.Nat.{pow_pos}
 use Rattle.apfloat_base.specs.formats.Datum.{infinite}
 use Rattle.apfloat_base.specs.bits.Interchange.{AreFieldsOf}
 use Rattle.apfloat_base.specs.bits.Layout.{all_ones}
-use Rattle.apfloat_base.proofs.EncodedOnce.{fields_with}
-use Rattle.apfloat_base.proofs.FieldsOf.{low_fields_of, infinity_fields_of}
+use Rattle.apfloat_base.proofs.bits.EncodedOnce.{fields_with}
+use Rattle.apfloat_base.proofs.bits.FieldsOf.{low_fields_of, infinity_fields_of}
 use Rattle.apfloat_unpacked.specs.Shapes.{format_at}
 use Rattle.apfloat_unpacked.specs.Encoded.{layout_at}
 use Rattle.apfloat_unpacked.proofs.bits.fields_of_value.Goals as goal

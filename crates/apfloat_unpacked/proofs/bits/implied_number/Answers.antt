@@ -3,9 +3,9 @@ use Rattle.std.proofs.lemmas.Nat.{pow_pos}
 use Rattle.std.proofs.lemmas.Bool.{ne_eqb}
 use Rattle.std.proofs.Math.Nat.{mul-pos, pow-le-pow_right}
 use Rattle.apfloat_base.specs.formats.Format.{smallest_normalized}
-use Rattle.apfloat_base.proofs.Powers.{two_pos, twice_half}
-use Rattle.apfloat_base.proofs.Ranges.{low_within}
-use Rattle.apfloat_base.proofs.Deliveries.{signed_some}
+use Rattle.apfloat_base.proofs.general.Powers.{two_pos, twice_half}
+use Rattle.apfloat_base.proofs.formats.Ranges.{low_within}
+use Rattle.apfloat_base.proofs.rounding.Deliveries.{signed_some}
 use Rattle.apfloat_unpacked.specs.Shapes.{format_at}
 use Rattle.apfloat_unpacked.proofs.bits.implied_number.Goals as goal
 

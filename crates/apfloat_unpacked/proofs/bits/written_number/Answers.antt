@@ -1,6 +1,6 @@
 use Rattle.std.proofs.Common.{◌^◌, ◌<◌, arith}
-use Rattle.apfloat_base.proofs.EncodedOnce.{explicit_kind}
-use Rattle.apfloat_base.proofs.Ranges.{ieee_within}
+use Rattle.apfloat_base.proofs.bits.EncodedOnce.{explicit_kind}
+use Rattle.apfloat_base.proofs.formats.Ranges.{ieee_within}
 use Rattle.apfloat_unpacked.specs.Shapes.{format_at}
 use Rattle.apfloat_unpacked.specs.Encoded.{layout_at}
 use Rattle.apfloat_unpacked.proofs.bits.written_number.Goals as goal

@@ -1,6 +1,6 @@
 use Rattle.std.proofs.Common.{◌≤◌, ◌-◌, ◌^◌, arith}
 use Rattle.std.proofs.Math.Nat.{pow-le-pow_right}
-use Rattle.apfloat_base.proofs.Powers.{two_pos}
+use Rattle.apfloat_base.proofs.general.Powers.{two_pos}
 use Rattle.apfloat_unpacked.proofs.nans.quiet_bits.Goals as goal
 
 pub overflow_mul-result : goal.overflow_mul-result

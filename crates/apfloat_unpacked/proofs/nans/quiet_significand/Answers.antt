@@ -1,5 +1,5 @@
 use Rattle.apfloat_unpacked.specs.Shapes.{format_at}
-use Rattle.apfloat_base.proofs.NanMembers.{quiet_member}
+use Rattle.apfloat_base.proofs.formats.NanMembers.{quiet_member}
 use Rattle.apfloat_unpacked.proofs.nans.quiet_significand.Goals as goal
 
 pub returns-clause-nan : goal.returns-clause-nan

@@ -1,4 +1,4 @@
-use Rattle.apfloat_base.proofs.NanMembers.{or_member}
+use Rattle.apfloat_base.proofs.formats.NanMembers.{or_member}
 use Rattle.apfloat_unpacked.proofs.nans.quieted_significand.Goals as goal
 
 pub returns-then-signals-clause-nan : goal.returns-then-signals-clause-nan

@@ -3,7 +3,7 @@ use Rattle.apfloat_base.specs.declared.sig.loss.Loss.TheVariants.{ExactlyZero}
 use Rattle.apfloat_base.specs.rounding.Flags.{bits_of}
 use Rattle.apfloat_unpacked.specs.Shapes.{format_at}
 use Rattle.apfloat_unpacked.specs.Stored.{datum_at}
-use Rattle.apfloat_base.proofs.Deliveries.{past_is, delivered_past, delivered_exactly, delivered_inexactly, exact_if, inexact_if, loss_cases, tiny_is}
+use Rattle.apfloat_base.proofs.rounding.Deliveries.{past_is, delivered_past, delivered_exactly, delivered_inexactly, exact_if, inexact_if, loss_cases, tiny_is}
 use Rattle.apfloat_unpacked.proofs.rounding.finish.Goals as goal
 
 pub returns-then-is_past-clause-delivered : goal.returns-then-is_past-clause-delivered

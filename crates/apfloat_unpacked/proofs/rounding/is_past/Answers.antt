@@ -1,4 +1,4 @@
-use Rattle.apfloat_base.proofs.PickedPoints.{past_same, past_other}
+use Rattle.apfloat_base.proofs.rounding.PickedPoints.{past_same, past_other}
 use Rattle.apfloat_unpacked.proofs.rounding.is_past.Goals as goal
 
 pub returns-then-point-span : goal.returns-then-point-span

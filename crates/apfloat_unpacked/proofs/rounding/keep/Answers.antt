@@ -3,7 +3,7 @@ use Rattle.std.proofs.Math.Nat.{mul-pos}
 use Rattle.std.proofs.lemmas.Nat.{pow_pos}
 use Rattle.std.proofs.lemmas.Int.{ints, to_z-of_z}
 use Rattle.apfloat_base.specs.rounding.Standing.{up, down}
-use Rattle.apfloat_base.proofs.KeptDigits.{cut_fits, cut_full, shift_fits, shift_full, cut_kept, shift_kept, zero_kept, exact_zero, exact_shift}
+use Rattle.apfloat_base.proofs.rounding.KeptDigits.{cut_fits, cut_full, shift_fits, shift_full, cut_kept, shift_kept, zero_kept, exact_zero, exact_shift}
 use Rattle.apfloat_unpacked.proofs.rounding.keep.Goals as goal
 
 pub returns-then-significand-eq0-clause-cut : goal.returns-then-significand-eq0-clause-cut

@@ -1,6 +1,6 @@
 use Rattle.std.proofs.Common.{◌≡◌, ◌-◌, ◌^◌, ◌∙◌}
-use Rattle.apfloat_base.proofs.PickedPoints.{room, kept_moved, kept_stayed, pick_stays, pick_carries}
-use Rattle.apfloat_base.proofs.Picks.{kept}
+use Rattle.apfloat_base.proofs.rounding.PickedPoints.{room, kept_moved, kept_stayed, pick_stays, pick_carries}
+use Rattle.apfloat_base.proofs.rounding.Picks.{kept}
 use Rattle.apfloat_unpacked.proofs.rounding.pick.Goals.{then-moved, else-moved, Joined-moved}
 use Rattle.apfloat_unpacked.proofs.rounding.pick.Goals as goal
 

@@ -2,8 +2,8 @@ use Rattle.std.proofs.Common.{rules, ◌-◌, ◌*◌, ◌%◌, ◌^◌, ◌<◌
 use Rattle.std.proofs.lemmas.Int.{ints, to_z-of_z}
 use Rattle.std.proofs.Math.Nat.{mul-pos}
 use Rattle.std.proofs.lemmas.Nat.{pow_pos}
-use Rattle.apfloat_base.proofs.KeptDigits.{digits_le, shift_whole}
-use Rattle.apfloat_base.proofs.Deliveries.{signed_some}
+use Rattle.apfloat_base.proofs.rounding.KeptDigits.{digits_le, shift_whole}
+use Rattle.apfloat_base.proofs.rounding.Deliveries.{signed_some}
 use Rattle.apfloat_unpacked.proofs.StoredNumbers.{IsMovedUp, moved_up_quanta, moved_up_normal}
 use Rattle.apfloat_unpacked.proofs.unpacked.from_quanta.Goals as goal
 

@@ -1,7 +1,7 @@
 use Rattle.std.proofs.Common.{◌<◌, ◌-◌, ◌^◌, arith}
 use Rattle.std.proofs.lemmas.Nat.{pow_pos}
-use Rattle.apfloat_base.proofs.Powers.{twice_half}
-use Rattle.apfloat_base.proofs.Ranges.{half_within}
+use Rattle.apfloat_base.proofs.general.Powers.{twice_half}
+use Rattle.apfloat_base.proofs.formats.Ranges.{half_within}
 use Rattle.apfloat_unpacked.specs.Shapes.{format_at}
 use Rattle.apfloat_unpacked.proofs.unpacked.smallest_normalized_of.Goals as goal
 

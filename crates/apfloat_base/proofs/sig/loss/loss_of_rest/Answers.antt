@@ -1,5 +1,5 @@
 use Rattle.std.proofs.Common.{arith, inl, inr}
-use Rattle.apfloat_base.proofs.Losses.{cut_less, cut_more}
+use Rattle.apfloat_base.proofs.rounding.Losses.{cut_less, cut_more}
 use Rattle.apfloat_base.proofs.sig.loss.loss_of_rest.Goals as goal
 
 pub returns-else-rest-half-2 : goal.returns-else-rest-half-2

@@ -1,4 +1,4 @@
-use Rattle.apfloat_base.proofs.KeptDigits.{digits_below, digits_full}
+use Rattle.apfloat_base.proofs.rounding.KeptDigits.{digits_below, digits_full}
 use Rattle.apfloat_base.proofs.sig.shift.digits.Goals as goal
 
 pub returns-clause-below : goal.returns-clause-below

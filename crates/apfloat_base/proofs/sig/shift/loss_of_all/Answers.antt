@@ -1,5 +1,5 @@
 use Rattle.std.proofs.Common.{arith, inl, inr}
-use Rattle.apfloat_base.proofs.Losses.{cut_all}
+use Rattle.apfloat_base.proofs.rounding.Losses.{cut_all}
 use Rattle.apfloat_base.proofs.sig.shift.loss_of_all.Goals as goal
 
 pub returns-else-significand-eq0 : goal.returns-else-significand-eq0

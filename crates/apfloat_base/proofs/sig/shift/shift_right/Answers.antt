@@ -1,7 +1,7 @@
 use Rattle.std.proofs.Common.{◌≡◌, ◌-◌, ◌*◌, ◌%◌, ◌^◌, ◌<◌, arith}
 use Rattle.std.proofs.lemmas.Nat.{mod_below, pow_pos}
-use Rattle.apfloat_base.proofs.Powers.{twice_half}
-use Rattle.apfloat_base.proofs.Losses.{cut_at, cut_whole, zero_beyond}
+use Rattle.apfloat_base.proofs.general.Powers.{twice_half}
+use Rattle.apfloat_base.proofs.rounding.Losses.{cut_at, cut_whole, zero_beyond}
 use Rattle.apfloat_base.proofs.sig.shift.shift_right.Goals as goal
 
 pub returns-then-places-gt128-clause-quotient : goal.returns-then-places-gt128-clause-quotient

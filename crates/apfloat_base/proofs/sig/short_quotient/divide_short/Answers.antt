@@ -1,5 +1,5 @@
 use Rattle.std.proofs.Common.{arith}
-use Rattle.apfloat_base.proofs.Divisions.{quotient_small, step_kept}
+use Rattle.apfloat_base.proofs.arithmetic.Divisions.{quotient_small, step_kept}
 use Rattle.apfloat_base.proofs.sig.short_quotient.divide_short.Goals as goal
 
 pub overflow_mul-whole : goal.overflow_mul-whole

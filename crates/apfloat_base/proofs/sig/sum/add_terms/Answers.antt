@@ -1,8 +1,8 @@
 use Rattle.std.proofs.Common.{◌≡◌, ◌∙◌, pos, ◌+ℤ◌, inl, inr, to_z, of_z, w32, sym, refl, arith}
 use Rattle.std.proofs.lemmas.Int.{ints}
 use Rattle.apfloat_base.specs.arithmetic.Totals.{counted}
-use Rattle.apfloat_base.proofs.Signs.{swapped_sum}
-use Rattle.apfloat_base.proofs.Totals.{resigned}
+use Rattle.apfloat_base.proofs.arithmetic.Signs.{swapped_sum}
+use Rattle.apfloat_base.proofs.arithmetic.Totals.{resigned}
 use Rattle.apfloat_base.proofs.sig.sum.add_terms.Goals as goal
 
 pub returns-then-x-y-clause-full : goal.returns-then-x-y-clause-full

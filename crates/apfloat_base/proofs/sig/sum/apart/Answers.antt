@@ -1,5 +1,5 @@
 use Rattle.std.proofs.Common.{◌-◌, ◌<◌, inr, arith}
-use Rattle.apfloat_base.proofs.Totals.{level_difference, even_difference, borrowed_difference, reversed_difference, cut_alone, lossy_small}
+use Rattle.apfloat_base.proofs.arithmetic.Totals.{level_difference, even_difference, borrowed_difference, reversed_difference, cut_alone, lossy_small}
 use Rattle.apfloat_base.proofs.sig.sum.apart.Goals as goal
 
 pub returns-then-gap-eq0-clause-is : goal.returns-then-gap-eq0-clause-is

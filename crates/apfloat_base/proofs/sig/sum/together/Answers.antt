@@ -1,5 +1,5 @@
 use Rattle.std.proofs.Common.{◌^◌}
-use Rattle.apfloat_base.proofs.Totals.{stands_more, cut_alone}
+use Rattle.apfloat_base.proofs.arithmetic.Totals.{stands_more, cut_alone}
 use Rattle.apfloat_base.proofs.sig.sum.together.Goals as goal
 
 pub returns-clause-stands : goal.returns-clause-stands

@@ -1,5 +1,5 @@
 use Rattle.std.proofs.Common.{rules, ◌<◌, arith}
-use Rattle.apfloat_base.proofs.Powers.{four, twice_half}
+use Rattle.apfloat_base.proofs.general.Powers.{four, twice_half}
 use Rattle.apfloat_unpacked.proofs.shape.Shape.greatest_significand.Goals as goal
 
 pub overflow_sub-result : goal.overflow_sub-result

@@ -1,0 +1,12 @@
+pub mod Signs
+pub mod Fractions
+pub mod FractionExponents
+pub mod Divisions
+pub mod ProductLaws
+pub mod Inverses
+pub mod Tables
+pub mod SingleScalings
+pub mod Totals
+pub mod SumLaws
+pub mod ExactConversions
+pub mod NextBack

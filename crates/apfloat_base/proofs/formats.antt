@@ -1,0 +1,4 @@
+pub mod LawTest
+pub mod Greatest
+pub mod Ranges
+pub mod NanMembers

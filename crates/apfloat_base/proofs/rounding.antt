@@ -1,0 +1,9 @@
+pub mod Neighbours
+pub mod NeighboursExist
+pub mod Losses
+pub mod KeptDigits
+pub mod Picks
+pub mod PickedPoints
+pub mod Deliveries
+pub mod Laws
+pub mod FarMagnitudes

@@ -1,0 +1,4 @@
+pub mod RowsIn
+pub mod Rows
+pub mod RowsExact
+pub mod RowsTexts

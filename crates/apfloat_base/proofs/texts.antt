@@ -1,0 +1,4 @@
+pub mod OneMeaning
+pub mod EachText
+pub mod LiteralMeanings
+pub mod ZeroTexts

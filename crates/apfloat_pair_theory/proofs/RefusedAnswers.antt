@@ -1,0 +1,102 @@
+-- The laws refuse answers with a step left out: each is computed.
+use Rattle.std.proofs.Common.{◌≡◌, ◌+◌, ◌^◌, false, true, refl, sym, ap, subst, eqb, lit≤, lit<, arith}
+use Rattle.std.specs.Prelude.{ℤ, pos, neg_ℤ}
+use Rattle.std.proofs.lemmas.Bool.{false≢true, le-leb}
+use Rattle.std.proofs.lemmas.Int.{ints}
+use Rattle.apfloat_base.specs.declared.kinds.Round.TheVariants.{NearestTiesToEven}
+use Rattle.apfloat_base.specs.formats.Datum.{Datum, finite}
+use Rattle.apfloat_base.specs.arithmetic.Exact.{magnitude}
+use Rattle.apfloat_base.specs.order.Order.{is_equal}
+use Rattle.apfloat_base.specs.rounding.Rounding.{ok_bits, inexact_bit}
+use Rattle.apfloat_base.specs.arithmetic.Sums.{IsSum}
+use Rattle.apfloat_base.proofs.Once.{sum_once}
+use Rattle.apfloat_base.proofs.rows.RowsIn.{rounded}
+use Rattle.apfloat_pair_theory.specs.PairFormats.{double}
+use Rattle.apfloat_pair_theory.specs.Pairs.{IsNormalised}
+use Rattle.apfloat_pair_theory.specs.PairAccuracy.{HaveExponents, IsErrorFreeSum, IsAccurateSum, IsAccurateProduct}
+use Rattle.apfloat_pair_theory.specs.WrongAnswers.{one, least, half_unit, one_and_half_unit, one_and_quarter_unit, before_closing}
+
+-- 1 is no error-free sum of 1 and the least double
+pub dropped_error : IsErrorFreeSum one least one → ⊥
+dropped_error law =
+    let e = law (record { is_finite = refl; low_is = refl }) (record { is_finite = refl; low_is = refl })
+    (record { first = lit≤ tt; second = lit≤ tt }) in
+    false≢true (sym (ap (λ (n : ℤ). eqb (magnitude n) (2 ^ 1074)) e.number_is))
+
+-- the operands are normalised
+one_normalised : IsNormalised one
+one_normalised = record {
+  finite_high = refl;
+  finite_low = refl;
+  nearest = finite false (2 ^ 1074);
+  status = ok_bits;
+  is_nearest = rounded (2 ^ 52) 1022 refl refl refl;
+  same_number = refl;
+}
+
+half_unit_normalised : IsNormalised half_unit
+half_unit_normalised = record {
+  finite_high = refl;
+  finite_low = refl;
+  nearest = finite false (2 ^ 1021);
+  status = ok_bits;
+  is_nearest = rounded (2 ^ 52) 969 refl refl refl;
+  same_number = refl;
+}
+
+one_and_half_unit_normalised : IsNormalised one_and_half_unit
+one_and_half_unit_normalised = record {
+  finite_high = refl;
+  finite_low = refl;
+  nearest = finite false (2 ^ 1074);
+  status = inexact_bit;
+  is_nearest = rounded (2 ^ 52) 1022 refl refl refl;
+  same_number = refl;
+}
+
+one_and_quarter_unit_normalised : IsNormalised one_and_quarter_unit
+one_and_quarter_unit_normalised = record {
+  finite_high = refl;
+  finite_low = refl;
+  nearest = finite false (2 ^ 1074);
+  status = inexact_bit;
+  is_nearest = rounded (2 ^ 52) 1022 refl refl refl;
+  same_number = refl;
+}
+
+-- the parts before the closing step add up to a double
+sum_is_double : IsSum double NearestTiesToEven (finite false (2 ^ 1074)) (finite false (2 ^ 1022))
+    (finite false (2 ^ 1074 + 2 ^ 1022)) ok_bits
+sum_is_double = rounded (2 ^ 52 + 1) 1022 refl refl refl
+
+-- so that pair is not normalised
+not_normalised : IsNormalised before_closing → ⊥
+not_normalised n =
+    let only = sum_once double NearestTiesToEven (finite false (2 ^ 1074)) (finite false (2 ^ 1022)) n.nearest
+    (finite false (2 ^ 1074 + 2 ^ 1022)) n.status ok_bits n.is_nearest sum_is_double in
+    false≢true (subst (λ (d : Datum). is_equal (finite false (2 ^ 1074)) d ≡ true) only.0 n.same_number)
+
+-- and no accurate sum of 1 + 2 ^ -53 and 2 ^ -53
+pub skipped_closing_step : IsAccurateSum one_and_half_unit half_unit before_closing → ⊥
+skipped_closing_step law =
+    let a = law one_and_half_unit_normalised half_unit_normalised (record { first = lit≤ tt; second = lit≤ tt }) in
+    not_normalised a.normalised
+
+-- the exponents of 1 + 2 ^ -54 and of 1 are 0
+exponents : HaveExponents one_and_quarter_unit one (neg_ℤ (pos 900)) (pos 1021)
+exponents = record {
+  first_is_number = refl;
+  second_is_number = refl;
+  first = pos 0;
+  second = pos 0;
+  is_first = record { place = 1074; low = lit≤ tt; high = lit< tt; is = refl };
+  is_second = record { place = 1074; low = lit≤ tt; high = lit< tt; is = refl };
+  not_below = omega (arith, ints);
+  not_above = omega (arith, ints);
+}
+
+-- 1 is no accurate product of 1 + 2 ^ -54 and 1
+pub dropped_cross_term : IsAccurateProduct one_and_quarter_unit one one → ⊥
+dropped_cross_term law =
+    let a = law one_and_quarter_unit_normalised one_normalised exponents in
+    false≢true (le-leb _ _ a.error)

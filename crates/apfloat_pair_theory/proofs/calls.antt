@@ -1,0 +1,6 @@
+pub mod PairsOnce
+pub mod PairsExist
+pub mod CallsOnce
+pub mod CallsExist
+pub mod PairsDetermined
+pub mod SignedPairs

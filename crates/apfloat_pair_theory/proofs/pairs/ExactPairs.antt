@@ -1,0 +1,37 @@
+-- The answer of a call by the wide format adds up exactly to the wide answer, wherever its high part is finite.
+use Rattle.std.specs.Prelude.{ℕ}
+use Rattle.apfloat_base.specs.declared.kinds.Round.{Round}
+use Rattle.apfloat_base.specs.formats.Datum.{Datum}
+use Rattle.apfloat_base.specs.arithmetic.Quotients.{IsQuotient}
+use Rattle.apfloat_base.specs.arithmetic.Remainders.{IsTruncatedRemainder, IsNearestRemainder}
+use Rattle.apfloat_pair_theory.specs.PairFormats.{wide}
+use Rattle.apfloat_pair_theory.specs.Pairs.{Pair, IsWideAnswerOfTwo}
+use Rattle.apfloat_pair_theory.specs.PairCalls.{IsPairQuotient, IsPairTruncatedRemainder, IsPairNearestRemainder}
+use Rattle.apfloat_pair_theory.specs.PairAccuracy.{IsExactAnswerOfTwo, IsExactQuotient, IsExactTruncatedRemainder, IsExactNearestRemainder}
+use Rattle.apfloat_pair_theory.proofs.pairs.SplitLaws.{exact_split}
+
+-- of a call of two pairs
+exact_answer_of_two : (call : Datum → Datum → Datum → ℕ → Type 0) (x y answer : Pair) (status : ℕ)
+    → IsWideAnswerOfTwo call x y answer status → IsExactAnswerOfTwo call x y answer status
+exact_answer_of_two call x y answer status a = record {
+  left = a.left;
+  right = a.right;
+  value = a.is_answer.value;
+  left_is = a.left_is;
+  right_is = a.right_is;
+  is_value = a.is_answer.is_value;
+  exactly = exact_split a.is_answer.value answer a.is_answer.is_split;
+}
+
+-- so quotients and both remainders add up exactly
+pub exact_quotient : (mode : Round) (x y answer : Pair) (status : ℕ) → IsPairQuotient mode x y answer status
+    → IsExactQuotient mode x y answer status
+exact_quotient mode x y answer status a = exact_answer_of_two (IsQuotient wide mode) x y answer status a
+
+pub exact_truncated_remainder : (x y answer : Pair) (status : ℕ) → IsPairTruncatedRemainder x y answer status
+    → IsExactTruncatedRemainder x y answer status
+exact_truncated_remainder x y answer status a = exact_answer_of_two (IsTruncatedRemainder wide) x y answer status a
+
+pub exact_nearest_remainder : (x y answer : Pair) (status : ℕ) → IsPairNearestRemainder x y answer status
+    → IsExactNearestRemainder x y answer status
+exact_nearest_remainder x y answer status a = exact_answer_of_two (IsNearestRemainder wide) x y answer status a

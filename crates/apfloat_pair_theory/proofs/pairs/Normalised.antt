@@ -1,0 +1,165 @@
+-- What a normalised pair says of its numbers, and what shows that a pair is normalised.
+use Rattle.std.proofs.Common.{◌≡◌, ℕ, zero, suc, ◌≤◌, Bool, true, false, sym, refl, ap, ◌∙◌, subst, arith, lit<}
+use Rattle.std.specs.Prelude.{ℤ, pos, negsuc, ◌+ℤ◌}
+use Rattle.std.proofs.lemmas.Bool.{false≢true}
+use Rattle.std.proofs.Math.IntN.{+ℤ_idr}
+use Rattle.std.specs.declared.cmp.Ordering.{Ordering}
+use Rattle.std.specs.declared.cmp.Ordering.TheVariants.{Less, Equal, Greater}
+use Rattle.std.specs.Ordering.{int_cmp, is_eq, MatchOrdering}
+use Rattle.std.specs.Cmp.{int_cmp_is, int_ranks}
+use Rattle.apfloat_base.specs.declared.kinds.NonfiniteBehavior.{NonfiniteBehavior}
+use Rattle.apfloat_base.specs.declared.kinds.NonfiniteBehavior.TheVariants.{IEEE754}
+use Rattle.apfloat_base.specs.declared.kinds.Round.TheVariants.{NearestTiesToEven}
+use Rattle.apfloat_base.specs.formats.Format.{Format, largest}
+use Rattle.apfloat_base.specs.formats.Datum.{Datum, finite, infinite, nan}
+use Rattle.apfloat_base.specs.rounding.Rounding.{zero_sign, ok_bits, signed_quanta}
+use Rattle.apfloat_base.specs.order.Classes.{is_finite}
+use Rattle.apfloat_base.specs.arithmetic.Exact.{magnitude, signed, sign_of, IsRounded}
+use Rattle.apfloat_base.specs.order.Order.{number, is_equal}
+use Rattle.apfloat_base.specs.arithmetic.Sums.{IsSum, zero_sum_sign}
+use Rattle.apfloat_base.proofs.rounding.Laws.{delivered_once, zero_delivered, exact_delivered}
+use Rattle.apfloat_base.proofs.arithmetic.Signs.{no_sign}
+use Rattle.apfloat_base.proofs.arithmetic.SumLaws.{signed_quanta_is}
+use Rattle.apfloat_pair_theory.proofs.numbers.Signed.{IsGridNumber, on_grid_as}
+use Rattle.apfloat_pair_theory.proofs.numbers.Nearest.{IsNearest}
+use Rattle.apfloat_pair_theory.proofs.numbers.Roundings.{sum_finite, signed_exact}
+
+-- ---- equal data
+
+-- data that compare as equal meet the middle of three cases
+equal_from : (order : Ordering) (P Q R : Type 0) → is_eq order ≡ true → MatchOrdering order P Q R → Q
+equal_from Less P Q R h m = absurd (false≢true h)
+equal_from Equal P Q R h m = m
+equal_from Greater P Q R h m = absurd (false≢true h)
+
+-- what is equal to a finite datum is finite, and has its number
+pub equal_finite : (x y : Datum) → is_finite x ≡ true → is_equal x y ≡ true → is_finite y ≡ true
+equal_finite (finite b m) (finite c n) p h = refl
+equal_finite (finite b m) (infinite true) p h = absurd (false≢true h)
+equal_finite (finite b m) (infinite false) p h = absurd (false≢true h)
+equal_finite (finite b m) (nan c n) p h = absurd (false≢true h)
+equal_finite (infinite b) y p h = absurd (false≢true p)
+equal_finite (nan b m) y p h = absurd (false≢true p)
+
+-- data that are equal by order have one number
+pub equal_number : (x y : Datum) → is_finite x ≡ true → is_equal x y ≡ true → number x ≡ number y
+equal_number (finite b m) (finite c n) p h =
+    equal_from (int_cmp (signed b m) (signed c n)) _ _ _ h (int_ranks (signed b m) (signed c n))
+equal_number (finite b m) (infinite true) p h = absurd (false≢true h)
+equal_number (finite b m) (infinite false) p h = absurd (false≢true h)
+equal_number (finite b m) (nan c n) p h = absurd (false≢true h)
+equal_number (infinite b) y p h = absurd (false≢true p)
+equal_number (nan b m) y p h = absurd (false≢true p)
+
+-- finite data with one number are equal
+pub is_equal_by : (x y : Datum) → is_finite x ≡ true → is_finite y ≡ true → number x ≡ number y → is_equal x y ≡ true
+is_equal_by (finite b m) (finite c n) p q e = ap is_eq (sym (int_cmp_is (signed b m) (signed c n) Equal e))
+is_equal_by (finite b m) (infinite c) p q e = absurd (false≢true q)
+is_equal_by (finite b m) (nan c n) p q e = absurd (false≢true q)
+is_equal_by (infinite b) y p q e = absurd (false≢true p)
+is_equal_by (nan b m) y p q e = absurd (false≢true p)
+
+-- ---- the answer of one exact number, whatever the sign of a zero
+
+pub record IsSameAnswer (format : Format) (of_zero : Bool) (exact : ℤ) (value : Datum) : Type 0 where
+  pub nearest : Datum
+  pub status : ℕ
+  pub is_nearest : IsRounded format NearestTiesToEven of_zero exact 1 nearest status
+  pub same_number : is_equal value nearest ≡ true
+
+-- a finite rounding has one number, whichever sign its zero has
+same_answer : (format : Format) (of_zero other : Bool) (exact : ℤ) (value : Datum) (status : ℕ)
+    → format.nonfinite ≡ IEEE754
+    → is_finite value ≡ true → IsRounded format NearestTiesToEven of_zero exact 1 value status
+    → IsSameAnswer format other exact value
+same_answer format of_zero other (pos zero) value status k h x =
+    let zero = zero_delivered format NearestTiesToEven of_zero 1 (magnitude (pos 0)) (lit< tt) refl in
+    let e = (delivered_once format NearestTiesToEven of_zero (magnitude (pos 0)) 1 value _ status ok_bits x zero).0 in
+    record {
+      nearest = finite (zero_sign format.nonfinite other) 0;
+      status = ok_bits;
+      is_nearest = zero_delivered format NearestTiesToEven other 1 (magnitude (pos 0)) (lit< tt) refl;
+      same_number =
+          is_equal_by value (finite (zero_sign format.nonfinite other) 0) h refl
+          (ap number e ∙ no_sign _ ∙ sym (no_sign _));
+    }
+same_answer format of_zero other (pos (suc n)) value status k h x = record {
+  nearest = value;
+  status = status;
+  is_nearest = x;
+  same_number = is_equal_by value value h h refl;
+}
+same_answer format of_zero other (negsuc n) value status k h x = record {
+  nearest = value;
+  status = status;
+  is_nearest = x;
+  same_number = is_equal_by value value h h refl;
+}
+
+-- a high part is equal to the answer of the sum of the parts
+pub record IsHighOf (format : Format) (high low : Datum) : Type 0 where
+  pub nearest : Datum
+  pub status : ℕ
+  pub is_nearest : IsSum format NearestTiesToEven high low nearest status
+  pub same_number : is_equal high nearest ≡ true
+
+-- a rounded sum beside what it lacks is the high part of a pair
+pub high_of_sum : (format : Format) (sum rest high low : Datum) (status : ℕ) → format.nonfinite ≡ IEEE754
+    → is_finite sum ≡ true → is_finite rest ≡ true → is_finite high ≡ true → is_finite low ≡ true
+    → (number high +ℤ number low) ≡ (number sum +ℤ number rest) → IsSum format NearestTiesToEven sum rest high status
+    → IsHighOf format high low
+high_of_sum format (finite b m) (finite c n) (finite d i) (finite e j) status k fz fy fh fl s x =
+    let a = same_answer format (zero_sum_sign NearestTiesToEven b c) (zero_sum_sign NearestTiesToEven d e)
+    (signed d i +ℤ signed e j)
+    (finite d i) status k refl
+    (subst (λ (u : ℤ). IsRounded format NearestTiesToEven (zero_sum_sign NearestTiesToEven b c) u 1 (finite d i) status)
+    (sym s) x) in
+    record { nearest = a.nearest; status = a.status; is_nearest = a.is_nearest; same_number = a.same_number }
+high_of_sum format (finite b m) (finite c n) (finite d i) (infinite e) status k fz fy fh fl s x = absurd (false≢true fl)
+high_of_sum format (finite b m) (finite c n) (finite d i) (nan e j) status k fz fy fh fl s x = absurd (false≢true fl)
+high_of_sum format (finite b m) (finite c n) (infinite d) l status k fz fy fh fl s x = absurd (false≢true fh)
+high_of_sum format (finite b m) (finite c n) (nan d i) l status k fz fy fh fl s x = absurd (false≢true fh)
+high_of_sum format (finite b m) (infinite c) h l status k fz fy fh fl s x = absurd (false≢true fy)
+high_of_sum format (finite b m) (nan c n) h l status k fz fy fh fl s x = absurd (false≢true fy)
+high_of_sum format (infinite b) y h l status k fz fy fh fl s x = absurd (false≢true fz)
+high_of_sum format (nan b m) y h l status k fz fy fh fl s x = absurd (false≢true fz)
+
+-- a number of the format is its own answer
+pub rounded_exactly : (format : Format) (of_zero : Bool) (exact : ℤ) → format.nonfinite ≡ IEEE754
+    → IsGridNumber format.precision exact → magnitude exact ≤ largest format
+    → IsRounded format NearestTiesToEven of_zero exact 1 (finite (sign_of of_zero exact) (magnitude exact)) ok_bits
+rounded_exactly format of_zero exact k g w =
+    let s = sign_of of_zero exact in
+    let q : signed_quanta format.nonfinite s (magnitude exact) ≡ finite s (magnitude exact) =
+    ap (λ (i : NonfiniteBehavior). signed_quanta i s (magnitude exact)) k ∙ signed_quanta_is s (magnitude exact) in
+    subst (λ (v : Datum). IsRounded format NearestTiesToEven of_zero exact 1 v ok_bits) q
+    (exact_delivered format NearestTiesToEven s (magnitude exact) (magnitude exact) 1 (lit< tt) g w (omega arith))
+
+-- a finite double beside +0 is the high part of a pair
+pub high_alone : (format : Format) (datum : Datum) → format.nonfinite ≡ IEEE754 → is_finite datum ≡ true
+    → IsGridNumber format.precision (number datum) → magnitude (number datum) ≤ largest format
+    → IsHighOf format datum (finite false 0)
+high_alone format (finite b m) k fh g w =
+    let of_zero = zero_sum_sign NearestTiesToEven b false in
+    let nearest : Datum = finite (sign_of of_zero (signed b m +ℤ pos 0)) (magnitude (signed b m +ℤ pos 0)) in
+    let e : (signed b m +ℤ pos 0) ≡ signed b m = +ℤ_idr (signed b m) in
+    let g' = on_grid_as (sym (ap magnitude e)) g in
+    let w' : magnitude (signed b m +ℤ pos 0) ≤ largest format = subst (λ (i : ℤ). magnitude i ≤ largest format)
+    (sym e) w in
+    record {
+      nearest = nearest;
+      status = ok_bits;
+      is_nearest = rounded_exactly format of_zero (signed b m +ℤ pos 0) k g' w';
+      same_number = is_equal_by (finite b m) nearest refl refl (sym (signed_exact of_zero (signed b m +ℤ pos 0) ∙ e));
+    }
+high_alone format (infinite b) k fh g w = absurd (false≢true fh)
+high_alone format (nan b m) k fh g w = absurd (false≢true fh)
+
+-- such a high part is a number that is nearest to the sum of the parts
+pub high_nearest : (format : Format) (high low nearest : Datum) (status : ℕ) → format.nonfinite ≡ IEEE754
+    → is_finite high ≡ true
+    → is_finite low ≡ true → IsSum format NearestTiesToEven high low nearest status → is_equal high nearest ≡ true
+    → IsNearest format.precision (number high +ℤ number low) (number high)
+high_nearest format h l nearest status k fh fl s e =
+    let r = sum_finite format h l nearest status k fh fl (equal_finite h nearest fh e) s in
+    subst (λ (z : ℤ). IsNearest format.precision (number h +ℤ number l) z) (sym (equal_number h nearest fh e)) r.nearest

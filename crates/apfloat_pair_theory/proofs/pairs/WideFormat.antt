@@ -1,0 +1,15 @@
+-- The wide format is lawful, so that the generic calls serve it; its quantum is that
+-- of doubles, and it has twice their digits.
+use Rattle.std.proofs.Common.{◌≡◌, ◌*◌, refl}
+use Rattle.apfloat_base.specs.formats.Lawful.{IsLawful}
+use Rattle.apfloat_base.proofs.formats.LawTest.{lawful_from_test}
+use Rattle.apfloat_pair_theory.specs.PairFormats.{wide_constants, double, wide}
+
+pub wide_is_lawful : IsLawful wide_constants
+wide_is_lawful = lawful_from_test wide_constants refl
+
+pub one_quantum : wide.scale ≡ double.scale
+one_quantum = refl
+
+pub twice_the_digits : wide.precision ≡ 2 * double.precision
+twice_the_digits = refl

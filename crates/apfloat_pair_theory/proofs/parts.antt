@@ -1,0 +1,2 @@
+pub mod DenormalPairs
+pub mod PairOrderLaws

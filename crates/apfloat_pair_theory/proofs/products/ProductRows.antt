@@ -1,0 +1,173 @@
+-- Worked products of pairs; and the laws at 3 times 5: their premises can be met, and they give 15.
+use Rattle.std.proofs.Common.{◌≡◌, ℕ, ◌*◌, ◌^◌, ◌≤◌, true, false, refl, lit<, lit≤, arith}
+use Rattle.std.specs.Prelude.{pos, neg_ℤ, ◌*ℤ◌}
+use Rattle.std.proofs.lemmas.Int.{ints}
+use Rattle.apfloat_base.specs.declared.kinds.Round.TheVariants.{NearestTiesToEven}
+use Rattle.apfloat_base.specs.formats.Datum.{finite}
+use Rattle.apfloat_base.specs.rounding.Rounding.{ok_bits, inexact_bit}
+use Rattle.apfloat_base.proofs.rows.RowsIn.{rounded}
+use Rattle.apfloat_base.specs.formats.Members.{IsFiniteOf}
+use Rattle.apfloat_pair_theory.specs.PairFormats.{double}
+use Rattle.apfloat_pair_theory.specs.Pairs.{Pair, alone, IsNormalised, pair_number}
+use Rattle.apfloat_pair_theory.specs.PairProducts.{IsPairProduct}
+use Rattle.apfloat_pair_theory.specs.PairAccuracy.{HaveExponents, IsSingle}
+use Rattle.apfloat_pair_theory.proofs.calls.PairsExist.{pair_product_exists}
+use Rattle.apfloat_pair_theory.proofs.pairs.LawOperands.{double_alone}
+use Rattle.apfloat_pair_theory.proofs.sums.PairSumLaws.{single_normalised}
+use Rattle.apfloat_pair_theory.proofs.products.PairProductLaws.{error_free_product, accurate_product}
+
+-- ---- products with 1 + 2 ^ -1074, which is one quantum above 1
+
+abbrev one_and_quantum : Pair
+one_and_quantum = record { high = finite false (2 ^ 1074); low = finite false 1 }
+
+-- 1 times it: the answer keeps the quantum, and the closing sum is inexact
+one_times : IsPairProduct NearestTiesToEven (alone (finite false (2 ^ 1074))) one_and_quantum one_and_quantum
+    inexact_bit
+one_times = record {
+  t = finite false (2 ^ 1074);
+  t_flags = 0;
+  is_t = rounded (2 ^ 52) 1022 refl refl refl;
+  is_answer = record {
+    tau = finite false 1;
+    tau_flags = 0;
+    is_tau = record {
+      lost = finite false 0;
+      v = finite false 1;
+      w = finite false 0;
+      cross = finite false 1;
+      lost_flags = 0;
+      v_flags = 0;
+      w_flags = 0;
+      cross_flags = 0;
+      tau_flags = 0;
+      is_lost = rounded 0 0 refl refl refl;
+      is_v = rounded 1 0 refl refl refl;
+      is_w = rounded 0 0 refl refl refl;
+      is_cross = rounded 1 0 refl refl refl;
+      is_tau = rounded 1 0 refl refl refl;
+      flags_are = refl;
+    };
+    is_answer = record {
+      h = finite false (2 ^ 1074);
+      h_flags = 16;
+      is_h = rounded (2 ^ 52) 1022 refl refl refl;
+      is_answer = record {
+        left = finite false 0;
+        low = finite false 1;
+        left_flags = 0;
+        low_flags = 0;
+        is_left = rounded 0 0 refl refl refl;
+        is_low = rounded 1 0 refl refl refl;
+        is_answer = record { answer_is = refl; status_is = refl };
+      };
+    };
+  };
+}
+
+-- one quantum above -1 times it: the cross products cancel, and the answer is -1
+minus_one_times : IsPairProduct NearestTiesToEven (record { high = finite true (2 ^ 1074); low = finite false 1 })
+    one_and_quantum
+    (alone (finite true (2 ^ 1074))) ok_bits
+minus_one_times = record {
+  t = finite true (2 ^ 1074);
+  t_flags = 0;
+  is_t = rounded (2 ^ 52) 1022 refl refl refl;
+  is_answer = record {
+    tau = finite false 0;
+    tau_flags = 0;
+    is_tau = record {
+      lost = finite false 0;
+      v = finite true 1;
+      w = finite false 1;
+      cross = finite false 0;
+      lost_flags = 0;
+      v_flags = 0;
+      w_flags = 0;
+      cross_flags = 0;
+      tau_flags = 0;
+      is_lost = rounded 0 0 refl refl refl;
+      is_v = rounded 1 0 refl refl refl;
+      is_w = rounded 1 0 refl refl refl;
+      is_cross = rounded 0 0 refl refl refl;
+      is_tau = rounded 0 0 refl refl refl;
+      flags_are = refl;
+    };
+    is_answer = record {
+      h = finite true (2 ^ 1074);
+      h_flags = 0;
+      is_h = rounded (2 ^ 52) 1022 refl refl refl;
+      is_answer = record {
+        left = finite false 0;
+        low = finite false 0;
+        left_flags = 0;
+        low_flags = 0;
+        is_left = rounded 0 0 refl refl refl;
+        is_low = rounded 0 0 refl refl refl;
+        is_answer = record { answer_is = refl; status_is = refl };
+      };
+    };
+  };
+}
+
+-- ---- the laws
+
+abbrev pub three : Pair
+three = alone (finite false (3 * 2 ^ 1074))
+
+abbrev pub five : Pair
+five = alone (finite false (5 * 2 ^ 1074))
+
+-- 3 and 5 are doubles
+three_is : IsFiniteOf double false (3 * 2 ^ 1074)
+three_is = record {
+  on_grid = record { significand = 3; place = 1074; fits = lit< tt; is = refl };
+  within = lit≤ tt;
+  zero_has = λ h. refl;
+}
+
+five_is : IsFiniteOf double false (5 * 2 ^ 1074)
+five_is = record {
+  on_grid = record { significand = 5; place = 1074; fits = lit< tt; is = refl };
+  within = lit≤ tt;
+  zero_has = λ h. refl;
+}
+
+-- each stands alone in its pair
+three_single : IsSingle three
+three_single = record { is_finite = refl; low_is = refl }
+
+five_single : IsSingle five
+five_single = record { is_finite = refl; low_is = refl }
+
+-- so both pairs are normalised
+three_normalised : IsNormalised three
+three_normalised = single_normalised three (double_alone three three_is three_single) (lit≤ tt)
+
+five_normalised : IsNormalised five
+five_normalised = single_normalised five (double_alone five five_is five_single) (lit≤ tt)
+
+-- the exponents of 3 and 5 are 1 and 2
+exponents : (below above : ℕ) → 3 ≤ above → HaveExponents three five (neg_ℤ (pos below)) (pos above)
+exponents below above h = record {
+  first_is_number = refl;
+  second_is_number = refl;
+  first = pos 1;
+  second = pos 2;
+  is_first = record { place = 1075; low = lit≤ tt; high = lit< tt; is = refl };
+  is_second = record { place = 1076; low = lit≤ tt; high = lit< tt; is = refl };
+  not_below = omega (arith, ints);
+  not_above = omega (arith, ints);
+}
+
+-- some pair is the product, it is normalised, and its number times 2 ^ 1074 quanta is 3 times 5
+pub fifteen : (answer : Pair)
+    × ((status : ℕ) × (IsPairProduct NearestTiesToEven three five answer status × IsNormalised answer
+    × ((pair_number answer *ℤ pos (2 ^ 1074)) ≡ (pair_number three *ℤ pair_number five))))
+fifteen =
+    let r = pair_product_exists NearestTiesToEven three five in
+    let e = error_free_product three five r.0 r.1.0 three_is five_is r.1.1 three_single five_single
+    (exponents 970 1021 (lit≤ tt)) in
+    let a = accurate_product three five r.0 r.1.0 r.1.1 three_normalised five_normalised
+    (exponents 900 1021 (lit≤ tt)) in
+    (r.0, (r.1.0, (r.1.1, a.normalised, e.number_is)))

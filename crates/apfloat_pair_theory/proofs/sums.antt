@@ -1,0 +1,9 @@
+pub mod PairRoundings
+pub mod SumBounds
+pub mod SumSteps
+pub mod ClosingSums
+pub mod PairSumCases
+pub mod SumAnswers
+pub mod PairSumLaws
+pub mod DifferenceLaws
+pub mod SumRows

@@ -1,0 +1,153 @@
+-- The closing sum of two doubles z and y, with which each sum and each product of pairs ends: within reach
+-- nothing is lost, and the answer is normalised.
+use Rattle.std.proofs.Common.{◌≡◌, ℕ, ◌*◌, ◌^◌, ◌<◌, ◌≤◌, true, false, eqb, sym, refl, ap, ◌∙◌, subst, arith, inl, lit<, lit≤}
+use Rattle.std.specs.Prelude.{ℤ, pos, ◌+ℤ◌}
+use Rattle.std.proofs.lemmas.Bool.{false≢true, and_parts, eqb-true, MatchBool-at_true}
+use Rattle.apfloat_base.specs.declared.kinds.NonfiniteBehavior.TheVariants.{IEEE754}
+use Rattle.apfloat_base.specs.declared.kinds.Round.TheVariants.{NearestTiesToEven}
+use Rattle.apfloat_base.specs.formats.Format.{largest}
+use Rattle.apfloat_base.specs.formats.Datum.{Datum, finite, infinite, nan}
+use Rattle.apfloat_base.specs.rounding.Rounding.{ok_bits}
+use Rattle.apfloat_base.specs.order.Classes.{is_finite, is_infinite, same_datum}
+use Rattle.apfloat_base.specs.arithmetic.Exact.{same_sign, signed}
+use Rattle.apfloat_base.specs.order.Order.{number}
+use Rattle.apfloat_base.specs.arithmetic.Sums.{IsSum}
+use Rattle.apfloat_base.proofs.arithmetic.Signs.{no_sign}
+use Rattle.apfloat_pair_theory.specs.PairFormats.{double}
+use Rattle.apfloat_pair_theory.specs.Pairs.{Pair, positive_zero, alone, pair_number, IsPairAnswer, IsNormalised}
+use Rattle.apfloat_pair_theory.specs.PairSums.{◌∪◌, IsLowPart, IsClosed}
+use Rattle.apfloat_pair_theory.specs.PairAccuracy.{IsOkOrInexact, sum_reach}
+use Rattle.apfloat_pair_theory.proofs.numbers.Signed.{IsGridNumber}
+use Rattle.apfloat_pair_theory.proofs.numbers.TwoSums.{IsShared}
+use Rattle.apfloat_pair_theory.proofs.sums.PairRoundings.{fast_two_sum}
+use Rattle.apfloat_pair_theory.proofs.sums.SumSteps.{IsClosingSteps, IsAddend, size, closed, high_rounded}
+use Rattle.apfloat_pair_theory.proofs.numbers.Statuses.{sum_status, difference_status, union_status}
+use Rattle.apfloat_pair_theory.proofs.pairs.Normalised.{IsHighOf, high_of_sum, high_alone}
+
+-- ---- doubles
+
+-- doubles have infinities, and 53 digits; three times the reach is within them
+pub is_ieee : double.nonfinite ≡ IEEE754
+is_ieee = refl
+
+-- doubles have at least three digits
+pub wide_enough : 8 ≤ 2 ^ double.precision
+wide_enough = lit≤ tt
+
+-- and so at least one
+pub digits : 1 < 2 ^ double.precision
+digits = lit< tt
+
+-- three times the reach of the laws is within the largest double
+pub room : 3 * sum_reach ≤ largest double
+room = lit≤ tt
+
+-- ---- the branches
+
+-- a finite datum is not infinite
+pub finite_is_not_infinite : (datum : Datum) → is_finite datum ≡ true → is_infinite datum ≡ false
+finite_is_not_infinite (finite b n) h = refl
+finite_is_not_infinite (infinite b) h = absurd (false≢true h)
+finite_is_not_infinite (nan b n) h = absurd (false≢true h)
+
+-- ---- the closing sum
+
+-- a normalised answer whose number is that of the sum and the rest; no step of the
+-- closing sum has a flag but that of an inexact one
+pub record IsPairOf (sum rest : Datum) (flags : ℕ) (answer : Pair) (status : ℕ) : Type 0 where
+  pub normalised : IsNormalised answer
+  pub number_is : pair_number answer ≡ number sum +ℤ number rest
+  pub plain : IsOkOrInexact flags → IsOkOrInexact status
+
+-- a high part that keeps the whole sum makes a normalised pair
+pair_of_high : (sum rest high low : Datum) (flags status : ℕ) → is_finite high ≡ true → is_finite low ≡ true
+    → (number high +ℤ number low) ≡ (number sum +ℤ number rest) → IsHighOf double high low
+    → (IsOkOrInexact flags → IsOkOrInexact status) → IsPairOf sum rest flags (record { high = high; low = low }) status
+pair_of_high z y h l flags status fh fl e n o = record {
+  normalised = record {
+    finite_high = fh;
+    finite_low = fl;
+    nearest = n.nearest;
+    status = n.status;
+    is_nearest = n.is_nearest;
+    same_number = n.same_number;
+  };
+  number_is = e;
+  plain = o;
+}
+
+-- what holds of a pair holds of an answer that is this pair
+pub given_pair : (sum rest : Datum) (before : ℕ) (given : Pair) (flags : ℕ) (answer : Pair) (status : ℕ)
+    → IsPairAnswer given flags answer status → IsPairOf sum rest before given flags
+    → IsPairOf sum rest before answer status
+given_pair z y before given flags answer status x p =
+    subst (λ (s : ℕ). IsPairOf z y before answer s) (sym x.status_is)
+    (subst (λ (w : Pair). IsPairOf z y before w flags) (sym x.answer_is) p)
+
+-- the operands of a closing sum: both are on the grid, and multiples of one unit
+pub record IsClosable (sum rest : Datum) : Type 0 where
+  pub addend : IsAddend sum_reach sum rest
+  pub sum_on_grid : IsGridNumber double.precision (number sum)
+  pub rest_on_grid : IsGridNumber double.precision (number rest)
+  pub shared : IsShared double.precision (number sum) (number rest)
+
+-- the low part is what the rounded sum lost
+low_part_pair : (sum rest high : Datum) (before h_flags flags : ℕ) (answer : Pair) (status : ℕ) → IsClosable sum rest
+    → (IsOkOrInexact before → IsOkOrInexact flags) → IsSum double NearestTiesToEven sum rest high h_flags
+    → IsLowPart NearestTiesToEven sum rest high flags answer status → IsPairOf sum rest before answer status
+low_part_pair z y h before h_flags flags answer status a o s x =
+    let fz = a.addend.finite_sum in
+    let fy = a.addend.finite_rest in
+    let steps : IsClosingSteps double z y h x.left x.low =
+    record {
+      sum_flags = h_flags;
+      first_flags = x.left_flags;
+      last_flags = x.low_flags;
+      sum = s;
+      first = x.is_left;
+      last = x.is_low;
+    } in
+    let c = closed double is_ieee wide_enough sum_reach room z y h x.left x.low a.addend steps in
+    let e = fast_two_sum double.precision wide_enough _ _ _ _ _ a.sum_on_grid a.rest_on_grid a.shared c.roundings in
+    let n = high_of_sum double z y h x.low h_flags is_ieee fz fy c.finite_high c.finite_low e s in
+    let left_status = difference_status double z h x.left x.left_flags is_ieee digits fz c.finite_high c.finite_left
+    x.is_left in
+    let low_status = sum_status double x.left y x.low x.low_flags is_ieee digits c.finite_left fy c.finite_low
+    x.is_low in
+    given_pair z y before (record { high = h; low = x.low }) _ answer status x.is_answer
+    (pair_of_high z y h x.low before _ c.finite_high c.finite_low e n
+    (λ p. union_status _ _ (union_status _ _ (o p) left_status) low_status))
+
+-- the closing sum of the sum and the rest, whatever the flags before it
+pub closed_pair : (sum rest : Datum) (flags : ℕ) (answer : Pair) (status : ℕ) → IsClosable sum rest
+    → IsClosed NearestTiesToEven sum rest flags answer status → IsPairOf sum rest flags answer status
+closed_pair z y flags answer status a x =
+    let n = high_rounded double is_ieee wide_enough sum_reach room z y x.h x.h_flags a.addend x.is_h in
+    let h_status = sum_status double z y x.h x.h_flags is_ieee digits a.addend.finite_sum a.addend.finite_rest
+    n.is_finite x.is_h in
+    low_part_pair z y x.h flags x.h_flags (flags ∪ x.h_flags) answer status a (λ p. union_status _ _ p h_status)
+    x.is_h
+    (MatchBool-at_true _ _ n.is_finite x.is_answer)
+
+-- ---- nothing is left to add
+
+-- what is the same datum as +0 has the number 0
+pub zero_number : (datum : Datum) → same_datum datum positive_zero ≡ true → number datum ≡ pos 0
+zero_number (finite b m) h =
+    let p = and_parts (same_sign b false) (eqb m 0) h in
+    ap (λ (n : ℕ). signed b n) (eqb-true m 0 p.1) ∙ no_sign b
+zero_number (infinite b) h = absurd (false≢true h)
+zero_number (nan b m) h = absurd (false≢true h)
+
+-- nine quarters of the reach are within the largest double
+sum_within_largest : (t l z : ℕ) → 4 * z ≤ 9 * t → 3 * t ≤ l → z ≤ l
+sum_within_largest t l z h k = omega arith
+
+-- the sum alone, where the rest is zero
+pub alone_pair : (sum rest : Datum) (flags : ℕ) → IsClosable sum rest → number rest ≡ pos 0
+    → IsPairOf sum rest flags (alone sum) ok_bits
+alone_pair z y flags a e =
+    let f = a.addend.finite_sum in
+    let n = high_alone double z is_ieee f a.sum_on_grid
+    (sum_within_largest sum_reach (largest double) (size z) a.addend.sum_low room) in
+    pair_of_high z y z positive_zero flags ok_bits f refl (ap (λ (i : ℤ). number z +ℤ i) (sym e)) n (λ p. inl refl)

@@ -1,6 +1,0 @@
--- The clause is a law of its own.
-use Rattle.apfloat_pairs.proofs.Negated.{negated_pair_twice}
-use Rattle.apfloat_pairs.proofs.negation_law.Goals as goal
-
-pub returns : goal.returns
-returns c = negated_pair_twice

@@ -1,0 +1,19 @@
+use Rattle.apfloat_base.specs.rounding.Flags.{bits_of}
+use Rattle.apfloat_pairs.proofs.PairSteps.{product_error_free, product_accurate, product_by_categories}
+use Rattle.apfloat_pairs.proofs.products.product.Goals as goal
+
+pub returns-clause-product : goal.returns-clause-product
+returns-clause-product c =
+    product_by_categories c.args.round c.args.x c.args.y _ _ _ _ c.category.ensures.category
+    c.category-2.ensures.category
+    c.product_of_categories.ensures
+
+pub returns-clause-error_free : goal.returns-clause-error_free
+returns-clause-error_free c =
+    product_error_free c.args.round c.args.x c.args.y _ (bits_of c.product_of_categories.result.status)
+    c.category.ensures.high c.category-2.ensures.high (returns-clause-product c)
+
+pub returns-clause-accurate : goal.returns-clause-accurate
+returns-clause-accurate c =
+    product_accurate c.args.round c.args.x c.args.y _ (bits_of c.product_of_categories.result.status)
+    (returns-clause-product c)

@@ -1,9 +1,0 @@
--- Each clause is a law of its own.
-use Rattle.apfloat_pairs.proofs.SplitLaws.{exact_split, lossless_split}
-use Rattle.apfloat_pairs.proofs.split_laws.Goals as goal
-
-pub returns-clause-exact : goal.returns-clause-exact
-returns-clause-exact c = exact_split
-
-pub returns-clause-lossless : goal.returns-clause-lossless
-returns-clause-lossless c = lossless_split

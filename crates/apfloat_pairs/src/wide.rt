@@ -1,0 +1,112 @@
+//! Operations on pairs by way of the wide format: the pair is joined, the operation is done there, and its result is
+//! split. The status is that of the wide operation.
+
+ghost use Rattle.std.specs.Prelude.{◌≡◌, ◌≤◌, ◌<◌, ◌^◌, Result};
+ghost use Rattle.apfloat_base.specs.rounding.Flags.{Gives, bits_of};
+ghost use Rattle.apfloat_pair_theory.specs.Pairs.{IsSplit};
+ghost use Rattle.apfloat_pair_theory.specs.PairAccuracy.{IsExactNearestRemainder, IsExactQuotient, IsExactTruncatedRemainder};
+ghost use Rattle.apfloat_pair_theory.specs.PairCalls.{IsPairQuotient, IsPairTruncatedRemainder, IsPairNearestRemainder, IsPairRoundToIntegral, IsPairNextUp, IsPairExactInverse, IsPairFromUnsigned, IsPairToUnsigned, IsPairRead};
+
+use crate::join::{joined, split};
+use crate::{DoubleFloat, Fallback};
+use apfloat_base::{Float, ParseError, Round, StatusAnd};
+
+/// A result of the wide format as a pair, with its status.
+#[inline]
+fn split_answer(answer: StatusAnd<Fallback>) -> StatusAnd<DoubleFloat>
+    ensures status { result.status ≡ answer.status }
+    ensures value { IsSplit answer.value result.value }
+{
+    answer.status.and(split(answer.value))
+}
+
+/// The quotient of two pairs.
+#[inline]
+pub(super) fn quotient(x: DoubleFloat, y: DoubleFloat, round: Round) -> StatusAnd<DoubleFloat>
+    ensures quotient { Gives (IsPairQuotient round x y) result }
+    ensures exact { Gives (IsExactQuotient round x y) result }
+{
+    split_answer(joined(x).div_r(joined(y), round))
+}
+
+/// The remainder by the quotient cut toward zero.
+#[inline]
+pub(super) fn truncated(x: DoubleFloat, y: DoubleFloat) -> StatusAnd<DoubleFloat>
+    ensures remainder { Gives (IsPairTruncatedRemainder x y) result }
+    ensures exact { Gives (IsExactTruncatedRemainder x y) result }
+{
+    split_answer(joined(x).c_fmod(joined(y)))
+}
+
+/// The remainder by the whole number nearest to the quotient.
+#[inline]
+pub(super) fn nearest(x: DoubleFloat, y: DoubleFloat) -> StatusAnd<DoubleFloat>
+    ensures remainder { Gives (IsPairNearestRemainder x y) result }
+    ensures exact { Gives (IsExactNearestRemainder x y) result }
+{
+    split_answer(joined(x).ieee_rem(joined(y)))
+}
+
+/// A pair rounded by the mode to a whole number.
+#[inline]
+pub(super) fn round_to_integral(x: DoubleFloat, round: Round) -> StatusAnd<DoubleFloat>
+    ensures { Gives (IsPairRoundToIntegral round x) result }
+{
+    split_answer(joined(x).round_to_integral(round))
+}
+
+/// The next value up in the wide format.
+#[inline]
+pub(super) fn next_up(x: DoubleFloat) -> StatusAnd<DoubleFloat>
+    ensures { Gives (IsPairNextUp x) result }
+{
+    split_answer(joined(x).next_up())
+}
+
+/// The exact inverse of a pair, if the wide format has it.
+#[inline]
+pub(super) fn exact_inverse(x: DoubleFloat) -> Option<DoubleFloat>
+    ensures { IsPairExactInverse x result }
+{
+    match joined(x).get_exact_inverse() {
+        Some(inverse) => Some(split(inverse)),
+        None => None,
+    }
+}
+
+/// A whole number as a pair.
+#[inline]
+pub(super) fn from_unsigned(number: u128, round: Round) -> StatusAnd<DoubleFloat>
+    ensures { Gives (IsPairFromUnsigned round number) result }
+{
+    split_answer(Fallback::from_u128_r(number, round))
+}
+
+/// A pair as a whole number of `width` binary digits.
+#[inline]
+pub(super) fn to_unsigned(
+    x: DoubleFloat,
+    width: usize,
+    round: Round,
+    is_exact: &mut bool,
+) -> StatusAnd<u128>
+    requires low { 1 ≤ width }
+    requires high { width ≤ 128 }
+    ensures answer { Gives
+        (λ number status. IsPairToUnsigned round width x number status is_exact.new)
+        result }
+    ensures fits { result.value < 2 ^ width }
+{
+    joined(x).to_u128_r(width, round, is_exact)
+}
+
+/// The pair of a text, or its refusal.
+#[inline]
+pub(super) fn read(text: &str, round: Round) -> Result<StatusAnd<DoubleFloat>, ParseError>
+    ensures { IsPairRead round text.now result }
+{
+    match Fallback::from_str_r(text, round) {
+        Ok(answer) => Ok(split_answer(answer)),
+        Err(error) => Err(error),
+    }
+}

@@ -1,5 +1,0 @@
-use Rattle.apfloat_pairs.proofs.SplitLaws.{exact_split}
-use Rattle.rustc_apfloat.proofs.ppc.join.DoubleFloatFromFallback.from.Goals as goal
-
-pub returns-clause-exact : goal.returns-clause-exact
-returns-clause-exact c = exact_split c.args.x c.split.result c.split.ensures
