@@ -74,17 +74,3 @@ pub const IEK_NAN: ExpInt = ExpInt::MIN;
 
 /// The exponent that is returned for a zero.
 pub const IEK_ZERO: ExpInt = ExpInt::MIN + 1;
-
-#[cfg(test)]
-mod tests {
-    use super::*;
-
-    #[test]
-    fn swaps_directed_modes(rt: HostRuntime) {
-        assert_eq!(rt; -Round::TowardPositive, Round::TowardNegative);
-        assert_eq!(rt; -Round::TowardNegative, Round::TowardPositive);
-        assert_eq!(rt; -Round::TowardZero, Round::TowardZero);
-        assert_eq!(rt; -Round::NearestTiesToEven, Round::NearestTiesToEven);
-        assert_eq!(rt; -Round::NearestTiesToAway, Round::NearestTiesToAway);
-    }
-}
