@@ -24,7 +24,7 @@ fn widened(part: Double) -> Fallback
 /// The exact sum of the parts in the wide format, rounded once to the nearest value, ties to even. A high part that is
 /// zero, infinite or a NaN is taken alone.
 #[inline]
-pub(super) fn joined(x: DoubleFloat) -> Fallback
+pub(crate) fn joined(x: DoubleFloat) -> Fallback
     ensures { IsJoined x result }
 {
     let high = widened(x.0);
@@ -52,7 +52,7 @@ fn rest(x: Fallback, rounded: StatusAnd<Double>) -> Double
 
 /// The double nearest to a wide value, with the rest as the low part.
 #[inline]
-pub(super) fn split(x: Fallback) -> DoubleFloat
+pub(crate) fn split(x: Fallback) -> DoubleFloat
     ensures { IsSplit x result }
 {
     let mut loses_info = false;

@@ -35,7 +35,7 @@ fn compare_low_magnitudes(order: Ordering, opposite: bool, other_opposite: bool)
 
 /// The order of the magnitudes of two pairs.
 #[inline]
-pub(super) fn compare_magnitudes(x: DoubleFloat, y: DoubleFloat) -> Ordering
+pub(crate) fn compare_magnitudes(x: DoubleFloat, y: DoubleFloat) -> Ordering
     requires { CanComparePairMagnitudes x y }
     ensures { result ≡ compared_pair_magnitudes x y }
 {

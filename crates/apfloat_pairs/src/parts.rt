@@ -13,7 +13,7 @@ use apfloat_formats::Double;
 
 /// The category of the high part, which is that of the pair.
 #[inline]
-pub(super) fn category(x: DoubleFloat) -> Category
+pub(crate) fn category(x: DoubleFloat) -> Category
     ensures category { result ≡ pair_category x }
     ensures high { IsMember double x.high }
     ensures low { IsMember double x.low }
@@ -24,7 +24,7 @@ pub(super) fn category(x: DoubleFloat) -> Category
 
 /// The negation. A low part that is zero, infinite or a NaN is unchanged.
 #[inline]
-pub(super) fn negation(x: DoubleFloat) -> DoubleFloat
+pub(crate) fn negation(x: DoubleFloat) -> DoubleFloat
     ensures { result ≡ negated_pair x }
 {
     let low = if x.1.is_finite_non_zero() { -x.1 } else { x.1 };
@@ -33,7 +33,7 @@ pub(super) fn negation(x: DoubleFloat) -> DoubleFloat
 
 /// The pair whose encoding is `bits`.
 #[inline]
-pub(super) fn of_bits(bits: u128) -> DoubleFloat
+pub(crate) fn of_bits(bits: u128) -> DoubleFloat
     ensures { result ≡ pair_of bits }
 {
     DoubleFloat(Double::from_bits(bits), Double::from_bits(bits >> 64))
@@ -41,7 +41,7 @@ pub(super) fn of_bits(bits: u128) -> DoubleFloat
 
 /// The bits of a pair, the high part in the lower half.
 #[inline]
-pub(super) fn bits_of(x: DoubleFloat) -> u128
+pub(crate) fn bits_of(x: DoubleFloat) -> u128
     ensures written { IsPairEncodedBy result x }
     ensures back { pair_of result ≡ x }
 {
@@ -50,7 +50,7 @@ pub(super) fn bits_of(x: DoubleFloat) -> u128
 
 /// The largest pair: the largest double, plus just below half a unit in its last place.
 #[inline]
-pub(super) fn largest() -> DoubleFloat
+pub(crate) fn largest() -> DoubleFloat
     ensures { result ≡ pair_largest }
 {
     of_bits(0x7c8f_ffff_ffff_fffe_7fef_ffff_ffff_ffff)
@@ -58,7 +58,7 @@ pub(super) fn largest() -> DoubleFloat
 
 /// 2 to the power of `MIN_EXP`, the least pair from which on a low part has all its digits.
 #[inline]
-pub(super) fn smallest_normalized() -> DoubleFloat
+pub(crate) fn smallest_normalized() -> DoubleFloat
     ensures { result ≡ pair_smallest_normalized }
 {
     of_bits(0x0360_0000_0000_0000)
@@ -66,7 +66,7 @@ pub(super) fn smallest_normalized() -> DoubleFloat
 
 /// Whether both pairs have the same parts.
 #[inline]
-pub(super) fn is_same(x: DoubleFloat, y: DoubleFloat) -> bool
+pub(crate) fn is_same(x: DoubleFloat, y: DoubleFloat) -> bool
     ensures { result ≡ same_pair x y }
 {
     x.0.bitwise_eq(y.0) && x.1.bitwise_eq(y.1)
@@ -74,7 +74,7 @@ pub(super) fn is_same(x: DoubleFloat, y: DoubleFloat) -> bool
 
 /// Whether both parts are whole numbers.
 #[inline]
-pub(super) fn is_integer(x: DoubleFloat) -> bool
+pub(crate) fn is_integer(x: DoubleFloat) -> bool
     ensures { result ≡ is_integer_pair x }
 {
     x.0.is_integer() && x.1.is_integer()
@@ -82,7 +82,7 @@ pub(super) fn is_integer(x: DoubleFloat) -> bool
 
 /// Whether the high part is a number that is denormal or is not the double nearest to the sum of the parts.
 #[inline]
-pub(super) fn is_denormal(x: DoubleFloat) -> bool
+pub(crate) fn is_denormal(x: DoubleFloat) -> bool
     ensures { result ≡ is_denormal_pair x }
 {
     x.0.is_finite_non_zero() && (x.0.is_denormal() || x.0 != (x.0 + x.1).value)
@@ -90,7 +90,7 @@ pub(super) fn is_denormal(x: DoubleFloat) -> bool
 
 /// The pair times 2 to the power of `exp`, each part rounded once.
 #[inline]
-pub(super) fn scaled(x: DoubleFloat, exp: ExpInt, round: Round) -> DoubleFloat
+pub(crate) fn scaled(x: DoubleFloat, exp: ExpInt, round: Round) -> DoubleFloat
     ensures { IsPairScaling round x exp result }
 {
     DoubleFloat(x.0.scalbn_r(exp, round), x.1.scalbn_r(exp, round))
@@ -98,7 +98,7 @@ pub(super) fn scaled(x: DoubleFloat, exp: ExpInt, round: Round) -> DoubleFloat
 
 /// The fraction of the high part and its exponent; the low part is scaled like the high one.
 #[inline]
-pub(super) fn fraction(x: DoubleFloat, exp: &mut ExpInt, round: Round) -> DoubleFloat
+pub(crate) fn fraction(x: DoubleFloat, exp: &mut ExpInt, round: Round) -> DoubleFloat
     ensures { IsPairFraction round x result exp.new }
 {
     let high = x.0.frexp_r(exp, round);

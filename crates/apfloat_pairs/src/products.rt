@@ -67,7 +67,7 @@ fn product_of_categories(
 
 /// The product of two pairs. Rounded to nearest, it is exact for doubles and accurate for normalised pairs.
 #[inline]
-pub(super) fn product(x: DoubleFloat, y: DoubleFloat, round: Round) -> StatusAnd<DoubleFloat>
+pub(crate) fn product(x: DoubleFloat, y: DoubleFloat, round: Round) -> StatusAnd<DoubleFloat>
     ensures product { Gives (IsPairProduct round x y) result }
     ensures error_free { round ≡ NearestTiesToEven → IsErrorFreeProduct x y result.value }
     ensures accurate { round ≡ NearestTiesToEven → IsAccurateProduct x y result.value }

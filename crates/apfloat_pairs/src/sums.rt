@@ -18,7 +18,7 @@ use std::cmp::Ordering;
 /// The end of a sum and of a product: `z + zz`, with the error of that sum as the low part. `status` has the flags of
 /// the steps so far.
 #[inline]
-pub(super) fn closed(z: Double, zz: Double, status: Status, round: Round) -> StatusAnd<DoubleFloat>
+pub(crate) fn closed(z: Double, zz: Double, status: Status, round: Round) -> StatusAnd<DoubleFloat>
     ensures { Gives (IsClosed round z zz (bits_of status)) result }
 {
     let mut flags = status;
@@ -156,7 +156,7 @@ fn sum_of_categories(
 
 /// The sum of two pairs. Rounded to nearest, it is exact for doubles and accurate for normalised pairs.
 #[inline]
-pub(super) fn sum(x: DoubleFloat, y: DoubleFloat, round: Round) -> StatusAnd<DoubleFloat>
+pub(crate) fn sum(x: DoubleFloat, y: DoubleFloat, round: Round) -> StatusAnd<DoubleFloat>
     ensures sum { Gives (IsPairSum round x y) result }
     ensures error_free { round ≡ NearestTiesToEven → IsErrorFreeSum x y result.value }
     ensures accurate { round ≡ NearestTiesToEven → IsAccurateSum x y result.value }
@@ -167,7 +167,7 @@ pub(super) fn sum(x: DoubleFloat, y: DoubleFloat, round: Round) -> StatusAnd<Dou
 
 /// The difference of two pairs: the sum with the negated one, as exact and as accurate as that.
 #[inline]
-pub(super) fn difference(x: DoubleFloat, y: DoubleFloat, round: Round) -> StatusAnd<DoubleFloat>
+pub(crate) fn difference(x: DoubleFloat, y: DoubleFloat, round: Round) -> StatusAnd<DoubleFloat>
     ensures difference { Gives (IsPairDifference round x y) result }
     ensures error_free { round ≡ NearestTiesToEven → IsErrorFreeDifference x y result.value }
     ensures accurate { round ≡ NearestTiesToEven → IsAccurateDifference x y result.value }

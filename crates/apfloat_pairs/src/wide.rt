@@ -22,7 +22,7 @@ fn split_answer(answer: StatusAnd<Fallback>) -> StatusAnd<DoubleFloat>
 
 /// The quotient of two pairs.
 #[inline]
-pub(super) fn quotient(x: DoubleFloat, y: DoubleFloat, round: Round) -> StatusAnd<DoubleFloat>
+pub(crate) fn quotient(x: DoubleFloat, y: DoubleFloat, round: Round) -> StatusAnd<DoubleFloat>
     ensures quotient { Gives (IsPairQuotient round x y) result }
     ensures exact { Gives (IsExactQuotient round x y) result }
 {
@@ -31,7 +31,7 @@ pub(super) fn quotient(x: DoubleFloat, y: DoubleFloat, round: Round) -> StatusAn
 
 /// The remainder by the quotient cut toward zero.
 #[inline]
-pub(super) fn truncated(x: DoubleFloat, y: DoubleFloat) -> StatusAnd<DoubleFloat>
+pub(crate) fn truncated(x: DoubleFloat, y: DoubleFloat) -> StatusAnd<DoubleFloat>
     ensures remainder { Gives (IsPairTruncatedRemainder x y) result }
     ensures exact { Gives (IsExactTruncatedRemainder x y) result }
 {
@@ -40,7 +40,7 @@ pub(super) fn truncated(x: DoubleFloat, y: DoubleFloat) -> StatusAnd<DoubleFloat
 
 /// The remainder by the whole number nearest to the quotient.
 #[inline]
-pub(super) fn nearest(x: DoubleFloat, y: DoubleFloat) -> StatusAnd<DoubleFloat>
+pub(crate) fn nearest(x: DoubleFloat, y: DoubleFloat) -> StatusAnd<DoubleFloat>
     ensures remainder { Gives (IsPairNearestRemainder x y) result }
     ensures exact { Gives (IsExactNearestRemainder x y) result }
 {
@@ -49,7 +49,7 @@ pub(super) fn nearest(x: DoubleFloat, y: DoubleFloat) -> StatusAnd<DoubleFloat>
 
 /// A pair rounded by the mode to a whole number.
 #[inline]
-pub(super) fn round_to_integral(x: DoubleFloat, round: Round) -> StatusAnd<DoubleFloat>
+pub(crate) fn round_to_integral(x: DoubleFloat, round: Round) -> StatusAnd<DoubleFloat>
     ensures { Gives (IsPairRoundToIntegral round x) result }
 {
     split_answer(joined(x).round_to_integral(round))
@@ -57,7 +57,7 @@ pub(super) fn round_to_integral(x: DoubleFloat, round: Round) -> StatusAnd<Doubl
 
 /// The next value up in the wide format.
 #[inline]
-pub(super) fn next_up(x: DoubleFloat) -> StatusAnd<DoubleFloat>
+pub(crate) fn next_up(x: DoubleFloat) -> StatusAnd<DoubleFloat>
     ensures { Gives (IsPairNextUp x) result }
 {
     split_answer(joined(x).next_up())
@@ -65,7 +65,7 @@ pub(super) fn next_up(x: DoubleFloat) -> StatusAnd<DoubleFloat>
 
 /// The exact inverse of a pair, if the wide format has it.
 #[inline]
-pub(super) fn exact_inverse(x: DoubleFloat) -> Option<DoubleFloat>
+pub(crate) fn exact_inverse(x: DoubleFloat) -> Option<DoubleFloat>
     ensures { IsPairExactInverse x result }
 {
     match joined(x).get_exact_inverse() {
@@ -76,7 +76,7 @@ pub(super) fn exact_inverse(x: DoubleFloat) -> Option<DoubleFloat>
 
 /// A whole number as a pair.
 #[inline]
-pub(super) fn from_unsigned(number: u128, round: Round) -> StatusAnd<DoubleFloat>
+pub(crate) fn from_unsigned(number: u128, round: Round) -> StatusAnd<DoubleFloat>
     ensures { Gives (IsPairFromUnsigned round number) result }
 {
     split_answer(Fallback::from_u128_r(number, round))
@@ -84,7 +84,7 @@ pub(super) fn from_unsigned(number: u128, round: Round) -> StatusAnd<DoubleFloat
 
 /// A pair as a whole number of `width` binary digits.
 #[inline]
-pub(super) fn to_unsigned(
+pub(crate) fn to_unsigned(
     x: DoubleFloat,
     width: usize,
     round: Round,
@@ -102,7 +102,7 @@ pub(super) fn to_unsigned(
 
 /// The pair of a text, or its refusal.
 #[inline]
-pub(super) fn read(text: &str, round: Round) -> Result<StatusAnd<DoubleFloat>, ParseError>
+pub(crate) fn read(text: &str, round: Round) -> Result<StatusAnd<DoubleFloat>, ParseError>
     ensures { IsPairRead round text.now result }
 {
     match Fallback::from_str_r(text, round) {

@@ -15,26 +15,26 @@ returns c =
     (subst₂ (IsLostOfProduct c.args.round _ _ _ _ c.args.t) (sym c.and.ensures.value)
     (sym (ap bits_of c.and.ensures.status))
     (record {
-      lost = c.mul_add_r-answer.result.value;
-      v = c.mul_r-answer.result.value;
-      w = c.mul_r-answer-2.result.value;
-      cross = c.add_r-answer.result.value;
-      lost_flags = bits_of c.mul_add_r-answer.result.status;
-      v_flags = bits_of c.mul_r-answer.result.status;
-      w_flags = bits_of c.mul_r-answer-2.result.status;
-      cross_flags = bits_of c.add_r-answer.result.status;
-      tau_flags = bits_of c.add_r-answer-2.result.status;
+      lost = c.mul_add_r.result.value;
+      v = c.mul_r.result.value;
+      w = c.mul_r-2.result.value;
+      cross = c.add_r.result.value;
+      lost_flags = bits_of c.mul_add_r.result.status;
+      v_flags = bits_of c.mul_r.result.status;
+      w_flags = bits_of c.mul_r-2.result.status;
+      cross_flags = bits_of c.add_r.result.status;
+      tau_flags = bits_of c.add_r-2.result.status;
       is_lost =
           subst (λ (d : Datum). IsFusedSum double c.args.round c.x.inside.0 c.y.inside.0 d
-          c.mul_add_r-answer.result.value (bits_of c.mul_add_r-answer.result.status))
-          c.neg.ensures c.mul_add_r-answer.ensures;
-      is_v = c.mul_r-answer.ensures.product;
-      is_w = c.mul_r-answer-2.ensures.product;
-      is_cross = c.add_r-answer.ensures.sum;
-      is_tau = c.add_r-answer-2.ensures.sum;
+          c.mul_add_r.result.value (bits_of c.mul_add_r.result.status))
+          c.neg.ensures c.mul_add_r.ensures;
+      is_v = c.mul_r.ensures.product;
+      is_w = c.mul_r-2.ensures.product;
+      is_cross = c.add_r.ensures.sum;
+      is_tau = c.add_r-2.ensures.sum;
       flags_are =
-          c.union-status-4.ensures tt ∙ ap (λ (i : ℕ). i ∪ bits_of c.add_r-answer-2.result.status)
-          (c.union-status-3.ensures tt ∙ ap (λ (i : ℕ). i ∪ bits_of c.add_r-answer.result.status)
-          (c.union-status-2.ensures tt ∙ ap (λ (i : ℕ). i ∪ bits_of c.mul_r-answer-2.result.status)
-          (c.union-status.ensures tt)));
+          c.unpack-union-status-4.ensures tt ∙ ap (λ (i : ℕ). i ∪ bits_of c.add_r-2.result.status)
+          (c.unpack-union-status-3.ensures tt ∙ ap (λ (i : ℕ). i ∪ bits_of c.add_r.result.status)
+          (c.unpack-union-status-2.ensures tt ∙ ap (λ (i : ℕ). i ∪ bits_of c.mul_r-2.result.status)
+          (c.unpack-union-status.ensures tt)));
     })))

@@ -9,19 +9,19 @@ returns-then-not-is_finite c =
     (rw (← c.y.view_is)
     (anew_beyond c.args.round _ _ _ _ _ _ _ _ _
     (record {
-      lows = c.add_r-answer.result.value;
-      with_lesser = c.add_r-answer-2.result.value;
-      lows_flags = bits_of c.add_r-answer.result.status;
-      with_lesser_flags = bits_of c.add_r-answer-2.result.status;
-      z_flags = bits_of c.add_r-answer-3.result.status;
-      flags_with_lesser = bits_of c.union-status.result;
+      lows = c.add_r.result.value;
+      with_lesser = c.add_r-2.result.value;
+      lows_flags = bits_of c.add_r.result.status;
+      with_lesser_flags = bits_of c.add_r-2.result.status;
+      z_flags = bits_of c.add_r-3.result.status;
+      flags_with_lesser = bits_of c.unpack-union-status.result;
       big_is = c.by_magnitude.ensures.greater;
       small_is = c.by_magnitude.ensures.lesser;
-      is_lows = c.add_r-answer.ensures.sum;
-      is_with_lesser = c.add_r-answer-2.ensures.sum;
-      is_z = c.add_r-answer-3.ensures.sum;
-      joined = c.union-status.ensures tt;
-      flags_are = c.union-status-2.ensures tt;
+      is_lows = c.add_r.ensures.sum;
+      is_with_lesser = c.add_r-2.ensures.sum;
+      is_z = c.add_r-3.ensures.sum;
+      joined = c.unpack-union-status.ensures tt;
+      flags_are = c.unpack-union-status-2.ensures tt;
     })
     c.is_finite.ensures c.if-not-is_finite.true (c.and.ensures.value ∙ c.alone.ensures)
     (ap bits_of c.and.ensures.status)))
@@ -32,39 +32,39 @@ returns c =
     (rw (← c.y.view_is)
     (anew_within c.args.round _ _ _ _ _ _ _ _ _ _ _
     (record {
-      lows = c.add_r-answer.result.value;
-      with_lesser = c.add_r-answer-2.result.value;
-      lows_flags = bits_of c.add_r-answer.result.status;
-      with_lesser_flags = bits_of c.add_r-answer-2.result.status;
-      z_flags = bits_of c.add_r-answer-3.result.status;
-      flags_with_lesser = bits_of c.union-status.result;
+      lows = c.add_r.result.value;
+      with_lesser = c.add_r-2.result.value;
+      lows_flags = bits_of c.add_r.result.status;
+      with_lesser_flags = bits_of c.add_r-2.result.status;
+      z_flags = bits_of c.add_r-3.result.status;
+      flags_with_lesser = bits_of c.unpack-union-status.result;
       big_is = c.by_magnitude.ensures.greater;
       small_is = c.by_magnitude.ensures.lesser;
-      is_lows = c.add_r-answer.ensures.sum;
-      is_with_lesser = c.add_r-answer-2.ensures.sum;
-      is_z = c.add_r-answer-3.ensures.sum;
-      joined = c.union-status.ensures tt;
-      flags_are = c.union-status-2.ensures tt;
+      is_lows = c.add_r.ensures.sum;
+      is_with_lesser = c.add_r-2.ensures.sum;
+      is_z = c.add_r-3.ensures.sum;
+      joined = c.unpack-union-status.ensures tt;
+      flags_are = c.unpack-union-status-2.ensures tt;
     })
     c.is_finite.ensures c.if-not-is_finite.false
     (record {
-      zz = c.add_r-answer-4.result.value;
-      left = c.sub_r-answer.result.value;
-      with_lesser = c.add_r-answer-5.result.value;
-      zz_flags = bits_of c.add_r-answer-4.result.status;
-      left_flags = bits_of c.sub_r-answer.result.status;
-      with_lesser_flags = bits_of c.add_r-answer-5.result.status;
-      low_flags = bits_of c.add_r-answer-6.result.status;
-      flags_with_zz = bits_of c.union-status-3.result;
-      flags_with_left = bits_of c.union-status-4.result;
-      flags_with_lesser = bits_of c.union-status-5.result;
-      is_zz = c.add_r-answer-4.ensures.sum;
-      is_left = c.sub_r-answer.ensures.difference;
-      is_with_lesser = c.add_r-answer-5.ensures.sum;
-      is_low = c.add_r-answer-6.ensures.sum;
-      zz_joined = c.union-status-3.ensures tt;
-      left_joined = c.union-status-4.ensures tt;
-      lesser_joined = c.union-status-5.ensures tt;
-      flags_are = c.union-status-6.ensures tt;
+      zz = c.add_r-4.result.value;
+      left = c.sub_r.result.value;
+      with_lesser = c.add_r-5.result.value;
+      zz_flags = bits_of c.add_r-4.result.status;
+      left_flags = bits_of c.sub_r.result.status;
+      with_lesser_flags = bits_of c.add_r-5.result.status;
+      low_flags = bits_of c.add_r-6.result.status;
+      flags_with_zz = bits_of c.unpack-union-status-3.result;
+      flags_with_left = bits_of c.unpack-union-status-4.result;
+      flags_with_lesser = bits_of c.unpack-union-status-5.result;
+      is_zz = c.add_r-4.ensures.sum;
+      is_left = c.sub_r.ensures.difference;
+      is_with_lesser = c.add_r-5.ensures.sum;
+      is_low = c.add_r-6.ensures.sum;
+      zz_joined = c.unpack-union-status-3.ensures tt;
+      left_joined = c.unpack-union-status-4.ensures tt;
+      lesser_joined = c.unpack-union-status-5.ensures tt;
+      flags_are = c.unpack-union-status-6.ensures tt;
     })
     c.and-2.ensures.value (ap bits_of c.and-2.ensures.status)))
