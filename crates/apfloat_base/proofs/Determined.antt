@@ -157,8 +157,8 @@ pub scale_some : (constants : Constants) → IsLawful constants → 0 < (format_
 scale_some constants law =
     let e : pos (constants.precision - 1) -ℤ constants.min_exp
     ≡ pos (unsigned_abs (pos (constants.precision - 1) -ℤ constants.min_exp)) =
-    omega (arith, ints, law.precision_low, law.min_exp_high) in
-    omega (arith, ints, law.precision_low, law.min_exp_high, e)
+    omega (arith, ints, law.parameters.precision_low, law.parameters.min_exp_high) in
+    omega (arith, ints, law.parameters.precision_low, law.parameters.min_exp_high, e)
 
 -- all relations of a format of positive scale determine their answers, with its bits if it has any
 pub determined : (format : Format) (layout : Layout) (precision bits : ℕ) (mode : Round) → 0 < format.scale

@@ -17,10 +17,10 @@ past_all : (constants : Constants) → IsLawful constants
 past_all constants law =
     let scale : pos (constants.precision - 1) -ℤ constants.min_exp
     ≡ pos (unsigned_abs (pos (constants.precision - 1) -ℤ constants.min_exp)) =
-    omega (arith, ints, law.precision_low, law.min_exp_high) in
+    omega (arith, ints, law.parameters.precision_low, law.parameters.min_exp_high) in
     let span : constants.max_exp -ℤ constants.min_exp ≡ pos (unsigned_abs (constants.max_exp -ℤ constants.min_exp)) =
-    omega (arith, ints, law.precision_low, law.min_exp_high, law.max_exp_low) in
-    omega (arith, ints, law.precision_high, law.min_exp_low, law.max_exp_high, scale, span)
+    omega (arith, ints, law.parameters.precision_low, law.parameters.min_exp_high, law.parameters.max_exp_low) in
+    omega (arith, ints, law.parameters.precision_high, law.parameters.min_exp_low, law.parameters.max_exp_high, scale, span)
 
 -- the exponent of the fraction of a finite value fits 32 bits
 number_fits : (constants : Constants) → IsLawful constants

@@ -11,7 +11,7 @@ use Rattle.apfloat_base.proofs.general.Powers.{two_pos, twice_half}
 use Rattle.apfloat_base.proofs.formats.Greatest.{greatest_fits}
 use Rattle.apfloat_base.proofs.rounding.KeptDigits.{digits_le, some_digits, fits_shifted, full_shifted, same_quanta}
 use Rattle.apfloat_unpacked.specs.declared.shape.Shape.{Shape}
-use Rattle.apfloat_unpacked.specs.Shapes.{IsShape, format_at}
+use Rattle.apfloat_unpacked.specs.Shapes.{format_at}
 use Rattle.apfloat_unpacked.specs.Stored.{IsQuantaAt, quanta_at, IsNormalAt}
 
 -- the quotient is the number of quanta, where there is one
@@ -46,14 +46,14 @@ top_place half m place shift top span full low within =
     (cases_lt (span + shift) place)
 
 -- a significand moved up to its integer bit
-pub normal_at : (shape : Shape) (m place shift : ℕ) (e : ℤ) → IsShape shape → m * 2 ^ shift < 2 ^ shape.precision
+pub normal_at : (shape : Shape) (m place shift : ℕ) (e : ℤ) → m * 2 ^ shift < 2 ^ shape.precision
     → 2 ^ (shape.precision - 1) ≤ m * 2 ^ shift → shift < shape.precision
     → e ≡ (shape.min_exp +ℤ pos place) -ℤ pos shift → IsQuantaAt shape.min_exp (m * 2 ^ shift) e (m * 2 ^ place)
     → m * 2 ^ place ≤ greatest_significand shape.nonfinite shape.precision * 2 ^ (format_at shape).span
     → IsNormalAt shape (m * 2 ^ shift) e
-normal_at shape m place shift e law fits full short is quanta within =
+normal_at shape m place shift e fits full short is quanta within =
     let t : 2 * 2 ^ (shape.precision - 1) ≡ 2 ^ shape.precision =
-    twice_half shape.precision (omega (arith, law.precision_low)) in
+    twice_half shape.precision (omega (arith, shape.parameters.precision_low)) in
     let g = greatest_fits shape.nonfinite shape.precision in
     let p : place ≤ (format_at shape).span + shift =
     top_place (2 ^ (shape.precision - 1)) m place shift (greatest_significand shape.nonfinite shape.precision)
@@ -64,7 +64,7 @@ normal_at shape m place shift e law fits full short is quanta within =
         full = full;
         least = omega (arith, ints);
         greatest =
-            omega (arith, ints, law, p);
+            omega (arith, ints, shape.parameters, p);
       };
       whole = whole_is shape.min_exp (m * 2 ^ shift) e (m * 2 ^ place) quanta;
       within = rw (quanta_is shape.min_exp (m * 2 ^ shift) e (m * 2 ^ place) quanta) within;
@@ -96,10 +96,10 @@ moved_up_quanta shape m digits place w e h = quanta_is shape.min_exp w e (m * 2 
     (moved_quanta shape m digits place w e h)
 
 -- and is stored as the format wants it
-pub moved_up_normal : (shape : Shape) (m digits place w : ℕ) (e : ℤ) → IsShape shape
+pub moved_up_normal : (shape : Shape) (m digits place w : ℕ) (e : ℤ)
     → IsMovedUp shape m digits place w e
     → IsNormalAt shape w e
-moved_up_normal shape m digits place w e law h =
+moved_up_normal shape m digits place w e h =
     let l : digits ≤ shape.precision = digits_le m digits shape.precision h.fits h.full in
     let d : 0 < digits = some_digits m digits h.below h.some in
     let f : m * 2 ^ (shape.precision - digits) < 2 ^ shape.precision =
@@ -108,7 +108,7 @@ moved_up_normal shape m digits place w e law h =
     full_shifted m digits (shape.precision - digits) shape.precision d h.full (omega arith) in
     let q : IsQuantaAt shape.min_exp (m * 2 ^ (shape.precision - digits)) e (m * 2 ^ place) =
     rw h.moved at (moved_quanta shape m digits place w e h) in
-    rw h.moved (normal_at shape m place (shape.precision - digits) e law f g (omega arith) h.exponent q h.within)
+    rw h.moved (normal_at shape m place (shape.precision - digits) e f g (omega arith) h.exponent q h.within)
 
 -- ---- numbers below the least normal exponent, and from it on
 

@@ -6,7 +6,7 @@ ghost use Rattle.apfloat_base.specs.rounding.Rounding.{zero_sign};
 ghost use Rattle.apfloat_base.specs.bits.Layout.{all_ones, trailing_bits, fields_of, implied_number, implied_datum, written_number, written_datum, datum_of, IsEncodedBy};
 ghost use Rattle.apfloat_base.specs.formats.Datum.{nan};
 ghost use Rattle.apfloat_base.specs.bits.Interchange.{IsInterchange, AreWithin, AreFieldsOf, bits_of_fields};
-ghost use Rattle.apfloat_unpacked.specs.Shapes.{IsShape, format_at};
+ghost use Rattle.apfloat_unpacked.specs.Shapes.{format_at};
 ghost use Rattle.apfloat_unpacked.specs.Stored.{IsStored, IsNormal, IsNan, quanta_of, datum_at, number_of};
 ghost use Rattle.apfloat_unpacked.specs.Encoded.{layout_at, fields_at};
 
@@ -38,7 +38,6 @@ pub struct Fields {
 /// How many bits the trailing significand has.
 #[inline(always)]
 fn trailing_width(shape: Shape) -> u32
-    requires { IsShape shape }
     ensures value { result ≡ trailing_bits (format_at shape) }
     ensures bound { result ≤ 125 }
 {
@@ -61,8 +60,7 @@ fn ones(width: u32) -> u128
 /// The fields of an encoding; bits above the sign are ignored.
 #[inline(always)]
 fn split(shape: Shape, widths: Widths, bits: u128) -> Fields
-    requires lawful { IsShape shape }
-    requires interchange { IsInterchange (format_at shape) (layout_at widths) }
+    requires { IsInterchange (format_at shape) (layout_at widths) }
     ensures { fields_at result ≡ fields_of (format_at shape) (layout_at widths) bits }
 {
     let width = trailing_width(shape);
@@ -84,7 +82,6 @@ fn sign_bit(negative: bool) -> u128
 /// The bit pattern of fields.
 #[inline(always)]
 fn join(shape: Shape, widths: Widths, fields: Fields) -> u128
-    requires lawful { IsShape shape }
     requires interchange { IsInterchange (format_at shape) (layout_at widths) }
     requires within { AreWithin (format_at shape) (layout_at widths) (fields_at fields) }
     ensures { result ≡ bits_of_fields (format_at shape) (layout_at widths) (fields_at fields) }
@@ -96,7 +93,6 @@ fn join(shape: Shape, widths: Widths, fields: Fields) -> u128
 /// A number whose integer bit is implied by its biased exponent.
 #[inline(always)]
 fn implied_number(shape: Shape, widths: Widths, fields: Fields) -> Unpacked
-    requires lawful { IsShape shape }
     requires interchange { IsInterchange (format_at shape) (layout_at widths) }
     requires biased { fields.biased_exponent < 2 ^ widths.exponent_bits }
     requires trailing { fields.trailing < smallest_normalized (format_at shape) }
@@ -123,7 +119,6 @@ fn implied_number(shape: Shape, widths: Widths, fields: Fields) -> Unpacked
 /// A value whose integer bit is implied.
 #[inline(always)]
 fn implied_value(shape: Shape, widths: Widths, fields: Fields) -> Unpacked
-    requires lawful { IsShape shape }
     requires interchange { IsInterchange (format_at shape) (layout_at widths) }
     requires implied { shape.explicit_integer_bit ≡ false }
     requires within { AreWithin (format_at shape) (layout_at widths) (fields_at fields) }
@@ -162,7 +157,6 @@ fn implied_value(shape: Shape, widths: Widths, fields: Fields) -> Unpacked
 /// A number with an explicit integer bit. If that bit is 0 above the least exponent, it is not a number.
 #[inline(always)]
 fn written_number(shape: Shape, widths: Widths, fields: Fields) -> Unpacked
-    requires lawful { IsShape shape }
     requires interchange { IsInterchange (format_at shape) (layout_at widths) }
     requires explicit { shape.explicit_integer_bit ≡ true }
     requires within { AreWithin (format_at shape) (layout_at widths) (fields_at fields) }
@@ -187,7 +181,6 @@ fn written_number(shape: Shape, widths: Widths, fields: Fields) -> Unpacked
 /// A value with an explicit integer bit.
 #[inline(always)]
 fn written_value(shape: Shape, widths: Widths, fields: Fields) -> Unpacked
-    requires lawful { IsShape shape }
     requires interchange { IsInterchange (format_at shape) (layout_at widths) }
     requires explicit { shape.explicit_integer_bit ≡ true }
     requires within { AreWithin (format_at shape) (layout_at widths) (fields_at fields) }
@@ -207,8 +200,7 @@ fn written_value(shape: Shape, widths: Widths, fields: Fields) -> Unpacked
 /// The value that `bits` encode; bits above the sign are ignored.
 #[inline(always)]
 pub fn decode(shape: Shape, widths: Widths, bits: u128) -> Unpacked
-    requires lawful { IsShape shape }
-    requires interchange { IsInterchange (format_at shape) (layout_at widths) }
+    requires { IsInterchange (format_at shape) (layout_at widths) }
     ensures stored { IsStored shape result }
     ensures datum { datum_at shape result ≡ datum_of (format_at shape) (layout_at widths) bits }
 {
@@ -223,7 +215,6 @@ pub fn decode(shape: Shape, widths: Widths, bits: u128) -> Unpacked
 /// The fields of a number.
 #[inline(always)]
 fn fields_of_number(shape: Shape, widths: Widths, x: Unpacked) -> Fields
-    requires lawful { IsShape shape }
     requires interchange { IsInterchange (format_at shape) (layout_at widths) }
     requires normal { IsNormal shape x }
     ensures { AreFieldsOf (format_at shape) (layout_at widths) (fields_at result)
@@ -250,7 +241,6 @@ fn fields_of_number(shape: Shape, widths: Widths, x: Unpacked) -> Fields
 /// The fields of a NaN.
 #[inline(always)]
 fn fields_of_nan(shape: Shape, widths: Widths, x: Unpacked) -> Fields
-    requires lawful { IsShape shape }
     requires interchange { IsInterchange (format_at shape) (layout_at widths) }
     requires nan { IsNan shape x }
     ensures { AreFieldsOf (format_at shape) (layout_at widths) (fields_at result)
@@ -273,7 +263,6 @@ fn fields_of_nan(shape: Shape, widths: Widths, x: Unpacked) -> Fields
 /// The fields of the canonical encoding of a value.
 #[inline(always)]
 fn fields_of_value(shape: Shape, widths: Widths, x: Unpacked) -> Fields
-    requires lawful { IsShape shape }
     requires interchange { IsInterchange (format_at shape) (layout_at widths) }
     requires stored { IsStored shape x }
     ensures { AreFieldsOf (format_at shape) (layout_at widths) (fields_at result)
@@ -302,7 +291,6 @@ fn fields_of_value(shape: Shape, widths: Widths, x: Unpacked) -> Fields
 /// The bits of the canonical encoding of a value.
 #[inline(always)]
 pub fn encode(shape: Shape, widths: Widths, x: Unpacked) -> u128
-    requires lawful { IsShape shape }
     requires interchange { IsInterchange (format_at shape) (layout_at widths) }
     requires stored { IsStored shape x }
     ensures encoded { IsEncodedBy (format_at shape) (layout_at widths) result (datum_at shape x) }

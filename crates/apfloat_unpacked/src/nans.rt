@@ -6,7 +6,7 @@ ghost use Rattle.apfloat_base.specs.rounding.Flags.{bits_of};
 ghost use Rattle.apfloat_base.specs.formats.Format.{nan_base, payload_mask, quiet_bits};
 ghost use Rattle.apfloat_base.specs.formats.Datum.{nan};
 ghost use Rattle.apfloat_base.specs.formats.Nan.{quiet_bit, is_signaling, is_signaling_nan, quieted, quiet_significand, signaling_significand, with_payload, qnan, snan, invalid_if, IsOfNan, IsOfNans, IsInvalid};
-ghost use Rattle.apfloat_unpacked.specs.Shapes.{IsShape, format_at};
+ghost use Rattle.apfloat_unpacked.specs.Shapes.{format_at};
 ghost use Rattle.apfloat_unpacked.specs.Stored.{IsNanSignificandAt, IsStored, datum_at, GivesAt};
 
 use crate::shape::Shape;
@@ -17,7 +17,6 @@ use apfloat_base::{Category, NonfiniteBehavior, Status, StatusAnd};
 /// The bits that every NaN's significand has.
 #[inline(always)]
 fn nan_base(shape: Shape) -> u128
-    requires { IsShape shape }
     ensures { result ≡ nan_base (format_at shape) }
 {
     match shape.nonfinite {
@@ -30,7 +29,6 @@ fn nan_base(shape: Shape) -> u128
 /// The bits that a payload may set.
 #[inline(always)]
 pub fn payload_mask(shape: Shape) -> u128
-    requires { IsShape shape }
     ensures { result ≡ payload_mask (format_at shape) }
 {
     match shape.nonfinite {
@@ -43,7 +41,6 @@ pub fn payload_mask(shape: Shape) -> u128
 /// The one of the bits that make a NaN quiet that an operation sets.
 #[inline(always)]
 fn quiet_bit(shape: Shape) -> u128
-    requires { IsShape shape }
     ensures { result ≡ quiet_bit (format_at shape) }
 {
     match shape.nonfinite {
@@ -56,7 +53,6 @@ fn quiet_bit(shape: Shape) -> u128
 /// The bits that make a NaN quiet; an explicit integer bit is one of them.
 #[inline(always)]
 fn quiet_bits(shape: Shape) -> u128
-    requires { IsShape shape }
     ensures { result ≡ quiet_bits (format_at shape) }
 {
     match shape.nonfinite {
@@ -75,7 +71,6 @@ fn quiet_bits(shape: Shape) -> u128
 /// Whether a NaN with that significand is signaling.
 #[inline(always)]
 pub fn signals(shape: Shape, significand: u128) -> bool
-    requires { IsShape shape }
     ensures { result ≡ is_signaling (format_at shape) significand }
 {
     let bits = quiet_bits(shape);
@@ -85,8 +80,7 @@ pub fn signals(shape: Shape, significand: u128) -> bool
 /// Whether a value is a signaling NaN.
 #[inline(always)]
 pub fn is_signaling(shape: Shape, x: Unpacked) -> bool
-    requires lawful { IsShape shape }
-    requires stored { IsStored shape x }
+    requires { IsStored shape x }
     ensures { result ≡ is_signaling_nan (format_at shape) (datum_at shape x) }
 {
     match x.category {
@@ -100,8 +94,7 @@ pub fn is_signaling(shape: Shape, x: Unpacked) -> bool
 /// The significand of a NaN, quieted, with its payload.
 #[inline(always)]
 pub fn quieted_significand(shape: Shape, significand: u128) -> u128
-    requires lawful { IsShape shape }
-    requires nan { IsNanSignificandAt shape significand }
+    requires { IsNanSignificandAt shape significand }
     ensures value { result ≡ quieted (format_at shape) significand }
     ensures nan { IsNanSignificandAt shape result }
 {
@@ -115,7 +108,6 @@ pub fn quieted_significand(shape: Shape, significand: u128) -> u128
 /// The significand of the quiet NaN with that payload.
 #[inline(always)]
 pub fn quiet_significand(shape: Shape, payload: u128) -> u128
-    requires { IsShape shape }
     ensures value { result ≡ quiet_significand (format_at shape) payload }
     ensures nan { IsNanSignificandAt shape result }
 {
@@ -125,7 +117,6 @@ pub fn quiet_significand(shape: Shape, payload: u128) -> u128
 /// The significand, with a payload if it had none: without one it would be the encoding of an infinity.
 #[inline(always)]
 fn with_payload(shape: Shape, significand: u128) -> u128
-    requires { IsShape shape }
     ensures { result ≡ with_payload (format_at shape) significand }
 {
     if significand & payload_mask(shape) == 0 {
@@ -138,7 +129,6 @@ fn with_payload(shape: Shape, significand: u128) -> u128
 /// The significand of the signaling NaN with that payload.
 #[inline(always)]
 pub fn signaling_significand(shape: Shape, payload: u128) -> u128
-    requires { IsShape shape }
     ensures value { result ≡ signaling_significand (format_at shape) payload }
     ensures nan { IsNanSignificandAt shape result }
 {
@@ -149,7 +139,6 @@ pub fn signaling_significand(shape: Shape, payload: u128) -> u128
 /// The positive quiet NaN with those bits of a payload that the format has (6.2.1).
 #[inline(always)]
 pub fn quiet_nan(shape: Shape, payload: u128) -> Unpacked
-    requires { IsShape shape }
     ensures stored { IsStored shape result }
     ensures datum { datum_at shape result ≡ qnan (format_at shape) payload }
 {
@@ -160,7 +149,6 @@ pub fn quiet_nan(shape: Shape, payload: u128) -> Unpacked
 /// a format has only one NaN, it is that one.
 #[inline(always)]
 pub fn signaling_nan(shape: Shape, payload: u128) -> Unpacked
-    requires { IsShape shape }
     ensures stored { IsStored shape result }
     ensures datum { datum_at shape result ≡ snan (format_at shape) payload }
 {
@@ -170,7 +158,6 @@ pub fn signaling_nan(shape: Shape, payload: u128) -> Unpacked
 /// The NaN, quieted.
 #[inline(always)]
 fn quieted(shape: Shape, x: Unpacked) -> Unpacked
-    requires lawful { IsShape shape }
     requires stored { IsStored shape x }
     requires nan { x.category ≡ NaN }
     ensures stored { IsStored shape result }
@@ -195,7 +182,6 @@ pub fn status_of(signaling: bool) -> Status
 /// The result of an operation with one NaN operand, `x` (6.2.3).
 #[inline(always)]
 pub fn propagated(shape: Shape, x: Unpacked) -> StatusAnd<Unpacked>
-    requires lawful { IsShape shape }
     requires stored { IsStored shape x }
     requires nan { x.category ≡ NaN }
     ensures stored { IsStored shape result.value }
@@ -208,7 +194,6 @@ pub fn propagated(shape: Shape, x: Unpacked) -> StatusAnd<Unpacked>
 /// (6.2.3).
 #[inline(always)]
 pub fn propagated_left(shape: Shape, x: Unpacked, y: Unpacked) -> StatusAnd<Unpacked>
-    requires lawful { IsShape shape }
     requires x_stored { IsStored shape x }
     requires y_stored { IsStored shape y }
     requires nan { x.category ≡ NaN }
@@ -223,7 +208,6 @@ pub fn propagated_left(shape: Shape, x: Unpacked, y: Unpacked) -> StatusAnd<Unpa
 /// The result of an invalid operation (7.2): the quiet NaN without a payload.
 #[inline(always)]
 pub fn invalid(shape: Shape) -> StatusAnd<Unpacked>
-    requires { IsShape shape }
     ensures stored { IsStored shape result.value }
     ensures delivered { GivesAt shape (IsInvalid (format_at shape)) result }
 {

@@ -9,11 +9,11 @@ ghost use Rattle.apfloat_base.specs.rounding.Flags.{bits_of};
 ghost use Rattle.apfloat_base.specs.formats.Format.{largest, nan_base};
 ghost use Rattle.apfloat_base.specs.formats.Datum.{finite};
 ghost use Rattle.apfloat_base.specs.rounding.Answer.{IsAnswer};
-ghost use Rattle.apfloat_base.specs.rounding.Standing.{StandsFor, up, down};
+ghost use Rattle.apfloat_base.specs.rounding.Standing.{StandsFor, IsFineEnough, up, down};
 ghost use Rattle.apfloat_base.specs.rounding.Enclosure.{rounds_up};
 ghost use Rattle.apfloat_base.specs.rounding.Rounding.{takes_above, ok_bits, overflow_bit, underflow_bit, inexact_bit, IsPick, IsDelivered, leads_out, past_largest};
 ghost use Rattle.apfloat_unpacked.specs.Cuts.{IsCut};
-ghost use Rattle.apfloat_unpacked.specs.Shapes.{IsShape, format_at};
+ghost use Rattle.apfloat_unpacked.specs.Shapes.{format_at};
 ghost use Rattle.apfloat_unpacked.specs.Stored.{IsStored, GivesAt};
 
 use crate::shape::Shape;
@@ -75,8 +75,7 @@ fn keep(precision: u32, significand: u128, unit: ExpInt, loss: Loss) -> Kept
     requires some { 0 < precision }
     requires precise { precision ≤ 125 }
     requires within { IsWithin unit_bound unit }
-    requires fine { (loss ≡ Loss.ExactlyZero)
-        ⊎ ((unit ≤ℤ pos 0) ⊎ (2 ^ (precision - 1) ≤ significand)) }
+    requires fine { IsFineEnough precision significand unit loss }
     ensures fits { result.significand < 2 ^ precision }
     ensures full { (result.place ≡ 0) ⊎ (2 ^ (precision - 1) ≤ result.significand) }
     ensures near { result.place < place_bound }
@@ -197,7 +196,6 @@ fn leads_past(mode: Round, negative: bool) -> bool
 /// Whether an inexact result counts as tiny, by its significand before or after rounding.
 #[inline(always)]
 fn is_tiny(shape: Shape, before: u128, after: u128) -> bool
-    requires { IsShape shape }
     ensures { result ≡ (if shape.tiny_before_rounding then ltb before
         (2 ^ (shape.precision - 1)) else ltb after (2 ^ (shape.precision - 1))) }
 {
@@ -211,7 +209,6 @@ fn is_tiny(shape: Shape, before: u128, after: u128) -> bool
 /// The result of a rounding past the largest value.
 #[inline(always)]
 fn overflowed(shape: Shape, mode: Round, negative: bool) -> StatusAnd<Unpacked>
-    requires { IsShape shape }
     ensures stored { IsStored shape result.value }
     ensures answer { GivesAt shape (IsAnswer (if leads_out mode negative
         then past_largest shape.nonfinite (nan_base (format_at shape)) negative
@@ -249,7 +246,6 @@ fn status_within(loss: Loss, tiny: bool) -> Status
 /// Rounds kept digits to a value of the format.
 #[inline(always)]
 fn finish(shape: Shape, kept: Kept, mode: Round, negative: bool) -> StatusAnd<Unpacked>
-    requires lawful { IsShape shape }
     requires fits { kept.significand < 2 ^ shape.precision }
     requires full { (kept.place ≡ 0) ⊎ (2 ^ (shape.precision - 1) ≤ kept.significand) }
     requires near { kept.place < place_bound }
@@ -270,8 +266,7 @@ fn finish(shape: Shape, kept: Kept, mode: Round, negative: bool) -> StatusAnd<Un
 /// The exponent of a unit, relative to the quantum's.
 #[inline(always)]
 fn unit_place(shape: Shape, exponent: ExpInt) -> ExpInt
-    requires lawful { IsShape shape }
-    requires within { IsWithin exponent_bound exponent }
+    requires { IsWithin exponent_bound exponent }
     ensures value { result ≡ exponent +ℤ pos (format_at shape).scale }
     ensures within { IsWithin unit_bound result }
 {
@@ -291,11 +286,9 @@ pub fn deliver(
     mode: Round,
     negative: bool,
 ) -> StatusAnd<Unpacked>
-    requires lawful { IsShape shape }
     requires within { IsWithin exponent_bound exponent }
-    requires fine { (loss ≡ Loss.ExactlyZero)
-        ⊎ (((exponent +ℤ pos (format_at shape).scale) ≤ℤ pos 0)
-        ⊎ (2 ^ (shape.precision - 1) ≤ significand)) }
+    requires fine { IsFineEnough shape.precision significand
+        (exponent +ℤ pos (format_at shape).scale) loss }
     ensures stored { IsStored shape result.value }
     ensures delivered { let unit = exponent +ℤ pos (format_at shape).scale in (amount parts : ℕ)
         → 0 < parts → StandsFor significand loss (amount * 2 ^ down unit) (parts * 2 ^ up unit)

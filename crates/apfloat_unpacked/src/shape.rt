@@ -2,8 +2,8 @@
 
 ghost use Rattle.std.specs.Prelude.{◌≡◌, ◌-◌, ◌^◌, ◌<◌, ◌≤◌, pos, ◌-ℤ◌};
 ghost use Rattle.apfloat_base.specs.formats.Format.{greatest_significand};
+ghost use Rattle.apfloat_base.specs.formats.Lawful.{AreParameters};
 ghost use Rattle.apfloat_base.specs.rounding.Bounds.{IsWithin, span_bound, integer_bit_bound, exponent_bound};
-ghost use Rattle.apfloat_unpacked.specs.Shapes.{IsShape};
 
 use apfloat_base::sig::power_of_two;
 use apfloat_base::{ExpInt, NonfiniteBehavior};
@@ -23,12 +23,13 @@ pub struct Shape {
     pub explicit_integer_bit: bool,
     /// Whether tininess is detected before rounding.
     pub tiny_before_rounding: bool,
+    pub ghost parameters: { AreParameters precision min_exp max_exp },
 }
 
 impl Shape {
     ghost use Rattle.std.specs.Prelude.{◌≡◌, ◌-◌, ◌^◌, ◌<◌, ◌≤◌};
     ghost use Rattle.apfloat_base.specs.formats.Format.{greatest_significand, smallest_normalized};
-    ghost use Rattle.apfloat_unpacked.specs.Shapes.{IsShape, format_at};
+    ghost use Rattle.apfloat_unpacked.specs.Shapes.{format_at};
 
     /// The same shape, rebuilt from its fields, for a call that takes it by address: a struct passed that way is kept
     /// in memory, and its constants would no longer fold in the caller.
@@ -49,7 +50,6 @@ impl Shape {
     /// The quantum is 2 to the power of minus this.
     #[inline(always)]
     pub fn scale(self) -> u32
-        requires { IsShape self }
         ensures value { result ≡ (format_at self).scale }
         ensures bound { result ≤ span_bound }
     {
@@ -59,7 +59,6 @@ impl Shape {
     /// The greatest exponent minus the least one.
     #[inline(always)]
     pub fn span(self) -> u32
-        requires { IsShape self }
         ensures value { result ≡ (format_at self).span }
         ensures bound { result ≤ span_bound }
     {
@@ -69,7 +68,6 @@ impl Shape {
     /// The integer bit of a significand, which is also the smallest normalized value in quanta.
     #[inline(always)]
     pub fn integer_bit(self) -> u128
-        requires { IsShape self }
         ensures { result ≡ smallest_normalized (format_at self) }
     {
         power_of_two(self.precision - 1)
@@ -78,7 +76,6 @@ impl Shape {
     /// The significand of the largest value.
     #[inline(always)]
     pub fn greatest_significand(self) -> u128
-        requires { IsShape self }
         ensures value { result ≡ greatest_significand self.nonfinite self.precision }
         ensures fits { result < 2 ^ self.precision }
         ensures full { 2 ^ (self.precision - 1) ≤ result }
@@ -94,8 +91,7 @@ impl Shape {
 /// The exponent of a number's last digit, from that of its integer bit.
 #[inline(always)]
 pub fn last_exponent(shape: Shape, exponent: ExpInt) -> ExpInt
-    requires lawful { IsShape shape }
-    requires within { IsWithin integer_bit_bound exponent }
+    requires { IsWithin integer_bit_bound exponent }
     ensures value { result ≡ exponent -ℤ pos (shape.precision - 1) }
     ensures within { IsWithin exponent_bound result }
 {

@@ -8,7 +8,7 @@ ghost use Rattle.apfloat_base.specs.rounding.Bounds.{format_bound, place_bound};
 ghost use Rattle.apfloat_base.specs.rounding.Rounding.{zero_sign, signed_quanta};
 ghost use Rattle.apfloat_base.specs.formats.Constants.{infinity_of, smallest_datum, smallest_normalized_datum};
 ghost use Rattle.apfloat_base.specs.formats.Nan.{nan_sign};
-ghost use Rattle.apfloat_unpacked.specs.Shapes.{IsShape, format_at};
+ghost use Rattle.apfloat_unpacked.specs.Shapes.{format_at};
 ghost use Rattle.apfloat_unpacked.specs.Stored.{IsNanSignificandAt, IsStored, datum_at};
 
 use crate::shape::Shape;
@@ -107,7 +107,6 @@ pub fn nan_of(shape: Shape, negative: bool, significand: u128) -> Unpacked
 /// The infinity of that sign, or, in a format without infinities, the NaN in its place.
 #[inline(always)]
 pub fn infinity_of(shape: Shape, negative: bool) -> Unpacked
-    requires { IsShape shape }
     ensures stored { IsStored shape result }
     ensures datum { datum_at shape result ≡ infinity_of (format_at shape) negative }
 {
@@ -140,7 +139,6 @@ fn exponent_at(min_exp: ExpInt, place: u32, shift: u32) -> ExpInt
 /// `significand * 2^place` quanta with that sign.
 #[inline(always)]
 pub fn from_quanta(shape: Shape, negative: bool, significand: u128, place: u32) -> Unpacked
-    requires lawful { IsShape shape }
     requires fits { significand < 2 ^ shape.precision }
     requires near { place ≤ place_bound }
     requires within { significand * 2 ^ place ≤ largest (format_at shape) }
@@ -164,7 +162,6 @@ pub fn from_quanta(shape: Shape, negative: bool, significand: u128, place: u32) 
 /// and need not be normalized again.
 #[inline(always)]
 pub fn from_rounded_quanta(shape: Shape, negative: bool, significand: u128, place: u32) -> Unpacked
-    requires lawful { IsShape shape }
     requires fits { significand < 2 ^ shape.precision }
     requires near { place ≤ place_bound }
     requires within { significand * 2 ^ place ≤ largest (format_at shape) }
@@ -186,7 +183,6 @@ pub fn from_rounded_quanta(shape: Shape, negative: bool, significand: u128, plac
 /// The greatest finite value, with that sign.
 #[inline(always)]
 pub fn largest_of(shape: Shape, negative: bool) -> Unpacked
-    requires { IsShape shape }
     ensures stored { IsStored shape result }
     ensures datum { datum_at shape result ≡ finite negative (largest (format_at shape)) }
 {
@@ -196,7 +192,6 @@ pub fn largest_of(shape: Shape, negative: bool) -> Unpacked
 /// One quantum.
 #[inline(always)]
 pub fn smallest_of(shape: Shape) -> Unpacked
-    requires { IsShape shape }
     ensures stored { IsStored shape result }
     ensures datum { datum_at shape result ≡ smallest_datum }
 {
@@ -206,7 +201,6 @@ pub fn smallest_of(shape: Shape) -> Unpacked
 /// The smallest positive value that is not denormal.
 #[inline(always)]
 pub fn smallest_normalized_of(shape: Shape) -> Unpacked
-    requires { IsShape shape }
     ensures stored { IsStored shape result }
     ensures datum { datum_at shape result ≡ smallest_normalized_datum (format_at shape) }
 {

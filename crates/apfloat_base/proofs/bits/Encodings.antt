@@ -31,9 +31,9 @@ lawful_interchange constants law wide =
     let h = has_bits constants law wide in
     let t = twice_half constants.exp_bits h.exp_bits in
     let p = pow_pos (constants.exp_bits - 1) in
-    let w = trailing_by constants.explicit_integer_bit constants.precision (omega (arith, law.precision_low)) in
+    let w = trailing_by constants.explicit_integer_bit constants.precision (omega (arith, law.parameters.precision_low)) in
     record {
-      precise = law.precision_low;
+      precise = law.parameters.precision_low;
       some = h.exp_bits;
       bits = omega (arith, h.bits, w);
       within = h.bits_high;
@@ -51,9 +51,9 @@ lawful_interchange constants law wide =
         omega (
           arith,
           ints,
-          law.precision_low,
-          law.min_exp_high,
-          law.max_exp_low,
+          law.parameters.precision_low,
+          law.parameters.min_exp_high,
+          law.parameters.max_exp_low,
           h.ieee_min_exp,
           h.ieee_max_exp,
           h.max_exp,

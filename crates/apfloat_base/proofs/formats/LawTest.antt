@@ -105,12 +105,14 @@ lawful_from_test c e =
     let k = and_parts _ _ j.1 in
     let l = and_parts _ _ k.1 in
     record {
-      precision_low = leb-true _ _ a.0;
-      precision_high = leb-true _ _ b.0;
-      min_exp_low = at_most _ _ d.0;
-      min_exp_high = at_most _ _ f.0;
-      max_exp_low = at_most _ _ g.0;
-      max_exp_high = at_most _ _ h.0;
+      parameters = record {
+        precision_low = leb-true _ _ a.0;
+        precision_high = leb-true _ _ b.0;
+        min_exp_low = at_most _ _ d.0;
+        min_exp_high = at_most _ _ f.0;
+        max_exp_low = at_most _ _ g.0;
+        max_exp_high = at_most _ _ h.0;
+      };
       layout = ⊎_elim (λ p. inl (no_bits_from_test c p)) (λ p. inr (bits_from_test c p)) (or_cases _ _ i.0);
       explicit = explicit_from_test c.nonfinite c.explicit_integer_bit j.0;
       base = eqb-true _ _ k.0;

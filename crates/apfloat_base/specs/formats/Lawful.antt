@@ -86,14 +86,18 @@ MayBeExplicit IEEE754 explicit = ⊤
 MayBeExplicit NanOnly explicit = explicit ≡ false
 MayBeExplicit NanNegativeZero explicit = explicit ≡ false
 
+-- the parameters of a format (3.3): its precision, its least and its greatest exponent
+pub record AreParameters (precision : ℕ) (min_exp max_exp : ℤ) : Type 0 where
+  pub precision_low : 3 ≤ precision
+  pub precision_high : precision ≤ 125
+  pub min_exp_low : neg_ℤ (pos format_bound) ≤ℤ min_exp
+  pub min_exp_high : min_exp ≤ℤ neg_ℤ (pos 1)
+  pub max_exp_low : pos precision ≤ℤ max_exp
+  pub max_exp_high : max_exp ≤ℤ pos format_bound
+
 -- the law of a format
 pub record IsLawful (c : Constants) : Type 0 where
-  pub precision_low : 3 ≤ c.precision
-  pub precision_high : c.precision ≤ 125
-  pub min_exp_low : neg_ℤ (pos format_bound) ≤ℤ c.min_exp
-  pub min_exp_high : c.min_exp ≤ℤ neg_ℤ (pos 1)
-  pub max_exp_low : pos c.precision ≤ℤ c.max_exp
-  pub max_exp_high : c.max_exp ≤ℤ pos format_bound
+  pub parameters : AreParameters c.precision c.min_exp c.max_exp
   pub layout : HasNoBits c ⊎ HasBits c
   pub explicit : MayBeExplicit c.nonfinite c.explicit_integer_bit
   pub base : c.nan_significand_base ≡ nan_base_of c.nonfinite c.precision

@@ -1,5 +1,5 @@
 -- What a significand and its loss say about a magnitude.
-use Rattle.std.specs.Prelude.{◌≡◌, ℕ, ◌+◌, ◌*◌, ◌<◌}
+use Rattle.std.specs.Prelude.{◌≡◌, ℕ, ◌+◌, ◌-◌, ◌*◌, ◌^◌, ◌<◌, ◌≤◌, ◌⊎◌, ℤ, pos, ◌≤ℤ◌}
 -- 2 to the power of an integer z is the fraction 2 ^ up z / 2 ^ down z
 pub use borrow.Author.Differences.{up, down}
 use Rattle.apfloat_base.specs.declared.sig.loss.Loss.{Loss}
@@ -13,3 +13,9 @@ StandsFor significand LessThanHalf amount unit =
 StandsFor significand ExactlyHalf amount unit = 2 * amount ≡ (2 * significand + 1) * unit
 StandsFor significand MoreThanHalf amount unit =
     ((2 * significand + 1) * unit < 2 * amount) × (amount < (significand + 1) * unit)
+
+-- where something is lost below a significand, its unit, 2 ^ unit quanta, divides the spacing of the format there: the
+-- unit is at most the quantum, or the significand has all digits
+abbrev pub IsFineEnough : ℕ → ℕ → ℤ → Loss → Type 0
+IsFineEnough precision significand unit loss =
+    (loss ≡ ExactlyZero) ⊎ ((unit ≤ℤ pos 0) ⊎ (2 ^ (precision - 1) ≤ significand))

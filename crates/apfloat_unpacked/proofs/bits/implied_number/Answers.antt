@@ -9,26 +9,17 @@ use Rattle.apfloat_base.proofs.rounding.Deliveries.{signed_some}
 use Rattle.apfloat_unpacked.specs.Shapes.{format_at}
 use Rattle.apfloat_unpacked.proofs.bits.implied_number.Goals as goal
 
-pub from_quanta-requires-clause-lawful : goal.from_quanta-requires-clause-lawful
-from_quanta-requires-clause-lawful c = c.requires.lawful
-
 pub from_quanta-requires-clause-fits : goal.from_quanta-requires-clause-fits
 from_quanta-requires-clause-fits c =
-    let t = twice_half c.args.shape.precision (omega (arith, c.requires.lawful.precision_low)) in
+    let t = twice_half c.args.shape.precision (omega (arith, c.args.shape.parameters.precision_low)) in
     omega (arith, t, c.requires.trailing)
 
 pub from_quanta-requires-clause-near : goal.from_quanta-requires-clause-near
 from_quanta-requires-clause-near c = omega arith
 
-pub integer_bit-requires : goal.integer_bit-requires
-integer_bit-requires c = c.requires.lawful
-
-pub from_quanta-requires-else-fields-eq0-clause-lawful : goal.from_quanta-requires-else-fields-eq0-clause-lawful
-from_quanta-requires-else-fields-eq0-clause-lawful c = c.requires.lawful
-
 pub from_quanta-requires-else-fields-eq0-clause-fits : goal.from_quanta-requires-else-fields-eq0-clause-fits
 from_quanta-requires-else-fields-eq0-clause-fits c =
-    let t = twice_half c.args.shape.precision (omega (arith, c.requires.lawful.precision_low)) in
+    let t = twice_half c.args.shape.precision (omega (arith, c.args.shape.parameters.precision_low)) in
     omega (arith, t, c.requires.trailing, c.integer_bit.ensures)
 
 pub returns-then-fields-eq0-clause-stored : goal.returns-then-fields-eq0-clause-stored
@@ -39,11 +30,11 @@ returns-else-fields-eq0-clause-stored c = c.from_quanta-else-fields-eq0.ensures.
 
 pub from_quanta-requires-clause-within : goal.from_quanta-requires-clause-within
 from_quanta-requires-clause-within c =
-    low_within (format_at c.args.shape) c.args.fields.trailing c.requires.lawful.precision_low c.requires.trailing
+    low_within (format_at c.args.shape) c.args.fields.trailing c.args.shape.parameters.precision_low c.requires.trailing
 
 pub overflow_add-integer_bit : goal.overflow_add-integer_bit
 overflow_add-integer_bit c =
-    let p : c.args.shape.precision - 1 ≤ 124 = omega (arith, c.requires.lawful.precision_high) in
+    let p : c.args.shape.precision - 1 ≤ 124 = omega (arith, c.args.shape.parameters.precision_high) in
     let h : 2 ^ (c.args.shape.precision - 1) ≤ 2 ^ 124 = pow-le-pow_right two_pos p in
     record { fits = omega (arith, h, c.integer_bit.ensures, c.requires.trailing) }
 

@@ -7,9 +7,6 @@ use Rattle.apfloat_unpacked.specs.Encoded.{layout_at}
 use Rattle.apfloat_unpacked.proofs.bits.implied_value.Goals as goal
 use Rattle.apfloat_unpacked.proofs.bits.implied_value.Goals.{else-is_greatest-via-then-is_greatest+else-fields-ones, else-is_greatest-via-else-is_greatest}
 
-pub implied_number-requires-clause-lawful : goal.implied_number-requires-clause-lawful
-implied_number-requires-clause-lawful c = c.requires.lawful
-
 pub implied_number-requires-clause-interchange : goal.implied_number-requires-clause-interchange
 implied_number-requires-clause-interchange c = c.requires.interchange
 
@@ -18,10 +15,6 @@ implied_number-requires-clause-biased c = c.requires.within.biased_exponent
 
 pub implied_number-requires-clause-trailing : goal.implied_number-requires-clause-trailing
 implied_number-requires-clause-trailing c = rw c.requires.implied at c.requires.within.trailing
-
-pub implied_number-requires-else-is_greatest-clause-lawful :
-    goal.implied_number-requires-else-is_greatest-clause-lawful
-implied_number-requires-else-is_greatest-clause-lawful c = c.requires.lawful
 
 pub implied_number-requires-else-is_greatest-clause-interchange :
     goal.implied_number-requires-else-is_greatest-clause-interchange
@@ -35,9 +28,6 @@ pub implied_number-requires-else-is_greatest-clause-trailing :
     goal.implied_number-requires-else-is_greatest-clause-trailing
 implied_number-requires-else-is_greatest-clause-trailing c = rw c.requires.implied at c.requires.within.trailing
 
-pub implied_number-requires-else-fields-clause-lawful : goal.implied_number-requires-else-fields-clause-lawful
-implied_number-requires-else-fields-clause-lawful c = c.requires.lawful
-
 pub implied_number-requires-else-fields-clause-interchange :
     goal.implied_number-requires-else-fields-clause-interchange
 implied_number-requires-else-fields-clause-interchange c = c.requires.interchange
@@ -47,9 +37,6 @@ implied_number-requires-else-fields-clause-biased c = c.requires.within.biased_e
 
 pub implied_number-requires-else-fields-clause-trailing : goal.implied_number-requires-else-fields-clause-trailing
 implied_number-requires-else-fields-clause-trailing c = rw c.requires.implied at c.requires.within.trailing
-
-pub infinity_of-requires : goal.infinity_of-requires
-infinity_of-requires c = c.requires.lawful
 
 pub returns-then-not-is_greatest-clause-stored : goal.returns-then-not-is_greatest-clause-stored
 returns-then-not-is_greatest-clause-stored c = c.implied_number.ensures.stored
@@ -65,7 +52,7 @@ implied_number-requires-clause-within c p =
     let f = format_at c.args.shape in
     let l : c.args.fields.trailing < 2 ^ (c.args.shape.precision - 1) =
     rw c.requires.implied at c.requires.within.trailing in
-    let t = twice_half c.args.shape.precision (omega (arith, c.requires.lawful.precision_low)) in
+    let t = twice_half c.args.shape.precision (omega (arith, c.args.shape.parameters.precision_low)) in
     ieee_within f (layout_at c.args.widths) (smallest_normalized f + c.args.fields.trailing)
     c.args.fields.biased_exponent c.requires.interchange c.in-IEEE754.is (omega (arith, l, t))
     c.requires.within.biased_exponent
@@ -77,7 +64,7 @@ implied_number-requires-else-is_greatest-clause-within c p =
     let f = format_at c.args.shape in
     let l : c.args.fields.trailing < 2 ^ (c.args.shape.precision - 1) =
     rw c.requires.implied at c.requires.within.trailing in
-    let t = twice_half c.args.shape.precision (omega (arith, c.requires.lawful.precision_low)) in
+    let t = twice_half c.args.shape.precision (omega (arith, c.args.shape.parameters.precision_low)) in
     nan_only_within f (layout_at c.args.widths) (smallest_normalized f + c.args.fields.trailing)
     c.args.fields.biased_exponent c.requires.interchange c.in-NanOnly.is p (omega (arith, l, t))
     c.requires.within.biased_exponent
@@ -92,7 +79,7 @@ implied_number-requires-else-fields-clause-within c p =
     let f = format_at c.args.shape in
     let l : c.args.fields.trailing < 2 ^ (c.args.shape.precision - 1) =
     rw c.requires.implied at c.requires.within.trailing in
-    let t = twice_half c.args.shape.precision (omega (arith, c.requires.lawful.precision_low)) in
+    let t = twice_half c.args.shape.precision (omega (arith, c.args.shape.parameters.precision_low)) in
     negative_zero_within f (layout_at c.args.widths) (smallest_normalized f + c.args.fields.trailing)
     c.args.fields.biased_exponent c.requires.interchange c.in-NanNegativeZero.is (omega (arith, l, t))
     c.requires.within.biased_exponent

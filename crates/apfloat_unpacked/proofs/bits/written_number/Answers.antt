@@ -5,18 +5,8 @@ use Rattle.apfloat_unpacked.specs.Shapes.{format_at}
 use Rattle.apfloat_unpacked.specs.Encoded.{layout_at}
 use Rattle.apfloat_unpacked.proofs.bits.written_number.Goals as goal
 
-pub from_quanta-requires-clause-lawful : goal.from_quanta-requires-clause-lawful
-from_quanta-requires-clause-lawful c = c.requires.lawful
-
 pub from_quanta-requires-clause-near : goal.from_quanta-requires-clause-near
 from_quanta-requires-clause-near c = omega arith
-
-pub integer_bit-requires : goal.integer_bit-requires
-integer_bit-requires c = c.requires.lawful
-
-pub from_quanta-requires-then-integer_bit-fields-clause-lawful :
-    goal.from_quanta-requires-then-integer_bit-fields-clause-lawful
-from_quanta-requires-then-integer_bit-fields-clause-lawful c = c.requires.lawful
 
 pub from_quanta-requires-clause-fits : goal.from_quanta-requires-clause-fits
 from_quanta-requires-clause-fits c = rw c.requires.explicit at c.requires.within.trailing

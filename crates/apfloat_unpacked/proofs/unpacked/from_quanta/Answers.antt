@@ -26,7 +26,7 @@ moved_up c =
       below = c.digits.ensures.below;
       full = c.digits.ensures.full;
       moved = sym (shift_whole c.args.shape.precision c.args.significand c.digits.result j 0 j 0
-          c.requires.lawful.precision_high c.digits.ensures.below (omega arith) (omega arith));
+          c.args.shape.parameters.precision_high c.digits.ensures.below (omega arith) (omega arith));
       exponent = omega (arith, ints);
       same = omega (arith, ints);
       within = c.requires.within;
@@ -34,7 +34,7 @@ moved_up c =
 
 pub returns-clause-stored : goal.returns-clause-stored
 returns-clause-stored c =
-    moved_up_normal c.args.shape c.args.significand c.digits.result c.args.place _ _ c.requires.lawful (moved_up c)
+    moved_up_normal c.args.shape c.args.significand c.digits.result c.args.place _ _ (moved_up c)
 
 pub returns-clause-datum : goal.returns-clause-datum
 returns-clause-datum c =

@@ -11,7 +11,7 @@ full : (state : goal.After-exponent_at)
     → IsMovedUp state.args.shape state.args.significand state.args.shape.precision state.args.place
     state.args.significand (to_z w32 (of_z w32 state.exponent_at.result))
 full c =
-    let p = c.requires.lawful.precision_low in
+    let p = c.args.shape.parameters.precision_low in
     let f : 2 ^ (c.args.shape.precision - 1) ≤ c.args.significand =
     rw (← c.integer_bit.ensures) c.if-significand-integer_bit.true in
     let o : 0 < 2 ^ (c.args.shape.precision - 1) = pow_pos (c.args.shape.precision - 1) in
@@ -30,7 +30,7 @@ full c =
 
 pub returns-then-significand-integer_bit-clause-stored : goal.returns-then-significand-integer_bit-clause-stored
 returns-then-significand-integer_bit-clause-stored c =
-    moved_up_normal c.args.shape c.args.significand c.args.shape.precision c.args.place _ _ c.requires.lawful
+    moved_up_normal c.args.shape c.args.significand c.args.shape.precision c.args.place _ _
     (full c)
 
 pub returns-then-significand-integer_bit-clause-datum : goal.returns-then-significand-integer_bit-clause-datum

@@ -7,10 +7,10 @@ use Rattle.apfloat_unpacked.proofs.unpacked.smallest_normalized_of.Goals as goal
 
 pub from_quanta-requires-clause-fits : goal.from_quanta-requires-clause-fits
 from_quanta-requires-clause-fits c =
-    let t = twice_half c.args.shape.precision (omega (arith, c.requires.precision_low)) in
+    let t = twice_half c.args.shape.precision (omega (arith, c.args.shape.parameters.precision_low)) in
     let p : 0 < 2 ^ (c.args.shape.precision - 1) = pow_pos (c.args.shape.precision - 1) in
     rw c.integer_bit.ensures (omega (arith, t, p))
 
 pub from_quanta-requires-clause-within : goal.from_quanta-requires-clause-within
 from_quanta-requires-clause-within c =
-    rw c.integer_bit.ensures (half_within (format_at c.args.shape) c.requires.precision_low)
+    rw c.integer_bit.ensures (half_within (format_at c.args.shape) c.args.shape.parameters.precision_low)

@@ -7,8 +7,8 @@ use Rattle.apfloat_unpacked.proofs.unpacked.smallest_of.Goals as goal
 
 pub from_quanta-requires-clause-fits : goal.from_quanta-requires-clause-fits
 from_quanta-requires-clause-fits c =
-    let p : 2 ^ 3 ≤ 2 ^ c.args.shape.precision = pow-le-pow_right two_pos c.requires.precision_low in
+    let p : 2 ^ 3 ≤ 2 ^ c.args.shape.precision = pow-le-pow_right two_pos c.args.shape.parameters.precision_low in
     omega (arith, p)
 
 pub from_quanta-requires-clause-within : goal.from_quanta-requires-clause-within
-from_quanta-requires-clause-within c = one_within (format_at c.args.shape) c.requires.precision_low
+from_quanta-requires-clause-within c = one_within (format_at c.args.shape) c.args.shape.parameters.precision_low

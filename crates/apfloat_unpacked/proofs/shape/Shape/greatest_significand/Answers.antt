@@ -5,14 +5,14 @@ use Rattle.apfloat_unpacked.proofs.shape.Shape.greatest_significand.Goals as goa
 pub overflow_sub-result : goal.overflow_sub-result
 overflow_sub-result c =
     let p : 0 < c.args.self.precision = omega arith in
-    let k = four c.args.self.precision c.requires.precision_low in
+    let k = four c.args.self.precision c.args.self.parameters.precision_low in
     let t = twice_half c.args.self.precision p in
     omega (arith, k, t)
 
 pub returns-in-NanOnly-clause-full : goal.returns-in-NanOnly-clause-full
 returns-in-NanOnly-clause-full c =
     let p : 0 < c.args.self.precision = omega arith in
-    let k = four c.args.self.precision c.requires.precision_low in
+    let k = four c.args.self.precision c.args.self.parameters.precision_low in
     let t = twice_half c.args.self.precision p in
     omega (arith, k, t)
 
