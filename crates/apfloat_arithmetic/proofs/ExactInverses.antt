@@ -12,7 +12,7 @@ use Rattle.apfloat_base.specs.formats.Datum.{finite}
 use Rattle.apfloat_base.proofs.formats.Greatest.{greatest_fits, greatest_full}
 use Rattle.apfloat_base.proofs.general.Powers.{pow3, pow22, exponent_at_most, exponent_below, two_pos}
 use Rattle.apfloat_unpacked.specs.declared.shape.Shape.{Shape}
-use Rattle.apfloat_unpacked.specs.Shapes.{IsShape, format_at}
+use Rattle.apfloat_unpacked.specs.Shapes.{format_at}
 use Rattle.apfloat_unpacked.specs.Stored.{IsNormalAt, IsQuantaAt, quanta_at}
 use Rattle.apfloat_unpacked.proofs.ShapeExponents.{scale_is}
 use Rattle.apfloat_unpacked.proofs.StoredNumbers.{whole_is, above_zero}
@@ -33,31 +33,31 @@ whole_from shape m e l =
     rw (a.0, a.1) (omega arith)
 
 -- a power of two with an exponent of the format is within its largest value
-pub power_within : (shape : Shape) (e : ℤ) → IsShape shape → shape.min_exp ≤ℤ e → e ≤ℤ shape.max_exp
+pub power_within : (shape : Shape) (e : ℤ) → shape.min_exp ≤ℤ e → e ≤ℤ shape.max_exp
     → 2 ^ (shape.precision - 1) * 2 ^ steps_of shape e ≤ largest (format_at shape)
-power_within shape e law l h =
+power_within shape e l h =
     let j : steps_of shape e ≤ (format_at shape).span = omega (arith, ints) in
     let a : 2 ^ steps_of shape e ≤ 2 ^ (format_at shape).span = pow-le-pow_right two_pos j in
     let b : 2 ^ (shape.precision - 1) * 2 ^ steps_of shape e ≤ 2 ^ (shape.precision - 1) * 2 ^ (format_at shape).span =
     mul-le-mul_left (2 ^ (shape.precision - 1)) a in
     let c : 2 ^ (shape.precision - 1) * 2 ^ (format_at shape).span
     ≤ greatest_significand shape.nonfinite shape.precision * 2 ^ (format_at shape).span =
-    mul-le-mul_right (2 ^ (format_at shape).span) (greatest_full shape.nonfinite shape.precision law.precision_low) in
+    mul-le-mul_right (2 ^ (format_at shape).span) (greatest_full shape.nonfinite shape.precision shape.parameters.precision_low) in
     omega arith
 
 -- the inverse of a power of two is a number of the format
-pub inverted_normal : (shape : Shape) (m : ℕ) (e : ℤ) → IsShape shape → IsNormalAt shape m e → IsInvertibleAt shape m e
+pub inverted_normal : (shape : Shape) (m : ℕ) (e : ℤ) → IsNormalAt shape m e → IsInvertibleAt shape m e
     → IsNormalAt shape m (neg_ℤ e)
-inverted_normal shape m e law n i =
+inverted_normal shape m e n i =
     let g : m * 2 ^ steps_of shape (neg_ℤ e) ≤ largest (format_at shape) =
     subst (λ (x : ℕ). x * 2 ^ steps_of shape (neg_ℤ e) ≤ largest (format_at shape)) (sym i.power)
-    (power_within shape (neg_ℤ e) law i.inverse_normal i.inverse_within) in
+    (power_within shape (neg_ℤ e) i.inverse_normal i.inverse_within) in
     record {
       operand = record {
         fits = n.operand.fits;
         full = n.operand.full;
         least =
-            omega (arith, ints, i.inverse_normal, law.precision_low);
+            omega (arith, ints, i.inverse_normal, shape.parameters.precision_low);
         greatest = i.inverse_within;
       };
       whole = whole_is shape.min_exp m (neg_ℤ e) (m * 2 ^ steps_of shape (neg_ℤ e))
@@ -77,9 +77,9 @@ powers_product : (h j k w : ℕ) → (h + j) + (h + k) ≡ w + w → 2 ^ h * 2 ^
 powers_product h j k w e = sym (pow22 h j h k) ∙ ap (λ (x : ℕ). 2 ^ x) e ∙ pow-add 2 w w
 
 -- an invertible number and the one with the opposite exponent are inverse
-pub inverted_product : (shape : Shape) (m : ℕ) (e : ℤ) → IsShape shape → IsNormalAt shape m e → IsInvertibleAt shape m e
+pub inverted_product : (shape : Shape) (m : ℕ) (e : ℤ) → IsNormalAt shape m e → IsInvertibleAt shape m e
     → AreInverse (format_at shape) (quanta_at shape.min_exp m e) (quanta_at shape.min_exp m (neg_ℤ e))
-inverted_product shape m e law n i =
+inverted_product shape m e n i =
     let half = 2 ^ (shape.precision - 1) in
     let j = steps_of shape e in
     let k = steps_of shape (neg_ℤ e) in
@@ -87,14 +87,14 @@ inverted_product shape m e law n i =
     ap (λ (x : ℕ). x * 2 ^ j) i.power in
     let b : quanta_at shape.min_exp m (neg_ℤ e) ≡ half * 2 ^ k = quanta_high_is shape m (neg_ℤ e) i.inverse_normal ∙
     ap (λ (x : ℕ). x * 2 ^ k) i.power in
-    let c = scale_is shape law in
+    let c = scale_is shape in
     let d : ((shape.precision - 1) + j) + ((shape.precision - 1) + k)
     ≡ (format_at shape).scale + (format_at shape).scale =
     omega (arith, ints, i.normal, i.inverse_normal) in
     record {
       normal = rw a (power_full half j);
       inverse_normal = rw b (power_full half k);
-      within = (inverted_normal shape m e law n i).within;
+      within = (inverted_normal shape m e n i).within;
       product = rw (a, b) (powers_product (shape.precision - 1) j k (format_at shape).scale d);
     }
 
@@ -109,10 +109,10 @@ power_factor q i m d u w h e =
     omega arith
 
 -- so it is a power of two
-is_power : (shape : Shape) (m i : ℕ) (e : ℤ) → IsShape shape → IsNormalAt shape m e
+is_power : (shape : Shape) (m i : ℕ) (e : ℤ) → IsNormalAt shape m e
     → AreInverse (format_at shape) (quanta_at shape.min_exp m e) i → m ≡ 2 ^ (shape.precision - 1)
-is_power shape m i e law n h =
-    let l = law.precision_low in
+is_power shape m i e n h =
+    let l = shape.parameters.precision_low in
     let d = down (e -ℤ shape.min_exp) in
     let u = up (e -ℤ shape.min_exp) in
     let w = (format_at shape).scale in
@@ -140,20 +140,20 @@ long_inverse h j w i p span l e =
     exponent_below (w + w) (h + j + (p + span)) k
 
 -- a number with an inverse is not denormal
-not_low : (shape : Shape) (m i : ℕ) (e : ℤ) → IsShape shape → IsNormalAt shape m e
+not_low : (shape : Shape) (m i : ℕ) (e : ℤ) → IsNormalAt shape m e
     → AreInverse (format_at shape) (quanta_at shape.min_exp m e) i → shape.min_exp ≤ℤ e
-not_low shape m i e law n h =
+not_low shape m i e n h =
     by_lt_z e shape.min_exp
-    (λ l. let k = quanta_low_is shape m e n law.precision_low l in let g = h.normal in absurd (omega arith))
+    (λ l. let k = quanta_low_is shape m e n shape.parameters.precision_low l in let g = h.normal in absurd (omega arith))
     (λ l. l)
 
 -- a number with an exact inverse is invertible
-pub invertible_from : (shape : Shape) (m i : ℕ) (e : ℤ) → IsShape shape → IsNormalAt shape m e
+pub invertible_from : (shape : Shape) (m i : ℕ) (e : ℤ) → IsNormalAt shape m e
     → AreInverse (format_at shape) (quanta_at shape.min_exp m e) i → IsInvertibleAt shape m e
-invertible_from shape m i e law n h =
+invertible_from shape m i e n h =
     let high : ℕ = shape.precision - 1 in
-    let p : m ≡ 2 ^ (shape.precision - 1) = is_power shape m i e law n h in
-    let l : shape.min_exp ≤ℤ e = not_low shape m i e law n h in
+    let p : m ≡ 2 ^ (shape.precision - 1) = is_power shape m i e n h in
+    let l : shape.min_exp ≤ℤ e = not_low shape m i e n h in
     let j : ℕ = steps_of shape e in
     let w : ℕ = (format_at shape).scale in
     let q : quanta_at shape.min_exp m e ≡ 2 ^ (shape.precision - 1) * 2 ^ steps_of shape e =
@@ -161,7 +161,7 @@ invertible_from shape m i e law n h =
     let g : 2 ^ (shape.precision - 1) * 2 ^ steps_of shape e * i
     ≡ 2 ^ (format_at shape).scale * 2 ^ (format_at shape).scale =
     ap (λ (x : ℕ). x * i) (sym q) ∙ h.product in
-    let c = scale_is shape law in
+    let c = scale_is shape in
     let short = short_inverse (shape.precision - 1) (steps_of shape e) (format_at shape).scale i h.inverse_normal g in
     let t : greatest_significand shape.nonfinite shape.precision * 2 ^ (format_at shape).span
     < 2 ^ shape.precision * 2 ^ (format_at shape).span =
@@ -175,26 +175,26 @@ invertible_from shape m i e law n h =
       power = p;
       normal = l;
       inverse_normal = omega (arith, ints, short, c, l);
-      inverse_within = omega (arith, ints, long, c, l, law);
+      inverse_within = omega (arith, ints, long, c, l, shape.parameters);
     }
 
 -- the opposite of an exponent is a number of its type
-pub opposite_word : (shape : Shape) (m : ℕ) (e : ℤ) → IsShape shape → IsNormalAt shape m e
+pub opposite_word : (shape : Shape) (m : ℕ) (e : ℤ) → IsNormalAt shape m e
     → to_z w32 (of_z w32 (pos 0 -ℤ e)) ≡ neg_ℤ e
-opposite_word shape m e law n =
-    let x = normal_near shape m e law n in
+opposite_word shape m e n =
+    let x = normal_near shape m e n in
     let z : pos 0 -ℤ e ≡ neg_ℤ e = omega (arith, ints) in
     to_z-of_z w32 (pos 0 -ℤ e) (fits_in w32 (pos 0 -ℤ e) (omega (arith, ints, x.within))) ∙ z
 
 -- what is answered of a number
-pub inverse_answer : (shape : Shape) (negative : Bool) (m : ℕ) (e : ℤ) → IsShape shape → IsNormalAt shape m e
+pub inverse_answer : (shape : Shape) (negative : Bool) (m : ℕ) (e : ℤ) → IsNormalAt shape m e
     → IsInvertibleAt shape m e
     → IsExactInverse (format_at shape) (finite negative (quanta_at shape.min_exp m e))
     (Some (finite negative (quanta_at shape.min_exp m (neg_ℤ e))))
-inverse_answer shape b m e law n i = (quanta_at shape.min_exp m (neg_ℤ e), inverted_product shape m e law n i, refl)
+inverse_answer shape b m e n i = (quanta_at shape.min_exp m (neg_ℤ e), inverted_product shape m e n i, refl)
 
 -- and one that is not invertible has none
-pub no_inverse_answer : (shape : Shape) (negative : Bool) (m : ℕ) (e : ℤ) → IsShape shape → IsNormalAt shape m e
+pub no_inverse_answer : (shape : Shape) (negative : Bool) (m : ℕ) (e : ℤ) → IsNormalAt shape m e
     → (IsInvertibleAt shape m e → ⊥)
     → IsExactInverse (format_at shape) (finite negative (quanta_at shape.min_exp m e)) None
-no_inverse_answer shape b m e law n i = λ inverse h. i (invertible_from shape m inverse e law n h)
+no_inverse_answer shape b m e n i = λ inverse h. i (invertible_from shape m inverse e n h)

@@ -7,7 +7,7 @@ use Rattle.apfloat_base.specs.rounding.Bounds.{IsWithin, number_bound}
 use Rattle.apfloat_base.specs.rounding.Standing.{StandsFor, up, down}
 use Rattle.apfloat_base.proofs.arithmetic.Fractions.{product_stands, quotient_stands}
 use Rattle.apfloat_unpacked.specs.declared.shape.Shape.{Shape}
-use Rattle.apfloat_unpacked.specs.Shapes.{IsShape, format_at}
+use Rattle.apfloat_unpacked.specs.Shapes.{format_at}
 use Rattle.apfloat_unpacked.specs.Stored.{IsNormalAt, quanta_at}
 use Rattle.apfloat_unpacked.proofs.ShapeExponents.{scale_is, exponent_word}
 
@@ -17,12 +17,12 @@ pub record IsNear (e : ℤ) : Type 0 where
   pub word : to_z w32 (of_z w32 e) ≡ e
 
 -- the exponent of a number is far within the range of its type
-pub normal_near : (shape : Shape) (m : ℕ) (e : ℤ) → IsShape shape → IsNormalAt shape m e → IsNear e
-normal_near shape m e l n =
+pub normal_near : (shape : Shape) (m : ℕ) (e : ℤ) → IsNormalAt shape m e → IsNear e
+normal_near shape m e n =
     let o = n.operand in
     record {
-      within = record { low = omega (arith, ints, l, o); high = omega (arith, ints, l, o) };
-      word = exponent_word shape m e l n;
+      within = record { low = omega (arith, ints, shape.parameters, o); high = omega (arith, ints, shape.parameters, o) };
+      word = exponent_word shape m e n;
     }
 
 -- the places of a product add up alike on both sides
@@ -40,33 +40,33 @@ balanced_quotient : (precision places scale : ℕ) (min_exp x y r : ℤ) → 3 �
 balanced_quotient precision places scale min_exp x y r t l e = omega (arith, ints)
 
 -- the product of the significands stands for the product of the numbers, both in quanta
-pub product_is : (shape : Shape) (x y r : ℤ) (m n p : ℕ) → IsShape shape → IsNormalAt shape m x → IsNormalAt shape n y
+pub product_is : (shape : Shape) (x y r : ℤ) (m n p : ℕ) → IsNormalAt shape m x → IsNormalAt shape n y
     → p ≡ m * n
     → r ≡ ((x +ℤ y) -ℤ pos (2 * (shape.precision - 1)))
     → quanta_at shape.min_exp m x * quanta_at shape.min_exp n y * 2 ^ down (r +ℤ pos (format_at shape).scale)
     ≡ p * (2 ^ (format_at shape).scale * 2 ^ up (r +ℤ pos (format_at shape).scale))
-product_is shape x y r m n p l hx hy v e =
+product_is shape x y r m n p hx hy v e =
     let unit : ℤ = r +ℤ pos (format_at shape).scale in
     product_stands m n (quanta_at shape.min_exp m x) (quanta_at shape.min_exp n y) (up (x -ℤ shape.min_exp))
     (up (y -ℤ shape.min_exp)) (down (x -ℤ shape.min_exp)) (down (y -ℤ shape.min_exp)) (format_at shape).scale (up unit)
     (down unit)
-    hx.whole hy.whole (balanced_product shape.precision (format_at shape).scale shape.min_exp x y r l.precision_low
-    (scale_is shape l) e) ∙ ap (λ (z : ℕ). z * (2 ^ (format_at shape).scale * 2 ^ up unit)) (sym v)
+    hx.whole hy.whole (balanced_product shape.precision (format_at shape).scale shape.min_exp x y r shape.parameters.precision_low
+    (scale_is shape) e) ∙ ap (λ (z : ℕ). z * (2 ^ (format_at shape).scale * 2 ^ up unit)) (sym v)
 
 -- the quotient of the significands stands for the quotient of the numbers
-pub quotient_is : (shape : Shape) (x y r : ℤ) (places q : ℕ) (loss : Loss) (m n : ℕ) → IsShape shape
+pub quotient_is : (shape : Shape) (x y r : ℤ) (places q : ℕ) (loss : Loss) (m n : ℕ)
     → IsNormalAt shape m x
     → IsNormalAt shape n y → r ≡ ((x -ℤ y) -ℤ pos places) → StandsFor q loss (m * 2 ^ places) n
     → StandsFor q loss (quanta_at shape.min_exp m x * 2 ^ (format_at shape).scale * 2 ^ down
     (r +ℤ pos (format_at shape).scale)) (quanta_at shape.min_exp n y * 2 ^ up (r +ℤ pos (format_at shape).scale))
-quotient_is shape x y r places q loss m n l hx hy e h =
+quotient_is shape x y r places q loss m n hx hy e h =
     let unit : ℤ = r +ℤ pos (format_at shape).scale in
     quotient_stands q loss m n (quanta_at shape.min_exp m x)
     (quanta_at shape.min_exp n y) places (up (x -ℤ shape.min_exp))
     (up (y -ℤ shape.min_exp)) (down (x -ℤ shape.min_exp)) (down (y -ℤ shape.min_exp)) (format_at shape).scale (up unit)
     (down unit)
     hx.whole hy.whole (balanced_quotient shape.precision places (format_at shape).scale shape.min_exp x y r
-    l.precision_low (scale_is shape l) e) h
+    shape.parameters.precision_low (scale_is shape) e) h
 
 -- the significand of a stored number is above 0
 pub normal_some : (shape : Shape) (m : ℕ) (e : ℤ) → IsNormalAt shape m e → 0 < m

@@ -3,7 +3,7 @@
 ghost use Rattle.std.specs.Prelude.{◌≡◌, ltb, true, false};
 ghost use Rattle.apfloat_base.specs.formats.Format.{smallest_normalized};
 ghost use Rattle.apfloat_base.specs.order.Classes.{is_denormal};
-ghost use Rattle.apfloat_unpacked.specs.Shapes.{IsShape, format_at};
+ghost use Rattle.apfloat_unpacked.specs.Shapes.{format_at};
 ghost use Rattle.apfloat_unpacked.specs.Stored.{IsStored, IsNormal, quanta_of, datum_at};
 
 use apfloat_base::Category;
@@ -13,8 +13,7 @@ use apfloat_unpacked::unpacked::Unpacked;
 /// Whether a number is below the smallest one whose significand has all digits.
 #[inline(always)]
 fn is_below_normal(shape: Shape, x: Unpacked) -> bool
-    requires lawful { IsShape shape }
-    requires normal { IsNormal shape x }
+    requires { IsNormal shape x }
     ensures { result ≡ ltb (quanta_of shape x) (smallest_normalized (format_at shape)) }
 {
     x.exponent < shape.min_exp
@@ -33,8 +32,7 @@ pub(crate) fn are_normal(x: Unpacked, y: Unpacked) -> bool
 /// Whether the value is a nonzero number of lesser magnitude than the smallest normalized one.
 #[inline(always)]
 pub fn is_denormal(shape: Shape, x: Unpacked) -> bool
-    requires lawful { IsShape shape }
-    requires stored { IsStored shape x }
+    requires { IsStored shape x }
     ensures { result ≡ is_denormal (format_at shape) (datum_at shape x) }
 {
     match x.category {

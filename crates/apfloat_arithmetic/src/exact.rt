@@ -6,7 +6,7 @@ ghost use Rattle.apfloat_base.specs.declared.kinds.Round.{Round};
 ghost use Rattle.apfloat_base.specs.formats.Datum.{infinite};
 ghost use Rattle.apfloat_base.specs.rounding.Answer.{IsAnswer};
 ghost use Rattle.apfloat_base.specs.rounding.Rounding.{ok_bits, signed_quanta, IsDelivered};
-ghost use Rattle.apfloat_unpacked.specs.Shapes.{IsShape, format_at};
+ghost use Rattle.apfloat_unpacked.specs.Shapes.{format_at};
 ghost use Rattle.apfloat_unpacked.specs.Stored.{IsStored, GivesAt};
 
 use apfloat_base::{Status, StatusAnd};
@@ -16,7 +16,6 @@ use apfloat_unpacked::unpacked::{Unpacked, infinity_of, zero_of};
 /// An exact zero, with that sign if the format has that zero.
 #[inline(always)]
 pub fn exact_zero(shape: Shape, negative: bool) -> StatusAnd<Unpacked>
-    requires { IsShape shape }
     ensures stored { IsStored shape result.value }
     ensures answer { GivesAt shape
         (IsAnswer (signed_quanta shape.nonfinite negative 0) ok_bits) result }
@@ -29,8 +28,7 @@ pub fn exact_zero(shape: Shape, negative: bool) -> StatusAnd<Unpacked>
 /// The infinity of that sign, exact, in a format that has it.
 #[inline(always)]
 pub fn exact_infinity(shape: Shape, negative: bool) -> StatusAnd<Unpacked>
-    requires lawful { IsShape shape }
-    requires infinities { shape.nonfinite ≡ IEEE754 }
+    requires { shape.nonfinite ≡ IEEE754 }
     ensures stored { IsStored shape result.value }
     ensures answer { GivesAt shape (IsAnswer (infinite negative) ok_bits) result }
 {

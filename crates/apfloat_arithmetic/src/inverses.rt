@@ -3,7 +3,7 @@
 ghost use Rattle.std.specs.Prelude.{◌≡◌, Some, true, false};
 ghost use Rattle.std.specs.Option.{option_map};
 ghost use Rattle.apfloat_base.specs.arithmetic.Exponents.{IsExactInverse};
-ghost use Rattle.apfloat_unpacked.specs.Shapes.{IsShape, format_at};
+ghost use Rattle.apfloat_unpacked.specs.Shapes.{format_at};
 ghost use Rattle.apfloat_unpacked.specs.Stored.{IsStored, IsNormal, datum_at};
 ghost use Rattle.apfloat_arithmetic.specs.ExactInverseParts.{IsInvertible};
 
@@ -14,8 +14,7 @@ use apfloat_unpacked::unpacked::Unpacked;
 /// Whether a number is a power of two, and neither it nor its inverse is denormal or too large for the format.
 #[inline(always)]
 fn is_invertible(shape: Shape, x: Unpacked) -> bool
-    requires lawful { IsShape shape }
-    requires normal { IsNormal shape x }
+    requires { IsNormal shape x }
     ensures yes { result ≡ true → IsInvertible shape x }
     ensures no { result ≡ false → IsInvertible shape x → ⊥ }
 {
@@ -28,8 +27,7 @@ fn is_invertible(shape: Shape, x: Unpacked) -> bool
 /// The inverse of a power of two, if the format has both and neither is denormal.
 #[inline(always)]
 pub fn exact_inverse(shape: Shape, x: Unpacked) -> Option<Unpacked>
-    requires lawful { IsShape shape }
-    requires stored { IsStored shape x }
+    requires { IsStored shape x }
     ensures stored { (inverse : Unpacked) → result ≡ Some inverse → IsStored shape inverse }
     ensures inverse { IsExactInverse (format_at shape) (datum_at shape x)
         (option_map (datum_at shape) result) }

@@ -8,7 +8,7 @@ ghost use Rattle.apfloat_base.specs.rounding.Bounds.{IsWithin, number_bound, exp
 ghost use Rattle.apfloat_base.specs.rounding.Rounding.{IsDelivered};
 ghost use Rattle.apfloat_base.specs.rounding.Standing.{StandsFor};
 ghost use Rattle.apfloat_base.specs.arithmetic.Quotients.{IsQuotient, div_by_zero_bit};
-ghost use Rattle.apfloat_unpacked.specs.Shapes.{IsShape, format_at};
+ghost use Rattle.apfloat_unpacked.specs.Shapes.{format_at};
 ghost use Rattle.apfloat_unpacked.specs.Stored.{IsStored, IsNormal, quanta_of, datum_at, GivesAt};
 
 use crate::classes::are_normal;
@@ -59,7 +59,6 @@ fn quotient_of(precision: u32, dividend: u128, divisor: u128) -> Quotient
 /// format.
 #[inline(always)]
 fn divide_numbers(shape: Shape, x: Unpacked, y: Unpacked, round: Round) -> StatusAnd<Unpacked>
-    requires lawful { IsShape shape }
     requires left { IsNormal shape x }
     requires right { IsNormal shape y }
     ensures stored { IsStored shape result.value }
@@ -82,7 +81,6 @@ fn divide_numbers(shape: Shape, x: Unpacked, y: Unpacked, round: Round) -> Statu
 /// A nonzero number divided by a zero (7.3).
 #[inline(always)]
 fn divided_by_zero(shape: Shape, negative: bool) -> StatusAnd<Unpacked>
-    requires { IsShape shape }
     ensures stored { IsStored shape result.value }
     ensures answer { GivesAt shape
         (IsAnswer (infinity_of (format_at shape) negative) div_by_zero_bit) result }
@@ -94,7 +92,6 @@ fn divided_by_zero(shape: Shape, negative: bool) -> StatusAnd<Unpacked>
 #[cold]
 #[inline(never)]
 fn divide_any(shape: Shape, x: Unpacked, y: Unpacked, round: Round) -> StatusAnd<Unpacked>
-    requires lawful { IsShape shape }
     requires left { IsStored shape x }
     requires right { IsStored shape y }
     ensures stored { IsStored shape result.value }
@@ -128,7 +125,6 @@ fn divide_any(shape: Shape, x: Unpacked, y: Unpacked, round: Round) -> StatusAnd
 /// The quotient of two values, rounded once (IEEE 754-2008 5.4.1, division).
 #[inline(always)]
 pub fn divide(shape: Shape, x: Unpacked, y: Unpacked, round: Round) -> StatusAnd<Unpacked>
-    requires lawful { IsShape shape }
     requires left { IsStored shape x }
     requires right { IsStored shape y }
     ensures stored { IsStored shape result.value }

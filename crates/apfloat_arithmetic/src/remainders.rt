@@ -12,7 +12,7 @@ ghost use Rattle.apfloat_base.specs.rounding.Answer.{IsAnswer};
 ghost use Rattle.apfloat_base.specs.rounding.Rounding.{ok_bits, takes_above};
 ghost use Rattle.apfloat_base.specs.arithmetic.Exponents.{IsIlogb};
 ghost use Rattle.apfloat_base.specs.arithmetic.Remainders.{truncated_quotient, nearest_quotient, rest_of, IsRemainder, IsTruncatedRemainder, IsNearestRemainder, ones_of_quotient};
-ghost use Rattle.apfloat_unpacked.specs.Shapes.{IsShape, format_at};
+ghost use Rattle.apfloat_unpacked.specs.Shapes.{format_at};
 ghost use Rattle.apfloat_unpacked.specs.Stored.{IsOperand, IsNormal, IsStored, datum_at, quanta_of, GivesAt};
 ghost use Rattle.apfloat_arithmetic.specs.Points.{units_of, HasAllDigits};
 
@@ -195,8 +195,7 @@ fn nearest_by(precision: u32, x: Point, y: Point) -> Nearest
 /// An operand at its place.
 #[inline(always)]
 fn point_of(shape: Shape, x: Unpacked) -> Point
-    requires lawful { IsShape shape }
-    requires operand { IsOperand shape x }
+    requires { IsOperand shape x }
     ensures significand { result.significand ≡ x.significand }
     ensures place { pos result.place
         ≡ ((x.exponent -ℤ shape.min_exp) +ℤ pos (shape.precision - 1)) }
@@ -235,7 +234,6 @@ fn in_quanta(precision: u32, point: Point) -> Point
 
 /// The rest of `x` after the quotient cut toward zero, in quanta.
 fn truncated_rest(shape: Shape, x: Unpacked, y: Unpacked) -> Rest
-    requires lawful { IsShape shape }
     requires x { IsNormal shape x }
     requires y { IsNormal shape y }
     ensures fits { result.point.significand < 2 ^ shape.precision }
@@ -254,7 +252,6 @@ fn truncated_rest(shape: Shape, x: Unpacked, y: Unpacked) -> Rest
 
 /// How far the nearest multiple of `y` is from `x`, in quanta, and whether it is above.
 fn nearest_rest(shape: Shape, x: Unpacked, y: Unpacked) -> Nearest
-    requires lawful { IsShape shape }
     requires x { IsNormal shape x }
     requires y { IsNormal shape y }
     ensures fits { result.point.significand < 2 ^ shape.precision }
@@ -285,7 +282,6 @@ pub struct Remainder {
 
 /// The remainder of numbers by the quotient cut toward zero, which is exact, and the count of subtractions.
 fn truncated_number(shape: Shape, x: Unpacked, y: Unpacked) -> Remainder
-    requires lawful { IsShape shape }
     requires x { IsNormal shape x }
     requires y { IsNormal shape y }
     ensures stored { IsStored shape result.answer.value }
@@ -308,7 +304,6 @@ fn truncated_number(shape: Shape, x: Unpacked, y: Unpacked) -> Remainder
 
 /// The remainder of numbers by the whole number nearest to the quotient, which is exact.
 fn nearest_number(shape: Shape, x: Unpacked, y: Unpacked) -> StatusAnd<Unpacked>
-    requires lawful { IsShape shape }
     requires x { IsNormal shape x }
     requires y { IsNormal shape y }
     ensures stored { IsStored shape result.value }
@@ -327,7 +322,6 @@ fn nearest_number(shape: Shape, x: Unpacked, y: Unpacked) -> StatusAnd<Unpacked>
 
 /// The remainder of a finite operand, if it is zero or the divisor is not a nonzero number.
 fn special_divisor(shape: Shape, x: Unpacked, y: Unpacked) -> StatusAnd<Unpacked>
-    requires lawful { IsShape shape }
     requires x_stored { IsStored shape x }
     requires y_stored { IsStored shape y }
     requires finite { (x.category ≡ Category.Zero) ⊎ (x.category ≡ Category.Normal) }
@@ -347,7 +341,6 @@ fn special_divisor(shape: Shape, x: Unpacked, y: Unpacked) -> StatusAnd<Unpacked
 
 /// The remainder, if not both operands are nonzero numbers: the quotient does not matter.
 fn special_remainder(shape: Shape, x: Unpacked, y: Unpacked) -> StatusAnd<Unpacked>
-    requires lawful { IsShape shape }
     requires x_stored { IsStored shape x }
     requires y_stored { IsStored shape y }
     requires special { x.category ≡ Category.Normal → y.category ≡ Category.Normal → ⊥ }
@@ -373,7 +366,6 @@ fn special_remainder(shape: Shape, x: Unpacked, y: Unpacked) -> StatusAnd<Unpack
 ///
 /// If an operand is a NaN or infinite, or the divisor is zero, nothing is subtracted.
 pub fn truncated_remainder(shape: Shape, x: Unpacked, y: Unpacked) -> Remainder
-    requires lawful { IsShape shape }
     requires x { IsStored shape x }
     requires y { IsStored shape y }
     ensures stored { IsStored shape result.answer.value }
@@ -396,7 +388,6 @@ pub fn truncated_remainder(shape: Shape, x: Unpacked, y: Unpacked) -> Remainder
 
 /// The remainder by the whole number nearest to the quotient, ties to even (IEEE 754-2008 5.3.1).
 pub fn nearest_remainder(shape: Shape, x: Unpacked, y: Unpacked) -> StatusAnd<Unpacked>
-    requires lawful { IsShape shape }
     requires x { IsStored shape x }
     requires y { IsStored shape y }
     ensures stored { IsStored shape result.value }

@@ -5,7 +5,7 @@ ghost use Rattle.apfloat_base.specs.arithmetic.Exact.{signed, IsRounded};
 ghost use Rattle.apfloat_base.specs.formats.Datum.{finite, infinite};
 ghost use Rattle.apfloat_base.specs.arithmetic.Sums.{zero_sum_sign, IsSum, IsDifference};
 ghost use Rattle.apfloat_arithmetic.specs.Subtrahends.{added};
-ghost use Rattle.apfloat_unpacked.specs.Shapes.{IsShape, format_at};
+ghost use Rattle.apfloat_unpacked.specs.Shapes.{format_at};
 ghost use Rattle.apfloat_unpacked.specs.Stored.{IsNormal, IsStored, datum_at, number_of, quanta_of, GivesAt};
 
 use crate::classes::are_normal;
@@ -20,8 +20,7 @@ use apfloat_unpacked::unpacked::{Unpacked, remade, zero_of};
 /// The number as a term, with the exponent of its last digit.
 #[inline(always)]
 fn term_of(shape: Shape, x: Unpacked) -> Term
-    requires lawful { IsShape shape }
-    requires normal { IsNormal shape x }
+    requires { IsNormal shape x }
     ensures negative { result.negative ≡ x.negative }
     ensures significand { result.significand ≡ x.significand }
     ensures exponent { (result.exponent +ℤ pos shape.precision) ≡ (x.exponent +ℤ pos 1) }
@@ -67,7 +66,6 @@ pub(crate) fn sign_of_total(total: Total, of_zero: bool) -> bool
 /// The sum of two nonzero numbers.
 #[inline(always)]
 fn add_numbers(shape: Shape, x: Unpacked, y: Unpacked, round: Round) -> StatusAnd<Unpacked>
-    requires lawful { IsShape shape }
     requires x_normal { IsNormal shape x }
     requires y_normal { IsNormal shape y }
     ensures stored { IsStored shape result.value }
@@ -91,7 +89,6 @@ fn add_numbers(shape: Shape, x: Unpacked, y: Unpacked, round: Round) -> StatusAn
 /// The sum of an infinity and any value.
 #[inline(always)]
 fn add_to_infinity(shape: Shape, x: Unpacked, y: Unpacked) -> StatusAnd<Unpacked>
-    requires lawful { IsShape shape }
     requires infinite { x.category ≡ Category.Infinity }
     requires x_stored { IsStored shape x }
     requires y_stored { IsStored shape y }
@@ -117,8 +114,7 @@ fn add_to_infinity(shape: Shape, x: Unpacked, y: Unpacked) -> StatusAnd<Unpacked
 /// The sum of a zero and any value.
 #[inline(always)]
 fn add_to_zero(shape: Shape, x: Unpacked, y: Unpacked, round: Round) -> StatusAnd<Unpacked>
-    requires lawful { IsShape shape }
-    requires y_stored { IsStored shape y }
+    requires { IsStored shape y }
     ensures stored { IsStored shape result.value }
     ensures delivered { GivesAt shape
         (IsSum (format_at shape) round (finite x.negative 0) (datum_at shape y)) result }
@@ -137,7 +133,6 @@ fn add_to_zero(shape: Shape, x: Unpacked, y: Unpacked, round: Round) -> StatusAn
 /// The sum of a nonzero number and any value.
 #[inline(always)]
 fn add_to_number(shape: Shape, x: Unpacked, y: Unpacked, round: Round) -> StatusAnd<Unpacked>
-    requires lawful { IsShape shape }
     requires normal { x.category ≡ Category.Normal }
     requires x_stored { IsStored shape x }
     requires y_stored { IsStored shape y }
@@ -157,7 +152,6 @@ fn add_to_number(shape: Shape, x: Unpacked, y: Unpacked, round: Round) -> Status
 #[cold]
 #[inline(never)]
 fn add_any(shape: Shape, x: Unpacked, y: Unpacked, round: Round) -> StatusAnd<Unpacked>
-    requires lawful { IsShape shape }
     requires x_stored { IsStored shape x }
     requires y_stored { IsStored shape y }
     ensures stored { IsStored shape result.value }
@@ -175,7 +169,6 @@ fn add_any(shape: Shape, x: Unpacked, y: Unpacked, round: Round) -> StatusAnd<Un
 /// `x + y`, rounded once (IEEE 754-2008 5.4.1).
 #[inline(always)]
 pub fn add(shape: Shape, x: Unpacked, y: Unpacked, round: Round) -> StatusAnd<Unpacked>
-    requires lawful { IsShape shape }
     requires x_stored { IsStored shape x }
     requires y_stored { IsStored shape y }
     ensures stored { IsStored shape result.value }
@@ -205,7 +198,6 @@ fn added(shape: Shape, y: Unpacked) -> Unpacked
 /// `x - y`, rounded once (IEEE 754-2008 5.4.1).
 #[inline(always)]
 pub fn subtract(shape: Shape, x: Unpacked, y: Unpacked, round: Round) -> StatusAnd<Unpacked>
-    requires lawful { IsShape shape }
     requires x_stored { IsStored shape x }
     requires y_stored { IsStored shape y }
     ensures stored { IsStored shape result.value }

@@ -18,7 +18,7 @@ use Rattle.apfloat_base.proofs.general.Powers.{both_above_zero, both_above_zero,
 use Rattle.apfloat_base.proofs.arithmetic.SingleScalings.{scaled_stands}
 use Rattle.apfloat_base.proofs.arithmetic.Totals.{no_down}
 use Rattle.apfloat_unpacked.specs.declared.shape.Shape.{Shape}
-use Rattle.apfloat_unpacked.specs.Shapes.{IsShape, format_at}
+use Rattle.apfloat_unpacked.specs.Shapes.{format_at}
 use Rattle.apfloat_unpacked.specs.Stored.{IsNormalAt, IsQuantaAt, quanta_at}
 use Rattle.apfloat_unpacked.proofs.StoredNumbers.{quanta_is, whole_is}
 use Rattle.apfloat_unpacked.proofs.ShapeExponents.{scale_is, span_is}
@@ -51,13 +51,13 @@ abbrev finer : Shape → Shape → ℕ
 finer source target = (format_at target).scale - (format_at source).scale
 
 -- a number within the largest value of one is within that of the other
-held_within : (source target : Shape) (a : ℕ) → IsShape source → IsShape target → IsHeld source target
+held_within : (source target : Shape) (a : ℕ) → IsHeld source target
     → a ≤ largest (format_at source) → a * 2 ^ finer source target ≤ largest (format_at target)
-held_within source target a from into h l =
-    let x = scale_is source from in
-    let y = scale_is target into in
-    let u = span_is source from in
-    let v = span_is target into in
+held_within source target a h l =
+    let x = scale_is source in
+    let y = scale_is target in
+    let u = span_is source in
+    let v = span_is target in
     let f = h.fine in
     let p = h.precise in
     ⊎_elim
@@ -65,8 +65,8 @@ held_within source target a from into h l =
     (greatest_significand target.nonfinite target.precision)
     (format_at source).span (format_at target).span (finer source target) source.precision (target.precision - 1)
     l (greatest_fits source.nonfinite source.precision)
-    (greatest_full target.nonfinite target.precision into.precision_low)
-    (omega (arith, ints, into.precision_low)))
+    (greatest_full target.nonfinite target.precision target.parameters.precision_low)
+    (omega (arith, ints, target.parameters.precision_low)))
     (λ (o : IsReachedLevel source target). level a (greatest_significand source.nonfinite source.precision)
     (greatest_significand target.nonfinite target.precision) (format_at source).span (format_at target).span
     (finer source target)
@@ -77,50 +77,50 @@ held_within source target a from into h l =
 -- ---- a number
 
 -- and it is counted in the finer quanta
-held_quanta : (source target : Shape) (m : ℕ) (e : ℤ) → IsShape source → IsShape target → IsHeld source target
+held_quanta : (source target : Shape) (m : ℕ) (e : ℤ) → IsHeld source target
     → IsNormalAt source m e
     → IsQuantaAt target.min_exp (m * 2 ^ (target.precision - source.precision)) e
     (quanta_at source.min_exp m e * 2 ^ finer source target)
-held_quanta source target m e from into h n =
-    let x = scale_is source from in
-    let y = scale_is target into in
+held_quanta source target m e h n =
+    let x = scale_is source in
+    let y = scale_is target in
     let f = h.fine in
     let p = h.precise in
     let b : up (e -ℤ source.min_exp) + finer source target + down (e -ℤ target.min_exp)
     ≡ down (e -ℤ source.min_exp) + (target.precision - source.precision) + up (e -ℤ target.min_exp) =
-    omega (arith, ints, from.precision_low) in
+    omega (arith, ints, source.parameters.precision_low) in
     let q = scaled_stands m (quanta_at source.min_exp m e) (down (e -ℤ source.min_exp)) (up (e -ℤ source.min_exp))
     (finer source target)
     (target.precision - source.precision) (up (e -ℤ target.min_exp)) (down (e -ℤ target.min_exp)) n.whole b in
     omega (arith, q)
 
 -- moved up to the precision of the other shape, a significand has just as many digits
-moved_up : (source target : Shape) (m : ℕ) (e : ℤ) → IsShape source → source.precision ≤ target.precision
+moved_up : (source target : Shape) (m : ℕ) (e : ℤ) → source.precision ≤ target.precision
     → IsNormalAt source m e
     → (m * 2 ^ (target.precision - source.precision) < 2 ^ target.precision)
     × (2 ^ (target.precision - 1) ≤ m * 2 ^ (target.precision - source.precision))
-moved_up source target m e from p n = (
+moved_up source target m e p n = (
   fits_shifted m source.precision (target.precision - source.precision) target.precision n.operand.fits (omega arith),
   full_shifted m source.precision (target.precision - source.precision) target.precision
-      (omega (arith, from.precision_low)) (λ _. n.operand.full) (omega arith),
+      (omega (arith, source.parameters.precision_low)) (λ _. n.operand.full) (omega arith),
 )
 
 -- a number moved up so is stored as the other shape wants it
-held_normal : (source target : Shape) (m : ℕ) (e : ℤ) → IsShape source → IsShape target → IsHeld source target
+held_normal : (source target : Shape) (m : ℕ) (e : ℤ) → IsHeld source target
     → IsNormalAt source m e
     → IsNormalAt target (m * 2 ^ (target.precision - source.precision)) e
-held_normal source target m e from into h n =
-    let q = held_quanta source target m e from into h n in
-    let digits = moved_up source target m e from h.precise n in
-    let x = scale_is source from in
-    let y = scale_is target into in
+held_normal source target m e h n =
+    let q = held_quanta source target m e h n in
+    let digits = moved_up source target m e h.precise n in
+    let x = scale_is source in
+    let y = scale_is target in
     let f = h.fine in
     let p = h.precise in
     record {
       operand = record {
         fits = digits.0;
         full = digits.1;
-        least = omega (arith, ints, n.operand.least, from.precision_low);
+        least = omega (arith, ints, n.operand.least, source.parameters.precision_low);
         greatest =
             ⊎_elim (λ o. omega (arith, ints, n.operand.greatest))
             (λ (o : IsReachedLevel source target). let w = o.exponents in omega (arith, ints, n.operand.greatest))
@@ -128,7 +128,7 @@ held_normal source target m e from into h n =
       };
       whole = whole_is target.min_exp (m * 2 ^ (target.precision - source.precision)) e _ q;
       within = rw (quanta_is target.min_exp (m * 2 ^ (target.precision - source.precision)) e _ q)
-          (held_within source target (quanta_at source.min_exp m e) from into h n.within);
+          (held_within source target (quanta_at source.min_exp m e) h n.within);
     }
 
 -- so is one whose exponent lies inside the other shape
@@ -141,49 +141,49 @@ inside_quanta source target m e h =
     rw z (omega arith)
 
 -- a significand at an exponent inside the other shape is within the largest value there
-inside_within : (source target : Shape) (m : ℕ) (e : ℤ) → IsShape source → IsShape target → IsInside source target e
+inside_within : (source target : Shape) (m : ℕ) (e : ℤ) → IsInside source target e
     → m < 2 ^ source.precision
     → m * 2 ^ (target.precision - source.precision) * 2 ^ up (e -ℤ target.min_exp) ≤ largest (format_at target)
-inside_within source target m e from into h f =
+inside_within source target m e h f =
     let p = h.precise in
     let l = h.least in
     let b = h.below in
-    let v = span_is target into in
+    let v = span_is target in
     let z : down (e -ℤ target.min_exp) ≡ 0 = no_down (e -ℤ target.min_exp) (omega (arith, ints, l)) in
     let w : m * 2 ^ (target.precision - source.precision) < 2 ^ target.precision =
     fits_shifted m source.precision (target.precision - source.precision) target.precision f (omega arith) in
     let q = higher (m * 2 ^ (target.precision - source.precision) * 2 ^ up (e -ℤ target.min_exp))
     (m * 2 ^ (target.precision - source.precision)) (greatest_significand target.nonfinite target.precision)
     (up (e -ℤ target.min_exp)) (format_at target).span 0 target.precision (target.precision - 1) (omega arith) w
-    (greatest_full target.nonfinite target.precision into.precision_low)
-    (omega (arith, ints, v, z, b, into.precision_low)) in
+    (greatest_full target.nonfinite target.precision target.parameters.precision_low)
+    (omega (arith, ints, v, z, b, target.parameters.precision_low)) in
     omega (arith, q)
 
 -- a number whose exponent lies inside the other shape, moved up, is stored as that shape wants it
-inside_normal : (source target : Shape) (m : ℕ) (e : ℤ) → IsShape source → IsShape target → IsInside source target e
+inside_normal : (source target : Shape) (m : ℕ) (e : ℤ) → IsInside source target e
     → IsNormalAt source m e
     → IsNormalAt target (m * 2 ^ (target.precision - source.precision)) e
-inside_normal source target m e from into h n =
+inside_normal source target m e h n =
     let q = inside_quanta source target m e h in
-    let digits = moved_up source target m e from h.precise n in
+    let digits = moved_up source target m e h.precise n in
     record {
       operand = record {
         fits = digits.0;
         full = digits.1;
-        least = omega (arith, ints, h.least, into.precision_low);
+        least = omega (arith, ints, h.least, target.parameters.precision_low);
         greatest = omega (arith, ints, h.below);
       };
       whole = whole_is target.min_exp (m * 2 ^ (target.precision - source.precision)) e _ q;
       within = rw (quanta_is target.min_exp (m * 2 ^ (target.precision - source.precision)) e _ q)
-          (inside_within source target m e from into h n.operand.fits);
+          (inside_within source target m e h n.operand.fits);
     }
 
 -- either way it is stored as the other shape wants it
-pub normal_there : (source target : Shape) (m : ℕ) (e : ℤ) → IsShape source → IsShape target
+pub normal_there : (source target : Shape) (m : ℕ) (e : ℤ)
     → IsHeldAt source target e → IsNormalAt source m e
     → IsNormalAt target (m * 2 ^ (target.precision - source.precision)) e
-normal_there source target m e from into h n =
-    ⊎_elim (λ o. held_normal source target m e from into o n) (λ o. inside_normal source target m e from into o n) h
+normal_there source target m e h n =
+    ⊎_elim (λ o. held_normal source target m e o n) (λ o. inside_normal source target m e o n) h
 
 -- a shape that has all numbers of another, or all of one exponent, has at least as many digits
 pub precise_there : (source target : Shape) (e : ℤ) → IsHeldAt source target e → source.precision ≤ target.precision
@@ -203,20 +203,20 @@ same_quanta m a b f g k d u d' u' h h' e =
     eq_of_mul-eq-mul_right (2 ^ d') (pow_pos d') (a * 2 ^ g) (b * 2 ^ f) (l ∙ sym (q ∙ r ∙ t))
 
 -- it stands for so many quanta more, or less, as the quantum is finer, or coarser
-pub same_there : (source target : Shape) (m : ℕ) (e : ℤ) → IsShape source → IsShape target
+pub same_there : (source target : Shape) (m : ℕ) (e : ℤ)
     → source.precision ≤ target.precision → IsNormalAt source m e
     → IsNormalAt target (m * 2 ^ (target.precision - source.precision)) e
     → quanta_at source.min_exp m e * 2 ^ (format_at target).scale
     ≡ quanta_at target.min_exp (m * 2 ^ (target.precision - source.precision)) e * 2 ^ (format_at source).scale
-same_there source target m e from into p n o =
-    let x = scale_is source from in
-    let y = scale_is target into in
+same_there source target m e p n o =
+    let x = scale_is source in
+    let y = scale_is target in
     same_quanta m (quanta_at source.min_exp m e)
     (quanta_at target.min_exp (m * 2 ^ (target.precision - source.precision)) e)
     (format_at source).scale (format_at target).scale (target.precision - source.precision)
     (down (e -ℤ source.min_exp)) (up (e -ℤ source.min_exp))
     (down (e -ℤ target.min_exp)) (up (e -ℤ target.min_exp)) n.whole o.whole
-    (omega (arith, ints, from.precision_low))
+    (omega (arith, ints, source.parameters.precision_low))
 
 -- the shift loses no digit
 pub held_shift : (s t m : ℕ) → s ≤ t → t ≤ 125 → m < 2 ^ s → m * 2 ^ (t - s) % 2 ^ 128 ≡ m * 2 ^ (t - s)

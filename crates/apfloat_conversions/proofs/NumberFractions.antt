@@ -4,7 +4,7 @@ use Rattle.std.proofs.lemmas.Nat.{pow_pos}
 use Rattle.apfloat_base.specs.formats.Format.{largest}
 use Rattle.apfloat_base.specs.rounding.Standing.{up}
 use Rattle.apfloat_unpacked.specs.declared.shape.Shape.{Shape}
-use Rattle.apfloat_unpacked.specs.Shapes.{format_at, IsShape}
+use Rattle.apfloat_unpacked.specs.Shapes.{format_at}
 use Rattle.apfloat_unpacked.specs.Stored.{IsNormalAt}
 use Rattle.apfloat_unpacked.proofs.ShapeExponents.{scale_is}
 use Rattle.apfloat_conversions.proofs.StoredExponents.{scale_in_span, half_within, number_of}
@@ -15,26 +15,26 @@ abbrev pub fraction_at : Shape → ℕ → ℕ
 fraction_at s m = m * 2 ^ up (negsuc 0 -ℤ s.min_exp)
 
 -- it lies in [1/2, 1)
-pub fraction_size : (shape : Shape) (m : ℕ) (e : ℤ) → IsShape shape → IsNormalAt shape m e
+pub fraction_size : (shape : Shape) (m : ℕ) (e : ℤ) → IsNormalAt shape m e
     → (2 ^ ((format_at shape).scale - 1) ≤ fraction_at shape m) × (fraction_at shape m < 2 ^ (format_at shape).scale)
-fraction_size shape m e law n =
-    let o = fraction_operand shape.precision shape.min_exp shape.max_exp e m law.precision_low law.min_exp_high
-    law.max_exp_low n.operand in
-    let q = fraction_quanta shape.min_exp m law.min_exp_high in
+fraction_size shape m e n =
+    let o = fraction_operand shape.precision shape.min_exp shape.max_exp e m shape.parameters.precision_low shape.parameters.min_exp_high
+    shape.parameters.max_exp_low n.operand in
+    let q = fraction_quanta shape.min_exp m shape.parameters.min_exp_high in
     fraction_low (format_at shape) (fraction_at shape m)
     (logarithm_is (format_at shape) shape.precision shape.min_exp shape.max_exp (negsuc 0) m (fraction_at shape m)
-    law.precision_low (scale_is shape law) o q)
+    shape.parameters.precision_low (scale_is shape) o q)
 
 -- and is stored as the format wants it
-pub fraction_number : (shape : Shape) (m : ℕ) (e : ℤ) → IsShape shape → IsNormalAt shape m e
+pub fraction_number : (shape : Shape) (m : ℕ) (e : ℤ) → IsNormalAt shape m e
     → IsNormalAt shape m (negsuc 0)
-fraction_number shape m e law n =
-    let o = fraction_operand shape.precision shape.min_exp shape.max_exp e m law.precision_low law.min_exp_high
-    law.max_exp_low n.operand in
-    let q = fraction_quanta shape.min_exp m law.min_exp_high in
-    let b = fraction_size shape m e law n in
+fraction_number shape m e n =
+    let o = fraction_operand shape.precision shape.min_exp shape.max_exp e m shape.parameters.precision_low shape.parameters.min_exp_high
+    shape.parameters.max_exp_low n.operand in
+    let q = fraction_quanta shape.min_exp m shape.parameters.min_exp_high in
+    let b = fraction_size shape m e n in
     let b₁ = b.1 in
-    let r = scale_in_span shape law in
+    let r = scale_in_span shape in
     let w : 1 * 2 ^ (format_at shape).scale ≤ largest (format_at shape) =
-    half_within shape 1 (format_at shape).scale law (pow_pos (shape.precision - 1)) (omega (arith, r)) in
+    half_within shape 1 (format_at shape).scale (pow_pos (shape.precision - 1)) (omega (arith, r)) in
     number_of shape m (negsuc 0) (fraction_at shape m) o q (omega (arith, w, b₁))

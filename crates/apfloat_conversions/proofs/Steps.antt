@@ -15,7 +15,7 @@ use Rattle.apfloat_base.proofs.arithmetic.Signs.{one_side}
 use Rattle.apfloat_base.proofs.general.Powers.{twice_half}
 use Rattle.apfloat_base.proofs.arithmetic.SingleScalings.{up_le, up_far, quanta_below}
 use Rattle.apfloat_unpacked.specs.declared.shape.Shape.{Shape}
-use Rattle.apfloat_unpacked.specs.Shapes.{IsShape, format_at}
+use Rattle.apfloat_unpacked.specs.Shapes.{format_at}
 use Rattle.apfloat_unpacked.specs.Stored.{IsOperandAt, IsQuantaAt, IsNormalAt, quanta_at}
 use Rattle.apfloat_unpacked.proofs.StoredBack.{quanta_some}
 use Rattle.apfloat_unpacked.proofs.StoredNumbers.{quanta_is}
@@ -24,24 +24,24 @@ use Rattle.apfloat_conversions.proofs.StoredExponents.{half_within, number_of}
 use Rattle.apfloat_conversions.proofs.Nexts.{operand_down, step_room, step_small, step_within, step_above, next_is, next_within, less_is, least_less, stepped_by, stepped_down_by, stays_operand, carries_operand, carried_quanta, lowered_quanta, lowered_operand, room_above, room_cases}
 
 -- a shape has at least one digit
-some : (shape : Shape) → IsShape shape → 0 < shape.precision
-some shape law = let t = law.precision_low in omega (arith, t)
+some : (shape : Shape) → 0 < shape.precision
+some shape = let t = shape.parameters.precision_low in omega (arith, t)
 
 -- a step at a stored number's last place
-pub step_fits : (shape : Shape) (m t : ℕ) (e : ℤ) → IsShape shape → IsNormalAt shape m e
+pub step_fits : (shape : Shape) (m t : ℕ) (e : ℤ) → IsNormalAt shape m e
     → t ≡ 2 ^ down (e -ℤ shape.min_exp)
     → m + t < 2 ^ 128
-step_fits shape m t e law n i =
-    let l = operand_down shape.precision shape.min_exp shape.max_exp e law.precision_low n.operand.least in
+step_fits shape m t e n i =
+    let l = operand_down shape.precision shape.min_exp shape.max_exp e shape.parameters.precision_low n.operand.least in
     subst (λ (x : ℕ). m + x < 2 ^ 128) (sym i)
-    (step_room shape.precision m (down (e -ℤ shape.min_exp)) law.precision_high n.operand.fits l)
+    (step_room shape.precision m (down (e -ℤ shape.min_exp)) shape.parameters.precision_high n.operand.fits l)
 
 -- a step is no greater than the number
-pub step_below : (shape : Shape) (m t : ℕ) (e : ℤ) → IsShape shape
+pub step_below : (shape : Shape) (m t : ℕ) (e : ℤ)
     → ((shape.min_exp +ℤ pos 1) -ℤ pos shape.precision) ≤ℤ e
     → 2 ^ (shape.precision - 1) ≤ m → t ≡ 2 ^ down (e -ℤ shape.min_exp) → t ≤ m
-step_below shape m t e law l h i =
-    let d = operand_down shape.precision shape.min_exp shape.max_exp e law.precision_low l in
+step_below shape m t e l h i =
+    let d = operand_down shape.precision shape.min_exp shape.max_exp e shape.parameters.precision_low l in
     let k = step_small (shape.precision - 1) (down (e -ℤ shape.min_exp)) d in
     omega (arith, i, k, h)
 
@@ -55,36 +55,36 @@ pub record IsAfter (shape : Shape) (n m : ℕ) (e : ℤ) : Type 0 where
   pub quanta : IsQuantaAt shape.min_exp m e next
 
 -- one unit of its last digit above a number stands the neighbour
-above_of : (shape : Shape) (m : ℕ) (e : ℤ) → IsShape shape → IsNormalAt shape m e
+above_of : (shape : Shape) (m : ℕ) (e : ℤ) → IsNormalAt shape m e
     → IsAbove shape.precision (quanta_at shape.min_exp m e + 2 ^ up (e -ℤ shape.min_exp))
     (quanta_at shape.min_exp m e + 1) 1
-above_of shape m e law n =
+above_of shape m e n =
     next_is shape.precision m (quanta_at shape.min_exp m e) (up (e -ℤ shape.min_exp)) (down (e -ℤ shape.min_exp))
-    (some shape law) (one_side (e -ℤ shape.min_exp)) n.operand.fits n.operand.full n.whole
+    (some shape) (one_side (e -ℤ shape.min_exp)) n.operand.fits n.operand.full n.whole
 
 -- the neighbour above, where no digit is added
-pub after_stays : (shape : Shape) (m t : ℕ) (e : ℤ) → IsShape shape → IsNormalAt shape m e
+pub after_stays : (shape : Shape) (m t : ℕ) (e : ℤ) → IsNormalAt shape m e
     → t ≡ 2 ^ down (e -ℤ shape.min_exp)
     → m + t < 2 ^ shape.precision → IsAfter shape (quanta_at shape.min_exp m e) (m + t) e
-after_stays shape m t e law n i f =
+after_stays shape m t e n i f =
     let g = n.operand.full in
     record {
       next = quanta_at shape.min_exp m e + 2 ^ up (e -ℤ shape.min_exp);
-      is_above = above_of shape m e law n;
+      is_above = above_of shape m e n;
       operand = stays_operand shape.precision shape.min_exp shape.max_exp e m (m + t) n.operand f (omega (arith, g));
       quanta = stepped_by m (quanta_at shape.min_exp m e) (up (e -ℤ shape.min_exp))
           (down (e -ℤ shape.min_exp)) t i n.whole;
     }
 
 -- where one is added, it is a power of two
-pub after_carries : (shape : Shape) (m t w : ℕ) (e r : ℤ) → IsShape shape → IsNormalAt shape m e
+pub after_carries : (shape : Shape) (m t w : ℕ) (e r : ℤ) → IsNormalAt shape m e
     → quanta_at shape.min_exp m e < largest (format_at shape) → t ≡ 2 ^ down (e -ℤ shape.min_exp)
     → 2 ^ shape.precision ≤ m + t
     → w ≡ 2 ^ (shape.precision - 1) → r ≡ (e +ℤ pos 1) → IsAfter shape (quanta_at shape.min_exp m e) w r
-after_carries shape m t w e r law n b i h j k =
-    let p = some shape law in
+after_carries shape m t w e r n b i h j k =
+    let p = some shape in
     let a = quanta_at shape.min_exp m e in
-    let l = operand_down shape.precision shape.min_exp shape.max_exp e law.precision_low n.operand.least in
+    let l = operand_down shape.precision shape.min_exp shape.max_exp e shape.parameters.precision_low n.operand.least in
     let z : m + 2 ^ down (e -ℤ shape.min_exp) ≤ 2 ^ shape.precision =
     step_within shape.precision m a (up (e -ℤ shape.min_exp)) (down (e -ℤ shape.min_exp)) (omega (arith, l))
     (one_side (e -ℤ shape.min_exp)) n.operand.fits n.whole in
@@ -93,20 +93,20 @@ after_carries shape m t w e r law n b i h j k =
     let q = stepped_by m a (up (e -ℤ shape.min_exp)) (down (e -ℤ shape.min_exp)) t i n.whole in
     record {
       next = a + 2 ^ up (e -ℤ shape.min_exp);
-      is_above = above_of shape m e law n;
+      is_above = above_of shape m e n;
       operand =
           carries_operand shape.precision shape.min_exp shape.max_exp e r m w p n.operand j k
-          (room_above (format_at shape) shape.precision shape.min_exp shape.max_exp e m a refl (span_is shape law)
+          (room_above (format_at shape) shape.precision shape.min_exp shape.max_exp e m a refl (span_is shape)
           n.operand n.whole b x);
       quanta = carried_quanta shape.precision shape.min_exp e r (m + t) w (a + 2 ^ up (e -ℤ shape.min_exp)) p y j k q;
     }
 
 -- it is stored as the format wants it
-pub after_stored : (shape : Shape) (n m : ℕ) (e : ℤ) → IsShape shape → n < largest (format_at shape)
+pub after_stored : (shape : Shape) (n m : ℕ) (e : ℤ) → n < largest (format_at shape)
     → IsAfter shape n m e
     → IsNormalAt shape m e
-after_stored shape n m e law b h =
-    number_of shape m e h.next h.operand h.quanta (next_within (format_at shape) n h.next (some shape law) b h.is_above)
+after_stored shape n m e b h =
+    number_of shape m e h.next h.operand h.quanta (next_within (format_at shape) n h.next (some shape) b h.is_above)
 
 -- and is what the model asks for
 pub after_is : (shape : Shape) (n m : ℕ) (e : ℤ) → IsAfter shape n m e
@@ -125,13 +125,13 @@ pub record IsBefore (shape : Shape) (n m : ℕ) (e : ℤ) : Type 0 where
   pub quanta : IsQuantaAt shape.min_exp m e next
 
 -- the neighbour below, where no digit is lost
-pub before_stays : (shape : Shape) (m t : ℕ) (e : ℤ) → IsShape shape → IsNormalAt shape m e
+pub before_stays : (shape : Shape) (m t : ℕ) (e : ℤ) → IsNormalAt shape m e
     → t ≡ 2 ^ down (e -ℤ shape.min_exp)
     → 2 ^ (shape.precision - 1) < m → IsBefore shape (quanta_at shape.min_exp m e) (m - t) e
-before_stays shape m t e law n i h =
+before_stays shape m t e n i h =
     let a = quanta_at shape.min_exp m e in
     let f = n.operand.fits in
-    let l = operand_down shape.precision shape.min_exp shape.max_exp e law.precision_low n.operand.least in
+    let l = operand_down shape.precision shape.min_exp shape.max_exp e shape.parameters.precision_low n.operand.least in
     let k : 2 ^ (shape.precision - 1) + 2 ^ down (e -ℤ shape.min_exp) ≤ m =
     step_above (shape.precision - 1) m a (up (e -ℤ shape.min_exp))
     (down (e -ℤ shape.min_exp)) l (one_side (e -ℤ shape.min_exp))
@@ -139,7 +139,7 @@ before_stays shape m t e law n i h =
     record {
       next = a - 2 ^ up (e -ℤ shape.min_exp);
       is_below =
-          less_is shape.precision m a (up (e -ℤ shape.min_exp)) (down (e -ℤ shape.min_exp)) (some shape law)
+          less_is shape.precision m a (up (e -ℤ shape.min_exp)) (down (e -ℤ shape.min_exp)) (some shape)
           (one_side (e -ℤ shape.min_exp)) (omega (arith, f)) h n.whole;
       operand = stays_operand shape.precision shape.min_exp shape.max_exp e m (m - t) n.operand (omega (arith, f))
           (omega (arith, k, i));
@@ -147,14 +147,14 @@ before_stays shape m t e law n i h =
     }
 
 -- below a power of two the step is half as large
-pub before_lowers : (shape : Shape) (m w t : ℕ) (e r : ℤ) → IsShape shape → IsNormalAt shape m e
+pub before_lowers : (shape : Shape) (m w t : ℕ) (e r : ℤ) → IsNormalAt shape m e
     → m ≡ 2 ^ (shape.precision - 1)
     → w ≡ 2 ^ shape.precision → r ≡ (e -ℤ pos 1) → ((shape.min_exp +ℤ pos 1) -ℤ pos shape.precision) ≤ℤ r
     → t ≡ 2 ^ down (r -ℤ shape.min_exp) → IsBefore shape (quanta_at shape.min_exp m e) (w - t) r
-before_lowers shape m w t e r law n i j k low h =
-    let p = some shape law in
+before_lowers shape m w t e r n i j k low h =
+    let p = some shape in
     let a = quanta_at shape.min_exp m e in
-    let l = operand_down shape.precision shape.min_exp shape.max_exp r law.precision_low low in
+    let l = operand_down shape.precision shape.min_exp shape.max_exp r shape.parameters.precision_low low in
     let q = lowered_quanta shape.precision shape.min_exp e r m w a p i j k n.whole in
     let y = step_small (shape.precision - 1) (down (r -ℤ shape.min_exp)) l in
     let z = twice_half shape.precision p in
@@ -193,14 +193,14 @@ before_is shape n m e b h =
     })
 
 -- below the least number stands the zero
-pub before_least : (shape : Shape) (m : ℕ) (e : ℤ) → IsShape shape → IsNormalAt shape m e
+pub before_least : (shape : Shape) (m : ℕ) (e : ℤ) → IsNormalAt shape m e
     → m ≡ 2 ^ (shape.precision - 1) → e ≡ ((shape.min_exp +ℤ pos 1) -ℤ pos shape.precision)
     → IsNextLess (format_at shape) (quanta_at shape.min_exp m e) (finite (zero_sign shape.nonfinite true) 0) 0
-before_least shape m e law n i k =
+before_least shape m e n i k =
     record {
       next = 0;
       is_below =
-          least_less shape.precision shape.min_exp e m (quanta_at shape.min_exp m e) law.precision_low i k n.whole;
+          least_less shape.precision shape.min_exp e m (quanta_at shape.min_exp m e) shape.parameters.precision_low i k n.whole;
       is =
           record { value_is = refl; status_is = refl };
     }
@@ -216,11 +216,11 @@ same_multiple m g w p =
     (cases_eq m g)
 
 -- at the greatest exponent a number is the largest where its significand is the greatest
-pub largest_at_top : (shape : Shape) (m g : ℕ) (e : ℤ) → IsShape shape → IsNormalAt shape m e → e ≡ shape.max_exp
+pub largest_at_top : (shape : Shape) (m g : ℕ) (e : ℤ) → IsNormalAt shape m e → e ≡ shape.max_exp
     → g ≡ greatest_significand shape.nonfinite shape.precision
     → eqb m g ≡ eqb (quanta_at shape.min_exp m e) (largest (format_at shape))
-largest_at_top shape m g e law n i k =
-    let b = span_is shape law in
+largest_at_top shape m g e n i k =
+    let b = span_is shape in
     let c : up (e -ℤ shape.min_exp) ≡ (format_at shape).span = ap (λ (z : ℤ). up (z -ℤ shape.min_exp)) i ∙
     sym (ap up b) in
     let w = up_far (e -ℤ shape.min_exp) 0 (omega (arith, ints, i, b)) in
@@ -235,11 +235,11 @@ largest_at_top shape m g e law n i k =
     (sym (quanta_is shape.min_exp m e (m * 2 ^ (format_at shape).span) q))
 
 -- below the greatest exponent no number is the largest
-pub below_top : (shape : Shape) (m : ℕ) (e : ℤ) → IsShape shape → IsNormalAt shape m e → (e ≡ shape.max_exp → ⊥)
+pub below_top : (shape : Shape) (m : ℕ) (e : ℤ) → IsNormalAt shape m e → (e ≡ shape.max_exp → ⊥)
     → false ≡ eqb (quanta_at shape.min_exp m e) (largest (format_at shape))
-below_top shape m e law n h =
-    let b = span_is shape law in
-    let lo = law.min_exp_high in let hi = law.max_exp_low in
+below_top shape m e n h =
+    let b = span_is shape in
+    let lo = shape.parameters.min_exp_high in let hi = shape.parameters.max_exp_low in
     let r : (e +ℤ pos 1) ≤ℤ shape.max_exp =
     ⊎_elim (λ (q : (e +ℤ pos 1) ≤ℤ shape.max_exp). q) (λ (q : e ≡ shape.max_exp). absurd (h q))
     (room_cases e shape.max_exp (shape.max_exp -ℤ e) refl n.operand.greatest) in
@@ -247,13 +247,13 @@ below_top shape m e law n h =
     let i : (e -ℤ shape.min_exp) ≤ℤ pos ((format_at shape).span - 1) = omega (arith, ints, r, b, j) in
     let i' = up_le (e -ℤ shape.min_exp) ((format_at shape).span - 1) i in
     let u : up (e -ℤ shape.min_exp) + 1 ≤ (format_at shape).span = omega (arith, i', j) in
-    let t = twice_half shape.precision (some shape law) in
+    let t = twice_half shape.precision (some shape) in
     let k : 2 ^ (shape.precision + up (e -ℤ shape.min_exp)) ≡ 2 ^ shape.precision * 2 ^ up (e -ℤ shape.min_exp) =
     pow-add 2 shape.precision (up (e -ℤ shape.min_exp)) in
     let l : 2 ^ (up (e -ℤ shape.min_exp) + 1) ≡ 2 ^ up (e -ℤ shape.min_exp) * 2 =
     pow-add 2 (up (e -ℤ shape.min_exp)) 1 in
     let w : 2 ^ (shape.precision - 1) * 2 ^ (up (e -ℤ shape.min_exp) + 1) ≤ largest (format_at shape) =
-    half_within shape (2 ^ (shape.precision - 1)) (up (e -ℤ shape.min_exp) + 1) law (omega arith) u in
+    half_within shape (2 ^ (shape.precision - 1)) (up (e -ℤ shape.min_exp) + 1) (omega arith) u in
     let x : 2 ^ (shape.precision - 1) * 2 ^ (up (e -ℤ shape.min_exp) + 1)
     ≡ 2 ^ (shape.precision - 1) * (2 ^ up (e -ℤ shape.min_exp) * 2) = ap (λ (z : ℕ). 2 ^ (shape.precision - 1) * z) l in
     let y : 2 * 2 ^ (shape.precision - 1) * 2 ^ up (e -ℤ shape.min_exp)

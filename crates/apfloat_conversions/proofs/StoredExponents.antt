@@ -16,7 +16,7 @@ use Rattle.apfloat_base.proofs.formats.Greatest.{greatest_full}
 use Rattle.apfloat_base.proofs.arithmetic.Tables.{scaling_zero}
 use Rattle.apfloat_base.proofs.arithmetic.SingleScalings.{IsClamped, up_le, quanta_below, scaled_is, clamp_kept}
 use Rattle.apfloat_unpacked.specs.declared.shape.Shape.{Shape}
-use Rattle.apfloat_unpacked.specs.Shapes.{IsShape, format_at}
+use Rattle.apfloat_unpacked.specs.Shapes.{format_at}
 use Rattle.apfloat_unpacked.specs.Stored.{IsOperandAt, IsQuantaAt, IsNormalAt, quanta_at}
 use Rattle.apfloat_unpacked.proofs.StoredBack.{quanta_some}
 use Rattle.apfloat_unpacked.proofs.ShapeExponents.{exponent_word, scale_is, span_is}
@@ -26,23 +26,23 @@ use Rattle.apfloat_conversions.proofs.Wholes.{up_of, places_up, places_down}
 -- ---- the number as a fraction, by the exponent of its last digit
 
 -- a number without fraction, by its significand and its exponent from the last digit
-pub whole_places : (shape : Shape) (m : ℕ) (e r : ℤ) → IsShape shape → IsNormalAt shape m e
+pub whole_places : (shape : Shape) (m : ℕ) (e r : ℤ) → IsNormalAt shape m e
     → r ≡ (to_z w32 (of_z w32 e) -ℤ pos (shape.precision - 1)) → pos 0 ≤ℤ r
     → quanta_at shape.min_exp m e ≡ m * 2 ^ up r * 2 ^ (format_at shape).scale
-whole_places shape m e r law n v l =
-    let v' = rw (exponent_word shape m e law n) at v in
+whole_places shape m e r n v l =
+    let v' = rw (exponent_word shape m e n) at v in
     let k : pos (up r) ≡ r = up_of r l in
     places_up (shape.precision - 1) (format_at shape).scale shape.min_exp e r m (quanta_at shape.min_exp m e) (up r)
-    (scale_is shape law) v' (omega (arith, ints, k)) n.whole
+    (scale_is shape) v' (omega (arith, ints, k)) n.whole
 
 -- a number with a fraction, likewise
-pub fraction_places : (shape : Shape) (m k : ℕ) (e r : ℤ) → IsShape shape → IsNormalAt shape m e
+pub fraction_places : (shape : Shape) (m k : ℕ) (e r : ℤ) → IsNormalAt shape m e
     → r ≡ (to_z w32 (of_z w32 e) -ℤ pos (shape.precision - 1)) → pos k ≡ (pos 0 -ℤ r)
     → quanta_at shape.min_exp m e * 2 ^ k ≡ m * 2 ^ (format_at shape).scale
-fraction_places shape m k e r law n v h =
-    let v' = rw (exponent_word shape m e law n) at v in
+fraction_places shape m k e r n v h =
+    let v' = rw (exponent_word shape m e n) at v in
     places_down (shape.precision - 1) (format_at shape).scale shape.min_exp e r m (quanta_at shape.min_exp m e) k
-    (scale_is shape law) v' h n.whole
+    (scale_is shape) v' h n.whole
 
 -- ---- times a power of two
 
@@ -54,22 +54,22 @@ DeliversOf s mode negative m r v st =
 
 -- a number times a power of two is delivered with the clamped exponent
 pub scale_delivered : (shape : Shape) (m : ℕ) (e j near r : ℤ) (mode : Round) (negative : Bool) (value : Datum) (st : ℕ)
-    → IsShape shape → IsNormalAt shape m e → IsClamped scaling_bound j near
+    → IsNormalAt shape m e → IsClamped scaling_bound j near
     → r ≡ ((e +ℤ near) -ℤ pos (shape.precision - 1)) → DeliversOf shape mode negative m r value st
     → IsDelivered (format_at shape) mode negative (quanta_at shape.min_exp m e * 2 ^ up j) (2 ^ down j) value st
-scale_delivered shape m e j near r mode negative v st law n c i d =
+scale_delivered shape m e j near r mode negative v st n c i d =
     let a = quanta_at shape.min_exp m e in
-    let k = scale_is shape law in
-    let w = span_is shape law in
+    let k = scale_is shape in
+    let w = span_is shape in
     let o = n.operand in
-    let g : (e -ℤ shape.min_exp) ≤ℤ pos span_bound = omega (arith, ints, law, o) in
+    let g : (e -ℤ shape.min_exp) ≤ℤ pos span_bound = omega (arith, ints, shape.parameters, o) in
     let g' = up_le (e -ℤ shape.min_exp) span_bound g in
-    let f : (format_at shape).span ≤ span_bound = omega (arith, ints, law, w) in
+    let f : (format_at shape).span ≤ span_bound = omega (arith, ints, shape.parameters, w) in
     clamp_kept (format_at shape) mode negative (quanta_at shape.min_exp m e)
     (shape.precision + up (e -ℤ shape.min_exp)) scaling_bound j
-    near v st (omega (arith, law)) (quanta_some shape m e n)
+    near v st (omega (arith, shape.parameters)) (quanta_some shape m e n)
     (quanta_below shape.precision shape.min_exp e m (quanta_at shape.min_exp m e) o.fits n.whole)
-    (omega (arith, f, law)) (omega (arith, g', law)) c
+    (omega (arith, f, shape.parameters)) (omega (arith, g', shape.parameters)) c
     (d (quanta_at shape.min_exp m e * 2 ^ up near) (2 ^ down near) (pow_pos (down near))
     (scaled_is (shape.precision - 1) (format_at shape).scale shape.min_exp e near r m (quanta_at shape.min_exp m e) k i
     n.whole))
@@ -77,11 +77,11 @@ scale_delivered shape m e j near r mode negative v st law n c i d =
 -- ---- sizes within the format
 
 -- half of 2 to the precision, at any place up to the span
-pub half_within : (shape : Shape) (m k : ℕ) → IsShape shape → m ≤ 2 ^ (shape.precision - 1) → k ≤ (format_at shape).span
+pub half_within : (shape : Shape) (m k : ℕ) → m ≤ 2 ^ (shape.precision - 1) → k ≤ (format_at shape).span
     → m * 2 ^ k ≤ largest (format_at shape)
-half_within shape m k law h l =
+half_within shape m k h l =
     let g : m ≤ greatest_significand shape.nonfinite shape.precision =
-    let f = greatest_full shape.nonfinite shape.precision law.precision_low in omega (arith, h, f) in
+    let f = greatest_full shape.nonfinite shape.precision shape.parameters.precision_low in omega (arith, h, f) in
     let a : m * 2 ^ k ≤ greatest_significand shape.nonfinite shape.precision * 2 ^ k = mul-le-mul_right (2 ^ k) g in
     let b : 2 ^ k ≤ 2 ^ (format_at shape).span = pow-le-pow_right two_pos l in
     let c : greatest_significand shape.nonfinite shape.precision * 2 ^ k
@@ -90,16 +90,16 @@ half_within shape m k law h l =
     omega (arith, a, c)
 
 -- the scale of a shape is less than its span
-pub scale_in_span : (shape : Shape) → IsShape shape → (format_at shape).scale + 1 ≤ (format_at shape).span
-scale_in_span shape law =
-    let a = scale_is shape law in
-    let b = span_is shape law in
-    omega (arith, ints, a, b, law)
+pub scale_in_span : (shape : Shape) → (format_at shape).scale + 1 ≤ (format_at shape).span
+scale_in_span shape =
+    let a = scale_is shape in
+    let b = span_is shape in
+    omega (arith, ints, a, b, shape.parameters)
 
 -- a significand of a shape is below 2 ^ 125
-pub significand_small : (shape : Shape) (m : ℕ) → IsShape shape → m < 2 ^ shape.precision → m < 2 ^ 125
-significand_small shape m law f =
-    let l = law.precision_high in
+pub significand_small : (shape : Shape) (m : ℕ) → m < 2 ^ shape.precision → m < 2 ^ 125
+significand_small shape m f =
+    let l = shape.parameters.precision_high in
     let a : 2 ^ shape.precision ≤ 2 ^ 125 = pow-le-pow_right two_pos l in
     omega (arith, a, f)
 

@@ -7,7 +7,7 @@ ghost use Rattle.apfloat_base.specs.formats.Datum.{finite};
 ghost use Rattle.apfloat_base.specs.rounding.Rounding.{ok_bits, inexact_bit, zero_sign};
 ghost use Rattle.apfloat_base.specs.formats.Constants.{infinity_of};
 ghost use Rattle.apfloat_base.specs.arithmetic.Conversions.{IsConversion, IsConvertedNumber, IsExactlyConverted, IsKept, loses_zero_sign, has_infinities};
-ghost use Rattle.apfloat_unpacked.specs.Shapes.{IsShape, format_at};
+ghost use Rattle.apfloat_unpacked.specs.Shapes.{format_at};
 ghost use Rattle.apfloat_unpacked.specs.Stored.{IsNormal, IsStored, datum_at, quanta_of};
 ghost use Rattle.apfloat_conversions.specs.Results.{ConvertsAt};
 
@@ -31,9 +31,7 @@ pub struct Converted {
 /// A number, rounded once; an inexact result loses information. If the other format has the number, nothing is rounded.
 #[inline(always)]
 fn converted_number(from: Shape, into: Shape, x: Unpacked, round: Round) -> Converted
-    requires from { IsShape from }
-    requires into { IsShape into }
-    requires x { IsNormal from x }
+    requires { IsNormal from x }
     ensures stored { IsStored into result.answer.value }
     ensures converted { ConvertsAt into (IsConvertedNumber (format_at from) (format_at into) round
         x.negative (quanta_of from x)) result }
@@ -79,7 +77,6 @@ fn kept(value: Unpacked, loses_info: bool) -> Converted
 /// The infinity of that sign, or what the other format has in its place.
 #[inline(always)]
 fn converted_infinity(into: Shape, negative: bool) -> Converted
-    requires { IsShape into }
     ensures stored { IsStored into result.answer.value }
     ensures converted { ConvertsAt into (IsKept (infinity_of (format_at into) negative)
         (not (has_infinities into.nonfinite))) result }
@@ -107,9 +104,7 @@ fn converted_zero(into: Shape, negative: bool) -> Converted
 #[cold]
 #[inline(never)]
 fn convert_apart(from: Shape, into: Shape, x: Unpacked, round: Round) -> Converted
-    requires from { IsShape from }
-    requires into { IsShape into }
-    requires x { IsStored from x }
+    requires { IsStored from x }
     ensures stored { IsStored into result.answer.value }
     ensures converted { ConvertsAt into
         (IsConversion (format_at from) (format_at into) round (datum_at from x)) result }
@@ -128,9 +123,7 @@ fn convert_apart(from: Shape, into: Shape, x: Unpacked, round: Round) -> Convert
 /// convertFormat).
 #[inline(always)]
 pub fn convert(from: Shape, into: Shape, x: Unpacked, round: Round) -> Converted
-    requires from { IsShape from }
-    requires into { IsShape into }
-    requires x { IsStored from x }
+    requires { IsStored from x }
     ensures stored { IsStored into result.answer.value }
     ensures converted { ConvertsAt into
         (IsConversion (format_at from) (format_at into) round (datum_at from x)) result }

@@ -3,7 +3,7 @@
 
 ghost use Rattle.std.specs.Prelude.{◌≡◌, ◌-◌, ◌*◌, ◌^◌, ◌≤◌, true};
 ghost use Rattle.apfloat_base.specs.formats.Datum.{finite};
-ghost use Rattle.apfloat_unpacked.specs.Shapes.{IsShape, format_at};
+ghost use Rattle.apfloat_unpacked.specs.Shapes.{format_at};
 ghost use Rattle.apfloat_unpacked.specs.Stored.{IsNormal, IsStored, datum_at, quanta_of};
 ghost use Rattle.apfloat_conversions.specs.Held.{IsHeld, IsHeldNumber, IsInside, IsReached};
 
@@ -14,9 +14,7 @@ use apfloat_unpacked::unpacked::Unpacked;
 /// Whether the largest value of a format is no larger than that of another, whose precision is no lower.
 #[inline(always)]
 fn reaches(from: Shape, into: Shape) -> bool
-    requires from { IsShape from }
-    requires into { IsShape into }
-    requires precise { from.precision ≤ into.precision }
+    requires { from.precision ≤ into.precision }
     ensures { result ≡ true → IsReached from into }
 {
     if from.max_exp == into.max_exp {
@@ -30,8 +28,6 @@ fn reaches(from: Shape, into: Shape) -> bool
 /// Whether every number of the one format is also a number of the other.
 #[inline(always)]
 fn holds(from: Shape, into: Shape) -> bool
-    requires from { IsShape from }
-    requires into { IsShape into }
     ensures { result ≡ true → IsHeld from into }
 {
     if from.precision > into.precision || from.scale() > into.scale() {
@@ -52,8 +48,6 @@ fn is_inside(from: Shape, into: Shape, exponent: ExpInt) -> bool
 /// Whether another format has a number, as far as its exponent shows.
 #[inline(always)]
 pub fn has(from: Shape, into: Shape, x: Unpacked) -> bool
-    requires from { IsShape from }
-    requires into { IsShape into }
     ensures { result ≡ true → IsHeldNumber from into x }
 {
     holds(from, into) || is_inside(from, into, x.exponent)
@@ -62,8 +56,6 @@ pub fn has(from: Shape, into: Shape, x: Unpacked) -> bool
 /// A number in a format that has it: its significand is extended by the additional digits of that format.
 #[inline(always)]
 pub fn widened(from: Shape, into: Shape, x: Unpacked) -> Unpacked
-    requires from { IsShape from }
-    requires into { IsShape into }
     requires held { IsHeldNumber from into x }
     requires x { IsNormal from x }
     ensures stored { IsStored into result }

@@ -5,7 +5,7 @@ ghost use Rattle.apfloat_base.specs.formats.Datum.{finite};
 ghost use Rattle.apfloat_base.specs.rounding.Flags.{bits_of};
 ghost use Rattle.apfloat_base.specs.whole_numbers.WholeNumbers.{IsFromUnsigned, inexact_unless};
 ghost use Rattle.apfloat_base.specs.whole_numbers.WholeNumbersOut.{invalid_whole, to_unsigned};
-ghost use Rattle.apfloat_unpacked.specs.Shapes.{IsShape, format_at};
+ghost use Rattle.apfloat_unpacked.specs.Shapes.{format_at};
 ghost use Rattle.apfloat_unpacked.specs.Stored.{IsStored, IsNormal, datum_at, number_of, GivesAt};
 ghost use Rattle.apfloat_conversions.specs.Results.{GivesWhole};
 
@@ -19,7 +19,6 @@ use apfloat_unpacked::unpacked::Unpacked;
 /// A whole number, rounded once.
 #[inline(always)]
 pub fn from_unsigned(shape: Shape, number: u128, round: Round) -> StatusAnd<Unpacked>
-    requires { IsShape shape }
     ensures stored { IsStored shape result.value }
     ensures delivered { GivesAt shape (IsFromUnsigned (format_at shape) round number) result }
 {
@@ -78,7 +77,6 @@ fn limit_of(width: u32, negative: bool) -> u128
 /// A nonzero number as a whole number of `width` binary digits.
 #[inline(always)]
 fn number_to_unsigned(shape: Shape, x: Unpacked, width: u32, round: Round) -> Unsigned
-    requires lawful { IsShape shape }
     requires normal { IsNormal shape x }
     requires low { 1 ≤ width }
     requires high { width ≤ 128 }
@@ -106,7 +104,6 @@ fn number_to_unsigned(shape: Shape, x: Unpacked, width: u32, round: Round) -> Un
 #[cold]
 #[inline(never)]
 fn any_to_unsigned(shape: Shape, x: Unpacked, width: u32, round: Round) -> Unsigned
-    requires lawful { IsShape shape }
     requires stored { IsStored shape x }
     requires low { 1 ≤ width }
     requires high { width ≤ 128 }
@@ -128,7 +125,6 @@ fn any_to_unsigned(shape: Shape, x: Unpacked, width: u32, round: Round) -> Unsig
 /// A value as a whole number of `width` binary digits.
 #[inline(always)]
 pub fn to_unsigned(shape: Shape, x: Unpacked, width: u32, round: Round) -> Unsigned
-    requires lawful { IsShape shape }
     requires stored { IsStored shape x }
     requires low { 1 ≤ width }
     requires high { width ≤ 128 }

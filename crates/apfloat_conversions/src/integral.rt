@@ -4,7 +4,7 @@ ghost use Rattle.std.specs.Prelude.{◌≡◌, ◌%◌, ◌^◌, eqb};
 ghost use Rattle.apfloat_base.specs.order.Classes.{is_integer};
 ghost use Rattle.apfloat_base.specs.declared.kinds.Category.TheVariants.{Normal};
 ghost use Rattle.apfloat_base.specs.whole_numbers.WholeNumbers.{IsRoundToIntegral};
-ghost use Rattle.apfloat_unpacked.specs.Shapes.{IsShape, format_at};
+ghost use Rattle.apfloat_unpacked.specs.Shapes.{format_at};
 ghost use Rattle.apfloat_unpacked.specs.Stored.{IsStored, IsNormal, quanta_of, datum_at, GivesAt};
 
 use crate::integers::status_of;
@@ -17,7 +17,6 @@ use apfloat_unpacked::unpacked::{Unpacked, from_quanta};
 /// A nonzero number, rounded to a whole number.
 #[inline(always)]
 fn round_number(shape: Shape, x: Unpacked, round: Round) -> StatusAnd<Unpacked>
-    requires lawful { IsShape shape }
     requires number { x.category ≡ Normal }
     requires normal { IsNormal shape x }
     ensures stored { IsStored shape result.value }
@@ -35,8 +34,7 @@ fn round_number(shape: Shape, x: Unpacked, round: Round) -> StatusAnd<Unpacked>
 /// A value rounded to a whole number in its own format (IEEE 754-2008 5.9, roundToIntegralExact).
 #[inline(always)]
 pub fn round_to_integral(shape: Shape, x: Unpacked, round: Round) -> StatusAnd<Unpacked>
-    requires lawful { IsShape shape }
-    requires stored { IsStored shape x }
+    requires { IsStored shape x }
     ensures stored { IsStored shape result.value }
     ensures delivered { GivesAt shape
         (IsRoundToIntegral (format_at shape) round (datum_at shape x)) result }
@@ -52,8 +50,7 @@ pub fn round_to_integral(shape: Shape, x: Unpacked, round: Round) -> StatusAnd<U
 /// Whether a nonzero number is a whole number.
 #[inline(always)]
 fn is_whole_number(shape: Shape, x: Unpacked) -> bool
-    requires lawful { IsShape shape }
-    requires normal { IsNormal shape x }
+    requires { IsNormal shape x }
     ensures { result ≡ eqb (quanta_of shape x % 2 ^ (format_at shape).scale) 0 }
 {
     let exponent = last_exponent(shape, x.exponent);
@@ -66,8 +63,7 @@ fn is_whole_number(shape: Shape, x: Unpacked) -> bool
 /// Whether a value is finite and a whole number; true for zeros.
 #[inline(always)]
 pub fn is_integer(shape: Shape, x: Unpacked) -> bool
-    requires lawful { IsShape shape }
-    requires stored { IsStored shape x }
+    requires { IsStored shape x }
     ensures { result ≡ is_integer (format_at shape) (datum_at shape x) }
 {
     match x.category {

@@ -5,7 +5,7 @@ ghost use Rattle.apfloat_base.specs.declared.kinds.Category.TheVariants.{NaN};
 ghost use Rattle.apfloat_base.specs.arithmetic.Exact.{down};
 ghost use Rattle.apfloat_base.specs.formats.Format.{largest};
 ghost use Rattle.apfloat_base.specs.arithmetic.NextUp.{IsNextGreater, IsNextLess, IsNextOfNumber, IsNextUp};
-ghost use Rattle.apfloat_unpacked.specs.Shapes.{IsShape, format_at};
+ghost use Rattle.apfloat_unpacked.specs.Shapes.{format_at};
 ghost use Rattle.apfloat_unpacked.specs.Stored.{IsStored, IsNormal, quanta_of, datum_at, GivesAt};
 
 use crate::exponents::{lowered, raised};
@@ -19,7 +19,6 @@ use apfloat_unpacked::unpacked::{Unpacked, infinity_of, largest_of, nan_of, smal
 /// a quantum.
 #[inline(always)]
 fn step(shape: Shape, exponent: ExpInt) -> u128
-    requires lawful { IsShape shape }
     requires least { ((shape.min_exp +ℤ pos 1) -ℤ pos shape.precision) ≤ℤ exponent }
     requires greatest { exponent ≤ℤ shape.max_exp }
     ensures { result ≡ 2 ^ down (exponent -ℤ shape.min_exp) }
@@ -34,7 +33,6 @@ fn step(shape: Shape, exponent: ExpInt) -> u128
 /// The exponent of the integer bit of one quantum.
 #[inline(always)]
 fn least_exponent(shape: Shape) -> ExpInt
-    requires { IsShape shape }
     ensures { result ≡ (shape.min_exp +ℤ pos 1) -ℤ pos shape.precision }
 {
     shape.min_exp + 1 - shape.precision as ExpInt
@@ -43,8 +41,7 @@ fn least_exponent(shape: Shape) -> ExpInt
 /// Whether the magnitude is the largest.
 #[inline(always)]
 fn is_largest(shape: Shape, x: Unpacked) -> bool
-    requires lawful { IsShape shape }
-    requires normal { IsNormal shape x }
+    requires { IsNormal shape x }
     ensures { result ≡ eqb (quanta_of shape x) (largest (format_at shape)) }
 {
     if x.exponent == shape.max_exp {
@@ -57,7 +54,6 @@ fn is_largest(shape: Shape, x: Unpacked) -> bool
 /// The least number that is greater than a positive one below the largest.
 #[inline(always)]
 fn next_greater(shape: Shape, x: Unpacked) -> Unpacked
-    requires lawful { IsShape shape }
     requires normal { IsNormal shape x }
     requires below { quanta_of shape x < largest (format_at shape) }
     ensures stored { IsStored shape result }
@@ -84,8 +80,7 @@ fn next_greater(shape: Shape, x: Unpacked) -> Unpacked
 /// The greatest magnitude that is less than that of a negative number, with its sign.
 #[inline(always)]
 fn next_less(shape: Shape, x: Unpacked) -> Unpacked
-    requires lawful { IsShape shape }
-    requires normal { IsNormal shape x }
+    requires { IsNormal shape x }
     ensures stored { IsStored shape result }
     ensures next { IsNextLess (format_at shape) (quanta_of shape x) (datum_at shape result) 0 }
 {
@@ -112,8 +107,7 @@ fn next_less(shape: Shape, x: Unpacked) -> Unpacked
 /// The next value up from a nonzero number.
 #[inline(always)]
 fn next_of_number(shape: Shape, x: Unpacked) -> Unpacked
-    requires lawful { IsShape shape }
-    requires normal { IsNormal shape x }
+    requires { IsNormal shape x }
     ensures stored { IsStored shape result }
     ensures next { IsNextOfNumber (format_at shape) x.negative (quanta_of shape x)
         (datum_at shape result) 0 }
@@ -130,7 +124,6 @@ fn next_of_number(shape: Shape, x: Unpacked) -> Unpacked
 /// The next value up from a NaN: the NaN itself, or, if it is signaling, the quiet one without a payload.
 #[inline(always)]
 fn next_of_nan(shape: Shape, x: Unpacked) -> StatusAnd<Unpacked>
-    requires lawful { IsShape shape }
     requires stored { IsStored shape x }
     requires nan { x.category ≡ NaN }
     ensures stored { IsStored shape result.value }
@@ -146,8 +139,7 @@ fn next_of_nan(shape: Shape, x: Unpacked) -> StatusAnd<Unpacked>
 /// The least value that compares greater (IEEE 754-2008 5.3.1, nextUp).
 #[inline(always)]
 pub fn next_up(shape: Shape, x: Unpacked) -> StatusAnd<Unpacked>
-    requires lawful { IsShape shape }
-    requires stored { IsStored shape x }
+    requires { IsStored shape x }
     ensures stored { IsStored shape result.value }
     ensures next { GivesAt shape (IsNextUp (format_at shape) (datum_at shape x)) result }
 {

@@ -4,7 +4,7 @@
 ghost use Rattle.std.specs.Prelude.{◌≡◌, ◌-◌, ◌*◌, ◌/◌, ◌^◌, ◌<◌};
 ghost use Rattle.apfloat_base.specs.arithmetic.Conversions.{IsConverted, places_out, nan_loses, converted_nan};
 ghost use Rattle.apfloat_base.specs.formats.Nan.{invalid_if, is_signaling};
-ghost use Rattle.apfloat_unpacked.specs.Shapes.{IsShape, format_at};
+ghost use Rattle.apfloat_unpacked.specs.Shapes.{format_at};
 ghost use Rattle.apfloat_unpacked.specs.Stored.{IsNan, IsNanSignificandAt, IsStored};
 ghost use Rattle.apfloat_conversions.specs.Results.{ConvertsAt};
 
@@ -19,7 +19,6 @@ use apfloat_unpacked::unpacked::{Unpacked, nan_of};
 /// How many of the lowest bits a NaN's significand loses: if there is a payload, its first bit stays the first.
 #[inline(always)]
 fn places_out(from: Shape, into: Shape) -> u32
-    requires { IsShape from }
     ensures value { result ≡ places_out (format_at from) (format_at into) }
     ensures short { result < 128 }
 {
@@ -33,9 +32,7 @@ fn places_out(from: Shape, into: Shape) -> u32
 /// The payload in the other format of a NaN with that significand.
 #[inline(always)]
 fn carried_payload(from: Shape, into: Shape, significand: u128) -> u128
-    requires from { IsShape from }
-    requires into { IsShape into }
-    requires fits { significand < 2 ^ from.precision }
+    requires { significand < 2 ^ from.precision }
     ensures { result ≡ significand * 2 ^ (into.precision - from.precision) / 2 ^ places_out
         (format_at from) (format_at into) }
 {
@@ -46,9 +43,7 @@ fn carried_payload(from: Shape, into: Shape, significand: u128) -> u128
 /// Whether a NaN loses information: a set bit, or the integer bit of a signaling NaN, or the whole payload.
 #[inline(always)]
 fn nan_loses(from: Shape, into: Shape, significand: u128) -> bool
-    requires from { IsShape from }
-    requires into { IsShape into }
-    requires nan { IsNanSignificandAt from significand }
+    requires { IsNanSignificandAt from significand }
     ensures { result ≡ nan_loses (format_at from) (format_at into) significand }
 {
     let cut = low_digits(
@@ -63,9 +58,7 @@ fn nan_loses(from: Shape, into: Shape, significand: u128) -> bool
 /// A NaN, quieted, with as much of its payload as the other format has (IEEE 754-2008 6.2.3).
 #[inline(always)]
 pub(crate) fn converted_nan(from: Shape, into: Shape, x: Unpacked) -> Converted
-    requires from { IsShape from }
-    requires into { IsShape into }
-    requires x { IsNan from x }
+    requires { IsNan from x }
     ensures stored { IsStored into result.answer.value }
     ensures converted { ConvertsAt into (IsConverted
         (converted_nan (format_at from) (format_at into) x.negative x.significand)

@@ -6,7 +6,7 @@ ghost use Rattle.apfloat_base.specs.arithmetic.Exponents.{IsIlogb, IsFrexp, IsFr
 ghost use Rattle.apfloat_base.specs.rounding.Bounds.{IsWithin, number_bound, scaling_bound, integer_bit_bound};
 ghost use Rattle.apfloat_base.specs.rounding.Rounding.{IsDelivered};
 ghost use Rattle.apfloat_base.specs.arithmetic.Scaling.{IsScaling};
-ghost use Rattle.apfloat_unpacked.specs.Shapes.{IsShape, format_at};
+ghost use Rattle.apfloat_unpacked.specs.Shapes.{format_at};
 ghost use Rattle.apfloat_unpacked.specs.Stored.{IsStored, IsNormal, quanta_of, datum_at, GivesAt};
 
 use crate::exponents::raised;
@@ -51,8 +51,7 @@ fn moved(exponent: ExpInt, places: ExpInt) -> ExpInt
 /// A nonzero number times 2 to the power of `places`, rounded once.
 #[inline(always)]
 fn scale_number(shape: Shape, x: Unpacked, places: ExpInt, round: Round) -> StatusAnd<Unpacked>
-    requires lawful { IsShape shape }
-    requires normal { IsNormal shape x }
+    requires { IsNormal shape x }
     ensures stored { IsStored shape result.value }
     ensures delivered { GivesAt shape (IsDelivered (format_at shape) round x.negative
         (quanta_of shape x * 2 ^ up places) (2 ^ down places)) result }
@@ -72,8 +71,7 @@ fn scale_number(shape: Shape, x: Unpacked, places: ExpInt, round: Round) -> Stat
 /// A value times 2 to the power of `places`, rounded once (IEEE 754-2008 5.3.3, scaleB).
 #[inline(always)]
 pub fn scaled(shape: Shape, x: Unpacked, places: ExpInt, round: Round) -> Unpacked
-    requires lawful { IsShape shape }
-    requires stored { IsStored shape x }
+    requires { IsStored shape x }
     ensures stored { IsStored shape result }
     ensures scaled { IsScaling (format_at shape) round (datum_at shape x) places
         (datum_at shape result) }
@@ -89,8 +87,7 @@ pub fn scaled(shape: Shape, x: Unpacked, places: ExpInt, round: Round) -> Unpack
 /// The exponent of the highest digit of a value, or the constant returned in its place (IEEE 754-2008 5.3.3, logB).
 #[inline(always)]
 pub fn ilogb(shape: Shape, x: Unpacked) -> ExpInt
-    requires lawful { IsShape shape }
-    requires stored { IsStored shape x }
+    requires { IsStored shape x }
     ensures { IsIlogb (format_at shape) (datum_at shape x) result }
 {
     match x.category {
@@ -114,8 +111,7 @@ pub struct Fraction {
 /// The fraction of a nonzero number, and its exponent.
 #[inline(always)]
 fn number_fraction(shape: Shape, x: Unpacked) -> Fraction
-    requires lawful { IsShape shape }
-    requires normal { IsNormal shape x }
+    requires { IsNormal shape x }
     ensures stored { IsStored shape result.value }
     ensures fraction { IsFraction (format_at shape) x.negative (quanta_of shape x)
         (datum_at shape result.value) result.exponent }
@@ -135,8 +131,7 @@ fn number_fraction(shape: Shape, x: Unpacked) -> Fraction
 /// NaN is its own fraction (the NaN quieted), with 0, `IEK_INF` or `IEK_NAN`.
 #[inline(always)]
 pub fn fraction_of(shape: Shape, x: Unpacked) -> Fraction
-    requires lawful { IsShape shape }
-    requires stored { IsStored shape x }
+    requires { IsStored shape x }
     ensures stored { IsStored shape result.value }
     ensures fraction { IsFrexp (format_at shape) (datum_at shape x)
         (datum_at shape result.value) result.exponent }

@@ -1,7 +1,7 @@
 //! The whole number that a mode picks for a number.
 
 ghost use Rattle.std.specs.Prelude.{◌≡◌, ℕ, ◌+◌, ◌-◌, ◌*◌, ◌/◌, ◌^◌, ◌<◌, ◌≤◌, pos, ◌+ℤ◌, ◌-ℤ◌, ◌≤ℤ◌};
-ghost use Rattle.apfloat_unpacked.specs.Shapes.{IsShape, format_at};
+ghost use Rattle.apfloat_unpacked.specs.Shapes.{format_at};
 ghost use Rattle.apfloat_unpacked.specs.Stored.{IsNormal, quanta_of};
 ghost use Rattle.apfloat_conversions.specs.Wholes.{IsPicked, IsPickedWithin};
 
@@ -47,7 +47,6 @@ fn round_fraction(significand: u128, places: u32, round: Round, negative: bool) 
 /// digit.
 #[inline(always)]
 pub(crate) fn round_at_dot(shape: Shape, x: Unpacked, exponent: ExpInt, round: Round) -> Whole
-    requires lawful { IsShape shape }
     requires normal { IsNormal shape x }
     requires last { exponent ≡ x.exponent -ℤ pos (shape.precision - 1) }
     requires behind { (exponent +ℤ pos 1) ≤ℤ pos 0 }
@@ -72,8 +71,7 @@ fn raised(precision: u32, significand: u128, places: u32) -> u128
 /// A nonzero number rounded to a whole number, if that is below `2^128`.
 #[inline(always)]
 pub fn whole_of(shape: Shape, x: Unpacked, round: Round) -> Option<Whole>
-    requires lawful { IsShape shape }
-    requires normal { IsNormal shape x }
+    requires { IsNormal shape x }
     ensures { IsPickedWithin round x.negative (quanta_of shape x) (2 ^ (format_at shape).scale)
         result }
 {

@@ -20,7 +20,7 @@ use Rattle.apfloat_base.proofs.rounding.KeptDigits.{stands_times}
 use Rattle.apfloat_base.proofs.rounding.FarMagnitudes.{IsFarAbove, IsFarBelow, far_above, far_below}
 use Rattle.apfloat_base.proofs.texts.ZeroTexts.{zero_text}
 use Rattle.apfloat_unpacked.specs.declared.shape.Shape.{Shape}
-use Rattle.apfloat_unpacked.specs.Shapes.{IsShape, format_at}
+use Rattle.apfloat_unpacked.specs.Shapes.{format_at}
 use Rattle.apfloat_texts.specs.Scans.{IsKeptAt}
 use Rattle.apfloat_texts.specs.Saturation.{IsNear}
 
@@ -178,8 +178,9 @@ fine_digits precision number s cut loss p k =
     k.full
 
 -- the format of a shape has a digit, and its precision, span and scale are bounded
-pub bounded : (shape : Shape) → IsShape shape → IsBounded (format_at shape)
-bounded shape h =
+pub bounded : (shape : Shape) → IsBounded (format_at shape)
+bounded shape =
+    let h = shape.parameters in
     record {
       some = omega (arith, h.precision_low);
       above = omega (arith, ints, h.precision_high, h.min_exp_low, h.max_exp_high);

@@ -2,7 +2,6 @@
 
 ghost use Rattle.std.specs.Prelude.{◌≡◌, Some, None, MatchResult};
 ghost use Rattle.apfloat_base.specs.texts.Faults.{behind_prefix_fault};
-ghost use Rattle.apfloat_unpacked.specs.Shapes.{IsShape};
 ghost use Rattle.apfloat_texts.specs.LiteralParts.{IsLiteralRead};
 
 use crate::exponent::exponent_in;
@@ -21,7 +20,6 @@ pub fn read_literal(
     rest: &[u8],
     round: Round,
 ) -> Result<StatusAnd<Unpacked>, Fault>
-    requires { IsShape shape }
     ensures { MatchResult result (λ answer. IsLiteralRead shape round negative rest.now answer)
         (λ fault. behind_prefix_fault rest.now ≡ Some fault) }
 {

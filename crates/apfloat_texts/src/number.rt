@@ -3,7 +3,7 @@
 ghost use Rattle.std.specs.Prelude.{ℕ, ◌*◌, ◌^◌, ℤ, pos, ◌-ℤ◌, ◌+ℤ◌};
 ghost use Rattle.apfloat_base.specs.rounding.Bounds.{IsWithin};
 ghost use Rattle.apfloat_base.specs.texts.Readings.{IsScaledDelivery};
-ghost use Rattle.apfloat_unpacked.specs.Shapes.{IsShape, format_at};
+ghost use Rattle.apfloat_unpacked.specs.Shapes.{format_at};
 ghost use Rattle.apfloat_unpacked.specs.Stored.{IsStored, GivesAt};
 ghost use Rattle.apfloat_texts.specs.Scans.{IsKept};
 ghost use Rattle.apfloat_texts.specs.Saturation.{IsNear, count_bound, far_bound};
@@ -26,7 +26,6 @@ pub fn delivered(
     exponent: i128,
     round: Round,
 ) -> StatusAnd<Unpacked>
-    requires lawful { IsShape shape }
     requires kept { (number : ℕ) × IsKept number digits }
     requires within { IsWithin count_bound exponent }
     ensures stored { IsStored shape result.value }

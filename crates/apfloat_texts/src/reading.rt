@@ -5,7 +5,7 @@ ghost use Rattle.apfloat_base.specs.declared.kinds.Round.{Round};
 ghost use Rattle.apfloat_base.specs.rounding.Rounding.{ok_bits};
 ghost use Rattle.apfloat_base.specs.texts.Faults.{begins_literal, fault_of};
 ghost use Rattle.apfloat_base.specs.texts.Readings.{IsMeant, IsRefusal};
-ghost use Rattle.apfloat_unpacked.specs.Shapes.{IsShape, format_at};
+ghost use Rattle.apfloat_unpacked.specs.Shapes.{format_at};
 ghost use Rattle.apfloat_unpacked.specs.Stored.{IsStored, datum_at};
 ghost use Rattle.apfloat_texts.specs.Payloads.{meaning_of};
 ghost use Rattle.apfloat_texts.specs.TextsRead.{IsTextRead};
@@ -22,7 +22,6 @@ use apfloat_unpacked::unpacked::{Unpacked, infinity_of, nan_of};
 /// The infinity or the NaN, with the sign of its text.
 #[inline(always)]
 fn special_value(shape: Shape, negative: bool, special: Special) -> Unpacked
-    requires { IsShape shape }
     ensures stored { IsStored shape result }
     ensures meant { (mode : Round) → IsMeant (format_at shape) mode
         (meaning_of negative special) (datum_at shape result) ok_bits }
@@ -51,7 +50,6 @@ fn behind_prefix(body: &[u8]) -> Option<&[u8]>
 /// The value of a text, or its first fault.
 #[inline(always)]
 fn read_bytes(shape: Shape, text: &[u8], round: Round) -> Result<StatusAnd<Unpacked>, Fault>
-    requires { IsShape shape }
     ensures { MatchResult result (λ answer. IsTextRead shape round text.now answer)
         (λ fault. fault_of text.now ≡ Some fault) }
 {
@@ -78,7 +76,6 @@ fn read_bytes(shape: Shape, text: &[u8], round: Round) -> Result<StatusAnd<Unpac
 /// rounded.
 #[inline(always)]
 pub fn read(shape: Shape, text: &str, round: Round) -> Result<StatusAnd<Unpacked>, ParseError>
-    requires { IsShape shape }
     ensures { MatchResult result (λ answer. IsTextRead shape round text.now answer)
         (λ error. IsRefusal text.now error.0.now) }
 {
@@ -96,9 +93,7 @@ mod tests {
     use std::test::Fail;
 
     /// The shape of binary16.
-    fn half() -> Shape
-        ensures { IsShape result }
-    {
+    fn half() -> Shape {
         Shape {
             precision: 11,
             min_exp: -14,

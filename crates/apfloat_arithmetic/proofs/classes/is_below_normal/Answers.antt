@@ -6,6 +6,6 @@ use Rattle.apfloat_arithmetic.proofs.classes.is_below_normal.Goals as goal
 pub returns : goal.returns
 returns c =
     let s = c.args.shape in
-    let x = normal_near s c.args.x.significand c.args.x.exponent c.requires.lawful c.requires.normal in
-    rw (x.word, min_exp_word s c.requires.lawful)
-    (below_is s c.args.x.significand c.args.x.exponent c.requires.normal c.requires.lawful.precision_low)
+    let x = normal_near s c.args.x.significand c.args.x.exponent c.requires in
+    rw (x.word, min_exp_word s)
+    (below_is s c.args.x.significand c.args.x.exponent c.requires c.args.shape.parameters.precision_low)

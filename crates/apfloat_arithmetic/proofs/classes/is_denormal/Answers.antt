@@ -12,7 +12,7 @@ returns-in-Normal c =
     let s = c.args.shape in
     let x = c.args.x in
     let n : IsNormalAt s x.significand x.exponent =
-    subst (λ (k : Category). IsStoredBy k s x) c.in-Normal.is c.requires.stored in
+    subst (λ (k : Category). IsStoredBy k s x) c.in-Normal.is c.requires in
     subst (λ (k : Category). c.is_below_normal.result ≡ is_denormal (format_at s) (datum_by k s x))
     (sym c.in-Normal.is)
     (c.is_below_normal.ensures ∙

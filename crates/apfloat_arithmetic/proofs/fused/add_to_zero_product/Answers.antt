@@ -16,7 +16,7 @@ returns-in-Normal-clause-delivered c = λ b d l m e h.
     let s = c.args.shape in
     let z = c.args.z in
     let n = quanta_at s.min_exp z.significand z.exponent in
-    let t = number_stored s z c.in-Normal.is c.requires.addend in
+    let t = number_stored s z c.in-Normal.is c.requires in
     same_fused (format_at s) c.args.round (finite b l) (finite d m) (datum_at s z) (datum_at s c.and.result.value)
     (finite z.negative n) (finite z.negative n) (bits_of c.and.result.status) ok_bits
     (datum_is Normal s z c.in-Normal.is) (ap (datum_at s) c.and.ensures.value ∙ datum_is Normal s z c.in-Normal.is)

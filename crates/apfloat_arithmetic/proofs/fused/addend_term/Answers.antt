@@ -5,23 +5,23 @@ use Rattle.apfloat_arithmetic.proofs.WideTerms.{addend_counted}
 use Rattle.apfloat_arithmetic.proofs.fused.addend_term.Goals as goal
 
 pub overflow_mul-shape : goal.overflow_mul-shape
-overflow_mul-shape c = omega (arith, c.requires.lawful.precision_high)
+overflow_mul-shape c = omega (arith, c.args.shape.parameters.precision_high)
 
 pub overflow_sub-shape : goal.overflow_sub-shape
-overflow_sub-shape c = omega (arith, c.requires.lawful.precision_low)
+overflow_sub-shape c = omega (arith, c.args.shape.parameters.precision_low)
 
 pub lowered-requires-clause-within : goal.lowered-requires-clause-within
 lowered-requires-clause-within c =
     record {
-      low = omega (arith, ints, c.requires.lawful, c.requires.normal.operand);
-      high = omega (arith, ints, c.requires.lawful, c.requires.normal.operand);
+      low = omega (arith, ints, c.args.shape.parameters, c.requires.normal.operand);
+      high = omega (arith, ints, c.args.shape.parameters, c.requires.normal.operand);
     }
 
 pub lowered-requires-clause-short : goal.lowered-requires-clause-short
 lowered-requires-clause-short c = omega (arith, c.requires.short)
 
 pub wide_addend-requires-clause-some : goal.wide_addend-requires-clause-some
-wide_addend-requires-clause-some c = omega (arith, c.requires.lawful.precision_low)
+wide_addend-requires-clause-some c = omega (arith, c.args.shape.parameters.precision_low)
 
 pub wide_addend-requires-clause-short : goal.wide_addend-requires-clause-short
 wide_addend-requires-clause-short c = c.requires.short
@@ -37,7 +37,7 @@ returns-clause-negative c = refl
 
 pub returns-clause-exponent : goal.returns-clause-exponent
 returns-clause-exponent c =
-    omega (arith, ints, c.requires.lawful, c.requires.normal.operand, c.lowered.ensures.value)
+    omega (arith, ints, c.args.shape.parameters, c.requires.normal.operand, c.lowered.ensures.value)
 
 pub returns-clause-within : goal.returns-clause-within
 returns-clause-within c =
@@ -55,10 +55,10 @@ returns-clause-full c = c.wide_addend.ensures.full
 pub returns-clause-counted : goal.returns-clause-counted
 returns-clause-counted c = λ base k b h.
     let s = c.args.shape in
-    let z = normal_near s c.args.z.significand c.args.z.exponent c.requires.lawful c.requires.normal in
+    let z = normal_near s c.args.z.significand c.args.z.exponent c.requires.normal in
     let e = rw z.word at c.lowered.ensures.value in
     let l : to_z w32 (of_z w32 c.lowered.result) ≡ c.lowered.result =
     to_z-of_z w32 c.lowered.result (record { sfits = c.lowered.type_inv }) in
     let b' = rw l at b in
     rw l (addend_counted s c.args.z.exponent c.lowered.result base c.args.z.significand c.wide_addend.result k
-    c.requires.lawful c.requires.normal c.wide_addend.ensures.value e b' h)
+    c.requires.normal c.wide_addend.ensures.value e b' h)

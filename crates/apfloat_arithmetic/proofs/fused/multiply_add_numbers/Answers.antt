@@ -47,7 +47,7 @@ pub deliver-requires-clause-fine : goal.deliver-requires-clause-fine
 deliver-requires-clause-fine c =
     fine_if c.add_terms-total.result.loss _ (2 ^ (c.args.shape.precision - 1) ≤ c.add_terms-total.result.significand)
     (wide_sum_full c.args.shape.precision c.product_term-product.result.significand c.addend_term.result.significand
-    c.add_terms-total.result.significand c.add_terms-total.result.loss c.requires.lawful.precision_low
+    c.add_terms-total.result.significand c.add_terms-total.result.loss c.args.shape.parameters.precision_low
     c.product_term-product.ensures.full c.product_term-product.ensures.fits c.addend_term.ensures.full
     c.addend_term.ensures.fits c.add_terms-total.ensures.full)
 

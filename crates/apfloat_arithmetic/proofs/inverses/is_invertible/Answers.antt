@@ -8,17 +8,14 @@ use Rattle.apfloat_arithmetic.proofs.ExactInverses.{opposite_word}
 use Rattle.apfloat_arithmetic.proofs.inverses.is_invertible.Goals as goal
 use Rattle.apfloat_arithmetic.proofs.inverses.is_invertible.Goals.{then-x-integer_bit-via-then-x-integer_bit, then-x-integer_bit-via-else-x-integer_bit+then-x-shape}
 
-pub integer_bit-requires : goal.integer_bit-requires
-integer_bit-requires c = c.requires.lawful
-
 pub returns-then-x-integer_bit-clause-yes : goal.returns-then-x-integer_bit-clause-yes
 returns-then-x-integer_bit-clause-yes c = λ h. absurd (false≢true h)
 
 pub returns-then-x-integer_bit-clause-no : goal.returns-then-x-integer_bit-clause-no
 returns-then-x-integer_bit-clause-no c = λ _ i.
     let s = c.args.shape in
-    let w = (normal_near s c.args.x.significand c.args.x.exponent c.requires.lawful c.requires.normal).word in
-    let low = min_exp_word s c.requires.lawful in
+    let w = (normal_near s c.args.x.significand c.args.x.exponent c.requires).word in
+    let low = min_exp_word s in
     elim c.then-x-integer_bit.branch [
       | then-x-integer_bit-via-then-x-integer_bit j ↦ j.if-x-integer_bit.true (i.power ∙ sym c.integer_bit.ensures)
       | then-x-integer_bit-via-else-x-integer_bit+then-x-shape j ↦
@@ -28,19 +25,19 @@ returns-then-x-integer_bit-clause-no c = λ _ i.
 
 pub overflow_sub-x : goal.overflow_sub-x
 overflow_sub-x c =
-    omega (arith, ints, c.requires.lawful, c.requires.normal.operand.least, c.requires.normal.operand.greatest)
+    omega (arith, ints, c.args.shape.parameters, c.requires.operand.least, c.requires.operand.greatest)
 
 pub overflow_sub-result : goal.overflow_sub-result
 overflow_sub-result c =
-    omega (arith, ints, c.requires.lawful, c.requires.normal.operand.least, c.requires.normal.operand.greatest)
+    omega (arith, ints, c.args.shape.parameters, c.requires.operand.least, c.requires.operand.greatest)
 
 pub returns-then-shape-x-clause-yes : goal.returns-then-shape-x-clause-yes
 returns-then-shape-x-clause-yes c = λ h.
     let s = c.args.shape in
-    let w = (normal_near s c.args.x.significand c.args.x.exponent c.requires.lawful c.requires.normal).word in
-    let e = opposite_word s c.args.x.significand c.args.x.exponent c.requires.lawful c.requires.normal in
-    let low = min_exp_word s c.requires.lawful in
-    let high = max_exp_word s c.requires.lawful in
+    let w = (normal_near s c.args.x.significand c.args.x.exponent c.requires).word in
+    let e = opposite_word s c.args.x.significand c.args.x.exponent c.requires in
+    let low = min_exp_word s in
+    let high = max_exp_word s in
     let b = c.integer_bit.ensures in
     let p = c.if-x-integer_bit.false in
     let n = rw (w, low) at c.if-x-shape.false in
@@ -56,9 +53,9 @@ returns-then-shape-x-clause-yes c = λ h.
 pub returns-then-shape-x-clause-no : goal.returns-then-shape-x-clause-no
 returns-then-shape-x-clause-no c = λ h i.
     let s = c.args.shape in
-    let w = (normal_near s c.args.x.significand c.args.x.exponent c.requires.lawful c.requires.normal).word in
-    let e = opposite_word s c.args.x.significand c.args.x.exponent c.requires.lawful c.requires.normal in
-    let high = max_exp_word s c.requires.lawful in
+    let w = (normal_near s c.args.x.significand c.args.x.exponent c.requires).word in
+    let e = opposite_word s c.args.x.significand c.args.x.exponent c.requires in
+    let high = max_exp_word s in
     let f = rw (w, e, high) at h in
     subst T f i.inverse_within.le
 
@@ -68,8 +65,8 @@ returns-else-shape-x-clause-yes c = λ h. absurd (false≢true (sym c.if-shape-x
 pub returns-else-shape-x-clause-no : goal.returns-else-shape-x-clause-no
 returns-else-shape-x-clause-no c = λ _ i.
     let s = c.args.shape in
-    let w = (normal_near s c.args.x.significand c.args.x.exponent c.requires.lawful c.requires.normal).word in
-    let e = opposite_word s c.args.x.significand c.args.x.exponent c.requires.lawful c.requires.normal in
-    let low = min_exp_word s c.requires.lawful in
+    let w = (normal_near s c.args.x.significand c.args.x.exponent c.requires).word in
+    let e = opposite_word s c.args.x.significand c.args.x.exponent c.requires in
+    let low = min_exp_word s in
     let f = rw (w, e, low) at c.if-shape-x.false in
     subst T f i.inverse_normal.le

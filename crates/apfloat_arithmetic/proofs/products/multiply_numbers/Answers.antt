@@ -20,25 +20,19 @@ full_product-requires-clause-right_short c =
     let l : 2 ^ c.args.shape.precision ≤ 2 ^ 64 = pow-le-pow_right two_pos c.requires.short in
     omega (arith, l, c.requires.right.operand.fits)
 
-pub product_exponent-requires-clause-lawful : goal.product_exponent-requires-clause-lawful
-product_exponent-requires-clause-lawful c = c.requires.lawful
-
 pub product_exponent-requires-clause-left : goal.product_exponent-requires-clause-left
 product_exponent-requires-clause-left c =
     record {
-      low = omega (arith, ints, c.requires.lawful, c.requires.left.operand);
-      high = omega (arith, ints, c.requires.lawful, c.requires.left.operand);
+      low = omega (arith, ints, c.args.shape.parameters, c.requires.left.operand);
+      high = omega (arith, ints, c.args.shape.parameters, c.requires.left.operand);
     }
 
 pub product_exponent-requires-clause-right : goal.product_exponent-requires-clause-right
 product_exponent-requires-clause-right c =
     record {
-      low = omega (arith, ints, c.requires.lawful, c.requires.right.operand);
-      high = omega (arith, ints, c.requires.lawful, c.requires.right.operand);
+      low = omega (arith, ints, c.args.shape.parameters, c.requires.right.operand);
+      high = omega (arith, ints, c.args.shape.parameters, c.requires.right.operand);
     }
-
-pub deliver-requires-clause-lawful : goal.deliver-requires-clause-lawful
-deliver-requires-clause-lawful c = c.requires.lawful
 
 pub deliver-requires-clause-within : goal.deliver-requires-clause-within
 deliver-requires-clause-within c =
@@ -56,8 +50,8 @@ returns-clause-stored c = c.deliver.ensures.stored
 pub returns-clause-delivered : goal.returns-clause-delivered
 returns-clause-delivered c =
     let s = c.args.shape in
-    let x = normal_near s c.args.x.significand c.args.x.exponent c.requires.lawful c.requires.left in
-    let y = normal_near s c.args.y.significand c.args.y.exponent c.requires.lawful c.requires.right in
+    let x = normal_near s c.args.x.significand c.args.x.exponent c.requires.left in
+    let y = normal_near s c.args.y.significand c.args.y.exponent c.requires.right in
     let v = rw (x.word, y.word) at c.product_exponent.ensures.value in
     let w : to_z w32 (of_z w32 c.product_exponent.result) ≡ c.product_exponent.result =
     to_z-of_z w32 c.product_exponent.result (record { sfits = c.product_exponent.type_inv }) in
@@ -65,7 +59,7 @@ returns-clause-delivered c =
     let d = g (quanta_at s.min_exp c.args.x.significand c.args.x.exponent * quanta_at s.min_exp c.args.y.significand
     c.args.y.exponent) (2 ^ (format_at s).scale) (pow_pos (format_at s).scale)
     (product_is s c.args.x.exponent c.args.y.exponent c.product_exponent.result c.args.x.significand
-    c.args.y.significand c.full_product.result c.requires.lawful c.requires.left c.requires.right
+    c.args.y.significand c.full_product.result c.requires.left c.requires.right
     c.full_product.ensures v) in
     subst (λ (b : Bool). IsDelivered (format_at s) c.args.round b
     (quanta_at s.min_exp c.args.x.significand c.args.x.exponent * quanta_at s.min_exp c.args.y.significand

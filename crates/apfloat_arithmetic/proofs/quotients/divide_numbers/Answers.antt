@@ -10,30 +10,27 @@ use Rattle.apfloat_arithmetic.proofs.ProductExponents.{normal_near, normal_some,
 use Rattle.apfloat_arithmetic.proofs.quotients.divide_numbers.Goals as goal
 
 pub overflow_add-places : goal.overflow_add-places
-overflow_add-places c = omega (arith, c.requires.lawful.precision_high)
+overflow_add-places c = omega (arith, c.args.shape.parameters.precision_high)
 
 pub quotient_of-quotient-requires-clause-some : goal.quotient_of-quotient-requires-clause-some
-quotient_of-quotient-requires-clause-some c = let l = c.requires.lawful.precision_low in omega arith
+quotient_of-quotient-requires-clause-some c = let l = c.args.shape.parameters.precision_low in omega arith
 
 pub quotient_exponent-requires-clause-left : goal.quotient_exponent-requires-clause-left
 quotient_exponent-requires-clause-left c =
     record {
-      low = omega (arith, ints, c.requires.lawful, c.requires.left.operand);
-      high = omega (arith, ints, c.requires.lawful, c.requires.left.operand);
+      low = omega (arith, ints, c.args.shape.parameters, c.requires.left.operand);
+      high = omega (arith, ints, c.args.shape.parameters, c.requires.left.operand);
     }
 
 pub quotient_exponent-requires-clause-right : goal.quotient_exponent-requires-clause-right
 quotient_exponent-requires-clause-right c =
     record {
-      low = omega (arith, ints, c.requires.lawful, c.requires.right.operand);
-      high = omega (arith, ints, c.requires.lawful, c.requires.right.operand);
+      low = omega (arith, ints, c.args.shape.parameters, c.requires.right.operand);
+      high = omega (arith, ints, c.args.shape.parameters, c.requires.right.operand);
     }
 
 pub quotient_exponent-requires-clause-short : goal.quotient_exponent-requires-clause-short
-quotient_exponent-requires-clause-short c = omega (arith, c.requires.lawful.precision_high)
-
-pub deliver-requires-clause-lawful : goal.deliver-requires-clause-lawful
-deliver-requires-clause-lawful c = c.requires.lawful
+quotient_exponent-requires-clause-short c = omega (arith, c.args.shape.parameters.precision_high)
 
 pub deliver-requires-clause-within : goal.deliver-requires-clause-within
 deliver-requires-clause-within c =
@@ -45,7 +42,7 @@ deliver-requires-clause-within c =
 pub deliver-requires-clause-fine : goal.deliver-requires-clause-fine
 deliver-requires-clause-fine c =
     let s = c.args.shape in
-    let t = c.requires.lawful.precision_low in
+    let t = c.args.shape.parameters.precision_low in
     inr (inr (quotient_full c.quotient_of-quotient.result.whole c.args.x.significand c.args.y.significand
     s.precision (s.precision + 1)
     (normal_some s c.args.y.significand c.args.y.exponent c.requires.right) c.requires.left.operand.full
@@ -57,8 +54,8 @@ returns-clause-stored c = c.deliver.ensures.stored
 pub returns-clause-delivered : goal.returns-clause-delivered
 returns-clause-delivered c =
     let s = c.args.shape in
-    let x = normal_near s c.args.x.significand c.args.x.exponent c.requires.lawful c.requires.left in
-    let y = normal_near s c.args.y.significand c.args.y.exponent c.requires.lawful c.requires.right in
+    let x = normal_near s c.args.x.significand c.args.x.exponent c.requires.left in
+    let y = normal_near s c.args.y.significand c.args.y.exponent c.requires.right in
     let v = rw (x.word, y.word) at c.quotient_exponent.ensures.value in
     let w : to_z w32 (of_z w32 c.quotient_exponent.result) ≡ c.quotient_exponent.result =
     to_z-of_z w32 c.quotient_exponent.result (record { sfits = c.quotient_exponent.type_inv }) in
@@ -68,7 +65,7 @@ returns-clause-delivered c =
     (quanta_some s c.args.y.significand c.args.y.exponent c.requires.right)
     (quotient_is s c.args.x.exponent c.args.y.exponent c.quotient_exponent.result (s.precision + 1)
     c.quotient_of-quotient.result.whole c.quotient_of-quotient.result.loss c.args.x.significand
-    c.args.y.significand c.requires.lawful c.requires.left c.requires.right v
+    c.args.y.significand c.requires.left c.requires.right v
     c.quotient_of-quotient.ensures.stands) in
     subst (λ (b : Bool). IsDelivered (format_at s) c.args.round b
     (quanta_at s.min_exp c.args.x.significand c.args.x.exponent * 2 ^ (format_at s).scale)

@@ -3,23 +3,23 @@ use Rattle.std.proofs.lemmas.Int.{ints}
 use Rattle.apfloat_arithmetic.proofs.remainders.point_of.Goals as goal
 
 pub overflow_sub-result : goal.overflow_sub-result
-overflow_sub-result c = omega (arith, ints, c.requires.lawful, c.requires.operand.least, c.requires.operand.greatest)
+overflow_sub-result c = omega (arith, ints, c.args.shape.parameters, c.requires.least, c.requires.greatest)
 
 pub overflow_sub-result-2 : goal.overflow_sub-result-2
-overflow_sub-result-2 c = omega (arith, c.requires.lawful.precision_low)
+overflow_sub-result-2 c = omega (arith, c.args.shape.parameters.precision_low)
 
 pub overflow_cast-result : goal.overflow_cast-result
-overflow_cast-result c = omega (arith, ints, c.requires.lawful.precision_high)
+overflow_cast-result c = omega (arith, ints, c.args.shape.parameters.precision_high)
 
 pub overflow_add-result : goal.overflow_add-result
-overflow_add-result c = omega (arith, ints, c.requires.lawful, c.requires.operand.least, c.requires.operand.greatest)
+overflow_add-result c = omega (arith, ints, c.args.shape.parameters, c.requires.least, c.requires.greatest)
 
 pub overflow_cast-result-2 : goal.overflow_cast-result-2
 overflow_cast-result-2 c =
-    omega (arith, ints, c.requires.lawful, c.requires.operand.least, c.requires.operand.greatest)
+    omega (arith, ints, c.args.shape.parameters, c.requires.least, c.requires.greatest)
 
 pub returns-clause-place : goal.returns-clause-place
-returns-clause-place c = omega (arith, ints, c.requires.lawful, c.requires.operand.least, c.requires.operand.greatest)
+returns-clause-place c = omega (arith, ints, c.args.shape.parameters, c.requires.least, c.requires.greatest)
 
 pub returns-clause-near : goal.returns-clause-near
-returns-clause-near c = omega (arith, ints, c.requires.lawful, c.requires.operand.least, c.requires.operand.greatest)
+returns-clause-near c = omega (arith, ints, c.args.shape.parameters, c.requires.least, c.requires.greatest)

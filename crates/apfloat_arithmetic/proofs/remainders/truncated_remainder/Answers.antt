@@ -8,9 +8,6 @@ use Rattle.apfloat_arithmetic.proofs.StepBounds.{few_steps}
 use Rattle.apfloat_arithmetic.proofs.SpecialRemainders.{of_numbers, ones_of_numbers, no_ones}
 use Rattle.apfloat_arithmetic.proofs.remainders.truncated_remainder.Goals as goal
 
-pub truncated_number-requires-clause-lawful : goal.truncated_number-requires-clause-lawful
-truncated_number-requires-clause-lawful c = c.requires.lawful
-
 pub truncated_number-requires-clause-x : goal.truncated_number-requires-clause-x
 truncated_number-requires-clause-x c =
     subst (λ (k : Category). IsStoredBy k c.args.shape c.args.x) (c.are_normal.ensures.yes c.if-are_normal.true).0

@@ -9,48 +9,39 @@ use Rattle.apfloat_unpacked.specs.Stored.{quanta_at, datum_at}
 use Rattle.apfloat_arithmetic.proofs.Additions.{IsRepresented, read_negative, sum_read, scale_is, roomy, sum_full, fine_if}
 use Rattle.apfloat_arithmetic.proofs.sums.add_numbers.Goals as goal
 
-pub term_of-requires-clause-lawful : goal.term_of-requires-clause-lawful
-term_of-requires-clause-lawful c = c.requires.lawful
+pub term_of-requires : goal.term_of-requires
+term_of-requires c = c.requires.x_normal
 
-pub term_of-requires-clause-normal : goal.term_of-requires-clause-normal
-term_of-requires-clause-normal c = c.requires.x_normal
-
-pub term_of-requires-2-clause-lawful : goal.term_of-requires-2-clause-lawful
-term_of-requires-2-clause-lawful c = c.requires.lawful
-
-pub term_of-requires-2-clause-normal : goal.term_of-requires-2-clause-normal
-term_of-requires-2-clause-normal c = c.requires.y_normal
+pub term_of-requires-2 : goal.term_of-requires-2
+term_of-requires-2 c = c.requires.y_normal
 
 pub add_terms-total-requires-clause-x : goal.add_terms-total-requires-clause-x
 add_terms-total-requires-clause-x c =
     record {
-      low = omega (arith, ints, c.requires.lawful, c.term_of.ensures.exponent, c.requires.x_normal.operand);
-      high = omega (arith, ints, c.requires.lawful, c.term_of.ensures.exponent, c.requires.x_normal.operand);
+      low = omega (arith, ints, c.args.shape.parameters, c.term_of.ensures.exponent, c.requires.x_normal.operand);
+      high = omega (arith, ints, c.args.shape.parameters, c.term_of.ensures.exponent, c.requires.x_normal.operand);
     }
 
 pub add_terms-total-requires-clause-y : goal.add_terms-total-requires-clause-y
 add_terms-total-requires-clause-y c =
     record {
-      low = omega (arith, ints, c.requires.lawful, c.term_of-2.ensures.exponent, c.requires.y_normal.operand);
-      high = omega (arith, ints, c.requires.lawful, c.term_of-2.ensures.exponent, c.requires.y_normal.operand);
+      low = omega (arith, ints, c.args.shape.parameters, c.term_of-2.ensures.exponent, c.requires.y_normal.operand);
+      high = omega (arith, ints, c.args.shape.parameters, c.term_of-2.ensures.exponent, c.requires.y_normal.operand);
     }
 
 pub add_terms-total-requires-clause-x_room : goal.add_terms-total-requires-clause-x_room
 add_terms-total-requires-clause-x_room c =
-    roomy c.args.shape.precision c.args.x.significand c.term_of.result.significand c.requires.lawful.precision_high
+    roomy c.args.shape.precision c.args.x.significand c.term_of.result.significand c.args.shape.parameters.precision_high
     c.term_of.ensures.significand c.requires.x_normal.operand.fits
 
 pub add_terms-total-requires-clause-y_room : goal.add_terms-total-requires-clause-y_room
 add_terms-total-requires-clause-y_room c =
     roomy c.args.shape.precision c.args.y.significand c.term_of-2.result.significand
-    c.requires.lawful.precision_high c.term_of-2.ensures.significand c.requires.y_normal.operand.fits
-
-pub deliver-requires-clause-lawful : goal.deliver-requires-clause-lawful
-deliver-requires-clause-lawful c = c.requires.lawful
+    c.args.shape.parameters.precision_high c.term_of-2.ensures.significand c.requires.y_normal.operand.fits
 
 pub deliver-requires-clause-within : goal.deliver-requires-clause-within
 deliver-requires-clause-within c =
-    let l = c.requires.lawful in
+    let l = c.args.shape.parameters in
     let x = c.term_of.ensures.exponent in
     let y = c.term_of-2.ensures.exponent in
     let m = c.requires.x_normal.operand in
@@ -67,7 +58,7 @@ deliver-requires-clause-fine c =
     fine_if c.add_terms-total.result.loss _ (2 ^ (c.args.shape.precision - 1) ≤ c.add_terms-total.result.significand)
     (sum_full c.args.shape.precision c.args.x.significand c.args.y.significand c.term_of.result.significand
     c.term_of-2.result.significand c.add_terms-total.result.significand c.add_terms-total.result.loss
-    c.requires.lawful.precision_low c.term_of.ensures.significand c.term_of-2.ensures.significand
+    c.args.shape.parameters.precision_low c.term_of.ensures.significand c.term_of-2.ensures.significand
     c.requires.x_normal.operand.full c.requires.x_normal.operand.fits c.requires.y_normal.operand.full
     c.requires.y_normal.operand.fits c.add_terms-total.ensures.full)
 
@@ -85,7 +76,7 @@ returns-clause-delivered c =
     omega (
       arith,
       ints,
-      c.requires.lawful,
+      c.args.shape.parameters,
       c.add_terms-total.ensures.near,
       c.add_terms-total.ensures.far,
       c.term_of.ensures.exponent,
@@ -111,8 +102,8 @@ returns-clause-delivered c =
     m n c.add_terms-total.result.significand c.add_terms-total.result.loss
     c.requires.x_normal.operand.least c.requires.y_normal.operand.least c.term_of.ensures.exponent
     c.term_of-2.ensures.exponent
-    (scale_is c.args.shape.precision c.args.shape.min_exp c.requires.lawful.precision_low
-    c.requires.lawful.min_exp_high) refl c.requires.x_normal.whole c.requires.y_normal.whole g in
+    (scale_is c.args.shape.precision c.args.shape.min_exp c.args.shape.parameters.precision_low
+    c.args.shape.parameters.min_exp_high) refl c.requires.x_normal.whole c.requires.y_normal.whole g in
     let z = rw c.sign_of_zero-of_zero.ensures at c.sign_of_total-negative.ensures.zero in
     let e : c.sign_of_total-negative.result ≡ sign_of of_zero exact =
     read_negative of_zero exact unit c.add_terms-total.result.negative c.sign_of_total-negative.result

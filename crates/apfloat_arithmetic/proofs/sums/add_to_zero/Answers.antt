@@ -16,7 +16,7 @@ returns-in-Normal-clause-delivered c =
     let y = c.args.y in
     let s = c.args.shape in
     let n = quanta_at s.min_exp y.significand y.exponent in
-    let h = number_stored s y c.in-Normal.is c.requires.y_stored in
+    let h = number_stored s y c.in-Normal.is c.requires in
     same_sum (format_at s) c.args.round (finite b 0) (datum_at s y) (datum_at s c.and-in-Normal.result.value)
     (finite b 0) (finite y.negative n) (finite y.negative n) (bits_of c.and-in-Normal.result.status) ok_bits
     refl (datum_is Normal s y c.in-Normal.is)

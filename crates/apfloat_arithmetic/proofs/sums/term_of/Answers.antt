@@ -2,14 +2,11 @@ use Rattle.std.proofs.Common.{arith}
 use Rattle.std.proofs.lemmas.Int.{ints}
 use Rattle.apfloat_arithmetic.proofs.sums.term_of.Goals as goal
 
-pub last_exponent-requires-clause-lawful : goal.last_exponent-requires-clause-lawful
-last_exponent-requires-clause-lawful c = c.requires.lawful
-
-pub last_exponent-requires-clause-within : goal.last_exponent-requires-clause-within
-last_exponent-requires-clause-within c =
+pub last_exponent-requires : goal.last_exponent-requires
+last_exponent-requires c =
     record {
-      low = omega (arith, ints, c.requires.lawful, c.requires.normal.operand);
-      high = omega (arith, ints, c.requires.lawful, c.requires.normal.operand);
+      low = omega (arith, ints, c.args.shape.parameters, c.requires.operand);
+      high = omega (arith, ints, c.args.shape.parameters, c.requires.operand);
     }
 
 pub returns-clause-exponent : goal.returns-clause-exponent
@@ -17,8 +14,8 @@ returns-clause-exponent c =
     omega (
       arith,
       ints,
-      c.requires.lawful,
-      c.requires.normal.operand.least,
-      c.requires.normal.operand.greatest,
+      c.args.shape.parameters,
+      c.requires.operand.least,
+      c.requires.operand.greatest,
       c.last_exponent.ensures.value,
     )

@@ -6,12 +6,12 @@ use Rattle.apfloat_conversions.proofs.between_formats.convert.Goals as goal
 
 pub returns-in-Normal-clause-converted : goal.returns-in-Normal-clause-converted
 returns-in-Normal-clause-converted c =
-    of_number c.args.from c.args.into c.args.round c.args.x.category c.args.x _ _ _ c.in-Normal.is c.requires.x
+    of_number c.args.from c.args.into c.args.round c.args.x.category c.args.x _ _ _ c.in-Normal.is c.requires
     c.converted_number.ensures.converted
 
 pub returns-in-Normal-clause-exact : goal.returns-in-Normal-clause-exact
 returns-in-Normal-clause-exact c =
     let h = of_number c.args.from c.args.into c.args.round c.args.x.category c.args.x _ _ _ c.in-Normal.is
-    c.requires.x c.converted_number.ensures.converted in
+    c.requires c.converted_number.ensures.converted in
     exactly_converted (format_at c.args.from) (format_at c.args.into) c.args.round (datum_at c.args.from c.args.x) _
     _ _ h

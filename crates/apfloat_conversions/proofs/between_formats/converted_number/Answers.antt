@@ -13,18 +13,12 @@ use Rattle.apfloat_unpacked.proofs.StoredMembers.{member_is}
 use Rattle.apfloat_conversions.proofs.HeldNumbers.{same_converted}
 use Rattle.apfloat_conversions.proofs.between_formats.converted_number.Goals as goal
 
-pub last_exponent-requires-clause-lawful : goal.last_exponent-requires-clause-lawful
-last_exponent-requires-clause-lawful c = c.requires.from
-
-pub last_exponent-requires-clause-within : goal.last_exponent-requires-clause-within
-last_exponent-requires-clause-within c =
+pub last_exponent-requires : goal.last_exponent-requires
+last_exponent-requires c =
     record {
-      low = omega (arith, ints, c.requires.from, c.requires.x.operand);
-      high = omega (arith, ints, c.requires.from, c.requires.x.operand);
+      low = omega (arith, ints, c.args.from.parameters, c.requires.operand);
+      high = omega (arith, ints, c.args.from.parameters, c.requires.operand);
     }
-
-pub deliver-answer-requires-clause-lawful : goal.deliver-answer-requires-clause-lawful
-deliver-answer-requires-clause-lawful c = c.requires.into
 
 pub deliver-answer-requires-clause-within : goal.deliver-answer-requires-clause-within
 deliver-answer-requires-clause-within c =
@@ -43,17 +37,17 @@ pub returns-clause-converted : goal.returns-clause-converted
 returns-clause-converted c =
     let s = c.args.from in
     let t = c.args.into in
-    let ex = exponent_word s c.args.x.significand c.args.x.exponent c.requires.from c.requires.x in
+    let ex = exponent_word s c.args.x.significand c.args.x.exponent c.requires in
     let v = rw ex at c.last_exponent.ensures.value in
     let w = to_z-of_z w32 c.last_exponent.result (record { sfits = c.last_exponent.type_inv }) in
     let g = rw w at c.deliver-answer.ensures.delivered in
-    let k = scale_is s c.requires.from in
-    let k' = scale_is t c.requires.into in
+    let k = scale_is s in
+    let k' = scale_is t in
     let a : ℕ = quanta_at s.min_exp c.args.x.significand c.args.x.exponent in
     record {
       is_delivered = g (a * 2 ^ (format_at t).scale) (2 ^ (format_at s).scale) (pow_pos (format_at s).scale)
           (converted_is (s.precision - 1) (format_at s).scale (t.precision - 1) (format_at t).scale s.min_exp
-          t.min_exp c.args.x.exponent c.last_exponent.result c.args.x.significand a k k' v c.requires.x.whole);
+          t.min_exp c.args.x.exponent c.last_exponent.result c.args.x.significand a k k' v c.requires.whole);
       loses_is = c.ne.ensures;
     }
 
@@ -66,5 +60,5 @@ returns-then-has-clause-converted c =
     (member_is t c.widened.result c.widened.ensures.stored) in
     same_converted (format_at s) (format_at t) c.args.round c.args.x.negative
     (quanta_at s.min_exp c.args.x.significand c.args.x.exponent) _ _ _
-    (quanta_some s c.args.x.significand c.args.x.exponent c.requires.x) c.widened.ensures.same v m
+    (quanta_some s c.args.x.significand c.args.x.exponent c.requires) c.widened.ensures.same v m
     (ap bits_of c.and.ensures.status)

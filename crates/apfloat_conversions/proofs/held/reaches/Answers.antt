@@ -8,11 +8,11 @@ pub returns-then-from-into : goal.returns-then-from-into
 returns-then-from-into c = λ h.
     let s = c.args.from in
     let t = c.args.into in
-    let w = rw (held_shift s.precision t.precision c.greatest_significand.result c.requires.precise
-    c.requires.into.precision_high c.greatest_significand.ensures.fits) at h in
+    let w = rw (held_shift s.precision t.precision c.greatest_significand.result c.requires
+    c.args.into.parameters.precision_high c.greatest_significand.ensures.fits) at h in
     inr (record {
-      exponents = sym (max_exp_word s c.requires.from) ∙ ap (to_z w32) c.if-from-into.true ∙
-          max_exp_word t c.requires.into;
+      exponents = sym (max_exp_word s) ∙ ap (to_z w32) c.if-from-into.true ∙
+          max_exp_word t;
       significands =
           rw (← c.greatest_significand.ensures.value, ← c.greatest_significand-then-from-into.ensures.value)
           (leb-true _ _ w);

@@ -9,11 +9,11 @@ returns-clause-stored c =
     let m = c.args.x.significand in
     let e = c.args.x.exponent in
     rw (
-      held_shift s.precision t.precision m (precise_there s t e c.requires.held) c.requires.into.precision_high
+      held_shift s.precision t.precision m (precise_there s t e c.requires.held) c.args.into.parameters.precision_high
           c.requires.x.operand.fits,
-      exponent_word s m e c.requires.from c.requires.x,
+      exponent_word s m e c.requires.x,
     )
-    (normal_there s t m e c.requires.from c.requires.into c.requires.held c.requires.x)
+    (normal_there s t m e c.requires.held c.requires.x)
 
 pub returns-clause-same : goal.returns-clause-same
 returns-clause-same c =
@@ -23,8 +23,8 @@ returns-clause-same c =
     let e = c.args.x.exponent in
     let p = precise_there s t e c.requires.held in
     rw (
-      held_shift s.precision t.precision m p c.requires.into.precision_high c.requires.x.operand.fits,
-      exponent_word s m e c.requires.from c.requires.x,
+      held_shift s.precision t.precision m p c.args.into.parameters.precision_high c.requires.x.operand.fits,
+      exponent_word s m e c.requires.x,
     )
-    (same_there s t m e c.requires.from c.requires.into p c.requires.x
-    (normal_there s t m e c.requires.from c.requires.into c.requires.held c.requires.x))
+    (same_there s t m e p c.requires.x
+    (normal_there s t m e c.requires.held c.requires.x))

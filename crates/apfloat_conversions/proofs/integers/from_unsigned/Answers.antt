@@ -3,9 +3,6 @@ use Rattle.std.proofs.lemmas.Int.{ints}
 use Rattle.apfloat_unpacked.specs.Shapes.{format_at}
 use Rattle.apfloat_conversions.proofs.integers.from_unsigned.Goals as goal
 
-pub deliver-requires-clause-lawful : goal.deliver-requires-clause-lawful
-deliver-requires-clause-lawful c = c.requires
-
 pub deliver-requires-clause-within : goal.deliver-requires-clause-within
 deliver-requires-clause-within c =
     record { low = omega (arith, ints); high = omega (arith, ints) }

@@ -14,11 +14,8 @@ limit_of-limit-requires-clause-low c = c.requires.low
 pub limit_of-limit-requires-clause-high : goal.limit_of-limit-requires-clause-high
 limit_of-limit-requires-clause-high c = c.requires.high
 
-pub whole_of-requires-clause-lawful : goal.whole_of-requires-clause-lawful
-whole_of-requires-clause-lawful c = c.requires.lawful
-
-pub whole_of-requires-clause-normal : goal.whole_of-requires-clause-normal
-whole_of-requires-clause-normal c = c.requires.normal
+pub whole_of-requires : goal.whole_of-requires
+whole_of-requires c = c.requires.normal
 
 pub returns-in-None-clause-whole : goal.returns-in-None-clause-whole
 returns-in-None-clause-whole c =

@@ -1,8 +1,5 @@
 use Rattle.apfloat_conversions.proofs.integers.to_unsigned.Goals as goal
 
-pub number_to_unsigned-requires-clause-lawful : goal.number_to_unsigned-requires-clause-lawful
-number_to_unsigned-requires-clause-lawful c = c.requires.lawful
-
 pub number_to_unsigned-requires-clause-normal : goal.number_to_unsigned-requires-clause-normal
 number_to_unsigned-requires-clause-normal c = rw c.in-Normal.is at c.requires.stored
 

@@ -9,14 +9,11 @@ use Rattle.apfloat_conversions.proofs.StoredExponents.{whole_places}
 use Rattle.apfloat_conversions.proofs.Wholes.{whole_toward_zero, whole_multiple}
 use Rattle.apfloat_conversions.proofs.integral.is_whole_number.Goals as goal
 
-pub last_exponent-exponent-requires-clause-lawful : goal.last_exponent-exponent-requires-clause-lawful
-last_exponent-exponent-requires-clause-lawful c = c.requires.lawful
-
-pub last_exponent-exponent-requires-clause-within : goal.last_exponent-exponent-requires-clause-within
-last_exponent-exponent-requires-clause-within c =
+pub last_exponent-exponent-requires : goal.last_exponent-exponent-requires
+last_exponent-exponent-requires c =
     record {
-      low = omega (arith, ints, c.requires.lawful, c.requires.normal.operand);
-      high = omega (arith, ints, c.requires.lawful, c.requires.normal.operand);
+      low = omega (arith, ints, c.args.shape.parameters, c.requires.operand);
+      high = omega (arith, ints, c.args.shape.parameters, c.requires.operand);
     }
 
 pub returns-then-exponent-ge0 : goal.returns-then-exponent-ge0
@@ -24,25 +21,22 @@ returns-then-exponent-ge0 c =
     let s = c.args.shape in
     let m = c.args.x.significand in
     let x = c.args.x.exponent in
-    let n = c.requires.normal in
+    let n = c.requires in
     let a = quanta_at s.min_exp m x in
     let r = c.last_exponent-exponent.result in
     let w : to_z w32 (of_z w32 c.last_exponent-exponent.result) ≡ c.last_exponent-exponent.result =
     to_z-of_z w32 c.last_exponent-exponent.result (record { sfits = c.last_exponent-exponent.type_inv }) in
     let g = c.if-exponent-ge0.true in
-    let e = whole_places s m x r c.requires.lawful n c.last_exponent-exponent.ensures.value
+    let e = whole_places s m x r n c.last_exponent-exponent.ensures.value
     (omega (arith, ints, g, w)) in
     whole_multiple (m * 2 ^ up r) a (2 ^ (format_at s).scale) e
 
-pub round_at_dot-requires-clause-lawful : goal.round_at_dot-requires-clause-lawful
-round_at_dot-requires-clause-lawful c = c.requires.lawful
-
 pub round_at_dot-requires-clause-normal : goal.round_at_dot-requires-clause-normal
-round_at_dot-requires-clause-normal c = c.requires.normal
+round_at_dot-requires-clause-normal c = c.requires
 
 pub round_at_dot-requires-clause-last : goal.round_at_dot-requires-clause-last
 round_at_dot-requires-clause-last c =
-    let e = exponent_word c.args.shape c.args.x.significand c.args.x.exponent c.requires.lawful c.requires.normal in
+    let e = exponent_word c.args.shape c.args.x.significand c.args.x.exponent c.requires in
     rw (to_z-of_z w32 c.last_exponent-exponent.result (record { sfits = c.last_exponent-exponent.type_inv }))
     (rw e at c.last_exponent-exponent.ensures.value)
 

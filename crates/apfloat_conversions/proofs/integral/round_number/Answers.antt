@@ -12,27 +12,18 @@ use Rattle.apfloat_conversions.proofs.StoredExponents.{whole_places, scale_in_sp
 use Rattle.apfloat_conversions.proofs.Wholes.{integral_picked, integral_stays}
 use Rattle.apfloat_conversions.proofs.integral.round_number.Goals as goal
 
-pub last_exponent-exponent-requires-clause-lawful : goal.last_exponent-exponent-requires-clause-lawful
-last_exponent-exponent-requires-clause-lawful c = c.requires.lawful
-
-pub last_exponent-exponent-requires-clause-within : goal.last_exponent-exponent-requires-clause-within
-last_exponent-exponent-requires-clause-within c =
+pub last_exponent-exponent-requires : goal.last_exponent-exponent-requires
+last_exponent-exponent-requires c =
     record {
-      low = omega (arith, ints, c.requires.lawful, c.requires.normal.operand);
-      high = omega (arith, ints, c.requires.lawful, c.requires.normal.operand);
+      low = omega (arith, ints, c.args.shape.parameters, c.requires.normal.operand);
+      high = omega (arith, ints, c.args.shape.parameters, c.requires.normal.operand);
     }
 
 pub returns-then-exponent-ge0-clause-stored : goal.returns-then-exponent-ge0-clause-stored
 returns-then-exponent-ge0-clause-stored c = rw (c.and.ensures.value, c.requires.number) c.requires.normal
 
-pub scale-requires : goal.scale-requires
-scale-requires c = c.requires.lawful
-
-pub from_quanta-requires-clause-lawful : goal.from_quanta-requires-clause-lawful
-from_quanta-requires-clause-lawful c = c.requires.lawful
-
 pub from_quanta-requires-clause-near : goal.from_quanta-requires-clause-near
-from_quanta-requires-clause-near c = omega (arith, ints, c.scale.ensures.value, c.requires.lawful)
+from_quanta-requires-clause-near c = omega (arith, ints, c.scale.ensures.value, c.args.shape.parameters)
 
 pub returns-clause-stored : goal.returns-clause-stored
 returns-clause-stored c = rw c.and-2.ensures.value c.from_quanta.ensures.stored
@@ -48,20 +39,17 @@ returns-then-exponent-ge0-clause-delivered c =
     let w : to_z w32 (of_z w32 c.last_exponent-exponent.result) ≡ c.last_exponent-exponent.result =
     to_z-of_z w32 c.last_exponent-exponent.result (record { sfits = c.last_exponent-exponent.type_inv }) in
     let g = c.if-exponent-ge0.true in
-    let e = whole_places s m x r c.requires.lawful n c.last_exponent-exponent.ensures.value
+    let e = whole_places s m x r n c.last_exponent-exponent.ensures.value
     (omega (arith, ints, g, w)) in
     rw (c.and.ensures.value, c.and.ensures.status, c.requires.number)
     (integral_stays (format_at s) c.args.round c.args.x.negative a (m * 2 ^ up r) (quanta_some s m x n) e)
-
-pub round_at_dot-whole-requires-clause-lawful : goal.round_at_dot-whole-requires-clause-lawful
-round_at_dot-whole-requires-clause-lawful c = c.requires.lawful
 
 pub round_at_dot-whole-requires-clause-normal : goal.round_at_dot-whole-requires-clause-normal
 round_at_dot-whole-requires-clause-normal c = c.requires.normal
 
 pub round_at_dot-whole-requires-clause-last : goal.round_at_dot-whole-requires-clause-last
 round_at_dot-whole-requires-clause-last c =
-    let e = exponent_word c.args.shape c.args.x.significand c.args.x.exponent c.requires.lawful c.requires.normal in
+    let e = exponent_word c.args.shape c.args.x.significand c.args.x.exponent c.requires.normal in
     rw (to_z-of_z w32 c.last_exponent-exponent.result (record { sfits = c.last_exponent-exponent.type_inv }))
     (rw e at c.last_exponent-exponent.ensures.value)
 
@@ -72,7 +60,7 @@ pub from_quanta-requires-clause-fits : goal.from_quanta-requires-clause-fits
 from_quanta-requires-clause-fits c =
     let s = c.args.shape in
     let h = c.round_at_dot-whole.ensures.bound in
-    let three = c.requires.lawful.precision_low in
+    let three = c.args.shape.parameters.precision_low in
     let t : 2 * 2 ^ (s.precision - 1) ≡ 2 ^ s.precision = twice_half s.precision (omega (arith, three)) in
     let p : 0 < 2 ^ (s.precision - 1) = pow_pos (s.precision - 1) in
     omega (arith, h, t, p)
@@ -81,10 +69,10 @@ pub from_quanta-requires-clause-within : goal.from_quanta-requires-clause-within
 from_quanta-requires-clause-within c =
     let s = c.args.shape in
     let h = c.round_at_dot-whole.ensures.bound in
-    let r = scale_in_span s c.requires.lawful in
+    let r = scale_in_span s in
     subst (λ (k : ℕ). c.round_at_dot-whole.result.magnitude * 2 ^ k ≤ largest (format_at s))
     (sym c.scale.ensures.value)
-    (half_within s c.round_at_dot-whole.result.magnitude (format_at s).scale c.requires.lawful h (omega (arith, r)))
+    (half_within s c.round_at_dot-whole.result.magnitude (format_at s).scale h (omega (arith, r)))
 
 pub returns-clause-delivered : goal.returns-clause-delivered
 returns-clause-delivered c =

@@ -5,9 +5,6 @@ use Rattle.apfloat_unpacked.proofs.ShapeExponents.{exponent_word}
 use Rattle.apfloat_conversions.proofs.Steps.{IsAfter, step_fits, after_stays, after_carries, after_stored, after_is}
 use Rattle.apfloat_conversions.proofs.neighbours.next_greater.Goals as goal
 
-pub step-requires-clause-lawful : goal.step-requires-clause-lawful
-step-requires-clause-lawful c = c.requires.lawful
-
 pub step-requires-clause-least : goal.step-requires-clause-least
 step-requires-clause-least c = omega (arith, ints, c.requires.normal.operand.least)
 
@@ -15,20 +12,17 @@ pub step-requires-clause-greatest : goal.step-requires-clause-greatest
 step-requires-clause-greatest c = omega (arith, ints, c.requires.normal.operand.greatest)
 
 pub power_of_two-requires : goal.power_of_two-requires
-power_of_two-requires c = omega (arith, c.requires.lawful.precision_high)
-
-pub integer_bit-requires : goal.integer_bit-requires
-integer_bit-requires c = c.requires.lawful
+power_of_two-requires c = omega (arith, c.args.shape.parameters.precision_high)
 
 pub raised-requires : goal.raised-requires
-raised-requires c = omega (arith, ints, c.requires.lawful.max_exp_high, c.requires.normal.operand.greatest)
+raised-requires c = omega (arith, ints, c.args.shape.parameters.max_exp_high, c.requires.normal.operand.greatest)
 
 pub overflow_add-significand : goal.overflow_add-significand
 overflow_add-significand c =
-    let ex = exponent_word c.args.shape c.args.x.significand c.args.x.exponent c.requires.lawful c.requires.normal in
+    let ex = exponent_word c.args.shape c.args.x.significand c.args.x.exponent c.requires.normal in
     record {
       fits =
-          step_fits c.args.shape c.args.x.significand c.step.result c.args.x.exponent c.requires.lawful
+          step_fits c.args.shape c.args.x.significand c.step.result c.args.x.exponent
           c.requires.normal (rw ex at c.step.ensures);
     }
 
@@ -37,23 +31,23 @@ stays : (state : goal.After-struct_told-then-significand-power_of_two-1)
     (state.args.x.significand + state.step.result) state.args.x.exponent
 stays c =
     let s = c.args.shape in
-    let ex = exponent_word s c.args.x.significand c.args.x.exponent c.requires.lawful c.requires.normal in
+    let ex = exponent_word s c.args.x.significand c.args.x.exponent c.requires.normal in
     let t = c.if-significand-power_of_two.true in
     let e = c.power_of_two.ensures in
-    after_stays s c.args.x.significand c.step.result c.args.x.exponent c.requires.lawful c.requires.normal
+    after_stays s c.args.x.significand c.step.result c.args.x.exponent c.requires.normal
     (rw ex at c.step.ensures) (omega (arith, t, e))
 
 pub returns-then-significand-power_of_two-clause-stored : goal.returns-then-significand-power_of_two-clause-stored
 returns-then-significand-power_of_two-clause-stored c =
     let s = c.args.shape in
-    let ex = exponent_word s c.args.x.significand c.args.x.exponent c.requires.lawful c.requires.normal in
+    let ex = exponent_word s c.args.x.significand c.args.x.exponent c.requires.normal in
     rw ex (after_stored s (quanta_at s.min_exp c.args.x.significand c.args.x.exponent)
-    (c.args.x.significand + c.step.result) c.args.x.exponent c.requires.lawful c.requires.below (stays c))
+    (c.args.x.significand + c.step.result) c.args.x.exponent c.requires.below (stays c))
 
 pub returns-then-significand-power_of_two-clause-next : goal.returns-then-significand-power_of_two-clause-next
 returns-then-significand-power_of_two-clause-next c =
     let s = c.args.shape in
-    let ex = exponent_word s c.args.x.significand c.args.x.exponent c.requires.lawful c.requires.normal in
+    let ex = exponent_word s c.args.x.significand c.args.x.exponent c.requires.normal in
     rw ex (after_is s (quanta_at s.min_exp c.args.x.significand c.args.x.exponent)
     (c.args.x.significand + c.step.result) c.args.x.exponent (stays c))
 
@@ -62,11 +56,11 @@ carries : (state : goal.After-raised)
     state.integer_bit.result state.raised.result
 carries c =
     let s = c.args.shape in
-    let ex = exponent_word s c.args.x.significand c.args.x.exponent c.requires.lawful c.requires.normal in
+    let ex = exponent_word s c.args.x.significand c.args.x.exponent c.requires.normal in
     let f = c.if-significand-power_of_two.false in
     let e = c.power_of_two.ensures in
     after_carries s c.args.x.significand c.step.result c.integer_bit.result c.args.x.exponent c.raised.result
-    c.requires.lawful c.requires.normal c.requires.below (rw ex at c.step.ensures) (omega (arith, f, e))
+    c.requires.normal c.requires.below (rw ex at c.step.ensures) (omega (arith, f, e))
     c.integer_bit.ensures (rw ex at c.raised.ensures)
 
 pub returns-else-significand-power_of_two-clause-stored : goal.returns-else-significand-power_of_two-clause-stored
@@ -75,7 +69,7 @@ returns-else-significand-power_of_two-clause-stored c =
     let er : to_z w32 (of_z w32 c.raised.result) ≡ c.raised.result =
     to_z-of_z w32 c.raised.result (record { sfits = c.raised.type_inv }) in
     rw er (after_stored s (quanta_at s.min_exp c.args.x.significand c.args.x.exponent) c.integer_bit.result
-    c.raised.result c.requires.lawful c.requires.below (carries c))
+    c.raised.result c.requires.below (carries c))
 
 pub returns-else-significand-power_of_two-clause-next : goal.returns-else-significand-power_of_two-clause-next
 returns-else-significand-power_of_two-clause-next c =

@@ -7,20 +7,11 @@ use Rattle.apfloat_conversions.proofs.Nexts.{room_below}
 use Rattle.apfloat_conversions.proofs.Steps.{IsBefore, step_below, before_stays, before_lowers, before_stored, before_is, before_least}
 use Rattle.apfloat_conversions.proofs.neighbours.next_less.Goals as goal
 
-pub integer_bit-requires : goal.integer_bit-requires
-integer_bit-requires c = c.requires.lawful
-
-pub step-requires-clause-lawful : goal.step-requires-clause-lawful
-step-requires-clause-lawful c = c.requires.lawful
-
 pub step-requires-clause-least : goal.step-requires-clause-least
-step-requires-clause-least c = omega (arith, ints, c.requires.normal.operand.least)
+step-requires-clause-least c = omega (arith, ints, c.requires.operand.least)
 
 pub step-requires-clause-greatest : goal.step-requires-clause-greatest
-step-requires-clause-greatest c = omega (arith, ints, c.requires.normal.operand.greatest)
-
-pub least_exponent-requires : goal.least_exponent-requires
-least_exponent-requires c = c.requires.lawful
+step-requires-clause-greatest c = omega (arith, ints, c.requires.operand.greatest)
 
 pub returns-then-x-least_exponent-clause-stored : goal.returns-then-x-least_exponent-clause-stored
 returns-then-x-least_exponent-clause-stored c = c.zero_of.ensures.stored
@@ -30,52 +21,49 @@ lowered-exponent-requires c =
     omega (
       arith,
       ints,
-      c.requires.lawful.min_exp_low,
-      c.requires.lawful.precision_high,
-      c.requires.normal.operand.least,
+      c.args.shape.parameters.min_exp_low,
+      c.args.shape.parameters.precision_high,
+      c.requires.operand.least,
     )
 
 pub power_of_two-requires : goal.power_of_two-requires
-power_of_two-requires c = omega (arith, c.requires.lawful.precision_high)
-
-pub step-requires-2-clause-lawful : goal.step-requires-2-clause-lawful
-step-requires-2-clause-lawful c = c.requires.lawful
+power_of_two-requires c = omega (arith, c.args.shape.parameters.precision_high)
 
 pub step-requires-2-clause-greatest : goal.step-requires-2-clause-greatest
 step-requires-2-clause-greatest c =
-    omega (arith, ints, c.requires.normal.operand.greatest, c.lowered-exponent.ensures)
+    omega (arith, ints, c.requires.operand.greatest, c.lowered-exponent.ensures)
 
 pub overflow_sub-result : goal.overflow_sub-result
 overflow_sub-result c =
     let s = c.args.shape in
-    let ex = exponent_word s c.args.x.significand c.args.x.exponent c.requires.lawful c.requires.normal in
-    step_below s c.args.x.significand c.step.result c.args.x.exponent c.requires.lawful
-    c.requires.normal.operand.least c.requires.normal.operand.full (rw ex at c.step.ensures)
+    let ex = exponent_word s c.args.x.significand c.args.x.exponent c.requires in
+    step_below s c.args.x.significand c.step.result c.args.x.exponent
+    c.requires.operand.least c.requires.operand.full (rw ex at c.step.ensures)
 
 stays : (state : goal.After-struct_told-then-x-integer_bit-1)
     → IsBefore state.args.shape (quanta_at state.args.shape.min_exp state.args.x.significand state.args.x.exponent)
     (state.args.x.significand - state.step.result) state.args.x.exponent
 stays c =
     let s = c.args.shape in
-    let ex = exponent_word s c.args.x.significand c.args.x.exponent c.requires.lawful c.requires.normal in
+    let ex = exponent_word s c.args.x.significand c.args.x.exponent c.requires in
     let t = c.if-x-integer_bit.true in
     let e = c.integer_bit.ensures in
-    before_stays s c.args.x.significand c.step.result c.args.x.exponent c.requires.lawful c.requires.normal
+    before_stays s c.args.x.significand c.step.result c.args.x.exponent c.requires
     (rw ex at c.step.ensures) (omega (arith, t, e))
 
 pub returns-then-x-integer_bit-clause-stored : goal.returns-then-x-integer_bit-clause-stored
 returns-then-x-integer_bit-clause-stored c =
     let s = c.args.shape in
-    let ex = exponent_word s c.args.x.significand c.args.x.exponent c.requires.lawful c.requires.normal in
+    let ex = exponent_word s c.args.x.significand c.args.x.exponent c.requires in
     rw ex (before_stored s (quanta_at s.min_exp c.args.x.significand c.args.x.exponent)
-    (c.args.x.significand - c.step.result) c.args.x.exponent c.requires.normal.within (stays c))
+    (c.args.x.significand - c.step.result) c.args.x.exponent c.requires.within (stays c))
 
 pub returns-then-x-integer_bit-clause-next : goal.returns-then-x-integer_bit-clause-next
 returns-then-x-integer_bit-clause-next c =
     let s = c.args.shape in
-    let ex = exponent_word s c.args.x.significand c.args.x.exponent c.requires.lawful c.requires.normal in
+    let ex = exponent_word s c.args.x.significand c.args.x.exponent c.requires in
     rw ex (before_is s (quanta_at s.min_exp c.args.x.significand c.args.x.exponent)
-    (c.args.x.significand - c.step.result) c.args.x.exponent c.requires.normal.within (stays c))
+    (c.args.x.significand - c.step.result) c.args.x.exponent c.requires.within (stays c))
 
 -- a significand that is not above the integer bit is it
 is_half : (m bit half : ℕ) → m ≤ bit → bit ≡ half → half ≤ m → m ≡ half
@@ -84,36 +72,36 @@ is_half m bit half f e g = omega arith
 pub returns-then-x-least_exponent-clause-next : goal.returns-then-x-least_exponent-clause-next
 returns-then-x-least_exponent-clause-next c =
     let s = c.args.shape in
-    let ex = exponent_word s c.args.x.significand c.args.x.exponent c.requires.lawful c.requires.normal in
+    let ex = exponent_word s c.args.x.significand c.args.x.exponent c.requires in
     let el : to_z w32 (of_z w32 c.least_exponent.result) ≡ c.least_exponent.result =
     to_z-of_z w32 c.least_exponent.result (record { sfits = c.least_exponent.type_inv }) in
     let i : c.args.x.exponent ≡ ((s.min_exp +ℤ pos 1) -ℤ pos s.precision) = sym ex ∙
     ap (to_z w32) c.if-x-least_exponent.true ∙ el ∙ c.least_exponent.ensures in
-    rw c.zero_of.ensures.datum (before_least s c.args.x.significand c.args.x.exponent c.requires.lawful
-    c.requires.normal (is_half c.args.x.significand c.integer_bit.result (2 ^ (s.precision - 1))
-    c.if-x-integer_bit.false c.integer_bit.ensures c.requires.normal.operand.full) i)
+    rw c.zero_of.ensures.datum (before_least s c.args.x.significand c.args.x.exponent
+    c.requires (is_half c.args.x.significand c.integer_bit.result (2 ^ (s.precision - 1))
+    c.if-x-integer_bit.false c.integer_bit.ensures c.requires.operand.full) i)
 
 low : (state : goal.After-step-2)
     → ((state.args.shape.min_exp +ℤ pos 1) -ℤ pos state.args.shape.precision) ≤ℤ state.lowered-exponent.result
 low c =
     let s = c.args.shape in
-    let ex = exponent_word s c.args.x.significand c.args.x.exponent c.requires.lawful c.requires.normal in
+    let ex = exponent_word s c.args.x.significand c.args.x.exponent c.requires in
     let r = rw ex at c.lowered-exponent.ensures in
     let f = c.if-x-least_exponent.false in
     let n = c.least_exponent.ensures in
     subst (λ (z : ℤ). ((s.min_exp +ℤ pos 1) -ℤ pos s.precision) ≤ℤ z) (sym r)
-    (room_below ((s.min_exp +ℤ pos 1) -ℤ pos s.precision) c.args.x.exponent c.requires.normal.operand.least
+    (room_below ((s.min_exp +ℤ pos 1) -ℤ pos s.precision) c.args.x.exponent c.requires.operand.least
     (λ e. f (ap (of_z w32) (e ∙ sym n))))
 
 pub overflow_sub-result-2 : goal.overflow_sub-result-2
 overflow_sub-result-2 c =
     let s = c.args.shape in
-    let three = c.requires.lawful.precision_low in
+    let three = c.args.shape.parameters.precision_low in
     let ey : to_z w32 (of_z w32 c.lowered-exponent.result) ≡ c.lowered-exponent.result =
     to_z-of_z w32 c.lowered-exponent.result (record { sfits = c.lowered-exponent.type_inv }) in
     let p = c.power_of_two.ensures in
     let t = twice_half s.precision (omega (arith, three)) in
-    step_below s c.power_of_two.result c.step-2.result c.lowered-exponent.result c.requires.lawful (low c)
+    step_below s c.power_of_two.result c.step-2.result c.lowered-exponent.result (low c)
     (omega (arith, p, t)) (rw ey at c.step-2.ensures)
 
 lowers : (state : goal.After-step-2)
@@ -121,13 +109,13 @@ lowers : (state : goal.After-step-2)
     (state.power_of_two.result - state.step-2.result) state.lowered-exponent.result
 lowers c =
     let s = c.args.shape in
-    let ex = exponent_word s c.args.x.significand c.args.x.exponent c.requires.lawful c.requires.normal in
+    let ex = exponent_word s c.args.x.significand c.args.x.exponent c.requires in
     let ey : to_z w32 (of_z w32 c.lowered-exponent.result) ≡ c.lowered-exponent.result =
     to_z-of_z w32 c.lowered-exponent.result (record { sfits = c.lowered-exponent.type_inv }) in
     before_lowers s c.args.x.significand c.power_of_two.result c.step-2.result c.args.x.exponent
-    c.lowered-exponent.result c.requires.lawful c.requires.normal
+    c.lowered-exponent.result c.requires
     (is_half c.args.x.significand c.integer_bit.result (2 ^ (s.precision - 1)) c.if-x-integer_bit.false
-    c.integer_bit.ensures c.requires.normal.operand.full) c.power_of_two.ensures
+    c.integer_bit.ensures c.requires.operand.full) c.power_of_two.ensures
     (rw ex at c.lowered-exponent.ensures) (low c) (rw ey at c.step-2.ensures)
 
 pub returns-clause-stored : goal.returns-clause-stored
@@ -136,7 +124,7 @@ returns-clause-stored c =
     let ey : to_z w32 (of_z w32 c.lowered-exponent.result) ≡ c.lowered-exponent.result =
     to_z-of_z w32 c.lowered-exponent.result (record { sfits = c.lowered-exponent.type_inv }) in
     rw ey (before_stored s (quanta_at s.min_exp c.args.x.significand c.args.x.exponent)
-    (c.power_of_two.result - c.step-2.result) c.lowered-exponent.result c.requires.normal.within (lowers c))
+    (c.power_of_two.result - c.step-2.result) c.lowered-exponent.result c.requires.within (lowers c))
 
 pub returns-clause-next : goal.returns-clause-next
 returns-clause-next c =
@@ -144,4 +132,4 @@ returns-clause-next c =
     let ey : to_z w32 (of_z w32 c.lowered-exponent.result) ≡ c.lowered-exponent.result =
     to_z-of_z w32 c.lowered-exponent.result (record { sfits = c.lowered-exponent.type_inv }) in
     rw ey (before_is s (quanta_at s.min_exp c.args.x.significand c.args.x.exponent)
-    (c.power_of_two.result - c.step-2.result) c.lowered-exponent.result c.requires.normal.within (lowers c))
+    (c.power_of_two.result - c.step-2.result) c.lowered-exponent.result c.requires.within (lowers c))

@@ -2,23 +2,11 @@ use Rattle.std.proofs.Common.{refl}
 use Rattle.apfloat_conversions.proofs.neighbours.next_up.Goals.{then-x, else-x}
 use Rattle.apfloat_conversions.proofs.neighbours.next_up.Goals as goal
 
-pub next_of_number-requires-clause-lawful : goal.next_of_number-requires-clause-lawful
-next_of_number-requires-clause-lawful c = c.requires.lawful
-
-pub next_of_number-requires-clause-normal : goal.next_of_number-requires-clause-normal
-next_of_number-requires-clause-normal c = rw c.in-Normal.is at c.requires.stored
-
-pub smallest_of-requires : goal.smallest_of-requires
-smallest_of-requires c = c.requires.lawful
-
-pub largest_of-requires : goal.largest_of-requires
-largest_of-requires c = c.requires.lawful
-
-pub next_of_nan-requires-clause-lawful : goal.next_of_nan-requires-clause-lawful
-next_of_nan-requires-clause-lawful c = c.requires.lawful
+pub next_of_number-requires : goal.next_of_number-requires
+next_of_number-requires c = rw c.in-Normal.is at c.requires
 
 pub next_of_nan-requires-clause-stored : goal.next_of_nan-requires-clause-stored
-next_of_nan-requires-clause-stored c = c.requires.stored
+next_of_nan-requires-clause-stored c = c.requires
 
 pub next_of_nan-requires-clause-nan : goal.next_of_nan-requires-clause-nan
 next_of_nan-requires-clause-nan c = c.in-NaN.is

@@ -2,11 +2,10 @@ use Rattle.apfloat_conversions.proofs.ConvertedValues.{nan_fits}
 use Rattle.std.proofs.Common.{refl}
 use Rattle.apfloat_conversions.proofs.payloads.converted_nan.Goals as goal
 
-pub carried_payload-payload-requires-clause-fits :
-    goal.carried_payload-payload-requires-clause-fits
-carried_payload-payload-requires-clause-fits c =
+pub carried_payload-payload-requires : goal.carried_payload-payload-requires
+carried_payload-payload-requires c =
     nan_fits c.args.from.nonfinite c.args.from.explicit_integer_bit c.args.from.precision _
-    c.requires.from.precision_low c.quieted_significand-quieted.ensures.nan
+    c.args.from.parameters.precision_low c.quieted_significand-quieted.ensures.nan
 
 pub returns-clause-converted : goal.returns-clause-converted
 returns-clause-converted c =

@@ -7,7 +7,7 @@ use Rattle.apfloat_conversions.proofs.scaling.fraction_of.Goals as goal
 pub returns-in-Normal-clause-fraction : goal.returns-in-Normal-clause-fraction
 returns-in-Normal-clause-fraction c =
     let s = c.args.shape in
-    let n = rw c.in-Normal.is at c.requires.stored in
+    let n = rw c.in-Normal.is at c.requires in
     let p = quanta_some s c.args.x.significand c.args.x.exponent n in
     let z : eqb (quanta_at s.min_exp c.args.x.significand c.args.x.exponent) 0 ≡ false =
     ne_eqb _ 0 (λ q. omega (arith, p, q)) in

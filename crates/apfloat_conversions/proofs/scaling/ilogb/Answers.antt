@@ -12,10 +12,10 @@ returns-in-Normal c =
     let s = c.args.shape in
     let m = c.args.x.significand in
     let e = c.args.x.exponent in
-    let n = rw c.in-Normal.is at c.requires.stored in
+    let n = rw c.in-Normal.is at c.requires in
     let p = quanta_some s m e n in
     let z : eqb (quanta_at s.min_exp m e) 0 ≡ false = ne_eqb _ 0 (λ q. omega (arith, p, q)) in
-    let w = exponent_word s m e c.requires.lawful n in
+    let w = exponent_word s m e n in
     rw (c.in-Normal.is, z, w)
     (logarithm_is (format_at s) s.precision s.min_exp s.max_exp e m (quanta_at s.min_exp m e)
-    c.requires.lawful.precision_low (scale_is s c.requires.lawful) n.operand n.whole)
+    c.args.shape.parameters.precision_low (scale_is s) n.operand n.whole)

@@ -10,24 +10,23 @@ use Rattle.apfloat_conversions.proofs.scaling.number_fraction.Goals as goal
 
 pub returns-clause-stored : goal.returns-clause-stored
 returns-clause-stored c =
-    fraction_number c.args.shape c.args.x.significand c.args.x.exponent c.requires.lawful c.requires.normal
+    fraction_number c.args.shape c.args.x.significand c.args.x.exponent c.requires
 
 pub returns-clause-fraction : goal.returns-clause-fraction
 returns-clause-fraction c =
     let s = c.args.shape in
     let m = c.args.x.significand in
-    let law = c.requires.lawful in
-    let ex = exponent_word s m c.args.x.exponent law c.requires.normal in
+    let ex = exponent_word s m c.args.x.exponent c.requires in
     let er : to_z w32 (of_z w32 c.raised.result) ≡ c.raised.result =
     to_z-of_z w32 c.raised.result (record { sfits = c.raised.type_inv }) in
     let v = rw ex at c.raised.ensures in
-    let q = fraction_quanta s.min_exp m law.min_exp_high in
-    let b = fraction_size s m c.args.x.exponent law c.requires.normal in
+    let q = fraction_quanta s.min_exp m s.parameters.min_exp_high in
+    let b = fraction_size s m c.args.x.exponent c.requires in
     rw er (record {
       fraction = m * 2 ^ up (negsuc 0 -ℤ s.min_exp);
       low = b.0;
       high = b.1;
       same = fraction_same s.min_exp c.args.x.exponent c.raised.result m (quanta_at s.min_exp m c.args.x.exponent)
-          law.min_exp_high v c.requires.normal.whole;
+          s.parameters.min_exp_high v c.requires.whole;
       is = rw (quanta_is s.min_exp m (negsuc 0) (m * 2 ^ up (negsuc 0 -ℤ s.min_exp)) q) refl;
     })

@@ -9,23 +9,17 @@ use Rattle.apfloat_conversions.proofs.scaling.scale_number.Goals as goal
 pub moved-requires-clause-exponent : goal.moved-requires-clause-exponent
 moved-requires-clause-exponent c =
     record {
-      low = omega (arith, ints, c.requires.lawful, c.requires.normal.operand);
-      high = omega (arith, ints, c.requires.lawful, c.requires.normal.operand);
+      low = omega (arith, ints, c.args.shape.parameters, c.requires.operand);
+      high = omega (arith, ints, c.args.shape.parameters, c.requires.operand);
     }
 
 pub moved-requires-clause-places : goal.moved-requires-clause-places
 moved-requires-clause-places c =
     rw (to_z-of_z w32 c.clamped-near.result (record { sfits = c.clamped-near.type_inv })) c.clamped-near.ensures.within
 
-pub last_exponent-exponent-requires-clause-lawful : goal.last_exponent-exponent-requires-clause-lawful
-last_exponent-exponent-requires-clause-lawful c = c.requires.lawful
-
-pub last_exponent-exponent-requires-clause-within : goal.last_exponent-exponent-requires-clause-within
-last_exponent-exponent-requires-clause-within c =
+pub last_exponent-exponent-requires : goal.last_exponent-exponent-requires
+last_exponent-exponent-requires c =
     rw (to_z-of_z w32 c.moved.result (record { sfits = c.moved.type_inv })) c.moved.ensures.within
-
-pub deliver-requires-clause-lawful : goal.deliver-requires-clause-lawful
-deliver-requires-clause-lawful c = c.requires.lawful
 
 pub deliver-requires-clause-within : goal.deliver-requires-clause-within
 deliver-requires-clause-within c =
@@ -41,7 +35,7 @@ returns-clause-stored c = c.deliver.ensures.stored
 pub returns-clause-delivered : goal.returns-clause-delivered
 returns-clause-delivered c =
     let s = c.args.shape in
-    let ex = exponent_word s c.args.x.significand c.args.x.exponent c.requires.lawful c.requires.normal in
+    let ex = exponent_word s c.args.x.significand c.args.x.exponent c.requires in
     let ej = to_z-of_z w32 c.args.places c.ranges.places in
     let en : to_z w32 (of_z w32 c.clamped-near.result) ≡ c.clamped-near.result =
     to_z-of_z w32 c.clamped-near.result (record { sfits = c.clamped-near.type_inv }) in
@@ -57,6 +51,6 @@ returns-clause-delivered c =
     scale_delivered s c.args.x.significand c.args.x.exponent c.args.places c.clamped-near.result
     c.last_exponent-exponent.result c.args.round c.args.x.negative (datum_at s c.deliver.result.value)
     (bits_of c.deliver.result.status)
-    c.requires.lawful c.requires.normal
+    c.requires
     (record { low = c.clamped-near.ensures.within.low; high = c.clamped-near.ensures.within.high; is = is }) v
     (rw el at c.deliver.ensures.delivered)

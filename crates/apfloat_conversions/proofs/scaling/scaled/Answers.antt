@@ -5,17 +5,11 @@ use Rattle.apfloat_conversions.proofs.StoredExponents.{zero_scaled}
 use Rattle.apfloat_base.specs.rounding.Flags.{bits_of}
 use Rattle.apfloat_conversions.proofs.scaling.scaled.Goals as goal
 
-pub scale_number-requires-clause-lawful : goal.scale_number-requires-clause-lawful
-scale_number-requires-clause-lawful c = c.requires.lawful
-
-pub scale_number-requires-clause-normal : goal.scale_number-requires-clause-normal
-scale_number-requires-clause-normal c = rw c.in-Normal.is at c.requires.stored
-
-pub propagated-requires-clause-lawful : goal.propagated-requires-clause-lawful
-propagated-requires-clause-lawful c = c.requires.lawful
+pub scale_number-requires : goal.scale_number-requires
+scale_number-requires c = rw c.in-Normal.is at c.requires
 
 pub propagated-requires-clause-stored : goal.propagated-requires-clause-stored
-propagated-requires-clause-stored c = c.requires.stored
+propagated-requires-clause-stored c = c.requires
 
 pub propagated-requires-clause-nan : goal.propagated-requires-clause-nan
 propagated-requires-clause-nan c = c.in-NaN.is
@@ -32,12 +26,12 @@ pub returns-in-NaN-clause-stored : goal.returns-in-NaN-clause-stored
 returns-in-NaN-clause-stored c = c.propagated.ensures.stored
 
 pub returns-in-Zero-clause-stored : goal.returns-in-Zero-clause-stored
-returns-in-Zero-clause-stored c = c.requires.stored
+returns-in-Zero-clause-stored c = c.requires
 
 pub returns-in_default-clause-stored : goal.returns-in_default-clause-stored
-returns-in_default-clause-stored c = c.requires.stored
+returns-in_default-clause-stored c = c.requires
 
 pub returns-in-Zero-clause-scaled : goal.returns-in-Zero-clause-scaled
 returns-in-Zero-clause-scaled c =
-    let z = rw c.in-Zero.is at c.requires.stored in
+    let z = rw c.in-Zero.is at c.requires in
     rw c.in-Zero.is (zero_scaled (format_at c.args.shape) c.args.round c.args.x.negative c.args.places z.sign_is)

@@ -10,11 +10,11 @@ use Rattle.apfloat_conversions.proofs.whole.round_at_dot.Goals as goal
 
 pub round_fraction-requires : goal.round_fraction-requires
 round_fraction-requires c =
-    significand_small c.args.shape c.args.x.significand c.requires.lawful c.requires.normal.operand.fits
+    significand_small c.args.shape c.args.x.significand c.requires.normal.operand.fits
 
 pub returns-clause-bound : goal.returns-clause-bound
 returns-clause-bound c =
-    let three = c.requires.lawful.precision_low in
+    let three = c.args.shape.parameters.precision_low in
     let b = c.requires.behind in
     let k = rw (to_z-of_z w32 c.args.exponent c.ranges.exponent) at c.steps_between.ensures in
     let l : 1 ≤ c.steps_between.result = omega (arith, ints, b, k) in
@@ -29,5 +29,5 @@ returns-clause-picked c =
     let n = c.requires.normal in
     let k = rw (to_z-of_z w32 c.args.exponent c.ranges.exponent) at c.steps_between.ensures in
     c.round_fraction.ensures.picked (quanta_at s.min_exp m x) (2 ^ (format_at s).scale) (pow_pos (format_at s).scale)
-    (fraction_places s m c.steps_between.result x c.args.exponent c.requires.lawful n
-    (rw (exponent_word s m x c.requires.lawful n) c.requires.last) k)
+    (fraction_places s m c.steps_between.result x c.args.exponent n
+    (rw (exponent_word s m x n) c.requires.last) k)

@@ -7,14 +7,11 @@ use Rattle.apfloat_unpacked.proofs.ShapeExponents.{exponent_word, scale_is}
 use Rattle.apfloat_conversions.proofs.Wholes.{too_large, places_up, whole_exactly, exactly_so}
 use Rattle.apfloat_conversions.proofs.whole.whole_of.Goals as goal
 
-pub last_exponent-exponent-requires-clause-lawful : goal.last_exponent-exponent-requires-clause-lawful
-last_exponent-exponent-requires-clause-lawful c = c.requires.lawful
-
-pub last_exponent-exponent-requires-clause-within : goal.last_exponent-exponent-requires-clause-within
-last_exponent-exponent-requires-clause-within c =
+pub last_exponent-exponent-requires : goal.last_exponent-exponent-requires
+last_exponent-exponent-requires c =
     record {
-      low = omega (arith, ints, c.requires.lawful, c.requires.normal.operand);
-      high = omega (arith, ints, c.requires.lawful, c.requires.normal.operand);
+      low = omega (arith, ints, c.args.shape.parameters, c.requires.operand);
+      high = omega (arith, ints, c.args.shape.parameters, c.requires.operand);
     }
 
 pub steps_between-requires-clause-above : goal.steps_between-requires-clause-above
@@ -32,17 +29,17 @@ steps_between-requires-clause-low c =
     record { low = omega (arith, ints); high = omega (arith, ints) }
 
 pub raised-requires-clause-some : goal.raised-requires-clause-some
-raised-requires-clause-some c = omega (arith, c.requires.lawful.precision_low)
+raised-requires-clause-some c = omega (arith, c.args.shape.parameters.precision_low)
 
 pub raised-requires-clause-fits : goal.raised-requires-clause-fits
-raised-requires-clause-fits c = c.requires.normal.operand.fits
+raised-requires-clause-fits c = c.requires.operand.fits
 
 pub raised-requires-clause-near : goal.raised-requires-clause-near
 raised-requires-clause-near c =
     omega (
       arith,
       ints,
-      c.requires.lawful.precision_low,
+      c.args.shape.parameters.precision_low,
       c.last_exponent-exponent.ensures.value,
       c.steps_between.ensures,
     )
@@ -51,24 +48,24 @@ pub returns-then-x-ge128 : goal.returns-then-x-ge128
 returns-then-x-ge128 c =
     let s = c.args.shape in
     let g = c.if-x-ge128.true in
-    let p = c.requires.lawful.precision_high in
-    let n = c.requires.normal in
+    let p = c.args.shape.parameters.precision_high in
+    let n = c.requires in
     too_large c.args.round c.args.x.negative (s.precision - 1) (format_at s).scale s.min_exp c.args.x.exponent
     c.args.x.significand (quanta_at s.min_exp c.args.x.significand c.args.x.exponent)
-    (omega (arith, p)) (scale_is s c.requires.lawful) n.operand.full (omega (arith, ints, g)) n.whole
+    (omega (arith, p)) (scale_is s) n.operand.full (omega (arith, ints, g)) n.whole
 
 pub returns-then-exponent-ge0 : goal.returns-then-exponent-ge0
 returns-then-exponent-ge0 c =
     let s = c.args.shape in
     let a = quanta_at s.min_exp c.args.x.significand c.args.x.exponent in
-    let ex = exponent_word s c.args.x.significand c.args.x.exponent c.requires.lawful c.requires.normal in
+    let ex = exponent_word s c.args.x.significand c.args.x.exponent c.requires in
     let v = rw ex at c.last_exponent-exponent.ensures.value in
     let w : to_z w32 (of_z w32 c.last_exponent-exponent.result) ≡ c.last_exponent-exponent.result =
     to_z-of_z w32 c.last_exponent-exponent.result (record { sfits = c.last_exponent-exponent.type_inv }) in
     let k = rw w at c.steps_between.ensures in
     let e = places_up (s.precision - 1) (format_at s).scale s.min_exp c.args.x.exponent
-    c.last_exponent-exponent.result c.args.x.significand a c.steps_between.result (scale_is s c.requires.lawful)
-    v k c.requires.normal.whole in
+    c.last_exponent-exponent.result c.args.x.significand a c.steps_between.result (scale_is s)
+    v k c.requires.whole in
     let p = pow_pos (format_at s).scale in
     record {
       magnitude_is = c.raised.ensures ∙
@@ -79,15 +76,12 @@ returns-then-exponent-ge0 c =
           (2 ^ (format_at s).scale) p e;
     }
 
-pub round_at_dot-requires-clause-lawful : goal.round_at_dot-requires-clause-lawful
-round_at_dot-requires-clause-lawful c = c.requires.lawful
-
 pub round_at_dot-requires-clause-normal : goal.round_at_dot-requires-clause-normal
-round_at_dot-requires-clause-normal c = c.requires.normal
+round_at_dot-requires-clause-normal c = c.requires
 
 pub round_at_dot-requires-clause-last : goal.round_at_dot-requires-clause-last
 round_at_dot-requires-clause-last c =
-    let e = exponent_word c.args.shape c.args.x.significand c.args.x.exponent c.requires.lawful c.requires.normal in
+    let e = exponent_word c.args.shape c.args.x.significand c.args.x.exponent c.requires in
     rw (to_z-of_z w32 c.last_exponent-exponent.result (record { sfits = c.last_exponent-exponent.type_inv }))
     (rw e at c.last_exponent-exponent.ensures.value)
 

@@ -7,9 +7,6 @@ use Rattle.apfloat_texts.proofs.literal.read_literal.Goals as goal
 pub returns-then-is_empty : goal.returns-then-is_empty
 returns-then-is_empty c = rw (empty_text c.args.rest.now c.if-is_empty.ensures) refl
 
-pub delivered-requires-clause-lawful : goal.delivered-requires-clause-lawful
-delivered-requires-clause-lawful c = c.requires
-
 pub delivered-requires-clause-kept : goal.delivered-requires-clause-kept
 delivered-requires-clause-kept c =
     let s = c.in_ok-scan.ensures in

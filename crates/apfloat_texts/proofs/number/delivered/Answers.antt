@@ -19,7 +19,7 @@ returns-then-digits-eq0-clause-delivered c number exact k near =
 pub deliver-requires-clause-fine : goal.deliver-requires-clause-fine
 deliver-requires-clause-fine c =
     fine_digits c.args.shape.precision c.requires.kept.0 c.args.digits.significand c.args.digits.cut
-    c.args.digits.loss c.requires.lawful.precision_high c.requires.kept.1
+    c.args.digits.loss c.args.shape.parameters.precision_high c.requires.kept.1
 
 pub returns-clause-delivered : goal.returns-clause-delivered
 returns-clause-delivered c number exact k near =
@@ -31,4 +31,4 @@ returns-clause-delivered c number exact k near =
     let small : c.args.digits.significand < 2 ^ 128 = omega arith in
     number_delivered (format_at c.args.shape) c.args.round c.args.negative number c.args.digits.significand
     c.args.digits.cut c.args.places c.args.digits.loss exact
-    c.unit_exponent-unit.result _ _ (bounded c.args.shape c.requires.lawful) some small k n d
+    c.unit_exponent-unit.result _ _ (bounded c.args.shape) some small k n d
