@@ -6,11 +6,17 @@
  *
  * The library never allocates, keeps no state between calls, and calls no other functions. So its functions may be
  * called from any thread, and from a signal handler. Given valid pointers, they are defined for every value of every
- * argument: no code, bit pattern, width or text causes undefined behaviour. The caller must ensure that `answer` points
- * to one apfloat_answer, suitably aligned, which nothing else reads or writes during the call; that `text` points to
- * `length` bytes of one object, which nothing writes during the call; and that the two do not overlap. Pointers are not
- * checked, and neither may be null, `text` not even if `length` is 0. An operand may be the `bits` of the same answer,
- * since it is passed by value.
+ * argument: no code, bit pattern, width or text causes undefined behaviour.
+ *
+ * Pointers are not checked. The caller must ensure that:
+ *
+ * - `answer` is not null, is aligned for an apfloat_answer, and points to one that nothing else reads or writes during
+ *   the call. It need not be initialized.
+ * - `text` is not null, not even if `length` is 0 (any address will do then, such as (const uint8_t *)""). It points to
+ *   `length` bytes of one object, hence at most PTRDIFF_MAX, and nothing writes to them during the call. It needs no
+ *   alignment and no terminating zero, since no byte after the last one is read.
+ * - `answer` and `text` do not overlap. Values and integers are passed by value, so an answer may overwrite an operand:
+ *   apfloat_add(f, m, a.bits, b, &a) is fine.
  *
  * The result of each function is stated by the contract of its export in crates/apfloat_c, and proved. */
 #ifndef APFLOAT_H
@@ -23,10 +29,10 @@
 extern "C" {
 #endif
 
-/* 128 bits as two 64-bit words: the bits of a value, or a whole number.
+/* 128 bits as two 64-bit words: the bits of a value, or an integer.
  *
  * A value of fewer bits is in the lowest ones. Bits at and above the width of its format are ignored, and are 0 in an
- * answer. Pairs of doubles have the high double in `low` and the low one in `high`. A signed whole number is in 128-bit
+ * answer. Pairs of doubles have the high double in `low` and the low one in `high`. A signed integer is in 128-bit
  * two's complement. */
 typedef struct apfloat_halves {
     uint64_t low;
@@ -35,7 +41,7 @@ typedef struct apfloat_halves {
 
 /* The result of a call. Fields that a call does not use are 0. */
 typedef struct apfloat_answer {
-    apfloat_halves bits; /* the bits of a value, or a whole number */
+    apfloat_halves bits; /* the bits of a value, or an integer */
     uint32_t status;     /* the sum of the flags that the operation raised */
     int32_t number;      /* an extra result; see the functions that set it */
 } apfloat_answer;
@@ -54,8 +60,8 @@ typedef struct apfloat_answer {
 
 /* Rounding modes (IEEE 754-2008 4.3). */
 #define APFLOAT_NEAREST_EVEN UINT32_C(0) /* to the nearest value, ties to even */
-#define APFLOAT_UPWARD UINT32_C(1)       /* toward positive */
-#define APFLOAT_DOWNWARD UINT32_C(2)     /* toward negative */
+#define APFLOAT_UPWARD UINT32_C(1)       /* toward positive infinity */
+#define APFLOAT_DOWNWARD UINT32_C(2)     /* toward negative infinity */
 #define APFLOAT_TOWARD_ZERO UINT32_C(3)
 #define APFLOAT_NEAREST_AWAY UINT32_C(4) /* to the nearest value, ties away from zero */
 
@@ -71,7 +77,7 @@ typedef struct apfloat_answer {
 #define APFLOAT_UNKNOWN_FORMAT UINT32_C(1)    /* of the operands, or, after the mode, of a conversion's target */
 #define APFLOAT_UNKNOWN_MODE UINT32_C(2)
 #define APFLOAT_NO_SUCH_OPERATION UINT32_C(3) /* the format does not have the operation */
-#define APFLOAT_WRONG_WIDTH UINT32_C(4)       /* of a whole number */
+#define APFLOAT_WRONG_WIDTH UINT32_C(4)       /* of an integer */
 #define APFLOAT_REFUSED_TEXT UINT32_C(5)      /* the text has no meaning */
 
 /* Operations on two values, rounded once: x + y, x - y, x * y, x / y. APFLOAT_QUAD has no product. */
@@ -84,8 +90,8 @@ uint32_t apfloat_div(uint32_t format, uint32_t mode, apfloat_halves x, apfloat_h
 uint32_t apfloat_fma(uint32_t format, uint32_t mode, apfloat_halves x, apfloat_halves y, apfloat_halves z,
                      apfloat_answer *answer);
 
-/* The remainder of x by y: by the whole number nearest to the quotient, like remainder() in C, and by the quotient cut
- * toward zero, like fmod(). */
+/* The remainder of x by y: with the quotient rounded to the nearest integer, like remainder() in C, and with the
+ * quotient truncated toward zero, like fmod(). */
 uint32_t apfloat_rem(uint32_t format, apfloat_halves x, apfloat_halves y, apfloat_answer *answer);
 uint32_t apfloat_mod(uint32_t format, apfloat_halves x, apfloat_halves y, apfloat_answer *answer);
 
@@ -93,17 +99,17 @@ uint32_t apfloat_mod(uint32_t format, apfloat_halves x, apfloat_halves y, apfloa
  * conversion from or to APFLOAT_DOUBLE_PAIR. */
 uint32_t apfloat_convert(uint32_t format, uint32_t mode, uint32_t to, apfloat_halves x, apfloat_answer *answer);
 
-/* A whole number as a value, rounded once. */
+/* The value of an integer, rounded once. */
 uint32_t apfloat_from_u128(uint32_t format, uint32_t mode, apfloat_halves number, apfloat_answer *answer);
 uint32_t apfloat_from_i128(uint32_t format, uint32_t mode, apfloat_halves number, apfloat_answer *answer);
 
-/* A value rounded to a whole number of `width` binary digits: 1 to 128 if unsigned, 2 to 128 if signed. `bits` is the
- * whole number, and `number` is 1 if that equals the value, else 0. A value out of range gives the nearer end of the
- * range, and a NaN gives 0, both with APFLOAT_INVALID_OP. */
+/* A value rounded to an integer of `width` binary digits: 1 to 128 if unsigned, 2 to 128 if signed. `bits` is the
+ * integer, and `number` is 1 if that equals the value, else 0; for -0 it is 0. A value out of range gives the nearer
+ * end of the range, and a NaN gives 0, both with APFLOAT_INVALID_OP. */
 uint32_t apfloat_to_u128(uint32_t format, uint32_t mode, apfloat_halves x, uint32_t width, apfloat_answer *answer);
 uint32_t apfloat_to_i128(uint32_t format, uint32_t mode, apfloat_halves x, uint32_t width, apfloat_answer *answer);
 
-/* A value rounded to a whole number, as a value. */
+/* A value rounded to an integral value. */
 uint32_t apfloat_round_to_integral(uint32_t format, uint32_t mode, apfloat_halves x, apfloat_answer *answer);
 
 /* x times 2 to the power of `power`, rounded once; no flags are reported. */

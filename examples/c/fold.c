@@ -1,6 +1,6 @@
-/* A constant folder: reads lines FORMAT OP MODE OPERAND.., and prints the bits and the flags of each answer.
+/* A constant folder: reads lines FORMAT OP MODE OPERAND.., and prints the bits and the flags of each result.
  *
- * OP is add, sub, mul, div, rem or mod of two values, fma of three, or parse of a text. A value is written by its bits in
+ * OP is add, sub, mul, div, rem or mod of two values, fma of three, or parse of a text. A value is its bits in
  * hexadecimal. Build it at the top of the repository, after `rt lib` in crates/apfloat_c:
  *
  *   cc -std=c99 -Wall -Wextra -O2 -Iinclude examples/c/fold.c crates/apfloat_c/out/libapfloat_c.a -o fold
@@ -37,14 +37,14 @@ static const struct code flags[] = {{"INVALID_OP", APFLOAT_INVALID_OP},
 
 #define COUNT(table) (sizeof(table) / sizeof((table)[0]))
 
-/* The code of a name; one that the library refuses, where the name has none. */
+/* The code of a name, or one that the library refuses if the name is unknown. */
 static uint32_t code_of(const struct code *table, size_t count, const char *name) {
     for (size_t i = 0; i < count; i++)
         if (strcmp(table[i].name, name) == 0) return table[i].code;
     return UINT32_MAX;
 }
 
-/* Hexadecimal digits, behind 0x or without it, as bits. */
+/* Hexadecimal digits, with or without 0x in front, as bits. */
 static bool read_bits(const char *word, apfloat_halves *bits) {
     bits->low = bits->high = 0;
     if (strncmp(word, "0x", 2) == 0) word += 2;
@@ -59,7 +59,7 @@ static bool read_bits(const char *word, apfloat_halves *bits) {
     return true;
 }
 
-/* Answers one line; the return value is the library's, or UINT32_MAX for an operation or operands that are none. */
+/* Computes one line. Returns the library's code, or UINT32_MAX if the operation or an operand is malformed. */
 static uint32_t fold(char *words[], size_t count, apfloat_answer *answer) {
     if (count < 4) return UINT32_MAX;
     uint32_t format = code_of(formats, COUNT(formats), words[0]);

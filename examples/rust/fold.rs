@@ -1,6 +1,6 @@
-//! A constant folder: reads lines FORMAT OP MODE OPERAND.., and prints the bits and the flags of each answer.
+//! A constant folder: reads lines FORMAT OP MODE OPERAND.., and prints the bits and the flags of each result.
 //!
-//! OP is add, sub, mul, div, rem or mod of two values, fma of three, or parse of a text. A value is written by its bits in
+//! OP is add, sub, mul, div, rem or mod of two values, fma of three, or parse of a text. A value is its bits in
 //! hexadecimal. Build it at the top of the repository, after `rt lib` in crates/apfloat_c:
 //!
 //! ```text
@@ -10,7 +10,7 @@
 //! and run it as `./fold_rs < examples/c/lines`.
 use std::io::BufRead;
 
-/// A number of 128 bits as two of 64.
+/// 128 bits as two 64-bit words.
 #[repr(C)]
 #[derive(Clone, Copy, Default)]
 struct Halves {
@@ -18,7 +18,7 @@ struct Halves {
     high: u64,
 }
 
-/// What a call answers.
+/// The result of a call.
 #[repr(C)]
 #[derive(Clone, Copy, Default)]
 struct Answer {
@@ -27,7 +27,7 @@ struct Answer {
     number: i32,
 }
 
-// Each function is defined for all values of its arguments; only `apfloat_parse` takes a pointer that can be wrong.
+// Defined for all values of their arguments; only `apfloat_parse` takes a pointer that can be invalid.
 unsafe extern "C" {
     safe fn apfloat_add(format: u32, mode: u32, x: Halves, y: Halves, answer: &mut Answer) -> u32;
     safe fn apfloat_sub(format: u32, mode: u32, x: Halves, y: Halves, answer: &mut Answer) -> u32;
@@ -57,12 +57,12 @@ const FORMATS: [&str; 10] =
 const MODES: [&str; 5] = ["even", "up", "down", "zero", "away"];
 const FLAGS: [&str; 5] = ["INVALID_OP", "DIV_BY_ZERO", "OVERFLOW", "UNDERFLOW", "INEXACT"];
 
-/// The place of a name; one that the library refuses, where the name has none.
+/// The index of a name, or one that the library refuses if the name is unknown.
 fn place(names: &[&str], name: &str) -> u32 {
     names.iter().position(|known| *known == name).map_or(99, |at| at as u32)
 }
 
-/// Hexadecimal digits, behind 0x or without it, as bits.
+/// Hexadecimal digits, with or without 0x in front, as bits.
 fn bits(word: &str) -> Option<Halves> {
     let bits = u128::from_str_radix(word.strip_prefix("0x").unwrap_or(word), 16).ok()?;
     Some(Halves { low: bits as u64, high: (bits >> 64) as u64 })
@@ -73,7 +73,7 @@ fn parse(format: u32, mode: u32, text: &str, answer: &mut Answer) -> u32 {
     unsafe { apfloat_parse(format, mode, text.as_ptr(), text.len(), answer) }
 }
 
-/// The answer to a line, or the library's code; -1 for an operation or operands that are none.
+/// The result of a line, or the library's error code; -1 if the operation or an operand is malformed.
 fn fold(line: &str) -> Result<Answer, i32> {
     let words: Vec<&str> = line.split_whitespace().collect();
     let &[format, op, mode, first, ref rest @ ..] = words.as_slice() else { return Err(-1) };

@@ -1,10 +1,10 @@
-//! One integer for many results.
+//! Checksums of results.
 
 use rustc_apfloat::ieee::{IeeeFloat, Semantics};
 use rustc_apfloat::ppc::DoubleDouble;
 use rustc_apfloat::{Flags, Float, StatusAnd};
 
-/// The checksum of results in order: of the flags and of the two halves of the bits of each.
+/// The checksum of results in order, which covers the flags and the two halves of the bits of each.
 pub fn checksum_of<T: Written>(results: &[StatusAnd<T>]) -> u64 {
     let mut sum = 0;
     for result in results {

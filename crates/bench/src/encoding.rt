@@ -1,4 +1,4 @@
-//! How a format encodes numbers, and the numbers that are drawn from it.
+//! How a format encodes numbers, and random numbers of a format.
 
 use crate::generator::Generator;
 use crate::operand_set::OperandSet;
@@ -116,7 +116,7 @@ impl Encoding {
         self.bits_of(is_negative, 0, digits & ones(width(length)) | first)
     }
 
-    /// The exponents of moderate numbers range from minus this integer to it.
+    /// The exponents of moderate numbers range from `-span` to `span`.
     fn span(self) -> i32 {
         let half_the_digits = (self.precision / 2).saturating_add(2);
         half_the_digits
@@ -148,17 +148,14 @@ impl Encoding {
     }
 }
 
-/// A count of bits.
 fn width(digits: i32) -> usize {
     usize::try_from(digits).unwrap_or(0)
 }
 
-/// `count` ones.
 fn ones(count: usize) -> u128 {
     shifted(1, count).wrapping_sub(1)
 }
 
-/// A bit pattern followed by that many zeros.
 fn shifted(number: u128, zeros: usize) -> u128 {
     if zeros < 128 { number << zeros } else { 0 }
 }

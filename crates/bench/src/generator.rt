@@ -1,6 +1,6 @@
-//! Integers that look random and are the same in each run.
+//! Pseudorandom integers, the same in each run.
 
-/// The state of Marsaglia's generator of 64 bits, `xorshift64`, which is never 0.
+/// The state of Marsaglia's 64-bit generator `xorshift64`, which is never 0.
 #[derive(Clone, Copy, Debug)]
 pub struct Generator {
     state: u64,

@@ -78,7 +78,6 @@ fn print_remainders(rt: &(impl Clock + Print + AllocGlobal)) -> io::Result<()> {
     println!(rt; "")
 }
 
-/// Prints the row of a format and a difference of exponents.
 fn print_remainder<S: Semantics>(
     rt: &(impl Clock + Print + AllocGlobal),
     name: &str,
@@ -160,7 +159,6 @@ fn print_quotients(rt: &(impl Clock + Print + AllocGlobal)) -> io::Result<()> {
     Ok(())
 }
 
-/// Prints the row of a type and its precision.
 fn print_quotient(
     rt: &(impl Clock + Print + AllocGlobal),
     kind: Kind,

@@ -28,7 +28,7 @@ pub enum Kind {
     Float8E5M2,
     /// The 8-bit format with 4 exponent bits and no infinities.
     Float8E4M3FN,
-    /// The same with no negative zero.
+    /// The same without a negative zero.
     Float8E4M3FNUZ,
     /// The x87's extended double.
     X87DoubleExtended,
@@ -36,7 +36,7 @@ pub enum Kind {
     DoubleDouble,
 }
 
-/// All of them.
+/// All types that are measured.
 pub static KINDS: [Kind; 10] = [
     Kind::Half,
     Kind::Single,
@@ -51,7 +51,7 @@ pub static KINDS: [Kind; 10] = [
 ];
 
 impl Kind {
-    /// Its name.
+    /// The name of the type in the output.
     pub fn name(self) -> &'static str {
         match self {
             Kind::Half => "half",
@@ -67,7 +67,7 @@ impl Kind {
         }
     }
 
-    /// The measurements of an operation in this type, or nothing if the type does not have it.
+    /// The measurements of an operation in this type, or `None` if the type does not have it.
     pub fn measured(
         self,
         rt: &(impl Clock + AllocGlobal),

@@ -1,11 +1,11 @@
 //! Does a fixed amount of work with each operation in each type, and reports the results and how long they take.
 //!
-//! Without arguments it prints a line for each operation, type and set of operands: the checksums of 1024 answers,
+//! Without arguments it prints a line for each operation, type and set of operands: the checksums of 1024 results,
 //! flags included, in the modes even, up, down, zero and away, or one checksum if the operation has no mode. With
 //! `time` it prints the time of a call instead, the best of many rounds; with `growth` it prints how times grow with
-//! the length of a text, the difference of exponents of a remainder, and the digits of a quotient.
+//! the length of a text, with the difference of the exponents in a remainder, and with the digits of a quotient.
 //!
-//! The operands come from a generator of whole numbers. For the functions here, only safety is proved.
+//! The operands come from a generator of random integers. Only the safety of these functions is proved.
 //!
 //! The exit status is 0, or 2 for other arguments, and 1 if a write fails or there is not enough memory.
 #![tactic(auto)]
@@ -32,7 +32,6 @@ use std::process::ExitCode;
 use std::rt::Clock;
 use std::{env, io};
 
-/// Runs the program and returns its exit status.
 fn main(rt: HostRuntime) -> ExitCode {
     match answer(&rt) {
         Ok(status) => ExitCode::from(status),
@@ -63,7 +62,7 @@ enum Subject {
     Growth,
 }
 
-/// What the arguments ask for, or nothing if they are not known.
+/// What the arguments ask for, or `None` if they are unknown.
 fn subject_of(words: &[String]) -> Option<Subject> {
     match words {
         [] => Some(Subject::Checksums),

@@ -4,10 +4,10 @@ use crate::checksum::{Written, checksum_of};
 use rustc_apfloat::StatusAnd;
 use std::time::Duration;
 
-/// The measurements of calls for many operands.
+/// What was measured of calls for many operands.
 #[derive(Clone, Copy, Debug)]
 pub struct Measured {
-    /// The checksum of the answers.
+    /// The checksum of the results.
     pub checksum: u64,
     /// The least time of a round, which is one call for each operand.
     pub time: Duration,
@@ -37,12 +37,12 @@ impl Rounds {
         self.spent = self.spent.saturating_add(round);
     }
 
-    /// Whether a fifth of a second is spent.
+    /// Whether the rounds took a fifth of a second.
     pub fn are_enough(self) -> bool {
         self.spent > Duration::from_millis(200)
     }
 
-    /// The measurements, with the answers of the last round.
+    /// The measurements, with the results of the last round.
     pub fn with_answers<T: Written>(self, answers: &[StatusAnd<T>]) -> Measured {
         Measured {
             checksum: checksum_of(answers),
@@ -52,7 +52,7 @@ impl Rounds {
     }
 }
 
-// Does the work of a round once, and then in timed rounds, up to a limit, until they are enough.
+// Makes one round that is not timed, and then timed rounds until they are enough, up to a limit.
 macro_rules! in_rounds {
     ($rt:ident, $rounds:expr, $round:expr) => {{
         let mut times = Rounds::new();
@@ -69,7 +69,7 @@ macro_rules! in_rounds {
     }};
 }
 
-// A call for each operand, from memory to memory.
+// Makes a call for each operand, from memory to memory.
 macro_rules! for_each {
     ($operands:ident, $answers:ident, $x:ident => $call:expr) => {
         for i in 0..$operands.len() {

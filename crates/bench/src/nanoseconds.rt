@@ -1,4 +1,4 @@
-//! Times of single calls.
+//! The time of one call, as it is printed.
 
 use crate::measure::Measured;
 use std::fmt;
@@ -34,7 +34,7 @@ impl Nanoseconds {
 }
 
 impl fmt::Display for Nanoseconds {
-    /// Two decimals below 10, one below 100, and none from 100 on.
+    /// Prints two decimals below 10, one below 100, and none from 100 on.
     fn fmt<W: fmt::Write>(&self, f: &mut fmt::Formatter<W>) -> fmt::Result {
         let whole = self.hundredths / 100;
         let rest = self.hundredths % 100;

@@ -17,7 +17,7 @@ use std::time::Instant;
 /// The operands of a call.
 type Operands<S> = [IeeeFloat<S>; 3];
 
-/// The measurements of an operation in a format, or nothing if the format does not have it.
+/// The measurements of an operation in a format, or `None` if the format does not have it.
 pub fn measured_in<S: Semantics>(
     rt: &(impl Clock + AllocGlobal),
     task: Task,
@@ -89,7 +89,6 @@ fn conversions<S: Semantics, T: Semantics>(
     Ok(times.with_answers(answers))
 }
 
-/// Converts all operands to the format `T`.
 fn convert<S: Semantics, T: Semantics>(
     mode: Round,
     operands: &[Operands<S>],
@@ -128,7 +127,6 @@ fn integers_in<S: Semantics>(rt: &(impl Clock + AllocGlobal), task: Task) -> io:
     Ok(times.with_answers(answers))
 }
 
-/// Converts all integers to values.
 fn from_integers<S: Semantics>(
     mode: Round,
     operands: &[u128],
@@ -148,7 +146,7 @@ fn readings<S: Semantics>(rt: &(impl Clock + AllocGlobal), task: Task) -> io::Re
     Ok(times.with_answers(answers))
 }
 
-/// Reads each text; the answer for a refused one is 0 with `INVALID_OP`.
+/// Reads each text; a refused one gives 0 with `INVALID_OP`.
 pub fn read<S: Semantics>(mode: Round, texts: &[String], answers: &mut [StatusAnd<IeeeFloat<S>>]) {
     for i in 0..texts.len() {
         if i < answers.len() {
@@ -173,14 +171,13 @@ fn bits_both_ways<S: Semantics>(rt: &(impl Clock + AllocGlobal), task: Task) -> 
     Ok(times.with_answers(answers))
 }
 
-/// Reads a value from each bit pattern and writes it back.
 fn read_and_write<S: Semantics>(operands: &[[u128; 3]], answers: &mut [StatusAnd<u128>])
     requires { S.PRECISION < S.BITS }
 {
     for_each!(operands, answers, x => Status::OK.and(IeeeFloat::<S>::from_bits(x[0]).to_bits()));
 }
 
-/// The values of the operands that are drawn.
+/// The values of drawn operands.
 fn values<S: Semantics>(alloc: Global, task: Task) -> Result<Vec<Operands<S>>, AllocError>
     requires { S.PRECISION < S.BITS }
 {

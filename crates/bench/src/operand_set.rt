@@ -1,4 +1,4 @@
-//! Which numbers are drawn.
+//! Sets of operands.
 
 /// Which numbers are drawn.
 #[derive(Clone, Copy, PartialEq, Eq, Debug)]
@@ -14,7 +14,7 @@ pub enum OperandSet {
 }
 
 impl OperandSet {
-    /// Its name.
+    /// The name of the set in the output.
     pub fn name(self) -> &'static str {
         match self {
             OperandSet::Normal | OperandSet::Integer => "normal",

@@ -1,4 +1,4 @@
-//! The operands that are drawn.
+//! Random operands.
 
 use crate::encoding::Encoding;
 use crate::generator::Generator;
@@ -9,7 +9,7 @@ use std::fmt::Write;
 /// How many operands of each kind are drawn.
 const COUNT: usize = 1024;
 
-/// What operands are made of.
+/// What operands are drawn from.
 #[derive(Clone, Copy, Debug)]
 pub enum Source {
     /// The bits of a number.
@@ -45,7 +45,7 @@ pub fn drawn_bits(
     Ok(bits)
 }
 
-/// Whole numbers with any count of bits up to 128.
+/// Integers of any width up to 128 bits.
 pub fn drawn_integers(alloc: Global) -> Result<Vec<u128>, AllocError> {
     let mut generator = Generator::new();
     let mut numbers = Vec::new(alloc);

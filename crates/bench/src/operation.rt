@@ -13,9 +13,9 @@ pub enum Operation {
     Quotient,
     /// The product of two numbers plus a third one.
     FusedSum,
-    /// The remainder by the whole number nearest to the quotient.
+    /// The remainder with the quotient rounded to the nearest integer.
     NearestRemainder,
-    /// The remainder by the quotient cut toward zero.
+    /// The remainder with the quotient truncated toward zero.
     TruncatedRemainder,
     /// The conversion to binary16.
     ToHalf,
@@ -23,9 +23,9 @@ pub enum Operation {
     ToSingle,
     /// The conversion to binary64.
     ToDouble,
-    /// The conversion to a whole number of 64 bits, cut toward zero.
+    /// The conversion to a 64-bit integer, truncated toward zero.
     ToInteger,
-    /// The conversion from a whole number of 128 bits.
+    /// The conversion from a 128-bit integer.
     FromInteger,
     /// The reading of a text.
     Reading,
@@ -33,7 +33,7 @@ pub enum Operation {
     Bits,
 }
 
-/// All of them.
+/// All operations that are measured.
 pub static OPERATIONS: [Operation; 14] = [
     Operation::Sum,
     Operation::Difference,
@@ -52,7 +52,7 @@ pub static OPERATIONS: [Operation; 14] = [
 ];
 
 impl Operation {
-    /// Its name.
+    /// The name of the operation in the output.
     pub fn name(self) -> &'static str {
         match self {
             Operation::Sum => "add",
@@ -72,7 +72,7 @@ impl Operation {
         }
     }
 
-    /// Whether its answer depends on a rounding mode.
+    /// Whether its result depends on a rounding mode.
     pub fn rounds(self) -> bool {
         !matches!(
             self,

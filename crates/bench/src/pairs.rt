@@ -16,7 +16,7 @@ use std::time::Instant;
 /// The operands of a call.
 type Operands = [DoubleDouble; 3];
 
-/// The measurements of an operation on pairs, or nothing if they do not have it.
+/// The measurements of an operation on pairs, or `None` if they do not have it.
 pub fn measured_pairs(rt: &(impl Clock + AllocGlobal), task: Task) -> io::Result<Option<Measured>> {
     let known = match task.operation {
         Operation::FusedSum => return Ok(None),
@@ -81,7 +81,6 @@ fn integers_in(rt: &(impl Clock + AllocGlobal), task: Task) -> io::Result<Measur
     Ok(times.with_answers(answers))
 }
 
-/// Converts all integers to pairs.
 fn from_integers(mode: Round, operands: &[u128], answers: &mut [StatusAnd<DoubleDouble>]) {
     for_each!(operands, answers, x => DoubleDouble::from_u128_r(x, mode));
 }
@@ -96,7 +95,7 @@ fn readings(rt: &(impl Clock + AllocGlobal), task: Task) -> io::Result<Measured>
     Ok(times.with_answers(answers))
 }
 
-/// Reads each text; the answer for a refused one is 0 with `INVALID_OP`.
+/// Reads each text; a refused one gives 0 with `INVALID_OP`.
 fn read(mode: Round, texts: &[String], answers: &mut [StatusAnd<DoubleDouble>]) {
     for i in 0..texts.len() {
         if i < answers.len() {
@@ -122,12 +121,11 @@ fn bits_both_ways(rt: &(impl Clock + AllocGlobal), task: Task) -> io::Result<Mea
     Ok(times.with_answers(answers))
 }
 
-/// Reads a pair from each bit pattern and writes it back.
 fn read_and_write(operands: &[[u128; 3]], answers: &mut [StatusAnd<u128>]) {
     for_each!(operands, answers, x => Status::OK.and(DoubleDouble::from_bits(x[0]).to_bits()));
 }
 
-/// The pairs of the operands that are drawn.
+/// The pairs of drawn operands.
 fn values(alloc: Global, task: Task) -> Result<Vec<Operands>, AllocError> {
     let drawn = drawn_bits(alloc, Source::Pair(Encoding::of::<DoubleS>()), task.set)?;
     let mut values = Vec::new(alloc);

@@ -1,4 +1,4 @@
-//! What is printed about all operations: checksums, and times.
+//! Prints the checksums and the times of all operations.
 
 use crate::kind::{KINDS, Kind};
 use crate::nanoseconds::Nanoseconds;
@@ -30,7 +30,6 @@ pub fn print_checksums(rt: &(impl Clock + Print + AllocGlobal)) -> io::Result<()
     Ok(())
 }
 
-/// Prints the lines of a type.
 fn print_lines(rt: &(impl Clock + Print + AllocGlobal), kind: Kind) -> io::Result<()> {
     for operation in OPERATIONS.iter() {
         print_line(rt, kind, *operation, OperandSet::Normal)?;
@@ -87,7 +86,6 @@ pub fn print_times(rt: &(impl Clock + Print + AllocGlobal)) -> io::Result<()> {
     print_table(rt, OperandSet::Denormal)
 }
 
-/// Prints the table of times for a set of operands.
 fn print_table(rt: &(impl Clock + Print + AllocGlobal), set: OperandSet) -> io::Result<()> {
     println!(rt; "Set {}, nanoseconds\n", set.name())?;
     println!(rt; "{TABLE_HEAD}")?;
@@ -97,7 +95,6 @@ fn print_table(rt: &(impl Clock + Print + AllocGlobal), set: OperandSet) -> io::
     println!(rt; "")
 }
 
-/// Prints the row of a type.
 fn print_row(
     rt: &(impl Clock + Print + AllocGlobal),
     kind: Kind,

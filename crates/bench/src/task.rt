@@ -14,11 +14,11 @@ pub struct Task {
     pub set: OperandSet,
     /// The rounding mode.
     pub mode: Round,
-    /// At most how many rounds are timed.
+    /// The greatest number of rounds that are timed.
     pub rounds: u32,
 }
 
-/// Room for a count of answers.
+/// A vector with room for `count` results.
 pub fn room<T: Copy>(
     alloc: Global,
     count: usize,

@@ -1,4 +1,4 @@
-//! Checks files of test vectors: rows of commands with their replies, and of calls with their answers.
+//! Checks files of test vectors: rows of commands with their replies, and of calls with their results.
 //!
 //! Rows come from the named file, or from standard input. The crate `vector_rows`, and `--help`, explain the rows and
 //! how they are checked.
@@ -11,7 +11,6 @@ use vector_rows::run;
 #[cfg(test)]
 mod tests;
 
-/// Runs the program and returns its exit status.
 fn main(rt: HostRuntime) -> ExitCode {
     ExitCode::from(run(
         &rt,

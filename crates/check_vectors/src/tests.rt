@@ -12,7 +12,7 @@ use std::time::Duration;
 use std::{fs, io};
 use vector_rows::{Check, Failure, check_input, run};
 
-/// Asserts what the check of an input writes, and its exit status.
+/// Asserts what the program writes for an input, and its exit status.
 fn expect<R: Abort + Clock + AllocGlobal>(
     rt: &R,
     mut input: &[u8],
@@ -63,8 +63,7 @@ fn shows_what_differs(rt: HostRuntime) {
     );
 }
 
-/// Formats without bits write their values as counts of quanta, and a NaN that is not that of the row as `Debug` shows
-/// it.
+/// In formats without bits, values are shown as counts of quanta, and a NaN other than that of the row as by `Debug`.
 #[test]
 fn shows_each_kind_of_answer(rt: HostRuntime) {
     for (row, expected, given) in [
@@ -137,7 +136,7 @@ fn shows_each_kind_of_answer(rt: HostRuntime) {
     }
 }
 
-/// Asserts that the only row of an input differs, and is shown with its answers.
+/// Asserts that the only row of an input differs, and is shown with the results given.
 fn expect_one<R: Abort + Clock + AllocGlobal>(rt: &R, row: &str, expected: &str, given: &str) {
     let input = format!(in rt.alloc(); "{row}\t{expected}");
     let tally = "0 rows agree, 1 differ, 0 malformed; 0 lines skipped";
@@ -263,7 +262,7 @@ fn wants_a_row(rt: HostRuntime) {
     }
 }
 
-/// A reader that gives a limited count of bytes of a text, one at a time, and then an error.
+/// A reader that gives a limited number of bytes of a text, one at a time, and then an error.
 #[derive(Drop)]
 struct Broken<'a> {
     rest: &'a [u8],
@@ -321,7 +320,7 @@ fn names_a_read_that_fails(rt: HostRuntime) -> Result<(), Fail> {
     Ok(())
 }
 
-/// A writer with room for a limited count of bytes, which takes one at each write.
+/// A writer with room for a limited number of bytes, which takes one at each write.
 #[derive(Drop)]
 struct Failing {
     room: usize,
@@ -329,7 +328,6 @@ struct Failing {
 }
 
 impl Failing {
-    /// A writer with this room.
     fn new(alloc: Global, room: usize) -> Failing {
         Failing {
             room,
@@ -487,8 +485,8 @@ impl Env for System {
     }
 }
 
-/// An arena with `bytes` bytes left that cannot grow. A second chunk is begun, since only the blocks of a first one are
-/// reused; so each growth of memory takes bytes of its own.
+/// An arena with `bytes` bytes left that cannot grow. It is in its second chunk, since blocks of the first one are
+/// reused; so each growth of memory takes new bytes.
 fn arena_with(alloc: Global, bytes: usize) -> Result<Bump, AllocError> {
     let arena = Bump::try_with_capacity(alloc, 4000)?;
     arena.try_alloc_slice_fill_clone(arena.chunk_capacity(), 0u8)?;
@@ -499,7 +497,7 @@ fn arena_with(alloc: Global, bytes: usize) -> Result<Bump, AllocError> {
     Ok(arena)
 }
 
-/// There is a growth for each argument, for the missing one after them, and for each list of them.
+/// Memory grows for each argument, for the missing one after them, and for each list of arguments.
 #[test]
 fn wants_memory_for_its_words(rt: HostRuntime) -> Result<(), Fail> {
     for eighths in 0..100usize {
@@ -520,7 +518,7 @@ fn wants_memory_for_its_words(rt: HostRuntime) -> Result<(), Fail> {
     Ok(())
 }
 
-/// The memory for lines is that of the longest one.
+/// The memory for lines is as much as the longest one needs.
 #[test]
 fn wants_memory_for_a_line(rt: HostRuntime) -> Result<(), Fail> {
     let mut rows = String::new(rt.alloc());

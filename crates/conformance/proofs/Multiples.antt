@@ -1,4 +1,4 @@
--- The two multiples of the spacing beside a magnitude are its neighbours.
+-- The two multiples of the spacing that enclose a magnitude are its neighbours.
 use Rattle.std.proofs.Common.{◌≡◌, ℕ, zero, suc, ◌+◌, ◌-◌, ◌*◌, ◌/◌, ◌%◌, ◌^◌, ◌<◌, ◌≤◌, ◌⊎◌, ⊎_elim, sym, subst, arith}
 use Rattle.std.proofs.Math.Nat.{mul-le-mul_right, div-add-mod', pow-suc}
 use Rattle.std.proofs.lemmas.Nat.{pow_pos}
@@ -11,7 +11,7 @@ use Rattle.apfloat_base.proofs.rounding.Neighbours.{below_is, above_is_same, abo
 use Rattle.apfloat_base.proofs.rounding.NeighboursExist.{enclosed_by_quotient}
 use Rattle.conformance.specs.Plain.{IsSpacing}
 
--- a spacing that leaves few enough multiples encloses the magnitude
+-- multiples of the spacing enclose the magnitude
 enclosed : (precision amount parts spacing : ℕ) → 0 < precision → 0 < parts
     → (spaced : IsSpacing precision amount parts spacing)
     → IsEnclosed precision (2 ^ (precision - 1)) (amount / (parts * 2 ^ spaced.place)) spaced.place amount parts
@@ -20,7 +20,7 @@ enclosed precision amount parts spacing h p spaced =
     (subst (λ (x : ℕ). amount < 2 ^ precision * (parts * x)) spaced.is spaced.few)
     (subst (λ (x : ℕ). (spaced.place ≡ 0) ⊎ (2 ^ (precision - 1) * (parts * x) ≤ amount)) spaced.is spaced.many)
 
--- the greatest multiple that is not above the magnitude is its neighbour below
+-- the greatest multiple that is not above the magnitude is its lower neighbour
 pub floor_is : (precision amount parts spacing : ℕ) → 0 < precision → 0 < parts
     → IsSpacing precision amount parts spacing
     → IsBelow precision (amount / (parts * spacing) * spacing) amount parts
@@ -29,7 +29,7 @@ floor_is precision amount parts spacing h p s =
     (below_is precision (2 ^ (precision - 1)) (amount / (parts * 2 ^ s.place)) s.place amount parts
     (enclosed precision amount parts spacing h p s))
 
--- the least multiple that is not below the magnitude
+-- the least multiple that is not below the magnitude is its upper neighbour, for enclosed magnitudes
 ceiling_of : (precision half c amount parts : ℕ) → 0 < parts
     → IsEnclosed precision half (amount / (parts * 2 ^ c)) c amount parts
     → IsAbove precision (div_ceil amount (parts * 2 ^ c) * 2 ^ c) amount parts
@@ -47,7 +47,7 @@ ceiling_of precision half c amount parts p i =
     (above_is_same precision half (amount / (parts * 2 ^ c)) c amount parts p i (omega arith)))
     (cases_lt 0 (amount % (parts * 2 ^ c)))
 
--- the least one that is not below it is its neighbour above
+-- the same for every magnitude and its spacing
 pub ceiling_is : (precision amount parts spacing : ℕ) → 0 < precision → 0 < parts
     → IsSpacing precision amount parts spacing
     → IsAbove precision (div_ceil amount (parts * spacing) * spacing) amount parts
@@ -64,14 +64,14 @@ above_to precision above amount parts place h i l =
     let q : 1 ≤ 2 ^ (precision - 1) = pow_pos (precision - 1) in
     i.least (2 ^ place) (record { significand = 1; place = place; fits = omega arith; is = omega arith }) l
 
--- a power of two above a magnitude is above its neighbour
+-- a power of two that is not below the amount is not below the upper neighbour
 pub above_bound : (precision above amount parts place : ℕ) → 0 < precision → 0 < parts
     → IsAbove precision above amount parts → amount ≤ 2 ^ place → above ≤ 2 ^ place
 above_bound precision above amount parts place h p i l =
     let k : 2 ^ place * 1 ≤ 2 ^ place * parts = omega (arith, mul-le-mul_right (2 ^ place) p) in
     above_to precision above amount parts place h i (omega arith)
 
--- it is at most the magnitude doubled, or 1
+-- the upper neighbour is at most the magnitude doubled and 1
 pub above_near : (precision above amount parts place : ℕ) → 0 < precision → 0 < parts
     → IsAbove precision above amount parts → above ≤ 2 ^ place → above * parts ≤ 2 * amount + parts
 above_near precision above amount parts zero h p i l =
@@ -87,7 +87,7 @@ above_near precision above amount parts (suc place) h p i l =
     (above_to precision above amount parts place h i q))
     (cases_lt (2 ^ place * parts) amount)
 
--- so it has room
+-- so, multiplied by the parts, it fits 128 bits
 pub above_fits : (precision above amount parts : ℕ) → 0 < precision → 0 < parts
     → IsAbove precision above amount parts → amount < 2 ^ 126 → parts < 2 ^ 64 → above * parts < 2 ^ 128
 above_fits precision above amount parts h p i a b =

@@ -1,4 +1,4 @@
--- What the plain program answers is what one rounding delivers.
+-- What the plain program returns is what one rounding delivers.
 use Rattle.std.proofs.Common.{◌≡◌, ℕ, ◌*◌, ◌^◌, ◌<◌, ◌≤◌, Bool, false, cond, ltb, sym, ap, ◌∙◌, subst, ⊎_elim, arith}
 use Rattle.std.proofs.lemmas.Bool.{cases_eq, le-ltb}
 use Rattle.std.proofs.Math.Nat.{mul-le-mul_right}
@@ -13,7 +13,7 @@ use Rattle.conformance.specs.Plain.{HasBounds, tiny_of}
 use Rattle.conformance.specs.declared.plain.Bounds.{Bounds}
 use Rattle.conformance.proofs.Multiples.{above_fits}
 
--- a pick has room
+-- a pick, multiplied by the parts, fits 128 bits
 pub pick_fits : (precision : ℕ) (mode : Round) (negative : Bool) (amount parts pick : ℕ) → 0 < precision
     → 0 < parts → IsPick precision mode negative amount parts pick → amount < 2 ^ 126 → parts < 2 ^ 64
     → pick * parts < 2 ^ 128
@@ -23,7 +23,7 @@ pick_fits precision mode negative amount parts pick h p i a b =
     let k : pick * parts ≤ i.above * parts = mul-le-mul_right parts w in
     omega arith
 
--- the plain program's test for tiny numbers is the format's
+-- the plain program's test for tininess is the format's
 tiny_is : (format : Format) (bounds : Bounds) (amount parts pick : ℕ) → HasBounds format bounds
     → tiny_of bounds amount parts pick ≡ is_tiny format amount parts pick
 tiny_is format bounds amount parts pick h =

@@ -1,11 +1,11 @@
--- A spacing that is doubled until the magnitude has few enough of it.
+-- A spacing that is doubled until the magnitude is less than 2 ^ precision spacings.
 use Rattle.std.proofs.Common.{◌≡◌, ℕ, ◌+◌, ◌-◌, ◌*◌, ◌/◌, ◌^◌, ◌<◌, ◌≤◌, ◌⊎◌, inr, sym, ap, subst, arith}
 use Rattle.std.proofs.Math.Nat.{mul-pos, mul-le-mul_right, le-div_iff_mul-le, div-lt_iff_lt-mul}
 use Rattle.std.proofs.lemmas.Nat.{pow_pos, pow-add}
 use Rattle.apfloat_base.proofs.general.Powers.{twice_half}
 use Rattle.conformance.specs.Plain.{IsSpacing}
 
--- the magnitude has half of 2 ^ precision spacings unless it is the first one
+-- the magnitude is at least half of 2 ^ precision spacings, unless this is the first spacing
 pub record IsReached (precision amount parts spacing : ℕ) : Type 0 where
   pub place : ℕ
   pub is : spacing ≡ 2 ^ place
@@ -15,18 +15,18 @@ pub record IsReached (precision amount parts spacing : ℕ) : Type 0 where
 pub spacing_some : (precision amount parts spacing : ℕ) → IsReached precision amount parts spacing → 0 < spacing
 spacing_some precision amount parts spacing r = subst (λ (x : ℕ). 0 < x) (sym r.is) (pow_pos r.place)
 
--- nor is its multiple by which the magnitude is divided
+-- nor is the multiple of it by which the amount is divided
 divisor_some : (precision amount parts spacing : ℕ) → 0 < parts → IsReached precision amount parts spacing
     → 0 < parts * spacing
 divisor_some precision amount parts spacing h r = mul-pos h (spacing_some precision amount parts spacing r)
 
--- where the magnitude has too many of them
+-- the magnitude is 2 ^ precision spacings or more if the quotient is
 too_many : (precision amount parts spacing : ℕ) → 0 < parts → IsReached precision amount parts spacing
     → 2 ^ precision ≤ amount / (parts * spacing) → 2 ^ precision * (parts * spacing) ≤ amount
 too_many precision amount parts spacing h r l =
     (le-div_iff_mul-le (divisor_some precision amount parts spacing h r)).0 l
 
--- a magnitude with too many of a spacing has at least half of its digits with twice of it
+-- if the magnitude is 2 ^ precision spacings or more, it is at least half as many spacings of twice the size
 pub doubled : (precision amount parts spacing : ℕ) → 0 < precision → 0 < parts
     → IsReached precision amount parts spacing → 2 ^ precision ≤ amount / (parts * spacing)
     → IsReached precision amount parts (spacing * 2)
@@ -39,7 +39,7 @@ doubled precision amount parts spacing p h r l =
     ap (λ (x : ℕ). x * (parts * spacing)) t in
     record { place = r.place + 1; is = omega arith; many = inr (omega arith) }
 
--- such a spacing is below the magnitude
+-- such a spacing is below the amount
 pub spacing_below : (precision amount parts spacing : ℕ) → 0 < precision → 0 < parts
     → IsReached precision amount parts spacing → 2 ^ precision ≤ amount / (parts * spacing) → spacing < amount
 spacing_below precision amount parts spacing p h r l =
@@ -52,7 +52,7 @@ spacing_below precision amount parts spacing p h r l =
     let s : 0 < spacing = spacing_some precision amount parts spacing r in
     omega arith
 
--- where it has few enough
+-- a spacing with a quotient below 2 ^ precision is the last one
 pub last : (precision amount parts spacing : ℕ) → 0 < parts → IsReached precision amount parts spacing
     → amount / (parts * spacing) < 2 ^ precision → IsSpacing precision amount parts spacing
 last precision amount parts spacing h r l = record {

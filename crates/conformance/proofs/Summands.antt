@@ -17,17 +17,17 @@ use Rattle.apfloat_pair_theory.proofs.pairs.LawOperands.{magnitude_quanta, norma
 use Rattle.apfloat_pair_theory.proofs.sums.PairSumLaws.{single_normalised}
 use Rattle.conformance.specs.Summands.{reach_of_three, IsSummand}
 
--- the number of a double alone
+-- the number of a pair that is a double and +0
 alone_number : (x : Datum) → pair_number (alone x) ≡ number x
 alone_number x = +ℤ_idr (number x)
 
--- a summand alone is a pair of one double
+-- a summand with low part +0 is a single double
 single : (reach : ℕ) (x : Datum) → IsSummand reach x → IsSingle (alone x)
 single reach x s = record { is_finite = s.is_finite; low_is = refl }
 
 -- ---- two doubles
 
--- of two doubles nothing is lost
+-- a sum of two doubles loses nothing
 pub two_exactly : (x y : Datum) (first second answer : Pair) → first ≡ alone x → second ≡ alone y
     → IsSummand sum_reach x → IsSummand sum_reach y → IsErrorFreeSum first second answer
     → IsExactPair (number x +ℤ number y) 1 answer
@@ -39,7 +39,7 @@ two_exactly x y p q answer e f s t law =
 
 -- ---- three doubles
 
--- what the high part is at most: seven sixths of the number
+-- the high part is at most seven sixths of the number
 high_most : (t h l n a b : ℕ) → 7 * l ≤ h → h ≤ n + l → n ≤ a + b → a ≤ t → b ≤ t → h ≤ 4 * t
 high_most t h l n a b low high sum first second = omega arith
 
@@ -73,23 +73,23 @@ first_reach x y s k m e =
     most in
     subst (λ (i : ℕ). quanta_of s.high ≤ i) four_times quanta
 
--- what is within a reach is within four times of it
+-- what is within a reach is within four times that reach
 widened_reach : (t n : ℕ) → n ≤ t → n ≤ 4 * t
 widened_reach t n h = omega arith
 
--- the third double is within reach as well
+-- the third double is within reach too
 third_reach : (z : Datum) → IsSummand reach_of_three z → quanta_of z ≤ sum_reach
 third_reach z s = subst (λ (i : ℕ). quanta_of z ≤ i) four_times
     (widened_reach reach_of_three (quanta_of z) s.within)
 
--- a close answer to equal summands
+-- a sum that is close for some summands is close for equal ones
 close_by : (m n p q : ℤ) (answer : Pair) → m ≡ n → p ≡ q
     → IsClosePair (m +ℤ p) 1 103 (magnitude m + magnitude p) answer
     → IsClosePair (n +ℤ q) 1 103 (magnitude n + magnitude q) answer
 close_by m n p q answer e f close =
     subst₂ (λ (i : ℤ) (j : ℤ). IsClosePair (i +ℤ j) 1 103 (magnitude i + magnitude j) answer) e f close
 
--- of three doubles little is lost
+-- a sum of three doubles loses little
 pub three_closely : (x y z : Datum) (sum third answer : Pair) → third ≡ alone z → IsMember double z
     → IsSummand reach_of_three x → IsSummand reach_of_three y → IsSummand reach_of_three z
     → IsExactPair (number x +ℤ number y) 1 sum → IsAccurateSum sum third answer

@@ -1,4 +1,4 @@
--- What two calls read a text as, one of which drops the status.
+-- Whether two readings of a text agree, one of which drops the status.
 use Rattle.std.specs.Prelude.{◌≡◌, Result, Ok, Err}
 use Rattle.apfloat_base.specs.declared.parse_error.ParseError.{ParseError}
 use Rattle.apfloat_base.specs.declared.status.StatusAnd.{StatusAnd}

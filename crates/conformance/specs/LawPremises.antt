@@ -15,7 +15,7 @@ pub record AreNear (x y : Datum) : Type 0 where
   pub few_left : left ≤ 2 * right
   pub few_right : right ≤ 2 * left
 
--- a number of the format f that g has too, as a count of g's quanta
+-- a number of the format f that g has too, in quanta of g
 pub record IsInBoth (f g : Format) (x : Datum) : Type 0 where
   pub negative : Bool
   pub quanta : ℕ

@@ -1,4 +1,4 @@
--- What the plain program for one rounding works with.
+-- Definitions for the plain program for one rounding.
 use Rattle.std.specs.Prelude.{◌≡◌, ℕ, ◌-◌, ◌*◌, ◌^◌, ◌<◌, ◌≤◌, ◌⊎◌, Bool, ltb, if◌then◌else◌}
 use Rattle.apfloat_base.specs.declared.kinds.NonfiniteBehavior.{NonfiniteBehavior}
 use Rattle.rustc_apfloat.specs.Format.{Format, smallest_normalized, largest, nan_base_of}
@@ -16,7 +16,7 @@ pub record IsSmall (precision amount parts : ℕ) : Type 0 where
   pub parts_bound : parts < 2 ^ 64
 
 -- The distance between neighbouring grid points around amount / parts: a power of two. The magnitude is less than 2 ^
--- precision of them, and at least half of that, unless it is the last spacing.
+-- precision spacings, and at least half of that unless the spacing is 1.
 pub record IsSpacing (precision amount parts spacing : ℕ) : Type 0 where
   pub place : ℕ
   pub is : spacing ≡ 2 ^ place
@@ -35,7 +35,7 @@ abbrev pub tiny_of : Bounds → ℕ → ℕ → ℕ → Bool
 tiny_of b amount parts pick =
     if b.tiny_before_rounding then ltb amount (b.smallest_normalized * parts) else ltb pick b.smallest_normalized
 
--- the NaN past the largest value of a format of that kind and precision
+-- the datum of an answer, in a format of this kind and precision
 abbrev pub datum_of : NonfiniteBehavior → ℕ → Answer → Datum
 datum_of kind precision (Finite negative quanta) = finite negative quanta
 datum_of kind precision (Infinite negative) = infinite negative

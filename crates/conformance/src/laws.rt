@@ -1,5 +1,5 @@
-//! The laws of the public calls in use, for every format: each function calls the library, and its contract is what the
-//! law says about the results. None has a premise on the format except where a call needs it.
+//! The laws of the public calls, for every format: each function calls the library, and its contract is what the law
+//! says about the results. A function has a condition on the format only where a call has it.
 
 ghost use Rattle.std.specs.Prelude.{◌≡◌, ◌^◌, ◌<◌, ◌≤◌, IsTrue, true, false, ◌-ℤ◌, ◌≤ℤ◌};
 ghost use Rattle.apfloat_base.specs.declared.kinds.NonfiniteBehavior.TheVariants.{IEEE754};

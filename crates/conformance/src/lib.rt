@@ -1,8 +1,7 @@
-//! What tests across crates need: user-defined formats, and a plain slow program for one rounding, with which the
-//! kernel is compared.
+//! User-defined formats, callers that use contracts alone, and a plain slow program for one rounding, with which tests
+//! compare the library.
 //!
-//! The tests are in the crate `conformance_tests`. The program `check_vectors` checks files of test vectors from
-//! outside.
+//! The tests are in the crate `conformance_tests`.
 #![tactic(auto)]
 
 pub mod agreements;

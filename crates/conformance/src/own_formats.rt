@@ -22,7 +22,7 @@ pub use ten::{Ten, TenS};
 pub use vast::{Vast, VastS};
 pub use written_bit::{WrittenBit, WrittenBitS};
 
-/// Seven bits, whose exponents are all one above those of IEEE 754.
+/// Seven bits, with all exponents one greater than IEEE 754 would have them.
 #[derive(Clone, Copy)]
 pub struct SevenS;
 

@@ -1,7 +1,8 @@
 //! One rounding by a plain slow program, with which the library's is compared.
 //!
-//! It uses whole numbers only: a spacing is doubled until few enough of it make up the magnitude, its two neighbours
-//! are multiples of that spacing, and their distances are compared. Its contracts are the definition of one rounding.
+//! It uses integers only: a spacing is doubled until the magnitude is less than 2^precision spacings, the two
+//! neighbours are multiples of that spacing, and their distances are compared. Its contracts are the definition of one
+//! rounding.
 
 ghost use Rattle.std.specs.Prelude.{◌≡◌, ◌+◌, ◌*◌, ◌/◌, ◌^◌, ◌<◌, ◌≤◌, ℕ, if◌then◌else◌};
 ghost use Rattle.rustc_apfloat.specs.Flags.{bits_of};
@@ -79,7 +80,7 @@ pub fn pick(precision: u32, mode: Round, negative: bool, amount: u128, parts: u1
     }
 }
 
-/// `amount / parts`, rounded by the mode to a whole number.
+/// `amount / parts`, rounded by the mode to an integer.
 pub fn whole(mode: Round, negative: bool, amount: u128, parts: u128) -> u128
     requires { 0 < parts }
     ensures picked { result ≡ whole_pick mode negative amount parts }
@@ -106,7 +107,7 @@ pub struct Bounds {
     pub largest: u128,
     /// The least magnitude that is not denormal.
     pub smallest_normalized: u128,
-    /// Whether a result is judged tiny by the exact magnitude rather than by the rounded one.
+    /// Whether tininess is detected before rounding.
     pub tiny_before_rounding: bool,
     /// Which non-finite values the format has.
     pub nonfinite: NonfiniteBehavior,
@@ -115,11 +116,11 @@ pub struct Bounds {
 /// The value that a rounding returns.
 #[derive(Clone, Copy, Debug)]
 pub enum Answer {
-    /// A count of quanta with that sign.
+    /// A number of this sign, in quanta.
     Finite { negative: bool, quanta: u128 },
-    /// The infinity of that sign.
+    /// The infinity of this sign.
     Infinite { negative: bool },
-    /// The NaN of that sign, in a format that has no infinity.
+    /// The NaN of this sign, in a format that has no infinity.
     NotANumber { negative: bool },
 }
 
@@ -135,7 +136,7 @@ fn past_largest(nonfinite: NonfiniteBehavior, negative: bool) -> Answer
     }
 }
 
-/// That many quanta with that sign; a zero has the sign only if the format has that zero.
+/// The number of this sign and so many quanta; a zero is negative only if the format has a negative zero.
 fn number_of(nonfinite: NonfiniteBehavior, negative: bool, quanta: u128) -> Answer
     ensures { (precision : ℕ)
         → datum_of nonfinite precision result ≡ signed_quanta nonfinite negative quanta }
@@ -160,7 +161,7 @@ fn leads_out(mode: Round, negative: bool) -> bool
     }
 }
 
-/// Whether an inexact result counts as tiny, judged by the exact magnitude or by the picked one.
+/// Whether an inexact result is tiny, by the exact magnitude or by the picked one, as the format says.
 fn is_tiny(bounds: Bounds, amount: u128, parts: u128, picked: u128) -> bool
     requires normalized { bounds.smallest_normalized < 2 ^ 60 }
     requires parts { parts < 2 ^ 64 }
@@ -192,7 +193,7 @@ fn status_within(bounds: Bounds, amount: u128, parts: u128, picked: u128) -> Sta
     }
 }
 
-/// The magnitude `amount / parts` with that sign, rounded once.
+/// The magnitude `amount / parts` with this sign, rounded once.
 pub fn deliver(
     bounds: Bounds,
     mode: Round,

@@ -1,4 +1,4 @@
-//! Two answers to one question, for a format and for pairs of doubles.
+//! Operators and calls that have the same result, for a format and for pairs of doubles.
 
 use conformance::agreements::{readings, remainders, sums};
 use rustc_apfloat::ieee::Half;

@@ -63,7 +63,6 @@ const SEVEN: Subject = Subject {
     infinity: 0x38,
 };
 
-/// The bits of a value.
 fn bits_of(subject: Subject, value: Answer) -> u128
     requires { 0 < subject.bounds.smallest_normalized }
 {
@@ -76,7 +75,6 @@ fn bits_of(subject: Subject, value: Answer) -> u128
     }
 }
 
-/// The bits of a sign.
 fn sign_bit(subject: Subject, negative: bool) -> u128 {
     if negative { subject.minus } else { 0 }
 }

@@ -20,7 +20,7 @@ struct Named {
     infinity: u128,
 }
 
-/// The named values of a format have the given bits.
+/// Asserts that the named values of a format have the given bits.
 fn check<S: Semantics>(rt: &impl Abort, named: Named)
     requires { S.PRECISION < S.BITS }
 {
@@ -112,7 +112,7 @@ fn constants_of_types(rt: HostRuntime) {
     assert_eq!(rt; constants::<LeastS>(), (0, 3, -1, 3));
 }
 
-/// What a format for computing only says about its digits, its non-finite values and its rule for tininess.
+/// The constants of a format that `Float` does not have.
 #[derive(Clone, Copy, PartialEq, Eq, Debug)]
 struct Rules {
     exp_bits: usize,
@@ -126,7 +126,6 @@ struct Rules {
     tiny_before_rounding: bool,
 }
 
-/// The rules of a format.
 fn rules_of<S: Semantics>() -> Rules {
     Rules {
         exp_bits: S::EXP_BITS,

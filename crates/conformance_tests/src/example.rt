@@ -73,13 +73,13 @@ impl Semantics for EightS {
 
 type Eight = IeeeFloat<EightS>;
 
-/// The bits of the binary16 value nearest to a whole number, with the status of its rounding.
+/// The bits of the binary16 value nearest to an integer, with the status of its rounding.
 fn bits_of(number: u128) -> StatusAnd<u128> {
     let answer = Half::from_u128_r(number, Round::NearestTiesToEven);
     answer.status.and(answer.value.to_bits())
 }
 
-/// The value nearest to a whole number, in any format.
+/// The value nearest to an integer, in any format.
 fn nearest<S: Semantics>(number: u128) -> StatusAnd<IeeeFloat<S>>
     ensures { Gives (IsFromUnsigned (format_of S.Semantics) NearestTiesToEven number) result }
 {

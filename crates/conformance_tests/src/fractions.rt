@@ -1,5 +1,5 @@
 //! The fraction and the exponent of every bit pattern of the small formats, compared with the digits of its quanta, and
-//! both combined again.
+//! put together again.
 
 ghost use Rattle.std.specs.Prelude.{◌^◌, ◌<◌};
 

@@ -51,7 +51,7 @@ const LIMITS: [Limit; 12] = [
 
 const SIGNS: [bool; 2] = [false, true];
 
-/// The value of a limit with that sign.
+/// The value of a limit with this sign.
 fn value_at<S: Semantics>(limit: Limit, negative: bool) -> IeeeFloat<S> {
     let x = match limit {
         Limit::Zero => IeeeFloat::<S>::zero(),
@@ -90,7 +90,7 @@ fn check_difference<S: Semantics>(rt: &impl Abort, x: IeeeFloat<S>, y: IeeeFloat
     }
 }
 
-/// Sums of numbers in order with a third one are in order.
+/// Adding a third number to two numbers keeps their order.
 fn check_sums<S: Semantics>(rt: &impl Abort, x: IeeeFloat<S>, y: IeeeFloat<S>, z: IeeeFloat<S>) {
     let has_infinities = S::NONFINITE_BEHAVIOR == NonfiniteBehavior::IEEE754;
     let are_finite = x.is_finite() && y.is_finite() && z.is_finite();
@@ -118,8 +118,8 @@ fn check_product<S: Semantics>(rt: &impl Abort, x: IeeeFloat<S>, y: IeeeFloat<S>
     }
 }
 
-/// A number is unchanged by conversion to the format of the most digits and the widest exponents and back, and by
-/// conversion to one of three digits and back if that format has it.
+/// A number is unchanged by conversion to the format with the most digits and the widest exponents, and back; so it is
+/// by conversion to a format of three digits and back, if that format has it.
 fn check_conversions<S: Semantics>(rt: &impl Abort, x: IeeeFloat<S>) {
     for mode in MODES {
         let (from_vast, lost) = there_and_back::<S, VastS>(x, mode);

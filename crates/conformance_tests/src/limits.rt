@@ -11,14 +11,14 @@ use rustc_apfloat::{Category, Flags, Float, Round};
 use std::cmp::Ordering;
 use std::process::Abort;
 
-/// What a whole number is converted to: another whole number, or the value past the largest one.
+/// What an integer is converted to: an integer, or the value past the largest one.
 #[derive(Clone, Copy)]
 enum Answer {
     Number(u128),
     Past,
 }
 
-/// A whole number, a mode, the answer and the bits of its status.
+/// An integer, a mode, the result and the bits of its status.
 type Row = (u128, Round, Answer, u8);
 
 /// The largest value is 14.
@@ -75,7 +75,6 @@ static TEN: [Row; 4] = [
     (126976, ZERO, Answer::Number(122880), INEXACT),
 ];
 
-/// Each row of a table.
 fn check_rows<S: Semantics>(rt: &impl Abort, rows: &[Row]) {
     for (number, mode, answer, status) in rows {
         let got = IeeeFloat::<S>::from_u128_r(*number, *mode);

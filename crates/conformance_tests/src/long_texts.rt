@@ -1,4 +1,4 @@
-//! Texts with very many digits.
+//! Texts of up to a million digits.
 
 ghost use Rattle.std.specs.Prelude.{◌<◌};
 

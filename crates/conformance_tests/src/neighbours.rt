@@ -15,7 +15,7 @@ use rustc_apfloat::ieee::{
 };
 use std::process::Abort;
 
-/// The bits of that sign and magnitude; in some formats a zero has no sign.
+/// The bits of a sign and a magnitude; in some formats a zero has no sign.
 fn signed(layout: Layout, negative: bool, magnitude: u128) -> u128 {
     let unsigned_zero = magnitude == 0
         && layout.bounds.nonfinite == NonfiniteBehavior::NanNegativeZero;
@@ -26,7 +26,7 @@ fn signed(layout: Layout, negative: bool, magnitude: u128) -> u128 {
     }
 }
 
-/// The result of a step from a NaN: of a signaling one, only the sign is kept.
+/// The result of a step from a NaN; a signaling one keeps only its sign.
 fn step_from_nan(format: Small, bits: u128, negative: bool) -> Expected {
     if signals(format, bits) {
         let layout = layout_of(format);
@@ -70,8 +70,8 @@ fn check_all<S: Semantics>(rt: &impl Abort, format: Small)
     }
 }
 
-/// A step up and a step down from a nonzero number; past the largest value, the way back leads to it only from an
-/// infinity.
+/// A step up and a step down lead back to a nonzero number, except that a step past the largest value can be undone
+/// only from an infinity.
 fn check_back<S: Semantics>(rt: &impl Abort, format: Small)
     requires { S.PRECISION < S.BITS }
 {

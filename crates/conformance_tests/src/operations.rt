@@ -11,7 +11,7 @@ use rustc_apfloat::ieee::{
 use rustc_apfloat::{Float, Round, StatusAnd};
 use std::process::Abort;
 
-/// An answer is the expected one.
+/// Asserts that value and status are the expected ones.
 fn check<S: Semantics>(
     rt: &impl Abort,
     answer: StatusAnd<IeeeFloat<S>>,

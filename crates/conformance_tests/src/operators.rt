@@ -19,7 +19,7 @@ enum Operator {
     Modulo,
 }
 
-/// An operator, the bits of two operands, the bits of the answer and the bits of its status.
+/// An operator, the bits of two operands, the bits of the result and the bits of its status.
 type Row = (Operator, u128, u128, u128, u8);
 
 static HALF: [Row; 11] = [
@@ -36,7 +36,6 @@ static HALF: [Row; 11] = [
     (Operator::Modulo, 0x7bff, 0x0001, 0x0000, OK),
 ];
 
-/// The answer of an operator.
 fn answer_of(operator: Operator, x: Half, y: Half) -> StatusAnd<Half> {
     match operator {
         Operator::Plus => x + y,
@@ -85,7 +84,7 @@ fn operators(rt: HostRuntime) {
     }
 }
 
-/// The bits of two factors and an addend, the bits of the answer and the bits of its status.
+/// The bits of two factors and an addend, the bits of the result and the bits of its status.
 type Fused = (u128, u128, u128, u128, u8);
 
 static SINGLE_FUSED: [Fused; 2] = [
@@ -116,7 +115,6 @@ static HALF_FUSED: [Fused; 3] = [
     (0x3c01, 0x3c01, 0xbc02, 0x0010, OK),
 ];
 
-/// The fused sums of a table.
 fn check_fused<S: Semantics>(rt: &impl Abort, rows: &[Fused])
     requires written { S.PRECISION < S.BITS }
     requires short { S.PRECISION ≤ 63 }
@@ -194,7 +192,7 @@ fn quiet_nans(rt: HostRuntime) {
     assert_eq!(rt; X87DoubleExtended::nan().to_bits(), 0x7fffc000000000000000);
 }
 
-/// The bits of a text's value, or the words for its fault.
+/// The bits of a text's value, or the words of the refusal.
 fn parsed<S: Semantics>(text: &str) -> Result<u128, &'static str>
     requires { S.PRECISION < S.BITS }
 {
@@ -232,7 +230,7 @@ fn joins_statuses(rt: HostRuntime) {
     assert_eq!(rt; fourth, 4);
 }
 
-/// Each pair has a flag in common and one that is not, so no operator gives the same answer as another.
+/// The two statuses share a flag and each has one of its own, so no two operators give the same result.
 #[test]
 fn operators_of_statuses(rt: HostRuntime) {
     let left = Status::INVALID_OP | Status::INEXACT;

@@ -18,7 +18,7 @@ fn check_bits<S: Semantics>(rt: &impl Abort, patterns: u64)
     }
 }
 
-/// A negated value has the bits `turned`, and negated again its own.
+/// A negated value has the bits `turned`; negated twice, it has its own bits again.
 fn check_sign<S: Semantics>(rt: &impl Abort, bits: u128, turned: u128)
     requires { S.PRECISION < S.BITS }
 {

@@ -16,12 +16,11 @@ pub enum Small {
     Float8E4M3FNUZ,
 }
 
-/// What the bits of a format mean; the patterns of positive numbers increase with the numbers, from zero to the
-/// largest.
+/// The layout of a format's bits. The patterns of positive numbers increase with the numbers, from zero to the largest.
 #[derive(Clone, Copy)]
 pub struct Layout {
     pub bounds: Bounds,
-    /// How many quanta 1 is.
+    /// 1, in quanta.
     pub one: u128,
     /// The bits of a minus sign.
     pub minus: u128,
@@ -176,7 +175,7 @@ pub fn magnitude_bits(integer_bit: u128, quanta: u128) -> u128
     exponent + significand
 }
 
-/// The bits of that sign; in some formats a zero and a NaN have none.
+/// The bits of a sign; in some formats a zero and a NaN have none.
 pub fn sign_bit(layout: Layout, negative: bool) -> u128 {
     if negative { layout.minus } else { 0 }
 }
@@ -186,7 +185,7 @@ pub fn past_bits(layout: Layout, negative: bool) -> u128 {
     sign_bit(layout, negative) | layout.past
 }
 
-/// The bits of an answer.
+/// The bits of a result of the plain program.
 pub fn bits_of(layout: Layout, answer: Answer) -> u128
     requires { 0 < layout.bounds.smallest_normalized }
 {
@@ -206,7 +205,7 @@ pub struct Expected {
     pub status: u8,
 }
 
-/// The bits and the status of an answer.
+/// The bits and the status of a result of the library.
 pub fn answered<S: Semantics>(answer: StatusAnd<IeeeFloat<S>>) -> Expected
     requires { S.PRECISION < S.BITS }
 {
@@ -390,7 +389,6 @@ pub fn quotient(format: Small, mode: Round, x: u128, y: u128) -> Expected {
     }
 }
 
-/// The expected quotient of two numbers.
 fn quotient_of_numbers(format: Small, mode: Round, negative: bool, x: u128, y: u128) -> Expected
     requires left { x < 2 ^ 40 }
     requires right { y < 2 ^ 40 }
@@ -406,7 +404,7 @@ fn quotient_of_numbers(format: Small, mode: Round, negative: bool, x: u128, y: u
     }
 }
 
-/// The expected result of rounding the bit pattern to a whole number.
+/// The expected result of rounding the bit pattern to an integral value.
 pub fn integral(format: Small, mode: Round, bits: u128) -> Expected {
     let layout = layout_of(format);
     let x = decoded(format, bits);

@@ -23,7 +23,7 @@ pub const MODES: [Round; 5] = [EVEN, UP, DOWN, ZERO, AWAY];
 /// The bits of a status without flags.
 pub const OK: u8 = 0x00;
 
-/// The bits of an inexact answer.
+/// The bits of an inexact result.
 pub const INEXACT: u8 = 0x10;
 
 /// The bits of an invalid operation.

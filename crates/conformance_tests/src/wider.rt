@@ -43,7 +43,7 @@ fn check<S: Semantics, W: Semantics>(rt: &impl Abort, patterns: u64, quiet: u128
 struct Wide {
     /// How many digits are below the integer bit.
     fraction_digits: u32,
-    /// 1 is 2 to this power quanta.
+    /// The exponent of 1 in quanta: 1 is 2^scale quanta.
     scale: u32,
     minus: u128,
     infinity: u128,
@@ -66,7 +66,7 @@ const SINGLE: Wide = Wide {
     quiet: 1 << 22,
 };
 
-/// 1 is 2 to this power quanta.
+/// The exponent of 1 in quanta: 1 is 2^scale quanta.
 fn scale_of(format: Small) -> u32
     ensures { result ≤ 24 }
 {
@@ -107,7 +107,7 @@ fn nan_bits(format: Small, wide: Wide, bits: u128) -> u128
     wide.infinity | wide.quiet | significand << more_digits
 }
 
-/// The bits of that sign; in some formats the NaN has none.
+/// The bits of a sign; in some formats the NaN has none.
 fn wide_sign(format: Small, wide: Wide, x: Operand) -> u128 {
     match (x.class, layout_of(format).bounds.nonfinite) {
         (Class::NotANumber, NonfiniteBehavior::NanNegativeZero) => 0,
@@ -136,7 +136,7 @@ fn widened(format: Small, wide: Wide, bits: u128) -> Expected
     }
 }
 
-/// Whether the conversion back loses the payload of a NaN as a whole.
+/// Whether the conversion back loses the whole payload of a NaN.
 fn loses_payload(format: Small, bits: u128) -> bool {
     let has_payloads = layout_of(format).bounds.nonfinite == NonfiniteBehavior::IEEE754;
     is_nan(format, bits) && !has_payloads

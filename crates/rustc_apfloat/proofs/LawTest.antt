@@ -1,4 +1,4 @@
--- How a format of a user's own proves its law: by the test of its constants, which is computed.
+-- How a user-defined format proves its law: a test of its constants is computed.
 use Rattle.std.proofs.Common.{◌≡◌, true}
 use Rattle.apfloat_base.specs.formats.Lawful.{Constants, IsLawful}
 use Rattle.apfloat_base.proofs.formats.LawTest.{lawful_test}
