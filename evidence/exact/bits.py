@@ -4,7 +4,7 @@ From the top: the sign, the biased exponent (the field), and the trailing signif
 format and those like it write the integer bit of the significand, too.
 """
 
-from exact.data import Finite, Infinite, NaN, number
+from exact.data import Finite, Infinite, NaN
 from exact.formats import NonFinite
 
 

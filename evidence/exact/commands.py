@@ -35,7 +35,8 @@ def replied(words):
     if not 4 <= len(words) <= 6:
         raise Refusal("arguments")
     format_word, operation, mode_word, *operands = words
-    for word, known in (format_word, _KINDS), (operation, (*_ON_VALUES, *_OTHERS)), (mode_word, MODES):
+    operations = (*_ON_VALUES, *_OTHERS)
+    for word, known in (format_word, _KINDS), (operation, operations), (mode_word, MODES):
         if word not in known:
             raise Refusal(word)
     kind, mode = _KINDS[format_word], MODES[mode_word]

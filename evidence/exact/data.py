@@ -52,7 +52,10 @@ def qnan(format, payload=0, negative=False):
 
 
 def snan(format, payload=0, negative=False):
-    """The signaling NaN; where no digit of the payload is left, the digit below the quiet bit is set."""
+    """The signaling NaN with the digits of the payload that fit.
+
+    If no digit is left, the one below the quiet bit is set, since a signaling NaN has a payload.
+    """
     quiet = qnan(format, payload, negative)
     significand = quiet.significand & ~format.quiet_bit
     if not significand & format.payload_mask:

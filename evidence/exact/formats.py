@@ -64,7 +64,7 @@ class Format:
 
     @cached_property
     def payload_mask(self):
-        """The digits of a NaN's significand that can vary: those below the integer bit, or none."""
+        """The digits of a NaN that can vary: those below the integer bit, or none."""
         return (1 << self.precision - 1) - 1 if self.has_infinity else 0
 
     @cached_property

@@ -32,7 +32,10 @@ def truncated_remainder(format, x, y):
 
 
 def nearest_remainder(format, x, y):
-    """What is left of x by the nearest integer quotient, ties to even. A zero has the sign of x."""
+    """What is left of x by the nearest integer quotient, ties to even.
+
+    A zero has the sign of x.
+    """
     special = special_remainder(format, x, y)
     if special:
         return special
@@ -44,7 +47,10 @@ def nearest_remainder(format, x, y):
 
 
 def ones_of_quotient(x, y):
-    """How many binary digits of the quotient, cut toward zero, are ones; 0 for special operands."""
+    """How many binary digits of the truncated quotient are ones; 0 for special operands.
+
+    So many multiples of y by powers of two are subtracted from x.
+    """
     if is_nonzero_number(x) and is_nonzero_number(y):
         return (x.quanta // y.quanta).bit_count()
     return 0

@@ -24,7 +24,8 @@ class Mode(Enum):
 def takes_above(mode, negative, is_odd, rest, unit):
     """Whether a mode takes the upper of two neighbours that are a unit apart.
 
-    The value is `rest` above the lower one, which is odd or even in units; it is not the lower one.
+    The value is `rest` above the lower one and not equal to it. The lower one is odd or even in
+    units.
     """
     if mode is Mode.UP:
         return not negative
@@ -38,7 +39,7 @@ def takes_above(mode, negative, is_odd, rest, unit):
 
 
 def rounded_quotient(mode, negative, amount, unit):
-    """The integer that a mode picks for the magnitude amount / unit, and whether they are equal."""
+    """The integer that a mode picks for amount / unit, and whether they are equal."""
     below, rest = divmod(amount, unit)
     if rest == 0:
         return below, True
@@ -60,7 +61,7 @@ def picked(precision, mode, negative, amount, parts):
 
 
 def overflows(mode, negative):
-    """Whether a mode goes from beyond the largest number to infinity, and not back to that number."""
+    """Whether a mode takes what is above the largest number to infinity."""
     if mode is Mode.UP:
         return not negative
     if mode is Mode.DOWN:

@@ -12,6 +12,7 @@ from exact.status import OK
 # An exponent may have any count of decimal digits.
 sys.set_int_max_str_digits(0)
 
+# "Inf" needs a sign, and the other spellings never have a "+".
 _INFINITY = re.compile(r"([+-])Inf|(-?)(?:inf|INFINITY)")
 _PAYLOAD = r"0[xX]\+?[0-9a-fA-F]+|0\+?[0-7]+|0|[1-9][0-9]*|\+[0-9]+"
 _NAN = re.compile(rf"(-?)([sS]?)(?:nan|NaN)(?:({_PAYLOAD})|\(({_PAYLOAD})\))?")
@@ -34,7 +35,7 @@ def read(format, text, mode):
 
 
 def read_infinity(format, text):
-    """The infinity that a text spells, or None. It has a sign before Inf, and never a + before inf."""
+    """The infinity that a text spells, or None."""
     match = _INFINITY.fullmatch(text)
     return infinity(format, text.startswith("-")) if match else None
 
@@ -99,7 +100,7 @@ def exponent_of(text):
 
 
 def shown(format, x):
-    """A datum as it is shown for debugging: its class, significand, and exponent of the integer bit."""
+    """A datum as it is shown for debugging: class, significand, exponent of the integer bit."""
     significand, exponent = shown_digits(format, x)
     sign = "-" if x.negative else "+"
     return f"({category(x)} | {sign}{significand} * 2^{exponent})"
