@@ -29,7 +29,7 @@ _COMMAND_SUBJECTS = {
     "int": "conversions from integers",
     "parse": "texts",
 }
-_REFUSED = "commands that are refused"
+_REFUSED = "Commands that are refused"
 
 _CALL_SUBJECTS = {
     "add_r sub_r + += - -=": "sums and differences",
@@ -103,7 +103,7 @@ def by_subject(rows):
     """The rows in the order of subjects and formats, with headings."""
     headings = list(dict.fromkeys([
         *(f"Commands: {subject}" for subject in _COMMAND_SUBJECTS.values()),
-        f"Commands: {_REFUSED}",
+        _REFUSED,
         *(f"Calls: {subject}" for subject in _CALL_SUBJECTS.values()),
         f"Calls: {_OTHER_CALLS}",
     ]))
@@ -120,18 +120,25 @@ def heading_of(row):
     """The heading that a row stands below."""
     columns = row.split("\t")
     if len(columns) == 2:
-        subject = subject_of(columns[0].split(" ")[1:2], _COMMAND_SUBJECTS, _REFUSED)
-        is_refused = columns[1].startswith("refused: ") and subject != "texts"
-        return f"Commands: {_REFUSED if is_refused else subject}"
-    return f"Calls: {subject_of(columns[:1], _CALL_SUBJECTS, _OTHER_CALLS)}"
+        command, answer = columns
+        subject = subject_of(operation_of(command), _COMMAND_SUBJECTS)
+        if subject is None or answer.startswith("refused: ") and subject != "texts":
+            return _REFUSED
+        return f"Commands: {subject}"
+    return f"Calls: {subject_of(columns[0], _CALL_SUBJECTS) or _OTHER_CALLS}"
 
 
-def subject_of(name, subjects, other):
-    """The subject of a name, which is given in a list."""
+def operation_of(command):
+    """The second word of a command, or an empty one."""
+    return (command.split(" ") + [""])[1]
+
+
+def subject_of(name, subjects):
+    """The subject of an operation or a call, or None."""
     for names, subject in subjects.items():
-        if set(name) & set(names.split()):
+        if name in names.split():
             return subject
-    return other
+    return None
 
 
 def place_of(row):
