@@ -1,0 +1,1 @@
+"""Floating point on exact integers: the model behind the stored rows and checksums."""

@@ -1,0 +1,281 @@
+"""Calls of the library by name, as rows write them.
+
+A row has seven columns: the call, the format or both formats of a conversion, the mode, the
+operands, the value, the flags, and what else the call returns. The first four are the question.
+"""
+
+from typing import NamedTuple
+
+from exact import conversions, remainders, status, words
+from exact.pairs import PAIRS, joined, split
+from exact.rounding import Mode
+from exact.texts import ParseError
+from exact.values import VALUES
+
+_KINDS = VALUES | {PAIRS.name: PAIRS}
+
+_ORDER = {-1: "Less", 0: "Equal", 1: "Greater", None: "None"}
+
+# Calls on values with a mode; without the ending `_r` the mode is to nearest, ties to even.
+_ROUNDED = {
+    "add_r": lambda kind, mode, x, y: kind.add(x, y, mode),
+    "sub_r": lambda kind, mode, x, y: kind.subtract(x, y, mode),
+    "mul_r": lambda kind, mode, x, y: kind.multiply(x, y, mode),
+    "div_r": lambda kind, mode, x, y: kind.divide(x, y, mode),
+    "mul_add_r": lambda kind, mode, x, y, z: kind.multiply_add(x, y, z, mode),
+    "round_to_integral": lambda kind, mode, x: kind.round_to_integral(x, mode),
+    "ieee_rem": lambda kind, mode, x, y: kind.nearest_remainder(x, y),
+    "c_fmod": lambda kind, mode, x, y: kind.truncated_remainder(x, y),
+    "next_up": lambda kind, mode, x: kind.next_up(x),
+    "next_down": lambda kind, mode, x: kind.next_down(x),
+}
+
+_OPERATORS = {"+": "add_r", "-": "sub_r", "*": "mul_r", "/": "div_r", "%": "c_fmod"}
+
+# Calls that return a value without flags.
+_VALUES = {
+    "neg": lambda kind, x: kind.negated(x),
+    "abs": lambda kind, x: kind.absolute(x),
+    "copy_sign": lambda kind, x, y: kind.copy_sign(x, y),
+    "min": lambda kind, x, y: kind.minimum_number(x, y),
+    "max": lambda kind, x, y: kind.maximum_number(x, y),
+    "minimum": lambda kind, x, y: kind.minimum(x, y),
+    "maximum": lambda kind, x, y: kind.maximum(x, y),
+    "to_bits": lambda kind, x: x,
+}
+
+# Questions about values, with the text of the answer.
+_TEXTS = {
+    "category": lambda kind, x: kind.category(x),
+    "debug": lambda kind, x: kind.shown(x),
+    "ilogb": lambda kind, x: str(kind.logarithm(x)),
+    "partial_cmp": lambda kind, x, y: _ORDER[kind.compared(x, y)],
+    "cmp_abs_normal": lambda kind, x, y: _ORDER[kind.compared_magnitudes(x, y)],
+}
+
+# Questions that are answered by yes or no.
+_TESTS = {
+    "eq": lambda kind, x, y: kind.equal(x, y),
+    "bitwise_eq": lambda kind, x, y: kind.same(x, y),
+    "is_negative": lambda kind, x: kind.is_negative(x),
+    "is_denormal": lambda kind, x: kind.is_denormal(x),
+    "is_signaling": lambda kind, x: kind.is_signaling(x),
+    "is_integer": lambda kind, x: kind.is_integer(x),
+    "is_normal": lambda kind, x: kind.is_normal(x),
+    "is_smallest": lambda kind, x: kind.is_smallest(x),
+    "is_smallest_normalized": lambda kind, x: kind.is_smallest_normalized(x),
+    "is_largest": lambda kind, x: kind.is_largest(x),
+    "is_nan": lambda kind, x: kind.category(x) == "NaN",
+    "is_infinite": lambda kind, x: kind.category(x) == "Infinity",
+    "is_zero": lambda kind, x: kind.category(x) == "Zero",
+    "is_non_zero": lambda kind, x: kind.category(x) != "Zero",
+    "is_finite": lambda kind, x: kind.category(x) in ("Zero", "Normal"),
+    "is_finite_non_zero": lambda kind, x: kind.category(x) == "Normal",
+    "is_pos_zero": lambda kind, x: kind.category(x) == "Zero" and not kind.is_negative(x),
+    "is_neg_zero": lambda kind, x: kind.category(x) == "Zero" and kind.is_negative(x),
+    "is_pos_infinity": lambda kind, x: kind.category(x) == "Infinity" and not kind.is_negative(x),
+    "is_neg_infinity": lambda kind, x: kind.category(x) == "Infinity" and kind.is_negative(x),
+}
+
+_CONSTANTS = {
+    "zero": lambda kind: kind.zero(),
+    "default": lambda kind: kind.zero(),
+    "smallest": lambda kind: kind.smallest(),
+    "smallest_normalized": lambda kind: kind.smallest_normalized(),
+    "largest": lambda kind: kind.largest(),
+    "infinity": lambda kind: kind.infinity(),
+    "nan": lambda kind: kind.qnan(0),
+}
+
+_NUMBERS = {
+    "BITS": lambda kind: str(kind.bits),
+    "PRECISION": lambda kind: str(kind.precision),
+    "MIN_EXP": lambda kind: str(kind.least_exponent),
+    "MAX_EXP": lambda kind: str(kind.greatest_exponent),
+    "MULTIPLIES": lambda kind: yes_or_no(kind.multiplies),
+}
+
+
+class Answer(NamedTuple):
+    """The answer of a call, as rows write it."""
+
+    value: str
+    flags: str = "-"
+    # What else the call returns, by name.
+    more: tuple = ()
+
+
+def answered(call, kind_word, mode_word, operands):
+    """The answer to a question. The mode `any` asks for the one answer of all modes."""
+    if mode_word == "any":
+        answers = {answered_in(call, kind_word, mode, operands) for mode in Mode}
+        if len(answers) != 1:
+            raise ValueError(f"{call} {kind_word} {operands} depends on the mode")
+        return answers.pop()
+    mode = Mode.EVEN if mode_word == "-" else Mode(mode_word)
+    return answered_in(call, kind_word, mode, operands)
+
+
+def answered_in(call, kind_word, mode, operands):
+    """The answer in a mode."""
+    if call in ("convert", "convert_r"):
+        return answered_conversion(*kind_word.split(">"), mode, operands)
+    if call == "from":
+        return answered_from(*kind_word.split(">"), operands)
+    kind = _KINDS[kind_word]
+    if call == "from_str_r":
+        return answered_text(kind, operands, mode)
+    if call == "from_str":
+        answer = answered_text(kind, operands, mode)
+        return answer if answer.flags == "ParseError" else Answer(answer.value)
+    if call in _NUMBERS:
+        return Answer(_NUMBERS[call](kind))
+    if call in _CONSTANTS:
+        return Answer(words.word_of(kind, _CONSTANTS[call](kind)))
+    if call in _ON_WORDS:
+        return _ON_WORDS[call](kind, mode, *operands.split(" "))
+    data = [words.value_of(kind, word) for word in operands.split(" ")]
+    if call in _TEXTS:
+        return Answer(_TEXTS[call](kind, *data))
+    if call in _TESTS:
+        return Answer(yes_or_no(_TESTS[call](kind, *data)))
+    if call in _VALUES:
+        return Answer(words.word_of(kind, _VALUES[call](kind, *data)))
+    if call in _RETURNING_MORE:
+        return _RETURNING_MORE[call](kind, mode, *data)
+    if call in _OPERATORS:
+        return rounded(kind, _OPERATORS[call], mode, data)
+    if call.endswith("="):
+        return Answer(rounded(kind, _OPERATORS[call[:-1]], mode, data).value)
+    return rounded(kind, call if call in _ROUNDED else call + "_r", mode, data)
+
+
+def rounded(kind, call, mode, data):
+    """The answer of a call that returns a value and its flags."""
+    return valued(kind, _ROUNDED[call](kind, mode, *data))
+
+
+def valued(kind, result):
+    """The answer of a value and its flags; rows may also say whether the value is signaling."""
+    value, flags = result
+    more = (("is_signaling", yes_or_no(kind.is_signaling(value))),)
+    return Answer(words.word_of(kind, value), status.names(flags), more)
+
+
+def yes_or_no(answer):
+    """A truth value as rows write it."""
+    return "true" if answer else "false"
+
+
+def answered_conversion(source_word, target_word, mode, operand):
+    """A conversion between formats."""
+    source, target = _KINDS[source_word], _KINDS[target_word]
+    x = words.value_of(source, operand)
+    value, flags, loses = conversions.convert(source.format, target.format, x, mode)
+    more = (("loses_info", yes_or_no(loses)),)
+    return Answer(words.word_of(target, value), status.names(flags), more)
+
+
+def answered_from(source_word, target_word, operand):
+    """A conversion between pairs of doubles and the wide format."""
+    source, target = _KINDS[source_word], _KINDS[target_word]
+    change = joined if source is PAIRS else split
+    return Answer(words.word_of(target, change(words.value_of(source, operand))))
+
+
+def answered_text(kind, text, mode):
+    """The reading of a text, or the words of its refusal."""
+    try:
+        value, flags = kind.read(text, mode)
+    except ParseError as error:
+        return Answer(str(error), "ParseError")
+    return Answer(words.word_of(kind, value), status.names(flags))
+
+
+def answered_from_integer(kind, mode, integer):
+    """The value of an integer."""
+    return valued(kind, kind.from_integer(int(integer), mode))
+
+
+def answered_to_unsigned(kind, mode, x, width):
+    """The unsigned integer of so many bits."""
+    return answered_integer(kind.to_unsigned(words.value_of(kind, x), int(width), mode))
+
+
+def answered_to_signed(kind, mode, x, width):
+    """The signed integer of so many bits."""
+    return answered_integer(kind.to_signed(words.value_of(kind, x), int(width), mode))
+
+
+def answered_integer(result):
+    """An integer, its flags, and whether it is exactly the value."""
+    integer, flags, exact = result
+    return Answer(str(integer), status.names(flags), (("is_exact", yes_or_no(exact)),))
+
+
+def answered_scaling(kind, mode, x, exponent):
+    """A value times a power of two."""
+    return Answer(words.word_of(kind, kind.scaled(words.value_of(kind, x), int(exponent), mode)))
+
+
+def answered_qnan(kind, _mode, payload):
+    """The quiet NaN of a payload."""
+    return Answer(words.word_of(kind, kind.qnan(words.payload_of(payload))))
+
+
+def answered_snan(kind, _mode, payload):
+    """The signaling NaN of a payload."""
+    return Answer(words.word_of(kind, kind.snan(words.payload_of(payload))))
+
+
+# Calls with operands that are not all values.
+_ON_WORDS = {
+    "from_u128_r": answered_from_integer,
+    "from_u128": answered_from_integer,
+    "from_i128_r": answered_from_integer,
+    "from_i128": answered_from_integer,
+    "to_u128_r": answered_to_unsigned,
+    "to_u128": lambda kind, _mode, x, width: answered_to_unsigned(kind, Mode.ZERO, x, width),
+    "to_i128_r": answered_to_signed,
+    "to_i128": lambda kind, _mode, x, width: answered_to_signed(kind, Mode.ZERO, x, width),
+    "scalbn_r": answered_scaling,
+    "scalbn": answered_scaling,
+    "qnan": answered_qnan,
+    "snan": answered_snan,
+}
+
+
+def answered_fraction(kind, mode, x):
+    """A fraction and its exponent."""
+    value, exponent = kind.fraction(x, mode)
+    return Answer(words.word_of(kind, value), more=(("exponent", exponent),))
+
+
+def answered_inverse(kind, _mode, x):
+    """An exact inverse, or None."""
+    inverse = kind.exact_inverse(x)
+    return Answer("None" if inverse is None else words.word_of(kind, inverse))
+
+
+def answered_round_trip(kind, _mode, x):
+    """A value converted to a signed integer of 128 bits, and back."""
+    integer = kind.to_signed(x, 128, Mode.ZERO)[0]
+    return Answer(words.word_of(kind, kind.from_integer(integer, Mode.EVEN)[0]))
+
+
+def answered_steps(kind, mode, x, y):
+    """A truncated remainder, how many subtractions it takes, and at most how many."""
+    answer = rounded(kind, "c_fmod", mode, (x, y))
+    bound = max(0, kind.logarithm(x) - kind.logarithm(y) + 1)
+    return answer._replace(
+        more=(("steps", remainders.ones_of_quotient(x, y)), ("bound", bound))
+    )
+
+
+_RETURNING_MORE = {
+    "frexp_r": answered_fraction,
+    "frexp": answered_fraction,
+    "get_exact_inverse": answered_inverse,
+    "through_i128": answered_round_trip,
+    "c_fmod_steps": answered_steps,
+}

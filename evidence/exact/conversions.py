@@ -1,0 +1,38 @@
+"""Conversions from format to format."""
+
+from exact.data import Infinite, infinity, is_nan, is_signaling, number, qnan, quieted
+from exact.exponents import delivered_power
+from exact.status import INEXACT, INVALID_OP, OK
+
+
+def convert(source, target, x, mode):
+    """The value in the target format, the flags, and whether information was lost."""
+    if is_nan(x):
+        return converted_nan(source, target, x)
+    if isinstance(x, Infinite):
+        loses = not target.has_infinity
+        return infinity(target, x.negative), INEXACT if loses else OK, loses
+    if x.quanta == 0:
+        loses = x.negative and not target.has_negative_zero
+        return number(target, x.negative, 0), INEXACT if loses else OK, loses
+    value, status = delivered_power(
+        target, mode, x.negative, x.quanta, target.scale - source.scale
+    )
+    return value, status, status != OK
+
+
+def converted_nan(source, target, x):
+    """A NaN becomes quiet, and keeps its sign and the first digits of its payload."""
+    signaling = is_signaling(source, x)
+    significand = quieted(source, x).significand
+    longer = target.precision - source.precision
+    loses = source.payload_mask != 0 and target.payload_mask == 0
+    if longer >= 0:
+        significand <<= longer
+    elif source.payload_mask != 0:
+        loses = loses or significand % (1 << -longer) != 0
+        significand >>= -longer
+    if signaling and source.writes_integer_bit and not target.writes_integer_bit:
+        loses = True
+    value = qnan(target, significand, x.negative)
+    return value, INVALID_OP if signaling else OK, loses
