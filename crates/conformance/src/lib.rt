@@ -1,5 +1,5 @@
-//! What tests across crates need: user-defined formats, and a plain slow program for one rounding, with which the
-//! kernel is compared.
+//! What tests across crates need: callers that rest on contracts alone, and a plain slow program for one rounding, with
+//! which the kernel is compared.
 //!
 //! The tests are in the crate `conformance_tests`. The program `check_vectors` checks files of test vectors from
 //! outside.
@@ -7,7 +7,6 @@
 
 pub mod agreements;
 pub mod laws;
-pub mod own_formats;
 pub mod pairs;
 pub mod plain;
 pub mod widest;
