@@ -1,12 +1,10 @@
-//! User-defined formats, callers that use contracts alone, and a plain slow program for one rounding, with which tests
-//! compare the library.
+//! Callers that use contracts alone, and a plain slow program for one rounding, with which tests compare the library.
 //!
 //! The tests are in the crate `conformance_tests`.
 #![tactic(auto)]
 
 pub mod agreements;
 pub mod laws;
-pub mod own_formats;
 pub mod pairs;
 pub mod plain;
 pub mod widest;

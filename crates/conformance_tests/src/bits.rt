@@ -2,7 +2,7 @@
 
 ghost use Rattle.std.specs.Prelude.{◌<◌};
 
-use conformance::own_formats::SevenS;
+use custom_formats::SevenS;
 use rustc_apfloat::ieee::{DoubleS, HalfS, IeeeFloat, Semantics, SingleS, X87DoubleExtendedS};
 use rustc_apfloat::{Category, Float};
 use std::process::Abort;

@@ -6,8 +6,8 @@ ghost use Rattle.conformance.specs.Plain.{HasBounds};
 
 use crate::small::magnitude_bits;
 use crate::tables::MODES;
-use conformance::own_formats::{HalfTinyBeforeS, SevenS};
 use conformance::plain::{Answer, Bounds, deliver};
+use custom_formats::{HalfTinyBeforeS, SevenS};
 use rustc_apfloat::ieee::{Half, HalfS, Loss, NonfiniteBehavior, Semantics};
 use rustc_apfloat::{ExpInt, Float, Round, ieee};
 use std::process::Abort;

@@ -2,7 +2,7 @@
 
 ghost use Rattle.std.specs.Prelude.{◌<◌};
 
-use conformance::own_formats::{Least, LeastS, SevenS};
+use custom_formats::{Least, LeastS, SevenS};
 use rustc_apfloat::ieee::{
     BFloat, Double, DoubleS, Float8E4M3FNS, Float8E4M3FNUZS, Float8E5M2, HalfS, IeeeFloat,
     NonfiniteBehavior, Quad, Semantics, SingleS,

@@ -8,11 +8,11 @@ use conformance::laws::{
     near_difference, opposite_products, sums_in_order, there_and_back, through_bits, through_value,
     up_and_down,
 };
-use conformance::own_formats::{
+use conformance::widest::{WidestFusedSumsS, WidestProductsS};
+use custom_formats::{
     BroadS, DeepS, HalfTinyBeforeS, LeastFiniteS, LeastS, PreciseS, SevenS, TenS, VastS,
     WrittenBitS,
 };
-use conformance::widest::{WidestFusedSumsS, WidestProductsS};
 use rustc_apfloat::ieee::{IeeeFloat, NonfiniteBehavior, Semantics};
 use rustc_apfloat::{Float, Status};
 use std::process::Abort;

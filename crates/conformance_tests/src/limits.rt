@@ -3,7 +3,7 @@
 ghost use Rattle.std.specs.Prelude.{◌<◌};
 
 use crate::tables::{EVEN, INEXACT, OK, OVERFLOW_INEXACT, ZERO};
-use conformance::own_formats::{
+use custom_formats::{
     BroadS, DeepS, LeastFinite, LeastFiniteS, LeastS, PreciseS, Ten, TenS, VastS, WrittenBitS,
 };
 use rustc_apfloat::ieee::{IeeeFloat, Semantics};

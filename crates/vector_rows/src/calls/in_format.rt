@@ -8,7 +8,7 @@ use crate::calls::{
     arithmetic, constants, ieee, order, pairs, questions, texts, whole_numbers, without_status,
 };
 use crate::row_error::RowError;
-use conformance::own_formats::{
+use custom_formats::{
     BroadS, DeepS, HalfTinyBeforeS, LeastFiniteS, LeastS, PreciseS, SevenS, TenS, VastS,
     WrittenBitS,
 };

@@ -1,0 +1,26 @@
+//! Custom formats, declared as a user would declare them: each gives its constants and proves its law in one line.
+//!
+//! Programs read rows in them (`vector_rows`), and tests use them at the limits of the law (`conformance_tests`).
+#![tactic(auto)]
+
+mod broad;
+mod deep;
+mod half_tiny_before;
+mod least;
+mod least_finite;
+mod precise;
+mod seven;
+mod ten;
+mod vast;
+mod written_bit;
+
+pub use broad::{Broad, BroadS};
+pub use deep::{Deep, DeepS};
+pub use half_tiny_before::HalfTinyBeforeS;
+pub use least::{Least, LeastS};
+pub use least_finite::{LeastFinite, LeastFiniteS};
+pub use precise::{Precise, PreciseS};
+pub use seven::{Seven, SevenS};
+pub use ten::{Ten, TenS};
+pub use vast::{Vast, VastS};
+pub use written_bit::{WrittenBit, WrittenBitS};
