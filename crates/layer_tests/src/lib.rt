@@ -1,6 +1,6 @@
 //! Tests of the layers below the public calls.
 //!
-//! They are in a crate of their own, since the tests of a crate prove the whole crate again.
+//! They are in a separate crate, since testing a crate proves the whole crate again.
 #![tactic(auto)]
 
 #[cfg(test)]
