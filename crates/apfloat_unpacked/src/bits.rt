@@ -301,36 +301,3 @@ pub fn encode(shape: Shape, widths: Widths, x: Unpacked) -> u128
     let fields = fields_of_value(shape, widths, x);
     join(shape, widths, fields)
 }
-
-#[cfg(test)]
-mod tests {
-    use super::*;
-
-    const HALF: Shape = Shape {
-        precision: 11,
-        min_exp: -14,
-        max_exp: 15,
-        nonfinite: NonfiniteBehavior::IEEE754,
-        explicit_integer_bit: false,
-        tiny_before_rounding: false,
-    };
-
-    const HALF_WIDTHS: Widths = Widths {
-        bits: 16,
-        exponent_bits: 5,
-    };
-
-    #[test]
-    fn holds_denormals_normalized(rt: HostRuntime) {
-        let rows = [
-            (0x0001, 0x400, -24),
-            (0x03ff, 0x7fe, -15),
-            (0x0400, 0x400, -14),
-        ];
-        for (bits, significand, exponent) in rows {
-            let x = decode(HALF, HALF_WIDTHS, bits);
-            assert_eq!(rt; x.significand, significand);
-            assert_eq!(rt; x.exponent, exponent);
-        }
-    }
-}

@@ -298,23 +298,3 @@ pub fn deliver(
     let kept = keep(shape.precision, significand, unit, loss);
     finish(shape, kept, mode, negative)
 }
-
-#[cfg(test)]
-mod tests {
-    use super::*;
-
-    /// The significand after cutting the lowest of a significand's digits to eleven, rounded to nearest, ties to even.
-    fn cut_by_two(significand: u128, loss: Loss) -> u128
-        requires { 2 ^ 10 ≤ significand }
-    {
-        let kept = keep(11, significand, 1, loss);
-        pick(11, kept, Round::NearestTiesToEven, false).significand
-    }
-
-    #[test]
-    fn cuts_once(rt: HostRuntime) {
-        assert_eq!(rt; cut_by_two(0x1002, Loss::ExactlyZero), 0x400);
-        assert_eq!(rt; cut_by_two(0x1002, Loss::LessThanHalf), 0x401);
-        assert_eq!(rt; cut_by_two(0x1006, Loss::ExactlyZero), 0x402);
-    }
-}

@@ -9,3 +9,7 @@ mod modes;
 mod statuses;
 #[cfg(test)]
 mod sums;
+#[cfg(test)]
+mod texts;
+#[cfg(test)]
+mod unpacked;

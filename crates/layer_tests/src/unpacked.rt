@@ -1,0 +1,63 @@
+//! Unpacked values: their significands, and the one rounding.
+
+ghost use Rattle.std.specs.Prelude.{◌^◌, ◌≤◌};
+
+use apfloat_base::sig::Loss;
+use apfloat_base::{NonfiniteBehavior, Round};
+use apfloat_unpacked::bits::{Widths, decode};
+use apfloat_unpacked::rounding::deliver;
+use apfloat_unpacked::shape::Shape;
+
+/// The shape of binary16.
+pub fn half() -> Shape {
+    Shape {
+        precision: 11,
+        min_exp: -14,
+        max_exp: 15,
+        nonfinite: NonfiniteBehavior::IEEE754,
+        explicit_integer_bit: false,
+        tiny_before_rounding: false,
+    }
+}
+
+const HALF_WIDTHS: Widths = Widths {
+    bits: 16,
+    exponent_bits: 5,
+};
+
+#[test]
+fn holds_denormals_normalized(rt: HostRuntime) {
+    let rows = [
+        (0x0001, 0x400, -24),
+        (0x03ff, 0x7fe, -15),
+        (0x0400, 0x400, -14),
+    ];
+    for (bits, significand, exponent) in rows {
+        let x = decode(half(), HALF_WIDTHS, bits);
+        assert_eq!(rt; x.significand, significand);
+        assert_eq!(rt; x.exponent, exponent);
+    }
+}
+
+/// The significand of 13 digits after rounding to the 11 of binary16, to nearest, ties to even.
+fn rounded(significand: u128, loss: Loss) -> u128
+    requires { 2 ^ 12 ≤ significand }
+{
+    deliver(
+        half(),
+        significand,
+        -12,
+        loss,
+        Round::NearestTiesToEven,
+        false,
+    )
+    .value
+    .significand
+}
+
+#[test]
+fn cuts_once(rt: HostRuntime) {
+    assert_eq!(rt; rounded(0x1002, Loss::ExactlyZero), 0x400);
+    assert_eq!(rt; rounded(0x1002, Loss::LessThanHalf), 0x401);
+    assert_eq!(rt; rounded(0x1006, Loss::ExactlyZero), 0x402);
+}
