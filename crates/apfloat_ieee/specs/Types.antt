@@ -27,4 +27,5 @@ shape_of s =
       nonfinite = s.NONFINITE_BEHAVIOR;
       explicit_integer_bit = s.EXPLICIT_INTEGER_BIT;
       tiny_before_rounding = s.TINY_BEFORE_ROUNDING;
+      parameters = s.lawful.parameters;
     }

@@ -3,7 +3,6 @@
 //! The significand is decimal, with the sign directly in front of it. For a nonzero number, it is a whole number below
 //! `2^PRECISION`, and the exponent is that of the integer bit, which is at least `MIN_EXP`.
 
-ghost use Rattle.apfloat_unpacked.specs.Shapes.{IsShape};
 ghost use Rattle.apfloat_unpacked.specs.Stored.{IsStored, IsNormal};
 
 use crate::ieee_float::{IeeeFloat, shape_of};
@@ -22,8 +21,7 @@ struct Text {
 
 /// What is shown of a number; a denormal one is shown without the zeros that follow its last digit.
 fn number_text(shape: Shape, x: Unpacked) -> Text
-    requires lawful { IsShape shape }
-    requires normal { IsNormal shape x }
+    requires { IsNormal shape x }
 {
     if x.exponent < shape.min_exp {
         Text {
@@ -39,9 +37,7 @@ fn number_text(shape: Shape, x: Unpacked) -> Text
 }
 
 /// The exponent of the integer bit with which NaNs are written, or the value shown in its place.
-fn nan_exponent(shape: Shape) -> ExpInt
-    requires { IsShape shape }
-{
+fn nan_exponent(shape: Shape) -> ExpInt {
     match shape.nonfinite {
         NonfiniteBehavior::IEEE754 => shape.max_exp + 1,
         NonfiniteBehavior::NanOnly => shape.max_exp,
@@ -51,8 +47,7 @@ fn nan_exponent(shape: Shape) -> ExpInt
 
 /// What is shown of a value.
 fn text_of(shape: Shape, x: Unpacked) -> Text
-    requires lawful { IsShape shape }
-    requires stored { IsStored shape x }
+    requires { IsStored shape x }
 {
     match x.category {
         Category::Normal => number_text(shape, x),

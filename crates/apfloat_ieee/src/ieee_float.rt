@@ -7,11 +7,10 @@ ghost use Rattle.apfloat_base.specs.formats.Members.{IsMember};
 ghost use Rattle.apfloat_base.specs.rounding.Bounds.{IsWithin, exponent_bound};
 ghost use Rattle.apfloat_base.specs.rounding.Flags.{Gives};
 ghost use Rattle.apfloat_base.specs.rounding.Rounding.{IsDelivered};
-ghost use Rattle.apfloat_base.specs.rounding.Standing.{StandsFor, up, down};
+ghost use Rattle.apfloat_base.specs.rounding.Standing.{StandsFor, IsFineEnough, up, down};
 ghost use Rattle.apfloat_base.specs.bits.Interchange.{IsInterchange};
 ghost use Rattle.apfloat_base.specs.bits.Layout.{datum_of, IsEncodedBy};
 ghost use Rattle.apfloat_unpacked.specs.Encoded.{layout_at};
-ghost use Rattle.apfloat_unpacked.specs.Shapes.{IsShape};
 ghost use Rattle.apfloat_unpacked.specs.Stored.{IsStored, datum_at};
 ghost use Rattle.apfloat_ieee.specs.Types.{shape_of, format_of, layout_of};
 
@@ -52,8 +51,7 @@ impl<S: Semantics> Model for IeeeFloat<S> {
 /// The constants of a format that rounding reads.
 #[inline]
 pub(crate) fn shape_of<S: Semantics>() -> Shape
-    ensures value { result ≡ shape_of S.Semantics }
-    ensures lawful { IsShape result }
+    ensures { result ≡ shape_of S.Semantics }
 {
     Shape {
         precision: S::PRECISION as u32,
@@ -156,9 +154,8 @@ pub fn deliver<S: Semantics>(
     negative: bool,
 ) -> StatusAnd<IeeeFloat<S>>
     requires within { IsWithin exponent_bound exponent }
-    requires fine { (loss ≡ Loss.ExactlyZero)
-        ⊎ (((exponent +ℤ pos (format_of S.Semantics).scale) ≤ℤ pos 0)
-        ⊎ (2 ^ ((format_of S.Semantics).precision - 1) ≤ significand)) }
+    requires fine { let format = format_of S.Semantics in
+        IsFineEnough format.precision significand (exponent +ℤ pos format.scale) loss }
     ensures { let unit = exponent +ℤ pos (format_of S.Semantics).scale in (amount parts : ℕ)
         → 0 < parts → StandsFor significand loss (amount * 2 ^ down unit) (parts * 2 ^ up unit)
         → Gives (IsDelivered (format_of S.Semantics) round negative amount parts) result }

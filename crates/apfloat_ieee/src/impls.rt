@@ -411,7 +411,7 @@ impl<S: Semantics> Float for IeeeFloat<S> {
         (bits_of r.status) h };
 
     ghost signed_below_law = { λ n mode r p h. signed_below (format_of S.Semantics) mode n r.value
-        (bits_of r.status) (largest_some (format_of S.Semantics) S.lawful.precision_low) p h };
+        (bits_of r.status) (largest_some (format_of S.Semantics) S.lawful.parameters.precision_low) p h };
 
     ghost read_law = { λ text r h. h };
 

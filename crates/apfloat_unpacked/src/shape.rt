@@ -8,7 +8,7 @@ ghost use Rattle.apfloat_base.specs.rounding.Bounds.{IsWithin, span_bound, integ
 use apfloat_base::sig::power_of_two;
 use apfloat_base::{ExpInt, NonfiniteBehavior};
 
-/// The constants of a format that rounding reads.
+/// The constants of a format that rounding reads. Its precision and exponents obey the law of formats.
 #[derive(Clone, Copy, Debug)]
 pub struct Shape {
     /// How many binary digits a significand has, including the integer bit.

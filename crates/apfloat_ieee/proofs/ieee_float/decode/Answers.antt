@@ -13,7 +13,7 @@ implied_is_canonical f layout x e = rw e refl
 
 pub returns-clause-read : goal.returns-clause-read
 returns-clause-read g c =
-    let d = rw c.shape_of.ensures.value at c.decode.ensures.datum in
+    let d = rw c.shape_of.ensures at c.decode.ensures.datum in
     c.packed.ensures ∙
     subst (λ (l : Layout). datum_at (shape_of g.S.Semantics) c.decode.result
     ≡ datum_of (format_of g.S.Semantics) l c.args.bits) c.widths_of.ensures.value d

@@ -8,7 +8,7 @@ use Rattle.apfloat_ieee.proofs.sums.difference.Goals as goal
 pub returns-clause-nearby : goal.returns-clause-nearby
 returns-clause-nearby g c =
     let s = shape_of g.S.Semantics in
-    let d = rw c.shape_of.ensures.value at c.subtract.ensures.delivered in
+    let d = rw c.shape_of.ensures at c.subtract.ensures.delivered in
     let e = rw (← c.unpacked.ensures.datum, ← c.unpacked-2.ensures.datum) at d in
     let xm = member_is s c.unpacked.result c.unpacked.ensures.stored in
     let x = rw (← c.unpacked.ensures.datum) at xm in
@@ -20,5 +20,5 @@ returns-clause-nearby g c =
 
 pub returns-clause-difference : goal.returns-clause-difference
 returns-clause-difference g c =
-    let d = rw c.shape_of.ensures.value at c.subtract.ensures.delivered in
+    let d = rw c.shape_of.ensures at c.subtract.ensures.delivered in
     rw (c.answered.ensures.value, c.answered.ensures.status, c.unpacked.ensures.datum, c.unpacked-2.ensures.datum) d

@@ -5,5 +5,5 @@ use Rattle.apfloat_ieee.proofs.impls.IeeeFloatFloat.ilogb.Goals as goal
 pub returns : goal.returns
 returns g c =
     let e = to_z-of_z w32 c.ilogb.result (record { sfits = c.ilogb.type_inv }) in
-    let d = rw c.shape_of.ensures.value at c.ilogb.ensures in
+    let d = rw c.shape_of.ensures at c.ilogb.ensures in
     rw (c.unpacked.ensures.datum, e) (assumption d)

@@ -2,5 +2,5 @@ use Rattle.apfloat_ieee.proofs.impls.IeeeFloatFloat.is_signaling.Goals as goal
 
 pub returns : goal.returns
 returns g c =
-    let d = rw c.shape_of.ensures.value at c.is_signaling.ensures in
+    let d = rw c.shape_of.ensures at c.is_signaling.ensures in
     rw c.unpacked.ensures.datum (assumption d)

@@ -10,11 +10,10 @@ use Rattle.apfloat_ieee.proofs.impls.IeeeFloatFloat.next_up.Goals as goal
 pub returns-clause-back : goal.returns-clause-back
 returns-clause-back g c = λ k z.
     let s = shape_of g.S.Semantics in
-    let v = c.shape_of.ensures.value in
+    let v = c.shape_of.ensures in
     let n = rw v at c.next_up.ensures.next in
-    let law = rw v at c.shape_of.ensures.lawful in
     let m = member_is (shape_of g.S.Semantics) c.unpacked.result c.unpacked.ensures.stored in
-    let l = law.precision_low in
+    let l = g.S.Semantics.lawful.parameters.precision_low in
     let p : 2 ^ 3 ≤ 2 ^ g.S.Semantics.PRECISION = pow-le-pow_right two_pos l in
     let d = c.unpacked.ensures.datum in
     let b = next_back (format_of g.S.Semantics) (datum_at s c.unpacked.result) (datum_at s c.next_up.result.value) _
@@ -23,5 +22,5 @@ returns-clause-back g c = λ k z.
 
 pub returns-clause-next : goal.returns-clause-next
 returns-clause-next g c =
-    let d = rw c.shape_of.ensures.value at c.next_up.ensures.next in
+    let d = rw c.shape_of.ensures at c.next_up.ensures.next in
     rw (c.unpacked.ensures.datum, c.answered.ensures.value, c.answered.ensures.status) (assumption d)

@@ -5,5 +5,5 @@ use Rattle.apfloat_ieee.proofs.impls.IeeeFloatFloat.scalbn_r.Goals as goal
 pub returns : goal.returns
 returns g c =
     let e = to_z-of_z w32 c.args.exp c.ranges.exp in
-    let d = rw (c.shape_of.ensures.value, e) at c.scaled.ensures.scaled in
+    let d = rw (c.shape_of.ensures, e) at c.scaled.ensures.scaled in
     rw (c.unpacked.ensures.datum, c.packed.ensures) (assumption d)

@@ -13,4 +13,4 @@ of_shape : (datum : Datum) (x : Unpacked) (shape other : Shape) → datum ≡ da
 of_shape datum x s t d e h = d ∙ subst (λ (r : Shape). datum_at r x ≡ smallest_normalized_datum (format_at r)) e h
 
 pub returns : goal.returns
-returns g c = of_shape _ _ _ _ c.packed.ensures c.shape_of.ensures.value assumption
+returns g c = of_shape _ _ _ _ c.packed.ensures c.shape_of.ensures assumption
