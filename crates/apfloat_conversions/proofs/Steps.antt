@@ -32,7 +32,7 @@ pub step_fits : (shape : Shape) (m t : ℕ) (e : ℤ) → IsShape shape → IsNo
     → t ≡ 2 ^ down (e -ℤ shape.min_exp)
     → m + t < 2 ^ 128
 step_fits shape m t e law n i =
-    let l = operand_down shape.precision shape.min_exp shape.max_exp e law.precision_low n.operand.least in
+    let l = operand_down shape.precision shape.min_exp e law.precision_low n.operand.least in
     subst (λ (x : ℕ). m + x < 2 ^ 128) (sym i)
     (step_room shape.precision m (down (e -ℤ shape.min_exp)) law.precision_high n.operand.fits l)
 
@@ -41,7 +41,7 @@ pub step_below : (shape : Shape) (m t : ℕ) (e : ℤ) → IsShape shape
     → ((shape.min_exp +ℤ pos 1) -ℤ pos shape.precision) ≤ℤ e
     → 2 ^ (shape.precision - 1) ≤ m → t ≡ 2 ^ down (e -ℤ shape.min_exp) → t ≤ m
 step_below shape m t e law l h i =
-    let d = operand_down shape.precision shape.min_exp shape.max_exp e law.precision_low l in
+    let d = operand_down shape.precision shape.min_exp e law.precision_low l in
     let k = step_small (shape.precision - 1) (down (e -ℤ shape.min_exp)) d in
     omega (arith, i, k, h)
 
@@ -84,7 +84,7 @@ pub after_carries : (shape : Shape) (m t w : ℕ) (e r : ℤ) → IsShape shape 
 after_carries shape m t w e r law n b i h j k =
     let p = some shape law in
     let a = quanta_at shape.min_exp m e in
-    let l = operand_down shape.precision shape.min_exp shape.max_exp e law.precision_low n.operand.least in
+    let l = operand_down shape.precision shape.min_exp e law.precision_low n.operand.least in
     let z : m + 2 ^ down (e -ℤ shape.min_exp) ≤ 2 ^ shape.precision =
     step_within shape.precision m a (up (e -ℤ shape.min_exp)) (down (e -ℤ shape.min_exp)) (omega (arith, l))
     (one_side (e -ℤ shape.min_exp)) n.operand.fits n.whole in
@@ -131,7 +131,7 @@ pub before_stays : (shape : Shape) (m t : ℕ) (e : ℤ) → IsShape shape → I
 before_stays shape m t e law n i h =
     let a = quanta_at shape.min_exp m e in
     let f = n.operand.fits in
-    let l = operand_down shape.precision shape.min_exp shape.max_exp e law.precision_low n.operand.least in
+    let l = operand_down shape.precision shape.min_exp e law.precision_low n.operand.least in
     let k : 2 ^ (shape.precision - 1) + 2 ^ down (e -ℤ shape.min_exp) ≤ m =
     step_above (shape.precision - 1) m a (up (e -ℤ shape.min_exp))
     (down (e -ℤ shape.min_exp)) l (one_side (e -ℤ shape.min_exp))
@@ -154,7 +154,7 @@ pub before_lowers : (shape : Shape) (m w t : ℕ) (e r : ℤ) → IsShape shape 
 before_lowers shape m w t e r law n i j k low h =
     let p = some shape law in
     let a = quanta_at shape.min_exp m e in
-    let l = operand_down shape.precision shape.min_exp shape.max_exp r law.precision_low low in
+    let l = operand_down shape.precision shape.min_exp r law.precision_low low in
     let q = lowered_quanta shape.precision shape.min_exp e r m w a p i j k n.whole in
     let y = step_small (shape.precision - 1) (down (r -ℤ shape.min_exp)) l in
     let z = twice_half shape.precision p in

@@ -259,15 +259,15 @@ pub number_swapped : (kind : NonfiniteBehavior) (negative : Bool) (p : ℕ) → 
 number_swapped kind negative p h = let e : eqb p 0 ≡ false = ne_eqb p 0 (λ z. omega arith) in rw e refl
 
 -- and for what is delivered of a pick, past the largest value or not
-value_at : (format : Format) (mode : Round) (negative : Bool) (p : ℕ) (past out : Bool) → 0 < largest format
+value_at : (format : Format) (negative : Bool) (p : ℕ) (past out : Bool) → 0 < largest format
     → cond past (cond out (past_largest format.nonfinite (nan_base format) (not negative))
     (finite (not negative) (largest format))) (signed_quanta format.nonfinite (not negative) p)
     ≡ negated format.nonfinite
     (cond past (cond out (past_largest format.nonfinite (nan_base format) negative) (finite negative (largest format)))
     (signed_quanta format.nonfinite negative p))
-value_at format mode negative p true true h = past_swapped format.nonfinite (nan_base format) negative
-value_at format mode negative p true false h = number_swapped format.nonfinite negative (largest format) h
-value_at format mode negative p false out h = signed_swapped format.nonfinite negative p
+value_at format negative p true true h = past_swapped format.nonfinite (nan_base format) negative
+value_at format negative p true false h = number_swapped format.nonfinite negative (largest format) h
+value_at format negative p false out h = signed_swapped format.nonfinite negative p
 
 -- a negated magnitude, rounded in the swapped mode, has the negated answer and the same status
 pub delivered_swapped : (format : Format) (mode : Round) (negative : Bool) (amount parts : ℕ) (value : Datum)
@@ -279,7 +279,7 @@ delivered_swapped format mode negative amount parts v s h x = record {
   value_is =
       let l = leads_swapped mode negative in
       ap (λ (y : Datum). negated format.nonfinite y) x.value_is
-      ∙ sym (value_at format mode negative x.pick (ltb (largest format) x.pick) (leads_out mode negative) h)
+      ∙ sym (value_at format negative x.pick (ltb (largest format) x.pick) (leads_out mode negative) h)
       ∙ ap (λ (b : Bool). cond (ltb (largest format) x.pick)
       (cond b (past_largest format.nonfinite (nan_base format) (not negative)) (finite (not negative) (largest format)))
       (signed_quanta format.nonfinite (not negative) x.pick)) (sym l);

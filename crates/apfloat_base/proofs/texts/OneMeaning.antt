@@ -245,10 +245,10 @@ pub literal_of_hexadecimal : (body : List ℕ) (h f : ℕ) (e : ℤ) → IsHexad
 literal_of_hexadecimal body h f e x = literal_of_body body h f e (body_of body h f e x)
 
 -- two readings of one literal are one meaning
-same_hexadecimal : (text : List ℕ) (negative negative2 : Bool) (h f h2 f2 : ℕ) (e e2 : ℤ) → negative ≡ negative2
+same_hexadecimal : (negative negative2 : Bool) (h f h2 f2 : ℕ) (e e2 : ℤ) → negative ≡ negative2
     → (rest : List ℕ)
     → IsLiteral rest h f e → IsLiteral rest h2 f2 e2 → hexadecimal negative h f e ≡ hexadecimal negative2 h2 f2 e2
-same_hexadecimal text negative negative2 h f h2 f2 e e2 n rest l m =
+same_hexadecimal negative negative2 h f h2 f2 e e2 n rest l m =
     rw (n, l.h_is, l.f_is, l.e_is, m.h_is, m.f_is, m.e_is) refl
 
 -- a hexadecimal number is not special
@@ -260,7 +260,7 @@ hexadecimal_no_special text h f e x =
 -- no text has two meanings
 pub one_meaning : (text : List ℕ) (first second : Meaning) → Means text first → Means text second → first ≡ second
 one_meaning text (hexadecimal b h f e) (hexadecimal b2 h2 f2 e2) x y =
-    same_hexadecimal text b b2 h f h2 f2 e e2 (x.0 ∙ sym y.0) (drop 2 (behind_mark text))
+    same_hexadecimal b b2 h f h2 f2 e e2 (x.0 ∙ sym y.0) (drop 2 (behind_mark text))
     (literal_of_hexadecimal (behind_mark text) h f e x.1)
     (literal_of_hexadecimal (behind_mark text) h2 f2 e2 y.1)
 one_meaning text (hexadecimal b h f e) (infinity c) x y =
