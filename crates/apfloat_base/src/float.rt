@@ -177,9 +177,9 @@ pub trait Float: Copy
     fn qnan(payload: Option<u128>) -> Self
         ensures { result ≡ quiet_nan_of (unwrap_or payload 0) };
 
-    /// The positive signaling NaN with a payload, of which the format keeps the bits that it has room for. If no bit of
-    /// the payload is left, the NaN has a payload of its own; in a format with a single NaN, the result is that NaN
-    /// (IEEE 754-2008 6.2.1).
+    /// The positive signaling NaN with a payload, of which the format keeps the bits that it has room for. If that
+    /// leaves no bit set, the payload is the bit below the quiet bit; in a format with a single NaN, the result is that
+    /// NaN (IEEE 754-2008 6.2.1).
     fn snan(payload: Option<u128>) -> Self
         ensures { result ≡ signaling_nan_of (unwrap_or payload 0) };
 
@@ -327,7 +327,7 @@ pub trait Float: Copy
     fn from_str_r(s: &str, round: Round) -> Result<StatusAnd<Self>, ParseError>
         ensures { reads s.now round result };
 
-    /// The bits of the one canonical encoding of the value (IEEE 754-2008 3.4), for a type with bits, with `PRECISION`
+    /// The bits of the canonical encoding of the value (IEEE 754-2008 3.4), for a type with bits, with `PRECISION`
     /// below `BITS`. Read back, they give the value.
     fn to_bits(self) -> u128
         requires { PRECISION < BITS }

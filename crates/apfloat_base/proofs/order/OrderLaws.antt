@@ -12,11 +12,11 @@ use Rattle.apfloat_base.specs.formats.Datum.{Datum, finite, infinite, nan}
 use Rattle.apfloat_base.specs.order.Classes.{is_nan}
 use Rattle.apfloat_base.specs.order.Order.{level, number, compared, is_equal}
 
--- the order of data that are no NaNs
+-- the order of data that are not NaNs
 abbrev rank : Datum → Datum → Ordering
 rank = then_cmp (on level nat_cmp) (on number int_cmp)
 
--- this is a total order
+-- it is a total order
 rank_total : IsTotalOrder rank
 rank_total = then_total (on_total level nat_cmp_total) (on_total number int_cmp_total)
 
@@ -26,7 +26,7 @@ unless true n r = None
 unless false true r = None
 unless false false r = Some r
 
--- two data are compared by rank, unless one of them is a NaN
+-- two data are compared by rank unless one of them is a NaN
 by_rank : (x y : Datum) → compared x y ≡ unless (is_nan x) (is_nan y) (rank x y)
 by_rank (nan b s) y = refl
 by_rank (finite b m) (nan c t) = refl
@@ -44,7 +44,7 @@ turned true false r s e = refl
 turned false true r s e = refl
 turned false false r s e = ap Some e
 
--- if there is an order, both tests fail
+-- if the operands are ordered, both tests fail
 told : (left right : Bool) (order answer : Ordering) → unless left right order ≡ Some answer
     → (left ≡ false) × (right ≡ false) × (order ≡ answer)
 told true n r o e = cc

@@ -1,4 +1,4 @@
--- What a significand and its loss say about a magnitude.
+-- What a significand and its loss state about a magnitude.
 use Rattle.std.specs.Prelude.{◌≡◌, ℕ, ◌+◌, ◌*◌, ◌<◌}
 -- 2 to the power of an integer z is the fraction 2 ^ up z / 2 ^ down z
 pub use borrow.Author.Differences.{up, down}
