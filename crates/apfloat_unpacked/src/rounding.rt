@@ -19,7 +19,7 @@ ghost use Rattle.apfloat_base.specs.formats.Datum.{finite};
 ghost use Rattle.apfloat_base.specs.rounding.Answer.{IsAnswer};
 ghost use Rattle.apfloat_base.specs.rounding.Standing.{StandsFor, up, down};
 ghost use Rattle.apfloat_base.specs.rounding.Enclosure.{rounds_up};
-ghost use Rattle.apfloat_base.specs.rounding.Rounding.{takes_above, ok_bits, overflow_bit, underflow_bit, inexact_bit, IsPick, IsDelivered, leads_out, past_largest};
+ghost use Rattle.apfloat_base.specs.rounding.Rounding.{points_away, ok_bits, overflow_bit, underflow_bit, inexact_bit, IsPick, IsDelivered, leads_out, past_largest};
 ghost use Rattle.apfloat_unpacked.specs.Cuts.{IsCut};
 ghost use Rattle.apfloat_unpacked.specs.Shapes.{IsShape, format_at};
 ghost use Rattle.apfloat_unpacked.specs.Stored.{IsStored, GivesAt};
@@ -116,10 +116,10 @@ fn keep(precision: u32, significand: u128, unit: ExpInt, loss: Loss) -> Kept
     }
 }
 
-/// Whether a directed mode rounds a magnitude of this sign up.
+/// Whether a directed mode rounds a magnitude of this sign up, away from zero.
 #[inline(always)]
 fn is_outward(mode: Round, negative: bool) -> bool
-    ensures { result ≡ takes_above mode negative 1 2 false }
+    ensures { result ≡ points_away mode negative }
 {
     ((mode == Round::TowardPositive) & !negative) | ((mode == Round::TowardNegative) & negative)
 }
