@@ -1,4 +1,4 @@
-//! Pairs of doubles: a number as the exact sum of two doubles, `high + low`.
+//! Definitions of the operations on pairs of doubles, and theorems about them.
 //!
 //! `specs/` defines what each operation on pairs returns: sums and products as chains of steps on doubles, other
 //! operations by the parts or in a wide format of 106 binary digits. The functions here do nothing: their clauses are

@@ -1,4 +1,4 @@
--- The exponent of the fraction of a number lies within the exponents of the format.
+-- The exponent of the fraction of a number is within the range of the format.
 use Rattle.std.proofs.Common.{◌≡◌, ℕ, ◌+◌, ◌-◌, ◌*◌, ◌^◌, ◌<◌, ◌≤◌, Bool, ap, ⊎_elim, arith}
 use Rattle.std.specs.Prelude.{ℤ, pos, neg_ℤ, ◌≤ℤ◌}
 use Rattle.std.proofs.Math.Nat.{mul-le-mul_right}

@@ -40,7 +40,7 @@ fields_by f layout (infinite b) =
     fields_with b (all_ones layout.exponent_bits) (cond f.explicit_integer_bit (smallest_normalized f) 0)
 fields_by f layout (nan b s) = fields_of_nan f.nonfinite layout b s
 
--- only a format with infinities may have an explicit integer bit
+-- so a format with an explicit integer bit has infinities
 pub explicit_kind : (kind : NonfiniteBehavior) (explicit : Bool) → MayBeExplicit kind explicit → explicit ≡ true
     → kind ≡ IEEE754
 explicit_kind IEEE754 explicit may e = refl

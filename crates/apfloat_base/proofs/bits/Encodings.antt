@@ -41,7 +41,7 @@ lawful_interchange constants law wide =
       explicit = law.explicit;
     }
   where
-    -- the span of a lawful format, by the number of exponents that its bits have
+    -- the span of a lawful format, from the number of exponents that its bits can encode
     span_by : (constants : Constants) → IsLawful constants → HasBits constants
         → unsigned_abs (constants.max_exp -ℤ constants.min_exp) + 3
         ≡ 2 ^ constants.exp_bits + more_exponents constants.nonfinite

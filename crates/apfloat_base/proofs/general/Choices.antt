@@ -1,4 +1,4 @@
--- Truth values, and what is chosen by them.
+-- Truth values, and choices by them.
 use Rattle.std.proofs.Common.{◌≡◌, ℕ, zero, suc, ◌+◌, ◌*◌, ◌%◌, ◌<◌, ◌≤◌, Bool, true, false, cond, not, ◌&&◌, eqb, ltb, leb, if◌then◌else◌, Option, Some, None, refl, sym, ◌∙◌, ⊎_elim, arith}
 use mathlib.Core.Bool.{beq}
 use Rattle.std.specs.Bool.{MatchBool}
@@ -13,7 +13,7 @@ use Rattle.apfloat_base.specs.arithmetic.Exact.{same_sign, product_sign}
 pub eqb_self : (n : ℕ) → eqb n n ≡ true
 eqb_self n = eq-eqb n n refl
 
--- what is not true is false
+-- a truth value that is not true is false
 pub off_by : (test : Bool) → (test ≡ true → ⊥) → false ≡ test
 off_by true h = absurd (h refl)
 off_by false h = refl
@@ -87,7 +87,7 @@ cond_grows true false high low h f = absurd (false≢true (f refl))
 cond_grows false true high low h f = h
 cond_grows false false high low h f = omega arith
 
--- what is chosen lies between the two
+-- the choice is between the two numbers
 pub cond_within : (test : Bool) (high low : ℕ) → low ≤ high → (cond test high low ≤ high) × (low ≤ cond test high low)
 cond_within true high low h = (omega arith, h)
 cond_within false high low h = (h, omega arith)
@@ -133,7 +133,7 @@ pub match_one : {A : Type 0} (Holds : (A → Type 0) → Type 0) (test : Bool) (
 match_one Holds true P Q p q = p
 match_one Holds false P Q p q = q
 
--- and so for relations of two things
+-- and so for relations of two values
 pub match_case : {A B : Type 0} (Holds : (A → B → Type 0) → Type 0) (test : Bool) (P Q : A → B → Type 0) → Holds P
     → Holds Q → Holds (λ a b. MatchBool test (P a b) (Q a b))
 match_case Holds true P Q p q = p

@@ -66,7 +66,7 @@ four precision h =
     let k : 2 ^ 2 ≤ 2 ^ (precision - 1) = pow-le-pow_right two_pos l in
     k
 
--- where a number is at least 2 ^ a and below 2 ^ (b + 1), a is at most b
+-- if a number is at least 2 ^ a and below 2 ^ (b + 1), a is at most b
 pub exponent_between : (n a b : ℕ) → 2 ^ a ≤ n → n < 2 ^ (b + 1) → a ≤ b
 exponent_between n a b l h = let e = exponent_below a (b + 1) (omega arith) in omega arith
 

@@ -159,7 +159,7 @@ status_little format mode negative amount parts amount' parts' p h x y =
     let t = tiny_little format amount parts amount' parts' p x y in
     rw (a, b, t) refl
 
--- all magnitudes far above have one result
+-- all magnitudes far below have one result
 pub far_below : (format : Format) (mode : Round) (negative : Bool) (amount parts amount' parts' : ℕ) (value : Datum)
     (status : ℕ) → 0 < format.precision → IsFarBelow amount parts → IsFarBelow amount' parts'
     → IsDelivered format mode negative amount parts value status

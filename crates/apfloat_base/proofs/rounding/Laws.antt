@@ -17,7 +17,7 @@ use Rattle.apfloat_base.proofs.general.Powers.{twice_half}
 use Rattle.apfloat_base.proofs.rounding.Picks.{pick_unique}
 use Rattle.apfloat_base.proofs.general.Choices.{cond_same, cond_grows, cond_within}
 
--- ---- one answer
+-- ---- one result
 
 -- one rounding has at most one value and one status
 pub delivered_once : (format : Format) (mode : Round) (negative : Bool) (amount parts : ℕ) (value other : Datum)
@@ -82,7 +82,6 @@ exact_delivered format mode negative g amount parts p o l e = record {
   status_is = exact_status format mode negative g amount parts l e;
 }
 
--- 0 is on the grid
 pub zero_on_grid : (precision : ℕ) → IsOnGrid precision 0
 zero_on_grid precision = record { significand = 0; place = 0; fits = pow_pos precision; is = refl }
 
@@ -146,7 +145,7 @@ below_le_above precision low high amount parts h x y =
     let l : low * parts ≤ high * parts = omega arith in
     le_of_mul-le-mul_right l h
 
--- the pick lies between the neighbours
+-- the pick is between the neighbours
 pub pick_within : (precision : ℕ) (mode : Round) (negative : Bool) (amount parts p : ℕ) → 0 < parts
     → (pick : IsPick precision mode negative amount parts p) → (p ≤ pick.above) × (pick.below ≤ p)
 pick_within precision mode negative amount parts p h pick =
@@ -224,7 +223,7 @@ pick_grows precision mode negative a b parts p q h l x y =
     (λ (k : x.above ≤ y.below). let w₀ = w.0 in let v₁ = v.1 in omega (arith, w₀, v₁))
     (cases_lt y.below x.above)
 
--- ---- negation of what is delivered
+-- ---- negation of the delivered value
 
 -- the other sign negates the delivered value: past the largest value, at 0, at other numbers
 past_swapped : (kind : NonfiniteBehavior) (base : ℕ) (negative : Bool)
@@ -243,7 +242,7 @@ nonzero_swapped : (kind : NonfiniteBehavior) (negative : Bool) (p : ℕ) → (p 
     → signed_quanta kind (not negative) p ≡ negated kind (signed_quanta kind negative p)
 nonzero_swapped kind negative p n = let e : eqb p 0 ≡ false = ne_eqb p 0 n in rw e (rw e refl)
 
--- and so at any number of quanta
+-- and so for any number of quanta
 signed_swapped : (kind : NonfiniteBehavior) (negative : Bool) (p : ℕ)
     → signed_quanta kind (not negative) p ≡ negated kind (signed_quanta kind negative p)
 signed_swapped kind negative p =

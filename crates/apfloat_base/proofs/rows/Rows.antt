@@ -1,5 +1,5 @@
--- Worked rows of what is rounded: known answers of the model. Operands and values are given by
--- their bits in small formats. That no other value and no other status is an answer, `Once` says.
+-- Worked rows of rounded results: known answers of the model. Operands and values are given by
+-- their bits in small formats. `Once` proves that no other value and no other status is a result.
 use Rattle.std.proofs.Common.{◌≡◌, ℕ, ◌+◌, true, false, refl, neg_ℤ, pos}
 use Rattle.apfloat_base.specs.declared.kinds.Round.{Round}
 use Rattle.apfloat_base.specs.declared.kinds.Round.TheVariants.{NearestTiesToEven, TowardPositive, TowardNegative, TowardZero, NearestTiesToAway}

@@ -201,8 +201,8 @@ minimum_of_zeros : minimum (in_half 0x0000) (in_half 0x8000) ≡ in_half 0x8000
 minimum_of_zeros = refl
 
 -- the operand that is not a NaN is returned, but `maximum` returns the NaN
-greatest_beside_nan : max_num (in_half 0x7d00) (in_half 0x3c00) ≡ in_half 0x3c00
-greatest_beside_nan = refl
+greatest_with_nan : max_num (in_half 0x7d00) (in_half 0x3c00) ≡ in_half 0x3c00
+greatest_with_nan = refl
 
 maximum_beside_nan : maximum (in_half 0x7d00) (in_half 0x3c00) ≡ in_half 0x7d00
 maximum_beside_nan = refl

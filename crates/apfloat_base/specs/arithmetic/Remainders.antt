@@ -1,4 +1,4 @@
--- Remainders (IEEE 754-2008 5.3.1 for the one by the nearest quotient); both are exact.
+-- Remainders, by the quotient cut toward zero and by the nearest one (IEEE 754-2008 5.3.1); both are exact.
 use Rattle.std.specs.Prelude.{ℕ, ◌-◌, ◌*◌, ◌/◌, Bool, false, not, ltb, eqb, count_ones, if◌then◌else◌}
 use Rattle.std.specs.Bool.{MatchBool}
 use Rattle.apfloat_base.specs.declared.kinds.NonfiniteBehavior.{NonfiniteBehavior}

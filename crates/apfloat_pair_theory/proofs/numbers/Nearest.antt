@@ -21,7 +21,7 @@ pub record IsNearest (precision : ℕ) (exact z : ℤ) : Type 0 where
   pub on_grid : IsGridNumber precision z
   pub nearest : (other : ℤ) → IsGridNumber precision other → magnitude (z -ℤ exact) ≤ magnitude (other -ℤ exact)
 
--- what is no farther from a number than the number itself is that number
+-- a number that is no farther from x than x itself is x
 pub same_from_none : (x z : ℤ) → magnitude (z -ℤ x) ≤ magnitude (x -ℤ x) → z ≡ x
 same_from_none x z h = omega (arith, ints, h, one_side (z -ℤ x), one_side (x -ℤ x))
 
@@ -36,11 +36,11 @@ nearest_of_exact precision x g = record {
   nearest = λ other o. let e : magnitude (x -ℤ x) ≡ 0 = omega (arith, ints, one_side (x -ℤ x)) in omega arith;
 }
 
--- what is nearer than a grid number below is not below that one
+-- a number no farther from x than a number below x is not below that number
 above_from : (g x z : ℤ) → g ≤ℤ x → magnitude (z -ℤ x) ≤ magnitude (g -ℤ x) → g ≤ℤ z
 above_from g x z l h = omega (arith, ints, h, one_side (z -ℤ x), one_side (g -ℤ x))
 
--- nor is what is nearer than a grid number above above that one
+-- and a number no farther from x than a number above x is not above that number
 below_from : (g x z : ℤ) → x ≤ℤ g → magnitude (z -ℤ x) ≤ magnitude (g -ℤ x) → z ≤ℤ g
 below_from g x z l h = omega (arith, ints, h, one_side (z -ℤ x), one_side (g -ℤ x))
 

@@ -30,7 +30,7 @@ use Rattle.apfloat_pair_theory.proofs.numbers.Nearest.{IsNearest}
 abbrev pub apart : ℕ → ℕ → ℕ
 apart m n = (m - n) + (n - m)
 
--- the upper neighbour is taken only if it is no farther, and left only if it is no nearer
+-- the upper neighbour is taken only if it is no farther, and not taken only if it is no nearer
 takes_nearer : (negative odd : Bool) (x y : ℕ) → takes_above NearestTiesToEven negative x y odd ≡ true → y ≤ x
 takes_nearer negative odd x y h = grind arith
 
@@ -57,7 +57,6 @@ either_on_grid : (first : Bool) (precision x y : ℕ) → IsOnGrid precision x �
 either_on_grid true precision x y g h = g
 either_on_grid false precision x y g h = h
 
--- the pick is a grid number
 pub pick_on_grid : (precision : ℕ) (negative : Bool) (amount parts p : ℕ)
     → IsPick precision NearestTiesToEven negative amount parts p → IsOnGrid precision p
 pick_on_grid precision negative amount parts p x =
@@ -146,7 +145,6 @@ whole_nearest precision parts exact x z u e n = record {
 
 -- ---- delivered values
 
--- the largest value is a grid number
 pub largest_on_grid : (format : Format) → format.nonfinite ≡ IEEE754 → IsOnGrid format.precision (largest format)
 largest_on_grid format e =
     let u = pow_pos format.precision in

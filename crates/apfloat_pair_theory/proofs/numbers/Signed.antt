@@ -92,11 +92,10 @@ sum_multiple u a b p x y =
     (λ e. less_multiple u (magnitude b) (magnitude a) (magnitude (a +ℤ b)) p y x e) h)
     (sum_cases a b)
 
--- the negation of a multiple is a multiple
 pub neg_multiple : (u : ℕ) (a : ℤ) → IsMultiple u (magnitude a) → IsMultiple u (magnitude (neg_ℤ a))
 neg_multiple u a x = subst (λ (n : ℕ). IsMultiple u n) (sym (magnitude-neg a)) x
 
--- the difference of two multiples is a multiple
+-- the same for integers
 pub difference_multiple : (u : ℕ) (a b : ℤ) → 0 < u → IsMultiple u (magnitude a) → IsMultiple u (magnitude b)
     → IsMultiple u (magnitude (a -ℤ b))
 difference_multiple u a b p x y =
@@ -113,7 +112,7 @@ finer_multiple k n x =
 
 -- ---- grid points
 
--- a grid number is a multiple of its own unit, and of any finer one
+-- a grid number is a multiple of its unit, and of any finer unit
 pub coarse_multiple : (precision n k : ℕ) (grid : IsOnGrid precision n) → k ≤ grid.place → IsMultiple (2 ^ k) n
 coarse_multiple precision n k grid h =
     let e : grid.place ≡ (grid.place - k) + k = omega arith in
@@ -152,7 +151,6 @@ bound_on_grid precision k h =
     let e : 2 ^ (precision + k) ≡ 2 ^ precision * 2 ^ k = pow-add 2 precision k in
     record { significand = 1; place = precision + k; fits = h; is = omega arith }
 
--- the negation of a grid number is a grid number
 pub neg_on_grid : (precision : ℕ) (a : ℤ) → IsGridNumber precision a → IsGridNumber precision (neg_ℤ a)
 neg_on_grid precision a x = on_grid_as (sym (magnitude-neg a)) x
 

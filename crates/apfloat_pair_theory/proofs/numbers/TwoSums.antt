@@ -53,11 +53,11 @@ shared precision a c g h l =
     let b = u.bound in
     record { place = u.place; first = u.first; second = u.second; bound = omega (arith, b) }
 
--- a bound of the exact first difference, by the error of the sum
+-- a bound of the exact first difference, from the error of the sum
 pub first_at : (a c z : ℤ) → magnitude (a -ℤ z) ≤ magnitude c + magnitude (z -ℤ (a +ℤ c))
 first_at a c z = omega (arith, ints, one_side (a -ℤ z), one_side c, one_side (z -ℤ (a +ℤ c)))
 
--- a bound of the exact second sum, by both errors
+-- a bound of the exact second sum, from both errors
 pub second_at : (a c z q : ℤ) → magnitude (q +ℤ c) ≤ magnitude (q -ℤ (a -ℤ z)) + magnitude (z -ℤ (a +ℤ c))
 second_at a c z q = omega (arith, ints, one_side (q +ℤ c), one_side (q -ℤ (a -ℤ z)), one_side (z -ℤ (a +ℤ c)))
 

@@ -117,7 +117,7 @@ negated_high format (nan b i) l g m nearest status k p fh fl fg fm eh el s q = a
 
 -- ---- pairs
 
--- a zero of either sign is its own opposite
+-- a zero of either sign has the negated number of a zero
 not_of : (negative : Bool) → signed negative 0 ≡ neg_ℤ (signed negative 0)
 not_of true = refl
 not_of false = refl

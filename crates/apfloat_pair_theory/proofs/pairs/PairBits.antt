@@ -14,11 +14,9 @@ use Rattle.apfloat_pair_theory.specs.PairFormats.{double}
 use Rattle.apfloat_pair_theory.specs.Pairs.{Pair, pair_of, IsPairEncodedBy}
 use Rattle.apfloat_pair_theory.proofs.calls.PairsOnce.{parts_same}
 
--- the format of doubles is lawful
 pub double_is_lawful : IsLawful double_constants
 double_is_lawful = lawful_from_test double_constants refl
 
--- so it is an interchange format
 pub double_interchange : IsInterchange double (layout_with double_constants)
 double_interchange = lawful_interchange double_constants double_is_lawful (lit< tt)
 

@@ -1,4 +1,4 @@
--- What is left over of a wide number, by steps: the high part widened again, the difference from it in the wide format,
+-- What is left over of a wide number, in steps: the high part widened again, the difference from it in the wide format,
 -- and that difference as a double. Each of the three steps is exact.
 use Rattle.std.proofs.Common.{◌≡◌, ℕ, zero, suc, ◌*◌, ◌^◌, ◌<◌, ◌≤◌, Bool, true, false, not, ◌&&◌, eqb, refl, sym, ap, ◌∙◌, subst, le_trans, arith, lit≤}
 use Rattle.std.specs.Prelude.{ℤ, pos, ◌+ℤ◌, ◌-ℤ◌}

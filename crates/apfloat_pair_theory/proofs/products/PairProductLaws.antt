@@ -1,5 +1,5 @@
--- The product of two pairs of doubles, rounded to nearest: nothing is lost of two doubles, and of normalised pairs the
--- answer is normalised, and close to the exact product.
+-- The product of two pairs of doubles, rounded to nearest: that of two doubles is exact, and that of normalised pairs
+-- is normalised, and close to the exact product.
 use Rattle.std.proofs.Common.{◌≡◌, ℕ, ◌+◌, ◌*◌, ◌^◌, ◌<◌, ◌≤◌, true, sym, ap, ◌∙◌, subst, arith, lit≤}
 use Rattle.std.specs.Prelude.{ℤ, pos, neg_ℤ, ◌+ℤ◌, ◌-ℤ◌, ◌*ℤ◌}
 use Rattle.std.proofs.Math.Nat.{mul-le-mul_right, le_of_mul-le-mul_left, le_of_mul-le-mul_right}

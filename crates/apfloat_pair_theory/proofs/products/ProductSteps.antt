@@ -53,7 +53,7 @@ pub record AreProductSteps (format : Format) (a b c d t lost v w cross tau : Dat
   pub is_tau : IsSum format NearestTiesToEven lost cross tau tau_flags
 
 -- Finite parts (a, b) and (c, d). The product x of the high parts is within the format, and has 64 quanta or more;
--- the low parts are small beside the high ones.
+-- the low parts are small relative to the high parts.
 pub record AreFactors (format : Format) (x : ℤ) (a b c d : Datum) : Type 0 where
   pub finite_a : is_finite a ≡ true
   pub finite_b : is_finite b ≡ true
@@ -65,7 +65,7 @@ pub record AreFactors (format : Format) (x : ℤ) (a b c d : Datum) : Type 0 whe
   pub low_first : 64 * size b ≤ size a
   pub low_second : 64 * size d ≤ size c
 
--- tau is finite, is what is lost, and is small beside x
+-- tau is finite, is the total of what is lost, and is small relative to x
 pub record IsLostDatum (format : Format) (x ad bc t : ℤ) (tau : Datum) : Type 0 where
   pub is_finite : is_finite tau ≡ true
   pub number_is : IsLostNumber format.precision format.scale x ad bc t (number tau)

@@ -1,5 +1,5 @@
--- The closing sum of two doubles z and y, with which each sum and each product of pairs ends: within reach
--- nothing is lost, and the answer is normalised.
+-- The closing sum of two doubles z and y, which ends each sum and each product of pairs: within reach,
+-- it is exact, and the result is normalised.
 use Rattle.std.proofs.Common.{◌≡◌, ℕ, ◌*◌, ◌^◌, ◌<◌, ◌≤◌, true, false, eqb, sym, refl, ap, ◌∙◌, subst, arith, inl, lit<, lit≤}
 use Rattle.std.specs.Prelude.{ℤ, pos, ◌+ℤ◌}
 use Rattle.std.proofs.lemmas.Bool.{false≢true, and_parts, eqb-true, MatchBool-at_true}

@@ -1,5 +1,5 @@
--- The sum of two pairs of doubles, rounded to nearest: nothing is lost of two doubles, and of normalised pairs the
--- answer is normalised, and close to the exact sum.
+-- The sum of two pairs of doubles, rounded to nearest: that of two doubles is exact, and that of normalised pairs is
+-- normalised, and close to the exact sum.
 use Rattle.std.proofs.Common.{◌≡◌, ℕ, ◌+◌, ◌*◌, ◌^◌, ◌≤◌, true, sym, ap, ◌∙◌, subst, inl, ⊎_elim, arith}
 use Rattle.std.specs.Prelude.{ℤ, pos, ◌+ℤ◌, ◌-ℤ◌, ◌*ℤ◌}
 use Rattle.std.proofs.lemmas.Int.{ints}

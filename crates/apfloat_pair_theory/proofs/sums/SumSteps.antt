@@ -104,7 +104,7 @@ pub record IsClosedSum (precision : ℕ) (z zz h left low : Datum) : Type 0 wher
 
 -- ---- the size of a rounded number
 
--- bounds of the exact third and fourth step, by the errors of the earlier steps
+-- bounds of the exact third and fourth step, from the errors of the earlier steps
 third_at : (a z q : ℤ) → magnitude (q +ℤ z) ≤ magnitude a + magnitude (q -ℤ (a -ℤ z))
 third_at a z q = omega (arith, ints, one_side (q +ℤ z), one_side (q -ℤ (a -ℤ z)), one_side a)
 
@@ -136,7 +136,7 @@ half_low t s h = omega arith
 value_low : (t s e v : ℕ) → 2 * s ≤ t → 8 * e ≤ s → v ≤ s + e → v ≤ t
 value_low t s e v h l k = omega arith
 
--- what is at most twice `top` is within the largest value
+-- a magnitude of at most twice `top` is within the largest value
 pub within_largest : (t l s : ℕ) → 3 * t ≤ l → s ≤ 2 * t → s ≤ l
 within_largest t l s h k = omega arith
 
