@@ -8,7 +8,7 @@ use Rattle.apfloat_base.specs.formats.Format.{Format, smallest_normalized, large
 use Rattle.apfloat_base.specs.formats.Datum.{Datum, finite, infinite, nan}
 use Rattle.apfloat_base.specs.rounding.Grid.{IsBelow, IsAbove}
 
--- whether a directed mode rounds magnitudes of that sign away from zero; the modes to nearest do not say
+-- whether a directed mode rounds magnitudes of that sign up, away from zero; false for the modes to nearest
 abbrev pub points_away : Round → Bool → Bool
 points_away TowardZero negative = false
 points_away TowardPositive negative = not negative

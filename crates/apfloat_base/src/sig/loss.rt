@@ -1,12 +1,12 @@
 //! What is lost when digits are cut off: where a magnitude is between two neighbouring grid points.
 //!
 //! ```text
-//!   significand                       half                     significand + 1
-//!        |-----------------------------|-----------------------------|
-//!   ExactlyZero     LessThanHalf   ExactlyHalf     MoreThanHalf
+//!   significand             significand + 1/2             significand + 1
+//!        |--------------------------|--------------------------|
+//!   ExactlyZero   LessThanHalf  ExactlyHalf    MoreThanHalf
 //! ```
 //!
-//! The upper grid point is not part of the interval: it is the significand of the next one.
+//! A magnitude at the upper point has the next significand, with nothing lost.
 
 ghost use Rattle.std.specs.Prelude.{◌≡◌, ℕ, ◌+◌, ◌*◌, ◌<◌, true, false};
 ghost use Rattle.apfloat_base.specs.rounding.Standing.{StandsFor};

@@ -95,7 +95,7 @@ sum_multiple u a b p x y =
 pub neg_multiple : (u : ℕ) (a : ℤ) → IsMultiple u (magnitude a) → IsMultiple u (magnitude (neg_ℤ a))
 neg_multiple u a x = subst (λ (n : ℕ). IsMultiple u n) (sym (magnitude-neg a)) x
 
--- the same for integers
+-- the difference of two integers that are multiples is a multiple
 pub difference_multiple : (u : ℕ) (a b : ℤ) → 0 < u → IsMultiple u (magnitude a) → IsMultiple u (magnitude b)
     → IsMultiple u (magnitude (a -ℤ b))
 difference_multiple u a b p x y =
