@@ -28,10 +28,10 @@ use std::str::FromStr;
 
 /// A floating-point type.
 ///
-/// Its ghost members say what its functions return: a value or a function where the result is given directly, and a
-/// relation where it is stated by one. `IeeeFloat` sets them to the definitions of the model.
+/// Its ghost members state what its functions return: some as a value or a function, the others as a relation.
+/// `IeeeFloat` sets them to the definitions of the model.
 ///
-/// The docs below describe `IeeeFloat`; pairs of doubles say in their own docs where they differ.
+/// The docs below describe `IeeeFloat`; the docs of pairs of doubles say where those differ.
 pub trait Float: Copy
     + Default
     + PartialEq
@@ -614,8 +614,8 @@ pub trait Float: Copy
     }
 
     /// The fraction of the value, with magnitude from 0.5 to below 1, and its exponent in `exp`: the value is exactly
-    /// the fraction times 2 to the power of `exp`, which is one more than `ilogb`. A zero is its own fraction with
-    /// exponent 0, an infinity its own with `IEK_INF`, and a NaN is quieted and has `IEK_NAN`.
+    /// the fraction times 2 to the power of `exp`, which is one more than `ilogb`. For a zero, the result is that zero,
+    /// with exponent 0; for an infinity, that infinity, with `IEK_INF`; for a NaN, the quieted NaN, with `IEK_NAN`.
     fn frexp_r(self, exp: &mut ExpInt, round: Round) -> Self
         ensures { has_fraction self round result exp.new };
 

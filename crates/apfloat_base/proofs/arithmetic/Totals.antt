@@ -259,16 +259,16 @@ exponent_is eh el er gap e f g =
     (cases_lt 0 gap)
 
 -- the sum in the other order; a zero sum may have either sign
-pub resigned : (base a b : ℤ) (negative other : Bool) (e : ℤ) (q : ℕ) (loss : Loss)
+pub total_swapped : (base a b : ℤ) (negative other : Bool) (e : ℤ) (q : ℕ) (loss : Loss)
     → (negative ≡ other) ⊎ ((q ≡ 0) × (loss ≡ ExactlyZero)) → StandsForSigned base (a +ℤ b) negative e q loss
     → StandsForSigned base (b +ℤ a) other e q loss
-resigned base a b n t e q loss (inl d) h = record {
+total_swapped base a b n t e q loss (inl d) h = record {
   above = h.above;
   amount = h.amount;
   is = ap (λ (x : Bool). signed x h.amount) (sym d) ∙ h.is ∙ swapped_sum a b;
   stands = h.stands;
 }
-resigned base a b n t e q loss (inr d) h =
+total_swapped base a b n t e q loss (inr d) h =
     let s : StandsFor 0 ExactlyZero h.amount (2 ^ up (e -ℤ base)) =
     subst (λ (x : ℕ). StandsFor x ExactlyZero h.amount (2 ^ up (e -ℤ base))) d.0
     (subst (λ (x : Loss). StandsFor q x h.amount (2 ^ up (e -ℤ base))) d.1 h.stands) in

@@ -19,8 +19,8 @@ use Rattle.apfloat_pair_theory.proofs.numbers.TwoSums.{IsTwoSum, two_sum, first_
 use Rattle.apfloat_pair_theory.proofs.sums.PairRoundings.{IsFastTwoSum, IsOpening, eighth, error_eighth, rest_small}
 use Rattle.apfloat_pair_theory.proofs.numbers.Roundings.{IsRoundedTo, sum_within, difference_within, negated_finite, negated_number}
 
--- the six steps of TwoSum of two data
-pub record IsSixSteps (format : Format) (a c z q lost_of_c z_again gained lost : Datum) : Type 0 where
+-- the six steps of TwoSum
+pub record IsTwoSumSteps (format : Format) (a c z q lost_of_c z_again gained lost : Datum) : Type 0 where
   pub sum_flags : ℕ
   pub first_flags : ℕ
   pub second_flags : ℕ
@@ -37,7 +37,7 @@ pub record IsSixSteps (format : Format) (a c z q lost_of_c z_again gained lost :
 -- and the two sums with the low parts
 pub record IsOpeningSteps (format : Format) (a aa c cc z q lost_of_c z_again gained lost with_aa zz : Datum) : Type 0
   where
-    pub six : IsSixSteps format a c z q lost_of_c z_again gained lost
+    pub six : IsTwoSumSteps format a c z q lost_of_c z_again gained lost
     pub first_flags : ℕ
     pub second_flags : ℕ
     pub with_first : IsSum format NearestTiesToEven lost aa with_aa first_flags
@@ -72,7 +72,7 @@ pub record IsAddend (top : ℕ) (z zz : Datum) : Type 0 where
   pub sum_low : 4 * size z ≤ 9 * top
   pub rest_low : 4 * size zz ≤ 3 * top
 
--- the six steps are finite
+-- the results of the six steps are finite
 pub record AreFinite (z q lost_of_c z_again gained lost : Datum) : Type 0 where
   pub sum : is_finite z ≡ true
   pub first : is_finite q ≡ true
@@ -82,7 +82,7 @@ pub record AreFinite (z q lost_of_c z_again gained lost : Datum) : Type 0 where
   pub last : is_finite lost ≡ true
 
 -- they are roundings of the numbers
-pub record IsSixRounded (precision : ℕ) (a c z q lost_of_c z_again gained lost : Datum) : Type 0 where
+pub record IsTwoSumRounded (precision : ℕ) (a c z q lost_of_c z_again gained lost : Datum) : Type 0 where
   pub finite : AreFinite z q lost_of_c z_again gained lost
   pub roundings : IsTwoSum precision (number a) (number c) (number z) (number q) (number lost_of_c) (number z_again)
       (number gained) (number lost)
@@ -197,10 +197,10 @@ module _ (format : Format) (kind : format.nonfinite ≡ IEEE754) (wide : 8 ≤ 2
       let n = sum_of a c z status fa fc (sum_low _ _ _ _ la lc (magnitude_le (number a) (number c))) x in n.is_finite
 
   -- within a third of the largest value, no step overflows
-  pub six_rounded : (a c z q lost_of_c z_again gained lost : Datum) → is_finite a ≡ true → is_finite c ≡ true
-      → size a ≤ top → size c ≤ top → IsSixSteps format a c z q lost_of_c z_again gained lost
-      → IsSixRounded format.precision a c z q lost_of_c z_again gained lost
-  six_rounded a c z q v r d e fa fc la lc x =
+  pub two_sum_rounded : (a c z q lost_of_c z_again gained lost : Datum) → is_finite a ≡ true → is_finite c ≡ true
+      → size a ≤ top → size c ≤ top → IsTwoSumSteps format a c z q lost_of_c z_again gained lost
+      → IsTwoSumRounded format.precision a c z q lost_of_c z_again gained lost
+  two_sum_rounded a c z q v r d e fa fc la lc x =
       let s₀ = sum_low _ _ _ _ la lc (magnitude_le (number a) (number c)) in
       let nz = sum_of a c z x.sum_flags fa fc s₀ x.sum in
       let ez = error_low _ _ _ s₀ (error_of _ _ nz) in
@@ -245,7 +245,7 @@ module _ (format : Format) (kind : format.nonfinite ≡ IEEE754) (wide : 8 ≤ 2
       → IsSummand format top c cc → IsOpeningSteps format a aa c cc z q lost_of_c z_again gained lost with_aa zz
       → IsOpened format.precision top a aa c cc z q lost_of_c z_again gained lost with_aa zz
   opened a aa c cc z q v r d e x y m n k =
-      let t = six_rounded a c z q v r d e m.finite_high n.finite_high m.within n.within k.six in
+      let t = two_sum_rounded a c z q v r d e m.finite_high n.finite_high m.within n.within k.six in
       let s₀ = sum_low _ _ _ _ m.within n.within (magnitude_le (number a) (number c)) in
       let is = two_sum format.precision wide _ _ _ _ _ _ _ _ m.on_grid n.on_grid t.roundings in
       let le = error_low _ _ _ s₀
