@@ -72,11 +72,11 @@ read_sign of_zero false amount w (pos (suc n)) p q e = refl
 read_sign of_zero false amount w (negsuc n) p q e = absurd (omega (arith, ints))
 
 -- where the amount is 0, so is the whole number, and its sign is the one for an exact zero
-pub read_zero : (of_zero : Bool) (negative : Bool) (amount w : ℕ) (z : ℤ) → 0 < w → amount ≡ 0
+pub read_zero : (of_zero : Bool) (amount w : ℕ) (z : ℤ) → 0 < w → amount ≡ 0
     → amount ≡ magnitude z * w → of_zero ≡ sign_of of_zero z
-read_zero of_zero negative amount w (pos zero) p q e = refl
-read_zero of_zero negative amount w (pos (suc n)) p q e = absurd (omega arith)
-read_zero of_zero negative amount w (negsuc n) p q e = absurd (omega arith)
+read_zero of_zero amount w (pos zero) p q e = refl
+read_zero of_zero amount w (pos (suc n)) p q e = absurd (omega arith)
+read_zero of_zero amount w (negsuc n) p q e = absurd (omega arith)
 
 -- ---- the sum of the significands, as a count of quanta
 
@@ -131,7 +131,7 @@ read_sum of_zero base e unit k m n s t negative q loss d h =
     record {
       stands = read_stands base e unit k h.amount (magnitude (signed s m +ℤ signed t n)) q loss h.above d a h.stands;
       zero_sign =
-          λ x y. read_zero of_zero negative h.amount (2 ^ k) (signed s m +ℤ signed t n) w
+          λ x y. read_zero of_zero h.amount (2 ^ k) (signed s m +ℤ signed t n) w
           (zero_amount q loss h.amount (2 ^ up (e -ℤ base)) x y h.stands) a;
       other_sign =
           λ x. read_sign of_zero negative h.amount (2 ^ k) (signed s m +ℤ signed t n) w

@@ -1,4 +1,4 @@
--- The relations of a format to its answers determine them.
+-- The relations between a format's operations and their results determine the results.
 use Rattle.std.proofs.Common.{◌≡◌, ℕ, ◌-◌, ◌^◌, ◌<◌, ◌≤◌, Bool, eqb, List, Option, Some, None, Result, Ok, Err, sym, refl, ap, ◌∙◌, subst, arith}
 use Rattle.std.specs.Prelude.{ℤ, pos, ◌-ℤ◌, unsigned_abs}
 use Rattle.std.specs.Option.{unwrap_or}
@@ -36,14 +36,14 @@ use Rattle.apfloat_base.proofs.arithmetic.Inverses.{logarithm_once, fraction_onc
 use Rattle.apfloat_base.proofs.general.Choices.{match_one, match_case}
 use Rattle.apfloat_base.proofs.texts.OneMeaning.{one_meaning, meaning_no_fault}
 
--- an answer is its value and the bits of its status
+-- two results with the same value and the same status bits are equal
 pub same_answer : {A : Type 0} (answer other : StatusAnd A) → answer.value ≡ other.value
     → bits_of answer.status ≡ bits_of other.status → answer ≡ other
 same_answer {A} r s e d =
     ap (λ (v : A). record { status = r.status; value = v }) e
     ∙ ap (λ (b : ℕ). record { status = record { 0 = b }; value = s.value }) d
 
--- a relation with one answer has one answer with its flags taken as a status
+-- a relation that determines the value and the flags determines the value and the status
 pub gives_once : {A : Type 0} (Says : A → ℕ → Type 0) → Once Says
     → Determines (λ (answer : StatusAnd A). Gives Says answer)
 gives_once {A} Says once r s h k =
@@ -52,11 +52,11 @@ gives_once {A} Says once r s h k =
 
 -- ---- exponents, fractions, exact inverses
 
--- at most one thing is the given one
+-- at most one value equals a given value
 is_once : {A : Type 0} (given : A) → Determines (λ (answer : A). answer ≡ given)
 is_once given a b h k = h ∙ sym k
 
--- at most one pair is the given pair
+-- at most one pair equals a given pair
 are_once : {A B : Type 0} (given : A) (other : B)
     → DeterminesBoth (λ (first : A) (second : B). (first ≡ given) × (second ≡ other))
 are_once given other a c b d h k = (h.0 ∙ sym k.0, h.1 ∙ sym k.1)
@@ -76,7 +76,7 @@ frexp_once format (finite b n) p =
     match_case DeterminesBoth (eqb n 0) _ (IsFraction format b n) (are_once _ _)
     (λ v w d e. fraction_once format b n v w d e p)
 
--- there is one exact inverse, or none
+-- a datum has at most one exact inverse
 pub exact_inverse_once : (format : Format) (x : Datum) → Determines (IsExactInverse format x)
 exact_inverse_once format (finite b n) (Some v) (Some w) h k =
     let i : AreInverse format n h.0 = h.1 in
@@ -96,7 +96,7 @@ exact_inverse_once format (nan b s) None None h k = refl
 
 -- ---- whole numbers out
 
--- a natural number that a datum is converted to, with its flags and its exactness, is determined
+-- the natural number that a datum is converted to is determined, with its flags and its exactness
 pub to_unsigned_once : (format : Format) (mode : Round) (width : ℕ) (x : Datum)
     → DeterminesBoth (λ (answer : StatusAnd ℕ) (exact : Bool).
     IsToUnsigned format mode width x answer.value (bits_of answer.status) exact)
@@ -115,13 +115,13 @@ to_signed_once format mode width x r s a b h k =
 
 -- ---- texts
 
--- what a text means has one answer
+-- the result of a text's meaning is determined
 meant_once : (format : Format) (mode : Round) (meaning : Meaning) → Once (IsMeant format mode meaning)
 meant_once format mode (infinity negative) = answer_once _ _
 meant_once format mode (not_a_number negative signaling payload) = answer_once _ _
 meant_once format mode (hexadecimal negative h places e) = delivered_once format mode negative _ _
 
--- a text that is read has one value and one status
+-- the value and the status of a text that is read are determined
 pub reading_once : (format : Format) (mode : Round) (text : List ℕ) → Once (IsReading format mode text)
 reading_once format mode text v w r s h k =
     let e = one_meaning text k.meaning h.meaning k.means h.means in
@@ -139,7 +139,7 @@ pub reading_or_refusal : (format : Format) (mode : Round) (text said : List ℕ)
 reading_or_refusal format mode text said v s h k =
     none-some _ (sym (meaning_no_fault text h.meaning h.means) ∙ k.is_first)
 
--- what is answered to a text is determined, be it a reading or a refusal
+-- the result of reading a text is determined, whether it is a value or a refusal
 pub read_once : (format : Format) (mode : Round) (text : List ℕ) (answer other : Result (StatusAnd Datum) ParseError)
     → IsRead format mode text answer → IsRead format mode text other → AreOneReading answer other
 read_once format mode text (Ok r) (Ok s) h k = gives_once (IsReading format mode text)
@@ -160,7 +160,7 @@ scale_some constants law =
     omega (arith, ints, law.parameters.precision_low, law.parameters.min_exp_high) in
     omega (arith, ints, law.parameters.precision_low, law.parameters.min_exp_high, e)
 
--- all relations of a format of positive scale determine their answers, with its bits if it has any
+-- all relations of a format of positive scale determine their results, including the bits if it has any
 pub determined : (format : Format) (layout : Layout) (precision bits : ℕ) (mode : Round) → 0 < format.scale
     → (precision < bits → IsInterchange format layout)
     → IsDetermined mode precision bits

@@ -28,10 +28,10 @@ use std::str::FromStr;
 
 /// A floating-point type.
 ///
-/// Its ghost members say what its functions return: a value or a function where the result is given directly, and a
-/// relation where it is stated by one. `IeeeFloat` sets them to the definitions of the model.
+/// Its ghost members state what its functions return: some as a value or a function, the others as a relation.
+/// `IeeeFloat` sets them to the definitions of the model.
 ///
-/// The docs below describe `IeeeFloat`; pairs of doubles say in their own docs where they differ.
+/// The docs below describe `IeeeFloat`; the docs of pairs of doubles say where those differ.
 pub trait Float: Copy
     + Default
     + PartialEq
@@ -177,9 +177,9 @@ pub trait Float: Copy
     fn qnan(payload: Option<u128>) -> Self
         ensures { result ≡ quiet_nan_of (unwrap_or payload 0) };
 
-    /// The positive signaling NaN with a payload, of which the format keeps the bits that it has room for. If no bit of
-    /// the payload is left, the NaN has a payload of its own; in a format with a single NaN, the result is that NaN
-    /// (IEEE 754-2008 6.2.1).
+    /// The positive signaling NaN with a payload, of which the format keeps the bits that it has room for. If that
+    /// leaves no bit set, the payload is the bit below the quiet bit; in a format with a single NaN, the result is that
+    /// NaN (IEEE 754-2008 6.2.1).
     fn snan(payload: Option<u128>) -> Self
         ensures { result ≡ signaling_nan_of (unwrap_or payload 0) };
 
@@ -327,7 +327,7 @@ pub trait Float: Copy
     fn from_str_r(s: &str, round: Round) -> Result<StatusAnd<Self>, ParseError>
         ensures { reads s.now round result };
 
-    /// The bits of the one canonical encoding of the value (IEEE 754-2008 3.4), for a type with bits, with `PRECISION`
+    /// The bits of the canonical encoding of the value (IEEE 754-2008 3.4), for a type with bits, with `PRECISION`
     /// below `BITS`. Read back, they give the value.
     fn to_bits(self) -> u128
         requires { PRECISION < BITS }
@@ -614,8 +614,8 @@ pub trait Float: Copy
     }
 
     /// The fraction of the value, with magnitude from 0.5 to below 1, and its exponent in `exp`: the value is exactly
-    /// the fraction times 2 to the power of `exp`, which is one more than `ilogb`. A zero is its own fraction with
-    /// exponent 0, an infinity its own with `IEK_INF`, and a NaN is quieted and has `IEK_NAN`.
+    /// the fraction times 2 to the power of `exp`, which is one more than `ilogb`. For a zero, the result is that zero,
+    /// with exponent 0; for an infinity, that infinity, with `IEK_INF`; for a NaN, the quieted NaN, with `IEK_NAN`.
     fn frexp_r(self, exp: &mut ExpInt, round: Round) -> Self
         ensures { has_fraction self round result exp.new };
 

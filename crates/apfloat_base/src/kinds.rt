@@ -22,15 +22,15 @@ pub enum Category {
 /// them.
 #[derive(Clone, Copy, PartialEq, Eq, Debug)]
 pub enum Round {
-    /// The nearer one; on a tie, the one with an even last digit (4.3.1).
+    /// The nearer neighbour; on a tie, that with an even last digit (4.3.1).
     NearestTiesToEven,
-    /// The upper one (4.3.2).
+    /// The upper neighbour (4.3.2).
     TowardPositive,
-    /// The lower one (4.3.2).
+    /// The lower neighbour (4.3.2).
     TowardNegative,
-    /// The one of lesser magnitude (4.3.2).
+    /// The neighbour of lesser magnitude (4.3.2).
     TowardZero,
-    /// The nearer one; on a tie, the one of greater magnitude (4.3.1).
+    /// The nearer neighbour; on a tie, that of greater magnitude (4.3.1).
     NearestTiesToAway,
 }
 
@@ -59,7 +59,7 @@ pub enum NonfiniteBehavior {
     IEEE754,
     /// No infinities, and one NaN of each sign, whose exponent and significand are all ones.
     NanOnly,
-    /// No infinities and no negative zero: the bit pattern that would be -0 is the one NaN.
+    /// No infinities and no negative zero: the bit pattern that would be -0 is the only NaN.
     NanNegativeZero,
 }
 

@@ -1,6 +1,6 @@
-//! What reading distinguishes in texts: the sign in front, and the base of a payload.
+//! The parts of a text that reading distinguishes: a leading sign, and the base of a payload.
 
-/// The sign in front of a text or of an exponent, if one is written.
+/// The sign that a text or an exponent begins with, if any.
 #[derive(Clone, Copy, PartialEq, Eq, Debug)]
 pub enum Mark {
     /// No sign.
@@ -27,7 +27,7 @@ impl Mark {
     }
 }
 
-/// The base that a payload is written in.
+/// The base of a payload's digits.
 #[derive(Clone, Copy, PartialEq, Eq, Debug)]
 pub enum Radix {
     /// Hexadecimal digits, after `0x` or `0X`.

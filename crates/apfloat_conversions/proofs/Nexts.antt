@@ -162,9 +162,9 @@ down_le (pos k) n h = let l : 0 ≤ n = omega arith in l
 down_le (negsuc k) n h = let l : k + 1 ≤ n = omega (arith, ints) in omega (arith, l)
 
 -- an exponent of the format is less than the precision below the least one
-pub operand_down : (precision : ℕ) (min_exp max_exp x : ℤ) → 3 ≤ precision
+pub operand_down : (precision : ℕ) (min_exp x : ℤ) → 3 ≤ precision
     → ((min_exp +ℤ pos 1) -ℤ pos precision) ≤ℤ x → down (x -ℤ min_exp) ≤ precision - 1
-operand_down precision min_exp max_exp x t l = down_le (x -ℤ min_exp) (precision - 1) (omega (arith, ints))
+operand_down precision min_exp x t l = down_le (x -ℤ min_exp) (precision - 1) (omega (arith, ints))
 
 -- an exponent up to the greatest can be raised by one, or is the greatest
 pub room_cases : (x m z : ℤ) → z ≡ (m -ℤ x) → x ≤ℤ m → ((x +ℤ pos 1) ≤ℤ m) ⊎ (x ≡ m)
@@ -374,7 +374,7 @@ fraction_same min x y s a b e h =
     omega (arith, g)
 
 -- a number with exponent -1 lies in [1/2, 1)
-pub fraction_low : (format : Format) (a : ℕ) (logarithm : IsLogarithm format a (negsuc 0))
+pub fraction_low : (format : Format) (a : ℕ) → IsLogarithm format a (negsuc 0)
     → (2 ^ (format.scale - 1) ≤ a) × (a < 2 ^ format.scale)
 fraction_low format a logarithm =
     let e = logarithm.is in

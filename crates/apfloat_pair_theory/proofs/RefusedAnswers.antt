@@ -1,4 +1,4 @@
--- The laws refuse answers with a step left out: each is computed.
+-- The laws reject results that were computed with a step left out.
 use Rattle.std.proofs.Common.{◌≡◌, ◌+◌, ◌^◌, false, true, refl, sym, ap, subst, eqb, lit≤, lit<, arith}
 use Rattle.std.specs.Prelude.{ℤ, pos, neg_ℤ}
 use Rattle.std.proofs.lemmas.Bool.{false≢true, le-leb}
@@ -16,7 +16,7 @@ use Rattle.apfloat_pair_theory.specs.Pairs.{IsNormalised}
 use Rattle.apfloat_pair_theory.specs.PairAccuracy.{HaveExponents, IsErrorFreeSum, IsAccurateSum, IsAccurateProduct}
 use Rattle.apfloat_pair_theory.specs.WrongAnswers.{one, least, half_unit, one_and_half_unit, one_and_quarter_unit, before_closing}
 
--- 1 is no error-free sum of 1 and the least double
+-- 1 is not an error-free sum of 1 and the least double
 pub dropped_error : IsErrorFreeSum one least one → ⊥
 dropped_error law =
     let e = law (record { is_finite = refl; low_is = refl }) (record { is_finite = refl; low_is = refl })
@@ -69,14 +69,14 @@ sum_is_double : IsSum double NearestTiesToEven (finite false (2 ^ 1074)) (finite
     (finite false (2 ^ 1074 + 2 ^ 1022)) ok_bits
 sum_is_double = rounded (2 ^ 52 + 1) 1022 refl refl refl
 
--- so that pair is not normalised
+-- so they are not a normalised pair
 not_normalised : IsNormalised before_closing → ⊥
 not_normalised n =
     let only = sum_once double NearestTiesToEven (finite false (2 ^ 1074)) (finite false (2 ^ 1022)) n.nearest
     (finite false (2 ^ 1074 + 2 ^ 1022)) n.status ok_bits n.is_nearest sum_is_double in
     false≢true (subst (λ (d : Datum). is_equal (finite false (2 ^ 1074)) d ≡ true) only.0 n.same_number)
 
--- and no accurate sum of 1 + 2 ^ -53 and 2 ^ -53
+-- nor an accurate sum of 1 + 2 ^ -53 and 2 ^ -53
 pub skipped_closing_step : IsAccurateSum one_and_half_unit half_unit before_closing → ⊥
 skipped_closing_step law =
     let a = law one_and_half_unit_normalised half_unit_normalised (record { first = lit≤ tt; second = lit≤ tt }) in
@@ -95,7 +95,7 @@ exponents = record {
   not_above = omega (arith, ints);
 }
 
--- 1 is no accurate product of 1 + 2 ^ -54 and 1
+-- 1 is not an accurate product of 1 + 2 ^ -54 and 1
 pub dropped_cross_term : IsAccurateProduct one_and_quarter_unit one one → ⊥
 dropped_cross_term law =
     let a = law one_and_quarter_unit_normalised one_normalised exponents in

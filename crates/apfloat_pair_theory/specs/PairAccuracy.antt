@@ -47,7 +47,7 @@ pub record HaveExponents (x y : Pair) (least greatest : ℤ) : Type 0 where
 
 -- ---- results, compared with the exact result in parts of a quantum
 
--- The parts are finite and add up to exact / parts quanta, and the high one is the double nearest to that.
+-- The parts are finite and add up to exact / parts quanta, and the high part is the double nearest to that.
 pub record IsExactPair (exact : ℤ) (parts : ℕ) (answer : Pair) : Type 0 where
   pub normalised : IsNormalised answer
   pub number_is : (pair_number answer *ℤ pos parts) ≡ exact
@@ -62,12 +62,12 @@ pub record IsClosePair (exact : ℤ) (parts digits size : ℕ) (answer : Pair) :
 abbrev pub total_size : Pair → Pair → ℕ
 total_size x y = magnitude (pair_number x) + magnitude (pair_number y)
 
--- for two doubles, nothing is lost
+-- for two doubles, the sum is exact
 abbrev pub IsErrorFreeSum : Pair → Pair → Pair → Type 0
 IsErrorFreeSum x y answer =
     IsSingle x → IsSingle y → AreWithinReach x y → IsExactPair (pair_number x +ℤ pair_number y) 1 answer
 
--- for normalised pairs, little is lost, relative to the sum of both magnitudes
+-- for normalised pairs, the error is small relative to the sum of both magnitudes
 abbrev pub IsAccurateSum : Pair → Pair → Pair → Type 0
 IsAccurateSum x y answer =
     IsNormalised x → IsNormalised y → AreWithinReach x y
@@ -86,13 +86,13 @@ IsAccurateDifference x y answer =
 
 -- ---- the product of x and y
 
--- for two doubles, nothing is lost if the digits of the product are within the range of doubles
+-- for two doubles, the product is exact if all its digits are within the range of doubles
 abbrev pub IsErrorFreeProduct : Pair → Pair → Pair → Type 0
 IsErrorFreeProduct x y answer =
     IsSingle x → IsSingle y → HaveExponents x y (neg_ℤ (pos 970)) (pos 1021)
     → IsExactPair (pair_number x *ℤ pair_number y) (2 ^ double.scale) answer
 
--- for normalised pairs, little is lost, relative to the exact product
+-- for normalised pairs, the error is small relative to the exact product
 abbrev pub IsAccurateProduct : Pair → Pair → Pair → Type 0
 IsAccurateProduct x y answer =
     IsNormalised x → IsNormalised y → HaveExponents x y (neg_ℤ (pos 900)) (pos 1021)

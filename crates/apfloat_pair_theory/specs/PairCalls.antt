@@ -64,7 +64,7 @@ pub record IsPairExactInverse (x : Pair) (answer : Option Pair) : Type 0 where
 abbrev pub IsPairReading : Round → List ℕ → Pair → ℕ → Type 0
 IsPairReading mode text answer status = IsSplitAnswer (IsReading wide mode text) answer status
 
--- the value and the status of the text's meaning, or a refusal with the words for its first fault
+-- as `IsRead` for a format
 abbrev pub IsPairRead : Round → List ℕ → Result (StatusAnd Pair) ParseError → Type 0
 IsPairRead mode text (Ok answer) = Gives (IsPairReading mode text) answer
 IsPairRead mode text (Err error) = IsRefusal text error.0.now

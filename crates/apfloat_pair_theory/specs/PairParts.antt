@@ -71,7 +71,7 @@ is_integer_pair x = is_integer double x.high && is_integer double x.low
 abbrev pub compared_pairs : Pair → Pair → Option Ordering
 compared_pairs x y = partial_ordering_then (compared x.high y.high) (compared x.low y.low)
 
--- whether the low part reduces the magnitude of the high one
+-- whether the low part reduces the magnitude of the high part
 abbrev pub are_opposite : Pair → Bool
 are_opposite x = not (same_sign (is_negative x.high) (is_negative x.low))
 
@@ -103,7 +103,7 @@ pub record CanComparePairMagnitudes (x y : Pair) : Type 0 where
   pub first_low : compared_magnitudes x.high y.high ≡ Equal → category_of x.low ≡ Normal
   pub second_low : compared_magnitudes x.high y.high ≡ Equal → category_of y.low ≡ Normal
 
--- The high part is denormal, or it is not the sum of the parts.
+-- the high part is denormal, or is not the sum of the parts
 pub record IsDenormalByParts (x : Pair) (answer : Bool) : Type 0 where
   pub sum : Datum
   pub status : ℕ

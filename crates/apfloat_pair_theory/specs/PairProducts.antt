@@ -17,7 +17,7 @@ use Rattle.apfloat_base.specs.declared.kinds.Category.{Category}
 use Rattle.apfloat_base.specs.declared.kinds.Category.TheVariants.{Zero, Normal, Infinity, NaN}
 use Rattle.apfloat_pair_theory.specs.PairSums.{◌∪◌, IsClosed}
 
--- tau is the error of t = a * c, plus the products of a high part and a low one
+-- tau is the error of t = a * c, plus the products of a high part and a low part
 pub record IsLostOfProduct (mode : Round) (a b c d t tau : Datum) (flags : ℕ) : Type 0 where
   pub lost : Datum
   pub v : Datum
@@ -51,7 +51,7 @@ pub record IsProductOfNumbers (mode : Round) (x y : Pair) (answer : Pair) (statu
       (IsNumberProduct mode x y t t_flags answer status)
       (IsPairAnswer (alone t) t_flags answer status)
 
--- The first row that matches. A zero or an infinity keeps its own sign.
+-- The first row that matches. A zero or an infinity keeps its sign.
 abbrev pub IsProductOfCategories : Category → Category → Round → Pair → Pair → Pair → ℕ → Type 0
 IsProductOfCategories NaN k mode x y answer status = IsPairAnswer x ok_bits answer status
 IsProductOfCategories k NaN mode x y answer status = IsPairAnswer y ok_bits answer status

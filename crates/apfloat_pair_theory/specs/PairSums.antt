@@ -74,14 +74,14 @@ pub record IsFiniteSum (mode : Round) (x y : Pair) (z : Datum) (z_flags : ℕ) (
     pub zz : Datum
     pub zz_flags : ℕ
     pub is_zz : IsLost mode x.high x.low y.high y.low z zz zz_flags
-    -- nothing was lost, or one more sum
+    -- without an error, the result is z alone; otherwise one more sum
     pub is_answer : MatchBool (same_datum zz positive_zero)
         (IsPairAnswer (alone z) ok_bits answer status)
         (IsClosed mode z zz (z_flags ∪ zz_flags) answer status)
 
 -- ---- it is infinite: the sum is computed again, starting with the smallest part
 
--- of two numbers, the one of greater magnitude, and the other one; on a tie, the second counts as the greater
+-- of two numbers, that of greater magnitude, and the other; on a tie, the second counts as the greater
 abbrev pub greater : Datum → Datum → Datum
 greater a c = if ltb (quanta_of c) (quanta_of a) then a else c
 
@@ -98,7 +98,7 @@ pub record IsSumAnewLow (mode : Round) (x y : Pair) (z : Datum) (flags : ℕ) (a
     pub left_flags : ℕ
     pub with_lesser_flags : ℕ
     pub low_flags : ℕ
-    -- the low parts; the greater high part - z, + the lesser one, + the low parts
+    -- the low parts; the greater high part - z, + the lesser, + the low parts
     pub is_zz : IsSum double mode x.low y.low zz zz_flags
     pub is_left : IsDifference double mode (greater x.high y.high) z left left_flags
     pub is_with_lesser : IsSum double mode left (lesser x.high y.high) with_lesser with_lesser_flags
@@ -114,7 +114,7 @@ pub record IsSumAnew (mode : Round) (x y : Pair) (answer : Pair) (status : ℕ) 
   pub lows_flags : ℕ
   pub with_lesser_flags : ℕ
   pub z_flags : ℕ
-  -- the low parts, the second one first; + the lesser high part, + the greater one
+  -- the low parts, the second first; + the lesser high part, + the greater
   pub is_lows : IsSum double mode y.low x.low lows lows_flags
   pub is_with_lesser : IsSum double mode lows (lesser x.high y.high) with_lesser with_lesser_flags
   pub is_z : IsSum double mode with_lesser (greater x.high y.high) z z_flags

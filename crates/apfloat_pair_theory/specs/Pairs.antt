@@ -130,7 +130,7 @@ pub record IsWideAnswerOfTwo (call : Datum → Datum → Datum → ℕ → Type 
     pub right_is : IsJoined y right
     pub is_answer : IsSplitAnswer (call left right) answer status
 
--- ---- both parts are finite, and the high one is the double nearest to the number
+-- ---- both parts are finite, and the high part is the double nearest to the number
 
 pub record IsNormalised (x : Pair) : Type 0 where
   pub finite_high : is_finite x.high ≡ true

@@ -1,6 +1,6 @@
-//! Pairs of doubles: a number as the exact sum of two doubles, `high + low`.
+//! Definitions of the operations on pairs of doubles, and theorems about them.
 //!
-//! `specs/` says what each operation on pairs returns: sums and products as chains of steps on doubles, and the other
+//! `specs/` defines what each operation on pairs returns: sums and products as chains of steps on doubles, other
 //! operations by the parts or in a wide format of 106 binary digits. The functions here do nothing: their clauses are
 //! theorems about those definitions, within the ranges given in `specs/PairAccuracy.antt`. Rounded to nearest, the sum
 //! and the product of two doubles are exact; those of two normalised pairs are normalised, and the error is at most 2 ^

@@ -1,4 +1,4 @@
--- The fraction of a pair: its exponent and the negation, which scales the low part, fit 32 bits.
+-- The fraction of a pair: its exponent fits 32 bits, and so does the negated exponent, which scales the low part.
 use Rattle.std.proofs.Common.{◌≡◌, ℕ, zero, suc, ◌-◌, ◌<◌, ◌≤◌, Bool, w32, to_z, of_z, sym, ap, ◌∙◌, subst, arith, FitsSigned}
 use Rattle.std.specs.Prelude.{ℤ, pos, neg_ℤ, ◌-ℤ◌, ◌≤ℤ◌}
 use Rattle.std.proofs.lemmas.Bool.{MatchBool-at_false, ne_eqb}
@@ -24,7 +24,7 @@ some_quanta : (negative : Bool) (n : ℕ) → category_of (finite negative n) �
 some_quanta b zero e = cc
 some_quanta b (suc n) e = omega arith
 
--- the exponent of the fraction of a double that is not zero
+-- the exponent of the fraction of a nonzero double is within the range of the format
 double_within : (x value : Datum) (exponent : ℤ) → category_of x ≡ Normal → IsMember double x
     → IsFrexp double x value exponent → IsExponentWithin double exponent
 double_within (finite b n) value exponent normal member h =

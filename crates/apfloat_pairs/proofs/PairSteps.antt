@@ -1,4 +1,4 @@
--- Answers of calls on pairs, from the answers of their steps.
+-- Results of calls on pairs, from the results of their steps.
 use Rattle.std.proofs.Common.{◌≡◌, ℕ, Bool, true, false, not, ◌&&◌, ◌||◌, sym, ap, ◌∙◌, subst}
 use Rattle.std.proofs.Math.Path.{subst₂}
 use mathlib.Core.Bool.{beq}
@@ -54,7 +54,7 @@ product_by_steps mode x y a c t tau t_flags tau_flags flags is_number answer sta
           });
     }
 
--- whether a pair is denormal, by the sum of its parts
+-- whether a pair is denormal, from the sum of its parts
 pub denormal_at_sum : (x : Pair) (sum : Datum) (status : ℕ) (is_number is_denormal_high answer : Bool)
     → is_number ≡ is_finite_non_zero_category (category_of x.high) → is_number ≡ true
     → is_denormal_high ≡ is_denormal double x.high → is_denormal_high ≡ false
@@ -67,7 +67,7 @@ denormal_at_sum x sum status is_number is_denormal_high answer n t d f s a =
     ap (λ (b : Bool). b && (is_denormal double x.high || not (is_equal x.high sum))) e ∙
     ap (λ (b : Bool). true && (b || not (is_equal x.high sum))) g)
 
--- the sum of two infinities of one sign
+-- the sum of two infinities of the same sign
 pub infinities_of_one_sign : (x y answer : Pair) (status : ℕ) (first second : Bool) → first ≡ is_negative x.high
     → second ≡ is_negative y.high → beq first second ≡ true → answer ≡ x → status ≡ ok_bits
     → IsSumOfInfinities x y answer status
@@ -78,9 +78,9 @@ infinities_of_one_sign x y answer status first second a b e v s =
     sym (same_beq first second) ∙ e)
     (record { answer_is = v; status_is = s })
 
--- ---- the sum taken anew
+-- ---- the sum computed again, from the smallest part
 
--- the greater high part and the lesser, and the sum from the low parts on, with the flags so far
+-- the greater and the lesser high part, and the sum that starts with the low parts, with its flags
 pub record IsOpenedAnew (mode : Round) (x y : Pair) (big small z : Datum) (flags : ℕ) : Type 0 where
   pub lows : Datum
   pub with_lesser : Datum
@@ -96,7 +96,7 @@ pub record IsOpenedAnew (mode : Round) (x y : Pair) (big small z : Datum) (flags
   pub joined : flags_with_lesser ≡ lows_flags ∪ with_lesser_flags
   pub flags_are : flags ≡ flags_with_lesser ∪ z_flags
 
--- and what the sum leaves
+-- and the rest of that sum
 pub record IsClosedAnew (mode : Round) (x y : Pair) (big small z : Datum) (flags : ℕ) (low : Datum)
     (all_flags : ℕ) : Type 0 where
   pub zz : Datum
@@ -118,18 +118,18 @@ pub record IsClosedAnew (mode : Round) (x y : Pair) (big small z : Datum) (flags
   pub lesser_joined : flags_with_lesser ≡ flags_with_left ∪ with_lesser_flags
   pub flags_are : all_flags ≡ flags_with_lesser ∪ low_flags
 
--- three sets of flags, joined one after another
+-- the union of three sets of flags
 two_joined : (a b c ab abc : ℕ) → ab ≡ a ∪ b → abc ≡ ab ∪ c → abc ≡ a ∪ b ∪ c
 two_joined a b c ab abc e f = f ∙ ap (λ (i : ℕ). i ∪ c) e
 
--- the flags so far are those of the three sums
+-- the flags are those of the three sums
 flags_of_opened : (mode : Round) (x y : Pair) (big small z : Datum) (flags : ℕ)
     → (opened : IsOpenedAnew mode x y big small z flags)
     → flags ≡ opened.lows_flags ∪ opened.with_lesser_flags ∪ opened.z_flags
 flags_of_opened mode x y big small z flags o =
     two_joined o.lows_flags o.with_lesser_flags o.z_flags o.flags_with_lesser flags o.joined o.flags_are
 
--- a sum that was opened so is taken anew, with the answer that its high part calls for
+-- a sum computed again has the result that its high part decides
 anew : (mode : Round) (x y : Pair) (big small z : Datum) (flags : ℕ) (answer : Pair) (status : ℕ)
     → (opened : IsOpenedAnew mode x y big small z flags)
     → MatchBool (is_finite z)
@@ -152,7 +152,7 @@ anew mode x y big small z flags answer status o is_answer =
       is_answer = is_answer;
     }
 
--- where it is not finite it stands alone
+-- if the high part is not finite, it is the result with low part +0
 pub anew_beyond : (mode : Round) (x y : Pair) (big small z : Datum) (flags : ℕ) (is_within : Bool) (answer : Pair)
     (status : ℕ) → IsOpenedAnew mode x y big small z flags → is_within ≡ is_finite_category (category_of z)
     → is_within ≡ false → answer ≡ alone z → status ≡ flags → IsSumAnew mode x y answer status
@@ -164,7 +164,7 @@ anew_beyond mode x y big small z flags is_within answer status o w e v s =
     (sym (finite_agrees z) ∙ sym w ∙ e)
     (record { answer_is = v; status_is = s ∙ flags_of_opened mode x y big small z flags o }))
 
--- and else with what was lost of it
+-- otherwise the low part is the rest
 pub anew_within : (mode : Round) (x y : Pair) (big small z low : Datum) (flags all_flags : ℕ) (is_within : Bool)
     (answer : Pair) (status : ℕ) → IsOpenedAnew mode x y big small z flags
     → is_within ≡ is_finite_category (category_of z) → is_within ≡ true
@@ -204,7 +204,7 @@ anew_within mode x y big small z low flags all_flags is_within answer status o w
 
 -- ---- pairs in the wide format
 
--- a pair of numbers in the wide format
+-- the join of a pair whose high part is a number
 pub joined_by_sum : (x : Pair) (high low answer : Datum) (status : ℕ) (is_number : Bool)
     → is_number ≡ is_finite_non_zero_category (category_of x.high) → is_number ≡ true → IsWidened x.high high
     → IsWidened x.low low → IsSum wide NearestTiesToEven high low answer status → IsJoined x answer
@@ -213,7 +213,7 @@ joined_by_sum x high low answer status is_number n e h l s =
     (sym (number_agrees x.high) ∙ sym n ∙ e)
     (record { high = high; low = low; status = status; high_is = h; low_is = l; is_sum = s })
 
--- and another pair, by its high part
+-- and of any other pair, which is its high part
 pub joined_alone : (x : Pair) (high : Datum) (is_number : Bool)
     → is_number ≡ is_finite_non_zero_category (category_of x.high) → is_number ≡ false → IsWidened x.high high
     → IsJoined x high
@@ -223,13 +223,13 @@ joined_alone x high is_number n e h =
 
 -- ---- calls in the wide format
 
--- the answer of a call in the wide format, split into a pair
+-- the split result of a wide call without operands
 pub wide_of_none : (call : Datum → ℕ → Type 0) (value : Datum) (flags : ℕ) (answer : Pair) (status : ℕ)
     → call value flags → status ≡ flags → IsSplit value answer → IsSplitAnswer call answer status
 wide_of_none call value flags answer status h e s =
     record { value = value; is_value = subst (λ (t : ℕ). call value t) (sym e) h; is_split = s }
 
--- of two pairs
+-- of a wide call of two pairs
 pub wide_of_two : (call : Datum → Datum → Datum → ℕ → Type 0) (x y : Pair) (left right value : Datum) (flags : ℕ)
     (answer : Pair) (status : ℕ) → IsJoined x left → IsJoined y right → call left right value flags → status ≡ flags
     → IsSplit value answer → IsWideAnswerOfTwo call x y answer status
@@ -242,7 +242,7 @@ wide_of_two call x y left right value flags answer status i j h e s =
       is_answer = wide_of_none (call left right) value flags answer status h e s;
     }
 
--- of one pair
+-- of a wide call of one pair
 pub wide_of_one : (call : Datum → Datum → ℕ → Type 0) (x : Pair) (joined value : Datum) (flags : ℕ) (answer : Pair)
     (status : ℕ) → IsJoined x joined → call joined value flags → status ≡ flags → IsSplit value answer
     → IsWideAnswer call x answer status
@@ -253,16 +253,16 @@ wide_of_one call x joined value flags answer status j h e s =
       is_answer = wide_of_none (call joined) value flags answer status h e s;
     }
 
--- ---- by categories, and by the negation
+-- ---- by categories, and by negation
 
--- the sum that the categories of the operands call for is their sum
+-- the result for the categories of two operands is their sum
 pub sum_by_categories : (mode : Round) (x y : Pair) (first second : Category) (answer : Pair) (status : ℕ)
     → first ≡ pair_category x → second ≡ pair_category y
     → IsSumOfCategories first second mode x y answer status → IsPairSum mode x y answer status
 sum_by_categories mode x y first second answer status i j s =
     subst₂ (λ (k : Category) (l : Category). IsSumOfCategories k l mode x y answer status) i j s
 
--- likewise the product
+-- and for products, their product
 pub product_by_categories : (mode : Round) (x y : Pair) (first second : Category) (answer : Pair) (status : ℕ)
     → first ≡ pair_category x → second ≡ pair_category y
     → IsProductOfCategories first second mode x y answer status → IsPairProduct mode x y answer status
@@ -274,35 +274,35 @@ pub difference_by_negation : (mode : Round) (x y negated answer : Pair) (status 
     → IsPairSum mode x negated answer status → IsPairDifference mode x y answer status
 difference_by_negation mode x y z answer status e s = subst (λ (p : Pair). IsPairSum mode x p answer status) e s
 
--- ---- the laws of sums and products, in a mode that is to the nearest
+-- ---- the laws of sums and products, in a mode that rounds to nearest, ties to even
 
--- in any mode, where that mode is to the nearest
+-- a law for the mode to nearest holds for any mode equal to it
 at_nearest : (P : Round → Type 0) (Q : Type 0) → (P NearestTiesToEven → Q) → (mode : Round) → P mode
     → mode ≡ NearestTiesToEven → Q
 at_nearest P Q law mode p e = law (subst P e p)
 
--- to the nearest, the sum of two doubles loses nothing
+-- to nearest, the sum of two doubles loses nothing
 pub sum_error_free : (mode : Round) (x y answer : Pair) (status : ℕ) → IsMember double x.high → IsMember double y.high
     → IsPairSum mode x y answer status → mode ≡ NearestTiesToEven → IsErrorFreeSum x y answer
 sum_error_free mode x y answer status m n =
     at_nearest (λ (i : Round). IsPairSum i x y answer status) (IsErrorFreeSum x y answer)
     (error_free_sum x y answer status m n) mode
 
--- that of two normalised pairs loses little
+-- that of two normalised pairs is accurate
 pub sum_accurate : (mode : Round) (x y answer : Pair) (status : ℕ) → IsPairSum mode x y answer status
     → mode ≡ NearestTiesToEven → IsAccurateSum x y answer
 sum_accurate mode x y answer status =
     at_nearest (λ (i : Round). IsPairSum i x y answer status) (IsAccurateSum x y answer)
     (accurate_sum x y answer status) mode
 
--- and raises INEXACT at most
+-- and raises at most INEXACT
 pub sum_plain : (mode : Round) (x y answer : Pair) (status : ℕ) → IsPairSum mode x y answer status
     → mode ≡ NearestTiesToEven → HasPlainStatus x y status
 sum_plain mode x y answer status =
     at_nearest (λ (i : Round). IsPairSum i x y answer status) (HasPlainStatus x y status)
     (plain_sum x y answer status) mode
 
--- to the nearest, the difference of two doubles loses nothing
+-- to nearest, the difference of two doubles loses nothing
 pub difference_error_free : (mode : Round) (x y answer : Pair) (status : ℕ) → IsMember double x.high
     → IsMember double y.high → IsPairDifference mode x y answer status → mode ≡ NearestTiesToEven
     → IsErrorFreeDifference x y answer
@@ -310,21 +310,21 @@ difference_error_free mode x y answer status m n =
     at_nearest (λ (i : Round). IsPairDifference i x y answer status) (IsErrorFreeDifference x y answer)
     (error_free_difference x y answer status m n) mode
 
--- that of two normalised pairs loses little
+-- that of two normalised pairs is accurate
 pub difference_accurate : (mode : Round) (x y answer : Pair) (status : ℕ) → IsPairDifference mode x y answer status
     → mode ≡ NearestTiesToEven → IsAccurateDifference x y answer
 difference_accurate mode x y answer status =
     at_nearest (λ (i : Round). IsPairDifference i x y answer status) (IsAccurateDifference x y answer)
     (accurate_difference x y answer status) mode
 
--- and raises INEXACT at most
+-- and raises at most INEXACT
 pub difference_plain : (mode : Round) (x y answer : Pair) (status : ℕ) → IsPairDifference mode x y answer status
     → mode ≡ NearestTiesToEven → HasPlainStatus x y status
 difference_plain mode x y answer status =
     at_nearest (λ (i : Round). IsPairDifference i x y answer status) (HasPlainStatus x y status)
     (plain_difference x y answer status) mode
 
--- to the nearest, the product of two doubles loses nothing
+-- to nearest, the product of two doubles loses nothing
 pub product_error_free : (mode : Round) (x y answer : Pair) (status : ℕ) → IsMember double x.high
     → IsMember double y.high → IsPairProduct mode x y answer status → mode ≡ NearestTiesToEven
     → IsErrorFreeProduct x y answer
@@ -332,7 +332,7 @@ product_error_free mode x y answer status m n =
     at_nearest (λ (i : Round). IsPairProduct i x y answer status) (IsErrorFreeProduct x y answer)
     (error_free_product x y answer status m n) mode
 
--- that of two normalised pairs loses little
+-- that of two normalised pairs is accurate
 pub product_accurate : (mode : Round) (x y answer : Pair) (status : ℕ) → IsPairProduct mode x y answer status
     → mode ≡ NearestTiesToEven → IsAccurateProduct x y answer
 product_accurate mode x y answer status =

@@ -239,7 +239,7 @@ impl Float for DoubleFloat {
         wide::quotient(self, rhs, round)
     }
 
-    /// The remainder in the wide format, split.
+    /// The remainder by the nearest quotient, in the wide format, split.
     #[inline]
     fn ieee_rem(self, rhs: Self) -> StatusAnd<Self>
         ensures remainder { Gives (IsPairNearestRemainder self rhs) result }
@@ -248,7 +248,7 @@ impl Float for DoubleFloat {
         wide::nearest(self, rhs)
     }
 
-    /// The remainder in the wide format, split.
+    /// The remainder by the quotient cut toward zero, in the wide format, split.
     #[inline]
     fn c_fmod(self, rhs: Self) -> StatusAnd<Self>
         ensures remainder { Gives (IsPairTruncatedRemainder self rhs) result }

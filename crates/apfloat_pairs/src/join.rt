@@ -21,8 +21,7 @@ fn widened(part: Double) -> Fallback
     part.convert(&mut loses_info).value
 }
 
-/// The exact sum of the parts in the wide format, rounded once to the nearest value, ties to even. A high part that is
-/// zero, infinite or a NaN is taken alone.
+/// The wide value of a pair, which `Fallback::from` describes.
 #[inline]
 pub(crate) fn joined(x: DoubleFloat) -> Fallback
     ensures { IsJoined x result }
@@ -50,7 +49,7 @@ fn rest(x: Fallback, rounded: StatusAnd<Double>) -> Double
     rest.convert(&mut loses_info).value
 }
 
-/// The double nearest to a wide value, with the rest as the low part.
+/// The pair of a wide value, which `DoubleFloat::from` describes.
 #[inline]
 pub(crate) fn split(x: Fallback) -> DoubleFloat
     ensures { IsSplit x result }

@@ -1,4 +1,4 @@
-//! The operators on pairs: each is a call, rounded to nearest, ties to even. The assigning ones drop the status.
+//! The operators on pairs: each is a call, rounded to nearest, ties to even. Assigning operators drop the status.
 
 ghost use Rattle.std.specs.Prelude.{◌≡◌};
 ghost use Rattle.apfloat_base.specs.declared.kinds.Round.TheVariants.{NearestTiesToEven};

@@ -8,7 +8,7 @@ use crate::DoubleFloat;
 use apfloat_base::Float;
 use std::cmp::Ordering;
 
-/// Whether the low part reduces the magnitude of the high one.
+/// Whether the low part reduces the magnitude of the high part.
 #[inline]
 fn is_opposite(x: DoubleFloat) -> bool
     ensures { result ≡ are_opposite x }

@@ -56,7 +56,7 @@ pub(crate) fn largest() -> DoubleFloat
     of_bits(0x7c8f_ffff_ffff_fffe_7fef_ffff_ffff_ffff)
 }
 
-/// 2 to the power of `MIN_EXP`, the least pair from which on a low part has all its digits.
+/// 2 to the power of `MIN_EXP`: from this pair up, a low part can have all its digits.
 #[inline]
 pub(crate) fn smallest_normalized() -> DoubleFloat
     ensures { result ≡ pair_smallest_normalized }

@@ -12,7 +12,7 @@ use crate::sums::closed;
 use apfloat_base::{Category, Float, Round, Status, StatusAnd, unpack};
 use apfloat_formats::Double;
 
-/// What the product `t` of the high parts lost, plus the products of a high part and a low one.
+/// The error of the product `t` of the high parts, plus the products of a high part and a low part.
 #[inline]
 fn lost(x: DoubleFloat, y: DoubleFloat, t: Double, round: Round) -> StatusAnd<Double>
     ensures { Gives (IsLostOfProduct round x.high x.low y.high y.low t) result }

@@ -31,7 +31,7 @@ pub(crate) fn closed(z: Double, zz: Double, status: Status, round: Round) -> Sta
     flags.and(DoubleFloat(high, low))
 }
 
-/// What the sum `z` of the high parts lost, plus the low parts.
+/// The error of the sum `z` of the high parts, plus the low parts.
 #[inline]
 fn lost(x: DoubleFloat, y: DoubleFloat, z: Double, round: Round) -> StatusAnd<Double>
     ensures { Gives (IsLost round x.high x.low y.high y.low z) result }
@@ -68,7 +68,7 @@ fn finite_sum(
     }
 }
 
-/// The two high parts, the one of greater magnitude first; on a tie, the second.
+/// The two high parts, the greater magnitude first; on a tie, the second part first.
 #[inline]
 fn by_magnitude(a: Double, c: Double) -> (Double, Double)
     requires first { category_of a ≡ Normal }
@@ -165,7 +165,7 @@ pub(crate) fn sum(x: DoubleFloat, y: DoubleFloat, round: Round) -> StatusAnd<Dou
     sum_of_categories(category(x), category(y), x, y, round)
 }
 
-/// The difference of two pairs: the sum with the negated one, as exact and as accurate as that.
+/// The difference of two pairs: the sum with the negated second pair, as exact and as accurate as that sum.
 #[inline]
 pub(crate) fn difference(x: DoubleFloat, y: DoubleFloat, round: Round) -> StatusAnd<DoubleFloat>
     ensures difference { Gives (IsPairDifference round x y) result }

@@ -1,5 +1,5 @@
-//! Operations on pairs by way of the wide format: the pair is joined, the operation is done there, and its result is
-//! split. The status is that of the wide operation.
+//! Operations on pairs by way of the wide format: the pair is joined, the operation is performed there, and its result
+//! is split. The status is that of the wide operation.
 
 ghost use Rattle.std.specs.Prelude.{◌≡◌, ◌≤◌, ◌<◌, ◌^◌, Result};
 ghost use Rattle.apfloat_base.specs.rounding.Flags.{Gives, bits_of};

@@ -1,7 +1,15 @@
 //! One rounding: turns any significand, with its unit and its loss, into a value of a format and a status.
 //!
-//! The significand is cut once. The place of the cut follows from its length, its exponent and the format; the digits
-//! that are cut off, together with the incoming loss, decide the rounding, and at most one is added to what is kept.
+//! The problem: an exact result has any number of digits, and any exponent. A format keeps `precision` digits, fewer
+//! for a denormal result, and nothing past its largest value. Rounding twice, to the precision and then to what a
+//! denormal keeps, would give wrong results and wrong flags, so the result has to be cut once.
+//!
+//! The idea: the place of the lowest kept digit is known before anything is cut. It follows from the length of the
+//! significand, its exponent and the format, and is never below the quantum, so denormals are not a special case. One
+//! shift to that place leaves the kept digits and a `Loss`: what was cut off, together with the incoming loss, in one
+//! of four cases, which is all that a mode needs. The mode adds one to the kept digits, or does not; a carry to the
+//! next power of two moves the place up by one. The point so picked decides the rest: overflow if it is past the
+//! largest value, otherwise the value, exact or inexact, tiny or not.
 
 ghost use Rattle.std.specs.Prelude.{◌≡◌, ℕ, ◌+◌, ◌-◌, ◌*◌, ◌^◌, ◌<◌, ◌≤◌, ◌⊎◌, ltb, pos, neg_ℤ, ◌≤ℤ◌, ◌+ℤ◌, if◌then◌else◌, false};
 ghost use Rattle.apfloat_base.specs.rounding.Bounds.{IsWithin, exponent_bound, unit_bound, place_bound};
@@ -11,7 +19,7 @@ ghost use Rattle.apfloat_base.specs.formats.Datum.{finite};
 ghost use Rattle.apfloat_base.specs.rounding.Answer.{IsAnswer};
 ghost use Rattle.apfloat_base.specs.rounding.Standing.{StandsFor, IsFineEnough, up, down};
 ghost use Rattle.apfloat_base.specs.rounding.Enclosure.{rounds_up};
-ghost use Rattle.apfloat_base.specs.rounding.Rounding.{takes_above, ok_bits, overflow_bit, underflow_bit, inexact_bit, IsPick, IsDelivered, leads_out, past_largest};
+ghost use Rattle.apfloat_base.specs.rounding.Rounding.{points_away, ok_bits, overflow_bit, underflow_bit, inexact_bit, IsPick, IsDelivered, leads_out, past_largest};
 ghost use Rattle.apfloat_unpacked.specs.Cuts.{IsCut};
 ghost use Rattle.apfloat_unpacked.specs.Shapes.{format_at};
 ghost use Rattle.apfloat_unpacked.specs.Stored.{IsStored, GivesAt};
@@ -107,10 +115,10 @@ fn keep(precision: u32, significand: u128, unit: ExpInt, loss: Loss) -> Kept
     }
 }
 
-/// Whether a directed mode rounds a magnitude of this sign up.
+/// Whether a directed mode rounds a magnitude of this sign up, away from zero.
 #[inline(always)]
 fn is_outward(mode: Round, negative: bool) -> bool
-    ensures { result ≡ takes_above mode negative 1 2 false }
+    ensures { result ≡ points_away mode negative }
 {
     ((mode == Round::TowardPositive) & !negative) | ((mode == Round::TowardNegative) & negative)
 }

@@ -1,6 +1,6 @@
 //! Texts of values, read as binary16 values, which are unpacked.
 
-use crate::unpacked::half;
+use crate::unpacked::HALF;
 use apfloat_base::{ParseError, Round, Status, StatusAnd};
 use apfloat_texts::read;
 use apfloat_unpacked::unpacked::Unpacked;
@@ -9,7 +9,7 @@ use std::test::Fail;
 
 /// Reads a text as a binary16 value, rounding upward.
 fn read_up(text: &str) -> Result<StatusAnd<Unpacked>, ParseError> {
-    read(half(), text, Round::TowardPositive)
+    read(HALF, text, Round::TowardPositive)
 }
 
 #[test]

@@ -9,16 +9,14 @@ use apfloat_unpacked::rounding::deliver;
 use apfloat_unpacked::shape::Shape;
 
 /// The shape of binary16.
-pub fn half() -> Shape {
-    Shape {
-        precision: 11,
-        min_exp: -14,
-        max_exp: 15,
-        nonfinite: NonfiniteBehavior::IEEE754,
-        explicit_integer_bit: false,
-        tiny_before_rounding: false,
-    }
-}
+pub const HALF: Shape = Shape {
+    precision: 11,
+    min_exp: -14,
+    max_exp: 15,
+    nonfinite: NonfiniteBehavior::IEEE754,
+    explicit_integer_bit: false,
+    tiny_before_rounding: false,
+};
 
 const HALF_WIDTHS: Widths = Widths {
     bits: 16,
@@ -33,7 +31,7 @@ fn holds_denormals_normalized(rt: HostRuntime) {
         (0x0400, 0x400, -14),
     ];
     for (bits, significand, exponent) in rows {
-        let x = decode(half(), HALF_WIDTHS, bits);
+        let x = decode(HALF, HALF_WIDTHS, bits);
         assert_eq!(rt; x.significand, significand);
         assert_eq!(rt; x.exponent, exponent);
     }
@@ -44,7 +42,7 @@ fn rounded(significand: u128, loss: Loss) -> u128
     requires { 2 ^ 12 ≤ significand }
 {
     deliver(
-        half(),
+        HALF,
         significand,
         -12,
         loss,

@@ -1,4 +1,4 @@
--- A finite datum whose number is one of the other format too comes through as it is.
+-- The conversion of a finite datum whose number the other format also has is exact.
 use Rattle.std.proofs.Common.{◌≡◌, ℕ, Bool, false, not, eqb, zero, suc, ◌*◌, ◌^◌, ◌<◌, sym, ap, ◌∙◌, arith}
 use Rattle.std.proofs.lemmas.Bool.{ne_eqb}
 use Rattle.std.proofs.lemmas.Nat.{pow_pos}
@@ -46,7 +46,7 @@ zero_exactly format b value status loses_info z h =
           r.loses_is;
     }
 
--- whatever answers the conversion, it keeps such a number and raises no flag
+-- each conversion keeps such a number and raises no flag
 pub exactly_converted : (from into : Format) (mode : Round) (x value : Datum) (status : ℕ) (loses_info : Bool)
     → IsConversion from into mode x value status loses_info → IsExactlyConverted from into x value status loses_info
 exactly_converted from into mode (nan b s) value status loses_info h = tt

@@ -1,4 +1,4 @@
--- The exponent of the fraction of a number lies within the exponents of the format.
+-- The exponent of the fraction of a number is within the range of the format.
 use Rattle.std.proofs.Common.{◌≡◌, ℕ, ◌+◌, ◌-◌, ◌*◌, ◌^◌, ◌<◌, ◌≤◌, Bool, ap, ⊎_elim, arith}
 use Rattle.std.specs.Prelude.{ℤ, pos, neg_ℤ, ◌≤ℤ◌}
 use Rattle.std.proofs.Math.Nat.{mul-le-mul_right}
@@ -12,11 +12,11 @@ use Rattle.apfloat_base.proofs.rounding.FarMagnitudes.{largest_below}
 use Rattle.apfloat_base.proofs.general.Powers.{exponent_below}
 use Rattle.apfloat_base.proofs.arithmetic.Signs.{one_side}
 
--- where 2 ^ a is at most n and n below 2 ^ b, a is at most b
+-- if 2 ^ a is at most n and n is below 2 ^ b, a is at most b
 power_below : (a n b : ℕ) → 2 ^ a ≤ n → n < 2 ^ b → a ≤ b
 power_below a n b l h = let e = exponent_below a b (omega arith) in omega arith
 
--- where n * 2 ^ d is a fraction below 2 ^ scale, d is at most the scale
+-- if n * 2 ^ d is a fraction below 2 ^ scale, d is at most the scale
 few_places : (n fraction scale d u : ℕ) → 0 < n → fraction < 2 ^ scale → u ≡ 0 → n * 2 ^ d ≡ fraction * 2 ^ u
     → d ≤ scale
 few_places n fraction scale d u p h z e =
@@ -24,7 +24,7 @@ few_places n fraction scale d u p h z e =
     let k : fraction * 2 ^ u ≡ fraction * 2 ^ 0 = ap (λ (i : ℕ). fraction * 2 ^ i) z in
     power_below d fraction scale (omega arith) h
 
--- where n below 2 ^ top is a fraction times 2 ^ u, u is at most top
+-- if n, below 2 ^ top, is a fraction times 2 ^ u, u is at most top
 few_steps : (n fraction scale top d u : ℕ) → n < 2 ^ top → 2 ^ (scale - 1) ≤ fraction → d ≡ 0
     → n * 2 ^ d ≡ fraction * 2 ^ u → u ≤ top
 few_steps n fraction scale top d u h l z e =
@@ -33,12 +33,12 @@ few_steps n fraction scale top d u h l z e =
     let k : n * 2 ^ d ≡ n * 2 ^ 0 = ap (λ (i : ℕ). n * 2 ^ i) z in
     power_below u n top (omega arith) h
 
--- from 2 ^ -scale, the quantum, to the power of two that is past all numbers
+-- from that of the quantum, -scale, to that of the power of two past all numbers
 pub record IsExponentWithin (format : Format) (exponent : ℤ) : Type 0 where
   pub low : neg_ℤ (pos format.scale) ≤ℤ exponent
   pub high : exponent ≤ℤ pos (format.precision + format.span)
 
--- the exponent of the fraction of a number of the format is one of these
+-- the exponent of the fraction of a number of the format is within that range
 pub exponent_within : (format : Format) (negative : Bool) (n : ℕ) (value : Datum) (exponent : ℤ) → 0 < n
     → n ≤ largest format → IsFraction format negative n value exponent → IsExponentWithin format exponent
 exponent_within format negative n value exponent p h x =

@@ -1,4 +1,4 @@
--- Products and quotients of numbers of quanta, by their significands.
+-- Products and quotients of numbers of quanta, from their significands.
 use Rattle.std.proofs.Common.{◌≡◌, ℕ, ◌+◌, ◌-◌, ◌*◌, ◌/◌, ◌^◌, ◌<◌, ◌≤◌, sym, ap, ◌∙◌, subst, arith}
 use Rattle.std.proofs.Math.Nat.{mul-le-mul_left, pow-le-pow_right, eq_of_mul-eq-mul_right, mul-pos, le-div_iff_mul-le, mul-le-mul_right}
 use Rattle.std.proofs.lemmas.Nat.{pow_pos}
@@ -11,7 +11,7 @@ use Rattle.apfloat_base.proofs.general.Powers.{pow3, pow4, pow22, two_pos}
 regroup_product : (sx sy pui puj pd : ℕ) → (sx * pui) * (sy * puj) * pd ≡ sx * sy * (pui * puj * pd)
 regroup_product sx sy pui puj pd = omega arith
 
--- the product of two numbers of quanta, by the product of their significands
+-- the product of two numbers of quanta, from the product of their significands
 pub product_stands : (sx sy a b ui uj di dj scale u d : ℕ) → a * 2 ^ di ≡ sx * 2 ^ ui → b * 2 ^ dj ≡ sy * 2 ^ uj
     → ui + uj + d ≡ di + dj + (scale + u) → a * b * 2 ^ d ≡ sx * sy * (2 ^ scale * 2 ^ u)
 product_stands sx sy a b ui uj di dj scale u d hx hy e =
@@ -27,7 +27,7 @@ product_stands sx sy a b ui uj di dj scale u d hx hy e =
     eq_of_mul-eq-mul_right (2 ^ di * 2 ^ dj) (mul-pos (pow_pos di) (pow_pos dj)) (a * b * 2 ^ d)
     (sx * sy * (2 ^ scale * 2 ^ u)) (l ∙ m ∙ regroup_product sx sy (2 ^ ui) (2 ^ uj) (2 ^ d) ∙ k ∙ r)
 
--- the quotient of two numbers of quanta, by the quotient of their significands
+-- the quotient of two numbers of quanta, from the quotient of their significands
 pub quotient_stands : (q : ℕ) (loss : Loss) (sx sy a b places ui uj di dj scale u d : ℕ) → a * 2 ^ di ≡ sx * 2 ^ ui
     → b * 2 ^ dj ≡ sy * 2 ^ uj → di + places + uj + u ≡ scale + d + (dj + ui)
     → StandsFor q loss (sx * 2 ^ places) sy → StandsFor q loss (a * 2 ^ scale * 2 ^ d) (b * 2 ^ u)

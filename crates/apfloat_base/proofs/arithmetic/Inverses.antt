@@ -11,7 +11,7 @@ use Rattle.apfloat_base.specs.arithmetic.Exact.{up, down}
 use Rattle.apfloat_base.specs.arithmetic.Exponents.{IsLogarithm, IsFraction, AreInverse}
 use Rattle.apfloat_base.proofs.general.Powers.{exponent_between, two_pos}
 
--- a number of quanta has one logarithm
+-- a number of quanta has at most one logarithm
 pub logarithm_once : (format : Format) (n : ℕ) (d e : ℤ) → IsLogarithm format n d → IsLogarithm format n e → d ≡ e
 logarithm_once format n d e x y =
     let a : x.place ≤ y.place = exponent_between n x.place y.place x.low y.high in
@@ -19,7 +19,7 @@ logarithm_once format n d e x y =
     let c : x.place ≡ y.place = omega arith in
     x.is ∙ ap (λ (k : ℕ). pos k -ℤ pos format.scale) c ∙ sym y.is
 
--- a fraction times 2 ^ a is another times 2 ^ b
+-- if a fraction times 2 ^ a equals another times 2 ^ b, b is at most a
 not_less : (half p q a b : ℕ) → half ≤ q → p < 2 * half → p * 2 ^ a ≡ q * 2 ^ b → b ≤ a
 not_less half p q a b l h e =
     ⊎_elim
@@ -35,7 +35,7 @@ not_less half p q a b l h e =
     (λ (c : b ≤ a). c)
     (cases_lt a b)
 
--- two equations of one number, joined
+-- two equations for one number, combined
 balanced : (n p q ue de ud dd : ℕ) → n * 2 ^ de ≡ p * 2 ^ ue → n * 2 ^ dd ≡ q * 2 ^ ud
     → p * 2 ^ (ue + dd) ≡ q * 2 ^ (ud + de)
 balanced n p q ue de ud dd x y =
@@ -45,7 +45,7 @@ balanced n p q ue de ud dd x y =
     let d : n * 2 ^ dd * 2 ^ de ≡ q * 2 ^ ud * 2 ^ de = ap (λ (z : ℕ). z * 2 ^ de) y in
     omega arith
 
--- a number of quanta has one fraction in [1/2, 1) and one exponent
+-- a number of quanta has at most one fraction in [1/2, 1) and one exponent
 pub fraction_once : (format : Format) (negative : Bool) (n : ℕ) (value other : Datum) (d e : ℤ) → 0 < format.scale
     → IsFraction format negative n value d → IsFraction format negative n other e → (value ≡ other) × (d ≡ e)
 fraction_once format negative n v w d e s x y =
@@ -67,7 +67,7 @@ fraction_once format negative n v w d e s x y =
     eq_of_mul-eq-mul_right (2 ^ (up e + down d)) (pow_pos (up e + down d)) x.fraction y.fraction g in
     (x.is ∙ ap (λ (z : ℕ). finite negative z) p ∙ sym y.is, omega (arith, ints))
 
--- a number of quanta has one exact inverse
+-- a number of quanta has at most one exact inverse
 pub inverse_once : (format : Format) (n p q : ℕ) → 0 < n → AreInverse format n p → AreInverse format n q → p ≡ q
 inverse_once format n p q h x y =
     let e : n * p ≡ n * q = x.product ∙ sym y.product in

@@ -1,4 +1,4 @@
--- From the neighbour above, the neighbour below is the number again.
+-- The next value below the next value above a number is the number itself.
 use Rattle.std.proofs.Common.{◌≡◌, ℕ, ◌+◌, ◌-◌, ◌^◌, ◌<◌, ◌≤◌, true, false, eqb, sym, refl, ap, ◌∙◌, subst, ⊎_elim, arith}
 use Rattle.std.proofs.lemmas.Bool.{cases_lt, cases_eq, eq-eqb, ne_eqb, ltb-true, false≢true}
 use Rattle.apfloat_base.specs.declared.kinds.NonfiniteBehavior.{NonfiniteBehavior}
@@ -16,9 +16,9 @@ use Rattle.apfloat_base.proofs.rounding.Neighbours.{multiple_on_grid}
 use Rattle.apfloat_base.proofs.rounding.Deliveries.{signed_some}
 use Rattle.apfloat_base.proofs.rounding.Laws.{number_swapped}
 
--- ---- the greatest below the least above, and the other way round
+-- ---- the neighbour below the neighbour above, and the reverse
 
--- below the neighbour above stands the number
+-- the value next below the upper neighbour is the number itself
 below_above : (precision n next : ℕ) → IsOnGrid precision n → IsAbove precision next (n + 1) 1
     → IsBelow precision n (next - 1) 1
 below_above precision n next g a =
@@ -31,7 +31,7 @@ below_above precision n next g a =
           absurd (omega (arith, m, h, l))) (λ (k : other ≤ n). k) (cases_lt n other);
     }
 
--- above the neighbour below stands the number
+-- the value next above the lower neighbour is the number itself
 above_below : (precision n next : ℕ) → 0 < n → IsOnGrid precision n → IsBelow precision next (n - 1) 1
     → IsAbove precision n (next + 1) 1
 above_below precision n next p g b =
@@ -46,11 +46,11 @@ above_below precision n next p g b =
 
 -- ---- of a positive number
 
--- past the largest number stands the infinity, if the format has one
+-- past the largest number is the infinity, if the format has one
 infinite_past : (kind : NonfiniteBehavior) (base : ℕ) → kind ≡ IEEE754 → past_largest kind base false ≡ infinite false
 infinite_past kind base e = rw e refl
 
--- below the infinity stands the largest number
+-- the value next below the infinity is the largest number
 next_down_infinite : (format : Format) (n : ℕ) (value : Datum) → 0 < n → n ≡ largest format → value ≡ infinite false
     → IsNextDown format value (finite false n) 0
 next_down_infinite format n v p e w =
@@ -61,7 +61,7 @@ next_down_infinite format n v p e w =
       is = number_swapped format.nonfinite true n p;
     })
 
--- below the next greater number stands the number
+-- the value next below the next greater number is the number itself
 next_down_greater : (format : Format) (n next : ℕ) (value : Datum) → 0 < n → IsOnGrid format.precision n
     → IsAbove format.precision next (n + 1) 1 → value ≡ finite false next
     → IsNextDown format value (finite false n) 0
@@ -91,7 +91,7 @@ next_down_greater format n next v p g a w =
 zero_negated : (kind : NonfiniteBehavior) → kind ≡ IEEE754 → negated kind (signed_quanta kind true 0) ≡ finite false 0
 zero_negated kind e = rw e refl
 
--- below the zero stands the least number
+-- the value next below zero is the negative number of least magnitude
 next_down_zero : (format : Format) (n : ℕ) (value : Datum) → format.nonfinite ≡ IEEE754 → n ≡ 1
     → value ≡ signed_quanta format.nonfinite true 0 → IsNextDown format value (finite true n) 0
 next_down_zero format n v k e w =
@@ -106,7 +106,7 @@ next_down_zero format n v k e w =
       is = number_swapped format.nonfinite false n p;
     })
 
--- below the next number of lesser magnitude stands the number
+-- the value next below the next negative number of lesser magnitude is the number itself
 next_down_less : (format : Format) (n next : ℕ) (value : Datum) → 0 < n → 0 < next → n ≤ largest format
     → IsOnGrid format.precision n → IsBelow format.precision next (n - 1) 1 → value ≡ finite true next
     → IsNextDown format value (finite true n) 0
@@ -131,7 +131,7 @@ next_down_less format n next v p q m g b w =
       is = number_swapped format.nonfinite false n p;
     })
 
--- below the neighbour above a negative number stands the number
+-- from the value next above a negative number, the value next below is the number itself
 negative_back : (format : Format) (n : ℕ) (value : Datum) (status : ℕ) → format.nonfinite ≡ IEEE754
     → 1 < 2 ^ format.precision → 0 < n → IsFiniteOf format true n → IsNextLess format n value status
     → IsNextDown format value (finite true n) 0
@@ -148,7 +148,7 @@ negative_back format n v st k s p m u =
     next_down_zero format n v k o (u.is.value_is ∙ ap (λ (j : ℕ). signed_quanta format.nonfinite true j) e))
     (cases_lt 0 u.next)
 
--- below the neighbour above a positive number stands the number
+-- from the value next above a positive number, the value next below is the number itself
 positive_back : (format : Format) (n : ℕ) (value : Datum) (status : ℕ) → format.nonfinite ≡ IEEE754 → 0 < n
     → IsFiniteOf format false n → IsNextOfNumber format false n value status
     → IsNextDown format value (finite false n) 0
@@ -162,7 +162,7 @@ positive_back format n v st k p m u =
     next_down_greater format n a.next v p m.on_grid a.is_above a.is.value_is)
     (cases_eq n (largest format))
 
--- below the neighbour above a number that is not 0 stands the number, in a format with infinities
+-- in a format with infinities, the value next below the value next above a nonzero number is the number itself
 pub next_back : (format : Format) (x value : Datum) (status : ℕ) → format.nonfinite ≡ IEEE754
     → 1 < 2 ^ format.precision → IsMember format x → is_finite_non_zero x ≡ true → IsNextUp format x value status
     → IsNextDown format value x 0

@@ -11,7 +11,7 @@ use Rattle.apfloat_base.specs.arithmetic.Products.{IsProduct, IsOpposite}
 use Rattle.apfloat_base.proofs.general.Choices.{other_sign}
 use Rattle.apfloat_base.proofs.rounding.Laws.{delivered_swapped, number_swapped}
 
--- for two numbers
+-- the law of opposite rounding for two numbers
 opposite_numbers : (format : Format) (mode : Round) (left right : Bool) (m n : ℕ) (value : Datum) (status : ℕ)
     → 0 < largest format → IsProduct format mode (finite left m) (finite right n) value status
     → IsOpposite format mode (finite left m) (finite right n) value status

@@ -14,14 +14,14 @@ pub no_sign : (negative : Bool) → signed negative 0 ≡ pos 0
 no_sign true = refl
 no_sign false = refl
 
--- a number made of a sign and a magnitude that is not 0 has that sign
+-- the integer of a sign and a nonzero magnitude has that sign
 pub sign_signed : (of_zero negative : Bool) (n : ℕ) → 0 < n → sign_of of_zero (signed negative n) ≡ negative
 sign_signed of_zero true zero p = absurd (omega arith)
 sign_signed of_zero false zero p = absurd (omega arith)
 sign_signed of_zero true (suc n) p = refl
 sign_signed of_zero false (suc n) p = refl
 
--- and that magnitude
+-- the integer of a sign and a magnitude has that magnitude
 pub magnitude_signed : (negative : Bool) (n : ℕ) → magnitude (signed negative n) ≡ n
 magnitude_signed true n = omega (arith, ints)
 magnitude_signed false n = omega (arith, ints)
@@ -38,12 +38,12 @@ plus_zero NanNegativeZero = refl
 pub swapped_sum : (a b : ℤ) → (a +ℤ b) ≡ (b +ℤ a)
 swapped_sum a b = omega (arith, ints)
 
--- a zero of either sign adds nothing
+-- adding a zero of either sign changes nothing
 pub and_zero : (z : ℤ) (negative : Bool) → (z +ℤ signed negative 0) ≡ z
 and_zero z true = omega (arith, ints)
 and_zero z false = omega (arith, ints)
 
--- nor does it in front
+-- adding to a zero of either sign changes nothing
 pub zero_and : (negative : Bool) (z : ℤ) → (signed negative 0 +ℤ z) ≡ z
 zero_and negative z = swapped_sum (signed negative 0) z ∙ and_zero z negative
 
@@ -54,7 +54,7 @@ pub one_side : (z : ℤ) → (up z ≡ 0) ⊎ (down z ≡ 0)
 one_side (pos n) = inr refl
 one_side (negsuc n) = inl refl
 
--- ---- a number that is not zero is delivered as its sign and magnitude
+-- ---- a nonzero number is delivered as its sign and magnitude
 
 -- the rounding of a magnitude is that of the signed number
 pub rounded_signed : (format : Format) (mode : Round) (of_zero negative : Bool) (m parts : ℕ) (z : ℤ) (value : Datum)

@@ -1,4 +1,4 @@
--- A number of quanta by its significand, times a power of two; and exponents that are clamped.
+-- A number times a power of two, in quanta, from its significand; and clamped exponents.
 use Rattle.std.proofs.Common.{◌≡◌, ℕ, ◌+◌, ◌*◌, ◌^◌, ◌<◌, ◌≤◌, ◌⊎◌, Bool, sym, refl, ap, ◌∙◌, subst, ⊎_elim, arith, ℤ, pos, negsuc, neg_ℤ, ◌+ℤ◌, ◌-ℤ◌, ◌≤ℤ◌}
 use Rattle.std.proofs.Math.Nat.{mul-le-mul_right, mul-le-mul_left, eq_of_mul-eq-mul_right, pow-le-pow_right, mul-lt-mul_of_pos_right, mul-pos}
 use Rattle.std.proofs.lemmas.Nat.{pow-add, pow_pos}
@@ -11,7 +11,7 @@ use Rattle.apfloat_base.specs.rounding.Rounding.{IsDelivered}
 use Rattle.apfloat_base.proofs.general.Powers.{pow3, two_pos}
 use Rattle.apfloat_base.proofs.rounding.FarMagnitudes.{IsFarAbove, IsFarBelow, far_above, far_below}
 
--- two fractions are equal where their places add up alike
+-- two fractions are equal if their places have equal sums
 pub scaled_stands : (s a di ui uj dj u d : ℕ) → a * 2 ^ di ≡ s * 2 ^ ui → ui + uj + d ≡ di + dj + u
     → a * 2 ^ uj * 2 ^ d ≡ s * (2 ^ dj * 2 ^ u)
 scaled_stands s a di ui uj dj u d h e =
@@ -26,13 +26,13 @@ scaled_stands s a di ui uj dj u d h e =
 
 -- ---- by a power of two, in a format whose quantum is 2 to the power of minus `scale`
 
--- the places of a scaled number add up alike on both sides
+-- the places of a scaled number have equal sums on both sides
 balanced_scaling : (digits scale : ℕ) (min_exp x j r : ℤ) → pos scale ≡ pos digits -ℤ min_exp
     → r ≡ ((x +ℤ j) -ℤ pos digits)
     → up (x -ℤ min_exp) + up j + down (r +ℤ pos scale) ≡ down (x -ℤ min_exp) + down j + up (r +ℤ pos scale)
 balanced_scaling digits scale min_exp x j r k e = omega (arith, ints)
 
--- a number times a power of two, in quanta: by its significand and its exponent from the last digit
+-- a number times a power of two, in quanta, from its significand and the exponent of its last digit
 pub scaled_is : (digits scale : ℕ) (min_exp x j r : ℤ) (s a : ℕ) → pos scale ≡ pos digits -ℤ min_exp
     → r ≡ ((x +ℤ j) -ℤ pos digits)
     → a * 2 ^ down (x -ℤ min_exp) ≡ s * 2 ^ up (x -ℤ min_exp)
@@ -43,13 +43,13 @@ scaled_is digits scale min_exp x j r s a k e h =
 
 -- ---- from one format into another
 
--- and so do those of a converted one
+-- so do the places of a converted number
 balanced_conversion : (digits scale digits' scale' : ℕ) (min min' x r : ℤ) → pos scale ≡ pos digits -ℤ min
     → pos scale' ≡ pos digits' -ℤ min' → r ≡ (x -ℤ pos digits)
     → up (x -ℤ min) + scale' + down (r +ℤ pos scale') ≡ down (x -ℤ min) + scale + up (r +ℤ pos scale')
 balanced_conversion digits scale digits' scale' min min' x r k k' e = omega (arith, ints)
 
--- a number in quanta of another format: by its significand and its exponent from the last digit
+-- a number in quanta of another format, from its significand and the exponent of its last digit
 pub converted_is : (digits scale digits' scale' : ℕ) (min min' x r : ℤ) (s a : ℕ) → pos scale ≡ pos digits -ℤ min
     → pos scale' ≡ pos digits' -ℤ min' → r ≡ (x -ℤ pos digits)
     → a * 2 ^ down (x -ℤ min) ≡ s * 2 ^ up (x -ℤ min)
@@ -60,14 +60,14 @@ converted_is digits scale digits' scale' min min' x r s a k k' e h =
 
 -- ---- amounts that the clamp changes
 
--- how the clamped amount stands to the one that was asked for
+-- the clamped exponent is the given one, or both are beyond the bound on the same side
 pub record IsClamped (bound : ℕ) (j near : ℤ) : Type 0 where
   pub low : neg_ℤ (pos bound) ≤ℤ near
   pub high : near ≤ℤ pos bound
   pub is : (near ≡ j) ⊎ (((near ≡ pos bound) × (pos bound ≤ℤ j))
       ⊎ ((near ≡ neg_ℤ (pos bound)) × (j ≤ℤ neg_ℤ (pos bound))))
 
--- so many quanta have no more digits than the significand and the exponent say
+-- a number of quanta has no more digits than its significand and its exponent allow
 pub quanta_below : (precision : ℕ) (min_exp x : ℤ) (s a : ℕ) → s < 2 ^ precision
     → a * 2 ^ down (x -ℤ min_exp) ≡ s * 2 ^ up (x -ℤ min_exp) → a < 2 ^ (precision + up (x -ℤ min_exp))
 quanta_below precision min_exp x s a f h =
@@ -105,17 +105,17 @@ far_down a k bound u d h b l m z = record {
       rw e (omega (arith, p, q, b));
 }
 
--- the part of an exponent above 0 is within its bound
+-- the positive part of an exponent is within its bound
 pub up_le : (z : ℤ) (n : ℕ) → z ≤ℤ pos n → up z ≤ n
 up_le (pos k) n h = let l : k ≤ n = omega (arith, ints) in l
 up_le (negsuc k) n h = let l : 0 ≤ n = omega arith in l
 
--- an exponent far above 0 has its part above 0 far, and none below
+-- an exponent at least the bound has a positive part at least the bound, and no negative part
 pub up_far : (j : ℤ) (bound : ℕ) → pos bound ≤ℤ j → (bound ≤ up j) × (down j ≡ 0)
 up_far (pos k) bound h = let l : bound ≤ k = omega (arith, ints) in (l, refl)
 up_far (negsuc k) bound h = absurd (omega (arith, ints))
 
--- an exponent far below 0 has its part below 0 far, and none above
+-- an exponent at most minus the bound has a negative part at least the bound, and no positive part
 pub down_far : (j : ℤ) (bound : ℕ) → j ≤ℤ neg_ℤ (pos bound) → (bound ≤ down j) × (up j ≡ 0)
 down_far (pos k) bound h =
     let l : bound ≤ 0 = omega (arith, ints) in
@@ -123,7 +123,7 @@ down_far (pos k) bound h =
     (l, m)
 down_far (negsuc k) bound h = let l : bound ≤ k + 1 = omega (arith, ints) in (omega (arith, l), refl)
 
--- no answer changes where the clamp changes the amount
+-- clamping an exponent changes no result
 pub clamp_kept : (format : Format) (mode : Round) (negative : Bool) (a k bound : ℕ) (j near : ℤ) (value : Datum)
     (status : ℕ) → 0 < format.precision → 0 < a → a < 2 ^ k → format.precision + format.span ≤ bound → k + 1 ≤ bound
     → IsClamped bound j near → IsDelivered format mode negative (a * 2 ^ up near) (2 ^ down near) value status

@@ -1,4 +1,4 @@
--- Sums whose exact result is a value of the format, and sums that grow.
+-- Sterbenz's lemma (the difference of two numbers within a factor of two is exact), and that sums are monotone.
 use Rattle.std.proofs.Common.{◌≡◌, ℕ, zero, suc, ℤ, pos, negsuc, ◌+ℤ◌, ◌-ℤ◌, ◌≤ℤ◌, ◌+◌, ◌-◌, ◌*◌, ◌^◌, ◌<◌, ◌≤◌, ◌⊎◌, Bool, true, false, cond, ltb, sym, refl, ap, ◌∙◌, subst, inl, inr, ⊎_elim, lit<, arith}
 use mathlib.Core.Logic.{⊎_swap}
 use Rattle.std.specs.Prelude.{IsTrue}
@@ -23,7 +23,7 @@ use Rattle.apfloat_base.proofs.rounding.Laws.{delivered_once, exact_delivered, z
 use Rattle.apfloat_base.proofs.general.Choices.{not_zero}
 use Rattle.apfloat_base.proofs.arithmetic.Signs.{no_sign, magnitude_signed, one_side}
 
--- ---- the difference of near numbers
+-- ---- Sterbenz's lemma
 
 -- a multiple of a point's place, not above the point, is on the grid
 close_at : (precision d s p k : ℕ) → s < 2 ^ precision → d ≡ k * 2 ^ p → d ≤ s * 2 ^ p → IsOnGrid precision d
@@ -39,7 +39,7 @@ raised_place t p j l =
     let a : 2 ^ j ≡ 2 ^ (j - p) * 2 ^ p = ap (λ (x : ℕ). 2 ^ x) e ∙ pow-add 2 (j - p) p in
     ap (λ (x : ℕ). t * x) a ∙ omega arith
 
--- the difference of two multiples of a unit is one
+-- the difference of two multiples of a unit is a multiple of it
 left_over : (a s u d : ℕ) → 0 < u → a * u ≡ s * u + d → d ≡ (a - s) * u
 left_over a s u d p e =
     let l' : s * u ≤ a * u = omega arith in
@@ -48,7 +48,7 @@ left_over a s u d p e =
     let k : (s + (a - s)) * u ≡ a * u = ap (λ (x : ℕ). x * u) g in
     omega arith
 
--- d is how far two points are apart, of which the first has the lower place
+-- the distance d of two points, the first of which has the lower place, is on the grid
 close_low : (precision s p t j d : ℕ) → s < 2 ^ precision → p ≤ j
     → (t * 2 ^ j ≡ s * 2 ^ p + d) ⊎ (s * 2 ^ p ≡ t * 2 ^ j + d) → d ≤ s * 2 ^ p → IsOnGrid precision d
 close_low precision s p t j d h l (inl e) q =
@@ -60,10 +60,10 @@ close_low precision s p t j d h l (inr e) q =
     close_at precision d s p (s - t * 2 ^ (j - p)) h
     (left_over s (t * 2 ^ (j - p)) (2 ^ p) d (pow_pos p) (e ∙ ap (λ (x : ℕ). x + d) r)) q
 
--- the difference of two grid numbers within a factor of two is on the grid
-pub close_on_grid : (precision m n d : ℕ) → IsOnGrid precision m → IsOnGrid precision n → (m ≡ n + d) ⊎ (n ≡ m + d)
+-- Sterbenz's lemma on the grid: the difference of two grid numbers within a factor of two is on the grid
+pub sterbenz_on_grid : (precision m n d : ℕ) → IsOnGrid precision m → IsOnGrid precision n → (m ≡ n + d) ⊎ (n ≡ m + d)
     → m ≤ 2 * n → n ≤ 2 * m → IsOnGrid precision d
-close_on_grid precision m n d x y e a b =
+sterbenz_on_grid precision m n d x y e a b =
     let e' : (x.significand * 2 ^ x.place ≡ y.significand * 2 ^ y.place + d)
     ⊎ (y.significand * 2 ^ y.place ≡ x.significand * 2 ^ x.place + d) =
     subst (λ (z : ℕ). (x.significand * 2 ^ x.place ≡ z + d) ⊎ (z ≡ x.significand * 2 ^ x.place + d)) y.is
@@ -87,7 +87,7 @@ far_apart m n =
     (λ (z : down (pos m -ℤ pos n) ≡ 0). inl (omega (arith, ints)))
     (one_side (pos m -ℤ pos n))
 
--- the distance of two numbers is at most the greater one
+-- the distance of two numbers is at most the greater of them
 far_below : (m n d top : ℕ) → (m ≡ n + d) ⊎ (n ≡ m + d) → m ≤ top → n ≤ top → d ≤ top
 far_below m n d top (inl e) a b = omega arith
 far_below m n d top (inr e) a b = omega arith
@@ -125,14 +125,14 @@ exactly kind of_zero (negsuc n) v s h e =
       status_is = e;
     }
 
--- the difference of two numbers within a factor of two is exact
-pub nearby_numbers : (format : Format) (mode : Round) (of_zero : Bool) (m n : ℕ) (value : Datum) (status : ℕ)
+-- Sterbenz's lemma for two positive numbers
+pub sterbenz_numbers : (format : Format) (mode : Round) (of_zero : Bool) (m n : ℕ) (value : Datum) (status : ℕ)
     → IsFiniteOf format false m → IsFiniteOf format false n → m ≤ 2 * n → n ≤ 2 * m
     → IsRounded format mode of_zero (pos m -ℤ pos n) 1 value status → IsExactly (pos m -ℤ pos n) value status
-nearby_numbers format mode of_zero m n v s x y a b h =
+sterbenz_numbers format mode of_zero m n v s x y a b h =
     let d = magnitude (pos m -ℤ pos n) in
     let e = far_apart m n in
-    let g : IsOnGrid format.precision d = close_on_grid format.precision m n d x.on_grid y.on_grid e a b in
+    let g : IsOnGrid format.precision d = sterbenz_on_grid format.precision m n d x.on_grid y.on_grid e a b in
     let r = delivered_once format mode (sign_of of_zero (pos m -ℤ pos n)) d 1 v
     (signed_quanta format.nonfinite (sign_of of_zero (pos m -ℤ pos n)) d) s ok_bits h
     (exact_delivered format mode (sign_of of_zero (pos m -ℤ pos n)) d d 1 (omega arith) g
@@ -143,20 +143,20 @@ nearby_numbers format mode of_zero m n v s x y a b h =
 minus_is : (m n : ℕ) → (signed false m +ℤ signed true n) ≡ (pos m -ℤ pos n)
 minus_is m n = omega (arith, ints)
 
--- a difference of near numbers is exact
-pub nearby : (format : Format) (mode : Round) (x y value : Datum) (status : ℕ) → IsMember format x → IsMember format y
+-- Sterbenz's lemma: the difference of two data within a factor of two is exact
+pub sterbenz : (format : Format) (mode : Round) (x y value : Datum) (status : ℕ) → IsMember format x → IsMember format y
     → IsDifference format mode x y value status → IsNearby x y value status
-nearby format mode x y v s hx hy h = λ m n p q sm sn a b.
+sterbenz format mode x y v s hx hy h = λ m n p q sm sn a b.
     let d : IsDifference format mode (finite false m) (finite false n) v s = rw (p, q) at h in
     let k : IsSum format mode (finite false m) (finite true n) v s = rw (not_zero n sn) at d in
     let r = rw (minus_is m n) at k in
     let xm : IsFiniteOf format false m = rw p at hx in
     let yn : IsFiniteOf format false n = rw q at hy in
-    nearby_numbers format mode (zero_sum_sign mode false true) m n v s xm yn a b r
+    sterbenz_numbers format mode (zero_sum_sign mode false true) m n v s xm yn a b r
 
--- ---- sums that grow
+-- ---- sums are monotone
 
--- the value for a pick, where the format has infinities
+-- the value delivered for a pick, in a format with infinities
 abbrev at : Bool → Bool → Bool → ℕ → ℕ → Datum
 at past out negative top p = cond past (cond out (infinite negative) (finite negative top)) (finite negative p)
 
@@ -165,7 +165,7 @@ pub signed_quanta_is : (negative : Bool) (p : ℕ) → signed_quanta IEEE754 neg
 signed_quanta_is negative zero = refl
 signed_quanta_is negative (suc n) = signed_some IEEE754 negative (suc n) (omega arith)
 
--- it is what is delivered
+-- it is the delivered value
 value_is : (format : Format) (mode : Round) (negative : Bool) (p : ℕ) → format.nonfinite ≡ IEEE754
     → delivered_value format mode negative p ≡ at (ltb (largest format) p)
     (leads_out mode negative) negative (largest format) p
@@ -177,7 +177,7 @@ value_is format mode negative p e =
     (cond (leads_out mode negative) (infinite negative) (finite negative (largest format))) v)
     (signed_quanta_is negative p)
 
--- with a sign of plus the delivered value grows with the pick
+-- with a plus sign, the delivered value increases with the pick
 up_grows : (first second out : Bool) (top p q : ℕ) → ltb top p ≡ first → ltb top q ≡ second → p ≤ q
     → AtMost (at first out false top p) (at second out false top q)
 up_grows true true true top p q x y l = inr refl
@@ -187,7 +187,7 @@ up_grows false true true top p q x y l = refl
 up_grows false true false top p q x y l = let h : p ≤ top = grind arith in omega (arith, ints)
 up_grows false false out top p q x y l = omega (arith, ints)
 
--- with a sign of minus it falls
+-- with a minus sign, it decreases
 down_grows : (first second out : Bool) (top p q : ℕ) → ltb top p ≡ first → ltb top q ≡ second → q ≤ p
     → AtMost (at first out true top p) (at second out true top q)
 down_grows true true true top p q x y l = inl refl
@@ -197,7 +197,7 @@ down_grows true false true top p q x y l = refl
 down_grows true false false top p q x y l = let h : q ≤ top = grind arith in omega (arith, ints)
 down_grows false false out top p q x y l = omega (arith, ints)
 
--- a value with a sign of minus is at most any value with a sign of plus
+-- a value with a minus sign is at most any value with a plus sign
 across : (first second down up : Bool) (top p q : ℕ) → AtMost (at first down true top p) (at second up false top q)
 across true true true true top p q = inl refl
 across true true true false top p q = refl
@@ -216,12 +216,12 @@ pub data Ordered : Bool → ℕ → Bool → ℕ → Type 0 where
   apart : (x y : ℕ) → Ordered true x false y
   zeros : (left right : Bool) → Ordered left 0 right 0
 
--- a zero of either sign is not above a number with a sign of plus
+-- a zero of either sign is not above a number with a plus sign
 from_zero : (negative : Bool) (n : ℕ) → Ordered negative 0 false n
 from_zero true n = apart 0 n
 from_zero false n = both_up 0 n (omega arith)
 
--- nor below one with a sign of minus
+-- nor below a number with a minus sign
 to_zero : (negative : Bool) (n : ℕ) → Ordered true n negative 0
 to_zero true n = both_down n 0 (omega arith)
 to_zero false n = apart n 0
@@ -252,7 +252,7 @@ zero_is format mode s v i e d =
     (zero_delivered format mode s 1 0 (omega arith) refl) in
     x.0 ∙ ap (λ (k : NonfiniteBehavior). signed_quanta k s 0) e
 
--- of two signed magnitudes in order the delivered values are in order
+-- signed magnitudes in order deliver values in order
 grows_at : (format : Format) (mode : Round) (left right : Bool) (x y : ℕ) (value greater : Datum) (i j : ℕ)
     → format.nonfinite ≡ IEEE754 → Ordered left x right y → IsDelivered format mode left x 1 value i
     → IsDelivered format mode right y 1 greater j → AtMost value greater
@@ -286,7 +286,7 @@ grows_at format mode s t x y v w i j e (zeros b c) d g =
     let q = zero_is format mode c w j e g in
     rw (p, q) (zeros_ordered b c)
 
--- a greater sum is not rounded to a lesser value
+-- a greater sum does not round to a lesser value
 pub sum_grows : (format : Format) (mode : Round) (of_zero of_other : Bool) (a b : ℤ) (value greater : Datum) (i j : ℕ)
     → format.nonfinite ≡ IEEE754 → a ≤ℤ b → IsRounded format mode of_zero a 1 value i
     → IsRounded format mode of_other b 1 greater j → AtMost value greater
@@ -294,11 +294,11 @@ sum_grows format mode of_zero of_other a b v w i j e l d g =
     grows_at format mode (sign_of of_zero a) (sign_of of_other b) (magnitude a) (magnitude b) v w i j e
     (ordered of_zero of_other a b l) d g
 
--- the same added to both sides keeps their order
+-- adding the same number to both sides keeps their order
 more_together : (a b z : ℤ) → a ≤ℤ b → (a +ℤ z) ≤ℤ (b +ℤ z)
 more_together a b z l = omega (arith, ints)
 
--- a sum grows with its first operand
+-- a sum increases with its first operand
 grows_to : (format : Format) (mode : Round) (left right : Bool) (m n : ℕ) (value : Datum) (i : ℕ)
     → IsSum format mode (finite left m) (finite right n) value i → format.nonfinite ≡ IEEE754
     → (y greater : Datum) (status : ℕ) → IsTrue (is_finite y) → signed left m ≤ℤ number y
@@ -309,7 +309,7 @@ grows_to format mode b d m n v s h e (finite c k) w i p l g =
 grows_to format mode b d m n v s h e (infinite c) w i p l g = absurd (false≢true p)
 grows_to format mode b d m n v s h e (nan c t) w i p l g = absurd (false≢true p)
 
--- a sum of numbers does not fall as one of them grows
+-- a sum of numbers does not decrease as one of them increases
 pub monotone : (format : Format) (mode : Round) (x z value : Datum) (status : ℕ) → IsSum format mode x z value status
     → IsMonotone format mode x z value
 monotone format mode (finite b m) (finite d n) v s h =

@@ -1,4 +1,4 @@
--- The rows on zeros of the tables of special operands: they are exact results, rounded once.
+-- The rows for zeros, in the tables of special operands, are exact results rounded once; and the rows for a right NaN.
 use Rattle.std.proofs.Common.{◌≡◌, ℕ, ◌*◌, ◌^◌, ◌<◌, Bool, true, false, sym, refl, ap, ◌∙◌, subst, lit<, arith}
 use Rattle.std.specs.Prelude.{ℤ, pos, ◌+ℤ◌}
 use Rattle.std.proofs.lemmas.Nat.{pow_pos}
@@ -23,9 +23,9 @@ use Rattle.apfloat_base.proofs.rounding.Deliveries.{signed_some}
 use Rattle.apfloat_base.proofs.rounding.Laws.{exact_delivered, zero_delivered}
 use Rattle.apfloat_base.proofs.arithmetic.Signs.{no_sign, and_zero, zero_and, rounded_signed}
 
--- ---- a finite datum that is not zero, delivered
+-- ---- a nonzero finite datum, delivered
 
--- a number of the format, as an exact result, is delivered as it is
+-- a number of the format, as an exact result, is delivered unchanged
 pub itself : (format : Format) (mode : Round) (negative : Bool) (m parts amount : ℕ) → 0 < parts → 0 < m
     → amount ≡ m * parts → IsFiniteOf format negative m
     → IsDelivered format mode negative amount parts (finite negative m) ok_bits
@@ -35,21 +35,21 @@ itself format mode b m parts amount p h e i =
 
 -- ---- the rows
 
--- a number and a zero
+-- a nonzero number plus a zero
 pub sum_finite_zero : (format : Format) (mode : Round) (left right : Bool) (m : ℕ) → 0 < m → IsFiniteOf format left m
     → IsSum format mode (finite left m) (finite right 0) (finite left m) ok_bits
 sum_finite_zero format mode b c m h i =
     rounded_signed format mode _ b m 1 _ _ _ (and_zero (signed b m) c) h
     (itself format mode b m 1 m (lit< tt) h (omega arith) i)
 
--- a zero and a number
+-- a zero plus a nonzero number
 pub sum_zero_finite : (format : Format) (mode : Round) (left right : Bool) (n : ℕ) → 0 < n → IsFiniteOf format right n
     → IsSum format mode (finite left 0) (finite right n) (finite right n) ok_bits
 sum_zero_finite format mode b c n h i =
     rounded_signed format mode _ c n 1 _ _ _ (zero_and b (signed c n)) h
     (itself format mode c n 1 n (lit< tt) h (omega arith) i)
 
--- two zeros
+-- a zero plus a zero
 pub sum_zeros : (format : Format) (mode : Round) (left right : Bool)
     → IsSum format mode (finite left 0) (finite right 0)
     (finite (zero_sign format.nonfinite (zero_sum_sign mode left right)) 0) ok_bits
@@ -65,7 +65,7 @@ pub product_zero : (format : Format) (mode : Round) (left right : Bool) (m n : �
 product_zero format mode b c m n e = zero_delivered format mode (product_sign b c) (2 ^ format.scale) (m * n)
     (pow_pos format.scale) e
 
--- a zero by a number
+-- a zero divided by a nonzero number
 pub quotient_zero : (format : Format) (mode : Round) (left right : Bool) (n : ℕ) → 0 < n
     → IsQuotient format mode (finite left 0) (finite right n)
     (finite (zero_sign format.nonfinite (product_sign left right)) 0) ok_bits
@@ -107,11 +107,11 @@ pub fused_zeros : (format : Format) (mode : Round) (left right addend : Bool) (l
 fused_zeros format mode b c d l m e =
     fused_zeros_at format mode (product_sign b c) d _ (l * m) (2 ^ format.scale) e (pow_pos format.scale)
 
--- ---- a NaN on the right, beside a datum that is none
+-- ---- a right operand that is a NaN, and a left one that is not
 
 module _ (format : Format) (mode : Round) (negative : Bool) (t : ℕ) (value : Datum) (status : ℕ)
     (is : IsOfNan format negative t value status) where
-  -- in each of these operations the answer is that of the NaN
+  -- each of these operations returns the result for the NaN
   pub sum_right_nan : (x : Datum) → is_nan x ≡ false → IsSum format mode x (nan negative t) value status
   sum_right_nan (finite b m) e = is
   sum_right_nan (infinite b) e = is

@@ -24,7 +24,7 @@ stands_more q high LessThanHalf amount unit h = let a = h.0 in let b = h.1 in (o
 stands_more q high ExactlyHalf amount unit h = omega (arith, h)
 stands_more q high MoreThanHalf amount unit h = let a = h.0 in let b = h.1 in (omega (arith, a), omega (arith, b))
 
--- and whole units taken from an amount are taken from its significand
+-- whole units subtracted from an amount are subtracted from its significand
 pub stands_less : (q high left : ℕ) (loss : Loss) (amount rest unit : ℕ) → q ≡ high + left
     → amount ≡ high * unit + rest → StandsFor q loss amount unit → StandsFor left loss rest unit
 stands_less q high left ExactlyZero amount rest unit e d h =
@@ -48,7 +48,7 @@ whole_exact q LessThanHalf amount h = let a = h.0 in let b = h.1 in absurd (omeg
 whole_exact q ExactlyHalf amount h = absurd (omega (arith, h))
 whole_exact q MoreThanHalf amount h = let a = h.0 in let b = h.1 in absurd (omega (arith, a, b))
 
--- the significand for an amount of 0 is 0, with nothing lost
+-- the significand of an amount of 0 is 0, and nothing is lost
 pub zero_stands : (loss : Loss) (unit : ℕ) (q : ℕ) → 0 < unit → StandsFor q loss 0 unit
     → (q ≡ 0) × (loss ≡ ExactlyZero)
 zero_stands ExactlyZero unit zero p h = (refl, refl)
@@ -64,7 +64,7 @@ pub like_signs : (negative : Bool) (a b : ℕ) → signed negative (a + b) ≡ (
 like_signs true a b = omega (arith, ints)
 like_signs false a b = omega (arith, ints)
 
--- of two signs, the difference of the magnitudes has the sign of the greater one
+-- magnitudes of opposite signs are subtracted; the difference has the sign of the greater
 pub unlike_signs : (left right flipped : Bool) (a b n : ℕ) → (left ≡ right → ⊥) → Balances flipped n a b
     → signed (cond flipped right left) n ≡ (signed left a +ℤ signed right b)
 unlike_signs true true flipped a b n d h = absurd (d refl)
@@ -76,12 +76,12 @@ unlike_signs false true false a b n d h = omega (arith, ints, h)
 
 -- ---- exponents
 
--- an integer from 0 up has no part below 0
+-- a nonnegative integer has no negative part
 pub no_down : (z : ℤ) → pos 0 ≤ℤ z → down z ≡ 0
 no_down (pos n) h = refl
 no_down (negsuc n) h = absurd (omega (arith, ints))
 
--- a number with an exponent greater by k has 2 ^ k times as many units
+-- raising the exponent by k multiplies the number of units by 2 ^ k
 pub raised : (base e h : ℤ) (k : ℕ) → base ≤ℤ e → (e +ℤ pos k) ≡ h
     → (base ≤ℤ h) × (2 ^ up (h -ℤ base) ≡ 2 ^ k * 2 ^ up (e -ℤ base))
 raised base e h k l q =
@@ -117,7 +117,7 @@ balances_times : (flipped : Bool) (n a b w : ℕ) → Balances flipped n a b →
 balances_times true n a b w h = ap (λ (x : ℕ). x * w) h ∙ omega arith
 balances_times false n a b w h = ap (λ (x : ℕ). x * w) h ∙ omega arith
 
--- the sum of two terms of different signs, from the difference of their magnitudes
+-- the sum of two terms of opposite signs, from the difference of their magnitudes
 pub apart_stands : (base eh el er : ℤ) (left right flipped : Bool) (mh ml gap q : ℕ) (loss : Loss) → base ≤ℤ el
     → (el +ℤ pos gap) ≡ eh → (el +ℤ pos (gap - 1)) ≡ er → (left ≡ right → ⊥)
     → IsApart (mh * 2 ^ gap) ml flipped q loss (2 ^ (gap - 1))
@@ -146,12 +146,12 @@ apart_stands base eh el er s t flipped mh ml gap q loss l e d n i =
 
 -- ---- a difference of magnitudes
 
--- in units of 1 it is the same balance
+-- a balance also holds in units of 1
 balances_one : (flipped : Bool) (n a b : ℕ) → Balances flipped n a b → Balances flipped (n * 1) (a * 1) b
 balances_one true n a b h = omega (arith, h)
 balances_one false n a b h = omega (arith, h)
 
--- a difference in whole units has nothing lost
+-- a difference in whole units loses nothing
 exact_difference : (flipped : Bool) (n a b unit : ℕ) (loss : Loss) → loss ≡ ExactlyZero
     → Balances flipped (n * unit) a b → IsApart a b flipped n loss unit
 exact_difference flipped n a b unit loss z h = record {
@@ -167,14 +167,14 @@ level_difference flipped n high low gap loss z e h =
     subst (λ (g : ℕ). IsApart (high * 2 ^ g) low flipped n loss (2 ^ (g - 1))) (sym z)
     (exact_difference flipped n (high * 1) low 1 loss e (balances_one flipped n high low h))
 
--- twice as many units of half the size
+-- doubling the units and halving their size changes nothing
 doubled : (high gap : ℕ) → 0 < gap → high * 2 * 2 ^ (gap - 1) ≡ high * 2 ^ gap
 doubled high gap p =
     let t : 2 * 2 ^ (gap - 1) ≡ 2 ^ gap = twice_half gap p in
     let k : high * (2 * 2 ^ (gap - 1)) ≡ high * 2 ^ gap = ap (λ (x : ℕ). high * x) t in
     omega arith
 
--- what a cut says of the number itself
+-- what a cut states about the number itself
 pub cut_alone : (s q k : ℕ) (loss : Loss)
     → ((amount unit : ℕ) → 0 < unit → StandsFor s ExactlyZero amount unit → StandsFor q loss amount (2 ^ k * unit))
     → StandsFor q loss s (2 ^ k)
@@ -183,7 +183,7 @@ cut_alone s q k loss f =
     let d : 2 ^ k * 1 ≡ 2 ^ k = omega arith in
     subst (λ (x : ℕ). StandsFor q loss s x) d (f s 1 (omega arith) e)
 
--- where nothing of the finer one was lost
+-- the difference if nothing of the finer term was lost
 pub even_difference : (flipped : Bool) (n q high low gap : ℕ) (lost loss : Loss) → 0 < gap → lost ≡ ExactlyZero
     → loss ≡ ExactlyZero → StandsFor q lost low (2 ^ (gap - 1)) → Balances flipped n (high * 2) q
     → IsApart (high * 2 ^ gap) low flipped n loss (2 ^ (gap - 1))
@@ -196,7 +196,7 @@ even_difference flipped n q high low gap lost loss p z e h b =
     exact_difference flipped n (high * 2 ^ gap) low (2 ^ (gap - 1)) loss e
     (subst (λ (x : ℕ). Balances flipped (n * 2 ^ (gap - 1)) (high * 2 ^ gap) x) (sym h') b₁)
 
--- where something of the finer one was lost, one unit is borrowed
+-- if something of the finer term was lost, one unit is borrowed
 pub borrowed_difference : (q high low gap : ℕ) (lost loss : Loss) → 0 < gap → (lost ≡ ExactlyZero → ⊥)
     → q < high * 2 → StandsFor q lost low (2 ^ (gap - 1))
     → ((quotient left amount rest unit : ℕ) → (lost ≡ ExactlyZero → ⊥) → StandsFor quotient lost amount unit
@@ -219,7 +219,7 @@ borrowed_difference q high low gap lost loss p n l h f =
       stands = f q (high * 2 - q - 1) low (high * 2 ^ gap - low) (2 ^ (gap - 1)) n h (r ∙ sym w');
     }
 
--- where the finer one is the greater
+-- the difference if the finer term is the greater
 pub reversed_difference : (q high low gap : ℕ) (lost : Loss) → 0 < gap → high * 2 ≤ q
     → StandsFor q lost low (2 ^ (gap - 1)) → IsApart (high * 2 ^ gap) low true (q - high * 2) lost (2 ^ (gap - 1))
 reversed_difference q high low gap lost p l h =
@@ -236,7 +236,7 @@ reversed_difference q high low gap lost p l h =
           r' h;
     }
 
--- what is left of a number that lost a part is below half of its bound
+-- what is left of a number that lost a part is below half its bound
 pub lossy_small : (q k low half : ℕ) (loss : Loss) → (loss ≡ ExactlyZero → ⊥) → StandsFor q loss low (2 ^ k)
     → low < 2 * half → q < half
 lossy_small q zero low half loss n h l = absurd (n (whole_exact q loss low h))
@@ -247,9 +247,9 @@ lossy_small q (suc k) low half loss n h l =
     let v : q * 2 ≤ q * 2 ^ suc k = mul-le-mul_left q m in
     omega arith
 
--- ---- exponents and signs of the answer
+-- ---- exponents and signs of the result
 
--- the exponent of a difference, by those of its terms
+-- the exponent of a difference, from those of its terms
 pub exponent_is : (eh el er : ℤ) (gap : ℕ) → (el +ℤ pos gap) ≡ eh → (gap ≡ 0 → er ≡ eh)
     → (0 < gap → (er +ℤ pos 1) ≡ eh) → (el +ℤ pos (gap - 1)) ≡ er
 exponent_is eh el er gap e f g =
@@ -258,17 +258,17 @@ exponent_is eh el er gap e f g =
     (λ (p : gap ≤ 0). let z : gap ≡ 0 = omega arith in let h : er ≡ eh = f z in omega (arith, ints))
     (cases_lt 0 gap)
 
--- a sum in the other order, where a zero may have either sign
-pub resigned : (base a b : ℤ) (negative other : Bool) (e : ℤ) (q : ℕ) (loss : Loss)
+-- the sum in the other order; a zero sum may have either sign
+pub total_swapped : (base a b : ℤ) (negative other : Bool) (e : ℤ) (q : ℕ) (loss : Loss)
     → (negative ≡ other) ⊎ ((q ≡ 0) × (loss ≡ ExactlyZero)) → StandsForSigned base (a +ℤ b) negative e q loss
     → StandsForSigned base (b +ℤ a) other e q loss
-resigned base a b n t e q loss (inl d) h = record {
+total_swapped base a b n t e q loss (inl d) h = record {
   above = h.above;
   amount = h.amount;
   is = ap (λ (x : Bool). signed x h.amount) (sym d) ∙ h.is ∙ swapped_sum a b;
   stands = h.stands;
 }
-resigned base a b n t e q loss (inr d) h =
+total_swapped base a b n t e q loss (inr d) h =
     let s : StandsFor 0 ExactlyZero h.amount (2 ^ up (e -ℤ base)) =
     subst (λ (x : ℕ). StandsFor x ExactlyZero h.amount (2 ^ up (e -ℤ base))) d.0
     (subst (λ (x : Loss). StandsFor q x h.amount (2 ^ up (e -ℤ base))) d.1 h.stands) in

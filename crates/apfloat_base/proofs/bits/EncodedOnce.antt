@@ -1,4 +1,4 @@
--- A datum has one encoding: its fields follow from it.
+-- A datum has at most one encoding, since it determines its fields.
 use Rattle.std.proofs.Common.{◌≡◌, ℕ, ◌+◌, ◌-◌, ◌*◌, ◌/◌, ◌^◌, ◌<◌, ◌≤◌, Bool, true, false, cond, eqb, leb, ltb, sym, refl, ap, ◌∙◌, ⊎_elim, arith}
 use Rattle.std.specs.Prelude.{IsTrue}
 use mathlib.Core.Bool.{true≢false}
@@ -21,7 +21,7 @@ abbrev pub fields_with : Bool → ℕ → ℕ → Fields
 fields_with negative biased_exponent trailing =
     record { negative = negative; biased_exponent = biased_exponent; trailing = trailing }
 
--- the part of a significand that is not written
+-- the part of a significand that is implied
 abbrev hidden : Format → ℕ
 hidden f = cond f.explicit_integer_bit 0 (smallest_normalized f)
 
@@ -40,7 +40,7 @@ fields_by f layout (infinite b) =
     fields_with b (all_ones layout.exponent_bits) (cond f.explicit_integer_bit (smallest_normalized f) 0)
 fields_by f layout (nan b s) = fields_of_nan f.nonfinite layout b s
 
--- the integer bit is written only beside infinities
+-- so a format with an explicit integer bit has infinities
 pub explicit_kind : (kind : NonfiniteBehavior) (explicit : Bool) → MayBeExplicit kind explicit → explicit ≡ true
     → kind ≡ IEEE754
 explicit_kind IEEE754 explicit may e = refl
@@ -50,12 +50,12 @@ explicit_kind NanNegativeZero explicit may e = absurd (true≢false (sym e ∙ m
 module _ (format : Format) (layout : Layout) (precise : 3 ≤ format.precision) where
   -- ---- numbers
 
-  -- below the smallest normalized number the number itself is written
+  -- below the smallest normalized number, the trailing field is the number itself
   low_fields : (negative : Bool) (n : ℕ) → n < smallest_normalized format
       → fields_by format layout (finite negative n) ≡ fields_with negative 0 n
   low_fields b n h = rw (lt-leb (smallest_normalized format) n h) refl
 
-  -- a significand with its integer bit, at a place
+  -- the fields of a significand with its integer bit, at a place
   high_fields : (negative : Bool) (m j : ℕ) → smallest_normalized format ≤ m → m < 2 ^ format.precision
       → fields_by format layout (finite negative (m * 2 ^ j)) ≡ fields_with negative (j + 1) (m - hidden format)
   high_fields b m j low high =
@@ -78,11 +78,11 @@ module _ (format : Format) (layout : Layout) (precise : 3 ≤ format.precision) 
   -- ---- an implied integer bit
 
   module _ (implied : format.explicit_integer_bit ≡ false) where
-    -- the part that is not written is the integer bit
+    -- the implied part of the significand is the integer bit
     hidden_is : hidden format ≡ smallest_normalized format
     hidden_is = rw implied refl
 
-    -- the trailing bits are the others
+    -- the trailing field has the other bits
     width_is : trailing_bits format ≡ format.precision - 1
     width_is = rw implied refl
 
@@ -100,7 +100,7 @@ module _ (format : Format) (layout : Layout) (precise : 3 ≤ format.precision) 
         rw (ne_eqb e 0 n) (rw (c, d) at h))
         (cases_eq e 0)
 
-    -- and so has any datum
+    -- and so does any datum
     implied_fields : (kind : NonfiniteBehavior) (negative : Bool) (e t : ℕ) → format.nonfinite ≡ kind
         → t < smallest_normalized format
         → fields_by format layout (implied_datum kind format layout (fields_with negative e t))
@@ -139,10 +139,10 @@ module _ (format : Format) (layout : Layout) (precise : 3 ≤ format.precision) 
         (cases_eq e 0)
     implied_fields NanNegativeZero false e t k low = number_fields false e t low
 
-  -- ---- a written integer bit
+  -- ---- an explicit integer bit
 
   module _ (written : format.explicit_integer_bit ≡ true) (kind : format.nonfinite ≡ IEEE754) where
-    -- all of the significand is written
+    -- the whole significand is in the trailing field
     whole_significand : (m : ℕ) → m - hidden format ≡ m
     whole_significand m = rw written (omega arith)
 
@@ -172,7 +172,7 @@ module _ (format : Format) (layout : Layout) (precise : 3 ≤ format.precision) 
         rw q (number_by b e t high c))
         (cases_eq e (all_ones layout.exponent_bits))
       where
-        -- and so has a number, below the greatest exponent
+        -- and so does a number, below the greatest exponent
         number_by : (negative : Bool) (e t : ℕ) → t < 2 ^ format.precision
             → IsTrue (cond (eqb e 0) (ltb t (smallest_normalized format)) (leb (smallest_normalized format) t))
             → fields_by format layout (written_number format (fields_with negative e t)) ≡ fields_with negative e t
@@ -193,7 +193,7 @@ module _ (format : Format) (layout : Layout) (precise : 3 ≤ format.precision) 
 
 -- ---- any layout
 
--- fields that are canonical are those of the datum that they stand for
+-- canonical fields are those of the datum that they encode
 by_layout : (explicit : Bool) (format : Format) (layout : Layout) (negative : Bool) (e t : ℕ)
     → format.explicit_integer_bit ≡ explicit → IsInterchange format layout
     → AreWithin format layout (fields_with negative e t)
@@ -210,7 +210,7 @@ by_layout false format layout b e t x law within canonical =
     ap (fields_by format layout) (cond-false format.explicit_integer_bit _ _ x) ∙
     implied_fields format layout law.precise x format.nonfinite b e t refl w
 
--- the bits are determined by the datum
+-- the datum determines the bits
 pub encoded_once : (format : Format) (layout : Layout) (datum : Datum) (a b : ℕ) → IsInterchange format layout
     → IsEncodedBy format layout a datum → IsEncodedBy format layout b datum → a ≡ b
 encoded_once format layout datum a b law x y =

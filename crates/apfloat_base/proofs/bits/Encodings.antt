@@ -18,7 +18,7 @@ pub has_bits : (constants : Constants) → IsLawful constants → constants.prec
 has_bits constants law wide = ⊎_elim (λ (n : HasNoBits constants). absurd (omega (arith, n.bits)))
     (λ (h : HasBits constants). h) law.layout
 
--- the trailing bits and the sign: the precision, and one more where the integer bit is written
+-- the trailing bits and the sign take as many bits as the precision, one more with an explicit integer bit
 trailing_by : (explicit : Bool) (precision : ℕ) → 1 ≤ precision
     → precision + cond explicit 1 0 ≡ cond explicit precision (precision - 1) + 1
 trailing_by true precision h = refl
@@ -41,7 +41,7 @@ lawful_interchange constants law wide =
       explicit = law.explicit;
     }
   where
-    -- the span of a lawful format, by the number of exponents that its bits have
+    -- the span of a lawful format, from the number of exponents that its bits can encode
     span_by : (constants : Constants) → IsLawful constants → HasBits constants
         → unsigned_abs (constants.max_exp -ℤ constants.min_exp) + 3
         ≡ 2 ^ constants.exp_bits + more_exponents constants.nonfinite
@@ -67,10 +67,10 @@ lawful_interchange constants law wide =
         ap unsigned_abs e in
         omega arith
 
--- ---- fields of bits, and bits of fields
+-- ---- fields read from bits, and bits written from fields
 
 module _ (format : Format) (layout : Layout) (law : IsInterchange format layout) where
-  -- the fields of bits fit their widths
+  -- the fields read from bits fit their widths
   pub fields_within : (bits : ℕ) → AreWithin format layout (fields_of format layout bits)
   fields_within bits = record {
     biased_exponent =
@@ -78,11 +78,11 @@ module _ (format : Format) (layout : Layout) (law : IsInterchange format layout)
     trailing = mod_below bits (2 ^ trailing_bits format) (pow_pos (trailing_bits format));
   }
 
-  -- the sign stands above the trailing bits and the exponent
+  -- the sign bit is above the trailing field and the exponent field
   top : layout.bits - 1 ≡ trailing_bits format + layout.exponent_bits
   top = omega (arith, law.bits)
 
-  -- the fields of the bits of fields
+  -- reading the fields back from the bits gives the fields
   pub fields_back : (fields : Fields) → AreWithin format layout fields
       → fields_of format layout (bits_of_fields format layout fields) ≡ fields
   fields_back x w =
@@ -103,7 +103,7 @@ module _ (format : Format) (layout : Layout) (law : IsInterchange format layout)
         digit_odd x.negative,
       ) refl
 
-  -- the bits of fields fit the width of the format
+  -- the bits written from fields fit the width of the format
   pub bits_below : (fields : Fields) → AreWithin format layout fields
       → bits_of_fields format layout fields < 2 ^ layout.bits
   bits_below x w =
@@ -117,7 +117,7 @@ module _ (format : Format) (layout : Layout) (law : IsInterchange format layout)
       (let z : 2 ^ layout.exponent_bits * 2 ≡ 2 ^ layout.exponent_bits + 2 ^ layout.exponent_bits = omega arith in
       rw z at b)
 
-  -- the bits of the fields of bits
+  -- writing the fields of some bits gives the bits back
   pub bits_back : (bits : ℕ) → bits < 2 ^ layout.bits
       → bits_of_fields format layout (fields_of format layout bits) ≡ bits
   bits_back bits low =

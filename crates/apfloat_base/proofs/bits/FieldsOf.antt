@@ -1,4 +1,4 @@
--- The fields of each kind of datum, and that their bits encode it.
+-- The fields of each kind of datum, and that the bits written from them encode it.
 use Rattle.std.proofs.Common.{◌≡◌, ℕ, ◌+◌, ◌-◌, ◌*◌, ◌^◌, ◌<◌, ◌≤◌, Bool, true, false, cond, eqb, sym, refl, ap, ◌∙◌, subst, ⊎_elim, arith}
 use Rattle.std.specs.Prelude.{◌&&◌, IsTrue}
 use mathlib.Core.Bool.{true≢false}
@@ -33,20 +33,20 @@ fields_encode format layout fields datum law h =
 
 -- ---- each layout
 
--- all ones of one digit or more are not 0
+-- one or more ones are not 0
 ones_some : (k : ℕ) → 1 ≤ k → 1 ≤ all_ones k
 ones_some k h = let m : 2 ^ 1 ≤ 2 ^ k = pow-le-pow_right two_pos h in omega arith
 
--- and fit as many digits
+-- and fit in that many digits
 ones_fit : (k : ℕ) → all_ones k < 2 ^ k
 ones_fit k = let p : 0 < 2 ^ k = pow_pos k in omega arith
 
--- a number that fits the trailing bits fits its field, whether the integer bit is written or not
+-- a number that fits the trailing bits fits its field, with or without an explicit integer bit
 width_low : (explicit : Bool) (p n : ℕ) → n < 2 ^ (p - 1) → n < 2 ^ cond explicit p (p - 1)
 width_low true p n h = let m : 2 ^ (p - 1) ≤ 2 ^ p = pow-le-pow_right two_pos (omega arith) in omega arith
 width_low false p n h = h
 
--- a significand, less its integer bit where that is implied, fits its field
+-- a significand, without its integer bit if that is implied, fits its field
 width_high : (explicit : Bool) (p m : ℕ) → 1 ≤ p → m < 2 ^ p
     → m - cond explicit 0 (2 ^ (p - 1)) < 2 ^ cond explicit p (p - 1)
 width_high true p m o h = omega arith
@@ -54,11 +54,11 @@ width_high false p m o h = let t = twice_half p o in let q : 0 < 2 ^ (p - 1) = p
 
 -- ---- numbers below the smallest normalized one
 
--- a zero has a sign of its kind
+-- a zero may have a minus sign only if the format has a negative zero
 abbrev pub MayHaveSign : NonfiniteBehavior → Bool → ℕ → Type 0
 MayHaveSign kind b n = n ≡ 0 → b ≡ zero_sign kind b
 
--- the fields of a number with fewer digits are read as that number
+-- the fields of a number below the smallest normalized one are read as that number
 low_is : (explicit : Bool) (kind : NonfiniteBehavior) (format : Format) (layout : Layout) (negative : Bool) (n : ℕ)
     → eqb 0 (all_ones layout.exponent_bits) ≡ false → MayHaveSign kind negative n
     → cond explicit (written_datum format layout (fields_with negative 0 n))
@@ -98,14 +98,14 @@ low_fields_of format layout b n law h s =
 
 -- ---- numbers with their integer bit
 
--- neither an infinity nor a NaN has the exponent and the significand
+-- the exponent and the significand are not those of an infinity or a NaN
 abbrev IsNoSpecial : NonfiniteBehavior → Format → Layout → ℕ → ℕ → Type 0
 IsNoSpecial IEEE754 f layout e m = eqb e (all_ones layout.exponent_bits) ≡ false
 IsNoSpecial NanOnly f layout e m =
     (eqb e (all_ones layout.exponent_bits) && eqb (m - smallest_normalized f) (all_ones (f.precision - 1))) ≡ false
 IsNoSpecial NanNegativeZero f layout e m = eqb e 0 ≡ false
 
--- the fields of a number with all digits are read as that number
+-- the fields of a normalized number are read as that number
 high_is : (explicit : Bool) (kind : NonfiniteBehavior) (format : Format) (layout : Layout) (negative : Bool) (j m : ℕ)
     → MayBeExplicit kind explicit → smallest_normalized format ≤ m → IsNoSpecial kind format layout (j + 1) m
     → cond explicit (written_datum format layout
@@ -144,7 +144,7 @@ high_canonical true NanNegativeZero format layout b j m may low n = absurd (true
 high_canonical false kind format layout b j m may low n = refl
 
 module _ (format : Format) (layout : Layout) (law : IsInterchange format layout) where
-  -- a number within the largest value has its place within the span
+  -- the place of a number within the largest value is within the span
   place_within : (j m : ℕ) → smallest_normalized format ≤ m → m * 2 ^ j ≤ largest format → j ≤ format.span
   place_within j m low top =
       let t : 2 * 2 ^ (format.precision - 1) ≡ 2 ^ format.precision =
@@ -196,7 +196,7 @@ module _ (format : Format) (layout : Layout) (law : IsInterchange format layout)
       (cases_eq (j + 1) (all_ones layout.exponent_bits))
   no_special NanNegativeZero j m k low top high = ne_eqb (j + 1) 0 (λ q. omega (arith, q))
 
-  -- the fields of numbers whose significand has all its digits
+  -- the fields of normalized numbers
   pub high_fields_of : (negative : Bool) (j m : ℕ) → smallest_normalized format ≤ m → m < 2 ^ format.precision
       → m * 2 ^ j ≤ largest format → AreFieldsOf format layout (fields_with negative (j + 1)
       (m - cond format.explicit_integer_bit 0 (smallest_normalized format)))
@@ -231,7 +231,7 @@ infinity_is false NanOnly format layout b k = cc
 infinity_is true NanNegativeZero format layout b k = cc
 infinity_is false NanNegativeZero format layout b k = cc
 
--- and those with the greatest exponent are canonical
+-- fields with the greatest exponent are canonical
 ones_canonical : (explicit : Bool) (format : Format) (layout : Layout) (negative : Bool) (t : ℕ)
     → cond explicit (is_canonical_written format layout (fields_with negative (all_ones layout.exponent_bits) t)) true
     ≡ true
@@ -281,7 +281,7 @@ width_of_nan true NanOnly p s n may h = absurd (true≢false may)
 width_of_nan false NanOnly p s n may h = let q : 0 < 2 ^ (p - 1) = pow_pos (p - 1) in omega (arith, h)
 width_of_nan explicit NanNegativeZero p s n may h = absurd (n refl)
 
--- with the greatest exponent
+-- the fields of a NaN have the greatest exponent
 pub nan_fields_of : (format : Format) (layout : Layout) (negative : Bool) (s : ℕ) → IsInterchange format layout
     → (format.nonfinite ≡ NanNegativeZero → ⊥)
     → IsNanSignificand format.nonfinite format.explicit_integer_bit format.precision s
@@ -296,7 +296,7 @@ nan_fields_of format layout b s law n h = record {
   is = nan_is format.explicit_integer_bit format.nonfinite format layout b s refl n law.explicit h;
 }
 
--- where -0 is the NaN, its fields are read as the NaN
+-- if -0 is the NaN, its fields are read as the NaN
 one_nan_is : (explicit : Bool) (kind : NonfiniteBehavior) (format : Format) (layout : Layout) → format.nonfinite ≡ kind
     → kind ≡ NanNegativeZero → MayBeExplicit kind explicit
     → cond explicit (written_datum format layout (fields_with true 0 0))
@@ -316,7 +316,7 @@ one_canonical explicit NanOnly format layout e may = cc
 one_canonical true NanNegativeZero format layout e may = absurd (true≢false may)
 one_canonical false NanNegativeZero format layout e may = refl
 
--- in place of the negative zero
+-- the fields of the only NaN, in place of the negative zero
 pub one_nan_fields_of : (format : Format) (layout : Layout) → IsInterchange format layout
     → format.nonfinite ≡ NanNegativeZero → AreFieldsOf format layout (fields_with true 0 0) (nan false 0)
 one_nan_fields_of format layout law k = record {

@@ -50,7 +50,7 @@ lawful_test c =
     && (may_be_explicit c.nonfinite c.explicit_integer_bit
     && nans_test c)))))))
 
--- ---- what a test that passes says
+-- ---- what follows from a test that passes
 
 at_most : (a b : ℤ) → le_z a b ≡ true → a ≤ℤ b
 at_most a b e = le_z_yes (subst T (sym e) tt)

@@ -1,4 +1,4 @@
--- The numbers of a format whose data are bits stay within its largest value.
+-- The numbers that a format's bits can encode are within its largest value.
 use Rattle.std.proofs.Common.{◌≡◌, ℕ, ◌+◌, ◌-◌, ◌*◌, ◌^◌, ◌<◌, ◌≤◌, ap, ⊎_elim, arith}
 use Rattle.std.proofs.lemmas.Nat.{pow-add, mul-le}
 use Rattle.std.proofs.lemmas.Bool.{cases_eq}
@@ -10,14 +10,14 @@ use Rattle.apfloat_base.specs.bits.Interchange.{IsInterchange}
 use Rattle.apfloat_base.proofs.general.Powers.{two_pos, twice_half, four}
 use Rattle.apfloat_base.proofs.formats.Greatest.{greatest_low}
 
--- a significand that is not greater at a place that is not higher
+-- no greater significand than the greatest, at no higher place than the last
 pub at_top : (format : Format) (m k : ℕ) → m ≤ greatest_significand format.nonfinite format.precision → k ≤ format.span
     → m * 2 ^ k ≤ largest format
 at_top format m k a b =
     mul-le m (2 ^ k) (greatest_significand format.nonfinite format.precision)
     (2 ^ format.span) a (pow-le-pow_right two_pos b)
 
--- any significand below the greatest place
+-- any significand, below the last place
 pub below_top : (format : Format) (m k : ℕ) → 3 ≤ format.precision → m < 2 ^ format.precision → k < format.span
     → m * 2 ^ k ≤ largest format
 below_top format m k precise a b =
@@ -58,7 +58,7 @@ half_within format precise =
     let l = greatest_low format.nonfinite format.precision in
     at_top format (2 ^ (format.precision - 1)) 0 (omega (arith, l, p, t)) (omega arith)
 
--- beside infinities any significand, at each exponent but the greatest
+-- in a format with infinities, any significand at each exponent but the greatest
 pub ieee_within : (format : Format) (layout : Layout) (m e : ℕ) → IsInterchange format layout
     → format.nonfinite ≡ IEEE754
     → m < 2 ^ format.precision → e < 2 ^ layout.exponent_bits → (e ≡ all_ones layout.exponent_bits → ⊥)
@@ -68,7 +68,7 @@ ieee_within format layout m e law k a b n =
     let t : m ≤ greatest_significand format.nonfinite format.precision = rw k (omega arith) in
     at_top format m (e - 1) t (omega arith)
 
--- with one NaN of each sign any but the last significand at the greatest exponent
+-- with one NaN of each sign, any significand, except the last one at the greatest exponent
 pub nan_only_within : (format : Format) (layout : Layout) (m e : ℕ) → IsInterchange format layout
     → format.nonfinite ≡ NanOnly → 1 ≤ e → m < 2 ^ format.precision → e < 2 ^ layout.exponent_bits
     → ((e ≡ all_ones layout.exponent_bits) → (m ≡ 2 ^ format.precision - 1) → ⊥) → m * 2 ^ (e - 1) ≤ largest format
@@ -82,7 +82,7 @@ nan_only_within format layout m e law k o a b n =
     (λ (p : e ≡ all_ones layout.exponent_bits → ⊥). below_top format m (e - 1) law.precise a (omega (arith, p)))
     (cases_eq e (all_ones layout.exponent_bits))
 
--- without negative zero any significand at each exponent
+-- without a negative zero, any significand at each exponent
 pub negative_zero_within : (format : Format) (layout : Layout) (m e : ℕ) → IsInterchange format layout
     → format.nonfinite ≡ NanNegativeZero → m < 2 ^ format.precision → e < 2 ^ layout.exponent_bits
     → m * 2 ^ (e - 1) ≤ largest format

@@ -1,4 +1,4 @@
--- Truth values, and what is chosen by them.
+-- Truth values, and choices by them.
 use Rattle.std.proofs.Common.{◌≡◌, ℕ, zero, suc, ◌+◌, ◌*◌, ◌%◌, ◌<◌, ◌≤◌, Bool, true, false, cond, not, ◌&&◌, eqb, ltb, leb, if◌then◌else◌, Option, Some, None, refl, sym, ◌∙◌, ⊎_elim, arith}
 use mathlib.Core.Bool.{beq}
 use Rattle.std.specs.Bool.{MatchBool}
@@ -9,21 +9,21 @@ use Rattle.apfloat_base.specs.arithmetic.Exact.{same_sign, product_sign}
 
 -- ---- tests
 
--- each number passes for equal to itself
+-- each number tests equal to itself
 pub eqb_self : (n : ℕ) → eqb n n ≡ true
 eqb_self n = eq-eqb n n refl
 
--- what is not true is false
+-- a truth value that is not true is false
 pub off_by : (test : Bool) → (test ≡ true → ⊥) → false ≡ test
 off_by true h = absurd (h refl)
 off_by false h = refl
 
--- nothing holds together with its own negation
+-- no test holds together with its negation
 pub not_itself : (test : Bool) → (test && not (test && true)) ≡ false
 not_itself true = refl
 not_itself false = refl
 
--- what cannot be takes nothing away
+-- a test that cannot hold excludes nothing
 pub no_zero : (test exact : Bool) → (exact && not (test && false)) ≡ exact
 no_zero true true = refl
 no_zero true false = refl
@@ -39,23 +39,23 @@ same_beq true false = refl
 same_beq false true = refl
 same_beq false false = refl
 
--- what passes for the same sign is the same
+-- signs that test as the same are equal
 pub same_sign_is : (left right : Bool) → same_sign left right ≡ true → left ≡ right
 same_sign_is true true e = refl
 same_sign_is true false e = cc
 same_sign_is false true e = cc
 same_sign_is false false e = refl
 
--- each sign passes for the same as itself
+-- each sign tests as the same as itself
 pub same_sign_self : (sign : Bool) → same_sign sign sign ≡ true
 same_sign_self true = refl
 same_sign_self false = refl
 
--- truth values that compare as equal are the same
+-- truth values that compare equal are equal
 pub like : (left right : Bool) → beq left right ≡ true → left ≡ right
 like left right e = same_sign_is left right (sym (same_beq left right) ∙ e)
 
--- those that compare as different are not
+-- truth values that compare unequal are not equal
 pub unlike : (left right : Bool) → beq left right ≡ false → left ≡ right → ⊥
 unlike true true e d = absurd (false≢true (sym e))
 unlike false false e d = absurd (false≢true (sym e))
@@ -64,7 +64,7 @@ unlike false true e d = false≢true d
 
 -- ---- a number chosen by a test
 
--- a factor goes into both choices
+-- a factor can be moved into both choices
 pub cond_times : (test : Bool) (x y factor : ℕ) → (cond test x y) * factor ≡ cond test (x * factor) (y * factor)
 cond_times true x y factor = refl
 cond_times false x y factor = refl
@@ -74,12 +74,12 @@ pub cond_same : (test : Bool) (x : ℕ) → x ≡ cond test x x
 cond_same true x = refl
 cond_same false x = refl
 
--- 0, or what is 0
+-- a choice between 0 and a number that is 0 is 0
 pub zero_if : (test : Bool) (m : ℕ) → m ≡ 0 → 0 ≡ (if test then 0 else m)
 zero_if true m e = refl
 zero_if false m e = sym e
 
--- a test that holds wherever another one does chooses no smaller number
+-- a test that holds wherever another does chooses no smaller number
 pub cond_grows : (first second : Bool) (high low : ℕ) → low ≤ high → (first ≡ true → second ≡ true)
     → cond first high low ≤ cond second high low
 cond_grows true true high low h f = omega arith
@@ -87,12 +87,12 @@ cond_grows true false high low h f = absurd (false≢true (f refl))
 cond_grows false true high low h f = h
 cond_grows false false high low h f = omega arith
 
--- what is chosen lies between the two
+-- the choice is between the two numbers
 pub cond_within : (test : Bool) (high low : ℕ) → low ≤ high → (cond test high low ≤ high) × (low ≤ cond test high low)
 cond_within true high low h = (omega arith, h)
 cond_within false high low h = (h, omega arith)
 
--- what lies strictly between two multiples is neither of them
+-- a number strictly between two multiples is neither of them
 pub off_both : (test : Bool) (q amount parts : ℕ) → q * parts < amount → amount < (q + 1) * parts
     → cond test (q + 1) q * parts ≡ amount → ⊥
 off_both true q amount parts l k e = omega arith
@@ -100,17 +100,17 @@ off_both false q amount parts l k e = omega arith
 
 -- ---- a truth value as a binary digit
 
--- it is below 2
+-- the digit of a truth value is below 2
 pub digit_low : (value : Bool) → cond value 1 0 < 2
 digit_low true = omega arith
 digit_low false = omega arith
 
--- its oddness is the truth value
+-- the digit is odd exactly if the truth value is true
 pub digit_odd : (value : Bool) → eqb (cond value 1 0 % 2) 1 ≡ value
 digit_odd true = refl
 digit_odd false = refl
 
--- a number below 2 is the digit of its own oddness
+-- a number below 2 is the digit of whether it is odd
 pub odd_digit : (n : ℕ) → n < 2 → cond (eqb (n % 2) 1) 1 0 ≡ n
 odd_digit zero h = refl
 odd_digit (suc zero) h = refl
@@ -127,13 +127,13 @@ pub match_false : (test : Bool) (P Q : Type 0) → test ≡ false → Q → Matc
 match_false true P Q e q = cc
 match_false false P Q e q = q
 
--- what holds of two predicates holds of the one that a test chooses
+-- what holds of two predicates holds of whichever a test chooses
 pub match_one : {A : Type 0} (Holds : (A → Type 0) → Type 0) (test : Bool) (P Q : A → Type 0) → Holds P → Holds Q
     → Holds (λ a. MatchBool test (P a) (Q a))
 match_one Holds true P Q p q = p
 match_one Holds false P Q p q = q
 
--- and so for relations of two things
+-- and so for relations of two values
 pub match_case : {A B : Type 0} (Holds : (A → B → Type 0) → Type 0) (test : Bool) (P Q : A → B → Type 0) → Holds P
     → Holds Q → Holds (λ a b. MatchBool test (P a b) (Q a b))
 match_case Holds true P Q p q = p
@@ -151,7 +151,7 @@ pub if_case : {A : Type 0} (P : A → Type 0) {first second : A} (test : Bool) �
 if_case P true l r = l refl
 if_case P false l r = r refl
 
--- where both choices are false, so is what is chosen
+-- if both choices are false, so is the chosen one
 pub either_false : (test first second : Bool) → first ≡ false → second ≡ false → cond test first second ≡ false
 either_false true x y e g = e
 either_false false x y e g = g
@@ -176,20 +176,20 @@ pub first_holds : (first second third : Bool) (option : Option ℕ) → first �
 first_holds true e l x h = refl
 first_holds false e l x h = cc
 
--- and one that fails chooses none, the first of three
+-- the first of three tests chooses none if it fails
 pub first_fails : (first second third : Bool) (option : Option ℕ) → first ≡ false
     → (if first && second && third then option else None) ≡ None
 first_fails true e l x h = cc
 first_fails false e l x h = refl
 
--- or the last of two
+-- the last of two tests chooses none if it fails
 pub last_fails : (first second : Bool) (option : Option ℕ) → second ≡ false
     → (if first && second then option else None) ≡ None
 last_fails true true x h = cc
 last_fails true false x h = refl
 last_fails false l x h = refl
 
--- where none is chosen, the test chose the other option, which is none
+-- if none is chosen, the test chose the other option, which is none
 pub left_none : {A : Type 0} (test : Bool) (item : A) (other : Option A) → cond test (Some item) other ≡ None
     → (test ≡ false) × (other ≡ None)
 left_none true a other h = absurd (none-some a (sym h))
@@ -209,7 +209,7 @@ ltb_times a b u p =
     (λ (h : b ≤ a). le-ltb a b h ∙ sym (le-ltb (a * u) (b * u) (mul-le-mul_right u h)))
     (cases_lt a b)
 
--- a number that is neither 0 nor below one above 0 is at least that one
+-- a number that is neither 0 nor below a positive bound is at least that bound
 pub at_least : (n m : ℕ) → 0 < m → (ltb 0 n && not (ltb 0 n && ltb n m)) ≡ leb m n
 at_least n m h =
     ⊎_elim
@@ -226,14 +226,14 @@ other_sign true false = refl
 other_sign false true = refl
 other_sign false false = refl
 
--- ---- one of two equal things
+-- ---- one of two equal values
 
--- what is chosen from two equal things is the first of them
+-- a choice between two equal values is the first of them
 pub either : {A : Type 0} (test : Bool) (one other : A) → one ≡ other → (if test then one else other) ≡ one
 either true x y e = refl
 either false x y e = sym e
 
--- if both answers are the same where all three tests hold, the last test plays no part
+-- if both values are equal whenever all three tests hold, the last test does not matter
 pub needless_last : {A : Type 0} (first second last : Bool) (one other : A)
     → (first ≡ true → second ≡ true → last ≡ true → one ≡ other)
     → (if first && (second && not last) then one else other) ≡ (if first && second then one else other)
@@ -242,7 +242,7 @@ needless_last true false last x y h = refl
 needless_last true true false x y h = refl
 needless_last true true true x y h = sym (h refl refl refl)
 
--- behind two tests, the last answer counts only where both fail
+-- after two tests, the last value is chosen only if both fail
 pub where_both_fail : {A : Type 0} (first second : Bool) (left right one other : A)
     → (first ≡ false → second ≡ false → one ≡ other)
     → (if first then left else (if second then right else one))

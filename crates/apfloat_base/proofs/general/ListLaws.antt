@@ -8,7 +8,7 @@ use Rattle.apfloat_base.specs.texts.Digits.{every, begins, run, behind_run, is_e
 
 -- ---- members that pass
 
--- where a joined list passes a test, both lists do
+-- if two lists joined pass a test, each of them does
 pub every-append : (test : ℕ → Bool) (xs ys : List ℕ) → every test (xs ++ ys) ≡ true
     → (every test xs ≡ true) × (every test ys ≡ true)
 every-append test [] ys h = (refl, h)
@@ -17,7 +17,7 @@ every-append test (c ∷ xs) ys h =
     let q = every-append test xs ys p.1 in
     (and_from (test c) (every test xs) p.0 q.0, q.1)
 
--- and where both do, so does the joined list
+-- if both lists pass a test, so do they joined
 pub append-every : (test : ℕ → Bool) (xs ys : List ℕ) → every test xs ≡ true → every test ys ≡ true
     → every test (xs ++ ys) ≡ true
 append-every test [] ys h g = g
@@ -35,7 +35,7 @@ every_weaker test other w (c ∷ xs) h =
 
 -- ---- runs
 
--- a run goes through a list that passes its test, up to a list that does not begin with one
+-- a run extends over a list that passes its test, up to a list whose first item does not pass it
 pub run_through : (test : ℕ → Bool) (xs rest : List ℕ) → every test xs ≡ true → begins test rest ≡ false
     → run test (xs ++ rest) ≡ xs
 run_through test [] [] h b = refl
@@ -44,7 +44,7 @@ run_through test (c ∷ xs) rest h b =
     let p = and_parts (test c) (every test xs) h in
     rw p.0 (ap (λ (t : List ℕ). c ∷ t) (run_through test xs rest p.1 b))
 
--- and what stands behind the run is the next list
+-- what follows the run is that second list
 pub behind_run_through : (test : ℕ → Bool) (xs rest : List ℕ) → every test xs ≡ true → begins test rest ≡ false
     → behind_run test (xs ++ rest) ≡ rest
 behind_run_through test [] [] h b = refl
@@ -53,7 +53,7 @@ behind_run_through test (c ∷ xs) rest h b =
     let p = and_parts (test c) (every test xs) h in
     rw p.0 (behind_run_through test xs rest p.1 b)
 
--- a list is its run and what stands behind it
+-- a list is its run and what follows it
 pub split_run : (test : ℕ → Bool) (xs : List ℕ) → xs ≡ run test xs ++ behind_run test xs
 split_run test [] = refl
 split_run test (c ∷ xs) = go (test c) (split_run test xs)
@@ -73,7 +73,7 @@ run_passes test (c ∷ xs) = go (cases_Bool (test c)) (run_passes test xs)
     go (inl e) h = rw (e, e, h) refl
     go (inr e) h = rw e refl
 
--- and what stands behind it does not begin with an item that passes
+-- and what follows it does not begin with an item that passes
 pub run_stops : (test : ℕ → Bool) (xs : List ℕ) → begins test (behind_run test xs) ≡ false
 run_stops test [] = refl
 run_stops test (c ∷ xs) = go (cases_Bool (test c)) (run_stops test xs)
@@ -83,7 +83,7 @@ run_stops test (c ∷ xs) = go (cases_Bool (test c)) (run_stops test xs)
     go (inl e) h = rw e h
     go (inr e) h = rw e e
 
--- what stands behind a run passes each test that the whole passes
+-- what follows a run passes each test that the whole list passes
 pub behind_passes : (test other : ℕ → Bool) (xs : List ℕ) → every other xs ≡ true
     → every other (behind_run test xs) ≡ true
 behind_passes test other [] h = refl
@@ -97,14 +97,14 @@ behind_passes test other (c ∷ xs) h =
 
 -- ---- filters
 
--- what passes the filter whole is left whole
+-- a list whose items all pass the filter is unchanged
 pub filter_all : (test : ℕ → Bool) (xs : List ℕ) → every test xs ≡ true → filter test xs ≡ xs
 filter_all test [] h = refl
 filter_all test (c ∷ xs) h =
     let p = and_parts (test c) (every test xs) h in
     rw p.0 (ap (λ (t : List ℕ). c ∷ t) (filter_all test xs p.1))
 
--- nothing passes a test that excludes the test which all pass
+-- if all items pass a test that excludes the filter's, nothing is left
 pub filter_none : (test other : ℕ → Bool) → ((c : ℕ) → test c ≡ true → other c ≡ false) → (xs : List ℕ)
     → every test xs ≡ true → filter other xs ≡ []
 filter_none test other w [] h = refl
@@ -114,7 +114,7 @@ filter_none test other w (c ∷ xs) h =
 
 -- ---- groups
 
--- three parts in front of a tail, grouped together
+-- three parts before a tail, grouped together
 pub regroup : (whole point fraction tail : List ℕ)
     → whole ++ (point ++ (fraction ++ tail)) ≡ (whole ++ (point ++ fraction)) ++ tail
 regroup whole point fraction tail =
@@ -123,13 +123,13 @@ regroup whole point fraction tail =
 
 -- ---- items by their places
 
--- the items of the first list keep their places
+-- the items of the first of two joined lists keep their places
 pub get_left : {X : Type 0} (xs ys : List X) (k : ℕ) → k < length xs → slice_get (xs ++ ys) k ≡ slice_get xs k
 get_left [] ys k within = absurd (omega arith)
 get_left (x ∷ xs) ys zero within = refl
 get_left (x ∷ xs) ys (suc k) within = get_left xs ys k (omega arith)
 
--- and the one item of the second stands behind them
+-- an item appended to a list has its length as its place
 pub get_last : {X : Type 0} (xs : List X) (last : X) → slice_get (xs ++ last ∷ []) (length xs) ≡ Some last
 get_last [] y = refl
 get_last (x ∷ xs) y = get_last xs y
@@ -169,7 +169,7 @@ pub not_empty : (xs : List ℕ) → 1 ≤ length xs → is_empty xs ≡ false
 not_empty [] h = absurd (omega (arith, h))
 not_empty (c ∷ xs) h = refl
 
--- nor is a list with an item behind it
+-- nor is a list followed by an item
 pub not_empty_through : (xs : List ℕ) (item : ℕ) (rest : List ℕ) → is_empty (xs ++ (item ∷ rest)) ≡ false
 not_empty_through [] item rest = refl
 not_empty_through (x ∷ xs) item rest = refl

@@ -1,4 +1,4 @@
--- The binary logarithm of a number that is not 0, rounded down.
+-- The binary logarithm of a positive number, rounded down.
 use Rattle.std.proofs.Common.{◌≡◌, ℕ, ◌+◌, ◌-◌, ◌*◌, ◌^◌, ◌<◌, ◌≤◌, ⊎_elim, arith}
 use Rattle.std.specs.Int.Count.{count_leading_zeros}
 use Rattle.std.proofs.lemmas.Nat.{leading_top, pow_pos}
@@ -15,7 +15,7 @@ log2_bounds n h =
     let e : n - (count_leading_zeros n n + 1) ≡ t.0 = omega (arith, t.1) in
     rw e (t.2, omega (arith, t.3, two-pow-succ t.0))
 
--- only one power of two begins where a number does
+-- the power of two whose interval contains a number is that of its logarithm
 pub log2_is : (n k : ℕ) → 2 ^ k ≤ n → n < 2 * 2 ^ k → log2 n ≡ k
 log2_is n k low high =
     let b = log2_bounds n (omega (arith, pow_pos k)) in

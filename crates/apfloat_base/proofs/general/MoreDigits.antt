@@ -1,4 +1,4 @@
--- A number with one more digit behind it, in any base.
+-- A number with one more digit appended, in any base.
 use Rattle.std.proofs.Common.{◌≡◌, ℕ, ◌+◌, ◌*◌, ◌^◌, ◌<◌, ◌≤◌, suc, ap, ◌∙◌, arith}
 use Rattle.std.proofs.Math.Nat.{mul-le-mul_right, pow-le-pow_right, pow-suc}
 
@@ -11,7 +11,7 @@ digit_more base number digit place small less =
     let next : (number + 1) * base ≤ base ^ place * base = mul-le-mul_right base (omega arith) in
     omega arith
 
--- and so below each power of as many digits as there may be
+-- and so below each power of at least that many digits
 pub digit_fits : (base number digit place most : ℕ) → number < base ^ place → digit < base → place < most
     → number * base + digit < base ^ most
 digit_fits base number digit place most small less within =

@@ -46,7 +46,7 @@ exponent_below a b h =
     (λ (c : b ≤ a). let k : 2 ^ b ≤ 2 ^ a = pow-le-pow_right two_pos c in absurd (omega arith))
     (cases_lt a b)
 
--- a number is below the power of two whose exponent it is
+-- n is below 2 ^ n
 pub below_power : (n : ℕ) → n < 2 ^ n
 below_power zero = omega arith
 below_power (suc n) = omega (arith, below_power n, two-pow-succ n)
@@ -66,18 +66,18 @@ four precision h =
     let k : 2 ^ 2 ≤ 2 ^ (precision - 1) = pow-le-pow_right two_pos l in
     k
 
--- where a number is at least 2 ^ a and below 2 ^ (b + 1), a is at most b
+-- if a number is at least 2 ^ a and below 2 ^ (b + 1), a is at most b
 pub exponent_between : (n a b : ℕ) → 2 ^ a ≤ n → n < 2 ^ (b + 1) → a ≤ b
 exponent_between n a b l h = let e = exponent_below a (b + 1) (omega arith) in omega arith
 
--- a multiple of a power of two that equals one above 0 is above 0
+-- if a positive number times a power of two equals n times a power of two, n is positive
 pub both_above_zero : (m n p q : ℕ) → n * 2 ^ p ≡ m * 2 ^ q → 0 < m → 0 < n
 both_above_zero m zero p q e l =
     let a : 0 < m * 2 ^ q = mul-pos l (pow_pos q) in
     absurd (omega arith)
 both_above_zero m (suc n) p q e l = omega arith
 
--- and one that equals 0 is 0
+-- if n times a power of two is 0, n is 0
 pub both_zero : (n p q : ℕ) → n * 2 ^ p ≡ 0 * 2 ^ q → n ≡ 0
 both_zero zero p q e = refl
 both_zero (suc n) p q e = absurd (omega (arith, both_above_zero (suc n) 0 q p (sym e) (omega arith)))

@@ -12,11 +12,11 @@ use Rattle.apfloat_base.specs.formats.Datum.{Datum, finite, infinite, nan}
 use Rattle.apfloat_base.specs.order.Classes.{is_nan}
 use Rattle.apfloat_base.specs.order.Order.{level, number, compared, is_equal}
 
--- the order of data that are no NaNs
+-- the order of data that are not NaNs
 abbrev rank : Datum → Datum → Ordering
 rank = then_cmp (on level nat_cmp) (on number int_cmp)
 
--- this is a total order
+-- it is a total order
 rank_total : IsTotalOrder rank
 rank_total = then_total (on_total level nat_cmp_total) (on_total number int_cmp_total)
 
@@ -26,7 +26,7 @@ unless true n r = None
 unless false true r = None
 unless false false r = Some r
 
--- two data are compared by rank, unless one of them is a NaN
+-- two data are compared by rank unless one of them is a NaN
 by_rank : (x y : Datum) → compared x y ≡ unless (is_nan x) (is_nan y) (rank x y)
 by_rank (nan b s) y = refl
 by_rank (finite b m) (nan c t) = refl
@@ -44,12 +44,12 @@ turned true false r s e = refl
 turned false true r s e = refl
 turned false false r s e = ap Some e
 
--- if there is an order, both tests fail
-told : (left right : Bool) (order answer : Ordering) → unless left right order ≡ Some answer
+-- if the operands are ordered, both tests fail
+tests_fail : (left right : Bool) (order answer : Ordering) → unless left right order ≡ Some answer
     → (left ≡ false) × (right ≡ false) × (order ≡ answer)
-told true n r o e = cc
-told false true r o e = cc
-told false false r o e = (refl, refl, same_Some r o e)
+tests_fail true n r o e = cc
+tests_fail false true r o e = cc
+tests_fail false false r o e = (refl, refl, same_Some r o e)
 
 -- the operands are equal if and only if their order is `Equal`
 decides : (left right : Bool) (order : Ordering)
@@ -61,7 +61,7 @@ decides false false r = (λ e. ap Some ((Equal-is r).0 e), λ e. (Equal-is r).1 
 -- if the operands are equal, both tests fail
 equal : (left right : Bool) (order : Ordering) → is_some_and is_eq (unless left right order) ≡ true
     → (left ≡ false) × (right ≡ false) × (order ≡ Equal)
-equal m n r e = told m n r Equal ((decides m n r).0 e)
+equal m n r e = tests_fail m n r Equal ((decides m n r).0 e)
 
 -- the comparison is antisymmetric and transitive, and agrees with equality
 pub compared_laws : IsPartialOrder is_equal compared
@@ -70,8 +70,8 @@ compared_laws = record {
       λ x y. rw (by_rank x y, by_rank y x)
       (turned (is_nan x) (is_nan y) (rank x y) (rank y x) (rank_total.antisymm x y));
   trans = λ x y z p q.
-      let a = told (is_nan x) (is_nan y) (rank x y) Less (rw (by_rank x y) at p) in
-      let b = told (is_nan y) (is_nan z) (rank y z) Less (rw (by_rank y z) at q) in
+      let a = tests_fail (is_nan x) (is_nan y) (rank x y) Less (rw (by_rank x y) at p) in
+      let b = tests_fail (is_nan y) (is_nan z) (rank y z) Less (rw (by_rank y z) at q) in
       rw (by_rank x z, a.0, b.1, rank_total.trans x y z a.2 b.2) refl;
   matches_eq = λ x y. rw (by_rank x y) (decides (is_nan x) (is_nan y) (rank x y));
   congr = λ x y z p.

@@ -1,4 +1,4 @@
--- The predicates by category, and the minima and maxima by order, are at data those of the model.
+-- On data, the predicates by category and the minima and maxima by order are those of the model.
 use Rattle.std.specs.Prelude.{◌≡◌, ℕ, zero, suc, ◌-◌, ◌<◌, Bool, true, false, not, ◌&&◌, eqb, ltb, if◌then◌else◌}
 use Rattle.std.proofs.Common.{sym, refl, ◌∙◌, arith}
 use Rattle.std.proofs.lemmas.Nat.{pow_pos}
@@ -19,7 +19,7 @@ use Rattle.apfloat_base.proofs.general.Choices.{same_sign_is, same_sign_self, no
 
 -- ---- predicates by category
 
--- the predicates at the category of a finite datum, which is a zero or a number
+-- the predicates on the category of a finite datum, which is a zero or a nonzero number
 zero_or_not : (zero : Bool) → is_zero_category (if zero then Zero else Normal) ≡ zero
 zero_or_not true = refl
 zero_or_not false = refl
@@ -36,7 +36,7 @@ always_finite : (zero : Bool) → is_finite_category (if zero then Zero else Nor
 always_finite true = refl
 always_finite false = refl
 
--- by category a datum is a NaN, infinite, a zero, or finite as in the model
+-- by category, a datum is a NaN, infinite, zero or finite exactly if it is so in the model
 pub nan_agrees : (x : Datum) → is_nan_category (category_of x) ≡ is_nan x
 nan_agrees (finite b n) = never_nan (eqb n 0)
 nan_agrees (infinite b) = refl
@@ -57,18 +57,18 @@ finite_agrees (finite b n) = always_finite (eqb n 0)
 finite_agrees (infinite b) = refl
 finite_agrees (nan b s) = refl
 
--- by category a finite datum is a number if and only if it has quanta
+-- by category, a finite datum is nonzero exactly if it has quanta
 number_or_not : (n : ℕ) → is_finite_non_zero_category (if eqb n 0 then Zero else Normal) ≡ ltb 0 n
 number_or_not zero = refl
 number_or_not (suc n) = rw (not_zero (suc n) (omega arith), lt-ltb 0 (suc n) (omega arith)) refl
 
--- by category a datum is a finite number that is not 0 as in the model
+-- by category, a datum is finite and nonzero exactly if it is so in the model
 pub number_agrees : (x : Datum) → is_finite_non_zero_category (category_of x) ≡ is_finite_non_zero x
 number_agrees (finite b n) = number_or_not n
 number_agrees (infinite b) = refl
 number_agrees (nan b s) = refl
 
--- a number that is not denormal is normal
+-- by category, a datum is normal exactly if it is so in the model
 pub normal_agrees : (format : Format) (x : Datum)
     → (is_finite_non_zero_category (category_of x) && not (is_denormal format x)) ≡ is_normal format x
 normal_agrees format (finite b n) = rw (number_or_not n)
@@ -78,15 +78,15 @@ normal_agrees format (nan b s) = refl
 
 -- ---- minima and maxima by order
 
--- the lesser by order, with a NaN left out
+-- the lesser by order, or the other operand if one is a NaN
 pub min_agrees : (x y : Datum) → min_by category_of compared x y ≡ min_num x y
 min_agrees x y = rw (nan_agrees x, nan_agrees y) refl
 
--- the greater by order, with a NaN left out
+-- the greater by order, or the other operand if one is a NaN
 pub max_agrees : (x y : Datum) → max_by category_of compared x y ≡ max_num x y
 max_agrees x y = rw (nan_agrees x, nan_agrees y) refl
 
--- two zeros of one sign are one datum, so that it plays no part which of them is the answer
+-- two zeros of the same sign are the same datum, so it does not matter which of them is returned
 one_zero : (x y : Datum) → is_zero x ≡ true → is_zero y ≡ true → same_sign (is_negative x) (is_negative y) ≡ true
     → x ≡ y
 one_zero (finite a m) (finite b n) e f s = rw (same_sign_is a b s, eqb-true m 0 e, eqb-true n 0 f) refl
@@ -95,14 +95,14 @@ one_zero (finite a m) (nan b t) e f s = cc
 one_zero (infinite a) y e f s = cc
 one_zero (nan a t) y e f s = cc
 
--- of two zeros of one sign either is the lesser
+-- of two zeros of the same sign, either can be returned as the lesser
 lesser_zero : (x y : Datum) (below : Bool) → is_zero x ≡ true → is_zero y ≡ true
     → same_sign (is_negative x) (is_negative y) ≡ true → (if is_negative x then x else y) ≡ (if below then y else x)
 lesser_zero x y below e f s =
     let q = one_zero x y e f s in
     either (is_negative x) x y q ∙ q ∙ sym (either below y x (sym q))
 
--- and either is the greater
+-- or as the greater
 greater_zero : (x y : Datum) (below : Bool) → is_zero x ≡ true → is_zero y ≡ true
     → same_sign (is_negative x) (is_negative y) ≡ true → (if is_negative x then y else x) ≡ (if below then y else x)
 greater_zero x y below e f s =
@@ -123,9 +123,9 @@ maximum_agrees x y =
     rw (n, m) (needless_last (is_zero x) (is_zero y) (same_sign (is_negative x) (is_negative y)) _ _
     (λ e f s. greater_zero x y (partial_lt compared x y) e f s))))
 
--- ---- named magnitudes that are not 0, with the sign of a datum
+-- ---- named nonzero magnitudes, with the sign of a datum
 
--- a number given the sign of one with the same magnitude is that one
+-- a number with the sign of another of the same magnitude is that other number
 turned_number : (kind : NonfiniteBehavior) (negative : Bool) (m : ℕ) → 0 < m
     → signed_like is_negative (negated kind) (finite false m) (finite negative m) ≡ finite negative m
 turned_number kind true m h = rw (not_zero m h) refl
@@ -137,7 +137,7 @@ sign_alone : (kind : NonfiniteBehavior) (m : ℕ) (x y : Datum) → is_negative 
     ≡ signed_like is_negative (negated kind) (finite false m) y
 sign_alone kind m x y e = rw e refl
 
--- a datum is the number m with its own sign where it is finite and has m quanta
+-- a datum is m quanta with its own sign exactly if it is finite and has m quanta
 pub magnitude_agrees : (kind : NonfiniteBehavior) (m : ℕ) (x : Datum) → 0 < m
     → same_datum x (signed_like is_negative (negated kind) (finite false m) x)
     ≡ (is_finite x && eqb (quanta_of x) m)
@@ -163,12 +163,12 @@ pub largest_agrees : (format : Format) (x : Datum) → 0 < largest format
     → same_datum x (signed_like is_negative (negated format.nonfinite) (largest_datum format) x) ≡ is_largest format x
 largest_agrees format x h = magnitude_agrees format.nonfinite (largest format) x h
 
--- so is a datum without its sign
+-- so is the absolute value of a datum
 pub abs_agrees : (format : Format) (x : Datum)
     → (if is_negative x then negated format.nonfinite x else x) ≡ abs format x
 abs_agrees format x = refl
 
--- and a datum with the sign of another one
+-- and a datum with the sign of another
 pub copy_sign_agrees : (format : Format) (x y : Datum)
     → signed_like is_negative (negated format.nonfinite) x y ≡ copy_sign format x y
 copy_sign_agrees format x y = refl

@@ -16,14 +16,14 @@ use Rattle.apfloat_base.proofs.rounding.Picks.{kept, pick_is, pick_unique}
 use Rattle.apfloat_base.proofs.rounding.Losses.{stands_past, stands_to}
 use Rattle.apfloat_base.proofs.general.Choices.{off_both}
 
--- whether a pick is past the largest value, by the parts of that value
+-- whether a pick is past the largest value, from the parts of that value
 pub past_is : (format : Format) (top place p : ℕ) (past answer : Bool)
     → top ≡ greatest_significand format.nonfinite format.precision
     → place ≡ format.span → past ≡ ltb (top * 2 ^ place) p → past ≡ answer → ltb (largest format) p ≡ answer
 past_is format top place p b v e d h k =
     ap (λ (x : ℕ). ltb (x * 2 ^ format.span) p) (sym e) ∙ ap (λ (x : ℕ). ltb (top * 2 ^ x) p) (sym d) ∙ sym h ∙ k
 
--- a number of quanta that is not 0 keeps its sign in each kind of format
+-- a positive number of quanta keeps its sign in each kind of format
 pub signed_some : (kind : NonfiniteBehavior) (negative : Bool) (p : ℕ) → 0 < p
     → signed_quanta kind negative p ≡ finite negative p
 signed_some kind negative p h = let e : eqb p 0 ≡ false = ne_eqb p 0 (λ z. omega arith) in rw e refl
@@ -66,7 +66,7 @@ loss_cases LessThanHalf = inr (λ e. cc)
 loss_cases ExactlyHalf = inr (λ e. cc)
 loss_cases MoreThanHalf = inr (λ e. cc)
 
--- where nothing was lost, the pick is the magnitude
+-- if nothing was lost, the pick is the magnitude
 pub exact_if : (precision : ℕ) (mode : Round) (negative : Bool) (half m c amount parts p : ℕ) (loss : Loss)
     → loss ≡ ExactlyZero → 0 < parts → IsEnclosed precision half m c amount parts
     → StandsFor m loss amount (2 ^ c * parts) → IsPick precision mode negative amount parts p → p * parts ≡ amount
@@ -78,7 +78,7 @@ exact_if precision mode negative half m c amount parts p loss z l i h x =
     (pick_is precision mode negative half m c amount parts ExactlyZero l i h') in
     ap (λ (y : ℕ). y * parts) e ∙ omega (arith, h')
 
--- where something was lost, the pick is not the magnitude
+-- if something was lost, the pick is not the magnitude
 pub inexact_if : (precision : ℕ) (mode : Round) (negative : Bool) (half m c amount parts p : ℕ) (loss : Loss)
     → (loss ≡ ExactlyZero → ⊥) → 0 < parts → IsEnclosed precision half m c amount parts
     → StandsFor m loss amount (2 ^ c * parts) → IsPick precision mode negative amount parts p → p * parts ≡ amount
@@ -95,7 +95,7 @@ inexact_if precision mode negative half m c amount parts p loss n l i h x q =
 
 -- ---- tiny
 
--- a significand below the half shows an amount below it
+-- a kept significand below the half means an amount below it
 small_before : (precision half m c amount parts : ℕ) → 0 < parts → m < half
     → IsEnclosed precision half m c amount parts → amount < half * parts
 small_before precision half m c amount parts p l i =
@@ -108,7 +108,7 @@ small_before precision half m c amount parts p l i =
     (λ (f : half ≤ m). absurd (omega arith))
     i.full
 
--- one from the half on shows an amount from it on
+-- a kept significand of at least the half means an amount of at least that
 large_before : (precision half m c amount parts : ℕ) → half ≤ m → IsEnclosed precision half m c amount parts
     → half * parts ≤ amount
 large_before precision half m c amount parts l i =
@@ -119,7 +119,7 @@ large_before precision half m c amount parts l i =
     let f : m * 2 ^ c * parts ≤ amount = i.from in
     omega arith
 
--- so the kept significand tells whether the amount is tiny before rounding
+-- so the kept significand decides whether the amount is tiny before rounding
 tiny_before : (precision half m c amount parts : ℕ) → 0 < parts → IsEnclosed precision half m c amount parts
     → ltb m half ≡ ltb amount (half * parts)
 tiny_before precision half m c amount parts p i =
@@ -135,14 +135,14 @@ small_after : (half s place : ℕ) → s < half → (place ≡ 0) ⊎ (half ≤ 
 small_after half s place l (inl z) = subst (λ (x : ℕ). s * 2 ^ x < half) (sym z) (omega arith)
 small_after half s place l (inr f) = absurd (omega arith)
 
--- a significand from the half on leaves the pick there, at any place
+-- a significand of at least the half leaves the pick there, at any place
 large_after : (half s place : ℕ) → half ≤ s → half ≤ s * 2 ^ place
 large_after half s place l =
     let w : 1 ≤ 2 ^ place = pow_pos place in
     let a : s * 1 ≤ s * 2 ^ place = mul-le-mul_left s w in
     omega arith
 
--- so it is tiny after rounding where its significand is below the half
+-- so it is tiny after rounding exactly if its significand is below the half
 tiny_after : (half s place : ℕ) → (place ≡ 0) ⊎ (half ≤ s) → ltb s half ≡ ltb (s * 2 ^ place) half
 tiny_after half s place f =
     ⊎_elim
@@ -150,7 +150,7 @@ tiny_after half s place f =
     (λ (l : half ≤ s). le-ltb s half l ∙ sym (le-ltb (s * 2 ^ place) half (large_after half s place l)))
     (cases_lt s half)
 
--- whether the magnitude is tiny, by the digits that were kept, before rounding or after it
+-- whether the magnitude is tiny, before or after rounding, from the digits that were kept
 pub tiny_is : (format : Format) (m c amount parts s place : ℕ) (tiny : Bool) → 0 < parts
     → IsEnclosed format.precision (2 ^ (format.precision - 1)) m c amount parts
     → (place ≡ 0) ⊎ (2 ^ (format.precision - 1) ≤ s)

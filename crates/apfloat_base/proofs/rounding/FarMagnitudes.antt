@@ -1,4 +1,4 @@
--- Magnitudes so far from a format's range that only their side counts.
+-- Magnitudes so far out of a format's range that only the side they are on matters.
 use Rattle.std.proofs.Common.{◌≡◌, ℕ, ◌+◌, ◌-◌, ◌*◌, ◌^◌, ◌<◌, ◌≤◌, Bool, true, false, cond, ltb, eqb, sym, refl, ap, ◌∙◌, subst, inl, arith, zero, suc}
 use Rattle.std.proofs.Math.Nat.{mul-le-mul_right, mul-lt-mul_of_pos_right, pow-le-pow_right}
 use Rattle.std.proofs.lemmas.Nat.{pow-add, pow_pos}
@@ -21,7 +21,7 @@ pub record IsFarAbove (format : Format) (amount parts : ℕ) : Type 0 where
   pub some : 0 < parts
   pub from : 2 ^ (format.precision + format.span) * parts ≤ amount
 
--- below half a quantum, and not 0
+-- above 0 and below half a quantum
 pub record IsFarBelow (amount parts : ℕ) : Type 0 where
   pub some : 0 < amount
   pub to : 2 * amount < parts
@@ -70,7 +70,7 @@ status_past : (format : Format) (mode : Round) (negative : Bool) (amount parts p
     → delivered_status format mode negative amount parts p ≡ delivered_status format mode negative amount' parts' q
 status_past format mode negative amount parts p amount' parts' q a b = rw (a, b) refl
 
--- one answer for all of them
+-- all magnitudes far above have one result
 pub far_above : (format : Format) (mode : Round) (negative : Bool) (amount parts amount' parts' : ℕ) (value : Datum)
     (status : ℕ) → 0 < format.precision → IsFarAbove format amount parts → IsFarAbove format amount' parts'
     → IsDelivered format mode negative amount parts value status
@@ -88,7 +88,7 @@ far_above format mode negative amount parts amount' parts' v s h x y d =
 
 -- ---- below
 
--- below half a quantum the significand is 0
+-- below half a quantum, the significand is 0
 little_enclosed : (precision amount parts : ℕ) → 0 < precision → IsFarBelow amount parts
     → IsEnclosed precision (2 ^ (precision - 1)) 0 0 amount parts
 little_enclosed precision amount parts h x =
@@ -105,7 +105,7 @@ little_enclosed precision amount parts h x =
 pub little_pick : Round → Bool → ℕ
 little_pick mode negative = kept mode negative LessThanHalf 0 * 2 ^ 0
 
--- a magnitude below half a quantum picks 0 or one quantum, by its side alone
+-- for a magnitude below half a quantum, the mode and the sign alone decide the pick
 pub picks_little : (precision : ℕ) (mode : Round) (negative : Bool) (amount parts : ℕ) → 0 < precision
     → IsFarBelow amount parts → IsPick precision mode negative amount parts (little_pick mode negative)
 unfolding little_pick
@@ -115,7 +115,7 @@ picks_little precision mode negative amount parts h x =
     pick_is precision mode negative (2 ^ (precision - 1)) 0 0 amount parts LessThanHalf p
     (little_enclosed precision amount parts h x) (omega (arith, k), omega (arith, l))
 
--- which is no more than one quantum
+-- that pick is at most one quantum
 little_within : (mode : Round) (negative : Bool) → little_pick mode negative ≤ 1
 unfolding little_pick
 little_within mode negative =
@@ -141,7 +141,7 @@ before_little format amount parts x =
     let a : 1 * parts ≤ 2 ^ (format.precision - 1) * parts = mul-le-mul_right parts w in
     lt-ltb amount (smallest_normalized format * parts) (omega (arith, l, a))
 
--- all such magnitudes are tiny, or none is
+-- all such magnitudes are tiny, or none are
 tiny_little : (format : Format) (amount parts amount' parts' p : ℕ) → IsFarBelow amount parts
     → IsFarBelow amount' parts' → is_tiny format amount parts p ≡ is_tiny format amount' parts' p
 tiny_little format amount parts amount' parts' p x y =
@@ -159,7 +159,7 @@ status_little format mode negative amount parts amount' parts' p h x y =
     let t = tiny_little format amount parts amount' parts' p x y in
     rw (a, b, t) refl
 
--- one answer for all of them
+-- all magnitudes far below have one result
 pub far_below : (format : Format) (mode : Round) (negative : Bool) (amount parts amount' parts' : ℕ) (value : Datum)
     (status : ℕ) → 0 < format.precision → IsFarBelow amount parts → IsFarBelow amount' parts'
     → IsDelivered format mode negative amount parts value status

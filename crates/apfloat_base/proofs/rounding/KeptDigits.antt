@@ -1,4 +1,4 @@
--- The digits that are kept.
+-- The digits of a significand that are kept when it is cut or shifted.
 use Rattle.std.proofs.Common.{◌≡◌, ℕ, zero, suc, ◌+◌, ◌-◌, ◌*◌, ◌/◌, ◌%◌, ◌^◌, ◌<◌, ◌≤◌, ◌⊎◌, sym, refl, ap, ◌∙◌, subst, inl, inr, ⊎_elim, arith}
 use lib.Count.{count_leading_zeros}
 use Rattle.std.proofs.Math.Nat.{mul-le-mul_right, mul-lt-mul_of_pos_right, pow-le-pow_right, div-lt_iff_lt-mul, le-div_iff_mul-le, lt_of_mul-lt-mul_right, eq_of_mul-eq-mul_right, mod-eq_of_lt, mul-pos}
@@ -13,7 +13,7 @@ use Rattle.apfloat_base.proofs.rounding.Losses.{stands_from, stands_to}
 
 -- ---- the number of digits
 
--- a number is below the power of two of its count of digits
+-- a number is below the power of two of its number of digits
 pub digits_below : (n : ℕ) → n < 2 ^ 128 → n < 2 ^ (128 - count_leading_zeros 128 n)
 digits_below n h =
     let r = leading_length 128 n h in
@@ -35,7 +35,7 @@ digits_full n h p =
 
 -- ---- units
 
--- a common factor of amount and unit leaves what a significand stands for
+-- dividing amount and unit by a common factor does not change what a significand stands for
 pub stands_cancel : (s : ℕ) (loss : Loss) (amount unit w : ℕ) → 0 < w → StandsFor s loss (amount * w) (unit * w)
     → StandsFor s loss amount unit
 stands_cancel s ExactlyZero amount unit w p h = eq_of_mul-eq-mul_right w p amount (s * unit) (omega (arith, h))
@@ -48,7 +48,7 @@ stands_cancel s MoreThanHalf amount unit w p h =
     let a = h.0 in let b = h.1 in
     (lt_of_mul-lt-mul_right w (omega (arith, a)), lt_of_mul-lt-mul_right w (omega (arith, b)))
 
--- and so does one that both are multiplied by
+-- nor does multiplying both by a factor
 pub stands_times : (s : ℕ) (loss : Loss) (amount unit w : ℕ) → 0 < w → StandsFor s loss amount unit
     → StandsFor s loss (amount * w) (unit * w)
 stands_times s ExactlyZero amount unit w p h = let e : amount * w ≡ s * unit * w = ap (λ (x : ℕ). x * w) h in
@@ -64,7 +64,7 @@ stands_times s MoreThanHalf amount unit w p h =
     let b : amount * w < (s + 1) * unit * w = mul-lt-mul_of_pos_right h.1 p in
     (omega arith, omega arith)
 
--- a unit, k places up, is that of the place which is aimed at
+-- a unit moved up k places is that of the target place
 pub same_unit : (parts k up down place : ℕ) → k + up ≡ place + down
     → 2 ^ k * (parts * 2 ^ up) ≡ 2 ^ place * parts * 2 ^ down
 same_unit parts k up down place e =
@@ -75,14 +75,14 @@ same_unit parts k up down place e =
     let g : 2 ^ k * 2 ^ up * parts ≡ 2 ^ place * 2 ^ down * parts = ap (λ (x : ℕ). x * parts) f in
     omega arith
 
--- what is kept after a cut stands for the amount in quanta
+-- what a cut keeps stands for the amount in quanta
 pub kept_stands : (q : ℕ) (loss : Loss) (amount parts k up down place : ℕ) → k + up ≡ place + down
     → StandsFor q loss (amount * 2 ^ down) (2 ^ k * (parts * 2 ^ up)) → StandsFor q loss amount (2 ^ place * parts)
 kept_stands q loss amount parts k up down place e h =
     stands_cancel q loss amount (2 ^ place * parts) (2 ^ down) (pow_pos down)
     (subst (λ (x : ℕ). StandsFor q loss (amount * 2 ^ down) x) (same_unit parts k up down place e) h)
 
--- what is moved up, with nothing lost, stands for the amount in quanta
+-- a significand shifted up, with nothing lost, stands for the amount in quanta
 pub shifted_stands : (s : ℕ) (loss : Loss) (amount parts j up down place : ℕ) → loss ≡ ExactlyZero
     → place + down + j ≡ up → StandsFor s loss (amount * 2 ^ down) (parts * 2 ^ up)
     → StandsFor (s * 2 ^ j) loss amount (2 ^ place * parts)
@@ -98,9 +98,9 @@ shifted_stands s loss amount parts j up down place z e h =
     eq_of_mul-eq-mul_right (2 ^ down) (pow_pos down) amount (s * 2 ^ j * (2 ^ place * parts)) g in
     subst (λ (x : Loss). StandsFor (s * 2 ^ j) x amount (2 ^ place * parts)) (sym z) r
 
--- ---- what is kept has at most the format's digits, and all of them above the last place
+-- ---- what is kept fits the format, and has all its digits above the last place
 
--- with all digits past the precision cut off, a significand fits
+-- with all digits past the precision cut off, a significand fits the format
 pub fits_cut : (s digits k precision : ℕ) → s < 2 ^ digits → digits ≤ k + precision → s / 2 ^ k < 2 ^ precision
 fits_cut s digits k precision h l =
     let a : 2 ^ digits ≤ 2 ^ (precision + k) = pow-le-pow_right two_pos (omega arith) in
@@ -108,7 +108,7 @@ fits_cut s digits k precision h l =
     let d : s < 2 ^ precision * 2 ^ k = omega arith in
     (div-lt_iff_lt-mul (pow_pos k)).1 d
 
--- and with no more cut off, it has all its digits
+-- and if no more are cut off, it has all its digits
 pub full_cut : (s digits k precision : ℕ) → 0 < precision → (0 < digits → 2 ^ (digits - 1) ≤ s)
     → digits ≡ k + precision → 2 ^ (precision - 1) ≤ s / 2 ^ k
 full_cut s digits k precision p h e =
@@ -118,7 +118,7 @@ full_cut s digits k precision p h e =
     let b : 2 ^ (digits - 1) ≡ 2 ^ (precision - 1) * 2 ^ k = ap (λ (x : ℕ). 2 ^ x) w ∙ pow-add 2 (precision - 1) k in
     (le-div_iff_mul-le (pow_pos k)).1 (omega arith)
 
--- moved up to at most the precision, a significand fits
+-- shifted up to at most the precision, a significand fits the format
 pub fits_shifted : (s digits j precision : ℕ) → s < 2 ^ digits → digits + j ≤ precision → s * 2 ^ j < 2 ^ precision
 fits_shifted s digits j precision h l =
     let a : s * 2 ^ j < 2 ^ digits * 2 ^ j = mul-lt-mul_of_pos_right h (pow_pos j) in
@@ -126,7 +126,7 @@ fits_shifted s digits j precision h l =
     let d : 2 ^ (digits + j) ≤ 2 ^ precision = pow-le-pow_right two_pos l in
     omega arith
 
--- moved up to the precision, it has all its digits
+-- shifted up to the precision, it has all its digits
 pub full_shifted : (s digits j precision : ℕ) → 0 < digits → (0 < digits → 2 ^ (digits - 1) ≤ s)
     → digits + j ≡ precision → 2 ^ (precision - 1) ≤ s * 2 ^ j
 full_shifted s digits j precision p h e =
@@ -137,7 +137,7 @@ full_shifted s digits j precision p h e =
     ap (λ (x : ℕ). 2 ^ x) w in
     omega arith
 
--- by the place that a delivery aims at: what is cut fits
+-- cut at the target place, a significand fits the format
 pub cut_fits : (precision s q digits k place up down : ℕ) → s < 2 ^ digits → digits + up ≤ place + precision + down
     → k + up ≡ place + down → q ≡ s / 2 ^ k → q < 2 ^ precision
 cut_fits precision s q digits k place up down b c e w =
@@ -153,7 +153,7 @@ cut_full precision s q digits k place up down p f r e w =
     (λ z. inr (subst (λ (x : ℕ). 2 ^ (precision - 1) ≤ x) (sym w)
     (full_cut s digits k precision p f (omega (arith, z))))) r
 
--- what is moved up stays within the machine word
+-- a significand shifted up stays within the machine word
 pub shift_whole : (precision s digits j place up down : ℕ) → precision ≤ 125 → s < 2 ^ digits
     → digits + up ≤ place + precision + down → place + down + j ≡ up → s * 2 ^ j ≡ s * 2 ^ j % 2 ^ 128
 shift_whole precision s digits j place up down p b c e =
@@ -168,7 +168,7 @@ pub some_digits : (s digits : ℕ) → s < 2 ^ digits → (s ≡ 0 → ⊥) → 
 some_digits s zero h n = absurd (n (omega arith))
 some_digits s (suc d) h n = omega arith
 
--- likewise what is moved up fits
+-- shifted up to the target place, a significand fits the format
 pub shift_fits : (precision s digits j place up down : ℕ) → precision ≤ 125 → s < 2 ^ digits
     → digits + up ≤ place + precision + down → place + down + j ≡ up → s * 2 ^ j % 2 ^ 128 < 2 ^ precision
 shift_fits precision s digits j place up down p' b c e =
@@ -186,7 +186,7 @@ shift_full precision s digits j place up down p' b f n c r e =
     (λ y. inr (subst (λ (x : ℕ). 2 ^ (precision - 1) ≤ x) (shift_whole precision s digits j place up down p' b c e)
     (full_shifted s digits j precision (some_digits s digits b n) f (omega (arith, y))))) r
 
--- a significand that fits and stands for the amount, full or at the lowest place, encloses it
+-- a significand that fits and stands for the amount, normalized or at the lowest place, encloses it
 pub enclosed_from : (precision q c : ℕ) (loss : Loss) (amount parts : ℕ) → 0 < precision → 0 < parts
     → q < 2 ^ precision → (c ≡ 0) ⊎ (2 ^ (precision - 1) ≤ q) → StandsFor q loss amount (2 ^ c * parts)
     → IsEnclosed precision (2 ^ (precision - 1)) q c amount parts
@@ -212,7 +212,7 @@ cut_kept precision s q digits k place up down loss amount parts p u b f c r e w 
       g,
     )
 
--- the digits that were moved up enclose the magnitude
+-- the digits that were shifted up enclose the magnitude
 pub shift_kept : (precision s digits j place up down : ℕ) (loss : Loss) (amount parts : ℕ) → 0 < precision
     → precision ≤ 125 → 0 < parts → s < 2 ^ digits → (0 < digits → 2 ^ (digits - 1) ≤ s) → (s ≡ 0 → ⊥)
     → digits + up ≤ place + precision + down → (place ≡ 0) ⊎ (digits + up ≡ place + precision + down)
@@ -231,7 +231,7 @@ shift_kept precision s digits j place up down loss amount parts p p' u b f n c r
       g,
     )
 
--- a significand with all its digits has no room to move up
+-- a significand with all its digits has no room to shift up
 pub too_full : (s digits j precision : ℕ) → s < 2 ^ digits → 0 < j → digits + j ≤ precision
     → 2 ^ (precision - 1) ≤ s → ⊥
 too_full s digits j precision b p l h =
@@ -239,7 +239,7 @@ too_full s digits j precision b p l h =
     let k : 2 ^ digits ≤ 2 ^ (precision - 1) = pow-le-pow_right two_pos d in
     omega arith
 
--- a significand of 0 with nothing lost stays as it is
+-- a significand of 0 with nothing lost is unchanged
 pub zero_kept : (precision s up down : ℕ) (loss : Loss) (amount parts : ℕ) → 0 < precision → 0 < parts → s ≡ 0
     → loss ≡ ExactlyZero
     → StandsFor s loss (amount * 2 ^ down) (parts * 2 ^ up)
@@ -255,18 +255,18 @@ zero_kept precision s up down loss amount parts p u z e h =
     subst (λ (x : Loss). StandsFor 0 x amount (2 ^ 0 * parts)) (sym e) g in
     (enclosed_from precision 0 0 loss amount parts p u (pow_pos precision) (inl refl) g', g')
 
--- nothing was lost, where the two other cases are excluded
+-- nothing was lost if the two other cases are excluded
 nothing_lost : (loss : Loss) (P Q : Type 0) → (loss ≡ ExactlyZero) ⊎ (P ⊎ Q) → (P → ⊥) → (Q → ⊥)
     → loss ≡ ExactlyZero
 nothing_lost loss P Q h n m = ⊎_elim (λ z. z) (λ o. absurd (⊎_elim n m o)) h
 
--- nothing was lost, where the unit lies above the place that is kept
+-- nothing was lost if the unit is above the place that is kept
 pub exact_zero : (s precision : ℕ) (loss : Loss) (P : Type 0) → s ≡ 0
     → (loss ≡ ExactlyZero) ⊎ (P ⊎ (2 ^ (precision - 1) ≤ s)) → (P → ⊥) → loss ≡ ExactlyZero
 exact_zero s precision loss P z h n =
     let p = pow_pos (precision - 1) in nothing_lost loss P _ h n (λ l. omega (arith, l, p))
 
--- what is moved up has nothing lost below it: what has lost something is full already
+-- what is shifted up has lost nothing, since what has lost something already has all its digits
 pub exact_shift : (s digits j place up down precision : ℕ) (loss : Loss) (P : Type 0) → s < 2 ^ digits → 0 < j
     → digits + up ≤ place + precision + down → place + down + j ≡ up
     → (loss ≡ ExactlyZero) ⊎ (P ⊎ (2 ^ (precision - 1) ≤ s)) → (P → ⊥) → loss ≡ ExactlyZero
@@ -287,7 +287,7 @@ digits_le s digits precision h f =
     (λ (l : digits ≤ precision). l)
     (cases_lt precision digits)
 
--- a whole number moved up from its unit to a place is the same number of quanta
+-- a significand shifted up from its unit to a place is the same number of quanta
 pub same_quanta : (s j place up down whole : ℕ) → s * 2 ^ j ≡ whole → j + up ≡ place + down
     → whole * 2 ^ up ≡ s * 2 ^ place * 2 ^ down
 same_quanta s j place up down whole w e =

@@ -17,9 +17,9 @@ use Rattle.apfloat_base.proofs.general.Powers.{twice_half}
 use Rattle.apfloat_base.proofs.rounding.Picks.{pick_unique}
 use Rattle.apfloat_base.proofs.general.Choices.{cond_same, cond_grows, cond_within}
 
--- ---- one answer
+-- ---- one result
 
--- one rounding has one value and one status
+-- one rounding has at most one value and one status
 pub delivered_once : (format : Format) (mode : Round) (negative : Bool) (amount parts : ℕ) (value other : Datum)
     (status other_status : ℕ) → IsDelivered format mode negative amount parts value status
     → IsDelivered format mode negative amount parts other other_status
@@ -71,7 +71,7 @@ exact_status format mode negative g amount parts l e =
     let b : eqb (g * parts) amount ≡ true = eq-eqb (g * parts) amount (sym e) in
     rw (a, b) refl
 
--- a number of the format is delivered as it is, with no flag
+-- a number of the format is delivered unchanged, with no flag
 pub exact_delivered : (format : Format) (mode : Round) (negative : Bool) (g amount parts : ℕ) → 0 < parts
     → IsOnGrid format.precision g → g ≤ largest format → amount ≡ g * parts
     → IsDelivered format mode negative amount parts (signed_quanta format.nonfinite negative g) ok_bits
@@ -82,7 +82,6 @@ exact_delivered format mode negative g amount parts p o l e = record {
   status_is = exact_status format mode negative g amount parts l e;
 }
 
--- 0 is on the grid
 pub zero_on_grid : (precision : ℕ) → IsOnGrid precision 0
 zero_on_grid precision = record { significand = 0; place = 0; fits = pow_pos precision; is = refl }
 
@@ -94,7 +93,7 @@ zero_delivered format mode negative parts amount p e =
 
 -- ---- negation
 
--- on the other side of zero, the swapped mode takes the neighbour above where the mode does
+-- on the other side of zero, the swapped mode takes the neighbour above exactly if the mode does
 takes_swapped : (mode : Round) (negative : Bool) (x y : ℕ) (odd : Bool)
     → takes_above (swapped mode) (not negative) x y odd ≡ takes_above mode negative x y odd
 takes_swapped NearestTiesToEven negative x y odd = refl
@@ -105,7 +104,7 @@ takes_swapped TowardNegative false x y odd = refl
 takes_swapped TowardZero negative x y odd = refl
 takes_swapped NearestTiesToAway negative x y odd = refl
 
--- and leads out of the finite numbers where the mode does
+-- and leads out of the finite numbers exactly if the mode does
 leads_swapped : (mode : Round) (negative : Bool) → leads_out (swapped mode) (not negative) ≡ leads_out mode negative
 leads_swapped NearestTiesToEven negative = refl
 leads_swapped TowardPositive true = refl
@@ -126,9 +125,9 @@ pick_swapped precision mode negative amount parts p x = record {
   is = x.is ∙ ap (λ (b : Bool). cond b x.above x.below) (sym (takes_swapped mode negative _ _ _));
 }
 
--- ---- monotony
+-- ---- monotonicity
 
--- a mode that takes the neighbour above still takes it when the amount grows
+-- a mode that takes the neighbour above still does when the amount increases
 takes_more : (mode : Round) (negative : Bool) (x y v w : ℕ) (odd : Bool) → x ≤ v → w ≤ y
     → takes_above mode negative x y odd ≡ true → takes_above mode negative v w odd ≡ true
 takes_more NearestTiesToEven negative x y v w odd h l e = grind arith
@@ -137,7 +136,7 @@ takes_more TowardNegative negative x y v w odd h l e = e
 takes_more TowardZero negative x y v w odd h l e = e
 takes_more NearestTiesToAway negative x y v w odd h l e = grind arith
 
--- the neighbour below is not above the one above
+-- the neighbour below is not above the neighbour above
 pub below_le_above : (precision low high amount parts : ℕ) → 0 < parts → IsBelow precision low amount parts
     → IsAbove precision high amount parts → low ≤ high
 below_le_above precision low high amount parts h x y =
@@ -146,7 +145,7 @@ below_le_above precision low high amount parts h x y =
     let l : low * parts ≤ high * parts = omega arith in
     le_of_mul-le-mul_right l h
 
--- the pick lies between the neighbours
+-- the pick is between the neighbours
 pub pick_within : (precision : ℕ) (mode : Round) (negative : Bool) (amount parts p : ℕ) → 0 < parts
     → (pick : IsPick precision mode negative amount parts p) → (p ≤ pick.above) × (pick.below ≤ p)
 pick_within precision mode negative amount parts p h pick =
@@ -156,14 +155,14 @@ pick_within precision mode negative amount parts p h pick =
     let e : p ≡ pick_between mode negative pick.below pick.above amount parts = pick.is in
     (subst (λ (z : ℕ). z ≤ pick.above) (sym e) w.0, subst (λ (z : ℕ). pick.below ≤ z) (sym e) w.1)
 
--- the same two neighbours, and the magnitude grows
+-- between the same two neighbours, the pick does not decrease as the magnitude increases
 between_grows : (mode : Round) (negative : Bool) (low high a b parts : ℕ) → a ≤ b → low ≤ high
     → pick_between mode negative low high a parts ≤ pick_between mode negative low high b parts
 between_grows mode negative low high a b parts l h =
     cond_grows _ _ high low h (λ e. takes_more mode negative (a - low * parts) (high * parts - a) (b - low * parts)
     (high * parts - b) (eqb (low / (high - low) % 2) 1) (omega arith) (omega arith) e)
 
--- the pick grows with the amount, between the same two neighbours
+-- so for picks with the same two neighbours
 grown : (precision : ℕ) (mode : Round) (negative : Bool) (a b parts p q : ℕ) → 0 < parts → a ≤ b
     → (low_pick : IsPick precision mode negative a parts p) → (high_pick : IsPick precision mode negative b parts q)
     → low_pick.below ≡ high_pick.below → low_pick.above ≡ high_pick.above → p ≤ q
@@ -179,19 +178,19 @@ grown precision mode negative a b parts p q h l low_pick high_pick e d =
     subst (λ (z : ℕ). z ≤ q) (sym v)
     (subst (λ (z : ℕ). pick_between mode negative low_pick.below low_pick.above a parts ≤ z) (sym w) k)
 
--- the neighbour below grows with the amount
+-- the neighbour below does not decrease as the amount increases
 below_grows : (precision low high a b parts : ℕ) → a ≤ b → IsBelow precision low a parts
     → IsBelow precision high b parts → low ≤ high
 below_grows precision low high a b parts l x y = let k : low * parts ≤ a = x.not_above in
     y.greatest low x.on_grid (omega arith)
 
--- and so does the one above
+-- nor does the neighbour above
 above_grows : (precision low high a b parts : ℕ) → a ≤ b → IsAbove precision low a parts
     → IsAbove precision high b parts → low ≤ high
 above_grows precision low high a b parts l x y = let k : b ≤ high * parts = y.not_below in
     x.least high y.on_grid (omega arith)
 
--- no neighbour of the lesser lies below the greater's: they are the same
+-- a grid number below the neighbour above is not above the neighbour below
 same_below : (precision low high point a parts : ℕ) → point < high → IsBelow precision low a parts
     → IsAbove precision high a parts → IsOnGrid precision point → point ≤ low
 same_below precision low high point a parts h x y g =
@@ -199,14 +198,14 @@ same_below precision low high point a parts h x y g =
     (λ (q : a ≤ point * parts). let k : high ≤ point = y.least point g q in absurd (omega arith))
     (cases_lt (point * parts) a)
 
--- a grid number above the neighbour below is not below the one above
+-- a grid number above the neighbour below is not below the neighbour above
 same_above : (precision low high point b parts : ℕ) → low < point → IsBelow precision low b parts
     → IsAbove precision high b parts → IsOnGrid precision point → high ≤ point
 same_above precision low high point b parts h x y g =
     ⊎_elim (λ (q : point * parts < b). let k : point ≤ low = x.greatest point g (omega arith) in
     absurd (omega arith)) (λ (q : b ≤ point * parts). y.least point g q) (cases_lt (point * parts) b)
 
--- the pick does not fall as the magnitude grows
+-- the pick does not decrease as the magnitude increases
 pub pick_grows : (precision : ℕ) (mode : Round) (negative : Bool) (a b parts p q : ℕ) → 0 < parts → a ≤ b
     → IsPick precision mode negative a parts p → IsPick precision mode negative b parts q → p ≤ q
 pick_grows precision mode negative a b parts p q h l x y =
@@ -224,9 +223,9 @@ pick_grows precision mode negative a b parts p q h l x y =
     (λ (k : x.above ≤ y.below). let w₀ = w.0 in let v₁ = v.1 in omega (arith, w₀, v₁))
     (cases_lt y.below x.above)
 
--- ---- negation of what is delivered
+-- ---- negation of the delivered value
 
--- each of the following negates what is delivered: past the largest value, at 0, at other numbers
+-- the other sign negates the delivered value: past the largest value, at 0, at other numbers
 past_swapped : (kind : NonfiniteBehavior) (base : ℕ) (negative : Bool)
     → past_largest kind base (not negative) ≡ negated kind (past_largest kind base negative)
 past_swapped IEEE754 base negative = refl
@@ -243,7 +242,7 @@ nonzero_swapped : (kind : NonfiniteBehavior) (negative : Bool) (p : ℕ) → (p 
     → signed_quanta kind (not negative) p ≡ negated kind (signed_quanta kind negative p)
 nonzero_swapped kind negative p n = let e : eqb p 0 ≡ false = ne_eqb p 0 n in rw e (rw e refl)
 
--- and so at any number of quanta
+-- and so for any number of quanta
 signed_swapped : (kind : NonfiniteBehavior) (negative : Bool) (p : ℕ)
     → signed_quanta kind (not negative) p ≡ negated kind (signed_quanta kind negative p)
 signed_swapped kind negative p =
@@ -253,23 +252,23 @@ signed_swapped kind negative p =
     (λ (n : p ≡ 0 → ⊥). nonzero_swapped kind negative p n)
     (cases_eq p 0)
 
--- the negation of a number that is not 0 has the other sign, in each kind of format
+-- the negation of a nonzero number has the other sign, in each kind of format
 pub number_swapped : (kind : NonfiniteBehavior) (negative : Bool) (p : ℕ) → 0 < p
     → finite (not negative) p ≡ negated kind (finite negative p)
 number_swapped kind negative p h = let e : eqb p 0 ≡ false = ne_eqb p 0 (λ z. omega arith) in rw e refl
 
--- and for what is delivered of a pick, past the largest value or not
-value_at : (format : Format) (mode : Round) (negative : Bool) (p : ℕ) (past out : Bool) → 0 < largest format
+-- and for the value of any pick, past the largest value or not
+value_at : (format : Format) (negative : Bool) (p : ℕ) (past out : Bool) → 0 < largest format
     → cond past (cond out (past_largest format.nonfinite (nan_base format) (not negative))
     (finite (not negative) (largest format))) (signed_quanta format.nonfinite (not negative) p)
     ≡ negated format.nonfinite
     (cond past (cond out (past_largest format.nonfinite (nan_base format) negative) (finite negative (largest format)))
     (signed_quanta format.nonfinite negative p))
-value_at format mode negative p true true h = past_swapped format.nonfinite (nan_base format) negative
-value_at format mode negative p true false h = number_swapped format.nonfinite negative (largest format) h
-value_at format mode negative p false out h = signed_swapped format.nonfinite negative p
+value_at format negative p true true h = past_swapped format.nonfinite (nan_base format) negative
+value_at format negative p true false h = number_swapped format.nonfinite negative (largest format) h
+value_at format negative p false out h = signed_swapped format.nonfinite negative p
 
--- a negated magnitude, rounded in the swapped mode, has the negated answer and the same status
+-- the opposite number, rounded in the swapped mode, has the negated value and the same status
 pub delivered_swapped : (format : Format) (mode : Round) (negative : Bool) (amount parts : ℕ) (value : Datum)
     (status : ℕ) → 0 < largest format → IsDelivered format mode negative amount parts value status
     → IsDelivered format (swapped mode) (not negative) amount parts (negated format.nonfinite value) status
@@ -279,7 +278,7 @@ delivered_swapped format mode negative amount parts v s h x = record {
   value_is =
       let l = leads_swapped mode negative in
       ap (λ (y : Datum). negated format.nonfinite y) x.value_is
-      ∙ sym (value_at format mode negative x.pick (ltb (largest format) x.pick) (leads_out mode negative) h)
+      ∙ sym (value_at format negative x.pick (ltb (largest format) x.pick) (leads_out mode negative) h)
       ∙ ap (λ (b : Bool). cond (ltb (largest format) x.pick)
       (cond b (past_largest format.nonfinite (nan_base format) (not negative)) (finite (not negative) (largest format)))
       (signed_quanta format.nonfinite (not negative) x.pick)) (sym l);
@@ -290,7 +289,7 @@ delivered_swapped format mode negative amount parts v s h x = record {
       (cond (eqb (x.pick * parts) amount) 0 (cond (is_tiny format amount parts x.pick) 24 16))) (sym l);
 }
 
--- an answer for each magnitude
+-- each magnitude has a delivered value and status
 pub delivered_exists : (format : Format) (mode : Round) (negative : Bool) (amount parts : ℕ) → 0 < format.precision
     → 0 < parts → (value : Datum) × ((status : ℕ) × IsDelivered format mode negative amount parts value status)
 delivered_exists format mode negative amount parts p h =

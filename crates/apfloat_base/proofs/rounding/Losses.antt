@@ -1,4 +1,4 @@
--- What a loss says, and what is lost by a cut.
+-- What a loss states, and what a cut loses.
 use Rattle.std.proofs.Common.{◌≡◌, ℕ, ◌+◌, ◌-◌, ◌*◌, ◌/◌, ◌%◌, ◌^◌, ◌<◌, ◌≤◌, ◌⊎◌, sym, refl, ap, ◌∙◌, subst, inl, inr, ⊎_elim, arith}
 use Rattle.std.proofs.Math.Nat.{mul-le-mul_right, pow-le-pow_right, div-eq_of_lt, mod-eq_of_lt, div-add-mod'}
 use Rattle.std.proofs.lemmas.Nat.{pow_below}
@@ -14,7 +14,7 @@ stands_from s LessThanHalf amount unit h = let a = h.0 in omega (arith, a)
 stands_from s ExactlyHalf amount unit h = omega (arith, h)
 stands_from s MoreThanHalf amount unit h = let a = h.0 in omega (arith, a)
 
--- and is below what the next significand would stand for
+-- the amount is below what the next significand would stand for
 pub stands_to : (s : ℕ) (loss : Loss) (amount unit : ℕ) → 0 < unit → StandsFor s loss amount unit
     → amount < (s + 1) * unit
 stands_to s ExactlyZero amount unit u h = omega (arith, h)
@@ -22,7 +22,7 @@ stands_to s LessThanHalf amount unit u h = let a = h.1 in omega (arith, a)
 stands_to s ExactlyHalf amount unit u h = omega (arith, h)
 stands_to s MoreThanHalf amount unit u h = let a = h.1 in omega (arith, a)
 
--- where something was lost, it is above what the significand stands for
+-- if something was lost, the amount is above what the significand stands for
 pub stands_past : (s : ℕ) (loss : Loss) (amount unit : ℕ) → 0 < unit → (loss ≡ ExactlyZero → ⊥)
     → StandsFor s loss amount unit → s * unit < amount
 stands_past s ExactlyZero amount unit u n h = absurd (n refl)
@@ -30,7 +30,7 @@ stands_past s LessThanHalf amount unit u n h = h.0
 stands_past s ExactlyHalf amount unit u n h = omega (arith, h)
 stands_past s MoreThanHalf amount unit u n h = let a = h.0 in omega (arith, a)
 
--- a point below the significand, or at it where something was lost, is below the amount
+-- a point below the significand, or equal to it if something was lost, is below the amount
 stands_above : (point s : ℕ) (loss : Loss) (amount unit : ℕ) → 0 < unit
     → (point < s) ⊎ ((loss ≡ ExactlyZero → ⊥) × (point ≤ s)) → StandsFor s loss amount unit → point * unit < amount
 stands_above point s loss amount unit u (inl l) h =
@@ -52,7 +52,7 @@ stands_below point s loss amount unit u l h =
     let k : (s + 1) * unit ≤ point * unit = mul-le-mul_right unit l' in
     omega arith
 
--- a rest below half of what is cut off, with what was lost before, is less than half
+-- a rest below half, with what was lost before, is a loss of less than half
 pub cut_less : (q half rest : ℕ) (loss : Loss) (amount unit : ℕ) → 0 < unit → rest < half
     → (0 < rest) ⊎ (loss ≡ ExactlyZero → ⊥) → StandsFor (q * (2 * half) + rest) loss amount unit
     → StandsFor q LessThanHalf amount (2 * half * unit)
@@ -64,7 +64,7 @@ cut_less q half rest loss amount unit u l n h =
     stands_below (q * (2 * half) + half) _ loss amount unit u (omega arith) h in
     (omega arith, omega arith)
 
--- a rest above half of it, or of half and something lost before, is more than half
+-- a rest above half, or of half with something lost before, is a loss of more than half
 pub cut_more : (q half rest : ℕ) (loss : Loss) (amount unit : ℕ) → 0 < unit → rest < 2 * half
     → (half < rest) ⊎ ((loss ≡ ExactlyZero → ⊥) × (half ≤ rest))
     → StandsFor (q * (2 * half) + rest) loss amount unit → StandsFor q MoreThanHalf amount (2 * half * unit)
@@ -76,7 +76,7 @@ cut_more q half rest loss amount unit u l n h =
     stands_below (q * (2 * half) + 2 * half) _ loss amount unit u (omega arith) h in
     (omega arith, omega arith)
 
--- a cut by 2 ^ places, from what is said of the rest
+-- a cut of `places` digits, from what is stated of the rest
 pub cut_at : (s places half rest : ℕ) (loss answer : Loss) → 0 < places → half ≡ 2 ^ (places - 1)
     → rest ≡ s % 2 ^ places
     → ((q amount unit : ℕ) → 0 < unit → StandsFor (q * (2 * half) + rest) loss amount unit
@@ -102,7 +102,7 @@ cut_to_zero s places half loss answer p b hw f amount unit u h =
     subst (λ (x : ℕ). StandsFor x answer amount (2 ^ places * unit)) (div-eq_of_lt b)
     (cut_at s places half s loss answer p hw (sym (mod-eq_of_lt b)) f amount unit u h)
 
--- so does a cut of the whole length of 128 digits
+-- so does a cut of all 128 digits of the word
 pub cut_whole : (s places half : ℕ) (loss answer : Loss) → places ≡ 128 → s < 2 ^ 128 → half ≡ 2 ^ (places - 1)
     → ((q amount unit : ℕ) → 0 < unit → StandsFor (q * (2 * half) + s) loss amount unit
     → StandsFor q answer amount (2 * half * unit))
@@ -110,7 +110,7 @@ pub cut_whole : (s places half : ℕ) (loss answer : Loss) → places ≡ 128 �
 cut_whole s places half loss answer p b =
     cut_to_zero s places half loss answer (omega arith) (subst (λ (x : ℕ). s < 2 ^ x) (sym p) b)
 
--- and one of more than the whole length, which loses less than half
+-- and a cut of more than 128 digits, which loses less than half
 pub cut_all : (s places : ℕ) (loss : Loss) (amount unit : ℕ) → 128 < places → s < 2 ^ 128 → 0 < unit
     → (0 < s) ⊎ (loss ≡ ExactlyZero → ⊥) → StandsFor s loss amount unit
     → StandsFor 0 LessThanHalf amount (2 ^ places * unit)
@@ -123,7 +123,7 @@ cut_all s places loss amount unit l b u n h =
     cut_to_zero s places (2 ^ (places - 1)) loss LessThanHalf p (omega arith) refl
     (λ q a w v g. cut_less q (2 ^ (places - 1)) s loss a w v s' n g) amount unit u h
 
--- nothing is left of a machine word when more places are cut off than it has
+-- a machine word is 0 once more digits are cut off than it has
 pub zero_beyond : (s places : ℕ) → 128 < places → s < 2 ^ 128 → 0 ≡ s / 2 ^ places
 zero_beyond s places l b =
     let k : 2 ^ 128 < 2 ^ places = pow_below 128 places l in

@@ -8,7 +8,7 @@ use Rattle.apfloat_base.specs.rounding.Enclosure.{IsEnclosed}
 use Rattle.apfloat_base.proofs.general.Powers.{two_pos, below_power}
 use Rattle.apfloat_base.proofs.rounding.Neighbours.{below_is, above_is_same, above_is_next}
 
--- the closed form: the quotient by parts * 2 ^ c
+-- an amount is enclosed by its quotient by parts * 2 ^ c
 pub enclosed_by_quotient : (precision half c amount parts : ℕ) → 0 < parts → 2 ^ precision ≡ 2 * half
     → amount < 2 ^ precision * (parts * 2 ^ c) → (c ≡ 0) ⊎ (half * (parts * 2 ^ c) ≤ amount)
     → IsEnclosed precision half (amount / (parts * 2 ^ c)) c amount parts
@@ -28,7 +28,7 @@ enclosed_by_quotient precision half c amount parts p e h f =
 has_length : (n : ℕ) → (k : ℕ) × (n < 2 ^ k) × (2 ^ k ≤ 2 * n + 1)
 has_length n = let r = leading_length n n (below_power n) in (r.0, r.2, r.3)
 
--- with more digits than the precision, the kept ones are all there
+-- if the number has more digits than the precision, the kept significand has all its digits
 full_at : (precision half q k amount parts : ℕ) → 2 ^ precision ≡ 2 * half → precision < k → 2 ^ k ≤ 2 * q + 1
     → q * parts ≤ amount → half * (parts * 2 ^ (k - precision)) ≤ amount
 full_at precision half q k amount parts e z l low =
@@ -41,7 +41,7 @@ full_at precision half q k amount parts e z l low =
     let b : half * 2 ^ (k - precision) * parts ≤ q * parts = mul-le-mul_right parts a in
     omega arith
 
--- an amount with so many whole parts lies below the power past its kept digits
+-- an amount whose quotient has k digits is below the power of two past its kept digits
 bounded : (precision half q k amount parts : ℕ) → 0 < parts → 2 ^ precision ≡ 2 * half → q < 2 ^ k
     → 2 ^ k ≤ 2 * q + 1 → q * parts ≤ amount → amount < q * parts + parts
     → (amount < 2 ^ precision * (parts * 2 ^ (k - precision)))
@@ -58,7 +58,7 @@ bounded precision half q k amount parts p e h l low high =
           (λ (z : k ≤ precision). inl (omega arith)) (cases_lt precision k),
     )
 
--- each magnitude lies from a significand with its place up to the next one
+-- each magnitude is enclosed by a significand at some place
 pub enclosed_at : (precision half amount parts : ℕ) → 0 < parts → 2 ^ precision ≡ 2 * half
     → (c : ℕ) × IsEnclosed precision half (amount / (parts * 2 ^ c)) c amount parts
 enclosed_at precision half amount parts p e =

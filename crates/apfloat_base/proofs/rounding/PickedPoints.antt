@@ -1,4 +1,4 @@
--- The point that is picked, and whether it is past the largest value.
+-- The picked point, and whether it is past the largest value.
 use Rattle.std.proofs.Common.{◌≡◌, ℕ, ◌+◌, ◌-◌, ◌*◌, ◌%◌, ◌^◌, ◌<◌, ◌≤◌, ◌⊎◌, Bool, true, false, cond, ltb, eqb, sym, ap, ◌∙◌, subst, inl, inr, ⊎_elim, arith}
 use Rattle.std.proofs.Math.Nat.{pow-le-pow_right}
 use Rattle.std.proofs.lemmas.Nat.{pow_pos}
@@ -13,18 +13,18 @@ use Rattle.apfloat_base.proofs.rounding.Picks.{kept, pick_is}
 use Rattle.apfloat_base.proofs.general.Powers.{two_pos, twice_half}
 use Rattle.apfloat_base.proofs.general.Choices.{ltb_times}
 
--- one more than a significand of at most 125 digits fits into a word of 128
+-- a significand of at most 125 digits plus one fits a word of 128
 pub room : (n precision : ℕ) → precision ≤ 125 → n < 2 ^ precision → n + 1 < 2 ^ 128
 room n precision p h =
     let a : 2 ^ precision ≤ 2 ^ 125 = pow-le-pow_right two_pos p in
     omega arith
 
--- where the mode moves up, the next significand is kept
+-- if the mode moves up, the next significand is kept
 pub kept_moved : (mode : Round) (negative : Bool) (loss : Loss) (m : ℕ) (moved : Bool)
     → moved ≡ rounds_up mode negative loss (eqb (m % 2) 1) → moved ≡ true → m + 1 ≡ kept mode negative loss m
 kept_moved mode negative loss m moved e t = ap (λ (b : Bool). cond b (m + 1) m) (sym t ∙ e)
 
--- and else the significand itself
+-- otherwise the significand itself is kept
 pub kept_stayed : (mode : Round) (negative : Bool) (loss : Loss) (m : ℕ) (moved : Bool)
     → moved ≡ rounds_up mode negative loss (eqb (m % 2) 1) → moved ≡ false → m ≡ kept mode negative loss m
 kept_stayed mode negative loss m moved e t = ap (λ (b : Bool). cond b (m + 1) m) (sym t ∙ e)
@@ -37,7 +37,7 @@ pick_stays precision mode negative half m c amount parts loss s e p i h =
     subst (λ (x : ℕ). IsPick precision mode negative amount parts (x * 2 ^ c)) (sym e)
     (pick_is precision mode negative half m c amount parts loss p i h)
 
--- a significand that becomes a power of two is picked as half of it, one place up
+-- a significand that carries to the next power of two is picked as half of that, one place up
 pub pick_carries : (precision : ℕ) (mode : Round) (negative : Bool) (m c amount parts : ℕ) (loss : Loss)
     (s whole half : ℕ) → 0 < precision → s ≡ kept mode negative loss m → s ≡ whole → whole ≡ 2 ^ precision
     → half ≡ 2 ^ (precision - 1) → 0 < parts
@@ -68,7 +68,7 @@ past_above half s place greatest span g (inr f) l =
     let p : 0 < 2 ^ span = pow_pos span in
     omega arith
 
--- at another place, it is past the largest value if its place is past the last one
+-- at any other place, a point is past the largest value if its place is past the last one
 pub past_other : (precision s place greatest span : ℕ) → 0 < precision → s < 2 ^ precision
     → (place ≡ 0) ⊎ (2 ^ (precision - 1) ≤ s) → greatest < 2 ^ precision → 2 ^ (precision - 1) ≤ greatest
     → (place ≡ span → ⊥) → ltb span place ≡ ltb (greatest * 2 ^ span) (s * 2 ^ place)

@@ -1,4 +1,4 @@
--- Which neighbour is picked, by what is left of the magnitude.
+-- Which neighbour is picked, decided by the rest of the magnitude.
 use Rattle.std.proofs.Common.{◌≡◌, ℕ, ◌+◌, ◌-◌, ◌*◌, ◌/◌, ◌%◌, ◌^◌, ◌<◌, ◌≤◌, Bool, cond, eqb, sym, refl, ap, ◌∙◌, ⊎_elim, arith}
 use Rattle.apfloat_base.specs.declared.kinds.Round.{Round}
 use Rattle.apfloat_base.specs.declared.kinds.Round.TheVariants.{NearestTiesToEven, TowardPositive, TowardNegative, TowardZero, NearestTiesToAway}
@@ -13,7 +13,7 @@ use Rattle.std.proofs.Math.Nat.{mul-div_cancel, mul-pos, mul-lt-mul_of_pos_right
 use Rattle.std.proofs.lemmas.Bool.{cases_lt}
 use Rattle.std.proofs.lemmas.Nat.{pow_pos}
 
--- below the middle a mode takes the neighbour that it takes at 1 to 2
+-- below the middle, a mode decides as for distances 1 and 2
 pub takes_less : (mode : Round) (negative odd : Bool) (x y : ℕ) → x < y
     → takes_above mode negative x y odd ≡ takes_above mode negative 1 2 odd
 takes_less NearestTiesToEven negative odd x y h = grind arith
@@ -22,7 +22,7 @@ takes_less TowardNegative negative odd x y h = refl
 takes_less TowardZero negative odd x y h = refl
 takes_less NearestTiesToAway negative odd x y h = grind arith
 
--- in the middle, that of 1 to 1
+-- at the middle, it decides as for distances 1 and 1
 pub takes_half : (mode : Round) (negative odd : Bool) (x y : ℕ) → x ≡ y
     → takes_above mode negative x y odd ≡ takes_above mode negative 1 1 odd
 takes_half NearestTiesToEven negative odd x y h = grind arith
@@ -31,7 +31,7 @@ takes_half TowardNegative negative odd x y h = refl
 takes_half TowardZero negative odd x y h = refl
 takes_half NearestTiesToAway negative odd x y h = grind arith
 
--- above the middle, that of 2 to 1
+-- above the middle, it decides as for distances 2 and 1
 pub takes_more : (mode : Round) (negative odd : Bool) (x y : ℕ) → y < x
     → takes_above mode negative x y odd ≡ takes_above mode negative 2 1 odd
 takes_more NearestTiesToEven negative odd x y h = grind arith
@@ -88,7 +88,7 @@ inexact_pick precision mode negative half m c amount parts up i h e = record {
       cond_times up (m + 1) m (2 ^ c) ∙ ap (λ (b : Bool). cond b ((m + 1) * 2 ^ c) (m * 2 ^ c)) (sym e');
 }
 
--- the amount itself is picked
+-- a grid number is picked as itself
 exact_pick : (precision : ℕ) (mode : Round) (negative : Bool) (half m c amount parts : ℕ) → 0 < parts
     → IsEnclosed precision half m c amount parts → amount ≡ m * 2 ^ c * parts
     → IsPick precision mode negative amount parts (m * 2 ^ c)
@@ -100,7 +100,7 @@ exact_pick precision mode negative half m c amount parts p i e = record {
   is = cond_same _ (m * 2 ^ c);
 }
 
--- the pick depends on the significand, its place and its loss alone
+-- the significand, its place and its loss alone decide the pick
 pub pick_is : (precision : ℕ) (mode : Round) (negative : Bool) (half m c amount parts : ℕ) (loss : Loss) → 0 < parts
     → IsEnclosed precision half m c amount parts → StandsFor m loss amount (2 ^ c * parts)
     → IsPick precision mode negative amount parts (kept mode negative loss m * 2 ^ c)
@@ -119,7 +119,7 @@ pick_is precision mode negative half m c amount parts MoreThanHalf p i s =
     inexact_pick precision mode negative half m c amount parts (takes_above mode negative 2 1 (eqb (m % 2) 1)) i
     (omega (arith, a)) (takes_more mode negative (eqb (m % 2) 1) _ _ (omega (arith, a, b)))
 
--- one magnitude is picked
+-- at most one magnitude is picked
 pub pick_unique : (precision : ℕ) (mode : Round) (negative : Bool) (amount parts p q : ℕ)
     → IsPick precision mode negative amount parts p → IsPick precision mode negative amount parts q → p ≡ q
 pick_unique precision mode negative amount parts p q x y =

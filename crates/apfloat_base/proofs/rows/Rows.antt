@@ -1,5 +1,5 @@
--- Worked rows of what is rounded: known answers of the model. Operands and values are given by
--- their bits in small formats. That no other value and no other status is an answer, `Once` says.
+-- Worked rows of rounded results: known answers of the model. Operands and values are given by
+-- their bits in small formats. `Once` proves that no other value and no other status is a result.
 use Rattle.std.proofs.Common.{◌≡◌, ℕ, ◌+◌, true, false, refl, neg_ℤ, pos}
 use Rattle.apfloat_base.specs.declared.kinds.Round.{Round}
 use Rattle.apfloat_base.specs.declared.kinds.Round.TheVariants.{NearestTiesToEven, TowardPositive, TowardNegative, TowardZero, NearestTiesToAway}
@@ -21,17 +21,17 @@ use Rattle.apfloat_base.proofs.rows.RowsIn.{half, single, e5m2, e4m3fn, e4m3fnuz
 half_of_464 : (mode : Round) → IsFromUnsigned half mode 464 (in_half 0x5f40) ok_bits
 half_of_464 mode = rounded 1856 22 refl refl refl
 
--- no other value and no other status: this follows for each row below in the same way
+-- no other value and no other status; for each row below, this follows in the same way
 only_half_of_464 : (mode : Round) (value : Datum) (status : ℕ) → IsFromUnsigned half mode 464 value status
     → (value ≡ in_half 0x5f40) × (status ≡ ok_bits)
 only_half_of_464 mode value status is =
     from_unsigned_once half mode 464 value (in_half 0x5f40) status ok_bits is (half_of_464 mode)
 
--- 2049 lies half way between 2048 and 2050
+-- 2049 is halfway between 2048 and 2050
 tie_to_even_of_2049 : IsFromUnsigned half NearestTiesToEven 2049 (in_half 0x6800) inexact_bit
 tie_to_even_of_2049 = rounded 1024 25 refl refl refl
 
--- 2051 lies half way between 2050 and 2052
+-- 2051 is halfway between 2050 and 2052
 tie_to_even_of_2051 : IsFromUnsigned half NearestTiesToEven 2051 (in_half 0x6802) inexact_bit
 tie_to_even_of_2051 = rounded 1025 25 refl refl refl
 
@@ -39,7 +39,7 @@ tie_to_even_of_2051 = rounded 1025 25 refl refl refl
 tie_to_away_of_2049 : IsFromUnsigned half NearestTiesToAway 2049 (in_half 0x6801) inexact_bit
 tie_to_away_of_2049 = rounded 1024 25 refl refl refl
 
--- a directed mode looks at the sign
+-- a directed mode depends on the sign
 upward_of_minus_2049 : IsFromSigned half TowardPositive (neg_ℤ (pos 2049)) (in_half 0xe800) inexact_bit
 upward_of_minus_2049 = rounded 1024 25 refl refl refl
 
@@ -48,7 +48,7 @@ downward_of_minus_2049 = rounded 1024 25 refl refl refl
 
 -- ---- past the largest value, in each of the three kinds of formats
 
--- an infinity: 65520 lies half way from 65504, the largest value, to 65536
+-- an infinity: 65520 is halfway between 65504, the largest value, and 65536
 overflow_of_half : IsFromUnsigned half NearestTiesToEven 65520 (in_half 0x7c00) (overflow_bit + inexact_bit)
 overflow_of_half = rounded 2047 29 refl refl refl
 
@@ -56,7 +56,7 @@ overflow_of_half = rounded 2047 29 refl refl refl
 kept_at_the_largest_of_half : IsFromUnsigned half TowardNegative 65520 (in_half 0x7bff) inexact_bit
 kept_at_the_largest_of_half = rounded 2047 29 refl refl refl
 
--- without infinities, the NaN of the sign: 464 lies half way from 448, the largest value, to 480
+-- without infinities, the NaN of the sign: 464 is halfway between 448, the largest value, and 480
 tie_at_the_largest_of_e4m3fn : IsFromUnsigned e4m3fn NearestTiesToEven 464 (in_e4m3fn 0x7e) inexact_bit
 tie_at_the_largest_of_e4m3fn = rounded 14 14 refl refl refl
 
@@ -64,11 +64,11 @@ tie_at_the_largest_of_e4m3fn = rounded 14 14 refl refl refl
 overflow_of_e4m3fn : IsFromUnsigned e4m3fn NearestTiesToEven 465 (in_e4m3fn 0x7f) (overflow_bit + inexact_bit)
 overflow_of_e4m3fn = rounded 14 14 refl refl refl
 
--- with one NaN alone, that NaN: 248 lies half way from 240, the largest value, to 256
+-- with a single NaN, that NaN: 248 is halfway between 240, the largest value, and 256
 largest_of_e4m3fnuz : IsFromUnsigned e4m3fnuz NearestTiesToEven 240 (in_e4m3fnuz 0x7f) ok_bits
 largest_of_e4m3fnuz = rounded 15 14 refl refl refl
 
--- the even one of them is 256
+-- of these two, 256 is even
 overflow_of_e4m3fnuz : IsFromUnsigned e4m3fnuz NearestTiesToEven 248 (in_e4m3fnuz 0x80) (overflow_bit + inexact_bit)
 overflow_of_e4m3fnuz = rounded 15 14 refl refl refl
 
@@ -83,7 +83,7 @@ sum_past_the_largest = rounded 2047 29 refl refl refl
 sum_kept_at_the_largest : IsSum half TowardZero (in_half 0x7bff) (in_half 0x4c00) (in_half 0x7bff) inexact_bit
 sum_kept_at_the_largest = rounded 2047 29 refl refl refl
 
--- 1 less the least positive value
+-- 1 minus the least positive value
 just_below_one : IsDifference half NearestTiesToEven (in_half 0x3c00) (in_half 0x0001) (in_half 0x3c00) inexact_bit
 just_below_one = rounded 2047 13 refl refl refl
 
@@ -91,7 +91,7 @@ just_below_one = rounded 2047 13 refl refl refl
 just_below_one_cut : IsDifference half TowardZero (in_half 0x3c00) (in_half 0x0001) (in_half 0x3bff) inexact_bit
 just_below_one_cut = rounded 2047 13 refl refl refl
 
--- 1 - 1: the mode tells the sign of an exact zero
+-- 1 - 1: the mode decides the sign of an exact zero
 zero_difference : IsDifference half NearestTiesToEven (in_half 0x3c00) (in_half 0x3c00) (in_half 0x0000) ok_bits
 zero_difference = rounded 0 0 refl refl refl
 
@@ -99,7 +99,7 @@ zero_difference = rounded 0 0 refl refl refl
 zero_difference_downward : IsDifference half TowardNegative (in_half 0x3c00) (in_half 0x3c00) (in_half 0x8000) ok_bits
 zero_difference_downward = rounded 0 0 refl refl refl
 
--- but +0 where the format has no -0
+-- but +0 if the format has no -0
 zero_difference_without_minus : IsDifference e4m3fnuz TowardNegative (in_e4m3fnuz 0x40) (in_e4m3fnuz 0x40)
     (in_e4m3fnuz 0x00) ok_bits
 zero_difference_without_minus = rounded 0 0 refl refl refl
@@ -129,7 +129,7 @@ tiny_before_rounding : IsProduct half_tiny_before NearestTiesToEven (in_half 0x0
     (in_half 0x0400) (underflow_bit + inexact_bit)
 tiny_before_rounding = rounded 1023 0 refl refl refl
 
--- ---- quotients: 1 by 3
+-- ---- quotients: 1 divided by 3
 
 -- rounded to 11, to 3, and to 4 digits
 third_in_half : IsQuotient half NearestTiesToEven (in_half 0x3c00) (in_half 0x4200) (in_half 0x3555) inexact_bit
@@ -158,7 +158,7 @@ fused_exactly : (mode : Round)
     → IsFusedSum half mode (in_half 0x3c01) (in_half 0x3c01) (in_half 0xbc02) (in_half 0x0010) ok_bits
 fused_exactly mode = rounded 16 0 refl refl refl
 
--- ---- conversions: whether something was lost is told
+-- ---- conversions, which also return whether something was lost
 
 -- -480, past the greatest magnitude, 448
 conversion_kept_at_the_largest : IsConversion single e4m3fn TowardPositive (in_single 0xc3f00000) (in_e4m3fn 0xfe)
@@ -177,7 +177,7 @@ conversion_of_the_least mode = record { is_delivered = rounded 0x800000 102 refl
 
 -- ---- scaling: 3 quanta by half
 
--- 1.5 quanta: the even 2 is taken
+-- 1.5 quanta is a tie, and 2 is even
 scaled_tie_to_even : IsScaling half NearestTiesToEven (in_half 0x0003) (neg_ℤ (pos 1)) (in_half 0x0002)
 scaled_tie_to_even = (_, rounded 1 0 refl refl refl)
 

@@ -22,15 +22,15 @@ use Rattle.apfloat_base.proofs.rows.RowsIn.{half, single, e4m3fn, e4m3fnuz, in_h
 
 -- ---- NaNs
 
--- a signaling operand: it is made quiet, and the operation is invalid
+-- a signaling operand is made quiet, and the operation is invalid
 signaling_made_quiet : (mode : Round) → IsSum half mode (in_half 0x7d00) (in_half 0x3c00) (in_half 0x7f00) invalid_bit
 signaling_made_quiet mode = answer
 
--- the left NaN is the answer, but either one can signal
+-- the left NaN is the result, but either operand can signal
 left_of_two_nans : (mode : Round) → IsSum half mode (in_half 0x7e01) (in_half 0x7d00) (in_half 0x7e01) invalid_bit
 left_of_two_nans mode = answer
 
--- an infinity less itself is invalid, and so is an infinity times zero
+-- an infinity minus itself is invalid, and so is an infinity times zero
 infinities_of_one_sign : IsDifference half NearestTiesToEven (in_half 0x7c00) (in_half 0x7c00) (in_half 0x7e00)
     invalid_bit
 infinities_of_one_sign = answer
@@ -38,7 +38,7 @@ infinities_of_one_sign = answer
 infinity_times_zero : IsProduct half NearestTiesToEven (in_half 0x7c00) (in_half 0x0000) (in_half 0x7e00) invalid_bit
 infinity_times_zero = answer
 
--- in a fused sum too, whose addend is a NaN
+-- also in a fused sum whose addend is a NaN
 invalid_product : IsFusedSum half NearestTiesToEven (in_half 0x7c00) (in_half 0x0000) (in_half 0x7e01)
     (in_half 0x7e00) invalid_bit
 invalid_product = record { product = in_half 0x7e00; flags = invalid_bit; is_product = answer; is = answer }
@@ -68,7 +68,7 @@ zero_sign_lost = converted
 
 -- ---- division by zero, in each of the three kinds of formats
 
--- 1 by -0 is the negative infinity
+-- 1 divided by -0 is the negative infinity
 one_by_minus_zero : IsQuotient half NearestTiesToEven (in_half 0x3c00) (in_half 0x8000) (in_half 0xfc00)
     div_by_zero_bit
 one_by_minus_zero = answer
@@ -82,25 +82,25 @@ minus_one_by_zero_in_e4m3fnuz : IsQuotient e4m3fnuz NearestTiesToEven (in_e4m3fn
     (in_e4m3fnuz 0x80) div_by_zero_bit
 minus_one_by_zero_in_e4m3fnuz = answer
 
--- an infinity by zero is exact
+-- an infinity divided by zero is exact
 infinity_by_zero : IsQuotient half NearestTiesToEven (in_half 0xfc00) (in_half 0x0000) (in_half 0xfc00) ok_bits
 infinity_by_zero = answer
 
 -- ---- remainders
 
--- -4 by 2: a zero keeps the sign
+-- -4 divided by 2: a zero keeps the sign
 truncated_remainder_of_zero : IsTruncatedRemainder half (in_half 0xc400) (in_half 0x4000) (in_half 0x8000) ok_bits
 truncated_remainder_of_zero = answer
 
--- 5 by 2 is 2.5: the even 2 is taken, and 1 is left
+-- 5 / 2 is 2.5: the even quotient is 2, which leaves 1
 nearest_remainder_of_tie : IsNearestRemainder half (in_half 0x4500) (in_half 0x4000) (in_half 0x3c00) ok_bits
 nearest_remainder_of_tie = answer
 
--- 7 by 2 is 3.5: the even 4 is taken, and -1 is left
+-- 7 / 2 is 3.5: the even quotient is 4, which leaves -1
 nearest_remainder_of_next_tie : IsNearestRemainder half (in_half 0x4700) (in_half 0x4000) (in_half 0xbc00) ok_bits
 nearest_remainder_of_next_tie = answer
 
--- 448 by 1.875 is 238.9: 238 or 239
+-- 448 / 1.875 is 238.9: the quotient is 238 cut toward zero, 239 to nearest
 truncated_remainder : IsTruncatedRemainder e4m3fn (in_e4m3fn 0x7e) (in_e4m3fn 0x3f) (in_e4m3fn 0x3e) ok_bits
 truncated_remainder = answer
 
@@ -126,14 +126,14 @@ integral_of_minus_one_half = answer
 out_of_range : IsToUnsigned single NearestTiesToEven 8 (in_single 0x437f8000) 255 invalid_bit false
 out_of_range = whole
 
--- -0.5 is cut to 0, but -1 is out of range
+-- -0.5 is truncated to 0, but -1 is out of range
 minus_one_half_out : IsToUnsigned single TowardZero 8 (in_single 0xbf000000) 0 inexact_bit false
 minus_one_half_out = whole
 
 minus_one_out : IsToUnsigned single TowardZero 8 (in_single 0xbf800000) 0 invalid_bit false
 minus_one_out = whole
 
--- -2, -2.5 and -3 in two bits with a sign
+-- -2, -2.5 and -3 in two signed bits
 minus_two_out : IsToSigned half NearestTiesToEven 2 (in_half 0xc000) (neg_ℤ (pos 2)) ok_bits true
 minus_two_out = whole
 
@@ -149,18 +149,18 @@ minus_zero_out = whole
 
 -- ---- the next value up
 
--- above the largest value stands the infinity, or the NaN in a format without infinities
+-- above the largest value is the infinity, or the NaN in a format without infinities
 next_of_largest : IsNextUp half (in_half 0x7bff) (in_half 0x7c00) ok_bits
 next_of_largest = answer
 
 next_of_largest_in_e4m3fnuz : IsNextUp e4m3fnuz (in_e4m3fnuz 0x7f) (in_e4m3fnuz 0x80) ok_bits
 next_of_largest_in_e4m3fnuz = answer
 
--- above -0 stands the least positive value
+-- above -0 is the least positive value
 next_of_minus_zero : IsNextUp half (in_half 0x8000) (in_half 0x0001) ok_bits
 next_of_minus_zero = answer
 
--- above the negative infinity stands the least finite value
+-- above the negative infinity is the least finite value
 next_of_minus_infinity : IsNextUp half (in_half 0xfc00) (in_half 0xfbff) ok_bits
 next_of_minus_infinity = answer
 
@@ -174,7 +174,7 @@ next_of_signaling = answer
 logarithm_of_the_least : IsIlogb half (in_half 0x0001) (neg_ℤ (pos 24))
 logarithm_of_the_least = record { place = 0; low = lit≤ tt; high = lit< tt; is = refl }
 
--- the greatest denormal is a little below 2 ^ -14
+-- the greatest denormal is just below 2 ^ -14
 logarithm_of_the_greatest_denormal : IsIlogb half (in_half 0x03ff) (neg_ℤ (pos 15))
 logarithm_of_the_greatest_denormal = record { place = 9; low = lit≤ tt; high = lit< tt; is = refl }
 
@@ -187,22 +187,22 @@ inverse_of_a_power : IsExactInverse half (in_half 0x7400) (Some (in_half 0x0400)
 inverse_of_a_power =
     (1024, record { normal = lit≤ tt; inverse_normal = lit≤ tt; within = lit≤ tt; product = refl }, refl)
 
--- that of 2 ^ 15 would be denormal
+-- the inverse of 2 ^ 15 would be denormal
 no_inverse_of_a_power : IsExactInverse half (in_half 0x7800) None
 no_inverse_of_a_power inverse is = let same = is.product in let normal = is.inverse_normal in omega arith
 
 -- ---- minima and maxima
 
--- +0 and -0 are equal, and the first of them is the answer; `minimum` puts -0 below +0
+-- +0 and -0 are equal, and the first operand is returned; `minimum` puts -0 below +0
 least_of_zeros : min_num (in_half 0x0000) (in_half 0x8000) ≡ in_half 0x0000
 least_of_zeros = refl
 
 minimum_of_zeros : minimum (in_half 0x0000) (in_half 0x8000) ≡ in_half 0x8000
 minimum_of_zeros = refl
 
--- a NaN gives way, but stays in `maximum`
-greatest_beside_nan : max_num (in_half 0x7d00) (in_half 0x3c00) ≡ in_half 0x3c00
-greatest_beside_nan = refl
+-- the operand that is not a NaN is returned, but `maximum` returns the NaN
+greatest_with_nan : max_num (in_half 0x7d00) (in_half 0x3c00) ≡ in_half 0x3c00
+greatest_with_nan = refl
 
 maximum_beside_nan : maximum (in_half 0x7d00) (in_half 0x3c00) ≡ in_half 0x7d00
 maximum_beside_nan = refl

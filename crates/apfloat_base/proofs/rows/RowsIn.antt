@@ -1,4 +1,4 @@
--- What the worked rows share: formats by name, values by their bits, and how a rounding is proved.
+-- What the worked rows share: named formats, values given by their bits, and how a rounding is proved.
 use Rattle.std.proofs.Common.{◌≡◌, ℕ, ◌+◌, ◌-◌, ◌*◌, ◌^◌, ◌<◌, Bool, true, false, ltb, leb, eqb, ◌&&◌, ◌||◌, if◌then◌else◌, refl, sym, ⊎_elim, inl, inr}
 use Rattle.std.proofs.Math.Arith.{lt_of_le-ne}
 use Rattle.std.proofs.lemmas.Bool.{and_parts, or_cases, leb-true, ltb-true, eqb-true, eqb-false}
@@ -16,7 +16,7 @@ use Rattle.apfloat_base.specs.formats.Formats.{half_constants, single_constants,
 use Rattle.apfloat_base.proofs.rounding.Neighbours.{below_is, above_is_same, above_is_next}
 use Rattle.apfloat_base.proofs.general.Choices.{cond_same}
 
--- ---- formats, and the values that bits stand for in them
+-- ---- formats, and the values that bits encode in them
 
 abbrev pub half : Format
 half = format_with half_constants
@@ -33,7 +33,7 @@ e4m3fn = format_with e4m3fn_constants
 abbrev pub e4m3fnuz : Format
 e4m3fnuz = format_with e4m3fnuz_constants
 
--- half precision, but tininess is told before rounding
+-- half precision, with tininess decided before rounding
 abbrev pub half_tiny_before : Format
 half_tiny_before = format_with (record half_constants { tiny_before_rounding = true })
 
@@ -55,9 +55,9 @@ in_e4m3fn bits = value_in e4m3fn_constants bits
 abbrev pub in_e4m3fnuz : ℕ → Datum
 in_e4m3fnuz bits = value_in e4m3fnuz_constants bits
 
--- ---- answers that need no rounding
+-- ---- results that need no rounding
 
--- an answer given outright: a datum, a whole number, or a conversion
+-- a result given outright: a datum, a whole number, or a conversion
 pub answer : {value : Datum} {status : ℕ} → IsAnswer value status value status
 answer = record { value_is = refl; status_is = refl }
 
@@ -69,7 +69,7 @@ converted = record { value_is = refl; status_is = refl; loses_is = refl }
 
 -- ---- a rounding: the neighbours of the magnitude are m * 2 ^ c and (m + 1) * 2 ^ c
 
--- whether they are its neighbours
+-- whether the two are neighbours of the magnitude
 abbrev pub encloses : ℕ → ℕ → ℕ → ℕ → ℕ → Bool
 encloses precision m c amount parts =
     eqb (2 ^ precision) (2 * 2 ^ (precision - 1))
@@ -79,7 +79,7 @@ encloses precision m c amount parts =
     && (ltb amount ((m + 1) * 2 ^ c * parts)
     && ltb 0 parts))))
 
--- the magnitude itself, or the neighbour that the mode picks
+-- the magnitude itself if it is the lower neighbour, otherwise the neighbour that the mode picks
 abbrev pub picked : Round → Bool → ℕ → ℕ → ℕ → ℕ → ℕ
 picked mode negative m c amount parts =
     if eqb amount (m * 2 ^ c * parts) then m * 2 ^ c
@@ -87,7 +87,7 @@ picked mode negative m c amount parts =
 
 module _ (precision : ℕ) (mode : Round) (negative : Bool) (m c amount parts : ℕ)
     (i : IsEnclosed precision (2 ^ (precision - 1)) m c amount parts) (p : 0 < parts) where
-  -- it is the pick, where `same` tells whether the magnitude is the lower neighbour
+  -- that is the pick; `same` is whether the magnitude is the lower neighbour
   is_picked : (same : Bool) → eqb amount (m * 2 ^ c * parts) ≡ same
       → IsPick precision mode negative amount parts
       (if same then m * 2 ^ c else pick_between mode negative (m * 2 ^ c) ((m + 1) * 2 ^ c) amount parts)

@@ -15,7 +15,7 @@ use Rattle.apfloat_base.specs.texts.Texts.{marked, IsHexadecimal}
 use Rattle.apfloat_base.specs.texts.Readings.{IsReading, IsRefusal}
 use Rattle.apfloat_base.proofs.rows.RowsIn.{half, single, e4m3fnuz, in_half, in_single, in_e4m3fnuz, answer, rounded}
 
--- ---- encodings: the values are so many quanta, in half precision of 2 ^ -24
+-- ---- encodings: values are counted in quanta, of 2 ^ -24 in half precision
 
 abbrev Encodes : Constants → ℕ → Datum → Type 0
 Encodes constants bits value = IsEncodedBy (format_with constants) (layout_with constants) bits value
@@ -36,7 +36,7 @@ bits_of_infinity = record { below = lit< tt; canonical = refl; is = refl }
 bits_of_a_nan : Encodes half_constants 0x7e01 (nan false 0x201)
 bits_of_a_nan = record { below = lit< tt; canonical = refl; is = refl }
 
--- a quantum of 2 ^ -9, and all ones is the NaN
+-- here the quantum is 2 ^ -9, and all ones are the NaN
 largest_of_e4m3fn : Encodes e4m3fn_constants 0x7e (finite false (448 * 2 ^ 9))
 largest_of_e4m3fn = record { below = lit< tt; canonical = refl; is = refl }
 
@@ -48,9 +48,9 @@ nan_of_e4m3fn = record { below = lit< tt; canonical = refl; is = refl }
 nan_of_e4m3fnuz : Encodes e4m3fnuz_constants 0x80 (nan false 0)
 nan_of_e4m3fnuz = record { below = lit< tt; canonical = refl; is = refl }
 
--- ---- hexadecimal texts, by their parts: digits, digits behind a dot, the exponent behind the p
+-- ---- hexadecimal texts, in parts: digits, digits after the dot, and the exponent after the p
 
--- a body of these parts is that of a hexadecimal number, with a dot
+-- a body with these parts and a dot is that of a hexadecimal number
 with_dot : {body : List ℕ} (whole fraction exponent : List ℕ)
     → body ≡ codes "0x" ++ (whole ++ (codes "." ++ (fraction ++ (codes "p" ++ exponent))))
     → IsTrue (every is_hexadecimal (whole ++ fraction)) → 1 ≤ length (whole ++ fraction)
@@ -77,7 +77,7 @@ with_dot whole fraction exponent spelled digits some exponent_digits some_expone
   e_is = refl;
 }
 
--- and without one
+-- and so is a body with these parts and no dot
 without_dot : {body : List ℕ} (whole exponent : List ℕ) → body ≡ codes "0x" ++ (whole ++ (codes "p" ++ exponent))
     → IsTrue (every is_hexadecimal (whole ++ [])) → 1 ≤ length (whole ++ [])
     → IsTrue (every is_decimal (behind_mark exponent)) → 1 ≤ length (behind_mark exponent)
@@ -110,7 +110,7 @@ read_three_quarters mode = record {
   is_meant = rounded 1536 13 refl refl refl;
 }
 
--- 65520, half way from the largest value
+-- 65520, halfway between the largest value and 65536
 read_past_the_largest : IsReading half NearestTiesToEven (codes "0x1.ffep+15") (in_half 0x7c00)
     (overflow_bit + inexact_bit)
 read_past_the_largest = record {
@@ -149,7 +149,7 @@ read_zero_without_minus = record {
 read_payload : IsReading single NearestTiesToEven (codes "nan(0x2a)") (in_single 0x7fc0002a) ok_bits
 read_payload = record { meaning = not_a_number false false 42; means = refl; is_meant = answer }
 
--- a 0 in front makes a payload octal
+-- a leading 0 makes a payload octal
 read_octal_payload : IsReading single NearestTiesToEven (codes "nan010") (in_single 0x7fc00008) ok_bits
 read_octal_payload = record { meaning = not_a_number false false 8; means = refl; is_meant = answer }
 

@@ -1,4 +1,4 @@
--- A text without a fault means something.
+-- A text without a fault has a meaning.
 use Rattle.apfloat_base.specs.declared.parse_error.Fault.TheVariants.{EmptyText, LoneMark, NoLiteral, LonePrefix, SecondDot, WrongInSignificand, NoDigits, WrongInExponent, NoExponentDigits}
 use Rattle.apfloat_base.specs.declared.marks.Mark.{Mark}
 use Rattle.apfloat_base.specs.declared.marks.Mark.TheVariants.{Unmarked, Plus, Minus}
@@ -24,7 +24,7 @@ NotHexadecimal (Some (infinity b)) = ⊤
 NotHexadecimal (Some (not_a_number b s p)) = ⊤
 NotHexadecimal (Some (hexadecimal b h f e)) = ⊥
 
--- each of the following: what a special text means is no hexadecimal number
+-- each of the following: the meaning of a special text is not a hexadecimal number
 payload_not : (negative signaling : Bool) (payload : Option ℕ)
     → NotHexadecimal (with_payload negative signaling payload)
 payload_not negative signaling None = tt
@@ -49,7 +49,7 @@ special_not mark body =
     cond_both (is_infinity mark body) (Some (infinity (is_minus mark))) (nan_meaning mark body) NotHexadecimal
     (λ e. tt) (λ e. nan_not mark body)
 
--- an infinity or a NaN is meant
+-- a special text has the meaning of an infinity or a NaN
 means_special : (text : List ℕ) (special : Option Meaning) → NotHexadecimal special → special_of text ≡ special
     → is_some special ≡ true → (meaning : Meaning) × Means text meaning
 means_special text None n e s = absurd (false≢true s)
@@ -59,7 +59,7 @@ means_special text (Some (hexadecimal b h f x)) n e s = absurd n
 
 -- ---- the significand
 
--- digits and dots without a dot are digits
+-- digits and dots that have no dot are digits
 digits_without_dots : (xs : List ℕ) → every is_digit_or_dot xs ≡ true → filter is_dot xs ≡ []
     → every is_hexadecimal xs ≡ true
 digits_without_dots [] h n = refl
@@ -85,7 +85,7 @@ record IsPointed (significand : List ℕ) : Type 0 where
   whole_digits : every is_hexadecimal whole ≡ true
   fraction_digits : every is_hexadecimal fraction ≡ true
 
--- behind the one dot stands no other
+-- after the only dot there is no other
 short_tail : (c : ℕ) (xs : List ℕ) → is_dot c ≡ true → ltb 1 (length (filter is_dot (c ∷ xs))) ≡ false
     → filter is_dot xs ≡ []
 short_tail c xs d h = go (filter is_dot xs) (rw d at h)
@@ -175,14 +175,14 @@ pub record IsAnyHexadecimal (body : List ℕ) : Type 0 where
   pub e : ℤ
   pub is : IsHexadecimal body h f e
 
--- the parts are spelled in this order
+-- the parts, joined in this order, are the text
 rejoined : (rest significand tail whole point fraction letter exponent : List ℕ) → rest ≡ significand ++ tail
     → significand ≡ whole ++ (point ++ fraction) → tail ≡ letter ++ exponent
     → rest ≡ whole ++ (point ++ (fraction ++ (letter ++ exponent)))
 rejoined rest significand tail whole point fraction letter exponent a b c =
     rw (a, b, c) (sym (regroup whole point fraction (letter ++ exponent)))
 
--- what stands behind the prefix and has no fault is a hexadecimal number
+-- what follows the prefix and has no fault is a hexadecimal number
 pub literal_from : (body prefix rest : List ℕ) → body ≡ prefix ++ rest
     → (prefix ≡ codes "0x") ⊎ (prefix ≡ codes "0X") → behind_prefix_fault rest ≡ None → IsAnyHexadecimal body
 literal_from body prefix rest begun is_prefix h =
@@ -229,7 +229,7 @@ literal_from body prefix rest begun is_prefix h =
 
 -- ---- the text
 
--- a text that begins as a literal does begins with one of the two prefixes
+-- a text that begins like a literal begins with one of the two prefixes
 pub begun_of : (body : List ℕ) → begins_literal body ≡ true
     → (body ≡ codes "0x" ++ drop 2 body) ⊎ (body ≡ codes "0X" ++ drop 2 body)
 begun_of [] h = absurd (false≢true h)
@@ -250,11 +250,11 @@ begun_of (c ∷ d ∷ rest) h =
     inr (rw (eqb-true c 48 q.0, eqb-true d 88 r.0) refl))
     (or_cases (eqb c 48 && (eqb d 120 && true)) (eqb c 48 && (eqb d 88 && true)) h)
 
--- a text whose body is a hexadecimal number means it
+-- a text whose body is a hexadecimal number has a meaning
 means_hexadecimal : (text : List ℕ) → IsAnyHexadecimal (behind_mark text) → (meaning : Meaning) × Means text meaning
 means_hexadecimal text x = (hexadecimal (is_minus (mark_of text)) x.h x.f x.e, (refl, x.is))
 
--- a text that begins as a literal does and has no fault is a hexadecimal number
+-- a text that begins like a literal and has no fault has a meaning
 body_means : (text body : List ℕ) → behind_mark text ≡ body → begins_literal body ≡ true
     → behind_prefix_fault (drop 2 body) ≡ None → (meaning : Meaning) × Means text meaning
 body_means text body p b h =
@@ -265,7 +265,7 @@ body_means text body p b h =
     means_hexadecimal text (literal_from (behind_mark text) (codes "0X") (drop 2 body) (p ∙ q) (inr refl) h))
     (begun_of body b)
 
--- a text without a fault is a special or a hexadecimal number
+-- a nonempty text without a fault has a meaning
 text_means : (text : List ℕ) → is_empty text ≡ false → fault_of text ≡ None → (meaning : Meaning) × Means text meaning
 text_means text n h =
     let body = behind_mark text in
@@ -282,7 +282,7 @@ text_means text n h =
     body_means text body refl (not-false (begins_literal body) d.0) d.1)
     (cases_Bool (is_some special))
 
--- each text without a fault means something
+-- each text without a fault has a meaning
 pub no_fault_meaning : (text : List ℕ) → fault_of text ≡ None → (meaning : Meaning) × Means text meaning
 no_fault_meaning [] h = absurd (none-some _ (sym h))
 no_fault_meaning (c ∷ text) h = text_means (c ∷ text) refl h

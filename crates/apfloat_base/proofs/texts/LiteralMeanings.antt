@@ -1,4 +1,4 @@
--- What a hexadecimal text without a fault means, by its parts.
+-- What a hexadecimal text without a fault means, from its parts.
 use Rattle.std.proofs.Common.{◌≡◌, ℕ, true, refl, inl, inr, ⊎_elim, List, ◌++◌, drop, codes, None}
 use Rattle.apfloat_base.specs.texts.Specials.{hexadecimal, mark_of, behind_mark, is_minus}
 use Rattle.apfloat_base.specs.texts.Texts.{IsHexadecimal, Means}
@@ -7,7 +7,7 @@ use Rattle.apfloat_base.specs.texts.Literals.{digits_number, places_behind_dot, 
 use Rattle.apfloat_base.proofs.texts.OneMeaning.{literal_of_hexadecimal, IsLiteral}
 use Rattle.apfloat_base.proofs.texts.EachText.{literal_from, begun_of, IsAnyHexadecimal}
 
--- the parts of a hexadecimal number are those that are read behind its prefix
+-- the parts of a hexadecimal number are those read after its prefix
 by_parts : (body rest : List ℕ) → drop 2 body ≡ rest → IsAnyHexadecimal body
     → IsHexadecimal body (digits_number rest) (places_behind_dot rest) (exponent_number (exponent_text rest))
 by_parts body rest e x =
@@ -16,7 +16,7 @@ by_parts body rest e x =
     let i : IsHexadecimal body x.h x.f x.e = x.is in
     rw (← m.h_is, ← m.f_is, ← m.e_is) i
 
--- it means the number of its digits, the places behind its dot, and its exponent
+-- its meaning has the number of its digits, the places after its dot, and its exponent
 pub literal_meaning : (text : List ℕ) → begins_literal (behind_mark text) ≡ true
     → behind_prefix_fault (drop 2 (behind_mark text)) ≡ None
     → Means text (hexadecimal (is_minus (mark_of text)) (digits_number (drop 2 (behind_mark text)))

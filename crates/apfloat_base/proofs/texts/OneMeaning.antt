@@ -1,4 +1,4 @@
--- A text has one meaning at most, and then no fault.
+-- A text has at most one meaning, and no fault if it has one.
 use Rattle.apfloat_base.specs.declared.parse_error.Fault.{Fault}
 use Rattle.apfloat_base.specs.declared.parse_error.Fault.TheVariants.{EmptyText, LoneMark, NoLiteral}
 use Rattle.apfloat_base.specs.declared.marks.Mark.{Mark}
@@ -21,13 +21,13 @@ use Rattle.apfloat_base.proofs.general.ListLaws.{every-append, append-every, eve
 pub digit_is_no_dot : (c : ℕ) → is_hexadecimal c ≡ true → is_dot c ≡ false
 digit_is_no_dot c h = ne_eqb c 46 (λ e. false≢true (rw e at h))
 
--- a hexadecimal digit may stand in a significand
+-- a hexadecimal digit may occur in a significand
 digit_is_digit_or_dot : (c : ℕ) → is_hexadecimal c ≡ true → is_digit_or_dot c ≡ true
 digit_is_digit_or_dot c h = or_left (is_hexadecimal c) (is_dot c) h
 
 -- ---- the parts of a literal
 
--- what the parts say of the significand
+-- what the parts state about the significand
 pub record IsSignificand (whole point fraction : List ℕ) : Type 0 where
   pub passes : every is_digit_or_dot (whole ++ (point ++ fraction)) ≡ true
   pub digits : filter is_hexadecimal (whole ++ (point ++ fraction)) ≡ whole ++ fraction
@@ -65,7 +65,7 @@ point_short : (point fraction : List ℕ) → (point ≡ codes ".") ⊎ ((point 
 point_short point fraction (inl e) = rw e refl
 point_short point fraction (inr e) = rw e.0 refl
 
--- what is behind the prefix has one significand, and one exponent
+-- what follows the prefix has no fault, and these digits, places and exponent
 pub record IsLiteral (rest : List ℕ) (h f : ℕ) (e : ℤ) : Type 0 where
   pub h_is : h ≡ digits_number rest
   pub f_is : f ≡ places_behind_dot rest
@@ -81,7 +81,7 @@ record IsExponent (exponent : List ℕ) : Type 0 where
 no_exponent_fault : (exponent : List ℕ) → IsExponent exponent → exponent_fault (behind_mark exponent) ≡ None
 no_exponent_fault exponent x = rw (x.digits, not_empty (behind_mark exponent) x.some_digit) refl
 
--- the parts of a literal are found again, with the exponent behind a p
+-- reading a literal gives its parts back, with the exponent after a p
 literal_parts : (whole point fraction exponent : List ℕ) (c : ℕ) → is_p c ≡ true → is_digit_or_dot c ≡ false
     → (point ≡ codes ".") ⊎ ((point ≡ []) × (fraction ≡ [])) → every is_hexadecimal (whole ++ fraction) ≡ true
     → 1 ≤ length (whole ++ fraction)
@@ -110,7 +110,7 @@ literal_parts whole point fraction exponent c letter stops is_point digits some 
           (no_exponent_fault exponent x);
     })
 
--- likewise with either letter
+-- the same with either letter
 literal_with : (whole point fraction letter exponent : List ℕ) → (letter ≡ codes "p") ⊎ (letter ≡ codes "P")
     → (point ≡ codes ".") ⊎ ((point ≡ []) × (fraction ≡ [])) → every is_hexadecimal (whole ++ fraction) ≡ true
     → 1 ≤ length (whole ++ fraction)
@@ -127,13 +127,13 @@ same_literal : (rest : List ℕ) (h f h2 f2 : ℕ) (e e2 : ℤ) → h2 ≡ h →
     → IsLiteral rest h2 f2 e2
 same_literal rest h f h2 f2 e e2 p q r l = rw (p, q, r) l
 
--- a body that begins as a literal
+-- a body that begins with a prefix, with its characters spelled out
 begun_with : (body prefix rest : List ℕ) → (prefix ≡ codes "0x") ⊎ (prefix ≡ codes "0X") → body ≡ prefix ++ rest
     → (body ≡ 48 ∷ 120 ∷ rest) ⊎ (body ≡ 48 ∷ 88 ∷ rest)
 begun_with body prefix rest (inl p) e = inl (rw p at e)
 begun_with body prefix rest (inr p) e = inr (rw p at e)
 
--- a body made of a prefix and a literal with these numbers
+-- a body of a prefix and a literal with these numbers
 record IsBody (body : List ℕ) (h f : ℕ) (e : ℤ) : Type 0 where
   rest : List ℕ
   begun : (body ≡ 48 ∷ 120 ∷ rest) ⊎ (body ≡ 48 ∷ 88 ∷ rest)
@@ -154,7 +154,7 @@ body_of body h f e x =
           (record { digits = x.are_exponent_digits; some_digit = x.has_exponent_digits }));
     }
 
--- ---- the fault of a text by its mark and body
+-- ---- the fault of a text, from its mark and body
 
 abbrev pub fault_by : Bool → Mark → List ℕ → Option Fault
 fault_by empty mark body =
@@ -164,7 +164,7 @@ fault_by empty mark body =
     (cond (not (begins_literal body)) (Some NoLiteral)
     (behind_prefix_fault (drop 2 body)))))
 
--- the fault of a text, by its mark and what stands behind it
+-- the fault of a text, from its mark and what follows it
 fault_at : (text body : List ℕ) → behind_mark text ≡ body → is_empty body ≡ false
     → fault_of text ≡ fault_by false (mark_of text) body
 fault_at [] body p h = absurd (false≢true (sym (rw (← p) at h)))
@@ -176,13 +176,13 @@ no_special Unmarked d rest = refl
 no_special Plus d rest = refl
 no_special Minus d rest = refl
 
--- behind the prefix `0x` the fault is that of the literal
+-- after the prefix `0x`, the fault is that of the literal
 fault_small : (mark : Mark) (rest : List ℕ) → fault_by false mark (48 ∷ 120 ∷ rest) ≡ behind_prefix_fault rest
 fault_small Unmarked rest = refl
 fault_small Plus rest = refl
 fault_small Minus rest = refl
 
--- and so it is behind `0X`
+-- and after `0X` too
 fault_capital : (mark : Mark) (rest : List ℕ) → fault_by false mark (48 ∷ 88 ∷ rest) ≡ behind_prefix_fault rest
 fault_capital Unmarked rest = refl
 fault_capital Plus rest = refl
@@ -214,12 +214,12 @@ special_by : (mark : Mark) (body : List ℕ) (meaning : Meaning) → special_mea
 special_by mark [] meaning h = absurd (none-some _ (sym (no_special_alone mark) ∙ h))
 special_by mark (c ∷ body) meaning h = rw h refl
 
--- nor has a special text
+-- nor does a special text
 special_no_fault : (text : List ℕ) (meaning : Meaning) → special_of text ≡ Some meaning → fault_of text ≡ None
 special_no_fault [] meaning h = absurd (none-some _ h)
 special_no_fault (c ∷ text) meaning h = special_by (mark_of (c ∷ text)) (behind_mark (c ∷ text)) meaning h
 
--- a text that means something has no fault
+-- a text that has a meaning has no fault
 pub meaning_no_fault : (text : List ℕ) (meaning : Meaning) → Means text meaning → fault_of text ≡ None
 meaning_no_fault text (infinity negative) h = special_no_fault text (infinity negative) h
 meaning_no_fault text (not_a_number negative signaling payload) h =
@@ -228,27 +228,27 @@ meaning_no_fault text (hexadecimal negative h f e) m =
     let b = body_of (behind_mark text) h f e m.1 in
     begun_fault text b.rest b.begun ∙ b.literal.no_fault
 
--- ---- a text has one meaning at most
+-- ---- a text has at most one meaning
 
--- the literal stands behind two characters
+-- the literal follows two characters
 begun_rest : (body rest : List ℕ) → (body ≡ 48 ∷ 120 ∷ rest) ⊎ (body ≡ 48 ∷ 88 ∷ rest) → rest ≡ drop 2 body
 begun_rest body rest (inl p) = rw p refl
 begun_rest body rest (inr p) = rw p refl
 
--- so what stands there is the literal
+-- so what follows the two characters is the literal
 literal_of_body : (body : List ℕ) (h f : ℕ) (e : ℤ) → IsBody body h f e → IsLiteral (drop 2 body) h f e
 literal_of_body body h f e b = rw (begun_rest body b.rest b.begun) at b.literal
 
--- a hexadecimal number is a literal without a fault behind its prefix
+-- a hexadecimal number is a literal without a fault after its prefix
 pub literal_of_hexadecimal : (body : List ℕ) (h f : ℕ) (e : ℤ) → IsHexadecimal body h f e
     → IsLiteral (drop 2 body) h f e
 literal_of_hexadecimal body h f e x = literal_of_body body h f e (body_of body h f e x)
 
 -- two readings of one literal are one meaning
-same_hexadecimal : (text : List ℕ) (negative negative2 : Bool) (h f h2 f2 : ℕ) (e e2 : ℤ) → negative ≡ negative2
+same_hexadecimal : (negative negative2 : Bool) (h f h2 f2 : ℕ) (e e2 : ℤ) → negative ≡ negative2
     → (rest : List ℕ)
     → IsLiteral rest h f e → IsLiteral rest h2 f2 e2 → hexadecimal negative h f e ≡ hexadecimal negative2 h2 f2 e2
-same_hexadecimal text negative negative2 h f h2 f2 e e2 n rest l m =
+same_hexadecimal negative negative2 h f h2 f2 e e2 n rest l m =
     rw (n, l.h_is, l.f_is, l.e_is, m.h_is, m.f_is, m.e_is) refl
 
 -- a hexadecimal number is not special
@@ -260,7 +260,7 @@ hexadecimal_no_special text h f e x =
 -- no text has two meanings
 pub one_meaning : (text : List ℕ) (first second : Meaning) → Means text first → Means text second → first ≡ second
 one_meaning text (hexadecimal b h f e) (hexadecimal b2 h2 f2 e2) x y =
-    same_hexadecimal text b b2 h f h2 f2 e e2 (x.0 ∙ sym y.0) (drop 2 (behind_mark text))
+    same_hexadecimal b b2 h f h2 f2 e e2 (x.0 ∙ sym y.0) (drop 2 (behind_mark text))
     (literal_of_hexadecimal (behind_mark text) h f e x.1)
     (literal_of_hexadecimal (behind_mark text) h2 f2 e2 y.1)
 one_meaning text (hexadecimal b h f e) (infinity c) x y =

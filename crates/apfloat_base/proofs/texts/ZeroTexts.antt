@@ -1,4 +1,4 @@
--- A hexadecimal text of 0 is read as the zero of its sign, whatever its exponent is.
+-- A hexadecimal text of 0 is read as the zero of its sign, whatever its exponent.
 use mathlib.Core.Bool.{Bool}
 use Rattle.std.proofs.Common.{◌*◌, ◌^◌, arith, pow_pos, ℤ}
 use Rattle.apfloat_base.specs.declared.kinds.Round.{Round}

@@ -1,8 +1,8 @@
--- What a comparison of signed numbers finds.
+-- What the comparison of signed numbers returns.
 use Rattle.std.proofs.Common.{◌≡◌, Bool, true, false, refl, arith, ℤ, ◌≤ℤ◌, ◌<ℤ◌, int_lt}
 use Rattle.std.proofs.lemmas.Int.{ints}
 
--- a number that is less is found to be less
+-- the comparison holds if the first number is less
 pub less_so : (a b : ℤ) → a <ℤ b → int_lt a b ≡ true
 less_so a b h = by (int_lt a b) refl
   where
@@ -10,7 +10,7 @@ less_so a b h = by (int_lt a b) refl
     by true e = refl
     by false e = absurd (omega (arith, ints))
 
--- a number that is not less is found not to be less
+-- it does not hold if the first number is not less
 pub less_not : (a b : ℤ) → b ≤ℤ a → int_lt a b ≡ false
 less_not a b h = by (int_lt a b) refl
   where

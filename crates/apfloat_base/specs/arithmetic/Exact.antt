@@ -4,7 +4,6 @@ use Rattle.apfloat_base.specs.declared.kinds.Round.{Round}
 use Rattle.apfloat_base.specs.formats.Format.{Format}
 use Rattle.apfloat_base.specs.formats.Datum.{Datum}
 use Rattle.apfloat_base.specs.rounding.Rounding.{IsDelivered}
--- 2 to the power of an integer j is 2 ^ up j / 2 ^ down j
 pub use borrow.Author.Differences.{up, down}
 
 abbrev pub same_sign : Bool → Bool → Bool

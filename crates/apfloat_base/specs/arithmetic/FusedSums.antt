@@ -10,7 +10,7 @@ use Rattle.apfloat_base.specs.arithmetic.Exact.{product_sign, signed, IsRounded}
 use Rattle.apfloat_base.specs.arithmetic.Sums.{zero_sum_sign, IsSum}
 use Rattle.apfloat_base.specs.arithmetic.Products.{IsProduct}
 
--- A factor is an infinity or a NaN. If the product has a flag it is the result, else the addend is added to it.
+-- If a factor is an infinity or a NaN: a product that raises a flag is the result, any other is added to the addend.
 pub record IsSumWithProduct (f : Format) (mode : Round) (x y z value : Datum) (status : ℕ) : Type 0 where
   pub product : Datum
   pub flags : ℕ

@@ -10,13 +10,13 @@ use Rattle.apfloat_base.specs.formats.Constants.{smallest_datum, infinity_datum}
 use Rattle.apfloat_base.specs.rounding.Answer.{IsAnswer}
 use Rattle.apfloat_base.specs.formats.Nan.{invalid_bit, is_signaling, quiet_significand}
 
--- for a positive number below the largest: the least one that is greater
+-- for a positive number below the largest: the least greater number
 pub record IsNextGreater (f : Format) (quanta : ℕ) (value : Datum) (status : ℕ) : Type 0 where
   pub next : ℕ
   pub is_above : IsAbove f.precision next (quanta + 1) 1
   pub is : IsAnswer (finite false next) ok_bits value status
 
--- for a negative number: the greatest magnitude that is less
+-- for a negative number: the greatest lesser magnitude
 pub record IsNextLess (f : Format) (quanta : ℕ) (value : Datum) (status : ℕ) : Type 0 where
   pub next : ℕ
   pub is_below : IsBelow f.precision next (quanta - 1) 1

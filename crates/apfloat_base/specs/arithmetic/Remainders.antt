@@ -1,4 +1,4 @@
--- Remainders (IEEE 754-2008 5.3.1 for the one by the nearest quotient); both are exact.
+-- Remainders, by the quotient cut toward zero and by the nearest one (IEEE 754-2008 5.3.1); both are exact.
 use Rattle.std.specs.Prelude.{ℕ, ◌-◌, ◌*◌, ◌/◌, Bool, false, not, ltb, eqb, count_ones, if◌then◌else◌}
 use Rattle.std.specs.Bool.{MatchBool}
 use Rattle.apfloat_base.specs.declared.kinds.NonfiniteBehavior.{NonfiniteBehavior}
@@ -17,7 +17,7 @@ truncated_quotient m n = m / n
 abbrev pub nearest_quotient : ℕ → ℕ → ℕ
 nearest_quotient m n = whole_pick NearestTiesToEven false m n
 
--- m minus `taken`, where m has that sign; a zero keeps the sign
+-- m minus `taken`, with the sign of m; a zero keeps it too
 abbrev pub rest_of : NonfiniteBehavior → Bool → ℕ → ℕ → Datum
 rest_of kind negative m taken =
     if ltb m taken then signed_quanta kind (not negative) (taken - m) else signed_quanta kind negative (m - taken)

@@ -91,7 +91,7 @@ is_canonical_written f layout x =
 abbrev pub is_canonical : Format → Layout → Fields → Bool
 is_canonical f layout x = if f.explicit_integer_bit then is_canonical_written f layout x else true
 
--- the bits are the one canonical encoding of the datum
+-- the bits are the canonical encoding of the datum
 pub record IsEncodedBy (f : Format) (layout : Layout) (bits : ℕ) (datum : Datum) : Type 0 where
   pub below : bits < 2 ^ layout.bits
   pub canonical : IsTrue (is_canonical f layout (fields_of f layout bits))

@@ -16,7 +16,7 @@ smallest_normalized_datum f = finite false (smallest_normalized f)
 abbrev pub largest_datum : Format → Datum
 largest_datum f = finite false (largest f)
 
--- a format without infinities has its NaN in their place
+-- in a format without infinities, the NaN takes their place
 abbrev pub infinity_of : Format → Bool → Datum
 infinity_of f negative = past_largest f.nonfinite (nan_base f) negative
 

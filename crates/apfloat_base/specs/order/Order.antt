@@ -48,7 +48,7 @@ pub record AreFiniteNonZero (x y : Datum) : Type 0 where
 abbrev pub compared_magnitudes : Datum → Datum → Ordering
 compared_magnitudes x y = nat_cmp (quanta_of x) (quanta_of y)
 
--- if one operand is a NaN, the other is taken
+-- if one operand is a NaN, the other is returned
 abbrev pub min_num : Datum → Datum → Datum
 min_num x y = if is_nan x then y else (if is_nan y then x else (if is_below y x then y else x))
 

@@ -1,6 +1,6 @@
 -- The predicates of a floating-point type, from the category and the sign of its values (IEEE 754-2008 5.7.2), and its
 -- minima and maxima, from its order (5.3.1; 754-2019 9.6). On data they agree with the model:
--- `proofs/PredicatesAgree.antt`.
+-- `proofs/order/PredicatesAgree.antt`.
 use Rattle.std.specs.Prelude.{Bool, true, false, not, ◌&&◌, Option, if◌then◌else◌}
 use Rattle.std.specs.declared.cmp.Ordering.{Ordering}
 use Rattle.std.specs.Ordering.{partial_lt}
@@ -27,7 +27,7 @@ is_finite_category NaN = false
 is_finite_category Normal = true
 is_finite_category Zero = true
 
--- if one operand is a NaN, the other is taken
+-- `min_num` and `max_num` of the model
 abbrev pub min_by : {X : Type 0} → (X → Category) → (X → X → Option Ordering) → X → X → X
 min_by category_of partial_cmp x y =
     if is_nan_category (category_of x) then y
@@ -43,7 +43,7 @@ abbrev pub are_opposite_zeros : {X : Type 0} → (X → Category) → (X → Boo
 are_opposite_zeros category_of sign_of x y =
     is_zero_category (category_of x) && (is_zero_category (category_of y) && not (same_sign (sign_of x) (sign_of y)))
 
--- a NaN is unchanged, and -0 is below +0
+-- `minimum` and `maximum` of the model
 abbrev pub minimum_by : {X : Type 0} → (X → Category) → (X → Bool) → (X → X → Option Ordering) → X → X → X
 minimum_by category_of sign_of partial_cmp x y =
     if is_nan_category (category_of x) then x
@@ -58,6 +58,6 @@ maximum_by category_of sign_of partial_cmp x y =
     else (if are_opposite_zeros category_of sign_of x y then (if sign_of x then y else x)
     else max_by category_of partial_cmp x y))
 
--- x with the sign of y
+-- `copy_sign` of the model
 abbrev pub signed_like : {X : Type 0} → (X → Bool) → (X → X) → X → X → X
 signed_like sign_of negated x y = if not (same_sign (sign_of x) (sign_of y)) then negated x else x

@@ -8,12 +8,20 @@ use Rattle.apfloat_base.specs.formats.Format.{Format, smallest_normalized, large
 use Rattle.apfloat_base.specs.formats.Datum.{Datum, finite, infinite, nan}
 use Rattle.apfloat_base.specs.rounding.Grid.{IsBelow, IsAbove}
 
+-- whether a directed mode rounds magnitudes of that sign up, away from zero; false for the modes to nearest
+abbrev pub points_away : Round → Bool → Bool
+points_away TowardZero negative = false
+points_away TowardPositive negative = not negative
+points_away TowardNegative negative = negative
+points_away NearestTiesToEven negative = false
+points_away NearestTiesToAway negative = false
+
 -- Whether the mode takes the neighbour above. `below_by` is how far the lower neighbour is below the magnitude,
 -- `above_by` how far the upper one is above it; `odd` says that the lower one is an odd multiple of their distance.
 abbrev pub takes_above : Round → Bool → ℕ → ℕ → Bool → Bool
-takes_above TowardZero negative below_by above_by odd = false
-takes_above TowardPositive negative below_by above_by odd = not negative
-takes_above TowardNegative negative below_by above_by odd = negative
+takes_above TowardZero negative below_by above_by odd = points_away TowardZero negative
+takes_above TowardPositive negative below_by above_by odd = points_away TowardPositive negative
+takes_above TowardNegative negative below_by above_by odd = points_away TowardNegative negative
 takes_above NearestTiesToEven negative below_by above_by odd = ltb above_by below_by || (eqb above_by below_by && odd)
 takes_above NearestTiesToAway negative below_by above_by odd = leb above_by below_by
 

@@ -12,7 +12,7 @@ pub data Meaning : Type 0 where
   not_a_number : Bool → Bool → ℕ → Meaning
   hexadecimal : Bool → ℕ → ℕ → ℤ → Meaning
 
--- the sign in front of a text or of an exponent
+-- the sign that a text or an exponent begins with
 abbrev pub mark_of : List ℕ → Mark
 mark_of [] = Unmarked
 mark_of (c ∷ text) = if eqb c 45 then Minus else (if eqb c 43 then Plus else Unmarked)
@@ -34,7 +34,7 @@ is_infinity Minus body = same body (codes "Inf") || same body (codes "inf") || s
 abbrev pub is_x : ℕ → Bool
 is_x c = eqb c 120 || eqb c 88
 
--- The base of a payload is given by its prefix: 0x, or else a 0 followed by something, or else none.
+-- The prefix of a payload gives its base: 0x, or a 0 that something follows, or none.
 abbrev pub radix_of : List ℕ → Radix
 radix_of [] = Ten
 radix_of (c ∷ []) = Ten

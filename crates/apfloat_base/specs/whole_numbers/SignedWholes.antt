@@ -1,5 +1,4 @@
--- How the body in the trait turns the unsigned whole number of a magnitude into a signed one, for a value with a minus
--- sign.
+-- How the trait makes the signed whole number of a negative value from the unsigned one of its magnitude.
 use Rattle.std.specs.Prelude.{◌≡◌, ℕ, ◌-◌, ◌^◌, ◌<◌, ◌≤◌, ℤ, pos, neg_ℤ, Bool, false, not, ◌&&◌}
 use Rattle.apfloat_base.specs.formats.Nan.{invalid_bit}
 

@@ -1,18 +1,26 @@
-//! What is lost when digits are cut off.
+//! What is lost when digits are cut off: where a magnitude is between two neighbouring grid points.
+//!
+//! ```text
+//!   significand             significand + 1/2             significand + 1
+//!        |--------------------------|--------------------------|
+//!   ExactlyZero   LessThanHalf  ExactlyHalf    MoreThanHalf
+//! ```
+//!
+//! A magnitude at the upper point has the next significand, with nothing lost.
 
 ghost use Rattle.std.specs.Prelude.{◌≡◌, ℕ, ◌+◌, ◌*◌, ◌<◌, true, false};
 ghost use Rattle.apfloat_base.specs.rounding.Standing.{StandsFor};
 
-/// How much of the lowest kept digit was cut off.
+/// What was cut off, as a part of one unit of the lowest kept digit.
 #[derive(Clone, Copy, PartialEq, Eq, Debug)]
 pub enum Loss {
     /// Nothing.
     ExactlyZero,
-    /// Something, and less than half of it.
+    /// More than nothing, less than half of it.
     LessThanHalf,
-    /// Half of it.
+    /// Exactly half of it.
     ExactlyHalf,
-    /// More than half of it, and less than the whole.
+    /// More than half of it, less than all of it.
     MoreThanHalf,
 }
 

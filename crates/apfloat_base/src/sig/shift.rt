@@ -84,7 +84,7 @@ pub fn shift_right(significand: u128, places: u32, loss: Loss) -> Shifted
     }
 }
 
-/// The loss when more than the whole length of a significand is cut off.
+/// The loss when more digits are cut off than a significand can have.
 #[inline(always)]
 fn loss_of_all(significand: u128, loss: Loss) -> Loss
     ensures { (places amount unit : ℕ) → 128 < places → 0 < unit

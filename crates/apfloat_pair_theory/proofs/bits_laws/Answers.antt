@@ -1,4 +1,3 @@
--- Each clause is a law of its own.
 use Rattle.apfloat_pair_theory.proofs.pairs.PairBits.{pair_read_back, pair_written_back, pair_encoded_once}
 use Rattle.apfloat_pair_theory.proofs.bits_laws.Goals as goal
 

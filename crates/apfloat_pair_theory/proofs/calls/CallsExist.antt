@@ -1,4 +1,4 @@
--- Joins, splits and the calls in the wide format have answers.
+-- Joins, splits and the calls in the wide format have results.
 use Rattle.std.proofs.Common.{◌≡◌, ℕ, ◌*◌, ◌^◌, ◌<◌, Bool, false, not, ◌||◌, eqb, refl, lit<}
 use Rattle.std.specs.Prelude.{ℤ, pos, unsigned_abs, int_lt}
 use Rattle.std.proofs.lemmas.Nat.{pow_pos}
@@ -34,18 +34,18 @@ some_wide = lit< tt
 abbrev HasConversion : (Datum → ℕ → Bool → Type 0) → Type 0
 HasConversion R = (v : Datum) × ((s : ℕ) × ((l : Bool) × R v s l))
 
--- a conversion whose result is given has that result
+-- a conversion with a given result has that result
 converted_exists : (datum : Datum) (flags : ℕ) (loses : Bool) → HasConversion (IsConverted datum flags loses)
 converted_exists d t l = (d, (t, (l, record { value_is = refl; status_is = refl; loses_is = refl })))
 
--- each number of one format has a rounding in another
+-- each number of one format has a rounded value in another
 number_exists : (from into : Format) → 0 < into.precision → (mode : Round) (negative : Bool) (quanta : ℕ)
     → HasConversion (IsConvertedNumber from into mode negative quanta)
 number_exists from into p mode negative quanta =
     let d = delivered_exists into mode negative (quanta * 2 ^ into.scale) (2 ^ from.scale) p (pow_pos from.scale) in
     (d.0, (d.1.0, (not (eqb d.1.0 ok_bits), record { is_delivered = d.1.1; loses_is = refl })))
 
--- a datum of one format in another
+-- each datum of one format has a conversion to another
 pub conversion_exists : (from into : Format) → 0 < into.precision → (mode : Round) (datum : Datum)
     → HasConversion (IsConversion from into mode datum)
 conversion_exists from into p mode (nan b s) = converted_exists _ _ _
@@ -59,13 +59,13 @@ conversion_exists from into p mode (finite b n) =
 abbrev pub HasDatum : (Datum → Type 0) → Type 0
 HasDatum R = (v : Datum) × R v
 
--- each part of a pair has a datum of the wide format
+-- each part of a pair has a conversion to the wide format
 widened_exists : (part : Datum) → HasDatum (IsWidened part)
 widened_exists part =
     let c = conversion_exists double wide some_wide NearestTiesToEven part in
     (c.0, record { status = c.1.0; loses_info = c.1.1.0; is_conversion = c.1.1.1 })
 
--- and the parts have a sum there
+-- and the converted parts have a sum
 sum_of_parts_exists : (x : Pair) → HasDatum (IsSumOfParts x)
 sum_of_parts_exists x =
     let a = widened_exists x.high in
@@ -73,13 +73,13 @@ sum_of_parts_exists x =
     let c = sum_exists wide some_wide NearestTiesToEven a.0 b.0 in
     (c.0, record { high = a.0; low = b.0; status = c.1.0; high_is = a.1; low_is = b.1; is_sum = c.1.1 })
 
--- a pair in the wide format
+-- each pair has a join
 pub joined_exists : (x : Pair) → HasDatum (IsJoined x)
 joined_exists x =
     match_one HasDatum (is_finite_non_zero x.high) (IsSumOfParts x) (IsWidened x.high) (sum_of_parts_exists x)
     (widened_exists x.high)
 
--- a wide datum as a pair
+-- each wide datum has a split
 pub split_exists : (datum : Datum) → (answer : Pair) × IsSplit datum answer
 split_exists x =
     let c = conversion_exists wide double some_double NearestTiesToEven x in
@@ -88,13 +88,13 @@ split_exists x =
 
 -- ---- calls in the wide format
 
--- an answer of a wide call, split
+-- a wide call that has a result has a split result
 pub split_answer_exists : (call : Datum → ℕ → Type 0) → HasAnswer call → HasPairAnswer (IsSplitAnswer call)
 split_answer_exists call a =
     let s = split_exists a.0 in
     (s.0, (a.1.0, record { value = a.0; is_value = a.1.1; is_split = s.1 }))
 
--- a call in the wide format that has an answer for each datum has one for each pair
+-- a wide call that has a result for each datum has one for each pair
 pub wide_answer_exists : (call : Datum → Datum → ℕ → Type 0) → ((datum : Datum) → HasAnswer (call datum)) → (x : Pair)
     → HasPairAnswer (IsWideAnswer call x)
 wide_answer_exists call c x =
@@ -102,7 +102,7 @@ wide_answer_exists call c x =
     let a = split_answer_exists (call j.0) (c j.0) in
     (a.0, (a.1.0, record { joined = j.0; is_joined = j.1; is_answer = a.1.1 }))
 
--- and so has a call of two
+-- and so does a call of two operands
 pub wide_answer_of_two_exists : (call : Datum → Datum → Datum → ℕ → Type 0)
     → ((left right : Datum) → HasAnswer (call left right)) → (x y : Pair) → HasPairAnswer (IsWideAnswerOfTwo call x y)
 wide_answer_of_two_exists call c x y =
@@ -111,7 +111,7 @@ wide_answer_of_two_exists call c x y =
     let a = split_answer_exists (call j.0 k.0) (c j.0 k.0) in
     (a.0, (a.1.0, record { left = j.0; right = k.0; left_is = j.1; right_is = k.1; is_answer = a.1.1 }))
 
--- each operation on pairs has an answer, since the one in the wide format has
+-- each of the following operations on pairs has a result, since the wide operation has one
 pub pair_quotient_exists : (mode : Round) (x y : Pair) → HasPairAnswer (IsPairQuotient mode x y)
 pair_quotient_exists mode x y =
     wide_answer_of_two_exists (IsQuotient wide mode) (quotient_exists wide some_wide mode) x y
@@ -141,7 +141,7 @@ pair_from_unsigned_exists mode number =
     split_answer_exists (IsFromUnsigned wide mode number)
     (delivered_exists wide mode false (number * 2 ^ wide.scale) 1 some_wide (lit< tt))
 
--- a negative whole number is converted by its magnitude
+-- the conversion of a negative whole number has a result
 from_negative_exists : (mode : Round) (magnitude : ℕ) → HasPairAnswer (IsPairFromNegative mode magnitude)
 from_negative_exists mode magnitude =
     let a = pair_from_unsigned_exists (swapped mode) magnitude in
@@ -163,7 +163,7 @@ pair_scaling_exists mode x power =
     let p : Pair = record { high = a.0; low = b.0 } in
     (p, record { high_is = a.1; low_is = b.1 })
 
--- by the sum of the parts, each pair is denormal or not
+-- from the sum of its parts, each pair is denormal or not
 denormal_by_parts_exists : (x : Pair) → (answer : Bool) × IsDenormalByParts x answer
 denormal_by_parts_exists x =
     let s = sum_exists double some_double NearestTiesToEven x.high x.low in (

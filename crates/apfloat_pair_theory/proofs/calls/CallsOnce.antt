@@ -1,4 +1,4 @@
--- The calls by parts and in the wide format determine their answers.
+-- The calls by parts and in the wide format determine their results.
 use Rattle.std.proofs.Common.{◌≡◌, ℕ, ◌-◌, ◌^◌, ◌<◌, ◌≤◌, ◌∙◌, Bool, true, false, not, ◌||◌, refl, sym, ap, subst, ⊎_elim, lit<}
 use Rattle.std.specs.Prelude.{ℤ, pos, neg_ℤ, unsigned_abs, int_lt, List, Option, Some, None}
 use Rattle.std.specs.Bool.{MatchBool}
@@ -30,7 +30,7 @@ use Rattle.apfloat_pair_theory.proofs.calls.PairsOnce.{parts_same, joined_once, 
 
 -- ---- in the wide format
 
--- each operation on pairs has one answer at most, since the one in the wide format has
+-- each of the following operations on pairs has at most one result, since the wide operation has
 pub pair_quotient_once : (mode : Round) (x y : Pair) → OncePair (IsPairQuotient mode x y)
 pair_quotient_once mode x y = wide_answer_of_two_once (IsQuotient wide mode) (quotient_once wide mode) x y
 
@@ -54,15 +54,15 @@ pair_next_down_once x v w r s h k =
     let e = pair_next_up_once (negated_pair x) h.up_of_negated k.up_of_negated r s h.is_next_up k.is_next_up in
     (h.is ∙ ap (λ (p : Pair). negated_pair p) e.0 ∙ sym k.is, e.1)
 
--- ---- texts: one meaning
+-- ---- texts
 
--- a text has one meaning
+-- the reading of a text has at most one result
 pub pair_reading_once : (mode : Round) (text : List ℕ) → OncePair (IsPairReading mode text)
 pair_reading_once mode text = split_answer_once (IsReading wide mode text) (reading_once wide mode text)
 
 -- ---- exact inverses
 
--- a value that is split, or none, leaves one pair, or none
+-- splitting a value, or none, gives at most one result
 split_option_once : (value : Option Datum) (answer other : Option Pair) → IsSplitOption value answer
     → IsSplitOption value other → answer ≡ other
 split_option_once None None None h k = refl
@@ -73,7 +73,7 @@ split_option_once (Some d) (Some v) None h k = absurd k
 split_option_once (Some d) (Some v) (Some w) h k =
     ap (λ (p : Pair). let o : Option Pair = Some p in o) (split_once d v w h k)
 
--- a pair has one exact inverse, or none
+-- a pair has at most one exact inverse
 pub pair_exact_inverse_once : (x : Pair) (answer other : Option Pair) → IsPairExactInverse x answer
     → IsPairExactInverse x other → answer ≡ other
 pair_exact_inverse_once x v w h k =
@@ -84,12 +84,12 @@ pair_exact_inverse_once x v w h k =
 
 -- ---- whole numbers
 
--- a whole number is one pair in each mode
+-- the conversion of a whole number has at most one result in each mode
 pub pair_from_unsigned_once : (mode : Round) (number : ℕ) → OncePair (IsPairFromUnsigned mode number)
 pair_from_unsigned_once mode number =
     split_answer_once (IsFromUnsigned wide mode number) (from_unsigned_once wide mode number)
 
--- also below 0, where it is the negation of a magnitude
+-- and so does that of a negative whole number
 from_negative_once : (mode : Round) (magnitude : ℕ) → OncePair (IsPairFromNegative mode magnitude)
 from_negative_once mode magnitude v w r s h k =
     let e = pair_from_unsigned_once (swapped mode) magnitude h.positive k.positive r s h.is_positive k.is_positive in
@@ -104,7 +104,7 @@ pair_from_signed_once mode number =
 abbrev pub OnceWhole : {N : Type 0} → (N → ℕ → Bool → Type 0) → Type 0
 OnceWhole R = (m n : _) (r s : ℕ) (a b : Bool) → R m r a → R n s b → (m ≡ n) × (r ≡ s) × (a ≡ b)
 
--- the value, the status and whether it is exact
+-- the conversion to a whole number determines the number, the status and whether it is exact
 pub pair_to_unsigned_once : (mode : Round) (width : ℕ) (x : Pair) → OnceWhole (IsPairToUnsigned mode width x)
 pair_to_unsigned_once mode width x m n r s a b h k =
     let e = joined_once x h.joined k.joined h.is_joined k.is_joined in
@@ -112,7 +112,7 @@ pair_to_unsigned_once mode width x m n r s a b h k =
     (subst (λ (d : Datum). IsToUnsigned wide mode width d n s b) (sym e) k.is) in
     (ap unsigned_abs w.0, w.1, w.2)
 
--- a magnitude has one negation among the numbers of a width
+-- the negation of a magnitude determines these too
 negated_whole_once : (is_zero : Bool) (width number flags : ℕ) (exact : Bool)
     → OnceWhole (IsNegatedWhole is_zero width number flags exact)
 negated_whole_once is_zero width number flags exact m n r s a b h k =
@@ -127,7 +127,7 @@ negated_whole_once is_zero width number flags exact m n r s a b h k =
     (x.1.0 ∙ sym y.1.0, x.0 ∙ sym y.0, x.1.1 ∙ sym y.1.1))
     (cases_lt (2 ^ (width - 1)) number)
 
--- so a negative pair is one whole number
+-- so the conversion of a negative pair determines them
 to_negative_once : (mode : Round) (width : ℕ) (x : Pair) → OnceWhole (IsPairToNegative mode width x)
 to_negative_once mode width x m n r s a b h k =
     let e = pair_to_unsigned_once (swapped mode) width
@@ -137,7 +137,7 @@ to_negative_once mode width x m n r s a b h k =
     (subst (λ (i : ℕ). IsNegatedWhole (is_zero x.high) width k.magnitude i h.exact n s b) (sym e.1)
     (subst (λ (i : Bool). IsNegatedWhole (is_zero x.high) width k.magnitude k.flags i n s b) (sym e.2) k.is)))
 
--- and so is any other pair
+-- and so does that of any other pair
 to_natural_once : (mode : Round) (width : ℕ) (x : Pair) → OnceWhole (IsPairToNatural mode width x)
 to_natural_once mode width x m n r s a b h k =
     let e = pair_to_unsigned_once mode width x h.magnitude k.magnitude r s a b h.is_magnitude k.is_magnitude in
@@ -150,18 +150,18 @@ pair_to_signed_once mode width x =
 
 -- ---- by parts
 
--- a pair has one exponent
+-- a pair has at most one exponent
 pub pair_ilogb_once : (x : Pair) (d e : ℤ) → IsPairIlogb x d → IsPairIlogb x e → d ≡ e
 pair_ilogb_once x d e h k = exponent_once double x.high d e h k
 
--- each part has one scaling
+-- a pair has at most one scaling
 pub pair_scaling_once : (mode : Round) (x : Pair) (power : ℤ) (answer other : Pair) → IsPairScaling mode x power answer
     → IsPairScaling mode x power other → answer ≡ other
 pair_scaling_once mode x power v w h k =
     parts_same v w (scaling_once double mode x.high power v.high w.high h.high_is k.high_is)
     (scaling_once double mode x.low power v.low w.low h.low_is k.low_is)
 
--- the low part of a fraction is determined by the exponent
+-- the exponent determines the low part of a fraction
 low_fraction_once : (scaled : Bool) (mode : Round) (low answer other : Datum) (d e : ℤ) → d ≡ e
     → MatchBool scaled (IsScaling double mode low (neg_ℤ d) answer) (answer ≡ low)
     → MatchBool scaled (IsScaling double mode low (neg_ℤ e) other) (other ≡ low) → answer ≡ other
@@ -169,7 +169,7 @@ low_fraction_once true mode x v w d e g h k =
     scaling_once double mode x (neg_ℤ d) v w h (subst (λ (i : ℤ). IsScaling double mode x (neg_ℤ i) w) (sym g) k)
 low_fraction_once false mode x v w d e g h k = h ∙ sym k
 
--- one fraction, and one exponent
+-- a pair has at most one fraction and one exponent
 pub pair_fraction_once : (mode : Round) (x answer other : Pair) (d e : ℤ) → IsPairFraction mode x answer d
     → IsPairFraction mode x other e
     → (answer ≡ other) × (d ≡ e)
@@ -180,7 +180,7 @@ pair_fraction_once mode x v w d e h k =
       a.1,
     )
 
--- a pair is denormal or not, and never both
+-- a pair is not both denormal and not denormal
 denormal_by_parts_once : (x : Pair) (answer other : Bool) → IsDenormalByParts x answer → IsDenormalByParts x other
     → answer ≡ other
 denormal_by_parts_once x v w h k =

@@ -1,4 +1,4 @@
--- The calls on pairs determine their answers.
+-- The calls on pairs determine their results.
 use Rattle.std.proofs.Common.{ℕ, Bool, List, Result, Ok, Err}
 use Rattle.apfloat_base.specs.declared.kinds.Round.{Round}
 use Rattle.apfloat_base.specs.declared.parse_error.ParseError.{ParseError}
@@ -17,21 +17,21 @@ use Rattle.apfloat_pair_theory.proofs.calls.PairsOnce.{pair_sum_once, pair_diffe
 use Rattle.apfloat_pair_theory.proofs.pairs.PairBits.{pair_encoded_once}
 use Rattle.apfloat_pair_theory.proofs.calls.CallsOnce.{OnceWhole, pair_quotient_once, pair_truncated_remainder_once, pair_nearest_remainder_once, pair_round_to_integral_once, pair_next_up_once, pair_next_down_once, pair_reading_once, pair_exact_inverse_once, pair_from_unsigned_once, pair_from_signed_once, pair_to_unsigned_once, pair_to_signed_once, pair_ilogb_once, pair_scaling_once, pair_fraction_once}
 
--- a relation with one pair and status is met by one value with its flags
+-- a relation that determines the pair and the status bits determines the pair and the status
 pair_gives_once : (Says : Pair → ℕ → Type 0) → OncePair Says
     → Determines (λ (answer : StatusAnd Pair). Gives Says answer)
 pair_gives_once Says once r s h k =
     let e = once r.value s.value (bits_of r.status) (bits_of s.status) h k in
     same_answer r s e.0 e.1
 
--- and so is one that also says whether the number is exact
+-- and so for a relation that also says whether the number is exact
 whole_gives_once : {Number : Type 0} (Says : Number → ℕ → Bool → Type 0) → OnceWhole Says
     → DeterminesBoth (λ (answer : StatusAnd Number) (exact : Bool). Says answer.value (bits_of answer.status) exact)
 whole_gives_once Says once r s a b h k =
     let e = once r.value s.value (bits_of r.status) (bits_of s.status) a b h k in
     (same_answer r s e.0 e.1, e.2)
 
--- a text has one reading as a pair, which is a value or a refusal
+-- the result of reading a text as a pair is determined, whether it is a value or a refusal
 pair_read_once : (mode : Round) (text : List ℕ) (answer other : Result (StatusAnd Pair) ParseError)
     → IsPairRead mode text answer → IsPairRead mode text other → AreOneReading answer other
 pair_read_once mode text (Ok r) (Ok s) h k =
@@ -42,7 +42,7 @@ pair_read_once mode text (Err e) (Ok r) h k =
     reading_or_refusal wide mode text e.0.now k.value (bits_of r.status) k.is_value h
 pair_read_once mode text (Err e) (Err d) h k = refusal_once text e.0.now d.0.now h k
 
--- each operation on pairs determines its answer
+-- each operation on pairs determines its result
 pub pairs_determined : (mode : Round)
     → IsDetermined mode 106 128
     (λ x y round answer. Gives (IsPairSum round x y) answer)

@@ -1,4 +1,4 @@
--- Each sum, difference and product of two pairs has an answer, in each mode.
+-- Each sum, difference and product of two pairs has a result, in each mode.
 use Rattle.std.proofs.Common.{ℕ, ◌<◌, refl, lit<}
 use Rattle.apfloat_base.specs.declared.kinds.Round.{Round}
 use Rattle.apfloat_base.specs.declared.kinds.NonfiniteBehavior.TheVariants.{IEEE754}
@@ -18,7 +18,7 @@ use Rattle.apfloat_pair_theory.specs.PairSums.{◌∪◌, IsLowPart, IsClosed, I
 use Rattle.apfloat_pair_theory.specs.PairAnswers.{HasPairAnswer}
 use Rattle.apfloat_pair_theory.specs.PairProducts.{IsLostOfProduct, IsNumberProduct, IsProductOfNumbers, IsProductOfCategories, IsPairProduct}
 
--- a given answer is an answer
+-- a given pair and flags are a result
 pair_answer_exists : (given : Pair) (flags : ℕ) → HasPairAnswer (IsPairAnswer given flags)
 pair_answer_exists given flags = (given, (flags, record { answer_is = refl; status_is = refl }))
 
@@ -26,7 +26,7 @@ pair_answer_exists given flags = (given, (flags, record { answer_is = refl; stat
 pub some_double : 0 < double.precision
 some_double = lit< tt
 
--- each step on doubles has an answer, so a chain of such steps has one
+-- each step on doubles has a result, so a chain of such steps has one
 low_part_exists : (mode : Round) (sum rest high : Datum) (flags : ℕ)
     → HasPairAnswer (IsLowPart mode sum rest high flags)
 low_part_exists mode z zz h flags =
@@ -48,7 +48,7 @@ low_part_exists mode z zz h flags =
       ),
     )
 
--- the closing sum
+-- the closing sum has a result
 pub closed_exists : (mode : Round) (sum rest : Datum) (flags : ℕ) → HasPairAnswer (IsClosed mode sum rest flags)
 closed_exists mode z zz flags =
     let h = sum_exists double some_double mode z zz in
@@ -59,7 +59,7 @@ closed_exists mode z zz flags =
 
 -- ---- sums
 
--- what the sum of the high parts lost, with the low parts
+-- the error of the sum of the high parts, plus the low parts, has a value
 lost_exists : (mode : Round) (first first_low second second_low sum : Datum)
     → (rest : Datum) × ((flags : ℕ) × IsLost mode first first_low second second_low sum rest flags)
 lost_exists mode a aa c cc z =
@@ -108,7 +108,7 @@ finite_sum_exists mode x y z flags =
     (pair_answer_exists (alone z) ok_bits) (closed_exists mode z u.0 (flags ∪ u.1.0)) in
     (a.0, (a.1.0, record { zz = u.0; zz_flags = u.1.0; is_zz = u.1.1; is_answer = a.1.1 }))
 
--- where the sum of the high parts is infinite, it is computed again from the least part
+-- the sum computed again, starting with the smallest part, has a result
 sum_anew_low_exists : (mode : Round) (x y : Pair) (high : Datum) (flags : ℕ)
     → HasPairAnswer (IsSumAnewLow mode x y high flags)
 sum_anew_low_exists mode x y z flags =
@@ -179,7 +179,7 @@ sum_of_infinities_exists x y =
     (IsPairAnswer (pair_nan_signed_as x) invalid_bit)
     (pair_answer_exists x ok_bits) (pair_answer_exists (pair_nan_signed_as x) invalid_bit)
 
--- each row of the sum has an answer
+-- each row of the sum has a result
 sum_of_categories_exists : (first second : Category) (mode : Round) (x y : Pair)
     → HasPairAnswer (IsSumOfCategories first second mode x y)
 sum_of_categories_exists Zero Zero mode x y = pair_answer_exists _ _
@@ -199,7 +199,7 @@ sum_of_categories_exists NaN Normal mode x y = pair_answer_exists _ _
 sum_of_categories_exists NaN Infinity mode x y = pair_answer_exists _ _
 sum_of_categories_exists NaN NaN mode x y = pair_answer_exists _ _
 
--- so each sum has one, and each difference
+-- so do each sum and each difference
 pub pair_sum_exists : (mode : Round) (x y : Pair) → HasPairAnswer (IsPairSum mode x y)
 pair_sum_exists mode x y = sum_of_categories_exists (pair_category x) (pair_category y) mode x y
 
@@ -208,7 +208,7 @@ pair_difference_exists mode x y = pair_sum_exists mode x (negated_pair y)
 
 -- ---- products
 
--- what the product of the high parts lost, with the products of a high part and a low one
+-- the error of the product of the high parts, plus the cross products, has a value
 lost_of_product_exists : (mode : Round) (first first_low second second_low product : Datum)
     → (rest : Datum) × ((flags : ℕ) × IsLostOfProduct mode first first_low second second_low product rest flags)
 lost_of_product_exists mode a b c d t =
@@ -255,7 +255,7 @@ product_of_numbers_exists mode x y =
     (number_product_exists mode x y t.0 t.1.0) (pair_answer_exists (alone t.0) t.1.0) in
     (a.0, (a.1.0, record { t = t.0; t_flags = t.1.0; is_t = t.1.1; is_answer = a.1.1 }))
 
--- each row of the product has an answer
+-- each row of the product has a result
 product_of_categories_exists : (first second : Category) (mode : Round) (x y : Pair)
     → HasPairAnswer (IsProductOfCategories first second mode x y)
 product_of_categories_exists NaN Zero mode x y = pair_answer_exists _ _
@@ -275,6 +275,6 @@ product_of_categories_exists Normal Zero mode x y = pair_answer_exists _ _
 product_of_categories_exists Normal Infinity mode x y = pair_answer_exists _ _
 product_of_categories_exists Normal Normal mode x y = product_of_numbers_exists mode x y
 
--- so each product has one
+-- so does each product
 pub pair_product_exists : (mode : Round) (x y : Pair) → HasPairAnswer (IsPairProduct mode x y)
 pair_product_exists mode x y = product_of_categories_exists (pair_category x) (pair_category y) mode x y

@@ -1,4 +1,4 @@
--- Each relation of pairs determines its answer and its status, so that there is one answer at most.
+-- Each relation of pairs determines the result and its status.
 use Rattle.std.proofs.Common.{◌≡◌, ℕ, ◌∙◌, refl, sym, ap, subst}
 use Rattle.std.specs.Bool.{MatchBool}
 use Rattle.apfloat_base.specs.declared.kinds.Round.{Round}
@@ -21,7 +21,7 @@ use Rattle.apfloat_pair_theory.specs.PairSums.{◌∪◌, IsLowPart, IsClosed, I
 use Rattle.apfloat_pair_theory.specs.PairAnswers.{OncePair}
 use Rattle.apfloat_pair_theory.specs.PairProducts.{IsLostOfProduct, IsNumberProduct, IsProductOfNumbers, IsProductOfCategories, IsPairProduct}
 
--- a given answer is the only one
+-- a given pair and flags are the only result
 pair_answer_once : (given : Pair) (flags : ℕ) → OncePair (IsPairAnswer given flags)
 pair_answer_once given flags v w r s x y = (x.answer_is ∙ sym y.answer_is, x.status_is ∙ sym y.status_is)
 
@@ -58,7 +58,7 @@ parts_same v w e g =
 
 -- ---- the closing sum
 
--- each step on doubles has one answer, so a chain of such steps has one
+-- each step on doubles has at most one result, so a chain of such steps has at most one
 low_part_once : (mode : Round) (sum rest high : Datum) (flags : ℕ) → OncePair (IsLowPart mode sum rest high flags)
 low_part_once mode z zz h flags v w r s x y =
     let a = difference_once double mode z h x.left y.left x.left_flags y.left_flags x.is_left y.is_left in
@@ -85,7 +85,7 @@ closed_once mode z zz flags v w r s x y =
     (subst (λ (i : Datum). IsClosedAt mode z zz flags i x.h_flags w s) (sym e.0)
     (subst (λ (i : ℕ). IsClosedAt mode z zz flags y.h i w s) (sym e.1) y.is_answer))
 
--- and one closing sum
+-- equal operands have one closing sum
 closed_same : (mode : Round) (sum rest other_rest : Datum) (flags other_flags : ℕ) (answer other : Pair) (r s : ℕ)
     → rest ≡ other_rest → flags ≡ other_flags → IsClosed mode sum rest flags answer r
     → IsClosed mode sum other_rest other_flags other s → (answer ≡ other) × (r ≡ s)
@@ -96,7 +96,7 @@ closed_same mode z zz yy flags other v w r s e g x y =
 
 -- ---- sums
 
--- what the sum of the high parts lost, with the low parts
+-- the error of the sum of the high parts, plus the low parts, is determined
 lost_once : (mode : Round) (first first_low second second_low sum : Datum)
     → Once (IsLost mode first first_low second second_low sum)
 lost_once mode a aa c cc z v w r s x y =
@@ -138,7 +138,7 @@ finite_sum_once mode x y z flags v w r s h k =
     (subst (λ (i : Datum). IsFiniteSumAt mode z flags i h.zz_flags w s) (sym e.0)
     (subst (λ (i : ℕ). IsFiniteSumAt mode z flags k.zz i w s) (sym e.1) k.is_answer))
 
--- where the sum of the high parts is infinite, it is computed again from the least part
+-- the sum computed again, starting with the smallest part, is determined
 sum_anew_low_once : (mode : Round) (x y : Pair) (high : Datum) (flags : ℕ) → OncePair (IsSumAnewLow mode x y high flags)
 sum_anew_low_once mode x y z flags v w r s h k =
     let u = sum_once double mode x.low y.low h.zz k.zz h.zz_flags k.zz_flags h.is_zz k.is_zz in
@@ -202,7 +202,7 @@ sum_of_infinities_once x y =
     (IsPairAnswer (pair_nan_signed_as x) invalid_bit)
     (pair_answer_once x ok_bits) (pair_answer_once (pair_nan_signed_as x) invalid_bit)
 
--- each row of the sum has one answer
+-- each row of the sum has at most one result
 sum_of_categories_once : (first second : Category) (mode : Round) (x y : Pair)
     → OncePair (IsSumOfCategories first second mode x y)
 sum_of_categories_once Zero Zero mode x y = pair_answer_once _ _
@@ -222,7 +222,7 @@ sum_of_categories_once NaN Normal mode x y = pair_answer_once _ _
 sum_of_categories_once NaN Infinity mode x y = pair_answer_once _ _
 sum_of_categories_once NaN NaN mode x y = pair_answer_once _ _
 
--- so each sum has one, and each difference
+-- so do each sum and each difference
 pub pair_sum_once : (mode : Round) (x y : Pair) → OncePair (IsPairSum mode x y)
 pair_sum_once mode x y = sum_of_categories_once (pair_category x) (pair_category y) mode x y
 
@@ -231,7 +231,7 @@ pair_difference_once mode x y = pair_sum_once mode x (negated_pair y)
 
 -- ---- products
 
--- what the product of the high parts lost, with the products of a high part and a low one
+-- the error of the product of the high parts, plus the cross products, is determined
 lost_of_product_once : (mode : Round) (first first_low second second_low product : Datum)
     → Once (IsLostOfProduct mode first first_low second second_low product)
 lost_of_product_once mode a b c d t v w r s x y =
@@ -268,7 +268,7 @@ product_of_numbers_once mode x y v w r s h k =
     (subst (λ (i : Datum). IsProductAt mode x y i h.t_flags w s) (sym e.0)
     (subst (λ (i : ℕ). IsProductAt mode x y k.t i w s) (sym e.1) k.is_answer))
 
--- each row of the product has one answer
+-- each row of the product has at most one result
 product_of_categories_once : (first second : Category) (mode : Round) (x y : Pair)
     → OncePair (IsProductOfCategories first second mode x y)
 product_of_categories_once Zero Zero mode x y = pair_answer_once _ _
@@ -288,7 +288,7 @@ product_of_categories_once NaN Normal mode x y = pair_answer_once _ _
 product_of_categories_once NaN Infinity mode x y = pair_answer_once _ _
 product_of_categories_once NaN NaN mode x y = pair_answer_once _ _
 
--- so each product has one
+-- so does each product
 pub pair_product_once : (mode : Round) (x y : Pair) → OncePair (IsPairProduct mode x y)
 pair_product_once mode x y = product_of_categories_once (pair_category x) (pair_category y) mode x y
 
@@ -297,14 +297,14 @@ pair_product_once mode x y = product_of_categories_once (pair_category x) (pair_
 abbrev pub OnceDatum : (Datum → Type 0) → Type 0
 OnceDatum R = (v w : Datum) → R v → R w → v ≡ w
 
--- each part of a pair is one datum of the wide format
+-- each part of a pair has at most one conversion to the wide format
 widened_once : (part : Datum) → OnceDatum (IsWidened part)
 widened_once part v w x y =
     (conversion_once double wide NearestTiesToEven part v w x.status y.status x.loses_info y.loses_info
     x.is_conversion
     y.is_conversion).0
 
--- and the parts have one sum there
+-- and the converted parts have at most one sum
 sum_of_parts_once : (x : Pair) → OnceDatum (IsSumOfParts x)
 sum_of_parts_once x v w h k =
     let a = widened_once x.high h.high k.high h.high_is k.high_is in
@@ -313,13 +313,13 @@ sum_of_parts_once x v w h k =
     (subst (λ (i : Datum). IsSum wide NearestTiesToEven i h.low w k.status) (sym a)
     (subst (λ (i : Datum). IsSum wide NearestTiesToEven k.high i w k.status) (sym b) k.is_sum))).0
 
--- a pair has one wide datum
+-- a pair has at most one join
 pub joined_once : (x : Pair) → OnceDatum (IsJoined x)
 joined_once x =
     match_one OnceDatum (is_finite_non_zero x.high) (IsSumOfParts x) (IsWidened x.high) (sum_of_parts_once x)
     (widened_once x.high)
 
--- a wide datum has one pair
+-- a wide datum has at most one split
 pub split_once : (datum : Datum) (answer other : Pair) → IsSplit datum answer → IsSplit datum other → answer ≡ other
 split_once x v w h k =
     let e = conversion_once wide double NearestTiesToEven x v.high w.high h.status k.status h.loses_info k.loses_info
@@ -330,13 +330,13 @@ split_once x v w h k =
 
 -- ---- calls in the wide format
 
--- where the wide call has one answer, the split one is one
+-- if a wide call has at most one result, so does the call that splits it
 pub split_answer_once : (call : Datum → ℕ → Type 0) → Once call → OncePair (IsSplitAnswer call)
 split_answer_once call c v w r s x y =
     let e = c x.value y.value r s x.is_value y.is_value in
     (split_once x.value v w x.is_split (subst (λ (i : Datum). IsSplit i w) (sym e.0) y.is_split), e.1)
 
--- a wide call with one answer for each datum has one for each pair
+-- a wide call with at most one result for each datum has at most one for each pair
 pub wide_answer_once : (call : Datum → Datum → ℕ → Type 0) → ((datum : Datum) → Once (call datum)) → (x : Pair)
     → OncePair (IsWideAnswer call x)
 wide_answer_once call c x v w r s h k =
@@ -344,7 +344,7 @@ wide_answer_once call c x v w r s h k =
     split_answer_once (call h.joined) (c h.joined) v w r s h.is_answer
     (subst (λ (i : Datum). IsSplitAnswer (call i) w s) (sym e) k.is_answer)
 
--- and so has a call of two
+-- and so does a call of two operands
 pub wide_answer_of_two_once : (call : Datum → Datum → Datum → ℕ → Type 0)
     → ((left right : Datum) → Once (call left right)) → (x y : Pair) → OncePair (IsWideAnswerOfTwo call x y)
 wide_answer_of_two_once call c x y v w r s h k =

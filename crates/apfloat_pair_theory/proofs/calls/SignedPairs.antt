@@ -1,4 +1,4 @@
--- Signed whole numbers and pairs, by the unsigned ones of magnitudes.
+-- Conversions of signed whole numbers and pairs, from the unsigned conversions of magnitudes.
 use Rattle.std.proofs.Common.{◌≡◌, ℕ, zero, suc, ◌-◌, ◌<◌, Bool, true, false, refl, subst, arith}
 use Rattle.std.specs.Prelude.{ℤ, pos, neg_ℤ, int_lt}
 use Rattle.std.proofs.lemmas.Int.{ints}
@@ -19,7 +19,7 @@ not_below n = less_not (pos n) (pos 0) (omega (arith, ints))
 
 -- ---- in
 
--- a number from 0 on is converted as an unsigned one
+-- a nonnegative number converts like the unsigned number
 pub pair_signed_above : (mode : Round) (n : ℕ) (answer : Pair) (status : ℕ) → IsPairFromUnsigned mode n answer status
     → IsPairFromSigned mode (pos n) answer status
 pair_signed_above mode n answer status h =
@@ -27,7 +27,7 @@ pair_signed_above mode n answer status h =
     match_false (int_lt (pos n) (pos 0)) (IsPairFromNegative mode n answer status)
     (IsPairFromUnsigned mode n answer status) e h
 
--- a negative number is the negation of its magnitude, converted in the swapped mode
+-- a negative number converts to the negation of its magnitude in the swapped mode
 pub pair_signed_below : (mode : Round) (n : ℕ) (answer : Pair) (status : ℕ) → 0 < n
     → IsPairFromUnsigned (swapped mode) n answer status
     → IsPairFromSigned mode (neg_ℤ (pos n)) (negated_pair answer) status
@@ -37,7 +37,7 @@ pair_signed_below mode (suc n) answer status p h =
 
 -- ---- out
 
--- without a minus sign, the result is the unsigned one at a width of one bit less
+-- without a minus sign, the result is the unsigned one for one bit less
 pub pair_to_signed_above : (mode : Round) (width : ℕ) (x : Pair) (number status : ℕ) (is_exact : Bool)
     → is_negative x.high ≡ false → IsPairToUnsigned mode (width - 1) x number status is_exact
     → IsPairToSigned mode width x (pos number) status is_exact
@@ -46,7 +46,7 @@ pair_to_signed_above mode width x number status is_exact e h =
     (IsPairToNatural mode (width - 1) x (pos number) status is_exact) e
     (record { magnitude = number; is_magnitude = h; is = refl })
 
--- with one, it is the negation of the magnitude, which is taken in the swapped mode
+-- with a minus sign, it is the negation of the magnitude's, in the swapped mode
 pub pair_to_signed_below : (mode : Round) (width : ℕ) (x : Pair) (number flags : ℕ) (exact : Bool) (answer : ℤ)
     (status : ℕ) (is_exact : Bool) → is_negative x.high ≡ true
     → IsPairToUnsigned (swapped mode) width (negated_pair x) number flags exact

@@ -1,4 +1,3 @@
--- The clause is a law of its own.
 use Rattle.apfloat_pair_theory.proofs.parts.DenormalPairs.{is_denormal_is}
 use Rattle.apfloat_pair_theory.proofs.denormal_law.Goals as goal
 

@@ -1,4 +1,3 @@
--- The clause is a law of its own.
 use Rattle.apfloat_pair_theory.proofs.pairs.Negated.{negated_pair_twice}
 use Rattle.apfloat_pair_theory.proofs.negation_law.Goals as goal
 

@@ -1,4 +1,4 @@
--- The error of a rounded fraction of a quantum: half a unit in the last place, or half a quantum.
+-- The error of a rounded fraction: at most half a unit in the last place, or half a quantum.
 use Rattle.std.proofs.Common.{◌≡◌, ℕ, ◌+◌, ◌-◌, ◌*◌, ◌/◌, ◌^◌, ◌<◌, ◌≤◌, ◌⊎◌, inl, inr, sym, ap, subst, arith}
 use Rattle.std.specs.Prelude.{ℤ, pos, ◌-ℤ◌, ◌*ℤ◌, false}
 use Rattle.std.proofs.Math.Nat.{mul-le-mul_right, mul-le-mul_left}
@@ -13,19 +13,19 @@ use Rattle.apfloat_pair_theory.proofs.numbers.Signed.{grown, on_grid_as}
 use Rattle.apfloat_pair_theory.proofs.numbers.SignedProducts.{magnitude-times}
 use Rattle.apfloat_pair_theory.proofs.numbers.Roundings.{apart, signed_exact, signed_away, IsNearestFraction}
 
--- z quanta are off from exact / parts quanta by at most so much
+-- z quanta differ from exact / parts quanta by at most 2 ^ -precision of these plus half a quantum
 abbrev pub IsCloseFraction : ℕ → ℕ → ℤ → ℤ → Type 0
 IsCloseFraction precision parts exact z =
     2 * (2 ^ precision * magnitude ((z *ℤ pos parts) -ℤ exact)) ≤ 2 * magnitude exact + 2 ^ precision * parts
 
--- a distance of at most half a unit, beside a significand of full length
+-- a distance of at most half a unit is small relative to a normalized significand
 fraction_at : (half m u w d n : ℕ) → half ≤ m → m * u * w ≤ n → 2 * d ≤ u * w → 2 * half * d ≤ n
 fraction_at half m u w d n h l k =
     let a : half * (2 * d) ≤ half * (u * w) = mul-le-mul_left half k in
     let b : half * (u * w) ≤ m * (u * w) = mul-le-mul_right (u * w) h in
     omega arith
 
--- d is at most the distance from either neighbour
+-- so is a distance that is at most that of either neighbour
 fraction_by : (precision half m c amount parts d : ℕ) → IsEnclosed precision half m c amount parts
     → (c ≡ 0) ⊎ (half ≤ m) → d ≤ apart (m * 2 ^ c * parts) amount → d ≤ apart ((m + 1) * 2 ^ c * parts) amount
     → 2 * (2 ^ precision * d) ≤ 2 * amount + 2 ^ precision * parts
@@ -46,7 +46,7 @@ fraction_by precision half m c amount parts d i (inr l) x y =
     let e : 2 ^ precision * d ≡ 2 * half * d = ap (λ (k : ℕ). k * d) i.double in
     omega arith
 
--- the distance from the nearest grid number is at most that from any
+-- the distance from the nearest grid number is at most that from any grid number
 nearer : (precision parts : ℕ) (exact z : ℤ) (g : ℕ) → IsNearestFraction precision parts exact z
     → IsOnGrid precision g
     → magnitude ((z *ℤ pos parts) -ℤ exact) ≤ apart (g * parts) (magnitude exact)
@@ -60,7 +60,7 @@ nearer precision parts exact z g n o =
     (signed_away s g (magnitude exact) parts) in
     subst (λ (i : ℕ). magnitude ((z *ℤ pos parts) -ℤ exact) ≤ i) e a
 
--- what is nearest is off by half a unit in the last place at most, or by half a quantum
+-- a nearest number is that close
 pub fraction_error : (precision parts : ℕ) (exact z : ℤ) → 0 < precision → 0 < parts
     → IsNearestFraction precision parts exact z → IsCloseFraction precision parts exact z
 fraction_error precision parts exact z h u x =
@@ -74,7 +74,7 @@ fraction_error precision parts exact z h u x =
     (nearer precision parts exact z ((magnitude exact / (parts * 2 ^ r.0) + 1) * 2 ^ r.0) x
     (next_on_grid precision (2 ^ (precision - 1)) (magnitude exact / (parts * 2 ^ r.0)) r.0 e r.1.fits))
 
--- how great a rounded fraction is
+-- a rounded fraction is at most the fraction plus its error
 pub fraction_size : (parts : ℕ) (exact z : ℤ)
     → magnitude z * parts ≤ magnitude exact + magnitude ((z *ℤ pos parts) -ℤ exact)
 fraction_size parts exact z =

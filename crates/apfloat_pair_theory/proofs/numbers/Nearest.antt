@@ -1,5 +1,5 @@
--- A grid number nearest to a whole number, whatever is done with a tie; the
--- error of a sum, and subtractions with no error.
+-- A grid number nearest to a whole number, whichever way ties go; the
+-- error of a rounded sum, and exact subtractions.
 use Rattle.std.proofs.Common.{◌≡◌, ℕ, ◌+◌, ◌-◌, ◌*◌, ◌/◌, ◌^◌, ◌<◌, ◌≤◌, ◌⊎◌, sym, ap, inl, inr, ⊎_elim, arith, lit<}
 use Rattle.std.specs.Prelude.{ℤ, pos, negsuc, ◌+ℤ◌, ◌-ℤ◌, ◌≤ℤ◌, neg_ℤ}
 use Rattle.std.proofs.Math.Nat.{mul-le-mul_right, mul-le-mul_left}
@@ -21,11 +21,11 @@ pub record IsNearest (precision : ℕ) (exact z : ℤ) : Type 0 where
   pub on_grid : IsGridNumber precision z
   pub nearest : (other : ℤ) → IsGridNumber precision other → magnitude (z -ℤ exact) ≤ magnitude (other -ℤ exact)
 
--- what is no farther from a number than the number itself is the number
+-- a number that is no farther from x than x itself is x
 pub same_from_none : (x z : ℤ) → magnitude (z -ℤ x) ≤ magnitude (x -ℤ x) → z ≡ x
 same_from_none x z h = omega (arith, ints, h, one_side (z -ℤ x), one_side (x -ℤ x))
 
--- a grid number is its own nearest
+-- a grid number rounds to itself
 pub nearest_exact : (precision : ℕ) (x z : ℤ) → IsGridNumber precision x → IsNearest precision x z → z ≡ x
 nearest_exact precision x z g n = same_from_none x z (n.nearest x g)
 
@@ -36,23 +36,23 @@ nearest_of_exact precision x g = record {
   nearest = λ other o. let e : magnitude (x -ℤ x) ≡ 0 = omega (arith, ints, one_side (x -ℤ x)) in omega arith;
 }
 
--- what is nearer than a grid number below is not below it
+-- a number no farther from x than a number below x is not below that number
 above_from : (g x z : ℤ) → g ≤ℤ x → magnitude (z -ℤ x) ≤ magnitude (g -ℤ x) → g ≤ℤ z
 above_from g x z l h = omega (arith, ints, h, one_side (z -ℤ x), one_side (g -ℤ x))
 
--- and likewise above
+-- and a number no farther from x than a number above x is not above that number
 below_from : (g x z : ℤ) → x ≤ℤ g → magnitude (z -ℤ x) ≤ magnitude (g -ℤ x) → z ≤ℤ g
 below_from g x z l h = omega (arith, ints, h, one_side (z -ℤ x), one_side (g -ℤ x))
 
--- a number does not pass a grid number when it is rounded
+-- a nearest number does not pass a grid number below
 pub nearest_above : (precision : ℕ) (g x z : ℤ) → IsGridNumber precision g → g ≤ℤ x → IsNearest precision x z → g ≤ℤ z
 nearest_above precision g x z o l n = above_from g x z l (n.nearest g o)
 
--- what is nearest to a number is not past a grid number above it
+-- nor a grid number above
 pub nearest_below : (precision : ℕ) (g x z : ℤ) → IsGridNumber precision g → x ≤ℤ g → IsNearest precision x z → z ≤ℤ g
 nearest_below precision g x z o l n = below_from g x z l (n.nearest g o)
 
--- and is as far from 0 as each grid number that is not farther than the number
+-- and its magnitude is at least each grid magnitude that is at most the number's
 pub nearest_reaches : (precision n : ℕ) (x z : ℤ) → IsOnGrid precision n → n ≤ magnitude x → IsNearest precision x z
     → n ≤ magnitude z
 nearest_reaches precision n (pos m) z o l e =
@@ -64,7 +64,7 @@ nearest_reaches precision n (negsuc m) z o l e =
     let h : z ≤ℤ neg_ℤ (pos n) = nearest_below precision (neg_ℤ (pos n)) (negsuc m) z o' (omega (arith, ints)) e in
     omega (arith, ints, one_side z)
 
--- the error is not above the distance to a grid magnitude
+-- the error is at most the distance to a grid magnitude
 pub nearest_by : (precision n : ℕ) (x z : ℤ) → IsOnGrid precision n → IsNearest precision x z
     → magnitude (z -ℤ x) ≤ (n - magnitude x) + (magnitude x - n)
 nearest_by precision n (pos m) z o e =
@@ -79,7 +79,7 @@ nearest_by precision n (negsuc m) z o e =
     omega (arith, ints, one_side (neg_ℤ (pos n) -ℤ negsuc m)) in
     omega (arith, h)
 
--- the error of a sum is not above either number
+-- the error of a rounded sum is at most its first summand
 pub error_le_first : (precision : ℕ) (a c z : ℤ) → IsGridNumber precision c → IsNearest precision (a +ℤ c) z
     → magnitude (z -ℤ (a +ℤ c)) ≤ magnitude a
 error_le_first precision a c z g n =
@@ -97,7 +97,7 @@ error_le_second precision a c z g n =
 
 -- ---- the error relative to the number
 
--- an error is at most half a unit of the last place
+-- an error is at most half a unit in the last place
 at_least_place : (half m c n d : ℕ) → half ≤ m → m * 2 ^ c ≤ n → n < (m + 1) * 2 ^ c
     → d ≤ (m * 2 ^ c - n) + (n - m * 2 ^ c) → d ≤ ((m + 1) * 2 ^ c - n) + (n - (m + 1) * 2 ^ c) → 2 * half * d ≤ n
 at_least_place half m c n d f l h x y =
@@ -106,7 +106,7 @@ at_least_place half m c n d f l h x y =
     let e : half * 2 ^ c ≤ m * 2 ^ c = mul-le-mul_right (2 ^ c) f in
     omega arith
 
--- so it is small beside the number
+-- so it is small relative to the number
 relative_at : (precision half m c : ℕ) (x z : ℤ) → IsEnclosed precision half m c (magnitude x) 1
     → IsNearest precision x z → (c ≡ 0) ⊎ (half ≤ m) → 2 ^ precision * magnitude (z -ℤ x) ≤ magnitude x
 relative_at precision half m c x z i n (inl q) =
@@ -131,7 +131,7 @@ relative_at precision half m c x z i n (inr q) =
     ap (λ (k : ℕ). k * magnitude (z -ℤ x)) i.double in
     omega arith
 
--- at most half a unit in the last place
+-- the error is at most 2 ^ -precision of the number
 pub relative_error : (precision : ℕ) (x z : ℤ) → 0 < precision → IsNearest precision x z
     → 2 ^ precision * magnitude (z -ℤ x) ≤ magnitude x
 relative_error precision x z p n =
@@ -142,7 +142,7 @@ relative_error precision x z p n =
 -- ---- the error of a sum is a grid number
 
 module _ (precision : ℕ) (wide : 8 ≤ 2 ^ precision) where
-  -- what a whole number of units is rounded to
+  -- a multiple of 2 ^ k is rounded exactly, or is too long and rounds to a multiple of 2 ^ (k + 1)
   pub nearest_cases : (k : ℕ) (s z : ℤ) → IsMultiple (2 ^ k) (magnitude s) → IsNearest precision s z
       → (z ≡ s) ⊎ ((2 ^ precision * 2 ^ k ≤ magnitude s) × IsMultiple (2 ^ (k + 1)) (magnitude z))
   nearest_cases k s z x n =
@@ -160,7 +160,7 @@ module _ (precision : ℕ) (wide : 8 ≤ 2 ^ precision) where
       (cases_lt k n.on_grid.place))
       (cases_lt (magnitude s) (2 ^ precision * 2 ^ k))
 
-  -- the error of a multiple of 2 ^ k is such a multiple too, and has few digits
+  -- the error of a multiple of 2 ^ k is such a multiple too, so a small error is a grid number
   pub error_at : (k : ℕ) (s z : ℤ) → IsMultiple (2 ^ k) (magnitude s) → IsNearest precision s z
       → magnitude (z -ℤ s) < 2 ^ precision * 2 ^ k → IsGridNumber precision (z -ℤ s)
   error_at k s z x n h =
@@ -171,7 +171,7 @@ module _ (precision : ℕ) (wide : 8 ≤ 2 ^ precision) where
       (difference_multiple (2 ^ k) z s (pow_pos k) (finer_multiple k (magnitude z) q.1) x) h)
       (nearest_cases k s z x n)
 
-  -- what the rounded sum of two grid numbers lacks is a grid number
+  -- the error of the rounded sum of two grid numbers is a grid number
   pub error_on_grid : (a c z : ℤ) → IsGridNumber precision a → IsGridNumber precision c
       → IsNearest precision (a +ℤ c) z
       → IsGridNumber precision (z -ℤ (a +ℤ c))

@@ -1,4 +1,4 @@
--- What an operation on finite data delivers in the mode to nearest, as a rounding of signed whole numbers.
+-- Operations on finite data, to nearest, as roundings of signed whole numbers.
 use Rattle.std.proofs.Common.{◌≡◌, ℕ, zero, suc, ◌+◌, ◌-◌, ◌*◌, ◌^◌, ◌<◌, ◌≤◌, Bool, true, false, not, cond, eqb, ltb, sym, refl, ap, ◌∙◌, subst, ⊎_elim, le_trans, arith, lit<}
 use Rattle.std.specs.Prelude.{ℤ, pos, negsuc, neg_ℤ, ◌+ℤ◌, ◌-ℤ◌, ◌*ℤ◌}
 use Rattle.std.proofs.Math.Nat.{mul-le-mul_right, le_of_mul-le-mul_right}
@@ -26,18 +26,18 @@ use Rattle.apfloat_pair_theory.proofs.numbers.Signed.{IsGridNumber, on_grid_as}
 use Rattle.apfloat_pair_theory.proofs.numbers.SignedProducts.{difference_times, magnitude-times, times_one, signed_times}
 use Rattle.apfloat_pair_theory.proofs.numbers.Nearest.{IsNearest}
 
--- how far two numbers are apart
+-- the distance of two numbers
 abbrev pub apart : ℕ → ℕ → ℕ
 apart m n = (m - n) + (n - m)
 
--- the upper neighbour is taken only if it is no farther, and left only if it is no nearer
+-- the upper neighbour is taken only if it is no farther, and not taken only if it is no nearer
 takes_nearer : (negative odd : Bool) (x y : ℕ) → takes_above NearestTiesToEven negative x y odd ≡ true → y ≤ x
 takes_nearer negative odd x y h = grind arith
 
 leaves_farther : (negative odd : Bool) (x y : ℕ) → takes_above NearestTiesToEven negative x y odd ≡ false → x ≤ y
 leaves_farther negative odd x y h = grind arith
 
--- the neighbour that is picked is no farther than any other grid number
+-- the picked neighbour is no farther than any other grid number
 near_at : (above : Bool) (low high other amount p : ℕ) → low ≤ amount → amount ≤ high
     → (above ≡ true → high - amount ≤ amount - low) → (above ≡ false → amount - low ≤ high - amount)
     → p ≡ cond above high low → (amount ≤ other → high ≤ other) → (other ≤ amount → other ≤ low)
@@ -51,13 +51,12 @@ near_at false low high other amount p l h f g e u v =
     ⊎_elim (λ (q : other < amount). let k : other ≤ low = v (omega arith) in omega (arith, w))
     (λ (q : amount ≤ other). let k : high ≤ other = u q in omega (arith, w)) (cases_lt other amount)
 
--- one of two grid numbers is one
+-- whichever of two grid numbers is taken is a grid number
 either_on_grid : (first : Bool) (precision x y : ℕ) → IsOnGrid precision x → IsOnGrid precision y
     → IsOnGrid precision (cond first x y)
 either_on_grid true precision x y g h = g
 either_on_grid false precision x y g h = h
 
--- what is picked is a grid number
 pub pick_on_grid : (precision : ℕ) (negative : Bool) (amount parts p : ℕ)
     → IsPick precision NearestTiesToEven negative amount parts p → IsOnGrid precision p
 pick_on_grid precision negative amount parts p x =
@@ -77,30 +76,30 @@ pick_nearest precision negative amount parts p other x o =
 
 -- ---- with a sign
 
--- sign and magnitude make the number
+-- the sign and the magnitude of a number give the number
 pub signed_exact : (of_zero : Bool) (exact : ℤ) → signed (sign_of of_zero exact) (magnitude exact) ≡ exact
 signed_exact true (pos zero) = refl
 signed_exact false (pos zero) = refl
 signed_exact of_zero (pos (suc n)) = omega (arith, ints)
 signed_exact of_zero (negsuc n) = omega (arith, ints)
 
--- numbers of one sign
+-- the distance of two numbers of the same sign
 pub signed_apart : (negative : Bool) (m n : ℕ) → magnitude (signed negative m -ℤ signed negative n) ≡ apart m n
 signed_apart true m n = omega (arith, ints, one_side (neg_ℤ (pos m) -ℤ neg_ℤ (pos n)))
 signed_apart false m n = omega (arith, ints, one_side (pos m -ℤ pos n))
 
--- on the other side of zero nothing is nearer than zero
+-- two signed numbers are at least as far apart as their magnitudes
 pub signed_far : (negative : Bool) (g : ℤ) (n : ℕ) → apart (magnitude g) n ≤ magnitude (g -ℤ signed negative n)
 signed_far true g n = omega (arith, ints, one_side g, one_side (g -ℤ neg_ℤ (pos n)))
 signed_far false g n = omega (arith, ints, one_side g, one_side (g -ℤ pos n))
 
--- numbers of one sign, the first in quanta, and the second in parts of a quantum
+-- the same distance, the first number in quanta and the second in parts of a quantum
 pub signed_away : (negative : Bool) (m n u : ℕ)
     → magnitude ((signed negative m *ℤ pos u) -ℤ signed negative n) ≡ apart (m * u) n
 signed_away s m n u = ap (λ (i : ℤ). magnitude (i -ℤ signed s n)) (sym (signed_times s m u)) ∙
     signed_apart s (m * u) n
 
--- z quanta are as near to exact / parts quanta as a grid number can be
+-- z is a grid number, and no grid number is nearer to exact / parts
 pub record IsNearestFraction (precision parts : ℕ) (exact z : ℤ) : Type 0 where
   pub on_grid : IsGridNumber precision z
   pub nearest : (other : ℤ) → IsGridNumber precision other
@@ -130,7 +129,7 @@ away_times parts exact x z e =
     ap magnitude (sym (difference_times z x (pos parts))) ∙
     magnitude-times (z -ℤ x) parts
 
--- an exact result of whole quanta is rounded as that number
+-- an exact result of whole quanta rounds like that number
 pub whole_nearest : (precision parts : ℕ) (exact x z : ℤ) → 0 < parts → (x *ℤ pos parts) ≡ exact
     → IsNearestFraction precision parts exact z → IsNearest precision x z
 whole_nearest precision parts exact x z u e n = record {
@@ -144,9 +143,8 @@ whole_nearest precision parts exact x z u e n = record {
       le_of_mul-le-mul_right b u;
 }
 
--- ---- what is delivered
+-- ---- delivered values
 
--- the largest value is a grid number
 pub largest_on_grid : (format : Format) → format.nonfinite ≡ IEEE754 → IsOnGrid format.precision (largest format)
 largest_on_grid format e =
     let u = pow_pos format.precision in
@@ -154,19 +152,19 @@ largest_on_grid format e =
     (greatest_significand k format.precision * 2 ^ format.span)) (sym e)
     (multiple_on_grid format.precision (2 ^ format.precision - 1) format.span (omega arith))
 
--- past its largest value an IEEE format has an infinity
+-- past its largest value, an IEEE format has an infinity
 past_is : (format : Format) (negative : Bool) → format.nonfinite ≡ IEEE754
     → past_largest format.nonfinite (nan_base format) negative ≡ infinite negative
 past_is format s k = ap (λ (i : NonfiniteBehavior). past_largest i (nan_base format) s) k
 
--- within the largest value the pick is delivered
+-- a pick within the largest value is delivered
 pub within_is : (format : Format) (negative : Bool) (p : ℕ) → format.nonfinite ≡ IEEE754 → p ≤ largest format
     → delivered_value format NearestTiesToEven negative p ≡ finite negative p
 within_is format s p k h =
     let b : ltb (largest format) p ≡ false = le-ltb (largest format) p h in
     rw b (ap (λ (i : NonfiniteBehavior). signed_quanta i s p) k ∙ signed_quanta_is s p)
 
--- past the largest value an infinity is delivered
+-- for a pick past the largest value, an infinity is delivered
 pub beyond_is : (format : Format) (negative : Bool) (p : ℕ) → format.nonfinite ≡ IEEE754 → largest format < p
     → delivered_value format NearestTiesToEven negative p ≡ infinite negative
 beyond_is format s p k h =
@@ -184,7 +182,7 @@ finite_is format s p value k h e =
     (λ (q : p ≤ largest format). e ∙ within_is format s p k q)
     (cases_lt (largest format) p)
 
--- a finite datum whose number is a nearest one, of whole quanta and of parts of a quantum
+-- a finite datum whose number is nearest to the exact one, in whole quanta and in parts of a quantum
 pub record IsRoundedTo (precision : ℕ) (exact : ℤ) (value : Datum) : Type 0 where
   pub is_finite : is_finite value ≡ true
   pub nearest : IsNearest precision exact (number value)
@@ -201,7 +199,7 @@ whole_rounded precision parts exact x value u e r = record {
   nearest = whole_nearest precision parts exact x (number value) u e r.nearest;
 }
 
--- what is delivered as the pick
+-- a finite delivered value is a nearest number
 picked_rounded : (format : Format) (negative : Bool) (amount parts : ℕ) (exact : ℤ) (value : Datum) (p : ℕ)
     → signed negative amount ≡ exact → IsPick format.precision NearestTiesToEven negative amount parts p
     → value ≡ finite negative p → IsFractionRoundedTo format.precision parts exact value
@@ -214,7 +212,7 @@ picked_rounded format s amount parts exact value p e x v =
       nearest = subst (λ (d : Datum). IsNearestFraction format.precision parts exact (number d)) (sym v) n;
     }
 
--- within the largest value the answer is finite
+-- within the largest value, the delivered value is finite
 pub fraction_delivered : (format : Format) (negative : Bool) (amount parts : ℕ) (exact : ℤ) (value : Datum) (status : ℕ)
     → format.nonfinite ≡ IEEE754 → 0 < parts → amount ≤ largest format * parts → signed negative amount ≡ exact
     → IsDelivered format NearestTiesToEven negative amount parts value status
@@ -225,7 +223,7 @@ fraction_delivered format s amount parts exact value status k u h e x =
     picked_rounded format s amount parts exact value x.pick e x.is_pick
     (x.value_is ∙ within_is format s x.pick k (omega (arith, w)))
 
--- the same by an exact number
+-- the same for a signed exact result
 pub fraction_within : (format : Format) (of_zero : Bool) (exact : ℤ) (parts : ℕ) (value : Datum) (status : ℕ)
     → format.nonfinite ≡ IEEE754 → 0 < parts → magnitude exact ≤ largest format * parts
     → IsRounded format NearestTiesToEven of_zero exact parts value status
@@ -234,7 +232,7 @@ fraction_within format of_zero exact parts value status k u h x =
     fraction_delivered format (sign_of of_zero exact) (magnitude exact) parts exact value status k u h
     (signed_exact of_zero exact) x
 
--- the same of whole quanta
+-- the same for whole quanta
 pub within_nearest : (format : Format) (of_zero : Bool) (exact : ℤ) (value : Datum) (status : ℕ)
     → format.nonfinite ≡ IEEE754
     → magnitude exact ≤ largest format → IsRounded format NearestTiesToEven of_zero exact 1 value status
@@ -243,7 +241,7 @@ within_nearest format of_zero exact value status k h x =
     whole_rounded format.precision 1 exact exact value (lit< tt) (times_one exact)
     (fraction_within format of_zero exact 1 value status k (lit< tt) (omega (arith, h)) x)
 
--- a finite answer is a nearest number
+-- a finite result is a nearest number
 pub finite_nearest : (format : Format) (of_zero : Bool) (exact : ℤ) (value : Datum) (status : ℕ)
     → format.nonfinite ≡ IEEE754
     → is_finite value ≡ true → IsRounded format NearestTiesToEven of_zero exact 1 value status
@@ -256,7 +254,7 @@ finite_nearest format of_zero exact value status k h x =
 
 -- ---- sums and differences of finite data
 
--- a finite sum of finite data is the nearest number
+-- a finite sum of finite data is a nearest number
 pub sum_finite : (format : Format) (x y value : Datum) (status : ℕ) → format.nonfinite ≡ IEEE754 → is_finite x ≡ true
     → is_finite y ≡ true → is_finite value ≡ true → IsSum format NearestTiesToEven x y value status
     → IsRoundedTo format.precision (number x +ℤ number y) value
@@ -267,7 +265,7 @@ sum_finite format (finite b m) (nan c n) value status k p q h s = absurd (false�
 sum_finite format (infinite b) y value status k p q h s = absurd (false≢true p)
 sum_finite format (nan b m) y value status k p q h s = absurd (false≢true p)
 
--- a sum within the largest value is finite, and the nearest number
+-- a sum within the largest value is finite, and a nearest number
 pub sum_within : (format : Format) (x y value : Datum) (status : ℕ) → format.nonfinite ≡ IEEE754 → is_finite x ≡ true
     → is_finite y ≡ true → magnitude (number x +ℤ number y) ≤ largest format
     → IsSum format NearestTiesToEven x y value status
@@ -279,12 +277,12 @@ sum_within format (finite b m) (nan c n) value status k p q h s = absurd (false�
 sum_within format (infinite b) y value status k p q h s = absurd (false≢true p)
 sum_within format (nan b m) y value status k p q h s = absurd (false≢true p)
 
--- the other sign negates a number
+-- the opposite sign negates a number
 pub signed_not : (negative : Bool) (n : ℕ) → signed (not negative) n ≡ neg_ℤ (signed negative n)
 signed_not true n = omega (arith, ints)
 signed_not false n = refl
 
--- the negation turns the sign, of a zero too
+-- negation changes the sign, of a zero too
 pub negated_is : (negative : Bool) (n : ℕ) → negated IEEE754 (finite negative n) ≡ finite (not negative) n
 negated_is s zero = refl
 negated_is s (suc n) = let e : eqb (suc n) 0 ≡ false = ne_eqb (suc n) 0 (λ z. omega arith) in rw e refl

@@ -18,7 +18,7 @@ IsGridNumber precision z = IsOnGrid precision (magnitude z)
 pub on_grid_as : {precision m n : ℕ} → m ≡ n → IsOnGrid precision m → IsOnGrid precision n
 on_grid_as {precision} e g = subst (λ (i : ℕ). IsOnGrid precision i) e g
 
--- how the magnitude of a sum comes from the magnitudes
+-- the magnitude of a sum is the sum or the difference of the magnitudes
 pub sum_cases : (a b : ℤ)
     → (magnitude (a +ℤ b) ≡ magnitude a + magnitude b)
     ⊎ ((magnitude a ≡ magnitude b + magnitude (a +ℤ b)) ⊎ (magnitude b ≡ magnitude a + magnitude (a +ℤ b)))
@@ -31,11 +31,11 @@ sum_cases (negsuc m) (pos n) =
     ⊎_elim (λ (h : n < suc m). inr (inl (omega (arith, ints, one_side (negsuc m +ℤ pos n)))))
     (λ (h : suc m ≤ n). inr (inr (omega (arith, ints, one_side (negsuc m +ℤ pos n))))) (cases_lt n (suc m))
 
--- a number and its negation have one magnitude
+-- a number and its negation have the same magnitude
 pub magnitude-neg : (a : ℤ) → magnitude (neg_ℤ a) ≡ magnitude a
 magnitude-neg a = omega (arith, ints, one_side a, one_side (neg_ℤ a))
 
--- and so have the two differences of two numbers
+-- and so do the two differences of two numbers
 pub magnitude-sub : (a b : ℤ) → magnitude (a -ℤ b) ≡ magnitude (b -ℤ a)
 magnitude-sub a b = omega (arith, ints, one_side (b -ℤ a), one_side (a -ℤ b))
 
@@ -43,11 +43,11 @@ magnitude-sub a b = omega (arith, ints, one_side (b -ℤ a), one_side (a -ℤ b)
 pub magnitude_le : (a b : ℤ) → magnitude (a +ℤ b) ≤ magnitude a + magnitude b
 magnitude_le a b = omega (arith, ints, one_side a, one_side b, one_side (a +ℤ b))
 
--- z is at most x and how far it is off
+-- the magnitude of z is at most that of x plus that of z - x
 pub grown : (x z : ℤ) → magnitude z ≤ magnitude x + magnitude (z -ℤ x)
 grown x z = omega (arith, ints, one_side z, one_side x, one_side (z -ℤ x))
 
--- a summand is at most the sum and the other summand together
+-- a summand is at most the sum plus the other summand
 pub first_most : (x y : ℤ) → magnitude x ≤ magnitude (x +ℤ y) + magnitude y
 first_most x y = omega (arith, ints, one_side x, one_side y, one_side (x +ℤ y))
 
@@ -58,7 +58,7 @@ pub record IsMultiple (unit number : ℕ) : Type 0 where
   pub times : ℕ
   pub is : number ≡ times * unit
 
--- the difference of two multiples, by what they are multiples of
+-- the difference of two multiples is the difference of their factors times the unit
 rest_is : (u p q r d : ℕ) → p ≡ q + r → p * u ≡ q * u + d → d ≡ r * u
 rest_is u p q r d e h = let k : p * u ≡ (q + r) * u = ap (λ (x : ℕ). x * u) e in omega arith
 
@@ -92,18 +92,17 @@ sum_multiple u a b p x y =
     (λ e. less_multiple u (magnitude b) (magnitude a) (magnitude (a +ℤ b)) p y x e) h)
     (sum_cases a b)
 
--- the negation of a multiple is a multiple
 pub neg_multiple : (u : ℕ) (a : ℤ) → IsMultiple u (magnitude a) → IsMultiple u (magnitude (neg_ℤ a))
 neg_multiple u a x = subst (λ (n : ℕ). IsMultiple u n) (sym (magnitude-neg a)) x
 
--- the difference of two multiples is a multiple
+-- the difference of two integers that are multiples is a multiple
 pub difference_multiple : (u : ℕ) (a b : ℤ) → 0 < u → IsMultiple u (magnitude a) → IsMultiple u (magnitude b)
     → IsMultiple u (magnitude (a -ℤ b))
 difference_multiple u a b p x y =
     let e : a +ℤ neg_ℤ b ≡ a -ℤ b = omega (arith, ints) in
     subst (λ (z : ℤ). IsMultiple u (magnitude z)) e (sum_multiple u a (neg_ℤ b) p x (neg_multiple u b y))
 
--- a multiple of a power of two is one of the power before it
+-- a multiple of a power of two is a multiple of the next lower power
 pub finer_multiple : (k n : ℕ) → IsMultiple (2 ^ (k + 1)) n → IsMultiple (2 ^ k) n
 finer_multiple k n x =
     let e : 2 ^ (k + 1) ≡ 2 ^ k * 2 = pow-add 2 k 1 in
@@ -113,7 +112,7 @@ finer_multiple k n x =
 
 -- ---- grid points
 
--- a grid number is a multiple of its own unit, and of any finer one
+-- a grid number is a multiple of its unit, and of any finer unit
 pub coarse_multiple : (precision n k : ℕ) (grid : IsOnGrid precision n) → k ≤ grid.place → IsMultiple (2 ^ k) n
 coarse_multiple precision n k grid h =
     let e : grid.place ≡ (grid.place - k) + k = omega arith in
@@ -123,7 +122,7 @@ coarse_multiple precision n k grid h =
     ap (λ (x : ℕ). grid.significand * x) w in
     record { times = grid.significand * 2 ^ (grid.place - k); is = omega arith }
 
--- and has few digits in it
+-- and has at most `precision` digits in it
 pub grid_bound : (precision n : ℕ) (grid : IsOnGrid precision n) → n < 2 ^ precision * 2 ^ grid.place
 grid_bound precision n grid =
     let h : grid.significand * 2 ^ grid.place < 2 ^ precision * 2 ^ grid.place =
@@ -139,7 +138,7 @@ grid_bound_at precision n k grid h =
     let c : 2 ^ precision * 2 ^ grid.place ≤ 2 ^ precision * 2 ^ k = mul-le-mul_left (2 ^ precision) b in
     omega arith
 
--- a multiple with few digits is a grid number
+-- a multiple with at most `precision` digits is a grid number
 pub on_grid_from : (precision k n : ℕ) → IsMultiple (2 ^ k) n → n < 2 ^ precision * 2 ^ k → IsOnGrid precision n
 on_grid_from precision k n x h =
     let a : n ≡ x.times * 2 ^ k = x.is in
@@ -152,18 +151,17 @@ bound_on_grid precision k h =
     let e : 2 ^ (precision + k) ≡ 2 ^ precision * 2 ^ k = pow-add 2 precision k in
     record { significand = 1; place = precision + k; fits = h; is = omega arith }
 
--- the negation of a grid number is a grid number
 pub neg_on_grid : (precision : ℕ) (a : ℤ) → IsGridNumber precision a → IsGridNumber precision (neg_ℤ a)
 neg_on_grid precision a x = on_grid_as (sym (magnitude-neg a)) x
 
--- Two grid numbers are multiples of one unit, of which one of them has at most `precision` digits.
+-- two numbers are multiples of one power of two, in which one of them has at most `precision` digits
 pub record IsCommon (precision : ℕ) (a c : ℤ) : Type 0 where
   pub place : ℕ
   pub first : IsMultiple (2 ^ place) (magnitude a)
   pub second : IsMultiple (2 ^ place) (magnitude c)
   pub bound : (magnitude a < 2 ^ precision * 2 ^ place) ⊎ (magnitude c < 2 ^ precision * 2 ^ place)
 
--- two grid numbers are multiples of one power of two, beside which one of them is small
+-- any two grid numbers have such a power of two
 pub common : (precision : ℕ) (a c : ℤ) → IsGridNumber precision a → IsGridNumber precision c → IsCommon precision a c
 common precision a c g h =
     ⊎_elim
@@ -185,7 +183,7 @@ common precision a c g h =
     })
     (cases_lt g.place h.place)
 
--- a sum of grid numbers that is not above either of them
+-- a sum of two grid numbers that is above neither of them is a grid number
 pub cancelled : (precision : ℕ) (x y : ℤ) → IsGridNumber precision x → IsGridNumber precision y
     → magnitude (x +ℤ y) ≤ magnitude x → magnitude (x +ℤ y) ≤ magnitude y → IsGridNumber precision (x +ℤ y)
 cancelled precision x y g h l k =

@@ -1,4 +1,4 @@
--- A sum of finite data that stays finite has no flag but that of an inexact answer.
+-- A finite sum of finite data raises no flag other than INEXACT.
 use Rattle.std.proofs.Common.{◌≡◌, ℕ, ◌*◌, ◌^◌, ◌<◌, ◌≤◌, Bool, true, false, eqb, ltb, inl, inr, sym, refl, ap, ◌∙◌, ⊎_elim, arith, lit<}
 use Rattle.std.specs.Prelude.{ℤ, ◌+ℤ◌}
 use Rattle.std.proofs.Math.Nat.{pow-le-pow_right}
@@ -23,7 +23,7 @@ use Rattle.apfloat_pair_theory.proofs.numbers.Roundings.{beyond_is, negated_fini
 
 -- ---- one rounding to a whole number of quanta
 
--- below the power past its digits each number is on the grid
+-- a number of at most `precision` digits is rounded exactly
 small_is_exact : (precision : ℕ) (negative : Bool) (amount p : ℕ) → amount < 2 ^ precision
     → IsPick precision NearestTiesToEven negative amount 1 p → p ≡ amount
 small_is_exact precision negative amount p h x =
@@ -31,7 +31,7 @@ small_is_exact precision negative amount p h x =
     pick_unique precision NearestTiesToEven negative amount 1 p amount x
     (exact_is_picked precision NearestTiesToEven negative amount amount 1 (lit< tt) g (omega arith))
 
--- and from there on the pick is not below it
+-- the pick of a number of more digits has more digits too
 large_is_picked_large : (precision : ℕ) (negative : Bool) (amount p : ℕ) → 1 < 2 ^ precision → 2 ^ precision ≤ amount
     → IsPick precision NearestTiesToEven negative amount 1 p → 2 ^ precision ≤ p
 large_is_picked_large precision negative amount p w h x =
@@ -45,7 +45,7 @@ large_is_picked_large precision negative amount p w h x =
     let l = (pick_within precision NearestTiesToEven negative amount 1 p (lit< tt) x).1 in
     omega (arith, b, l)
 
--- an amount and a pick past the digits of the format are not tiny
+-- an amount and a pick of more than `precision` digits are not tiny
 not_tiny : (format : Format) (amount p : ℕ) → 2 ^ format.precision ≤ amount → 2 ^ format.precision ≤ p
     → is_tiny format amount 1 p ≡ false
 not_tiny format amount p h l =
@@ -53,7 +53,7 @@ not_tiny format amount p h l =
     either_false format.tiny_before_rounding _ _ (le-ltb amount (smallest_normalized format * 1) (omega arith))
     (le-ltb p (smallest_normalized format) (omega arith))
 
--- an inexact pick is not tiny, since below the power past the digits each number is exact
+-- an inexact pick is not tiny, since a number of at most `precision` digits is exact
 inexact_not_tiny : (format : Format) (negative : Bool) (amount p : ℕ) → 1 < 2 ^ format.precision → (p * 1 ≡ amount → ⊥)
     → IsPick format.precision NearestTiesToEven negative amount 1 p → is_tiny format amount 1 p ≡ false
 inexact_not_tiny format negative amount p w n x =
@@ -82,7 +82,7 @@ within_status format negative amount p status w l x e =
     inr (e ∙ d))
     (cases_eq (p * 1) amount)
 
--- and so does a rounding with a finite value
+-- and so does any rounding with a finite value
 rounded_status : (format : Format) (of_zero : Bool) (exact : ℤ) (value : Datum) (status : ℕ)
     → format.nonfinite ≡ IEEE754 → 1 < 2 ^ format.precision → is_finite value ≡ true
     → IsRounded format NearestTiesToEven of_zero exact 1 value status
@@ -122,11 +122,11 @@ difference_status format x y value status k w p q h s =
 
 -- ---- joined flags
 
--- the flags of two known statuses together
+-- the union of two known statuses
 joined : (s t a b c : ℕ) → s ≡ a → t ≡ b → (a ∪ b) ≡ c → (s ∪ t) ≡ c
 joined s t a b c e g h = ap (λ (i : ℕ). i ∪ t) e ∙ ap (λ (i : ℕ). a ∪ i) g ∙ h
 
--- two statuses with no flag but INEXACT have no other together
+-- the union of two statuses that are OK or INEXACT is OK or INEXACT
 pub union_status : (s t : ℕ) → IsOkOrInexact s → IsOkOrInexact t → IsOkOrInexact (s ∪ t)
 union_status s t a b =
     ⊎_elim

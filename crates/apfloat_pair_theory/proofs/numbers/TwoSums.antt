@@ -1,5 +1,5 @@
--- Sums with no error lost: each sum beside the exact rest, by three roundings where the
--- greater number stands first, by six in any order.
+-- Error-free sums, each a rounded sum with its exact error: TwoSum (Møller, Knuth) by six roundings, for operands in
+-- any order, and the subtraction of Fast2Sum (Dekker), for a first operand of greater magnitude.
 use Rattle.std.proofs.Common.{◌≡◌, ℕ, zero, suc, ◌+◌, ◌*◌, ◌^◌, ◌<◌, ◌≤◌, sym, ap, subst, ⊎_elim, arith}
 use Rattle.std.specs.Prelude.{ℤ, ◌+ℤ◌, ◌-ℤ◌, neg_ℤ}
 use Rattle.std.proofs.Math.Nat.{mul-le-mul_right, lt_of_mul-lt-mul_left, lt_of_mul-lt-mul_right}
@@ -12,7 +12,7 @@ use Rattle.apfloat_base.proofs.rounding.Laws.{zero_on_grid}
 use Rattle.apfloat_pair_theory.proofs.numbers.Signed.{magnitude-neg, magnitude-sub, magnitude_le, IsMultiple, sum_multiple, difference_multiple, finer_multiple, coarse_multiple, grid_bound_at, on_grid_from, bound_on_grid, neg_on_grid, cancelled, IsGridNumber, on_grid_as, common}
 use Rattle.apfloat_pair_theory.proofs.numbers.Nearest.{IsNearest, nearest_exact, nearest_reaches, error_le_second, relative_error, nearest_cases, error_on_grid}
 
--- there are digits
+-- the precision is at least one digit
 pub positive : (precision : ℕ) → 8 ≤ 2 ^ precision → 0 < precision
 positive zero h = absurd (omega (arith, h))
 positive (suc p) h = omega arith
@@ -27,7 +27,7 @@ small_multiple u n x h =
     let b : x.times * u ≤ 1 * u = mul-le-mul_right u k' in
     omega arith
 
--- a multiple below a multiple is one unit below
+-- a multiple below another is at least one unit below it
 unit_below : (t u n : ℕ) → IsMultiple u n → n < t * u → n + u ≤ t * u
 unit_below t u n x h =
     let a : n ≡ x.times * u = x.is in
@@ -37,14 +37,14 @@ unit_below t u n x h =
     let b : (x.times + 1) * u ≤ t * u = mul-le-mul_right u k' in
     omega arith
 
--- what both numbers are multiples of
+-- a power of two that both numbers are multiples of, and that bounds the second
 pub record IsShared (precision : ℕ) (a c : ℤ) : Type 0 where
   pub place : ℕ
   pub first : IsMultiple (2 ^ place) (magnitude a)
   pub second : IsMultiple (2 ^ place) (magnitude c)
   pub bound : magnitude c < 2 ^ precision * 2 ^ place
 
--- two grid numbers are multiples of one power of two, beside which the lesser one is small
+-- two grid numbers are multiples of one power of two, in which the lesser has at most `precision` digits
 pub shared : (precision : ℕ) (a c : ℤ) → IsGridNumber precision a → IsGridNumber precision c
     → magnitude c ≤ magnitude a
     → IsShared precision a c
@@ -53,16 +53,16 @@ shared precision a c g h l =
     let b = u.bound in
     record { place = u.place; first = u.first; second = u.second; bound = omega (arith, b) }
 
--- the exact value of the first step after the sum, by the error of the sum
+-- a bound of the exact first difference, from the error of the sum
 pub first_at : (a c z : ℤ) → magnitude (a -ℤ z) ≤ magnitude c + magnitude (z -ℤ (a +ℤ c))
 first_at a c z = omega (arith, ints, one_side (a -ℤ z), one_side c, one_side (z -ℤ (a +ℤ c)))
 
--- and that of the second one, by both errors
+-- a bound of the exact second sum, from both errors
 pub second_at : (a c z q : ℤ) → magnitude (q +ℤ c) ≤ magnitude (q -ℤ (a -ℤ z)) + magnitude (z -ℤ (a +ℤ c))
 second_at a c z q = omega (arith, ints, one_side (q +ℤ c), one_side (q -ℤ (a -ℤ z)), one_side (z -ℤ (a +ℤ c)))
 
 module _ (precision : ℕ) (wide : 8 ≤ 2 ^ precision) where
-  -- z - a is a grid number where a, too, has at most `precision` digits of the unit
+  -- z - a is a grid number if a, too, has at most `precision` digits in the unit
   fast_low : (k : ℕ) (a c z : ℤ) → magnitude a < 2 ^ precision * 2 ^ k → IsMultiple (2 ^ k) (magnitude a)
       → IsMultiple (2 ^ k) (magnitude c) → magnitude c < 2 ^ precision * 2 ^ k → IsMultiple (2 ^ k) (magnitude z)
       → IsNearest precision (a +ℤ c) z → IsGridNumber precision (z -ℤ a)
@@ -87,7 +87,7 @@ module _ (precision : ℕ) (wide : 8 ≤ 2 ^ precision) where
       on_grid_as v (bound_on_grid precision k (omega (arith, wide))))
       (cases_lt (magnitude (z -ℤ a)) (2 ^ precision * 2 ^ k))
 
-  -- and where a and z are multiples of twice the unit
+  -- and if a and z are multiples of twice the unit
   fast_high : (k : ℕ) (a c z : ℤ) → IsMultiple (2 ^ (k + 1)) (magnitude a) → magnitude c < 2 ^ precision * 2 ^ k
       → IsMultiple (2 ^ (k + 1)) (magnitude z)
       → magnitude (z -ℤ (a +ℤ c)) ≤ magnitude c → IsGridNumber precision (z -ℤ a)
@@ -100,10 +100,11 @@ module _ (precision : ℕ) (wide : 8 ≤ 2 ^ precision) where
       (difference_multiple (2 ^ (k + 1)) z a (pow_pos (k + 1)) w x)
       (omega arith)
 
-  -- a is a whole multiple of a unit of which c has at most `precision` digits: the rounded sum less a has no error
-  pub fast_exact : (a c z : ℤ) → IsGridNumber precision a → IsShared precision a c → IsNearest precision (a +ℤ c) z
-      → IsGridNumber precision (z -ℤ a)
-  fast_exact a c z g s n =
+  -- the subtraction of Fast2Sum (Dekker): if a is a multiple of a unit in which c has at most `precision` digits, z - a
+  -- is exact
+  pub fast_two_sum_difference : (a c z : ℤ) → IsGridNumber precision a → IsShared precision a c
+      → IsNearest precision (a +ℤ c) z → IsGridNumber precision (z -ℤ a)
+  fast_two_sum_difference a c z g s n =
       let k = s.place in
       ⊎_elim
       (λ (e : z ≡ a +ℤ c).
@@ -121,14 +122,14 @@ module _ (precision : ℕ) (wide : 8 ≤ 2 ^ precision) where
       (nearest_cases precision wide s.place (a +ℤ c) z
       (sum_multiple (2 ^ s.place) a c (pow_pos s.place) s.first s.second) n)
 
-  -- the same where a is not the lesser
-  pub fast_exact_greater : (a c z : ℤ) → IsGridNumber precision a → IsGridNumber precision c
+  -- the same if the magnitude of a is not the lesser
+  pub fast_two_sum_difference_greater : (a c z : ℤ) → IsGridNumber precision a → IsGridNumber precision c
       → magnitude c ≤ magnitude a
       → IsNearest precision (a +ℤ c) z
       → IsGridNumber precision (z -ℤ a)
-  fast_exact_greater a c z g h l n = fast_exact a c z g (shared precision a c g h l) n
+  fast_two_sum_difference_greater a c z g h l n = fast_two_sum_difference a c z g (shared precision a c g h l) n
 
--- the six roundings of an error-free sum of a and c
+-- the six roundings of TwoSum of a and c
 pub record IsTwoSum (precision : ℕ) (a c z q zz r d w : ℤ) : Type 0 where
   pub sum : IsNearest precision (a +ℤ c) z
   pub first : IsNearest precision (a -ℤ z) q
@@ -137,12 +138,12 @@ pub record IsTwoSum (precision : ℕ) (a c z q zz r d w : ℤ) : Type 0 where
   pub fourth : IsNearest precision (r -ℤ a) d
   pub last : IsNearest precision (zz +ℤ neg_ℤ d) w
 
--- the error of a sum is small beside its greater operand
+-- the error of a sum is at most a quarter of its greater operand
 quarter : (p e s a c : ℕ) → 8 ≤ p → p * e ≤ s → s ≤ a + c → a < c → 4 * e ≤ c
 quarter p e s a c w h l k = let b : 8 * e ≤ p * e = mul-le-mul_right e w in omega arith
 
 module _ (precision : ℕ) (wide : 8 ≤ 2 ^ precision) where
-  -- where z - a is a grid number, w is the exact rest
+  -- if z - a is a grid number, w is the exact error
   exact_first : (a c z q zz r d w : ℤ) → IsGridNumber precision a → IsGridNumber precision c
       → IsGridNumber precision (z -ℤ a) → IsTwoSum precision a c z q zz r d w → w ≡ ((a +ℤ c) -ℤ z)
   exact_first a c z q zz r d w g h o x =
@@ -160,7 +161,7 @@ module _ (precision : ℕ) (wide : 8 ≤ 2 ^ precision) where
       let e₅ : w ≡ (zz +ℤ neg_ℤ d) = nearest_exact precision (zz +ℤ neg_ℤ d) w (on_grid_as m₅ s) x.last in
       omega (arith, ints)
 
-  -- and where the first operand is the lesser one
+  -- and if the first operand is the lesser
   rounded_first : (a c z q zz r d w : ℤ) → IsGridNumber precision a → IsGridNumber precision c
       → magnitude a < magnitude c → magnitude a ≤ magnitude z → IsTwoSum precision a c z q zz r d w
       → w ≡ ((a +ℤ c) -ℤ z)
@@ -171,7 +172,7 @@ module _ (precision : ℕ) (wide : 8 ≤ 2 ^ precision) where
       let n : IsNearest precision (neg_ℤ z +ℤ a) q = subst (λ (i : ℤ). IsNearest precision i q) (sym y) x.first in
       let k' : magnitude a ≤ magnitude (neg_ℤ z) = let b : magnitude (neg_ℤ z) ≡ magnitude z = magnitude-neg z in
       omega arith in
-      let t = fast_exact_greater precision wide (neg_ℤ z) a q o g k' n in
+      let t = fast_two_sum_difference_greater precision wide (neg_ℤ z) a q o g k' n in
       let m₃ : magnitude (q -ℤ neg_ℤ z) ≡ magnitude (q +ℤ z) =
       omega (arith, ints, one_side (q -ℤ neg_ℤ z), one_side (q +ℤ z)) in
       let e₃ : r ≡ (q +ℤ z) = nearest_exact precision (q +ℤ z) r (on_grid_as m₃ t) x.third in
@@ -196,7 +197,7 @@ module _ (precision : ℕ) (wide : 8 ≤ 2 ^ precision) where
       let e₅ : w ≡ (zz +ℤ neg_ℤ d) = nearest_exact precision (zz +ℤ neg_ℤ d) w (on_grid_as m₅ s) x.last in
       omega (arith, ints)
 
-  -- the last of the six is the exact rest, in any order and at any signs of the two numbers
+  -- TwoSum (Møller, Knuth): the last of the six is the exact error of the sum, in any order and for any signs
   pub two_sum : (a c z q zz r d w : ℤ) → IsGridNumber precision a → IsGridNumber precision c
       → IsTwoSum precision a c z q zz r d w → w ≡ ((a +ℤ c) -ℤ z)
   two_sum a c z q zz r d w g h x =
@@ -212,5 +213,5 @@ module _ (precision : ℕ) (wide : 8 ≤ 2 ^ precision) where
       (nearest_reaches precision (magnitude a) (a +ℤ c) z g k x.sum) x)
       (cases_lt (magnitude (a +ℤ c)) (magnitude a)))
       (λ (l : magnitude c ≤ magnitude a).
-      exact_first a c z q zz r d w g h (fast_exact_greater precision wide a c z g h l x.sum) x)
+      exact_first a c z q zz r d w g h (fast_two_sum_difference_greater precision wide a c z g h l x.sum) x)
       (cases_lt (magnitude a) (magnitude c))

@@ -1,4 +1,4 @@
--- Products that are a whole number of quanta: the rounded product, and the fused sum that leaves the exact rest.
+-- Products that are a whole number of quanta: the rounded product, and its exact error by a fused multiply-add.
 use Rattle.std.proofs.Common.{◌≡◌, ℕ, ◌+◌, ◌-◌, ◌*◌, ◌^◌, ◌<◌, ◌≤◌, true, false, refl, sym, ap, ◌∙◌, subst, arith}
 use Rattle.std.specs.Prelude.{ℤ, pos, neg_ℤ, ◌+ℤ◌, ◌-ℤ◌, ◌*ℤ◌}
 use Rattle.std.proofs.Math.Nat.{mul-le-mul_right, lt_of_mul-lt-mul_left, mul-lt-mul_of_pos_right}
@@ -80,19 +80,19 @@ pub record IsWholeProduct (precision scale : ℕ) (a c x : ℤ) : Type 0 where
   pub multiple : IsMultiple (2 ^ place) (magnitude x)
   pub bound : magnitude x < 2 ^ precision * (2 ^ precision * 2 ^ place)
 
--- as magnitudes
+-- the magnitude of the whole product is the product of the magnitudes
 pub whole_size : (precision scale : ℕ) (a c x : ℤ) → IsWholeProduct precision scale a c x
     → magnitude x * 2 ^ scale ≡ magnitude a * magnitude c
 whole_size precision scale a c x w = sym (magnitude-times x (2 ^ scale)) ∙ ap magnitude w.is ∙ magnitude-mul a c
 
--- its magnitude
+-- x quanta are the exact product of two magnitudes
 record IsWholeSize (precision scale m n x : ℕ) : Type 0 where
   is : x * 2 ^ scale ≡ m * n
   place : ℕ
   multiple : IsMultiple (2 ^ place) x
   bound : x < 2 ^ precision * (2 ^ precision * 2 ^ place)
 
--- the exact product of two grid numbers of quanta, where its lowest digits reach the quantum
+-- the exact product of two grid numbers of quanta, if its lowest digits are not below the quantum
 size_of_product : (precision scale m n : ℕ) (m_grid : IsOnGrid precision m) (n_grid : IsOnGrid precision n)
     → scale ≤ m_grid.place + n_grid.place → (x : ℕ) × IsWholeSize precision scale m n x
 size_of_product precision scale m n m_grid n_grid l =
@@ -124,7 +124,7 @@ size_of_product precision scale m n m_grid n_grid l =
       },
     )
 
--- where the lowest digits of the product reach the quantum, it is a whole number of quanta
+-- if the lowest digits of the product are not below the quantum, it is a whole number of quanta
 pub whole_product : (precision scale : ℕ) (a c : ℤ) (a_grid : IsGridNumber precision a)
     (c_grid : IsGridNumber precision c) → scale ≤ a_grid.place + c_grid.place
     → (x : ℤ) × IsWholeProduct precision scale a c x
@@ -144,9 +144,9 @@ whole_product precision scale a c a_grid c_grid l =
       },
     )
 
--- ---- the rounded product of whole quanta, and what it lacks
+-- ---- the rounded product of whole quanta, and its error
 
--- what a rounding to `precision` digits takes from a number of twice as many is on the grid
+-- the error of rounding a number of twice as many digits is on the grid
 pub product_error_on_grid : (precision : ℕ) → 8 ≤ 2 ^ precision → (scale : ℕ) (a c x t : ℤ)
     → IsWholeProduct precision scale a c x → IsNearest precision x t → IsGridNumber precision (t -ℤ x)
 product_error_on_grid precision wide scale a c x t w k =
@@ -157,7 +157,7 @@ product_error_on_grid precision wide scale a c x t w k =
     omega (arith, r, b) in
     error_at precision wide w.place x t w.multiple k (lt_of_mul-lt-mul_left (2 ^ precision) l)
 
--- in parts of a quantum, the rest of the product is a fused sum with the negation of t
+-- in parts of a quantum, the error of the product is a fused sum with the negation of t
 rest_times : (x t m u a c : ℤ) → m ≡ neg_ℤ t → (x *ℤ u) ≡ (a *ℤ c) → ((x -ℤ t) *ℤ u) ≡ ((a *ℤ c) +ℤ (m *ℤ u))
 rest_times x t m u a c e w =
     let d = difference_times x t u in
@@ -184,14 +184,14 @@ pub record IsNumber (exact : ℤ) (value : Datum) : Type 0 where
   pub is_finite : is_finite value ≡ true
   pub number_is : number value ≡ exact
 
--- a * c - t, rounded once, is the exact rest
-pub fused_rest : (format : Format) (first second product rest : Datum) (flags : ℕ) (x : ℤ) → format.nonfinite ≡ IEEE754
+-- TwoProduct with a fused multiply-add: a * c - t, rounded once, is the exact error of the rounded product t
+pub two_product : (format : Format) (first second product rest : Datum) (flags : ℕ) (x : ℤ) → format.nonfinite ≡ IEEE754
     → 8 ≤ 2 ^ format.precision → is_finite first ≡ true → is_finite second ≡ true → is_finite product ≡ true
     → IsWholeProduct format.precision format.scale (number first) (number second) x → magnitude x ≤ largest format
     → IsNearest format.precision x (number product)
     → IsFusedSum format NearestTiesToEven first second (negated IEEE754 product) rest flags
     → IsNumber (x -ℤ number product) rest
-fused_rest format a c t rest flags x k wide fa fc ft w l n h =
+two_product format a c t rest flags x k wide fa fc ft w l n h =
     let r = x -ℤ number t in
     let e = rest_times x (number t) (number (negated IEEE754 t)) (pos (2 ^ format.scale)) (number a) (number c)
     (negated_number t ft) w.is in

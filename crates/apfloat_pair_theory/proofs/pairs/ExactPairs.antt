@@ -1,4 +1,4 @@
--- The answer of a call by the wide format adds up exactly to the wide answer, wherever its high part is finite.
+-- The parts of a split wide result add up exactly to that result whenever the high part is finite.
 use Rattle.std.specs.Prelude.{ℕ}
 use Rattle.apfloat_base.specs.declared.kinds.Round.{Round}
 use Rattle.apfloat_base.specs.formats.Datum.{Datum}
@@ -10,7 +10,7 @@ use Rattle.apfloat_pair_theory.specs.PairCalls.{IsPairQuotient, IsPairTruncatedR
 use Rattle.apfloat_pair_theory.specs.PairAccuracy.{IsExactAnswerOfTwo, IsExactQuotient, IsExactTruncatedRemainder, IsExactNearestRemainder}
 use Rattle.apfloat_pair_theory.proofs.pairs.SplitLaws.{exact_split}
 
--- of a call of two pairs
+-- for a call of two pairs
 exact_answer_of_two : (call : Datum → Datum → Datum → ℕ → Type 0) (x y answer : Pair) (status : ℕ)
     → IsWideAnswerOfTwo call x y answer status → IsExactAnswerOfTwo call x y answer status
 exact_answer_of_two call x y answer status a = record {

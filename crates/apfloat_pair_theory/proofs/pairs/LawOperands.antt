@@ -19,7 +19,7 @@ use Rattle.apfloat_pair_theory.proofs.sums.ClosingSums.{is_ieee, wide_enough}
 
 -- ---- doubles
 
--- the magnitude of a finite datum is its count of quanta
+-- the magnitude of a finite datum is its number of quanta
 pub magnitude_quanta : (datum : Datum) → is_finite datum ≡ true → magnitude (number datum) ≡ quanta_of datum
 magnitude_quanta (finite b n) e = magnitude_signed b n
 magnitude_quanta (infinite b) e = absurd (false≢true e)
@@ -32,7 +32,7 @@ member_on_grid (finite b n) e m = on_grid_as (sym (magnitude_signed b n)) m.on_g
 member_on_grid (infinite b) e m = absurd (false≢true e)
 member_on_grid (nan b n) e m = absurd (false≢true e)
 
--- a finite member beside +0
+-- a finite double as the high part, and +0 as the low part
 pub record IsDoubleAlone (x : Pair) : Type 0 where
   pub is_double : IsMember double x.high
   pub is_finite : is_finite x.high ≡ true
@@ -42,19 +42,19 @@ pub record IsDoubleAlone (x : Pair) : Type 0 where
 pub double_alone : (x : Pair) → IsMember double x.high → IsSingle x → IsDoubleAlone x
 double_alone x m s = record { is_double = m; is_finite = s.is_finite; low_is = s.low_is }
 
--- whose low part has the number 0
+-- its low part has the number 0
 pub single_low : (x : Pair) → IsDoubleAlone x → number x.low ≡ pos 0
 single_low x s = ap number s.low_is
 
 -- ---- normalised pairs
 
--- the high part is nearest to the number of the pair
+-- the high part of a normalised pair is nearest to the number of the pair
 pub normalised_nearest : (x : Pair) → IsNormalised x
     → IsNearest double.precision (number x.high +ℤ number x.low) (number x.high)
 normalised_nearest x n =
     high_nearest double x.high x.low n.nearest n.status is_ieee n.finite_high n.finite_low n.is_nearest n.same_number
 
--- at most an eighth of a sum is at most a seventh of the other summand
+-- if a summand is at most an eighth of a sum, it is at most a seventh of the other summand
 seven_low : (h l : ℕ) → 8 * l ≤ h + l → 7 * l ≤ h
 seven_low h l a = omega arith
 

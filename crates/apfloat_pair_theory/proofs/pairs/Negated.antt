@@ -1,4 +1,4 @@
--- The negation of a normalised pair is normalised, and its number is the negated one.
+-- The negation of a normalised pair is normalised, and has the negated number.
 use Rattle.std.proofs.Common.{◌≡◌, ℕ, zero, suc, ◌<◌, Bool, true, false, not, ltb, cond, sym, refl, ap, ◌∙◌, subst, arith, lit<}
 use Rattle.std.specs.Prelude.{ℤ, pos, negsuc, neg_ℤ, ◌+ℤ◌}
 use Rattle.std.proofs.lemmas.Int.{ints}
@@ -25,7 +25,7 @@ use Rattle.apfloat_pair_theory.proofs.numbers.Roundings.{negated_is, negated_fin
 use Rattle.apfloat_pair_theory.proofs.calls.PairsOnce.{parts_same}
 use Rattle.apfloat_pair_theory.proofs.pairs.Normalised.{IsSameAnswer, IsHighOf, equal_finite, equal_number, is_equal_by}
 
--- ---- the answer of the negated number
+-- ---- the nearest value of the negated number
 
 -- a rounding to nearest is the same on both sides of zero
 negative_answer : (format : Format) (negative : Bool) (amount negated_amount : ℕ) (nearest : Datum) (status : ℕ)
@@ -38,7 +38,7 @@ negative_answer format s amount negated_amount nearest status k l e x =
     (subst (λ (i : NonfiniteBehavior). IsDelivered format NearestTiesToEven (not s) amount 1 (negated i nearest) status)
     k d)
 
--- numbers that are equal are equal when negated
+-- equal numbers have equal negations
 negated_equal : (datum opposite nearest : Datum) → is_finite datum ≡ true → is_finite opposite ≡ true
     → number opposite ≡ neg_ℤ (number datum) → is_equal datum nearest ≡ true
     → is_equal opposite (negated IEEE754 nearest) ≡ true
@@ -83,7 +83,7 @@ negated_answer format of_zero other (negsuc n) h g nearest status k l fh fg e q 
 negated_sum : (a b c d : ℤ) → c ≡ neg_ℤ a → d ≡ neg_ℤ b → neg_ℤ (a +ℤ b) ≡ (c +ℤ d)
 negated_sum a b c d e g = omega (arith, ints)
 
--- parts that are both negated leave the high part nearest to their sum
+-- if both parts are negated, the high part is still nearest to their sum
 negated_high : (format : Format) (high low opposite_high opposite_low nearest : Datum) (status : ℕ)
     → format.nonfinite ≡ IEEE754 → 0 < largest format → is_finite high ≡ true → is_finite low ≡ true
     → is_finite opposite_high ≡ true → is_finite opposite_low ≡ true → number opposite_high ≡ neg_ℤ (number high)
@@ -117,7 +117,7 @@ negated_high format (nan b i) l g m nearest status k p fh fl fg fm eh el s q = a
 
 -- ---- pairs
 
--- a zero of either sign is its own opposite
+-- a zero of either sign has the negated number of a zero
 not_of : (negative : Bool) → signed negative 0 ≡ neg_ℤ (signed negative 0)
 not_of true = refl
 not_of false = refl
@@ -135,7 +135,7 @@ low_finite (finite s n) h = either (is_finite_non_zero (finite s n)) where
 low_finite (infinite s) h = absurd (false≢true h)
 low_finite (nan s n) h = absurd (false≢true h)
 
--- whose number is the opposite one
+-- and its number is the negated one
 low_number : (datum : Datum) → is_finite datum ≡ true → number (negated_low datum) ≡ neg_ℤ (number datum)
 low_number (finite s zero) h = not_of s
 low_number (finite s (suc n)) h =
@@ -144,7 +144,7 @@ low_number (finite s (suc n)) h =
 low_number (infinite s) h = absurd (false≢true h)
 low_number (nan s n) h = absurd (false≢true h)
 
--- zeros of either sign are covered: the answer of an exact zero is a zero
+-- the negation of a normalised pair is normalised, also if its number is zero
 pub negated_normalised : (x : Pair) → IsNormalised x → IsNormalised (negated_pair x)
 negated_normalised x n =
     let fh = negated_finite x.high n.finite_high in
@@ -168,7 +168,7 @@ negated_pair_number x fh fl =
     sym (negated_sum (number x.high) (number x.low) (number (negated IEEE754 x.high)) (number (negated_low x.low))
     (negated_number x.high fh) (low_number x.low fl))
 
--- negation keeps the count of quanta
+-- negation keeps the number of quanta
 pub negated_quanta : (datum : Datum) → quanta_of (negated IEEE754 datum) ≡ quanta_of datum
 negated_quanta (finite s n) = ap quanta_of (negated_is s n)
 negated_quanta (infinite s) = refl
@@ -195,13 +195,13 @@ negated_twice (finite b n) =
 negated_twice (infinite b) = ap infinite (not-not b)
 negated_twice (nan b s) = ap (λ (c : Bool). nan c s) (not-not b)
 
--- and its negation is finite and nonzero if it is
+-- a negated datum is finite and nonzero exactly if the datum is
 negated_is_number : (datum : Datum) → is_finite_non_zero (negated IEEE754 datum) ≡ is_finite_non_zero datum
 negated_is_number (finite b n) = ap is_finite_non_zero (negated_is b n)
 negated_is_number (infinite b) = refl
 negated_is_number (nan b s) = refl
 
--- so is a low part, also where its sign is kept
+-- so is a low part, even if its sign is kept
 low_twice : (is_number : Bool) (datum : Datum) → is_number ≡ is_finite_non_zero datum
     → negated_low (cond is_number (negated IEEE754 datum) datum) ≡ datum
 low_twice true x e = rw (negated_is_number x, ← e) (negated_twice x)

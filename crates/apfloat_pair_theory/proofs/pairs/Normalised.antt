@@ -1,4 +1,4 @@
--- What a normalised pair says of its numbers, and what shows that a pair is normalised.
+-- What follows from a pair being normalised, and what it follows from.
 use Rattle.std.proofs.Common.{◌≡◌, ℕ, zero, suc, ◌≤◌, Bool, true, false, sym, refl, ap, ◌∙◌, subst, arith, lit<}
 use Rattle.std.specs.Prelude.{ℤ, pos, negsuc, ◌+ℤ◌}
 use Rattle.std.proofs.lemmas.Bool.{false≢true}
@@ -26,13 +26,13 @@ use Rattle.apfloat_pair_theory.proofs.numbers.Roundings.{sum_finite, signed_exac
 
 -- ---- equal data
 
--- data that compare as equal meet the middle of three cases
+-- data that compare equal satisfy the middle of three cases
 equal_from : (order : Ordering) (P Q R : Type 0) → is_eq order ≡ true → MatchOrdering order P Q R → Q
 equal_from Less P Q R h m = absurd (false≢true h)
 equal_from Equal P Q R h m = m
 equal_from Greater P Q R h m = absurd (false≢true h)
 
--- what is equal to a finite datum is finite, and has its number
+-- a datum equal to a finite datum is finite
 pub equal_finite : (x y : Datum) → is_finite x ≡ true → is_equal x y ≡ true → is_finite y ≡ true
 equal_finite (finite b m) (finite c n) p h = refl
 equal_finite (finite b m) (infinite true) p h = absurd (false≢true h)
@@ -41,7 +41,7 @@ equal_finite (finite b m) (nan c n) p h = absurd (false≢true h)
 equal_finite (infinite b) y p h = absurd (false≢true p)
 equal_finite (nan b m) y p h = absurd (false≢true p)
 
--- data that are equal by order have one number
+-- data that compare equal have the same number
 pub equal_number : (x y : Datum) → is_finite x ≡ true → is_equal x y ≡ true → number x ≡ number y
 equal_number (finite b m) (finite c n) p h =
     equal_from (int_cmp (signed b m) (signed c n)) _ _ _ h (int_ranks (signed b m) (signed c n))
@@ -51,7 +51,7 @@ equal_number (finite b m) (nan c n) p h = absurd (false≢true h)
 equal_number (infinite b) y p h = absurd (false≢true p)
 equal_number (nan b m) y p h = absurd (false≢true p)
 
--- finite data with one number are equal
+-- finite data with the same number compare equal
 pub is_equal_by : (x y : Datum) → is_finite x ≡ true → is_finite y ≡ true → number x ≡ number y → is_equal x y ≡ true
 is_equal_by (finite b m) (finite c n) p q e = ap is_eq (sym (int_cmp_is (signed b m) (signed c n) Equal e))
 is_equal_by (finite b m) (infinite c) p q e = absurd (false≢true q)
@@ -59,7 +59,7 @@ is_equal_by (finite b m) (nan c n) p q e = absurd (false≢true q)
 is_equal_by (infinite b) y p q e = absurd (false≢true p)
 is_equal_by (nan b m) y p q e = absurd (false≢true p)
 
--- ---- the answer of one exact number, whatever the sign of a zero
+-- ---- the rounded value of an exact number, whatever the sign of a zero
 
 pub record IsSameAnswer (format : Format) (of_zero : Bool) (exact : ℤ) (value : Datum) : Type 0 where
   pub nearest : Datum
@@ -67,7 +67,7 @@ pub record IsSameAnswer (format : Format) (of_zero : Bool) (exact : ℤ) (value 
   pub is_nearest : IsRounded format NearestTiesToEven of_zero exact 1 nearest status
   pub same_number : is_equal value nearest ≡ true
 
--- a finite rounding has one number, whichever sign its zero has
+-- finite rounded values of the same number are equal, whatever the sign of a zero
 same_answer : (format : Format) (of_zero other : Bool) (exact : ℤ) (value : Datum) (status : ℕ)
     → format.nonfinite ≡ IEEE754
     → is_finite value ≡ true → IsRounded format NearestTiesToEven of_zero exact 1 value status
@@ -96,14 +96,14 @@ same_answer format of_zero other (negsuc n) value status k h x = record {
   same_number = is_equal_by value value h h refl;
 }
 
--- a high part is equal to the answer of the sum of the parts
+-- the high part compares equal to the rounded sum of the parts
 pub record IsHighOf (format : Format) (high low : Datum) : Type 0 where
   pub nearest : Datum
   pub status : ℕ
   pub is_nearest : IsSum format NearestTiesToEven high low nearest status
   pub same_number : is_equal high nearest ≡ true
 
--- a rounded sum beside what it lacks is the high part of a pair
+-- a rounded sum is the high part of a pair whose low part is its error
 pub high_of_sum : (format : Format) (sum rest high low : Datum) (status : ℕ) → format.nonfinite ≡ IEEE754
     → is_finite sum ≡ true → is_finite rest ≡ true → is_finite high ≡ true → is_finite low ≡ true
     → (number high +ℤ number low) ≡ (number sum +ℤ number rest) → IsSum format NearestTiesToEven sum rest high status
@@ -124,7 +124,7 @@ high_of_sum format (finite b m) (nan c n) h l status k fz fy fh fl s x = absurd 
 high_of_sum format (infinite b) y h l status k fz fy fh fl s x = absurd (false≢true fz)
 high_of_sum format (nan b m) y h l status k fz fy fh fl s x = absurd (false≢true fz)
 
--- a number of the format is its own answer
+-- a number of the format rounds to itself
 pub rounded_exactly : (format : Format) (of_zero : Bool) (exact : ℤ) → format.nonfinite ≡ IEEE754
     → IsGridNumber format.precision exact → magnitude exact ≤ largest format
     → IsRounded format NearestTiesToEven of_zero exact 1 (finite (sign_of of_zero exact) (magnitude exact)) ok_bits
@@ -135,7 +135,7 @@ rounded_exactly format of_zero exact k g w =
     subst (λ (v : Datum). IsRounded format NearestTiesToEven of_zero exact 1 v ok_bits) q
     (exact_delivered format NearestTiesToEven s (magnitude exact) (magnitude exact) 1 (lit< tt) g w (omega arith))
 
--- a finite double beside +0 is the high part of a pair
+-- a finite double is the high part of a pair with low part +0
 pub high_alone : (format : Format) (datum : Datum) → format.nonfinite ≡ IEEE754 → is_finite datum ≡ true
     → IsGridNumber format.precision (number datum) → magnitude (number datum) ≤ largest format
     → IsHighOf format datum (finite false 0)
@@ -155,7 +155,7 @@ high_alone format (finite b m) k fh g w =
 high_alone format (infinite b) k fh g w = absurd (false≢true fh)
 high_alone format (nan b m) k fh g w = absurd (false≢true fh)
 
--- such a high part is a number that is nearest to the sum of the parts
+-- such a high part is nearest to the sum of the parts
 pub high_nearest : (format : Format) (high low nearest : Datum) (status : ℕ) → format.nonfinite ≡ IEEE754
     → is_finite high ≡ true
     → is_finite low ≡ true → IsSum format NearestTiesToEven high low nearest status → is_equal high nearest ≡ true

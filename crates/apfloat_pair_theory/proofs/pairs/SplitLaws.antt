@@ -1,4 +1,4 @@
--- A split loses nothing: within the largest double the pair is normalised, and its number is that of the wide datum.
+-- A split loses nothing: within the largest double, the pair is normalised and has the number of the wide datum.
 use Rattle.std.proofs.Common.{◌≡◌, ℕ, zero, suc, ◌-◌, ◌*◌, ◌/◌, ◌%◌, ◌^◌, ◌<◌, ◌≤◌, Bool, true, false, not, ◌&&◌, cond, eqb, ltb, refl, sym, ap, ◌∙◌, subst, ⊎_elim, arith, lit<, mul_assoc}
 use Rattle.std.specs.Prelude.{ℤ, pos, neg_ℤ, ◌+ℤ◌, ◌-ℤ◌}
 use Rattle.std.proofs.Math.Nat.{mul-le-mul_right, le_of_mul-le-mul_right, eq_of_mul-eq-mul_right}
@@ -69,7 +69,7 @@ pick_whole precision s m u p h x =
       is = x.is ∙ pick_times s x.below x.above m u h;
     }
 
--- the same value; only the flags are counted anew
+-- the delivered value is the same; only the flags may differ
 pub delivered_whole : (format : Format) (negative : Bool) (m u : ℕ) (value : Datum) (status : ℕ) → 0 < u
     → IsDelivered format NearestTiesToEven negative (m * u) u value status
     → (again : ℕ) × IsDelivered format NearestTiesToEven negative m 1 value again
@@ -102,7 +102,7 @@ never_ok : (tiny : Bool) → ok_bits ≡ cond tiny 24 16 → ⊥
 never_ok true e = absurd (omega (arith, e))
 never_ok false e = absurd (omega (arith, e))
 
--- OK says that nothing was lost
+-- the status OK means that nothing was lost
 ok_is_exact : (format : Format) (negative : Bool) (amount u p status : ℕ) → p ≤ largest format
     → status ≡ delivered_status format NearestTiesToEven negative amount u p → status ≡ ok_bits → p * u ≡ amount
 ok_is_exact format s amount u p status l d o =
@@ -116,9 +116,9 @@ ok_is_exact format s amount u p status l d o =
     absurd (never_ok (is_tiny format amount u p) (sym o ∙ d ∙ e)))
     (cases_eq (p * u) amount)
 
--- ---- the low part is what is left
+-- ---- the low part is the rest
 
--- the low part has the number that is left: what is left over, or +0 where nothing is
+-- the low part has the number of the rest, or is +0 if there is none
 low_at : (some ok negative high_negative : Bool) (m n : ℕ) → (ok ≡ true → signed high_negative n ≡ signed negative m)
     → (some ≡ false → signed high_negative n ≡ signed negative m)
     → IsNumber (signed negative m -ℤ signed high_negative n)
@@ -127,7 +127,7 @@ low_at true false b c m n f g = record { is_finite = refl; number_is = signed_ex
 low_at true true b c m n f g = let e = f refl in record { is_finite = refl; number_is = omega (arith, ints, e) }
 low_at false u b c m n f g = let e = g refl in record { is_finite = refl; number_is = omega (arith, ints, e) }
 
--- the low part is the exact difference from the high part
+-- the low part is exactly the wide number minus the high part
 low_left : (negative : Bool) (m : ℕ) (high : Datum) (status : ℕ) → is_finite high ≡ true
     → (status ≡ ok_bits → number high ≡ signed negative m)
     → (is_finite_non_zero high ≡ false → number high ≡ signed negative m)
@@ -137,21 +137,21 @@ low_left b m (finite c n) status h f g =
 low_left b m (infinite c) status h f g = absurd (false≢true h)
 low_left b m (nan c s) status h f g = absurd (false≢true h)
 
--- one quantum with its sign is nearer to a number other than 0 than 0 is
+-- one quantum with the sign of a nonzero number is nearer to it than 0 is
 nearer_one : (negative : Bool) (m : ℕ) (h : ℤ) → 0 < m → h ≡ pos 0
     → magnitude (h -ℤ signed negative m) ≤ magnitude (signed negative 1 -ℤ signed negative m) → ⊥
 nearer_one true m h p e l =
     absurd (omega (arith, ints, p, e, l, one_side (h -ℤ neg_ℤ (pos m)), one_side (neg_ℤ (pos 1) -ℤ neg_ℤ (pos m))))
 nearer_one false m h p e l = absurd (omega (arith, ints, p, e, l, one_side (h -ℤ pos m), one_side (pos 1 -ℤ pos m)))
 
--- a finite datum that is not a number other than 0 is 0
+-- a finite datum that is not nonzero is 0
 zero_is : (datum : Datum) → is_finite datum ≡ true → is_finite_non_zero datum ≡ false → number datum ≡ pos 0
 zero_is (finite c zero) f z = no_sign c
 zero_is (finite c (suc n)) f z = absurd (false≢true (sym z ∙ lt-ltb 0 (suc n) (omega arith)))
 zero_is (infinite c) f z = absurd (false≢true f)
 zero_is (nan c s) f z = absurd (false≢true f)
 
--- a wide number is not rounded to zero, since it has the quantum of doubles
+-- a nonzero wide number does not round to zero, since the wide format has the quantum of doubles
 never_zero : (negative : Bool) (m : ℕ) (high : Datum) → 0 < m → IsRoundedTo double.precision (signed negative m) high
     → is_finite_non_zero high ≡ false → ⊥
 never_zero b m h p r z =
@@ -159,9 +159,9 @@ never_zero b m h p r z =
     on_grid_as (sym (magnitude_signed b 1)) (record { significand = 1; place = 0; fits = lit< tt; is = refl }) in
     nearer_one b m (number h) p (zero_is h r.is_finite z) (r.nearest.nearest (signed b 1) one)
 
--- ---- together
+-- ---- both parts
 
--- the sum of two finite data is the rounding of the number that they add up to
+-- the sum of two finite data is the rounded value of the number they add up to
 again_sum : (high low value : Datum) (status : ℕ) (x : ℤ) → is_finite high ≡ true → is_finite low ≡ true
     → (number high +ℤ number low) ≡ x → ((of_zero : Bool) → IsRounded double NearestTiesToEven of_zero x 1 value status)
     → IsSum double NearestTiesToEven high low value status
@@ -174,7 +174,7 @@ again_sum (finite d i) (nan e j) value status x f g s r = absurd (false≢true g
 again_sum (infinite d) l value status x f g s r = absurd (false≢true f)
 again_sum (nan d i) l value status x f g s r = absurd (false≢true f)
 
--- a number and what is left of x add up to x
+-- a number and x minus that number add up to x
 rest_joined : (h l x : ℤ) → l ≡ (x -ℤ h) → (h +ℤ l) ≡ x
 rest_joined h l x e = omega (arith, ints, e)
 
@@ -188,7 +188,7 @@ finite_pick b p high f v =
     (λ (h : p ≤ largest double). h)
     (cases_lt (largest double) p)
 
--- what is known of a split whose high part is finite
+-- a split with a finite high part: normalised, with the number of the wide datum
 pub record IsCut (negative : Bool) (m : ℕ) (answer : Pair) : Type 0 where
   pub exactly : IsExactPair (signed negative m) 1 answer
   pub high_is : IsRoundedTo double.precision (signed negative m) answer.high
@@ -201,7 +201,7 @@ pub high_rounded_to : (negative : Bool) (m : ℕ) (high : Datum) (status : ℕ) 
 high_rounded_to b m high status p f x =
     finite_nearest double true (signed b m) high status refl f (rounded_of double true b m high status p x)
 
--- a wide number other than 0 is converted as a number, not as a zero
+-- a nonzero wide number is converted as a number, not as a zero
 pub number_converted : (negative : Bool) (m : ℕ) (high : Datum) (status : ℕ) (loses_info : Bool) → 0 < m
     → IsConversion wide double NearestTiesToEven (finite negative m) high status loses_info
     → IsConvertedNumber wide double NearestTiesToEven negative m high status loses_info
@@ -209,7 +209,7 @@ number_converted b m high status loses_info p c =
     MatchBool-at_false _ (IsConvertedNumber wide double NearestTiesToEven b m high status loses_info)
     (ne_eqb m 0 (λ z. omega (arith, p, z))) c
 
--- where the high part is finite, the pair is normalised and has the number of the wide datum
+-- if the high part is finite, the pair is normalised and has the number of the wide datum
 pub split_exactly : (negative : Bool) (m : ℕ) (answer : Pair) → 0 < m → is_finite answer.high ≡ true
     → IsSplit (finite negative m) answer → IsCut negative m answer
 split_exactly b m answer p f s =
@@ -246,7 +246,7 @@ split_exactly b m answer p f s =
       low_is = n';
     }
 
--- within the largest double the high part is finite
+-- within the largest double, the high part is finite
 within_finite : (negative : Bool) (m : ℕ) (answer : Pair) → 0 < m → m ≤ largest double
     → IsSplit (finite negative m) answer → is_finite answer.high ≡ true
 within_finite b m answer p l s =
@@ -288,7 +288,7 @@ wide_number b m g =
       bound = subst (λ (i : ℕ). i < 2 ^ 53 * (2 ^ 53 * 2 ^ g.place)) (sym e) c';
     }
 
--- nothing is lost, and what is left over is a double
+-- within the largest double, nothing is lost, and the rest is a double
 pub lossless_split : (x : Datum) (answer : Pair) → IsSplit x answer → IsLosslessSplit x answer
 lossless_split (finite b m) answer s member some l =
     let p : 0 < m = ltb-true 0 m some in
@@ -307,13 +307,13 @@ lossless_split (finite b m) answer s member some l =
 lossless_split (infinite b) answer s member some l = absurd (false≢true some)
 lossless_split (nan b n) answer s member some l = absurd (false≢true some)
 
--- ---- wherever the high part is finite
+-- ---- any finite high part
 
 -- two zeros add up to zero, whatever their signs
 zero_adds : (left right : Bool) → (signed left 0 +ℤ signed right 0) ≡ signed left 0
 zero_adds b c = rw (no_sign b, no_sign c) refl
 
--- a zero stands alone
+-- the split of a zero is exact
 split_zero : (negative : Bool) (answer : Pair) → IsSplit (finite negative 0) answer
     → pair_number answer ≡ signed negative 0
 split_zero b answer s =

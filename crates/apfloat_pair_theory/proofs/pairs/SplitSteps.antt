@@ -1,4 +1,4 @@
--- What is left over of a wide number, by steps: the high part widened again, the difference from it in the wide format,
+-- What is left over of a wide number, in steps: the high part widened again, the difference from it in the wide format,
 -- and that difference as a double. Each of the three steps is exact.
 use Rattle.std.proofs.Common.{◌≡◌, ℕ, zero, suc, ◌*◌, ◌^◌, ◌<◌, ◌≤◌, Bool, true, false, not, ◌&&◌, eqb, refl, sym, ap, ◌∙◌, subst, le_trans, arith, lit≤}
 use Rattle.std.specs.Prelude.{ℤ, pos, ◌+ℤ◌, ◌-ℤ◌}
@@ -29,7 +29,7 @@ use Rattle.apfloat_pair_theory.proofs.numbers.Roundings.{finite_is, signed_not, 
 use Rattle.apfloat_pair_theory.proofs.products.ProductAnswers.{finite_number}
 use Rattle.apfloat_pair_theory.proofs.pairs.SplitLaws.{delivered_whole, high_rounded_to, number_converted, wide_number}
 
--- the steps
+-- what is left over of a wide number, in three steps
 pub record IsRestBySteps (x high low : Datum) (status : ℕ) : Type 0 where
   pub is_wide : IsMember wide x
   pub is_double : IsMember double high
@@ -70,17 +70,17 @@ widened_same b n value m w =
 
 -- ---- the difference
 
--- an exact difference of two numbers of one sign is +0 where it is zero
+-- an exact difference of two numbers of the same sign is +0 if it is zero
 no_zero_sign : (negative : Bool) → zero_sum_sign NearestTiesToEven negative (not negative) ≡ false
 no_zero_sign true = refl
 no_zero_sign false = refl
 
--- adding the number with the other sign subtracts it
+-- adding a number with the opposite sign subtracts it
 plus_negated : (negative : Bool) (m n : ℕ)
     → (signed negative m +ℤ signed (not negative) n) ≡ (signed negative m -ℤ signed negative n)
 plus_negated b m n = let e = signed_not b n in omega (arith, ints, e)
 
--- the difference of numbers of one sign is rounded once
+-- the difference of numbers of the same sign is rounded once
 difference_rounded : (negative : Bool) (m n : ℕ) (value : Datum) (status : ℕ)
     → IsDifference wide NearestTiesToEven (finite negative m) (finite negative n) value status
     → IsRounded wide NearestTiesToEven false (signed negative m -ℤ signed negative n) 1 value status
@@ -105,9 +105,9 @@ difference_exactly b m n value status g l d =
     (left_over (finite b m) (finite b n)) status ok_bits (difference_rounded b m n value status d)
     (rounded_exactly wide false (signed b m -ℤ signed b n) refl g l)).0
 
--- ---- what the high part leaves is a double
+-- ---- the rest of the high part is a double
 
--- on the grid of doubles, and within their range
+-- the rest is on the grid of doubles and within their range
 record IsSmallRest (negative : Bool) (m n : ℕ) : Type 0 where
   on_grid : IsGridNumber double.precision (signed negative m -ℤ signed negative n)
   within : magnitude (signed negative m -ℤ signed negative n) ≤ largest double
@@ -116,7 +116,7 @@ record IsSmallRest (negative : Bool) (m n : ℕ) : Type 0 where
 eighth_within : (e m l w : ℕ) → 8 * e ≤ m → m ≤ w → w ≤ 8 * l → e ≤ l
 eighth_within e m l w h k i = omega arith
 
--- what is left over has few enough digits for a double
+-- the rest of a wide number beyond its high part is such a rest
 small_rest : (negative : Bool) (m n : ℕ) → IsFiniteOf wide negative m
     → IsRoundedTo double.precision (signed negative m) (finite negative n) → IsSmallRest negative m n
 small_rest b m n t r =
@@ -130,7 +130,7 @@ small_rest b m n t r =
       within = eighth_within _ m (largest double) (largest wide) a' t.within (lit≤ tt);
     }
 
--- so it comes through both steps as it is
+-- so both steps keep it unchanged
 rest_exactly : (negative : Bool) (m n : ℕ) (rest low : Datum) (rest_status low_status : ℕ) (loses_info : Bool)
     → IsSmallRest negative m n
     → IsDifference wide NearestTiesToEven (finite negative m) (finite negative n) rest rest_status
@@ -146,7 +146,7 @@ rest_exactly b m n rest low rest_status low_status loses_info s d c =
 
 -- ---- the high part is finite, and so is the wide number
 
--- for a number other than 0
+-- for a nonzero number, the steps compute what is left over
 some_rest : (negative : Bool) (m : ℕ) (high low : Datum) (status : ℕ) → 0 < m → is_finite high ≡ true
     → IsRestBySteps (finite negative m) high low status → low ≡ left_over (finite negative m) high
 some_rest b m high low status p f s =
@@ -165,7 +165,7 @@ some_rest b m high low status p f s =
     (small_rest b m n s.is_wide r) d s.low_is in
     subst (λ (i : Datum). low ≡ left_over (finite b m) i) (sym e) z
 
--- the steps leave what the model calls left over
+-- the steps compute what the model calls left over
 pub rest_by_steps : (x high low : Datum) (status : ℕ) → is_finite_non_zero high ≡ true
     → IsRestBySteps x high low status → low ≡ left_over x high
 rest_by_steps (finite b zero) high low status f s =
@@ -179,11 +179,11 @@ rest_by_steps (nan b q) high low status f s =
 
 -- ---- a split by steps
 
--- the high part is a number, and inexact
+-- the high part is a nonzero number, and inexact
 abbrev pub has_rest : Datum → ℕ → Bool
 has_rest high status = is_finite_non_zero high && not (eqb status ok_bits)
 
--- a split whose low part is what the steps leave
+-- a split whose low part is the result of the steps
 pub split_with_rest : (x : Datum) (answer : Pair) (status : ℕ) → is_finite_non_zero answer.high ≡ true
     → eqb status ok_bits ≡ false → IsRestBySteps x answer.high answer.low status → IsSplit x answer
 split_with_rest x answer status f e s =

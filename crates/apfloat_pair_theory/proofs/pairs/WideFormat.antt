@@ -1,4 +1,4 @@
--- The wide format is lawful, so that the generic calls serve it; its quantum is that
+-- The wide format is lawful, so that the generic calls apply to it; its quantum is that
 -- of doubles, and it has twice their digits.
 use Rattle.std.proofs.Common.{◌≡◌, ◌*◌, refl}
 use Rattle.apfloat_base.specs.formats.Lawful.{IsLawful}

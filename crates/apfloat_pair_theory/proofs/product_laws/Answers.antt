@@ -1,4 +1,3 @@
--- Each clause is a law of its own.
 use Rattle.apfloat_pair_theory.proofs.products.PairProductLaws.{error_free_product, accurate_product}
 use Rattle.apfloat_pair_theory.proofs.product_laws.Goals as goal
 

@@ -1,5 +1,5 @@
--- The product of two pairs of doubles, rounded to nearest: nothing is lost of two doubles, and of normalised pairs the
--- answer is normalised, and close to the exact product.
+-- The product of two pairs of doubles, rounded to nearest: that of two doubles is exact, and that of normalised pairs
+-- is normalised, and close to the exact product.
 use Rattle.std.proofs.Common.{◌≡◌, ℕ, ◌+◌, ◌*◌, ◌^◌, ◌<◌, ◌≤◌, true, sym, ap, ◌∙◌, subst, arith, lit≤}
 use Rattle.std.specs.Prelude.{ℤ, pos, neg_ℤ, ◌+ℤ◌, ◌-ℤ◌, ◌*ℤ◌}
 use Rattle.std.proofs.Math.Nat.{mul-le-mul_right, le_of_mul-le-mul_left, le_of_mul-le-mul_right}
@@ -29,9 +29,9 @@ use Rattle.apfloat_pair_theory.proofs.products.ProductBounds.{product_bound}
 use Rattle.apfloat_pair_theory.proofs.products.ProductRanges.{fewer, lengths_of, product_low, in_range}
 use Rattle.apfloat_pair_theory.proofs.products.ProductAnswers.{IsFactor, product_numbers}
 
--- ---- two doubles: nothing comes from low parts that are zero
+-- ---- two doubles: low parts that are zero add nothing
 
--- less than one unit is none
+-- an integer below one unit is zero
 none_left : (p u v e : ℕ) → 0 < p → 0 < u → 2 * (p * e) ≤ p * u → v * u ≤ e → v ≡ 0
 none_left p u v e q w h l =
     let a : p * (2 * e) ≤ p * u = omega arith in
@@ -44,7 +44,7 @@ none_left p u v e q w h l =
 nothing : (v : ℤ) → magnitude v ≡ 0 → v ≡ pos 0
 nothing v h = omega (arith, ints, h)
 
--- what is close to 0 is 0
+-- a number close to 0 is 0
 zero_close : (precision parts : ℕ) (exact v : ℤ) → 0 < parts → magnitude exact ≡ 0
     → IsCloseFraction precision parts exact v → v ≡ pos 0
 zero_close precision parts exact v u z h =
@@ -77,7 +77,7 @@ no_product m n e =
     let z : magnitude m * magnitude n ≡ magnitude m * 0 = ap (λ (i : ℤ). magnitude m * magnitude i) e in
     magnitude-mul m n ∙ z ∙ omega arith
 
--- also where the first factor is 0
+-- the same for the first factor
 no_product_first : (m n : ℤ) → m ≡ pos 0 → magnitude (m *ℤ n) ≡ 0
 no_product_first m n e =
     let z : magnitude m * magnitude n ≡ 0 * magnitude n = ap (λ (i : ℤ). magnitude i * magnitude n) e in
@@ -87,7 +87,7 @@ no_product_first m n e =
 high_alone : (a b : ℤ) → b ≡ pos 0 → a ≡ (a +ℤ b)
 high_alone a b e = omega (arith, ints, e)
 
--- a low part that is 0 is within every bound
+-- a low part of 0 is within every bound
 no_low : (z : ℤ) (n : ℕ) → z ≡ pos 0 → 64 * magnitude z ≤ n
 no_low z n e = let m : magnitude z ≡ 0 = ap magnitude e in omega (arith, m)
 
@@ -99,7 +99,7 @@ single_factor x s n = record {
   small = no_low (number x.low) (size x.high) (single_low x s);
 }
 
--- of two doubles nothing is lost
+-- the product of two doubles is exact
 alone_product : (x y answer : Pair) (status : ℕ) → IsPairProduct NearestTiesToEven x y answer status
     → IsDoubleAlone x → IsDoubleAlone y → HaveExponents x y (neg_ℤ (pos 970)) (pos 1021)
     → IsExactPair (pair_number x *ℤ pair_number y) (2 ^ double.scale) answer
@@ -124,7 +124,7 @@ alone_product x y answer status k s t e =
           ap (λ (i : ℤ). pair_number x *ℤ i) (high_alone (number y.high) (number y.low) zy);
     }
 
--- so the product of two doubles is free of errors
+-- so the product of two doubles is error-free
 pub error_free_product : (x y answer : Pair) (status : ℕ) → IsMember double x.high → IsMember double y.high
     → IsPairProduct NearestTiesToEven x y answer status → IsErrorFreeProduct x y answer
 error_free_product x y answer status mx my k s t e =
@@ -132,7 +132,7 @@ error_free_product x y answer status mx my k s t e =
 
 -- ---- two normalised pairs
 
--- the low part of a normalised pair is small beside the pair
+-- the low part of a normalised pair is small relative to the pair
 low_below : (p k m s : ℕ) → 128 ≤ p → p * k ≤ s → s ≤ m + k → 64 * k ≤ m
 low_below p k m s w h l = let b : 128 * k ≤ p * k = mul-le-mul_right k w in omega arith
 
@@ -140,7 +140,7 @@ low_below p k m s w h l = let b : 128 * k ≤ p * k = mul-le-mul_right k w in om
 half_of : (m s k : ℕ) → m ≤ s + k → 64 * k ≤ m → m ≤ 2 * s
 half_of m s k h l = omega arith
 
--- a product far above a quantum has high parts whose product is far above one
+-- if a product is far above a quantum, so is the product of the high parts
 big_enough : (p u x A C m n w : ℕ) → 32 * (p * p) ≤ w → w ≤ x → x * u ≡ m * n → m ≤ 2 * A → n ≤ 2 * C
     → 8 * (p * (p * u)) ≤ A * C
 big_enough p u x A C m n w h l e f g =
@@ -153,7 +153,7 @@ big_enough p u x A C m n w h l e f g =
 sixteenth : (e s : ℕ) → 2 ^ 53 * (2 ^ 53 * e) ≤ 16 * s → e * 2 ^ 102 ≤ s
 sixteenth e s h = omega arith
 
--- the low part of a normalised pair is small beside its number, and beside its high part
+-- the low part of a normalised pair is small relative to its number
 number_low : (x : Pair) → IsNormalised x → 2 ^ double.precision * size x.low ≤ magnitude (pair_number x)
 number_low x n = low_small double.precision wide_enough (number x.high) (number x.low) (normalised_nearest x n)
 
@@ -170,7 +170,7 @@ half_high x n = half_of _ _ _ (first_most (number x.high) (number x.low)) (low_q
 normalised_factor : (x : Pair) → IsNormalised x → is_finite_non_zero x.high ≡ true → IsFactor x
 normalised_factor x s n = record { is_number = n; finite_low = s.finite_low; small = low_quanta x s }
 
--- of normalised pairs the answer is normalised, and close to the exact product
+-- the product of normalised pairs is normalised, and close to the exact product
 pub accurate_product : (x y answer : Pair) (status : ℕ) → IsPairProduct NearestTiesToEven x y answer status
     → IsAccurateProduct x y answer
 accurate_product x y answer status k s t e =

@@ -26,35 +26,35 @@ use Rattle.apfloat_pair_theory.proofs.products.ProductSteps.{IsLostNumber, AreFa
 use Rattle.apfloat_pair_theory.proofs.products.ProductRanges.{IsInRange}
 use Rattle.apfloat_pair_theory.proofs.sums.ClosingSums.{is_ieee, room, IsClosable, closed_pair}
 
--- ---- the kind of a number
+-- ---- categories
 
--- a finite datum other than 0 is of the category Normal
+-- a nonzero finite datum has the category Normal
 pub number_category : (datum : Datum) → is_finite_non_zero datum ≡ true → category_of datum ≡ Normal
 number_category (finite b n) h =
     let p = ltb-true 0 n h in let q : eqb n 0 ≡ false = ne_eqb n 0 (λ z. omega (arith, p, z)) in rw q refl
 number_category (infinite b) h = absurd (false≢true h)
 number_category (nan b s) h = absurd (false≢true h)
 
--- what is finite and not zero is finite
+-- a nonzero finite datum is finite
 pub finite_number : (datum : Datum) → is_finite_non_zero datum ≡ true → is_finite datum ≡ true
 finite_number (finite b n) h = refl
 finite_number (infinite b) h = absurd (false≢true h)
 finite_number (nan b s) h = absurd (false≢true h)
 
--- a finite datum with some quanta is a number other than 0
+-- a finite datum with some quanta is nonzero
 non_zero : (datum : Datum) → is_finite datum ≡ true → 0 < size datum → is_finite_non_zero datum ≡ true
 non_zero (finite b n) h p = let e = magnitude_signed b n in lt-ltb 0 n (subst (λ (i : ℕ). 0 < i) e p)
 non_zero (infinite b) h p = absurd (false≢true h)
 non_zero (nan b s) h p = absurd (false≢true h)
 
--- of two numbers the case of numbers holds
+-- for two nonzero numbers, the case of numbers applies
 product_of_numbers : (x y answer : Pair) (status : ℕ) → pair_category x ≡ Normal → pair_category y ≡ Normal
     → IsPairProduct NearestTiesToEven x y answer status → IsProductOfNumbers NearestTiesToEven x y answer status
 product_of_numbers x y answer status e g s =
     subst (λ (i : Category). IsProductOfCategories Normal i NearestTiesToEven x y answer status) g
     (subst (λ (i : Category). IsProductOfCategories i (pair_category y) NearestTiesToEven x y answer status) e s)
 
--- ---- the answer, by the roundings
+-- ---- the result, from the roundings
 
 -- `whole` quanta are the exact product of the high parts, and t the rounded one;
 -- tau is what t lost, and the cross products
@@ -67,17 +67,17 @@ pub record IsProductNumber (x y : Pair) (whole : ℤ) (answer : Pair) : Type 0 w
   pub normalised : IsNormalised answer
   pub number_is : pair_number answer ≡ (t +ℤ tau)
 
--- finite parts, numbers for high parts, and low parts that are small beside them
+-- finite parts, a nonzero high part, and a low part that is small relative to it
 pub record IsFactor (x : Pair) : Type 0 where
   pub is_number : is_finite_non_zero x.high ≡ true
   pub finite_low : is_finite x.low ≡ true
   pub small : 64 * size x.low ≤ size x.high
 
--- doubles have 6 digits or more
+-- doubles have at least 6 digits
 sixty_four : 64 ≤ 2 ^ double.precision
 sixty_four = lit≤ tt
 
--- a rounded product that was far from 0 is not 0
+-- a product far from 0 does not round to 0
 some_left : (x e t : ℕ) → 64 * e ≤ x → 64 ≤ x → x ≤ t + e → 0 < t
 some_left x e t h l k = omega arith
 
@@ -86,7 +86,7 @@ closing_low : (x e t q top : ℕ) → 64 * e ≤ x → t ≤ x + e → x ≤ t +
     → (q ≤ t) × (4 * t ≤ 9 * top) × (4 * q ≤ 3 * top)
 closing_low x e t q top h₁ h₂ h₃ h₄ h₅ = (omega arith, omega arith, omega arith)
 
--- within range no step overflows, and the closing sum loses nothing
+-- within range, no step overflows, and the closing sum loses nothing
 pub product_numbers : (x y answer : Pair) (status : ℕ) (whole : ℤ) → IsFactor x → IsFactor y
     → IsInRange (number x.high) (number y.high) whole
     → IsPairProduct NearestTiesToEven x y answer status → IsProductNumber x y whole answer

@@ -1,4 +1,4 @@
--- How far the number of a product is from the exact product of two normalised pairs, on numbers.
+-- The error of a product of two normalised pairs, in terms of numbers.
 use Rattle.std.proofs.Common.{◌≡◌, ℕ, ◌+◌, ◌*◌, ◌^◌, ◌≤◌, sym, ap, ◌∙◌, subst, arith}
 use Rattle.std.specs.Prelude.{ℤ, pos, ◌+ℤ◌, ◌-ℤ◌, ◌*ℤ◌}
 use Rattle.std.proofs.Math.Nat.{mul-le-mul_right, mul-le-mul_left}
@@ -14,7 +14,7 @@ use Rattle.apfloat_pair_theory.proofs.numbers.SignedProducts.{sum_times, times_s
 use Rattle.apfloat_pair_theory.proofs.numbers.FractionErrors.{fraction_size}
 use Rattle.apfloat_pair_theory.proofs.products.ProductSteps.{IsLostNumber}
 
--- ---- the losses of the steps together, in parts of a quantum, as magnitudes
+-- ---- the total of the losses of the steps, in parts of a quantum, as magnitudes
 
 -- the parts of the error add up to at most 16 times X
 total : (X pAD pBC ppBD AC ppev ppew pev pew ppu S pS a b c T : ℕ) → 8 * pAD ≤ 9 * X → 8 * pBC ≤ 9 * X → ppBD ≤ X
@@ -64,9 +64,9 @@ product_losses p u A B C D X Y ev ew V W evw VW T et E w hB hD hA hC h1 h2 h3 h4
     (omega arith) (omega arith) (omega arith) (omega arith) (omega arith) (omega arith) g₁ g₂ h0
     (omega arith) s₄ s₃ t₅ s₂ (omega arith)
 
--- ---- the loss of the whole, from the losses of the steps
+-- ---- the error of the result, from the losses of the steps
 
--- the distance of a sum of four from a fifth number is at most that of all five together
+-- the magnitude of a sum of five numbers is at most the sum of their magnitudes
 pub five_le : (a b c d e : ℤ)
     → magnitude ((((a +ℤ b) +ℤ c) +ℤ d) -ℤ e) ≤ magnitude e + magnitude c + magnitude d + magnitude b + magnitude a
 five_le a b c d e =
@@ -77,17 +77,17 @@ five_le a b c d e =
     omega (arith, ints, one_side e, one_side (((a +ℤ b) +ℤ c) +ℤ d), one_side ((((a +ℤ b) +ℤ c) +ℤ d) -ℤ e)) in
     omega (arith, s₁, s₂, s₃, s₄)
 
--- the error of a product, by its parts
+-- the error of a product, as the sum of its parts
 loss_is : (tu tauu xu crossu vu wu dtu dcu ac ad bc bd : ℤ) → tauu ≡ (dtu +ℤ ((xu -ℤ tu) +ℤ crossu))
     → crossu ≡ (dcu +ℤ (vu +ℤ wu)) → xu ≡ ac
     → ((tu +ℤ tauu) -ℤ ((ac +ℤ ad) +ℤ (bc +ℤ bd))) ≡ ((((dtu +ℤ dcu) +ℤ (vu -ℤ ad)) +ℤ (wu -ℤ bc)) -ℤ bd)
 loss_is tu tauu xu crossu vu wu dtu dcu ac ad bc bd e f g = omega (arith, ints, e, f, g)
 
--- x and the difference from x add up to the number
+-- x and z - x add up to z
 rest_is : (z x : ℤ) → z ≡ ((z -ℤ x) +ℤ x)
 rest_is z x = omega (arith, ints)
 
--- and so do their multiples
+-- and so for their multiples
 rest_times : (z x u : ℤ) → (z *ℤ u) ≡ (((z -ℤ x) *ℤ u) +ℤ (x *ℤ u))
 rest_times z x u = ap (λ (i : ℤ). i *ℤ u) (rest_is z x) ∙ sum_times (z -ℤ x) x u
 
@@ -101,7 +101,7 @@ four_products a b c d =
 scaled_magnitude : (z : ℤ) (u : ℕ) → magnitude (z *ℤ pos u) ≡ u * magnitude z
 scaled_magnitude z u = magnitude-times z u ∙ omega arith
 
--- how far z quanta are from exact / u quanta, in parts of which a quantum has u
+-- the distance of z quanta from exact / u quanta, in parts of which a quantum has u
 abbrev distance : ℤ → ℕ → ℤ → ℕ
 distance z u exact = magnitude ((z *ℤ pos u) -ℤ exact)
 
@@ -144,7 +144,7 @@ times_first p e x u m h k = let b : p * e * u ≤ x * u = h' in omega arith wher
   h' : p * e * u ≤ x * u
   h' = omega (arith, mul-le-mul_right u h)
 
--- at most 16 / 2 ^ (2 * digits) of the exact product
+-- the error of a product is at most 16 / 2 ^ (2 * digits) of the exact product
 pub product_bound : (precision scale : ℕ) (a b c d x t tau : ℤ) → 8 ≤ 2 ^ precision
     → 2 ^ precision * magnitude b ≤ magnitude (a +ℤ b) → 2 ^ precision * magnitude d ≤ magnitude (c +ℤ d)
     → (x *ℤ pos (2 ^ scale)) ≡ (a *ℤ c) → IsNearest precision x t

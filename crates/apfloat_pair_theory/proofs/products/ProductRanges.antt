@@ -32,7 +32,7 @@ pub record HaveLengths (m n least greatest : ℕ) : Type 0 where
   pub not_below : least ≤ i + j
   pub not_above : i + j ≤ greatest
 
--- a bound from below may be less
+-- a lower bound may be lowered
 pub fewer : (m n least less greatest : ℕ) → less ≤ least → HaveLengths m n least greatest
     → HaveLengths m n less greatest
 fewer m n least less greatest l r =
@@ -63,12 +63,12 @@ range_low : (i j least down : ℕ) (d e : ℤ) → d ≡ (pos i -ℤ pos 1074) �
     → neg_ℤ (pos down) ≤ℤ (d +ℤ e) → least + down ≤ 2148 → least ≤ i + j
 range_low i j least down d e x y h l = omega (arith, ints)
 
--- and from the greatest
+-- and from the greatest sum of their exponents
 range_high : (i j greatest high : ℕ) (d e : ℤ) → d ≡ (pos i -ℤ pos 1074) → e ≡ (pos j -ℤ pos 1074)
     → (d +ℤ e) ≤ℤ pos high → high + 2148 ≤ greatest → i + j ≤ greatest
 range_high i j greatest high d e x y h l = omega (arith, ints)
 
--- by the exponents of the high parts
+-- the lengths of the high parts, from their exponents
 pub lengths_of : (x y : Pair) (below above least greatest : ℕ) → HaveExponents x y (neg_ℤ (pos below)) (pos above)
     → least + below ≤ 2148 → above + 2148 ≤ greatest → HaveLengths (size x.high) (size y.high) least greatest
 lengths_of x y below above least greatest h l k =
@@ -87,7 +87,7 @@ lengths_of x y below above least greatest h l k =
 
 -- ---- places
 
--- the place of a grid number, by how many binary digits it has
+-- the place of a grid number, from its number of binary digits
 pub place_reaches : (precision n k : ℕ) (grid : IsOnGrid precision n) → 2 ^ k ≤ n → k < precision + grid.place
 place_reaches precision n k grid l =
     ⊎_elim
@@ -101,7 +101,7 @@ place_reaches precision n k grid l =
     absurd (omega arith))
     (cases_lt k (precision + grid.place))
 
--- where the logarithms add up to so much, the lowest digits of the product reach the quantum
+-- if the logarithms add up to enough, the lowest digits of the product are not below the quantum
 pub places_reach : (precision scale m n i j : ℕ) (m_grid : IsOnGrid precision m) (n_grid : IsOnGrid precision n)
     → 2 ^ i ≤ m → 2 ^ j ≤ n → scale + 2 * (precision - 1) ≤ i + j → scale ≤ m_grid.place + n_grid.place
 places_reach precision scale m n i j m_grid n_grid l k r =
@@ -111,7 +111,7 @@ places_reach precision scale m n i j m_grid n_grid l k r =
 
 -- ---- the range of the product
 
--- the least and the greatest that the product can be
+-- a product is at least the power of two that the lengths of its factors give
 pub product_low : (scale low m n x least greatest : ℕ) → HaveLengths m n least greatest → x * 2 ^ scale ≡ m * n
     → scale + low ≤ least → 2 ^ low ≤ x
 product_low scale low m n x least greatest r e l =
@@ -153,7 +153,7 @@ some_quanta x w h k = omega arith
 twice_reach : (x w t : ℕ) → x < w → w ≡ 2 * t → x ≤ 2 * t
 twice_reach x w t h e = omega arith
 
--- where exponents add up to -970 to 1021 the product of doubles is in range
+-- if their exponents add up to -970 to 1021, the product of two doubles is in range
 pub in_range : (a c : ℤ) → IsGridNumber double.precision a → IsGridNumber double.precision c
     → HaveLengths (magnitude a) (magnitude c) 1178 3169
     → (x : ℤ) × IsInRange a c x

@@ -1,4 +1,4 @@
--- Worked products of pairs; and the laws at 3 times 5: their premises can be met, and they give 15.
+-- Worked products of pairs; and the laws for 3 times 5: their premises can be met, and they give 15.
 use Rattle.std.proofs.Common.{◌≡◌, ℕ, ◌*◌, ◌^◌, ◌≤◌, true, false, refl, lit<, lit≤, arith}
 use Rattle.std.specs.Prelude.{pos, neg_ℤ, ◌*ℤ◌}
 use Rattle.std.proofs.lemmas.Int.{ints}
@@ -21,7 +21,7 @@ use Rattle.apfloat_pair_theory.proofs.products.PairProductLaws.{error_free_produ
 abbrev one_and_quantum : Pair
 one_and_quantum = record { high = finite false (2 ^ 1074); low = finite false 1 }
 
--- 1 times it: the answer keeps the quantum, and the closing sum is inexact
+-- 1 times that: the result keeps the quantum, and the closing sum is inexact
 one_times : IsPairProduct NearestTiesToEven (alone (finite false (2 ^ 1074))) one_and_quantum one_and_quantum
     inexact_bit
 one_times = record {
@@ -65,7 +65,7 @@ one_times = record {
   };
 }
 
--- one quantum above -1 times it: the cross products cancel, and the answer is -1
+-- one quantum above -1 times that: the cross products cancel, and the result is -1
 minus_one_times : IsPairProduct NearestTiesToEven (record { high = finite true (2 ^ 1074); low = finite false 1 })
     one_and_quantum
     (alone (finite true (2 ^ 1074))) ok_bits
@@ -133,7 +133,7 @@ five_is = record {
   zero_has = λ h. refl;
 }
 
--- each stands alone in its pair
+-- each is a pair with low part +0
 three_single : IsSingle three
 three_single = record { is_finite = refl; low_is = refl }
 

@@ -1,4 +1,4 @@
--- The written steps of a pair's product, on finite data: each step is finite, and is a rounding of numbers.
+-- The steps of the product of two pairs, on finite data: each step is finite, and is a rounding of numbers.
 use Rattle.std.proofs.Common.{◌≡◌, ℕ, ◌+◌, ◌-◌, ◌*◌, ◌^◌, ◌<◌, ◌≤◌, true, sym, ap, ◌∙◌, subst, ⊎_elim, arith}
 use Rattle.std.specs.Prelude.{ℤ, ◌+ℤ◌, ◌-ℤ◌, ◌*ℤ◌}
 use Rattle.std.proofs.Math.Nat.{mul-le-mul_right, mul-le-mul_left, le_of_mul-le-mul_right}
@@ -21,7 +21,7 @@ use Rattle.apfloat_pair_theory.proofs.numbers.Nearest.{IsNearest, relative_error
 use Rattle.apfloat_pair_theory.proofs.numbers.TwoSums.{positive}
 use Rattle.apfloat_pair_theory.proofs.numbers.Roundings.{sum_within}
 use Rattle.apfloat_pair_theory.proofs.sums.SumSteps.{size}
-use Rattle.apfloat_pair_theory.proofs.numbers.WholeProducts.{IsWholeProduct, whole_size, product_within, fused_rest}
+use Rattle.apfloat_pair_theory.proofs.numbers.WholeProducts.{IsWholeProduct, whole_size, product_within, two_product}
 use Rattle.apfloat_pair_theory.proofs.numbers.FractionErrors.{IsCloseFraction, fraction_error, fraction_size}
 
 -- ---- what is lost, as numbers
@@ -53,7 +53,7 @@ pub record AreProductSteps (format : Format) (a b c d t lost v w cross tau : Dat
   pub is_tau : IsSum format NearestTiesToEven lost cross tau tau_flags
 
 -- Finite parts (a, b) and (c, d). The product x of the high parts is within the format, and has 64 quanta or more;
--- the low parts are small beside the high ones.
+-- the low parts are small relative to the high parts.
 pub record AreFactors (format : Format) (x : ℤ) (a b c d : Datum) : Type 0 where
   pub finite_a : is_finite a ≡ true
   pub finite_b : is_finite b ≡ true
@@ -65,7 +65,7 @@ pub record AreFactors (format : Format) (x : ℤ) (a b c d : Datum) : Type 0 whe
   pub low_first : 64 * size b ≤ size a
   pub low_second : 64 * size d ≤ size c
 
--- tau is finite, is what is lost, and is small beside x
+-- tau is finite, is the total of what is lost, and is small relative to x
 pub record IsLostDatum (format : Format) (x ad bc t : ℤ) (tau : Datum) : Type 0 where
   pub is_finite : is_finite tau ≡ true
   pub number_is : IsLostNumber format.precision format.scale x ad bc t (number tau)
@@ -73,18 +73,18 @@ pub record IsLostDatum (format : Format) (x ad bc t : ℤ) (tau : Datum) : Type 
 
 -- ---- bounds, all against the product x of the high parts
 
--- where p is 64 or more, one p-th is at most one 64th
+-- if p is at least 64, a p-th is at most a 64th
 sixty_fourth : (p e s : ℕ) → 64 ≤ p → p * e ≤ s → 64 * e ≤ s
 sixty_fourth p e s w h = let b : 64 * e ≤ p * e = mul-le-mul_right e w in omega arith
 
--- with 6 digits or more a rounding is off by a 64th
+-- with at least 6 digits, a rounding is off by at most a 64th
 pub nearest_close : (precision : ℕ) (x z : ℤ) → 64 ≤ 2 ^ precision → IsNearest precision x z
     → 64 * magnitude (z -ℤ x) ≤ magnitude x
 nearest_close precision x z wide n =
     sixty_fourth (2 ^ precision) (magnitude (z -ℤ x)) (magnitude x) wide
     (relative_error precision x z (positive precision (omega arith)) n)
 
--- where l is at most a 64th of x, its rounding is off by a 128th of x and half a quantum at most
+-- if l is at most a 64th of x, its rounding is off by at most a 128th of x plus half a quantum
 small_over : (p u l e x : ℕ) → 64 ≤ p → 2 * (p * e) ≤ 2 * l + p * u → 64 * l ≤ x → 128 * e ≤ x + 64 * u
 small_over p u l e x w h k =
     ⊎_elim
@@ -96,7 +96,7 @@ small_over p u l e x w h k =
     omega arith)
     (cases_lt (2 * e) u)
 
--- what a product with a low part is rounded to
+-- the rounded value of a product with a low part is small relative to x
 cross_small : (p u l e x v : ℕ) → 64 ≤ p → 0 < u → 64 ≤ x → 2 * (p * e) ≤ 2 * l + p * u → 64 * l ≤ x * u
     → v * u ≤ l + e
     → 32 * v ≤ x
@@ -106,14 +106,14 @@ cross_small p u l e x v w h y i k j =
     let c : (32 * v) * u ≤ x * u = omega arith in
     le_of_mul-le-mul_right c h
 
--- the product of the first high part and the second low part is small beside the whole one
+-- the product of the first high part and the second low part is small relative to the whole product
 product_le : (m n l x u L : ℕ) → 64 * l ≤ n → x * u ≡ m * n → x ≤ L → (64 * (m * l) ≤ x * u) × (m * l ≤ L * u)
 product_le m n l x u L h e k =
     let a : m * (64 * l) ≤ m * n = mul-le-mul_left m h in
     let b : x * u ≤ L * u = mul-le-mul_right u k in
     (omega arith, omega arith)
 
--- and so is that of the first low part and the second high part
+-- and so is the product of the first low part and the second high part
 product_le_first : (m n l x u L : ℕ) → 64 * l ≤ m → x * u ≡ m * n → x ≤ L → (64 * (l * n) ≤ x * u) × (l * n ≤ L * u)
 product_le_first m n l x u L h e k =
     let a : (64 * l) * n ≤ m * n = mul-le-mul_right n h in
@@ -131,7 +131,7 @@ tau_bound : (x q j t : ℕ) → 12 * q ≤ x → 64 * j ≤ q → t ≤ q + j �
 tau_bound x q j t h k l = omega arith
 
 module _ (format : Format) (kind : format.nonfinite ≡ IEEE754) (wide : 64 ≤ 2 ^ format.precision) where
-  -- a product with a low part
+  -- the rounded product with a low part is finite and small
   cross_product : (x : ℤ) (first second value : Datum) (flags : ℕ) → is_finite first ≡ true → is_finite second ≡ true
       → 64 ≤ magnitude x
       → (64 * (size first * size second) ≤ magnitude x * 2 ^ format.scale)
@@ -161,7 +161,7 @@ module _ (format : Format) (kind : format.nonfinite ≡ IEEE754) (wide : 64 ≤ 
       → IsNearest format.precision x (number t) → AreProductSteps format a b c d t lost v w cross tau
       → IsLostDatum format x (number a *ℤ number d) (number b *ℤ number c) (number t) tau
   lost_numbers x a b c d t lost v w cross tau g ft nt st =
-      let r = fused_rest format a c t lost st.lost_flags x kind (omega arith) g.finite_a g.finite_c ft g.whole g.within
+      let r = two_product format a c t lost st.lost_flags x kind (omega arith) g.finite_a g.finite_c ft g.whole g.within
       nt st.is_lost in
       let e = whole_size format.precision format.scale (number a) (number c) x g.whole in
       let pv = cross_product x a d v st.v_flags g.finite_a g.finite_d g.some

@@ -1,4 +1,3 @@
--- Each clause is a law of its own.
 use Rattle.apfloat_pair_theory.proofs.pairs.ExactPairs.{exact_quotient, exact_truncated_remainder, exact_nearest_remainder}
 use Rattle.apfloat_pair_theory.proofs.quotient_laws.Goals as goal
 

@@ -1,4 +1,3 @@
--- Each clause is a law of its own.
 use Rattle.apfloat_pair_theory.proofs.pairs.SplitLaws.{exact_split, lossless_split}
 use Rattle.apfloat_pair_theory.proofs.split_laws.Goals as goal
 

@@ -1,4 +1,4 @@
--- Each clause is by a lemma that an answer exists, and one that it is the only one.
+-- Each clause follows from a lemma that a result exists and one that there is at most one.
 use Rattle.apfloat_pair_theory.proofs.calls.PairsOnce.{pair_sum_once, pair_difference_once, pair_product_once}
 use Rattle.apfloat_pair_theory.proofs.calls.PairsExist.{pair_sum_exists, pair_difference_exists, pair_product_exists}
 use Rattle.apfloat_pair_theory.proofs.steps_have_one_answer.Goals as goal

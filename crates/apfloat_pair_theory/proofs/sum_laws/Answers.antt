@@ -1,4 +1,3 @@
--- Each clause is a law of its own.
 use Rattle.apfloat_pair_theory.proofs.sums.PairSumLaws.{error_free_sum, accurate_sum, plain_sum}
 use Rattle.apfloat_pair_theory.proofs.sum_laws.Goals as goal
 

@@ -1,5 +1,5 @@
--- The closing sum of two doubles z and y, with which each sum and each product of pairs ends: within reach
--- nothing is lost, and the answer is normalised.
+-- The closing sum of two doubles z and y, which ends each sum and each product of pairs: within reach,
+-- it is exact, and the result is normalised.
 use Rattle.std.proofs.Common.{◌≡◌, ℕ, ◌*◌, ◌^◌, ◌<◌, ◌≤◌, true, false, eqb, sym, refl, ap, ◌∙◌, subst, arith, inl, lit<, lit≤}
 use Rattle.std.specs.Prelude.{ℤ, pos, ◌+ℤ◌}
 use Rattle.std.proofs.lemmas.Bool.{false≢true, and_parts, eqb-true, MatchBool-at_true}
@@ -26,7 +26,7 @@ use Rattle.apfloat_pair_theory.proofs.pairs.Normalised.{IsHighOf, high_of_sum, h
 
 -- ---- doubles
 
--- doubles have infinities, and 53 digits; three times the reach is within them
+-- doubles have infinities
 pub is_ieee : double.nonfinite ≡ IEEE754
 is_ieee = refl
 
@@ -52,14 +52,14 @@ finite_is_not_infinite (nan b n) h = absurd (false≢true h)
 
 -- ---- the closing sum
 
--- a normalised answer whose number is that of the sum and the rest; no step of the
--- closing sum has a flag but that of an inexact one
+-- a normalised result whose number is the sum plus the rest; its status is OK or INEXACT if the flags
+-- before it are
 pub record IsPairOf (sum rest : Datum) (flags : ℕ) (answer : Pair) (status : ℕ) : Type 0 where
   pub normalised : IsNormalised answer
   pub number_is : pair_number answer ≡ number sum +ℤ number rest
   pub plain : IsOkOrInexact flags → IsOkOrInexact status
 
--- a high part that keeps the whole sum makes a normalised pair
+-- a high part with the exact rest of the sum as its low part is a normalised pair
 pair_of_high : (sum rest high low : Datum) (flags status : ℕ) → is_finite high ≡ true → is_finite low ≡ true
     → (number high +ℤ number low) ≡ (number sum +ℤ number rest) → IsHighOf double high low
     → (IsOkOrInexact flags → IsOkOrInexact status) → IsPairOf sum rest flags (record { high = high; low = low }) status
@@ -76,7 +76,7 @@ pair_of_high z y h l flags status fh fl e n o = record {
   plain = o;
 }
 
--- what holds of a pair holds of an answer that is this pair
+-- what holds of a given pair holds of a result equal to it
 pub given_pair : (sum rest : Datum) (before : ℕ) (given : Pair) (flags : ℕ) (answer : Pair) (status : ℕ)
     → IsPairAnswer given flags answer status → IsPairOf sum rest before given flags
     → IsPairOf sum rest before answer status
@@ -84,14 +84,14 @@ given_pair z y before given flags answer status x p =
     subst (λ (s : ℕ). IsPairOf z y before answer s) (sym x.status_is)
     (subst (λ (w : Pair). IsPairOf z y before w flags) (sym x.answer_is) p)
 
--- the operands of a closing sum: both are on the grid, and multiples of one unit
+-- the operands of a closing sum: both on the grid, and multiples of one unit
 pub record IsClosable (sum rest : Datum) : Type 0 where
   pub addend : IsAddend sum_reach sum rest
   pub sum_on_grid : IsGridNumber double.precision (number sum)
   pub rest_on_grid : IsGridNumber double.precision (number rest)
   pub shared : IsShared double.precision (number sum) (number rest)
 
--- the low part is what the rounded sum lost
+-- the low part is the error of the rounded sum
 low_part_pair : (sum rest high : Datum) (before h_flags flags : ℕ) (answer : Pair) (status : ℕ) → IsClosable sum rest
     → (IsOkOrInexact before → IsOkOrInexact flags) → IsSum double NearestTiesToEven sum rest high h_flags
     → IsLowPart NearestTiesToEven sum rest high flags answer status → IsPairOf sum rest before answer status
@@ -129,9 +129,9 @@ closed_pair z y flags answer status a x =
     x.is_h
     (MatchBool-at_true _ _ n.is_finite x.is_answer)
 
--- ---- nothing is left to add
+-- ---- nothing remains to be added
 
--- what is the same datum as +0 has the number 0
+-- a datum that is +0 has the number 0
 pub zero_number : (datum : Datum) → same_datum datum positive_zero ≡ true → number datum ≡ pos 0
 zero_number (finite b m) h =
     let p = and_parts (same_sign b false) (eqb m 0) h in
@@ -143,7 +143,7 @@ zero_number (nan b m) h = absurd (false≢true h)
 sum_within_largest : (t l z : ℕ) → 4 * z ≤ 9 * t → 3 * t ≤ l → z ≤ l
 sum_within_largest t l z h k = omega arith
 
--- the sum alone, where the rest is zero
+-- if the rest is zero, the sum alone is the result
 pub alone_pair : (sum rest : Datum) (flags : ℕ) → IsClosable sum rest → number rest ≡ pos 0
     → IsPairOf sum rest flags (alone sum) ok_bits
 alone_pair z y flags a e =

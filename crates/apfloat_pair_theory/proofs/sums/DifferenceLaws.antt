@@ -1,4 +1,4 @@
--- The difference of two pairs of doubles, rounded to nearest: it is the sum with the negated pair, and as accurate.
+-- The difference of two pairs of doubles, to nearest: it is the sum with the negated pair, and as accurate.
 use Rattle.std.proofs.Common.{◌≡◌, ℕ, ◌+◌, ◌≤◌, sym, ap, ◌∙◌, subst, arith}
 use Rattle.std.specs.Prelude.{ℤ, neg_ℤ, ◌+ℤ◌, ◌-ℤ◌}
 use Rattle.std.proofs.lemmas.Int.{ints}
@@ -19,18 +19,18 @@ use Rattle.apfloat_pair_theory.proofs.sums.PairSumLaws.{error_free_sum, accurate
 negated_single : (x : Pair) → IsSingle x → IsSingle (negated_pair x)
 negated_single x s = record { is_finite = negated_finite x.high s.is_finite; low_is = ap negated_low s.low_is }
 
--- and negation leaves a pair within the reach
+-- and negation keeps a pair within the reach
 second_negated : (x y : Pair) → AreWithinReach x y → AreWithinReach x (negated_pair y)
 second_negated x y r = record {
   first = r.first;
   second = subst (λ (n : ℕ). n ≤ sum_reach) (sym (negated_quanta y.high)) r.second;
 }
 
--- adding the negated number is subtracting
+-- adding the negated number subtracts it
 minus_is : (a b c : ℤ) → c ≡ neg_ℤ b → (a +ℤ c) ≡ (a -ℤ b)
 minus_is a b c e = omega (arith, ints)
 
--- of two doubles nothing is lost
+-- the difference of two doubles is error-free
 pub error_free_difference : (x y answer : Pair) (status : ℕ) → IsMember double x.high → IsMember double y.high
     → IsPairDifference NearestTiesToEven x y answer status → IsErrorFreeDifference x y answer
 error_free_difference x y answer status mx my k s t r =
@@ -41,7 +41,7 @@ error_free_difference x y answer status mx my k s t r =
     (negated_single y t)
     (second_negated x y r))
 
--- of normalised pairs the answer is normalised, and close to the exact difference
+-- the difference of normalised pairs is normalised, and close to the exact difference
 pub accurate_difference : (x y answer : Pair) (status : ℕ) → IsPairDifference NearestTiesToEven x y answer status
     → IsAccurateDifference x y answer
 accurate_difference x y answer status k s t r =
@@ -53,7 +53,7 @@ accurate_difference x y answer status k s t r =
     (minus_is (pair_number x) (pair_number y) (pair_number (negated_pair y)) n)
     (accurate_sum x (negated_pair y) answer status k s (negated_normalised y t) (second_negated x y r)))
 
--- the status is OK or that of an inexact answer
+-- the status is OK or INEXACT
 pub plain_difference : (x y answer : Pair) (status : ℕ) → IsPairDifference NearestTiesToEven x y answer status
     → HasPlainStatus x y status
 plain_difference x y answer status k s t r =

@@ -1,4 +1,4 @@
--- Sums of pairs: the six roundings, the two low parts, and the closing sum.
+-- Sums of pairs: TwoSum of the high parts, the two low parts, and Fast2Sum, which closes the sum.
 use Rattle.std.proofs.Common.{◌≡◌, ℕ, ◌+◌, ◌-◌, ◌*◌, ◌^◌, ◌<◌, ◌≤◌, sym, ap, subst, ⊎_elim, arith}
 use Rattle.std.specs.Prelude.{ℤ, pos, ◌+ℤ◌, ◌-ℤ◌}
 use Rattle.std.proofs.Math.Nat.{mul-le-mul_right}
@@ -9,22 +9,22 @@ use Rattle.apfloat_base.specs.arithmetic.Exact.{magnitude}
 use Rattle.apfloat_base.proofs.arithmetic.Signs.{one_side}
 use Rattle.apfloat_pair_theory.proofs.numbers.Signed.{magnitude-sub, magnitude_le, IsMultiple, sum_multiple, finer_multiple, coarse_multiple, grid_bound, IsGridNumber, on_grid_as, common}
 use Rattle.apfloat_pair_theory.proofs.numbers.Nearest.{IsNearest, nearest_exact, relative_error, nearest_cases, error_on_grid}
-use Rattle.apfloat_pair_theory.proofs.numbers.TwoSums.{positive, IsShared, shared, fast_exact, IsTwoSum, two_sum}
+use Rattle.apfloat_pair_theory.proofs.numbers.TwoSums.{positive, IsShared, shared, fast_two_sum_difference, IsTwoSum, two_sum}
 
--- the closing sum of z and w: h and l
-pub record IsFastSum (precision : ℕ) (z w h g l : ℤ) : Type 0 where
+-- the three roundings of Fast2Sum of z and w, which closes a sum: h, its error l, and g between them
+pub record IsFastTwoSum (precision : ℕ) (z w h g l : ℤ) : Type 0 where
   pub sum : IsNearest precision (z +ℤ w) h
   pub first : IsNearest precision (z -ℤ h) g
   pub last : IsNearest precision (g +ℤ w) l
 
--- the roundings of a sum of the pairs (a, aa) and (c, cc) before the closing sum: z, the
--- exact rest e, and what e and the low parts make
+-- the roundings of a sum of the pairs (a, aa) and (c, cc) before the closing sum: z, its exact error e, and e plus the
+-- low parts
 pub record IsOpening (precision : ℕ) (a aa c cc z q v r d e x y : ℤ) : Type 0 where
   pub six : IsTwoSum precision a c z q v r d e
   pub with_first : IsNearest precision (e +ℤ aa) x
   pub with_second : IsNearest precision (x +ℤ cc) y
 
--- a multiple of 2 ^ (j + d) is one of 2 ^ j
+-- a multiple of 2 ^ (j + d) is a multiple of 2 ^ j
 multiple_below : (j d n : ℕ) → IsMultiple (2 ^ (j + d)) n → IsMultiple (2 ^ j) n
 multiple_below j d n x =
     let e : 2 ^ (j + d) ≡ 2 ^ j * 2 ^ d = pow-add 2 j d in
@@ -32,12 +32,12 @@ multiple_below j d n x =
     let b : x.times * 2 ^ (j + d) ≡ x.times * (2 ^ j * 2 ^ d) = ap (λ (i : ℕ). x.times * i) e in
     record { times = x.times * 2 ^ d; is = omega arith }
 
--- a multiple of a power of two is one of each lesser power
+-- a multiple of a power of two is a multiple of each lesser power
 multiple_at : (j k n : ℕ) → j ≤ k → IsMultiple (2 ^ k) n → IsMultiple (2 ^ j) n
 multiple_at j k n h x =
     let e : k ≡ j + (k - j) = omega arith in multiple_below j (k - j) n (subst (λ (i : ℕ). IsMultiple (2 ^ i) n) e x)
 
--- a multiple and a grid number below its bound share a place
+-- a multiple and a grid number within its bound share a place
 shared_at : (precision k : ℕ) (z y : ℤ) → IsMultiple (2 ^ k) (magnitude z) → IsGridNumber precision y
     → magnitude y < 2 ^ precision * 2 ^ k → IsShared precision z y
 shared_at precision k z y x g h =
@@ -61,27 +61,27 @@ shared_at precision k z y x g h =
 pub eighth : (p e s : ℕ) → 8 ≤ p → p * e ≤ s → 8 * e ≤ s
 eighth p e s w h = let b : 8 * e ≤ p * e = mul-le-mul_right e w in omega arith
 
--- a sum is at most the two numbers and its error
+-- a rounded sum is at most the two magnitudes and its error
 pub rounded_low : (x y z : ℤ) → magnitude z ≤ magnitude x + magnitude y + magnitude (z -ℤ (x +ℤ y))
 rounded_low x y z = omega (arith, ints, one_side z, one_side x, one_side y, one_side (z -ℤ (x +ℤ y)))
 
--- where the rounded sum is less than what is added to it, that is not above either number
+-- if the rounded sum is less than what is added to it, that is at most the second summand
 small_rest : (z e s a aa c cc i x j y : ℕ) → 8 * e ≤ s → s ≤ z + e → 8 * aa ≤ a + aa → 8 * cc ≤ c + cc
     → 8 * i ≤ e + aa
     → x ≤ e + aa + i → 8 * j ≤ x + cc → y ≤ x + cc + j → a ≤ s + c → z < y → y ≤ c
 small_rest z e s a aa c cc i x j y h1 h2 h3 h4 h5 h6 h7 h8 h9 h0 = omega arith
 
--- where the rest is greater than the sum, it is at most the first summand
+-- and at most the first summand
 small_rest_first : (z e s a aa c cc i x j y : ℕ) → 8 * e ≤ s → s ≤ z + e → 8 * aa ≤ a + aa → 8 * cc ≤ c + cc
     → 8 * i ≤ e + aa → x ≤ e + aa + i → 8 * j ≤ x + cc → y ≤ x + cc + j → c ≤ s + a → z < y → y ≤ a
 small_rest_first z e s a aa c cc i x j y h1 h2 h3 h4 h5 h6 h7 h8 h9 h0 = omega arith
 
 module _ (precision : ℕ) (wide : 8 ≤ 2 ^ precision) where
-  -- the closing sum has no error
+  -- Fast2Sum (Dekker) has no error: h + l is exactly z + w
   pub fast_two_sum : (z w h g l : ℤ) → IsGridNumber precision z → IsGridNumber precision w → IsShared precision z w
-      → IsFastSum precision z w h g l → (h +ℤ l) ≡ (z +ℤ w)
+      → IsFastTwoSum precision z w h g l → (h +ℤ l) ≡ (z +ℤ w)
   fast_two_sum z w h g l o p s x =
-      let t = fast_exact precision wide z w h o s x.sum in
+      let t = fast_two_sum_difference precision wide z w h o s x.sum in
       let e₁ : g ≡ (z -ℤ h) = nearest_exact precision (z -ℤ h) g (on_grid_as (magnitude-sub h z) t) x.first in
       let v = error_on_grid precision wide z w h o p x.sum in
       let m : magnitude (h -ℤ (z +ℤ w)) ≡ magnitude (g +ℤ w) =
@@ -89,7 +89,7 @@ module _ (precision : ℕ) (wide : 8 ≤ 2 ^ precision) where
       let e₂ : l ≡ (g +ℤ w) = nearest_exact precision (g +ℤ w) l (on_grid_as m v) x.last in
       omega (arith, ints)
 
-  -- e is what z lacks of a + c: it is on the grid, and small
+  -- the error e of a rounded sum is on the grid
   pub rest_on_grid : (a c z e : ℤ) → IsGridNumber precision a → IsGridNumber precision c
       → IsNearest precision (a +ℤ c) z → e ≡ ((a +ℤ c) -ℤ z) → IsGridNumber precision e
   rest_on_grid a c z e o p n d =
@@ -97,7 +97,7 @@ module _ (precision : ℕ) (wide : 8 ≤ 2 ^ precision) where
       let m : magnitude (z -ℤ (a +ℤ c)) ≡ magnitude e = omega (arith, ints, one_side (z -ℤ (a +ℤ c)), one_side e) in
       on_grid_as m v
 
-  -- the rest of a rounded sum is small beside the sum
+  -- the error of a rounded sum is small relative to the sum
   pub rest_small : (a c z e : ℤ) → IsNearest precision (a +ℤ c) z → e ≡ ((a +ℤ c) -ℤ z)
       → 2 ^ precision * magnitude e ≤ magnitude (a +ℤ c)
   rest_small a c z e n d =
@@ -105,7 +105,7 @@ module _ (precision : ℕ) (wide : 8 ≤ 2 ^ precision) where
       subst (λ (i : ℕ). 2 ^ precision * i ≤ magnitude (a +ℤ c)) m
       (relative_error precision (a +ℤ c) z (positive precision wide) n)
 
-  -- where both low parts are zero, z and y are the exact sum, and y is the lesser
+  -- if both low parts are zero, z and y are the exact sum, and y is the lesser
   pub exact_opening : (a aa c cc z q v r d e x y : ℤ) → IsGridNumber precision a → IsGridNumber precision c
       → aa ≡ pos 0
       → cc ≡ pos 0 → IsOpening precision a aa c cc z q v r d e x y → ((z +ℤ y) ≡ (a +ℤ c)) × IsShared precision z y
@@ -134,7 +134,7 @@ module _ (precision : ℕ) (wide : 8 ≤ 2 ^ precision) where
       (λ q. finer_multiple k (magnitude z) q.1)
       (nearest_cases precision wide k (a +ℤ c) z s n)
 
-  -- what is not above either of two numbers is shared with their rounded sum
+  -- a number that is above neither of two numbers shares a place with their rounded sum
   shared_below : (a c z y : ℤ) → IsGridNumber precision a → IsGridNumber precision c → IsNearest precision (a +ℤ c) z
       → IsGridNumber precision y
       → magnitude y ≤ magnitude a → magnitude y ≤ magnitude c → IsShared precision z y
@@ -143,11 +143,11 @@ module _ (precision : ℕ) (wide : 8 ≤ 2 ^ precision) where
       let b = u.bound in
       shared_at precision u.place z y (sum_multiple_at u.place a c z u.first u.second nz) gy (omega (arith, b))
 
-  -- how far a rounding is off
+  -- the error of a rounding is at most an eighth of the number
   pub error_eighth : (x z : ℤ) → IsNearest precision x z → 8 * magnitude (z -ℤ x) ≤ magnitude x
   error_eighth x z n = eighth _ _ _ wide (relative_error precision x z (positive precision wide) n)
 
-  -- the low part of a number that is rounded to its high part
+  -- the low part is small relative to the number, if the number rounds to its high part
   pub low_small : (a aa : ℤ) → IsNearest precision (a +ℤ aa) a → 2 ^ precision * magnitude aa ≤ magnitude (a +ℤ aa)
   low_small a aa n =
       let m : magnitude (a -ℤ (a +ℤ aa)) ≡ magnitude aa = omega (arith, ints, one_side aa, one_side (a -ℤ (a +ℤ aa))) in

@@ -1,5 +1,5 @@
--- The rows of the sum of two pairs whose high parts are finite: an operand that is zero leaves the other
--- one, and else the sum of numbers is taken.
+-- The rows of the sum of two pairs whose high parts are finite: if an operand is zero, the result is
+-- the other; otherwise it is the sum of numbers.
 use Rattle.std.proofs.Common.{◌≡◌, ℕ, ◌⊎◌, true, false, eqb, inl, inr, refl, ap, ◌∙◌, subst, ⊎_elim}
 use Rattle.std.specs.Prelude.{pos}
 use Rattle.std.proofs.lemmas.Bool.{cases_eq, false≢true, ne_eqb, eq-eqb}
@@ -20,7 +20,7 @@ pub record HasNumberZero (datum : Datum) : Type 0 where
   pub category_is : category_of datum ≡ Zero
   pub number_is : number datum ≡ pos 0
 
--- a finite datum is a zero or a number other than 0
+-- a finite datum is zero or nonzero
 finite_category : (datum : Datum) → is_finite datum ≡ true → HasNumberZero datum ⊎ (category_of datum ≡ Normal)
 finite_category (finite b n) h =
     ⊎_elim
@@ -37,7 +37,7 @@ finite_category (finite b n) h =
 finite_category (infinite b) h = absurd (false≢true h)
 finite_category (nan b n) h = absurd (false≢true h)
 
--- the answer is the other operand
+-- one operand is zero, and the result is the other
 pub record IsGivenBack (other given answer : Pair) (status : ℕ) : Type 0 where
   pub other_is : number other.high ≡ pos 0
   pub answer_is : answer ≡ given
@@ -51,7 +51,7 @@ at_categories first second x y answer status e g s =
     subst (λ (i : Category). IsSumOfCategories first i NearestTiesToEven x y answer status) g
     (subst (λ (i : Category). IsSumOfCategories i (pair_category y) NearestTiesToEven x y answer status) e s)
 
--- one of them is zero and the other given back, or both are numbers
+-- either one operand is zero and the other is the result, or both are nonzero
 pub sum_rows : (x y answer : Pair) (status : ℕ) → is_finite x.high ≡ true → is_finite y.high ≡ true
     → IsPairSum NearestTiesToEven x y answer status
     → IsGivenBack y x answer status

@@ -1,5 +1,5 @@
--- The sum of two pairs of doubles, rounded to nearest: nothing is lost of two doubles, and of normalised pairs the
--- answer is normalised, and close to the exact sum.
+-- The sum of two pairs of doubles, rounded to nearest: that of two doubles is exact, and that of normalised pairs is
+-- normalised, and close to the exact sum.
 use Rattle.std.proofs.Common.{◌≡◌, ℕ, ◌+◌, ◌*◌, ◌^◌, ◌≤◌, true, sym, ap, ◌∙◌, subst, inl, ⊎_elim, arith}
 use Rattle.std.specs.Prelude.{ℤ, pos, ◌+ℤ◌, ◌-ℤ◌, ◌*ℤ◌}
 use Rattle.std.proofs.lemmas.Int.{ints}
@@ -29,16 +29,16 @@ use Rattle.apfloat_pair_theory.proofs.sums.SumAnswers.{IsPairSummand, IsPairOpen
 
 -- ---- two doubles
 
--- a count of quanta within the reach bounds the number
+-- if the number of quanta is within the reach, so is the magnitude
 within_quanta : (datum : Datum) → is_finite datum ≡ true → quanta_of datum ≤ sum_reach
     → magnitude (number datum) ≤ sum_reach
 within_quanta h e w = subst (λ (i : ℕ). i ≤ sum_reach) (sym (magnitude_quanta h e)) w
 
--- what is within the reach is within the largest value
+-- a number within the reach is within the largest value
 reach_within : (t l n : ℕ) → n ≤ t → 3 * t ≤ l → n ≤ l
 reach_within t l n h k = omega arith
 
--- a low part that is 0 is within every bound
+-- a low part of 0 is within every bound
 no_sevenths : (t : ℕ) (z : ℤ) → z ≡ pos 0 → 7 * magnitude z ≤ t
 no_sevenths t z e = let m : magnitude z ≡ 0 = ap magnitude e in omega arith
 
@@ -52,7 +52,7 @@ single_summand x s r = record {
   low_within = no_sevenths sum_reach (number x.low) (single_low x s);
 }
 
--- a double beside +0 is a normalised pair
+-- a double with low part +0 is a normalised pair
 pub single_normalised : (x : Pair) → IsDoubleAlone x → quanta_of x.high ≤ sum_reach → IsNormalised x
 single_normalised x s r =
     let w = within_quanta x.high s.is_finite r in
@@ -69,7 +69,7 @@ single_normalised x s r =
       same_number = n.same_number;
     }
 
--- z and w are the exact sum
+-- for two doubles, z and w are the exact sum
 singles_open : (x y : Pair) (z q v r d e u w : ℤ) → IsDoubleAlone x → IsDoubleAlone y
     → IsPairOpening x y z q v r d e u w
     → ((z +ℤ w) ≡ (number x.high +ℤ number y.high)) × IsShared double.precision z w
@@ -87,7 +87,7 @@ first_back a aa c cc e g = omega (arith, ints)
 second_back : (a aa c cc : ℤ) → a ≡ pos 0 → aa ≡ pos 0 → (c +ℤ cc) ≡ ((a +ℤ aa) +ℤ (c +ℤ cc))
 second_back a aa c cc e g = omega (arith, ints)
 
--- in parts of a quantum, where the part is the quantum
+-- an equality in parts of a quantum, for one part
 in_quanta : (p s : ℤ) → p ≡ s → (p *ℤ pos 1) ≡ s
 in_quanta p s e = times_one p ∙ e
 
@@ -96,11 +96,11 @@ close_in_quanta : (p s : ℤ) (digits size : ℕ) → magnitude (p -ℤ s) * 2 ^
     → magnitude ((p *ℤ pos 1) -ℤ s) * 2 ^ digits ≤ size
 close_in_quanta p s digits size h = subst (λ (i : ℤ). magnitude (i -ℤ s) * 2 ^ digits ≤ size) (sym (times_one p)) h
 
--- parts that are 0 leave the sum of the high parts
+-- if the low parts are 0, the sum is that of the high parts
 highs_alone : (a aa c cc p s : ℤ) → aa ≡ pos 0 → cc ≡ pos 0 → p ≡ s → s ≡ (a +ℤ c) → p ≡ ((a +ℤ aa) +ℤ (c +ℤ cc))
 highs_alone a aa c cc p s e g h k = omega (arith, ints)
 
--- of two doubles the sum loses nothing
+-- the chain of steps loses nothing for two doubles
 summed_exactly : (x y answer : Pair) (status : ℕ) → IsDoubleAlone x → IsDoubleAlone y → IsSummed x y answer status
     → IsExactPair (pair_number x +ℤ pair_number y) 1 answer
 summed_exactly x y answer status s t m =
@@ -114,14 +114,14 @@ summed_exactly x y answer status s t m =
           (single_low x s) (single_low y t) m.number_is o.0);
     }
 
--- and neither does an answer that is one of the operands
+-- and neither does a result that is one of the operands
 given_exactly : (x y given answer : Pair) → answer ≡ given → IsNormalised given
     → pair_number given ≡ (pair_number x +ℤ pair_number y) → IsExactPair (pair_number x +ℤ pair_number y) 1 answer
 given_exactly x y given answer e n s =
     subst (λ (i : Pair). IsExactPair (pair_number x +ℤ pair_number y) 1 i) (sym e)
     (record { normalised = n; number_is = in_quanta (pair_number given) (pair_number x +ℤ pair_number y) s })
 
--- of two doubles nothing is lost
+-- the sum of two doubles is exact
 alone_sum : (x y answer : Pair) (status : ℕ) → IsPairSum NearestTiesToEven x y answer status
     → IsDoubleAlone x → IsDoubleAlone y → AreWithinReach x y
     → IsExactPair (pair_number x +ℤ pair_number y) 1 answer
@@ -142,7 +142,7 @@ alone_sum x y answer status k s t r =
     h)
     (sum_rows x y answer status s.is_finite t.is_finite k)
 
--- so the sum of two doubles is free of errors
+-- so the sum of two doubles is error-free
 pub error_free_sum : (x y answer : Pair) (status : ℕ) → IsMember double x.high → IsMember double y.high
     → IsPairSum NearestTiesToEven x y answer status → IsErrorFreeSum x y answer
 error_free_sum x y answer status mx my k s t r =
@@ -150,7 +150,7 @@ error_free_sum x y answer status mx my k s t r =
 
 -- ---- two normalised pairs
 
--- a low part of at most a seventh is at most a seventh of a bound of the high part
+-- a low part of at most a seventh of the high part is at most a seventh of its bound
 low_enough : (t h l : ℕ) → 7 * l ≤ h → h ≤ t → 7 * l ≤ t
 low_enough t h l a b = omega arith
 
@@ -176,15 +176,15 @@ normalised_share x y s t z q v r d e u w k =
     closing_shared double.precision wide_enough (number x.high) (number x.low) (number y.high)
     (number y.low) z e u w m n k.six.sum rest k.with_first k.with_second
 
--- a low part beside a high part that is zero is zero
+-- if the high part is zero, so is the low part
 low_zero : (h l : ℤ) → 7 * magnitude l ≤ magnitude h → h ≡ pos 0 → l ≡ pos 0
 low_zero h l a e = let m : magnitude h ≡ 0 = ap magnitude e in omega (arith, ints, one_side l)
 
--- an answer that is one of the operands, beside a zero
+-- a result without error is within every bound
 no_error : (p s : ℤ) (a b : ℕ) → p ≡ s → magnitude (p -ℤ s) * 2 ^ 103 ≤ a + b
 no_error p s a b e = let m : magnitude (p -ℤ s) ≡ 0 = omega (arith, ints, one_side (p -ℤ s)) in omega arith
 
--- an answer that is one of the operands is exact, so it is close
+-- a result that is one of the operands is exact, so it is close
 given_closely : (x y given answer : Pair) → answer ≡ given → IsNormalised given
     → pair_number given ≡ (pair_number x +ℤ pair_number y)
     → IsClosePair (pair_number x +ℤ pair_number y) 1 103 (total_size x y) answer
@@ -216,7 +216,7 @@ summed_closely x y answer status s t m =
           (small_error _ (total_size x y) b));
     }
 
--- of normalised pairs the answer is normalised, and close to the exact sum
+-- the sum of normalised pairs is normalised, and close to the exact sum
 pub accurate_sum : (x y answer : Pair) (status : ℕ) → IsPairSum NearestTiesToEven x y answer status
     → IsAccurateSum x y answer
 accurate_sum x y answer status k s t r =
@@ -238,7 +238,7 @@ accurate_sum x y answer status k s t r =
     h)
     (sum_rows x y answer status s.finite_high t.finite_high k)
 
--- the flags of the steps, joined, are none or that of an inexact answer
+-- the union of the flags of the steps is OK or INEXACT
 pub plain_sum : (x y answer : Pair) (status : ℕ) → IsPairSum NearestTiesToEven x y answer status
     → HasPlainStatus x y status
 plain_sum x y answer status k s t r =

@@ -1,4 +1,4 @@
--- The written sum of two pairs of doubles: within reach its steps are roundings, and they leave a normalised pair.
+-- The steps of the sum of two pairs of doubles: within reach, they are roundings that give a normalised pair.
 use Rattle.std.proofs.Common.{◌≡◌, ℕ, Bool, true, false, sym, refl, subst}
 use Rattle.std.proofs.lemmas.Bool.{MatchBool-at_false}
 use Rattle.std.specs.Prelude.{ℤ, ◌+ℤ◌}
@@ -32,11 +32,11 @@ abbrev pub IsPairOpening : Pair → Pair → ℤ → ℤ → ℤ → ℤ → ℤ
 IsPairOpening x y z q v r d e u w =
     IsOpening double.precision (number x.high) (number x.low) (number y.high) (number y.low) z q v r d e u w
 
--- what they leave to the closing sum are multiples of one unit
+-- the operands of the closing sum are multiples of one unit
 abbrev pub IsSharing : Pair → Pair → Type 0
 IsSharing x y = (z q v r d e u w : ℤ) → IsPairOpening x y z q v r d e u w → IsShared double.precision z w
 
--- z and w, by the roundings before the closing sum, and the answer as their sum
+-- z and w from the roundings before the closing sum, and the result as their sum
 pub record IsSummed (x y answer : Pair) (status : ℕ) : Type 0 where
   pub z : Datum
   pub q : Datum
@@ -52,7 +52,7 @@ pub record IsSummed (x y answer : Pair) (status : ℕ) : Type 0 where
   pub number_is : pair_number answer ≡ number z +ℤ number w
   pub plain : IsOkOrInexact status
 
--- a sum whose rest is 0 stands alone, and another one is closed
+-- a sum whose rest is 0 is the result, any other is closed
 answer_pair : (is_zero : Bool) (z zz : Datum) (flags : ℕ) (answer : Pair) (status : ℕ)
     → same_datum zz positive_zero ≡ is_zero → IsClosable z zz
     → MatchBool is_zero (IsPairAnswer (alone z) ok_bits answer status)
@@ -62,7 +62,7 @@ answer_pair true z w flags answer status h a x =
     given_pair z w flags (alone z) ok_bits answer status x (alone_pair z w flags a (zero_number w h))
 answer_pair false z w flags answer status h a x = closed_pair z w flags answer status a x
 
--- the steps before the closing sum
+-- the steps of the definition before the closing sum, as opening steps
 opening_steps : (x y : Pair) (z zz : Datum) (z_flags zz_flags : ℕ)
     → IsSum double NearestTiesToEven x.high y.high z z_flags
     → (lost : IsLost NearestTiesToEven x.high x.low y.high y.low z zz zz_flags)
@@ -89,7 +89,7 @@ opening_steps x y z w z_flags w_flags s lost = record {
   with_second = lost.is_zz;
 }
 
--- the seven steps together raise at most INEXACT
+-- the seven steps raise at most INEXACT
 lost_status : (x y : Pair) (z zz : Datum) (zz_flags : ℕ) → IsPairSummand x → IsPairSummand y
     → (lost : IsLost NearestTiesToEven x.high x.low y.high y.low z zz zz_flags)
     → IsOpened double.precision sum_reach x.high x.low y.high y.low z lost.q lost.lost_of_c lost.z_again lost.gained

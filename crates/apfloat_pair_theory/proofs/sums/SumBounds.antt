@@ -1,4 +1,4 @@
--- How far the sum of two normalised pairs is from the exact sum.
+-- The error of the sum of two normalised pairs.
 use Rattle.std.proofs.Common.{◌≡◌, ℕ, ◌+◌, ◌*◌, ◌^◌, ◌≤◌, arith}
 use Rattle.std.specs.Prelude.{ℤ, ◌+ℤ◌, ◌-ℤ◌}
 use Rattle.std.proofs.Math.Nat.{mul-le-mul_left}
@@ -24,7 +24,7 @@ losses_total p a c s e aa cc A C i j x d w h1 h2 h3 h4 h5 h6 h7 h8 h9 h0 =
     let t₅ : p * (p * d) ≤ p * (p * (i + j)) = mul-le-mul_left p t₄ in
     omega arith
 
--- the two roundings with the low parts are all that is lost
+-- the whole error is that of the two roundings with the low parts
 rest_error : (a aa c cc z e x y : ℤ) → e ≡ ((a +ℤ c) -ℤ z)
     → magnitude ((z +ℤ y) -ℤ ((a +ℤ aa) +ℤ (c +ℤ cc))) ≤ magnitude (x -ℤ (e +ℤ aa)) + magnitude (y -ℤ (x +ℤ cc))
 rest_error a aa c cc z e x y f =
@@ -37,7 +37,7 @@ rest_error a aa c cc z e x y f =
     )
 
 module _ (precision : ℕ) (wide : 8 ≤ 2 ^ precision) where
-  -- at most 8 / 2 ^ (2 * digits) of both magnitudes
+  -- the error is at most 8 / 2 ^ (2 * digits) of the sum of both magnitudes
   pub opening_bound : (a aa c cc z q v r d e x y : ℤ) → IsNearest precision (a +ℤ aa) a
       → IsNearest precision (c +ℤ cc) c → IsOpening precision a aa c cc z q v r d e x y
       → 2 ^ precision * (2 ^ precision * magnitude ((z +ℤ y) -ℤ ((a +ℤ aa) +ℤ (c +ℤ cc))))

@@ -11,7 +11,7 @@ use Rattle.apfloat_pair_theory.specs.PairAccuracy.{AreWithinReach}
 abbrev parts_of : Bool → ℕ → Bool → ℕ → Pair
 parts_of b m c n = record { high = finite b m; low = finite c n }
 
--- 1 and the smallest double: the answer has both
+-- 1 and the smallest double: the result has both
 one_and_smallest : IsPairSum NearestTiesToEven (alone (finite false (2 ^ 1074))) (alone (finite false 1))
     (parts_of false (2 ^ 1074) false 1) inexact_bit
 one_and_smallest = record {
@@ -61,8 +61,8 @@ one_and_smallest = record {
   };
 }
 
--- ---- Where the low parts cancel what the sum of the high parts lost, the answer has no flag, and may not
--- be exact: of these two one quantum is lost.
+-- ---- If the low parts cancel the error of the sum of the high parts, the result has no flag, and may not
+-- be exact: this sum loses one quantum.
 
 abbrev near : Pair
 near = parts_of false (2 ^ 53) false 1
@@ -94,7 +94,7 @@ far_normalised = record {
 within_reach : AreWithinReach near far
 within_reach = record { first = lit≤ tt; second = lit≤ tt }
 
--- their sum has no flag, and lacks one quantum
+-- their sum has no flag, and is one quantum off
 loss_without_flag : IsPairSum NearestTiesToEven near far (alone (finite true ((2 ^ 52 + 2) * 2 ^ 54))) ok_bits
 loss_without_flag = record {
   z = finite true ((2 ^ 52 + 2) * 2 ^ 54);

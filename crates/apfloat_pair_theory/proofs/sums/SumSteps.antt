@@ -16,11 +16,11 @@ use Rattle.apfloat_base.proofs.arithmetic.Signs.{one_side}
 use Rattle.apfloat_pair_theory.proofs.numbers.Signed.{magnitude-neg, grown, magnitude_le, IsGridNumber}
 use Rattle.apfloat_pair_theory.proofs.numbers.Nearest.{IsNearest}
 use Rattle.apfloat_pair_theory.proofs.numbers.TwoSums.{IsTwoSum, two_sum, first_at, second_at}
-use Rattle.apfloat_pair_theory.proofs.sums.PairRoundings.{IsFastSum, IsOpening, eighth, error_eighth, rest_small}
+use Rattle.apfloat_pair_theory.proofs.sums.PairRoundings.{IsFastTwoSum, IsOpening, eighth, error_eighth, rest_small}
 use Rattle.apfloat_pair_theory.proofs.numbers.Roundings.{IsRoundedTo, sum_within, difference_within, negated_finite, negated_number}
 
--- the six steps of the sum of two data
-pub record IsSixSteps (format : Format) (a c z q lost_of_c z_again gained lost : Datum) : Type 0 where
+-- the six steps of TwoSum
+pub record IsTwoSumSteps (format : Format) (a c z q lost_of_c z_again gained lost : Datum) : Type 0 where
   pub sum_flags : ℕ
   pub first_flags : ℕ
   pub second_flags : ℕ
@@ -34,16 +34,16 @@ pub record IsSixSteps (format : Format) (a c z q lost_of_c z_again gained lost :
   pub fourth : IsDifference format NearestTiesToEven z_again a gained fourth_flags
   pub last : IsSum format NearestTiesToEven lost_of_c (negated IEEE754 gained) lost last_flags
 
--- and the two low parts
+-- and the two sums with the low parts
 pub record IsOpeningSteps (format : Format) (a aa c cc z q lost_of_c z_again gained lost with_aa zz : Datum) : Type 0
   where
-    pub six : IsSixSteps format a c z q lost_of_c z_again gained lost
+    pub six : IsTwoSumSteps format a c z q lost_of_c z_again gained lost
     pub first_flags : ℕ
     pub second_flags : ℕ
     pub with_first : IsSum format NearestTiesToEven lost aa with_aa first_flags
     pub with_second : IsSum format NearestTiesToEven with_aa cc zz second_flags
 
--- the closing sum
+-- the three steps of Fast2Sum, which closes the sum
 pub record IsClosingSteps (format : Format) (z zz h left low : Datum) : Type 0 where
   pub sum_flags : ℕ
   pub first_flags : ℕ
@@ -52,7 +52,7 @@ pub record IsClosingSteps (format : Format) (z zz h left low : Datum) : Type 0 w
   pub first : IsDifference format NearestTiesToEven z h left first_flags
   pub last : IsSum format NearestTiesToEven left zz low last_flags
 
--- ---- the same as roundings of numbers
+-- ---- the same steps, as roundings of numbers
 
 abbrev pub size : Datum → ℕ
 size x = magnitude (number x)
@@ -65,14 +65,14 @@ pub record IsSummand (format : Format) (top : ℕ) (a aa : Datum) : Type 0 where
   pub within : size a ≤ top
   pub low_within : 7 * size aa ≤ top
 
--- what the closing sum adds
+-- the operands of the closing sum, bounded by parts of `top`
 pub record IsAddend (top : ℕ) (z zz : Datum) : Type 0 where
   pub finite_sum : is_finite z ≡ true
   pub finite_rest : is_finite zz ≡ true
   pub sum_low : 4 * size z ≤ 9 * top
   pub rest_low : 4 * size zz ≤ 3 * top
 
--- the six steps are finite
+-- the results of the six steps are finite
 pub record AreFinite (z q lost_of_c z_again gained lost : Datum) : Type 0 where
   pub sum : is_finite z ≡ true
   pub first : is_finite q ≡ true
@@ -81,8 +81,8 @@ pub record AreFinite (z q lost_of_c z_again gained lost : Datum) : Type 0 where
   pub fourth : is_finite gained ≡ true
   pub last : is_finite lost ≡ true
 
--- they are the roundings of the numbers
-pub record IsSixRounded (precision : ℕ) (a c z q lost_of_c z_again gained lost : Datum) : Type 0 where
+-- they are roundings of the numbers
+pub record IsTwoSumRounded (precision : ℕ) (a c z q lost_of_c z_again gained lost : Datum) : Type 0 where
   pub finite : AreFinite z q lost_of_c z_again gained lost
   pub roundings : IsTwoSum precision (number a) (number c) (number z) (number q) (number lost_of_c) (number z_again)
       (number gained) (number lost)
@@ -95,16 +95,16 @@ pub record IsOpened (precision top : ℕ) (a aa c cc z q lost_of_c z_again gaine
   pub roundings : IsOpening precision (number a) (number aa) (number c) (number cc) (number z) (number q)
       (number lost_of_c) (number z_again) (number gained) (number lost) (number with_aa) (number zz)
 
--- and those of the closing sum
+-- and so are those of the closing sum
 pub record IsClosedSum (precision : ℕ) (z zz h left low : Datum) : Type 0 where
   pub finite_high : is_finite h ≡ true
   pub finite_left : is_finite left ≡ true
   pub finite_low : is_finite low ≡ true
-  pub roundings : IsFastSum precision (number z) (number zz) (number h) (number left) (number low)
+  pub roundings : IsFastTwoSum precision (number z) (number zz) (number h) (number left) (number low)
 
--- ---- how far a rounding goes
+-- ---- the size of a rounded number
 
--- the exact values of the third and the fourth step, by the errors of the earlier ones
+-- bounds of the exact third and fourth step, from the errors of the earlier steps
 third_at : (a z q : ℤ) → magnitude (q +ℤ z) ≤ magnitude a + magnitude (q -ℤ (a -ℤ z))
 third_at a z q = omega (arith, ints, one_side (q +ℤ z), one_side (q -ℤ (a -ℤ z)), one_side a)
 
@@ -136,20 +136,20 @@ half_low t s h = omega arith
 value_low : (t s e v : ℕ) → 2 * s ≤ t → 8 * e ≤ s → v ≤ s + e → v ≤ t
 value_low t s e v h l k = omega arith
 
--- what is at most twice `top` is within the largest value
+-- a magnitude of at most twice `top` is within the largest value
 pub within_largest : (t l s : ℕ) → 3 * t ≤ l → s ≤ 2 * t → s ≤ l
 within_largest t l s h k = omega arith
 
--- the error of the high parts and the first low part are at most twice `top`
+-- the error of the high parts plus the first low part is at most twice `top`
 first_low : (t e aa s : ℕ) → 4 * e ≤ t → 7 * aa ≤ t → s ≤ e + aa → s ≤ 2 * t
 first_low t e aa s h l k = omega arith
 
--- that sum, rounded, and the second low part are at most two thirds of `top`
+-- that sum, rounded, plus the second low part is at most two thirds of `top`
 second_low : (t e aa s i x cc u : ℕ) → 4 * e ≤ t → 7 * aa ≤ t → s ≤ e + aa → 8 * i ≤ s → x ≤ s + i → 7 * cc ≤ t
     → u ≤ x + cc → (u ≤ 2 * t) × (3 * u ≤ 2 * t)
 second_low t e aa s i x cc u h1 h2 h3 h4 h5 h6 h7 = (omega arith, omega arith)
 
--- rounded again, that is at most three quarters of it
+-- rounded again, that is at most three quarters of `top`
 rest_low_by : (t u j y : ℕ) → 3 * u ≤ 2 * t → 8 * j ≤ u → y ≤ u + j → 4 * y ≤ 3 * t
 rest_low_by t u j y h l k = omega arith
 
@@ -165,7 +165,7 @@ closing_within t l z y s h1 h2 h3 h4 = (omega arith, omega arith)
 closing_first : (t s e y u : ℕ) → s ≤ 3 * t → 8 * e ≤ s → 4 * y ≤ 3 * t → u ≤ y + e → u ≤ 2 * t
 closing_first t s e y u h1 h2 h3 h4 = omega arith
 
--- and so is that with zz added
+-- and so is that difference plus zz
 closing_last : (t s e g u v : ℕ) → s ≤ 3 * t → 8 * e ≤ s → u ≤ 2 * t → 8 * g ≤ u → v ≤ g + e → v ≤ 2 * t
 closing_last t s e g u v h1 h2 h3 h4 h5 = omega arith
 
@@ -185,7 +185,7 @@ module _ (format : Format) (kind : format.nonfinite ≡ IEEE754) (wide : 8 ≤ 2
   difference_of x y value status p q h s =
       difference_within format x y value status kind p q (within_largest _ _ _ room h) s
 
-  -- a rounding is off by an eighth at most
+  -- a rounding is off by at most an eighth
   error_of : (exact : ℤ) (value : Datum) → IsRoundedTo format.precision exact value
       → 8 * magnitude (number value -ℤ exact) ≤ magnitude exact
   error_of exact value x = error_eighth format.precision wide exact (number value) x.nearest
@@ -196,11 +196,11 @@ module _ (format : Format) (kind : format.nonfinite ≡ IEEE754) (wide : 8 ≤ 2
   first_finite a c z status fa fc la lc x =
       let n = sum_of a c z status fa fc (sum_low _ _ _ _ la lc (magnitude_le (number a) (number c))) x in n.is_finite
 
-  -- within a third of the largest value no step overflows
-  pub six_rounded : (a c z q lost_of_c z_again gained lost : Datum) → is_finite a ≡ true → is_finite c ≡ true
-      → size a ≤ top → size c ≤ top → IsSixSteps format a c z q lost_of_c z_again gained lost
-      → IsSixRounded format.precision a c z q lost_of_c z_again gained lost
-  six_rounded a c z q v r d e fa fc la lc x =
+  -- within a third of the largest value, no step overflows
+  pub two_sum_rounded : (a c z q lost_of_c z_again gained lost : Datum) → is_finite a ≡ true → is_finite c ≡ true
+      → size a ≤ top → size c ≤ top → IsTwoSumSteps format a c z q lost_of_c z_again gained lost
+      → IsTwoSumRounded format.precision a c z q lost_of_c z_again gained lost
+  two_sum_rounded a c z q v r d e fa fc la lc x =
       let s₀ = sum_low _ _ _ _ la lc (magnitude_le (number a) (number c)) in
       let nz = sum_of a c z x.sum_flags fa fc s₀ x.sum in
       let ez = error_low _ _ _ s₀ (error_of _ _ nz) in
@@ -240,12 +240,12 @@ module _ (format : Format) (kind : format.nonfinite ≡ IEEE754) (wide : 8 ≤ 2
         };
       }
 
-  -- nor do the steps with the low parts, and the closing sum can add what they leave
+  -- nor do the steps with the low parts, and their results are within the bounds of the closing sum
   pub opened : (a aa c cc z q lost_of_c z_again gained lost with_aa zz : Datum) → IsSummand format top a aa
       → IsSummand format top c cc → IsOpeningSteps format a aa c cc z q lost_of_c z_again gained lost with_aa zz
       → IsOpened format.precision top a aa c cc z q lost_of_c z_again gained lost with_aa zz
   opened a aa c cc z q v r d e x y m n k =
-      let t = six_rounded a c z q v r d e m.finite_high n.finite_high m.within n.within k.six in
+      let t = two_sum_rounded a c z q v r d e m.finite_high n.finite_high m.within n.within k.six in
       let s₀ = sum_low _ _ _ _ m.within n.within (magnitude_le (number a) (number c)) in
       let is = two_sum format.precision wide _ _ _ _ _ _ _ _ m.on_grid n.on_grid t.roundings in
       let le = error_low _ _ _ s₀
@@ -277,7 +277,7 @@ module _ (format : Format) (kind : format.nonfinite ≡ IEEE754) (wide : 8 ≤ 2
       let l = (closing_within _ _ _ _ _ a.sum_low a.rest_low (magnitude_le (number z) (number y)) room).0 in
       sum_within format z y h status kind a.finite_sum a.finite_rest l x
 
-  -- h, the difference of z and h, and the low part are finite, and are roundings of numbers
+  -- h, z - h and the low part are finite, and are roundings of numbers
   pub closed : (z zz h left low : Datum) → IsAddend top z zz → IsClosingSteps format z zz h left low
       → IsClosedSum format.precision z zz h left low
   closed z y h g l a x =

@@ -1,4 +1,3 @@
--- Each clause is by a lemma that an answer exists, and one that it is the only one.
 use Rattle.apfloat_pair_theory.proofs.calls.CallsOnce.{pair_quotient_once, pair_truncated_remainder_once, pair_nearest_remainder_once, pair_round_to_integral_once, pair_next_up_once, pair_next_down_once, pair_from_unsigned_once, pair_from_signed_once}
 use Rattle.apfloat_pair_theory.proofs.calls.CallsExist.{pair_quotient_exists, pair_truncated_remainder_exists, pair_nearest_remainder_exists, pair_round_to_integral_exists, pair_next_up_exists, pair_next_down_exists, pair_from_unsigned_exists, pair_from_signed_exists}
 use Rattle.apfloat_pair_theory.proofs.wide_calls_have_one_answer.Goals as goal

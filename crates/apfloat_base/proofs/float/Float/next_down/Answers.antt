@@ -1,7 +1,7 @@
 use Rattle.std.proofs.Common.{◌≡◌, rules, subst}
 use Rattle.apfloat_base.proofs.float.Float.next_down.Goals as goal
 
--- what holds of one thing holds of an equal one
+-- what holds of a value holds of an equal value
 moved : {X : Type 0} (P : X → Type 0) {x y : X} → P x → x ≡ y → P y
 moved P p e = subst P e p
 

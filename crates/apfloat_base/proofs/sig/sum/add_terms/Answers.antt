@@ -2,7 +2,7 @@ use Rattle.std.proofs.Common.{◌≡◌, ◌∙◌, pos, ◌+ℤ◌, inl, inr, t
 use Rattle.std.proofs.lemmas.Int.{ints}
 use Rattle.apfloat_base.specs.arithmetic.Totals.{counted}
 use Rattle.apfloat_base.proofs.arithmetic.Signs.{swapped_sum}
-use Rattle.apfloat_base.proofs.arithmetic.Totals.{resigned}
+use Rattle.apfloat_base.proofs.arithmetic.Totals.{total_swapped}
 use Rattle.apfloat_base.proofs.sig.sum.add_terms.Goals as goal
 
 pub returns-then-x-y-clause-full : goal.returns-then-x-y-clause-full
@@ -17,7 +17,7 @@ returns-then-is_zero-clause-stands c = λ base lx ly.
     let z = c.is_zero.ensures.yes c.if-is_zero.true in
     let w : to_z w32 (of_z w32 c.sum_of-total.result.exponent) ≡ c.sum_of-total.result.exponent =
     omega (arith, ints, c.sum_of-total.ensures.near, c.sum_of-total.ensures.far) in
-    let f = resigned base (counted base c.args.y.negative c.args.y.exponent c.args.y.significand)
+    let f = total_swapped base (counted base c.args.y.negative c.args.y.exponent c.args.y.significand)
     (counted base c.args.x.negative c.args.x.exponent c.args.x.significand) c.sum_of-total.result.negative
     c.args.x.negative c.sum_of-total.result.exponent c.sum_of-total.result.significand
     c.sum_of-total.result.loss (inr z) r in
