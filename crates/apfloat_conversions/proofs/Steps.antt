@@ -31,13 +31,8 @@ some shape = let t = shape.parameters.precision_low in omega (arith, t)
 pub step_fits : (shape : Shape) (m t : ℕ) (e : ℤ) → IsNormalAt shape m e
     → t ≡ 2 ^ down (e -ℤ shape.min_exp)
     → m + t < 2 ^ 128
-<<<<<<< HEAD
 step_fits shape m t e n i =
-    let l = operand_down shape.precision shape.min_exp shape.max_exp e shape.parameters.precision_low n.operand.least in
-=======
-step_fits shape m t e law n i =
-    let l = operand_down shape.precision shape.min_exp e law.precision_low n.operand.least in
->>>>>>> dbfab5c8ce043ee353a7a0a9e6233ae0b23fc70e
+    let l = operand_down shape.precision shape.min_exp e shape.parameters.precision_low n.operand.least in
     subst (λ (x : ℕ). m + x < 2 ^ 128) (sym i)
     (step_room shape.precision m (down (e -ℤ shape.min_exp)) shape.parameters.precision_high n.operand.fits l)
 
@@ -45,13 +40,8 @@ step_fits shape m t e law n i =
 pub step_below : (shape : Shape) (m t : ℕ) (e : ℤ)
     → ((shape.min_exp +ℤ pos 1) -ℤ pos shape.precision) ≤ℤ e
     → 2 ^ (shape.precision - 1) ≤ m → t ≡ 2 ^ down (e -ℤ shape.min_exp) → t ≤ m
-<<<<<<< HEAD
 step_below shape m t e l h i =
-    let d = operand_down shape.precision shape.min_exp shape.max_exp e shape.parameters.precision_low l in
-=======
-step_below shape m t e law l h i =
-    let d = operand_down shape.precision shape.min_exp e law.precision_low l in
->>>>>>> dbfab5c8ce043ee353a7a0a9e6233ae0b23fc70e
+    let d = operand_down shape.precision shape.min_exp e shape.parameters.precision_low l in
     let k = step_small (shape.precision - 1) (down (e -ℤ shape.min_exp)) d in
     omega (arith, i, k, h)
 
@@ -94,11 +84,7 @@ pub after_carries : (shape : Shape) (m t w : ℕ) (e r : ℤ) → IsNormalAt sha
 after_carries shape m t w e r n b i h j k =
     let p = some shape in
     let a = quanta_at shape.min_exp m e in
-<<<<<<< HEAD
-    let l = operand_down shape.precision shape.min_exp shape.max_exp e shape.parameters.precision_low n.operand.least in
-=======
-    let l = operand_down shape.precision shape.min_exp e law.precision_low n.operand.least in
->>>>>>> dbfab5c8ce043ee353a7a0a9e6233ae0b23fc70e
+    let l = operand_down shape.precision shape.min_exp e shape.parameters.precision_low n.operand.least in
     let z : m + 2 ^ down (e -ℤ shape.min_exp) ≤ 2 ^ shape.precision =
     step_within shape.precision m a (up (e -ℤ shape.min_exp)) (down (e -ℤ shape.min_exp)) (omega (arith, l))
     (one_side (e -ℤ shape.min_exp)) n.operand.fits n.whole in
@@ -145,11 +131,7 @@ pub before_stays : (shape : Shape) (m t : ℕ) (e : ℤ) → IsNormalAt shape m 
 before_stays shape m t e n i h =
     let a = quanta_at shape.min_exp m e in
     let f = n.operand.fits in
-<<<<<<< HEAD
-    let l = operand_down shape.precision shape.min_exp shape.max_exp e shape.parameters.precision_low n.operand.least in
-=======
-    let l = operand_down shape.precision shape.min_exp e law.precision_low n.operand.least in
->>>>>>> dbfab5c8ce043ee353a7a0a9e6233ae0b23fc70e
+    let l = operand_down shape.precision shape.min_exp e shape.parameters.precision_low n.operand.least in
     let k : 2 ^ (shape.precision - 1) + 2 ^ down (e -ℤ shape.min_exp) ≤ m =
     step_above (shape.precision - 1) m a (up (e -ℤ shape.min_exp))
     (down (e -ℤ shape.min_exp)) l (one_side (e -ℤ shape.min_exp))
@@ -172,11 +154,7 @@ pub before_lowers : (shape : Shape) (m w t : ℕ) (e r : ℤ) → IsNormalAt sha
 before_lowers shape m w t e r n i j k low h =
     let p = some shape in
     let a = quanta_at shape.min_exp m e in
-<<<<<<< HEAD
-    let l = operand_down shape.precision shape.min_exp shape.max_exp r shape.parameters.precision_low low in
-=======
-    let l = operand_down shape.precision shape.min_exp r law.precision_low low in
->>>>>>> dbfab5c8ce043ee353a7a0a9e6233ae0b23fc70e
+    let l = operand_down shape.precision shape.min_exp r shape.parameters.precision_low low in
     let q = lowered_quanta shape.precision shape.min_exp e r m w a p i j k n.whole in
     let y = step_small (shape.precision - 1) (down (r -ℤ shape.min_exp)) l in
     let z = twice_half shape.precision p in

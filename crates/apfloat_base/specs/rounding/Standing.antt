@@ -1,10 +1,5 @@
-<<<<<<< HEAD
--- What a significand and its loss say about a magnitude.
-use Rattle.std.specs.Prelude.{◌≡◌, ℕ, ◌+◌, ◌-◌, ◌*◌, ◌^◌, ◌<◌, ◌≤◌, ◌⊎◌, ℤ, pos, ◌≤ℤ◌}
-=======
 -- What a significand and its loss state about a magnitude.
-use Rattle.std.specs.Prelude.{◌≡◌, ℕ, ◌+◌, ◌*◌, ◌<◌}
->>>>>>> dbfab5c8ce043ee353a7a0a9e6233ae0b23fc70e
+use Rattle.std.specs.Prelude.{◌≡◌, ℕ, ◌+◌, ◌-◌, ◌*◌, ◌^◌, ◌<◌, ◌≤◌, ◌⊎◌, ℤ, pos, ◌≤ℤ◌}
 -- 2 to the power of an integer z is the fraction 2 ^ up z / 2 ^ down z
 pub use borrow.Author.Differences.{up, down}
 use Rattle.apfloat_base.specs.declared.sig.loss.Loss.{Loss}
