@@ -70,7 +70,7 @@ def built(arguments, folder):
 
 
 def measured(arguments, others, folder):
-    """The least times and the checksums, by program and cell: a format, an operation, and a set."""
+    """The least times and the checksums, by program and cell: format, operation, set."""
     times, sums = {}, {"library": known_checksums()}
     for _ in range(arguments.rounds):
         table = subprocess.check_output([arguments.library, "time"], text=True)
@@ -138,8 +138,8 @@ def print_table(times, operands, others):
     print("|---" * (len(FORMATS) + 1) + "|")
     operations = dict.fromkeys(cell[1] for cell in times["library"])
     for operation in operations:
-        cells = [(name, operation, operands) for name in FORMATS]
-        print(f"| {operation} | " + " | ".join(shown(times, cell, others) for cell in cells) + " |")
+        cells = [shown(times, (name, operation, operands), others) for name in FORMATS]
+        print(f"| {operation} | " + " | ".join(cells) + " |")
     print()
     for name in others:
         ratios = {
