@@ -16,7 +16,7 @@ ghost use Rattle.apfloat_base.specs.arithmetic.Products.{IsProduct, IsOpposite};
 ghost use Rattle.apfloat_base.specs.arithmetic.Quotients.{IsQuotient};
 ghost use Rattle.std.proofs.lemmas.Bool.{leb-true};
 ghost use Rattle.apfloat_base.specs.formats.Constants.{zero_datum, smallest_datum, infinity_datum, largest_datum, smallest_normalized_datum};
-ghost use Rattle.apfloat_base.specs.bits.Layout.{datum_of, IsEncodedBy};
+ghost use Rattle.apfloat_base.specs.bits.Layout.{datum_of, IsEncodedBy, IsReadFrom};
 ghost use Rattle.apfloat_base.specs.arithmetic.NextUp.{IsNextUp, IsNextDown};
 ghost use Rattle.apfloat_base.specs.rounding.Rounding.{ok_bits};
 ghost use Rattle.apfloat_base.specs.arithmetic.Scaling.{IsScaling};
@@ -255,12 +255,7 @@ impl<S: Semantics> Float for IeeeFloat<S> {
     #[inline]
     fn from_bits(bits: u128) -> Self
         requires { S.PRECISION < S.BITS }
-        ensures read { result ≡ datum_of (format_of S.Semantics) (layout_of S.Semantics) bits }
-        ensures back { S.EXPLICIT_INTEGER_BIT ≡ false → bits < 2 ^ S.BITS
-            → IsEncodedBy (format_of S.Semantics) (layout_of S.Semantics) bits result }
-        ensures once { S.EXPLICIT_INTEGER_BIT ≡ false → bits < 2 ^ S.BITS → (other : ℕ)
-            → IsEncodedBy (format_of S.Semantics) (layout_of S.Semantics) other result
-            → other ≡ bits }
+        ensures { IsReadFrom (format_of S.Semantics) (layout_of S.Semantics) bits result }
     {
         decode::<S>(bits)
     }
