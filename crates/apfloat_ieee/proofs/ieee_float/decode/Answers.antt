@@ -22,11 +22,11 @@ returns g c =
     c.widths_of.ensures.value d in
     let back : f.explicit_integer_bit ≡ false → c.args.bits < 2 ^ l.bits → IsEncodedBy f l c.args.bits c.packed.result =
     λ e h.
-        record {
-          below = h;
-          canonical = implied_is_canonical f l (fields_of f l c.args.bits) e;
-          is = sym read;
-        }
+    record {
+      below = h;
+      canonical = implied_is_canonical f l (fields_of f l c.args.bits) e;
+      is = sym read;
+    }
     in
     record {
       read = read;
