@@ -1,4 +1,4 @@
 pub mod Subtrahends
 pub mod Sides
 pub mod ExactInverseParts
-pub mod Points
+pub mod Magnitudes

@@ -14,7 +14,7 @@ ghost use Rattle.apfloat_base.specs.arithmetic.Exponents.{IsIlogb};
 ghost use Rattle.apfloat_base.specs.arithmetic.Remainders.{truncated_quotient, nearest_quotient, rest_of, IsRemainder, IsTruncatedRemainder, IsNearestRemainder, ones_of_quotient};
 ghost use Rattle.apfloat_unpacked.specs.Shapes.{format_at};
 ghost use Rattle.apfloat_unpacked.specs.Stored.{IsOperand, IsNormal, IsStored, datum_at, quanta_of, GivesAt};
-ghost use Rattle.apfloat_arithmetic.specs.Points.{units_of, HasAllDigits};
+ghost use Rattle.apfloat_arithmetic.specs.Magnitudes.{units_of, HasAllDigits};
 
 use crate::classes::are_normal;
 use apfloat_base::sig::digits;
@@ -25,41 +25,41 @@ use apfloat_unpacked::unpacked::{Unpacked, from_quanta};
 
 /// `significand * 2^place` units.
 #[derive(Clone, Copy, Debug)]
-struct Point {
+struct Magnitude {
     significand: u128,
     place: u32,
 }
 
 /// The same magnitude with its digits moved up, to the precision or to the least place.
 #[inline(always)]
-fn raised(precision: u32, point: Point, least: u32) -> Point
+fn raised(precision: u32, magnitude: Magnitude, least: u32) -> Magnitude
     requires precise { precision ≤ 125 }
-    requires fits { point.significand < 2 ^ precision }
-    requires above { least ≤ point.place }
-    ensures same { units_of result ≡ units_of point }
+    requires fits { magnitude.significand < 2 ^ precision }
+    requires above { least ≤ magnitude.place }
+    ensures same { units_of result ≡ units_of magnitude }
     ensures fits { result.significand < 2 ^ precision }
     ensures full { (result.place ≡ least) ⊎ (2 ^ (precision - 1) ≤ result.significand) }
     ensures least { least ≤ result.place }
-    ensures lower { result.place ≤ point.place }
+    ensures lower { result.place ≤ magnitude.place }
 {
-    if point.significand == 0 {
-        return Point {
+    if magnitude.significand == 0 {
+        return Magnitude {
             significand: 0,
             place: least,
         };
     }
-    let free = precision - digits(point.significand);
-    let room = point.place - least;
+    let free = precision - digits(magnitude.significand);
+    let room = magnitude.place - least;
     let shift = if free < room { free } else { room };
-    Point {
-        significand: point.significand << shift,
-        place: point.place - shift,
+    Magnitude {
+        significand: magnitude.significand << shift,
+        place: magnitude.place - shift,
     }
 }
 
 /// The rest after subtracting the greatest multiple of the divisor by a power of two that is not above it.
 #[inline(always)]
-fn less_multiple(rest: Point, divisor: Point) -> Point
+fn less_multiple(rest: Magnitude, divisor: Magnitude) -> Magnitude
     requires narrow { rest.significand < 2 ^ 126 }
     requires close { rest.significand < 2 * divisor.significand }
     requires reaches { ((divisor.place < rest.place)
@@ -71,12 +71,12 @@ fn less_multiple(rest: Point, divisor: Point) -> Point
     ensures least { divisor.place ≤ result.place }
 {
     if rest.significand >= divisor.significand {
-        Point {
+        Magnitude {
             significand: rest.significand - divisor.significand,
             place: rest.place,
         }
     } else {
-        Point {
+        Magnitude {
             significand: 2 * rest.significand - divisor.significand,
             place: rest.place - 1,
         }
@@ -86,27 +86,27 @@ fn less_multiple(rest: Point, divisor: Point) -> Point
 /// The rest of a number, after how many subtractions, and whether the whole quotient is odd.
 #[derive(Clone, Copy, Debug)]
 struct Rest {
-    point: Point,
+    magnitude: Magnitude,
     steps: u32,
     odd: bool,
 }
 
 /// The rest of `x` by a divisor.
-fn rest_by(precision: u32, x: Point, y: Point) -> Rest
+fn rest_by(precision: u32, x: Magnitude, y: Magnitude) -> Rest
     requires some { 0 < precision }
     requires precise { precision ≤ 125 }
     requires x { HasAllDigits precision x }
     requires y { HasAllDigits precision y }
     requires near { x.place ≤ place_bound }
-    ensures rest { units_of result.point ≡ units_of x % units_of y }
+    ensures rest { units_of result.magnitude ≡ units_of x % units_of y }
     ensures steps { result.steps ≡ count_ones (units_of x / units_of y) }
     ensures odd { result.odd ≡ eqb (units_of x / units_of y % 2) 1 }
-    ensures fits { result.point.significand < 2 ^ precision }
-    ensures low { result.point.place ≤ y.place }
+    ensures fits { result.magnitude.significand < 2 ^ precision }
+    ensures low { result.magnitude.place ≤ y.place }
 {
     if x.place < y.place {
         return Rest {
-            point: x,
+            magnitude: x,
             steps: 0,
             odd: false,
         };
@@ -118,7 +118,7 @@ fn rest_by(precision: u32, x: Point, y: Point) -> Rest
         steps += 1;
         if less.place == y.place {
             return Rest {
-                point: less,
+                magnitude: less,
                 steps,
                 odd: true,
             };
@@ -126,7 +126,7 @@ fn rest_by(precision: u32, x: Point, y: Point) -> Rest
         rest = raised(precision, less, y.place);
     }
     Rest {
-        point: rest,
+        magnitude: rest,
         steps,
         odd: false,
     }
@@ -143,12 +143,12 @@ fn is_upper_nearest(below_by: u128, above_by: u128, odd: bool) -> bool
 /// How far a number is from the nearest multiple of a divisor, and whether that multiple is above it.
 #[derive(Clone, Copy, Debug)]
 struct Nearest {
-    point: Point,
+    magnitude: Magnitude,
     past: bool,
 }
 
 /// How far the nearest multiple of the divisor is from `x`, and whether it is above.
-fn nearest_by(precision: u32, x: Point, y: Point) -> Nearest
+fn nearest_by(precision: u32, x: Magnitude, y: Magnitude) -> Nearest
     requires some { 0 < precision }
     requires precise { precision ≤ 125 }
     requires x { HasAllDigits precision x }
@@ -158,16 +158,16 @@ fn nearest_by(precision: u32, x: Point, y: Point) -> Nearest
         result.past ≡ takes_above Round.NearestTiesToEven false (m % n) (n - m % n)
         (eqb (m / n % 2) 1) }
     ensures distance { let m = units_of x in let n = units_of y in
-        units_of result.point ≡ cond result.past (n - m % n) (m % n) }
-    ensures fits { result.point.significand < 2 ^ precision }
-    ensures low { result.point.place ≤ y.place }
+        units_of result.magnitude ≡ cond result.past (n - m % n) (m % n) }
+    ensures fits { result.magnitude.significand < 2 ^ precision }
+    ensures low { result.magnitude.place ≤ y.place }
 {
     let rest = rest_by(precision, x, y);
-    let gap = y.place - rest.point.place;
+    let gap = y.place - rest.magnitude.place;
     // at least two places below the divisor means less than half of it
     if gap > 1 {
         return Nearest {
-            point: rest.point,
+            magnitude: rest.magnitude,
             past: false,
         };
     }
@@ -176,32 +176,32 @@ fn nearest_by(precision: u32, x: Point, y: Point) -> Nearest
     } else {
         y.significand
     };
-    let other = divisor - rest.point.significand;
-    if is_upper_nearest(rest.point.significand, other, rest.odd) {
+    let other = divisor - rest.magnitude.significand;
+    if is_upper_nearest(rest.magnitude.significand, other, rest.odd) {
         return Nearest {
-            point: Point {
+            magnitude: Magnitude {
                 significand: other,
-                place: rest.point.place,
+                place: rest.magnitude.place,
             },
             past: true,
         };
     }
     Nearest {
-        point: rest.point,
+        magnitude: rest.magnitude,
         past: false,
     }
 }
 
 /// An operand at its place.
 #[inline(always)]
-fn point_of(shape: Shape, x: Unpacked) -> Point
+fn magnitude_of(shape: Shape, x: Unpacked) -> Magnitude
     requires { IsOperand shape x }
     ensures significand { result.significand ≡ x.significand }
     ensures place { pos result.place
         ≡ ((x.exponent -ℤ shape.min_exp) +ℤ pos (shape.precision - 1)) }
     ensures near { result.place ≤ place_bound }
 {
-    Point {
+    Magnitude {
         significand: x.significand,
         place: (x.exponent - shape.min_exp + (shape.precision - 1) as ExpInt) as u32,
     }
@@ -209,24 +209,24 @@ fn point_of(shape: Shape, x: Unpacked) -> Point
 
 /// The same magnitude in quanta, if it is a whole number of them.
 #[inline(always)]
-fn in_quanta(precision: u32, point: Point) -> Point
+fn in_quanta(precision: u32, magnitude: Magnitude) -> Magnitude
     requires some { 0 < precision }
     requires precise { precision ≤ 125 }
-    requires fits { point.significand < 2 ^ precision }
+    requires fits { magnitude.significand < 2 ^ precision }
     ensures fits { result.significand < 2 ^ precision }
-    ensures lower { result.place ≤ point.place }
-    ensures same { (n : ℕ) → units_of point ≡ n * 2 ^ (precision - 1) → units_of result ≡ n }
+    ensures lower { result.place ≤ magnitude.place }
+    ensures same { (n : ℕ) → units_of magnitude ≡ n * 2 ^ (precision - 1) → units_of result ≡ n }
 {
     let quantum = precision - 1;
-    if point.place > quantum {
-        let high = raised(precision, point, quantum);
-        Point {
+    if magnitude.place > quantum {
+        let high = raised(precision, magnitude, quantum);
+        Magnitude {
             significand: high.significand,
             place: high.place - quantum,
         }
     } else {
-        Point {
-            significand: point.significand >> (quantum - point.place),
+        Magnitude {
+            significand: magnitude.significand >> (quantum - magnitude.place),
             place: 0,
         }
     }
@@ -236,15 +236,19 @@ fn in_quanta(precision: u32, point: Point) -> Point
 fn truncated_rest(shape: Shape, x: Unpacked, y: Unpacked) -> Rest
     requires x { IsNormal shape x }
     requires y { IsNormal shape y }
-    ensures fits { result.point.significand < 2 ^ shape.precision }
-    ensures near { result.point.place ≤ place_bound }
-    ensures quanta { units_of result.point ≡ quanta_of shape x % quanta_of shape y }
+    ensures fits { result.magnitude.significand < 2 ^ shape.precision }
+    ensures near { result.magnitude.place ≤ place_bound }
+    ensures quanta { units_of result.magnitude ≡ quanta_of shape x % quanta_of shape y }
     ensures steps { result.steps
         ≡ count_ones (truncated_quotient (quanta_of shape x) (quanta_of shape y)) }
 {
-    let rest = rest_by(shape.precision, point_of(shape, x), point_of(shape, y));
+    let rest = rest_by(
+        shape.precision,
+        magnitude_of(shape, x),
+        magnitude_of(shape, y),
+    );
     Rest {
-        point: in_quanta(shape.precision, rest.point),
+        magnitude: in_quanta(shape.precision, rest.magnitude),
         steps: rest.steps,
         odd: rest.odd,
     }
@@ -254,19 +258,19 @@ fn truncated_rest(shape: Shape, x: Unpacked, y: Unpacked) -> Rest
 fn nearest_rest(shape: Shape, x: Unpacked, y: Unpacked) -> Nearest
     requires x { IsNormal shape x }
     requires y { IsNormal shape y }
-    ensures fits { result.point.significand < 2 ^ shape.precision }
-    ensures near { result.point.place ≤ place_bound }
+    ensures fits { result.magnitude.significand < 2 ^ shape.precision }
+    ensures near { result.magnitude.place ≤ place_bound }
     ensures past { let m = quanta_of shape x in let n = quanta_of shape y in
         result.past ≡ takes_above Round.NearestTiesToEven false (m % n) (n - m % n)
         (eqb (m / n % 2) 1) }
     ensures quanta { let m = quanta_of shape x in let n = quanta_of shape y in
-        units_of result.point ≡ cond result.past (n - m % n) (m % n) }
+        units_of result.magnitude ≡ cond result.past (n - m % n) (m % n) }
 {
-    let number = point_of(shape, x);
-    let divisor = point_of(shape, y);
+    let number = magnitude_of(shape, x);
+    let divisor = magnitude_of(shape, y);
     let nearest = nearest_by(shape.precision, number, divisor);
     Nearest {
-        point: in_quanta(shape.precision, nearest.point),
+        magnitude: in_quanta(shape.precision, nearest.magnitude),
         past: nearest.past,
     }
 }
@@ -292,12 +296,17 @@ fn truncated_number(shape: Shape, x: Unpacked, y: Unpacked) -> Remainder
         ≡ count_ones (truncated_quotient (quanta_of shape x) (quanta_of shape y)) }
 {
     let Rest {
-        point,
+        magnitude,
         steps,
         odd: _,
     } = truncated_rest(shape, x, y);
     Remainder {
-        answer: Status::OK.and(from_quanta(shape, x.negative, point.significand, point.place)),
+        answer: Status::OK.and(from_quanta(
+            shape,
+            x.negative,
+            magnitude.significand,
+            magnitude.place,
+        )),
         steps,
     }
 }
@@ -315,8 +324,8 @@ fn nearest_number(shape: Shape, x: Unpacked, y: Unpacked) -> StatusAnd<Unpacked>
     Status::OK.and(from_quanta(
         shape,
         x.negative != nearest.past,
-        nearest.point.significand,
-        nearest.point.place,
+        nearest.magnitude.significand,
+        nearest.magnitude.place,
     ))
 }
 

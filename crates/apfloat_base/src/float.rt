@@ -212,7 +212,7 @@ pub trait Float: Copy
         ensures { subtracts self rhs round result };
 
     /// The product, rounded once (IEEE 754-2008 5.4.1, multiplication), for a type whose `MULTIPLIES` holds: for
-    /// `IeeeFloat`, the precision must be at most 64.
+    /// `IeeeFloat`, the precision must be at most `PRODUCT_LIMIT`.
     ///
     /// An infinity times a zero is invalid (7.2): the result is the quiet NaN without a payload, with `INVALID_OP`. A
     /// NaN operand is returned quieted (6.2.3).

@@ -66,6 +66,12 @@ pub enum NonfiniteBehavior {
 /// An exponent of two.
 pub type ExpInt = i32;
 
+/// The greatest precision of a format that has products: the digits of both factors fit 128 bits.
+pub const PRODUCT_LIMIT: usize = 64;
+
+/// The greatest precision of a format that has fused sums: a sum with a product fits 128 bits.
+pub const FUSED_LIMIT: usize = 63;
+
 /// The exponent that is returned for an infinity.
 pub const IEK_INF: ExpInt = ExpInt::MAX;
 

@@ -15,6 +15,9 @@ pub mod status;
 pub use bitflags::Flags;
 pub use convert::FloatConvert;
 pub use float::Float;
-pub use kinds::{Category, ExpInt, IEK_INF, IEK_NAN, IEK_ZERO, NonfiniteBehavior, Round};
+pub use kinds::{
+    Category, ExpInt, FUSED_LIMIT, IEK_INF, IEK_NAN, IEK_ZERO, NonfiniteBehavior, PRODUCT_LIMIT,
+    Round,
+};
 pub use parse_error::ParseError;
 pub use status::{Status, StatusAnd};

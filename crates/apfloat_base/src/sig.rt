@@ -1,7 +1,7 @@
 //! Significands: whole numbers below `2^128`, and what is lost when their low digits are cut off.
 //!
-//! A significand `s` with a unit and a `Loss` represents each magnitude that is `s` units plus a rest below one unit,
-//! of which the `Loss` says where it is (`StandsFor` in `specs/rounding/Standing.antt`).
+//! A significand `s` with a unit and a `Loss` represents each magnitude that is `s` units plus a rest below one unit
+//! that the `Loss` describes (`StandsFor` in `specs/rounding/Standing.antt`).
 
 pub mod loss;
 pub mod product;

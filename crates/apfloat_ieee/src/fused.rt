@@ -3,7 +3,7 @@
 ghost use Rattle.std.specs.Prelude.{◌≤◌};
 ghost use Rattle.apfloat_base.specs.declared.kinds.Round.TheVariants.{NearestTiesToEven};
 ghost use Rattle.apfloat_base.specs.rounding.Flags.{Gives};
-ghost use Rattle.apfloat_base.specs.arithmetic.FusedSums.{IsFusedSum};
+ghost use Rattle.apfloat_base.specs.arithmetic.FusedSums.{IsFusedSum, fused_limit};
 ghost use Rattle.apfloat_ieee.specs.Types.{format_of};
 
 use crate::ieee_float::{IeeeFloat, shape_of};
@@ -20,7 +20,7 @@ impl<S: Semantics> IeeeFloat<S> {
     /// infinite product and the opposite infinity. The first operand that is a NaN is returned quieted (6.2.3).
     #[inline(always)]
     pub fn mul_add_r(self, multiplicand: Self, addend: Self, round: Round) -> StatusAnd<Self>
-        requires { S.PRECISION ≤ 63 }
+        requires { S.PRECISION ≤ fused_limit }
         ensures { Gives (IsFusedSum (format_of S.Semantics) round self multiplicand addend) result }
     {
         IeeeFloat::answered(multiply_add(
@@ -35,7 +35,7 @@ impl<S: Semantics> IeeeFloat<S> {
     /// The product with `multiplicand` plus `addend`, rounded once to the nearest value, ties to even.
     #[inline]
     pub fn mul_add(self, multiplicand: Self, addend: Self) -> StatusAnd<Self>
-        requires { S.PRECISION ≤ 63 }
+        requires { S.PRECISION ≤ fused_limit }
         ensures { Gives (IsFusedSum (format_of S.Semantics) NearestTiesToEven self multiplicand
             addend) result }
     {

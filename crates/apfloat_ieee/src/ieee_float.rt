@@ -9,7 +9,7 @@ ghost use Rattle.apfloat_base.specs.rounding.Flags.{Gives};
 ghost use Rattle.apfloat_base.specs.rounding.Rounding.{IsDelivered};
 ghost use Rattle.apfloat_base.specs.rounding.Standing.{StandsFor, IsFineEnough, up, down};
 ghost use Rattle.apfloat_base.specs.bits.Interchange.{IsInterchange};
-ghost use Rattle.apfloat_base.specs.bits.Layout.{datum_of, IsEncodedBy};
+ghost use Rattle.apfloat_base.specs.bits.Layout.{IsEncodedBy, IsReadFrom};
 ghost use Rattle.apfloat_unpacked.specs.Encoded.{layout_at};
 ghost use Rattle.apfloat_unpacked.specs.Stored.{IsStored, datum_at};
 ghost use Rattle.apfloat_ieee.specs.Types.{shape_of, format_of, layout_of};
@@ -80,11 +80,7 @@ fn widths_of<S: Semantics>() -> Widths
 #[inline]
 pub(crate) fn decode<S: Semantics>(bits: u128) -> IeeeFloat<S>
     requires { S.PRECISION < S.BITS }
-    ensures read { result ≡ datum_of (format_of S.Semantics) (layout_of S.Semantics) bits }
-    ensures back { S.EXPLICIT_INTEGER_BIT ≡ false → bits < 2 ^ S.BITS
-        → IsEncodedBy (format_of S.Semantics) (layout_of S.Semantics) bits result }
-    ensures once { S.EXPLICIT_INTEGER_BIT ≡ false → bits < 2 ^ S.BITS → (other : ℕ)
-        → IsEncodedBy (format_of S.Semantics) (layout_of S.Semantics) other result → other ≡ bits }
+    ensures { IsReadFrom (format_of S.Semantics) (layout_of S.Semantics) bits result }
 {
     IeeeFloat::packed(bits::decode(shape_of::<S>(), widths_of::<S>(), bits))
 }

@@ -12,11 +12,11 @@ ghost use Rattle.apfloat_base.specs.formats.Members.{IsMember};
 ghost use Rattle.apfloat_base.specs.declared.kinds.NonfiniteBehavior.TheVariants.{IEEE754};
 ghost use Rattle.apfloat_base.specs.order.Classes.{category_of, is_negative, is_denormal, is_finite_non_zero, is_integer, same_datum};
 ghost use Rattle.apfloat_base.specs.order.Order.{AreFiniteNonZero, compared_magnitudes};
-ghost use Rattle.apfloat_base.specs.arithmetic.Products.{IsProduct, IsOpposite};
+ghost use Rattle.apfloat_base.specs.arithmetic.Products.{IsProduct, IsOpposite, product_limit};
 ghost use Rattle.apfloat_base.specs.arithmetic.Quotients.{IsQuotient};
 ghost use Rattle.std.proofs.lemmas.Bool.{leb-true};
 ghost use Rattle.apfloat_base.specs.formats.Constants.{zero_datum, smallest_datum, infinity_datum, largest_datum, smallest_normalized_datum};
-ghost use Rattle.apfloat_base.specs.bits.Layout.{datum_of, IsEncodedBy};
+ghost use Rattle.apfloat_base.specs.bits.Layout.{datum_of, IsEncodedBy, IsReadFrom};
 ghost use Rattle.apfloat_base.specs.arithmetic.NextUp.{IsNextUp, IsNextDown};
 ghost use Rattle.apfloat_base.specs.rounding.Rounding.{ok_bits};
 ghost use Rattle.apfloat_base.specs.arithmetic.Scaling.{IsScaling};
@@ -38,7 +38,7 @@ use apfloat_arithmetic::classes::is_denormal;
 use apfloat_arithmetic::inverses::exact_inverse;
 use apfloat_arithmetic::order::{compare_magnitudes, is_same};
 use apfloat_arithmetic::remainders::nearest_remainder;
-use apfloat_base::{Category, ExpInt, Float, ParseError, Round, StatusAnd};
+use apfloat_base::{Category, ExpInt, Float, PRODUCT_LIMIT, ParseError, Round, StatusAnd};
 use apfloat_conversions::integers::{from_unsigned, to_unsigned};
 use apfloat_conversions::integral::{is_integer, round_to_integral};
 use apfloat_conversions::neighbours::next_up;
@@ -67,7 +67,7 @@ impl<S: Semantics> Float for IeeeFloat<S> {
 
     const MIN_EXP: ExpInt = S::MIN_EXP;
 
-    const MULTIPLIES: bool = S::PRECISION <= 64;
+    const MULTIPLIES: bool = S::PRECISION <= PRODUCT_LIMIT;
 
     ghost BITS = { S.BITS };
 
@@ -77,7 +77,7 @@ impl<S: Semantics> Float for IeeeFloat<S> {
 
     ghost MIN_EXP = { S.MIN_EXP };
 
-    ghost MULTIPLIES = { leb S.PRECISION 64 };
+    ghost MULTIPLIES = { leb S.PRECISION product_limit };
 
     ghost the_zero = { zero_datum };
 
@@ -216,7 +216,7 @@ impl<S: Semantics> Float for IeeeFloat<S> {
 
     #[inline(always)]
     fn mul_r(self, rhs: Self, round: Round) -> StatusAnd<Self>
-        requires { IsTrue (leb S.PRECISION 64) }
+        requires { IsTrue (leb S.PRECISION product_limit) }
         ensures product { Gives (IsProduct (format_of S.Semantics) round self rhs) result }
         ensures opposite { Gives (IsOpposite (format_of S.Semantics) round self rhs) result }
     {
@@ -255,12 +255,7 @@ impl<S: Semantics> Float for IeeeFloat<S> {
     #[inline]
     fn from_bits(bits: u128) -> Self
         requires { S.PRECISION < S.BITS }
-        ensures read { result ≡ datum_of (format_of S.Semantics) (layout_of S.Semantics) bits }
-        ensures back { S.EXPLICIT_INTEGER_BIT ≡ false → bits < 2 ^ S.BITS
-            → IsEncodedBy (format_of S.Semantics) (layout_of S.Semantics) bits result }
-        ensures once { S.EXPLICIT_INTEGER_BIT ≡ false → bits < 2 ^ S.BITS → (other : ℕ)
-            → IsEncodedBy (format_of S.Semantics) (layout_of S.Semantics) other result
-            → other ≡ bits }
+        ensures { IsReadFrom (format_of S.Semantics) (layout_of S.Semantics) bits result }
     {
         decode::<S>(bits)
     }
@@ -370,7 +365,7 @@ impl<S: Semantics> Float for IeeeFloat<S> {
 
     ghost sub_law = { λ x y r h. h };
 
-    ghost can_mul_law = { λ m x y. leb-true S.PRECISION 64 m };
+    ghost can_mul_law = { λ m x y. leb-true S.PRECISION product_limit m };
 
     ghost mul_law = { λ x y r h. h };
 
@@ -390,7 +385,7 @@ impl<S: Semantics> Float for IeeeFloat<S> {
 
     ghost sub_assign_law = { λ x y z h. h };
 
-    ghost can_mul_assign_law = { λ m x y. leb-true S.PRECISION 64 m };
+    ghost can_mul_assign_law = { λ m x y. leb-true S.PRECISION product_limit m };
 
     ghost mul_assign_law = { λ x y z h. h };
 

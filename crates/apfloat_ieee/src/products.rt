@@ -5,7 +5,7 @@ ghost use Rattle.apfloat_base.specs.declared.kinds.Round.TheVariants.{NearestTie
 ghost use Rattle.apfloat_base.specs.declared.status.StatusAnd.{StatusAnd};
 ghost use Rattle.apfloat_base.specs.rounding.Flags.{Gives};
 ghost use Rattle.apfloat_base.specs.arithmetic.Exponents.{IsExactInverse};
-ghost use Rattle.apfloat_base.specs.arithmetic.Products.{IsProduct, IsOpposite};
+ghost use Rattle.apfloat_base.specs.arithmetic.Products.{IsProduct, IsOpposite, product_limit};
 ghost use Rattle.apfloat_base.specs.arithmetic.Quotients.{IsQuotient};
 ghost use Rattle.apfloat_ieee.specs.Types.{format_of};
 
@@ -16,14 +16,14 @@ use apfloat_arithmetic::quotients::divide;
 use apfloat_base::{Round, StatusAnd};
 use std::ops::{Div, DivAssign, Mul, MulAssign};
 
-/// The product of two values, rounded once; only a format of at most 64 digits has it.
+/// The product of two values, rounded once; only a format of at most `PRODUCT_LIMIT` digits has it.
 #[inline(always)]
 pub(crate) fn product<S: Semantics>(
     x: IeeeFloat<S>,
     y: IeeeFloat<S>,
     round: Round,
 ) -> StatusAnd<IeeeFloat<S>>
-    requires { S.PRECISION ≤ 64 }
+    requires { S.PRECISION ≤ product_limit }
     ensures product { Gives (IsProduct (format_of S.Semantics) round x y) result }
     ensures opposite { Gives (IsOpposite (format_of S.Semantics) round x y) result }
 {
@@ -45,7 +45,7 @@ pub(crate) fn quotient<S: Semantics>(
 impl<S: Semantics> Mul for IeeeFloat<S> {
     type Output = StatusAnd<IeeeFloat<S>>;
 
-    ghost can_mul = { λ _ _. S.PRECISION ≤ 64 };
+    ghost can_mul = { λ _ _. S.PRECISION ≤ product_limit };
 
     ghost mul_gives = { λ x y r. Gives (IsProduct (format_of S.Semantics) NearestTiesToEven x y)
         r };
@@ -71,7 +71,7 @@ impl<S: Semantics> Div for IeeeFloat<S> {
 }
 
 impl<S: Semantics> MulAssign for IeeeFloat<S> {
-    ghost can_mul_assign = { λ _ _. S.PRECISION ≤ 64 };
+    ghost can_mul_assign = { λ _ _. S.PRECISION ≤ product_limit };
 
     ghost mul_assign_gives = { λ x y z. (r : StatusAnd Self) ×
         Gives (IsProduct (format_of S.Semantics) NearestTiesToEven x y) r × (z ≡ r.value) };

@@ -2,7 +2,7 @@
 
 ghost use Rattle.std.specs.Prelude.{◌≡◌, ℕ, ℤ, ◌^◌, ◌<◌, Bool, false};
 ghost use Rattle.apfloat_base.specs.declared.kinds.NonfiniteBehavior.{NonfiniteBehavior};
-ghost use Rattle.apfloat_base.specs.bits.Layout.{datum_of, IsEncodedBy};
+ghost use Rattle.apfloat_base.specs.bits.Layout.{IsEncodedBy, IsReadFrom};
 ghost use Rattle.apfloat_base.specs.formats.Lawful.{IsLawful, constants_with, format_with, layout_with};
 
 use crate::ieee_float::{IeeeFloat, decode, encode};
@@ -95,20 +95,10 @@ pub trait Semantics: Copy {
     #[inline]
     final fn from_bits(bits: u128) -> IeeeFloat<Self>
         requires { PRECISION < BITS }
-        ensures read { let c = constants_with BITS EXP_BITS PRECISION NONFINITE_BEHAVIOR MAX_EXP
+        ensures { let c = constants_with BITS EXP_BITS PRECISION NONFINITE_BEHAVIOR MAX_EXP
             IEEE_MAX_EXP MIN_EXP IEEE_MIN_EXP NAN_SIGNIFICAND_BASE NAN_PAYLOAD_MASK
             QNAN_SIGNIFICAND EXPLICIT_INTEGER_BIT TINY_BEFORE_ROUNDING in
-            result ≡ datum_of (format_with c) (layout_with c) bits }
-        ensures back { let c = constants_with BITS EXP_BITS PRECISION NONFINITE_BEHAVIOR MAX_EXP
-            IEEE_MAX_EXP MIN_EXP IEEE_MIN_EXP NAN_SIGNIFICAND_BASE NAN_PAYLOAD_MASK
-            QNAN_SIGNIFICAND EXPLICIT_INTEGER_BIT TINY_BEFORE_ROUNDING in
-            EXPLICIT_INTEGER_BIT ≡ false → bits < 2 ^ BITS
-            → IsEncodedBy (format_with c) (layout_with c) bits result }
-        ensures once { let c = constants_with BITS EXP_BITS PRECISION NONFINITE_BEHAVIOR MAX_EXP
-            IEEE_MAX_EXP MIN_EXP IEEE_MIN_EXP NAN_SIGNIFICAND_BASE NAN_PAYLOAD_MASK
-            QNAN_SIGNIFICAND EXPLICIT_INTEGER_BIT TINY_BEFORE_ROUNDING in
-            EXPLICIT_INTEGER_BIT ≡ false → bits < 2 ^ BITS → (other : ℕ)
-            → IsEncodedBy (format_with c) (layout_with c) other result → other ≡ bits }
+            IsReadFrom (format_with c) (layout_with c) bits result }
     {
         decode::<Self>(bits)
     }

@@ -6,6 +6,7 @@ ghost use Rattle.apfloat_base.specs.declared.kinds.NonfiniteBehavior.TheVariants
 ghost use Rattle.rustc_apfloat.specs.Classes.{is_finite, is_finite_non_zero};
 ghost use Rattle.rustc_apfloat.specs.Flags.{bits_of};
 ghost use Rattle.rustc_apfloat.specs.Negation.{negated};
+ghost use Rattle.rustc_apfloat.specs.Products.{product_limit};
 ghost use Rattle.rustc_apfloat.specs.Order.{number, AtMost};
 ghost use Rattle.rustc_apfloat.specs.Rounding.{ok_bits};
 ghost use Rattle.rustc_apfloat.specs.Types.{format_of};
@@ -46,7 +47,7 @@ pub fn opposite_products<S: Semantics>(
     y: IeeeFloat<S>,
     mode: Round,
 ) -> (StatusAnd<IeeeFloat<S>>, StatusAnd<IeeeFloat<S>>)
-    requires { S.PRECISION ≤ 64 }
+    requires { S.PRECISION ≤ product_limit }
     ensures value { IsTrue (is_finite_non_zero x) → IsTrue (is_finite_non_zero y)
         → result.1.value ≡ negated S.NONFINITE_BEHAVIOR result.0.value }
     ensures status { IsTrue (is_finite_non_zero x) → IsTrue (is_finite_non_zero y)

@@ -6,8 +6,8 @@
 #![tactic(auto)]
 
 pub use apfloat_base::{
-    Category, ExpInt, Flags, Float, FloatConvert, IEK_INF, IEK_NAN, IEK_ZERO, ParseError, Round,
-    Status, StatusAnd,
+    Category, ExpInt, FUSED_LIMIT, Flags, Float, FloatConvert, IEK_INF, IEK_NAN, IEK_ZERO,
+    PRODUCT_LIMIT, ParseError, Round, Status, StatusAnd,
 };
 pub use apfloat_formats as ieee;
 pub use apfloat_pairs as ppc;

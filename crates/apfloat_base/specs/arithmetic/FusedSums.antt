@@ -10,6 +10,10 @@ use Rattle.apfloat_base.specs.arithmetic.Exact.{product_sign, signed, IsRounded}
 use Rattle.apfloat_base.specs.arithmetic.Sums.{zero_sum_sign, IsSum}
 use Rattle.apfloat_base.specs.arithmetic.Products.{IsProduct}
 
+-- the greatest precision of a format with a fused sum in the code: a sum with the product fits 128 bits
+abbrev pub fused_limit : ℕ
+fused_limit = 63
+
 -- If a factor is an infinity or a NaN: a product that raises a flag is the result, any other is added to the addend.
 pub record IsSumWithProduct (f : Format) (mode : Round) (x y z value : Datum) (status : ℕ) : Type 0 where
   pub product : Datum

@@ -11,6 +11,10 @@ use Rattle.apfloat_base.specs.arithmetic.Exact.{product_sign}
 use Rattle.apfloat_base.specs.rounding.Negation.{swapped, negated}
 use Rattle.apfloat_base.specs.order.Classes.{is_finite_non_zero}
 
+-- the greatest precision of a format with a product in the code: the digits of both factors fit 128 bits
+abbrev pub product_limit : ℕ
+product_limit = 64
+
 abbrev pub IsProduct : Format → Round → Datum → Datum → Datum → ℕ → Type 0
 IsProduct f mode (nan b s) y value status = IsOfNans f b s y value status
 IsProduct f mode x (nan c t) value status = IsOfNan f c t value status

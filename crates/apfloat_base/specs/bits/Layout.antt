@@ -96,3 +96,11 @@ pub record IsEncodedBy (f : Format) (layout : Layout) (bits : ℕ) (datum : Datu
   pub below : bits < 2 ^ layout.bits
   pub canonical : IsTrue (is_canonical f layout (fields_of f layout bits))
   pub is : datum_of f layout bits ≡ datum
+
+-- The bits are read as the datum that they encode. With an implied integer bit, bits of that length are its only
+-- encoding.
+pub record IsReadFrom (f : Format) (layout : Layout) (bits : ℕ) (datum : Datum) : Type 0 where
+  pub read : datum ≡ datum_of f layout bits
+  pub back : f.explicit_integer_bit ≡ false → bits < 2 ^ layout.bits → IsEncodedBy f layout bits datum
+  pub once : f.explicit_integer_bit ≡ false → bits < 2 ^ layout.bits → (other : ℕ) → IsEncodedBy f layout other datum
+      → other ≡ bits

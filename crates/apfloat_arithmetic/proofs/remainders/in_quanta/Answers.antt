@@ -21,11 +21,11 @@ cut_below s p low n l e =
     let g : s / 2 ^ (low - p) ≡ n = div-eq_of_eq-mul_left (pow_pos (low - p)) f in
     omega arith
 
-pub returns-then-point-quantum-clause-same : goal.returns-then-point-quantum-clause-same
-returns-then-point-quantum-clause-same c = λ n h.
+pub returns-then-magnitude-quantum-clause-same : goal.returns-then-magnitude-quantum-clause-same
+returns-then-magnitude-quantum-clause-same c = λ n h.
     lowered c.raised-high.result.significand c.raised-high.result.place (c.args.precision - 1) n
     c.raised-high.ensures.least (c.raised-high.ensures.same ∙ h)
 
-pub returns-else-point-quantum-clause-same : goal.returns-else-point-quantum-clause-same
-returns-else-point-quantum-clause-same c =
-    λ n h. cut_below c.args.point.significand c.args.point.place (c.args.precision - 1) n (omega arith) h
+pub returns-else-magnitude-quantum-clause-same : goal.returns-else-magnitude-quantum-clause-same
+returns-else-magnitude-quantum-clause-same c =
+    λ n h. cut_below c.args.magnitude.significand c.args.magnitude.place (c.args.precision - 1) n (omega arith) h

@@ -1,7 +1,7 @@
 use Rattle.std.proofs.Common.{◌≡◌, ℕ, ◌+◌, ◌-◌, ◌/◌, ◌%◌, ◌^◌, ◌<◌, ◌≤◌, eqb, count_ones, sym, ap, ◌∙◌, subst, arith}
 use Rattle.std.proofs.Math.Nat.{pow-le-pow_right}
 use Rattle.apfloat_base.proofs.general.Powers.{two_pos}
-use Rattle.apfloat_arithmetic.specs.Points.{units_of}
+use Rattle.apfloat_arithmetic.specs.Magnitudes.{units_of}
 use Rattle.apfloat_arithmetic.proofs.WholeQuotients.{IsTurn, is_turn, turn_rest, turn_ones, turn_even, turn_less, below_divisor, few_digits, left_all, none_set, not_odd, at_place, divisor_pos, last_turn, last_below, last_odd}
 use Rattle.apfloat_arithmetic.proofs.remainders.rest_by.Goals.{Then-x-y, After-less_multiple-less, Then-less-y, Else-rest-y-2}
 use Rattle.apfloat_arithmetic.proofs.remainders.rest_by.Goals as goal

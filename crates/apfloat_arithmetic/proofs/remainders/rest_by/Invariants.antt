@@ -1,5 +1,5 @@
 use Rattle.std.proofs.Common.{◌-◌, ◌≡◌, ◌+◌, ◌/◌, ◌%◌, ◌^◌, ◌<◌, ◌≤◌, ◌⊎◌, count_ones}
-use Rattle.apfloat_arithmetic.specs.Points.{units_of}
+use Rattle.apfloat_arithmetic.specs.Magnitudes.{units_of}
 use Rattle.apfloat_arithmetic.proofs.remainders.rest_by.Given as goal
 
 abbrev pub invariant-loop-rest : goal.invariant-loop-rest

@@ -1,7 +1,7 @@
-use Rattle.std.proofs.Common.{◌≡◌, false, sym, refl, subst, ◌∙◌}
+use Rattle.std.proofs.Common.{◌≡◌, ◌^◌, ◌<◌, false, sym, refl, subst, ◌∙◌}
 use Rattle.std.specs.Bool.{IsTrue}
 use Rattle.apfloat_base.specs.formats.Format.{Format}
-use Rattle.apfloat_base.specs.bits.Layout.{Layout, Fields, datum_of, fields_of, is_canonical}
+use Rattle.apfloat_base.specs.bits.Layout.{Layout, Fields, datum_of, fields_of, is_canonical, IsEncodedBy}
 use Rattle.apfloat_base.proofs.bits.EncodedOnce.{encoded_once}
 use Rattle.apfloat_unpacked.specs.Stored.{datum_at}
 use Rattle.apfloat_ieee.specs.Types.{shape_of, format_of, layout_of}
@@ -11,27 +11,27 @@ implied_is_canonical : (format : Format) (layout : Layout) (fields : Fields) →
     → IsTrue (is_canonical format layout fields)
 implied_is_canonical f layout x e = rw e refl
 
-pub returns-clause-read : goal.returns-clause-read
-returns-clause-read g c =
-    let d = rw c.shape_of.ensures at c.decode.ensures.datum in
-    c.packed.ensures ∙
-    subst (λ (l : Layout). datum_at (shape_of g.S.Semantics) c.decode.result
-    ≡ datum_of (format_of g.S.Semantics) l c.args.bits) c.widths_of.ensures.value d
-
-pub returns-clause-back : goal.returns-clause-back
-returns-clause-back g c = λ e h.
+pub returns : goal.returns
+returns g c =
     let f = format_of g.S.Semantics in
     let l = layout_of g.S.Semantics in
+    let d = rw c.shape_of.ensures at c.decode.ensures.datum in
+    let read : c.packed.result ≡ datum_of f l c.args.bits =
+    c.packed.ensures ∙
+    subst (λ (k : Layout). datum_at (shape_of g.S.Semantics) c.decode.result ≡ datum_of f k c.args.bits)
+    c.widths_of.ensures.value d in
+    let back : f.explicit_integer_bit ≡ false → c.args.bits < 2 ^ l.bits → IsEncodedBy f l c.args.bits c.packed.result =
+    λ e h.
     record {
       below = h;
       canonical = implied_is_canonical f l (fields_of f l c.args.bits) e;
-      is =
-          sym (returns-clause-read g c);
+      is = sym read;
     }
-
-pub returns-clause-once : goal.returns-clause-once
-returns-clause-once g c = λ e h other is.
-    let f = format_of g.S.Semantics in
-    let l = layout_of g.S.Semantics in
-    encoded_once f l c.packed.result other c.args.bits c.widths_of.ensures.interchange is
-    (returns-clause-back g c e h)
+    in
+    record {
+      read = read;
+      back = back;
+      once =
+          λ e h other is.
+          encoded_once f l c.packed.result other c.args.bits c.widths_of.ensures.interchange is (back e h);
+    }

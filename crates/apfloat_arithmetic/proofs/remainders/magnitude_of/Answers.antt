@@ -1,6 +1,6 @@
 use Rattle.std.proofs.Common.{arith}
 use Rattle.std.proofs.lemmas.Int.{ints}
-use Rattle.apfloat_arithmetic.proofs.remainders.point_of.Goals as goal
+use Rattle.apfloat_arithmetic.proofs.remainders.magnitude_of.Goals as goal
 
 pub overflow_sub-result : goal.overflow_sub-result
 overflow_sub-result c = omega (arith, ints, c.args.shape.parameters, c.requires.least, c.requires.greatest)

@@ -1,0 +1,12 @@
+-- Significands at a place, which remainders subtract from one another.
+use Rattle.std.specs.Prelude.{ℕ, ◌-◌, ◌*◌, ◌^◌, ◌<◌, ◌≤◌}
+use Rattle.apfloat_arithmetic.specs.declared.remainders.Magnitude.{Magnitude}
+
+-- how many units it is
+abbrev pub units_of : Magnitude → ℕ
+units_of magnitude = magnitude.significand * 2 ^ magnitude.place
+
+-- a significand of exactly that many digits
+pub record HasAllDigits (precision : ℕ) (magnitude : Magnitude) : Type 0 where
+  pub fits : magnitude.significand < 2 ^ precision
+  pub full : 2 ^ (precision - 1) ≤ magnitude.significand
