@@ -42,7 +42,8 @@ power_within shape e l h =
     mul-le-mul_left (2 ^ (shape.precision - 1)) a in
     let c : 2 ^ (shape.precision - 1) * 2 ^ (format_at shape).span
     ≤ greatest_significand shape.nonfinite shape.precision * 2 ^ (format_at shape).span =
-    mul-le-mul_right (2 ^ (format_at shape).span) (greatest_full shape.nonfinite shape.precision shape.parameters.precision_low) in
+    mul-le-mul_right (2 ^ (format_at shape).span)
+    (greatest_full shape.nonfinite shape.precision shape.parameters.precision_low) in
     omega arith
 
 -- the inverse of a power of two is a number of the format
@@ -144,7 +145,8 @@ not_low : (shape : Shape) (m i : ℕ) (e : ℤ) → IsNormalAt shape m e
     → AreInverse (format_at shape) (quanta_at shape.min_exp m e) i → shape.min_exp ≤ℤ e
 not_low shape m i e n h =
     by_lt_z e shape.min_exp
-    (λ l. let k = quanta_low_is shape m e n shape.parameters.precision_low l in let g = h.normal in absurd (omega arith))
+    (λ l. let k = quanta_low_is shape m e n shape.parameters.precision_low l in
+    let g = h.normal in absurd (omega arith))
     (λ l. l)
 
 -- a number with an exact inverse is invertible

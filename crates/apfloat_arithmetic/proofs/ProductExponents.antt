@@ -19,9 +19,10 @@ pub record IsNear (e : ℤ) : Type 0 where
 -- the exponent of a number is far within the range of its type
 pub normal_near : (shape : Shape) (m : ℕ) (e : ℤ) → IsNormalAt shape m e → IsNear e
 normal_near shape m e n =
+    let l = shape.parameters in
     let o = n.operand in
     record {
-      within = record { low = omega (arith, ints, shape.parameters, o); high = omega (arith, ints, shape.parameters, o) };
+      within = record { low = omega (arith, ints, l, o); high = omega (arith, ints, l, o) };
       word = exponent_word shape m e n;
     }
 
@@ -50,7 +51,8 @@ product_is shape x y r m n p hx hy v e =
     product_stands m n (quanta_at shape.min_exp m x) (quanta_at shape.min_exp n y) (up (x -ℤ shape.min_exp))
     (up (y -ℤ shape.min_exp)) (down (x -ℤ shape.min_exp)) (down (y -ℤ shape.min_exp)) (format_at shape).scale (up unit)
     (down unit)
-    hx.whole hy.whole (balanced_product shape.precision (format_at shape).scale shape.min_exp x y r shape.parameters.precision_low
+    hx.whole hy.whole (balanced_product shape.precision (format_at shape).scale shape.min_exp x y r
+    shape.parameters.precision_low
     (scale_is shape) e) ∙ ap (λ (z : ℕ). z * (2 ^ (format_at shape).scale * 2 ^ up unit)) (sym v)
 
 -- the quotient of the significands stands for the quotient of the numbers

@@ -15,12 +15,13 @@ use Rattle.apfloat_base.proofs.arithmetic.FractionExponents.{exponent_within}
 past_all : (constants : Constants) → IsLawful constants
     → (format_with constants).precision + (format_with constants).span + (format_with constants).scale + 1 < 2 ^ 31
 past_all constants law =
+    let p = law.parameters in
     let scale : pos (constants.precision - 1) -ℤ constants.min_exp
     ≡ pos (unsigned_abs (pos (constants.precision - 1) -ℤ constants.min_exp)) =
-    omega (arith, ints, law.parameters.precision_low, law.parameters.min_exp_high) in
+    omega (arith, ints, p.precision_low, p.min_exp_high) in
     let span : constants.max_exp -ℤ constants.min_exp ≡ pos (unsigned_abs (constants.max_exp -ℤ constants.min_exp)) =
-    omega (arith, ints, law.parameters.precision_low, law.parameters.min_exp_high, law.parameters.max_exp_low) in
-    omega (arith, ints, law.parameters.precision_high, law.parameters.min_exp_low, law.parameters.max_exp_high, scale, span)
+    omega (arith, ints, p.precision_low, p.min_exp_high, p.max_exp_low) in
+    omega (arith, ints, p.precision_high, p.min_exp_low, p.max_exp_high, scale, span)
 
 -- the exponent of the fraction of a finite value fits 32 bits
 number_fits : (constants : Constants) → IsLawful constants

@@ -18,8 +18,8 @@ fraction_at s m = m * 2 ^ up (negsuc 0 -ℤ s.min_exp)
 pub fraction_size : (shape : Shape) (m : ℕ) (e : ℤ) → IsNormalAt shape m e
     → (2 ^ ((format_at shape).scale - 1) ≤ fraction_at shape m) × (fraction_at shape m < 2 ^ (format_at shape).scale)
 fraction_size shape m e n =
-    let o = fraction_operand shape.precision shape.min_exp shape.max_exp e m shape.parameters.precision_low shape.parameters.min_exp_high
-    shape.parameters.max_exp_low n.operand in
+    let o = fraction_operand shape.precision shape.min_exp shape.max_exp e m
+    shape.parameters.precision_low shape.parameters.min_exp_high shape.parameters.max_exp_low n.operand in
     let q = fraction_quanta shape.min_exp m shape.parameters.min_exp_high in
     fraction_low (format_at shape) (fraction_at shape m)
     (logarithm_is (format_at shape) shape.precision shape.min_exp shape.max_exp (negsuc 0) m (fraction_at shape m)
@@ -29,8 +29,8 @@ fraction_size shape m e n =
 pub fraction_number : (shape : Shape) (m : ℕ) (e : ℤ) → IsNormalAt shape m e
     → IsNormalAt shape m (negsuc 0)
 fraction_number shape m e n =
-    let o = fraction_operand shape.precision shape.min_exp shape.max_exp e m shape.parameters.precision_low shape.parameters.min_exp_high
-    shape.parameters.max_exp_low n.operand in
+    let o = fraction_operand shape.precision shape.min_exp shape.max_exp e m
+    shape.parameters.precision_low shape.parameters.min_exp_high shape.parameters.max_exp_low n.operand in
     let q = fraction_quanta shape.min_exp m shape.parameters.min_exp_high in
     let b = fraction_size shape m e n in
     let b₁ = b.1 in

@@ -200,7 +200,8 @@ before_least shape m e n i k =
     record {
       next = 0;
       is_below =
-          least_less shape.precision shape.min_exp e m (quanta_at shape.min_exp m e) shape.parameters.precision_low i k n.whole;
+          least_less shape.precision shape.min_exp e m (quanta_at shape.min_exp m e) shape.parameters.precision_low
+          i k n.whole;
       is =
           record { value_is = refl; status_is = refl };
     }

@@ -18,12 +18,12 @@ span_is shape = omega (arith, ints, shape.parameters)
 -- the least exponent is a number of its type
 pub min_exp_word : (shape : Shape) → to_z w32 (of_z w32 shape.min_exp) ≡ shape.min_exp
 min_exp_word shape =
-    to_z-of_z w32 shape.min_exp (fits_in w32 shape.min_exp (omega (arith, ints, shape.parameters.min_exp_low, shape.parameters.min_exp_high)))
+    to_z-of_z w32 shape.min_exp (fits_in w32 shape.min_exp (omega (arith, ints, shape.parameters)))
 
 -- and so is the greatest one
 pub max_exp_word : (shape : Shape) → to_z w32 (of_z w32 shape.max_exp) ≡ shape.max_exp
 max_exp_word shape =
-    to_z-of_z w32 shape.max_exp (fits_in w32 shape.max_exp (omega (arith, ints, shape.parameters.max_exp_low, shape.parameters.max_exp_high)))
+    to_z-of_z w32 shape.max_exp (fits_in w32 shape.max_exp (omega (arith, ints, shape.parameters)))
 
 -- the exponent of a number
 pub exponent_word : (shape : Shape) (m : ℕ) (e : ℤ) → IsNormalAt shape m e → to_z w32 (of_z w32 e) ≡ e

@@ -31,7 +31,8 @@ lawful_interchange constants law wide =
     let h = has_bits constants law wide in
     let t = twice_half constants.exp_bits h.exp_bits in
     let p = pow_pos (constants.exp_bits - 1) in
-    let w = trailing_by constants.explicit_integer_bit constants.precision (omega (arith, law.parameters.precision_low)) in
+    let w = trailing_by constants.explicit_integer_bit constants.precision
+    (omega (arith, law.parameters.precision_low)) in
     record {
       precise = law.parameters.precision_low;
       some = h.exp_bits;

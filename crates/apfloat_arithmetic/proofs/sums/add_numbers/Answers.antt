@@ -31,7 +31,8 @@ add_terms-total-requires-clause-y c =
 
 pub add_terms-total-requires-clause-x_room : goal.add_terms-total-requires-clause-x_room
 add_terms-total-requires-clause-x_room c =
-    roomy c.args.shape.precision c.args.x.significand c.term_of.result.significand c.args.shape.parameters.precision_high
+    roomy c.args.shape.precision c.args.x.significand c.term_of.result.significand
+    c.args.shape.parameters.precision_high
     c.term_of.ensures.significand c.requires.x_normal.operand.fits
 
 pub add_terms-total-requires-clause-y_room : goal.add_terms-total-requires-clause-y_room

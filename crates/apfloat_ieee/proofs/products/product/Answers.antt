@@ -13,7 +13,8 @@ returns-clause-opposite g c =
     rw (c.unpacked.ensures.datum, c.unpacked-2.ensures.datum, c.answered.ensures.value, c.answered.ensures.status)
     d in
     opposite_product (format_of g.S.Semantics) c.args.round c.args.x c.args.y c.answered.result.value
-    (bits_of c.answered.result.status) (largest_some (format_of g.S.Semantics) g.S.Semantics.lawful.parameters.precision_low) p
+    (bits_of c.answered.result.status)
+    (largest_some (format_of g.S.Semantics) g.S.Semantics.lawful.parameters.precision_low) p
 
 pub returns-clause-product : goal.returns-clause-product
 returns-clause-product g c =
