@@ -7,14 +7,16 @@ use Rattle.apfloat_arithmetic.proofs.remainders.truncated_rest.Goals.{After-magn
 use Rattle.apfloat_arithmetic.proofs.remainders.truncated_rest.Goals as goal
 
 number_scaled : (state : After-magnitude_of-2)
-    → units_of state.magnitude_of.result ≡ quanta_of state.args.shape state.args.x * 2 ^ (state.args.shape.precision - 1)
+    → units_of state.magnitude_of.result
+    ≡ quanta_of state.args.shape state.args.x * 2 ^ (state.args.shape.precision - 1)
 number_scaled c =
     operand_scaled c.magnitude_of.result.place (c.args.shape.precision - 1) (quanta_of c.args.shape c.args.x) _ _
     (c.args.x.exponent -ℤ c.args.shape.min_exp) c.magnitude_of.ensures.significand c.magnitude_of.ensures.place
     c.requires.x.whole
 
 divisor_scaled : (state : After-magnitude_of-2)
-    → units_of state.magnitude_of-2.result ≡ quanta_of state.args.shape state.args.y * 2 ^ (state.args.shape.precision - 1)
+    → units_of state.magnitude_of-2.result
+    ≡ quanta_of state.args.shape state.args.y * 2 ^ (state.args.shape.precision - 1)
 divisor_scaled c =
     operand_scaled c.magnitude_of-2.result.place (c.args.shape.precision - 1) (quanta_of c.args.shape c.args.y) _ _
     (c.args.y.exponent -ℤ c.args.shape.min_exp) c.magnitude_of-2.ensures.significand c.magnitude_of-2.ensures.place
