@@ -19,8 +19,8 @@ divisor_scaled : (state : After-magnitude_of-divisor)
     ≡ quanta_of state.args.shape state.args.y * 2 ^ (state.args.shape.precision - 1)
 divisor_scaled c =
     operand_scaled c.magnitude_of-divisor.result.place (c.args.shape.precision - 1)
-    (quanta_of c.args.shape c.args.y) _ _ (c.args.y.exponent -ℤ c.args.shape.min_exp) c.magnitude_of-divisor.ensures.significand
-    c.magnitude_of-divisor.ensures.place c.requires.y.whole
+    (quanta_of c.args.shape c.args.y) _ _ (c.args.y.exponent -ℤ c.args.shape.min_exp)
+    c.magnitude_of-divisor.ensures.significand c.magnitude_of-divisor.ensures.place c.requires.y.whole
 
 pub returns-clause-past : goal.returns-clause-past
 returns-clause-past c =
