@@ -1,2 +1,6 @@
 pub mod ValueKinds
+pub mod Limits
+pub mod BuiltIns
+pub mod Modes
+pub mod Relations
 pub mod OfTwo

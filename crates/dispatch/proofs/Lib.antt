@@ -1,2 +1,0 @@
-pub mod Relations
-pub mod OfTwoOnce
