@@ -4,3 +4,5 @@ pub mod BuiltIns
 pub mod Modes
 pub mod Relations
 pub mod OfTwo
+pub mod TextReadings
+pub mod Once

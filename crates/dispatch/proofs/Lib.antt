@@ -1,0 +1,2 @@
+pub mod TextsRead
+pub mod OfTwoOnce
