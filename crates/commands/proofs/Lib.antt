@@ -4,5 +4,4 @@ pub mod Hexadecimals
 pub mod FlagNames
 pub mod Named
 pub mod RepliesOnce
-pub mod PairRepliesOnce
 pub mod Runs

@@ -3,8 +3,9 @@ use Rattle.std.proofs.Common.{◌≡◌, ℕ, ◌==◌, Bool, true, false, List,
 use Rattle.std.specs.Option.{ok_or}
 use Rattle.std.proofs.lemmas.Bool.{eqb-true}
 use Rattle.rustc_apfloat.specs.declared.Round.{Round}
+use Rattle.dispatch.specs.Modes.{mode_named}
 use Rattle.commands.specs.declared.operation.Operation.{Operation}
-use Rattle.commands.specs.Commands.{◌>>=◌, arguments, found, modes, named, operand_count, operations, provided}
+use Rattle.commands.specs.Commands.{◌>>=◌, arguments, found, named, operand_count, operations, provided}
 
 -- what comes through a condition is what was given, and the condition holds
 provided_passed : {A : Type 0} (holds : Bool) (word : List ℕ) (given passed : A)
@@ -32,4 +33,4 @@ count_of (Some k) (Some r) first second count known round e =
 pub named_count : (operation mode : List ℕ) (count : ℕ) (known : Operation) (round : Round)
     → named operation mode count ≡ Ok (known, round) → count ≡ operand_count known
 named_count operation mode count known round e =
-    count_of (found operations operation) (found modes mode) operation mode count known round e
+    count_of (found operations operation) (mode_named mode) operation mode count known round e

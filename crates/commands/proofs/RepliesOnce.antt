@@ -1,121 +1,188 @@
--- A command has one reply.
-use Rattle.std.proofs.Common.{◌≡◌, ℕ, List, Some, refl}
+-- A calculation has one reply.
+use Rattle.std.proofs.Common.{◌≡◌, ◌≤◌, ℕ, ◌/◌, Bool, false, List, Option, Some, None, Result, Ok, Err, nat_le, refl, sym, ap, ◌∙◌, subst}
 use Rattle.std.proofs.Math.Path.{subst₂, subst₃}
+use Rattle.std.proofs.lemmas.Bool.{le-leb}
 use Rattle.rustc_apfloat.specs.declared.Round.{Round}
+use Rattle.rustc_apfloat.specs.declared.StatusAnd.{StatusAnd}
+use Rattle.rustc_apfloat.specs.Determined.{Determines}
+use Rattle.rustc_apfloat.specs.Faults.{fault_of}
+use Rattle.rustc_apfloat.specs.Flags.{Gives, bits_of}
 use Rattle.rustc_apfloat.specs.Datum.{Datum}
-use Rattle.rustc_apfloat.specs.WholeNumbers.{IsFromUnsigned}
 use Rattle.rustc_apfloat.specs.FusedSums.{IsFusedSum}
 use Rattle.rustc_apfloat.specs.Lawful.{Constants, format_with}
-use Rattle.rustc_apfloat.specs.Specials.{Meaning}
-use Rattle.rustc_apfloat.specs.Texts.{Means}
-use Rattle.rustc_apfloat.specs.Readings.{IsReading, IsRefusal}
-use Rattle.apfloat_base.proofs.Once.{Once, fused_sum_once, from_unsigned_once}
-use Rattle.apfloat_base.proofs.texts.OneMeaning.{meaning_no_fault}
-use Rattle.apfloat_base.proofs.Determined.{reading_once}
+use Rattle.rustc_apfloat.specs.Readings.{IsRefusal}
+use Rattle.apfloat_base.proofs.Once.{fused_sum_once}
+use Rattle.apfloat_base.proofs.Determined.{gives_once}
 use Rattle.dispatch.specs.declared.Arithmetic.{Arithmetic}
-use Rattle.dispatch.specs.ValueKinds.{Kind, of_format, value_of}
+use Rattle.dispatch.specs.Limits.{fused_limit, multiplies}
 use Rattle.dispatch.specs.OfTwo.{IsOfTwo}
+use Rattle.dispatch.specs.Once.{AreDetermined}
+use Rattle.dispatch.specs.Relations.{Relations, in_format, in_pairs}
+use Rattle.dispatch.specs.ValueKinds.{bits_in, of_format, of_pairs, value_of}
 use Rattle.dispatch.proofs.OfTwoOnce.{of_two_once}
-use Rattle.commands.specs.Commands.{bits_in, Call, of_two, fused_sum, from_whole_number, from_text, bits_of_word, requested, whole_number_of, with_text, with_three, with_two, with_whole_number}
-use Rattle.commands.specs.Replies.{Reply, refused, IsAnswered, IsAnsweredIn, IsAnswerOf, IsLineOf, IsOnly, IsReplyTo}
+use Rattle.commands.specs.declared.operation.Operation.{Operation}
+use Rattle.commands.specs.declared.operation.Operation.TheVariants.{OfTwo, FusedSum, WholeNumber, Text}
+use Rattle.commands.specs.Commands.{Calculation, of_two, fused_sum, from_whole_number, from_text, bits_of_word, calculation, commanded, provided, type_has, whole_number_of, word_at, with_operands, with_text, with_three, with_two, with_whole_number}
+use Rattle.commands.specs.Replies.{Reply, line, refused, IsFormatReply, IsFormatResult, IsLineOf, IsLineWhere, IsOnly, IsReplyIn, IsReplyTo, IsResult}
 
--- ---- one answer
+-- ---- one line
 
--- a call has no more than one answer
-call_once : (call : Call) (constants : Constants) (mode : Round) → Once (IsAnswerOf call constants mode)
-call_once (of_two arithmetic x y) constants mode =
-    of_two_once arithmetic (format_with constants) mode (value_of constants x) (value_of constants y)
-call_once (fused_sum x y z) constants mode = fused_sum_once (format_with constants) mode (value_of constants x)
-    (value_of constants y) (value_of constants z)
-call_once (from_whole_number n) constants mode = from_unsigned_once (format_with constants) mode n
-call_once (from_text text) constants mode = reading_once (format_with constants) mode text
+-- the line of an answer is the only one
+pub only_line : {A : Type 0} (of_type : Relations A) (answer : StatusAnd A) (bits shown width : ℕ)
+    → of_type.writes_bits answer.value bits → Determines (of_type.writes_bits answer.value) → shown ≡ width
+    → IsOnly (IsLineOf of_type width answer) (line bits (shown / 4) (bits_of answer.status))
+only_line of_type answer bits shown width written once shown_is =
+    let status = bits_of answer.status in
+    let digits = ap (λ (w : ℕ). line bits (w / 4) status) shown_is in
+    record {
+      holds = record { bits = bits; is_encoded = written; is = digits };
+      only = λ other h.
+          h.is ∙ ap (λ (b : ℕ). line b (width / 4) status) (once h.bits bits h.is_encoded written) ∙ sym digits;
+    }
 
--- ---- one reply
-
--- the only line of an answer is the only reply
-only_answer : (constants : Constants) (mode : Round) (call : Call) (value : Datum) (status : ℕ) (reply : Reply)
-    → IsAnswerOf call constants mode value status → IsOnly (IsLineOf constants value status) reply
-    → IsOnly (IsAnswered constants mode call) reply
-only_answer constants mode call value status reply answers line = record {
-  holds = record { value = value; status = status; answers = answers; is_line = line.holds };
+-- that of the only answer is the only reply
+only_where : {A : Type 0} (of_type : Relations A) (width : ℕ) (Holds : StatusAnd A → Type 0) (answer : StatusAnd A)
+    (reply : Reply)
+    → Determines Holds → Holds answer → IsOnly (IsLineOf of_type width answer) reply
+    → IsOnly (IsLineWhere of_type width Holds) reply
+only_where {A} of_type width Holds answer reply once answers is_line = record {
+  holds = record { answer = answer; answers = answers; is_line = is_line.holds };
   only = λ other h.
-      let same = call_once call constants mode h.value value h.status status h.answers answers in
-      line.only other (subst₂ (λ (v : Datum) (s : ℕ). IsLineOf constants v s other) same.0 same.1 h.is_line);
+      let same = once h.answer answer h.answers answers in
+      is_line.only other (subst (λ (a : StatusAnd A). IsLineOf of_type width a other) same h.is_line);
 }
 
--- ---- the reply to operands, of any kind of values
-
--- a command with two operands has the one reply of its call
-pub only_with_two : (kind : Kind) (arithmetic : Arithmetic) (mode : Round) (left right : List ℕ) (x y : ℕ)
-    (reply : Reply) → bits_of_word (bits_in kind) left ≡ Some x → bits_of_word (bits_in kind) right ≡ Some y
-    → IsOnly (IsAnsweredIn kind mode (of_two arithmetic x y)) reply
-    → IsOnly (IsReplyTo (requested kind mode (with_two (bits_in kind) arithmetic left right))) reply
-only_with_two kind arithmetic mode left right x y reply first second only = rw (first, second) only
-
--- likewise one with a whole number
-pub only_with_whole_number : (kind : Kind) (mode : Round) (word : List ℕ) (number : ℕ) (reply : Reply)
-    → whole_number_of word ≡ Some number → IsOnly (IsAnsweredIn kind mode (from_whole_number number)) reply
-    → IsOnly (IsReplyTo (requested kind mode (with_whole_number word))) reply
-only_with_whole_number kind mode word number reply read only = rw (read) only
-
--- and one with a text that means something
-pub only_with_text : (kind : Kind) (mode : Round) (text : List ℕ) (meaning : Meaning) (reply : Reply)
-    → Means text meaning → IsOnly (IsAnsweredIn kind mode (from_text text)) reply
-    → IsOnly (IsReplyTo (requested kind mode (with_text text))) reply
-only_with_text kind mode text meaning reply means only = rw (meaning_no_fault text meaning means) only
-
--- a text with a fault is refused by its words alone
-pub only_refusal : (kind : Kind) (mode : Round) (text word : List ℕ) → IsRefusal text word
-    → IsOnly (IsReplyTo (requested kind mode (with_text text))) (refused word)
-only_refusal kind mode text word refusal =
-    rw (refusal.is_first, refusal.says) (record { holds = refl; only = λ other h. h })
-
--- ---- the reply to operands, of a format
+-- ---- the reply to operands, in a type of values
 
 -- an operation on two values has one reply
-pub only_of_two : (constants : Constants) (arithmetic : Arithmetic) (mode : Round) (left right : List ℕ) (x y : ℕ)
-    (left_value right_value value : Datum) (status : ℕ) (reply : Reply) → bits_of_word constants.bits left ≡ Some x
-    → bits_of_word constants.bits right ≡ Some y → left_value ≡ value_of constants x
-    → right_value ≡ value_of constants y
-    → IsOfTwo arithmetic (format_with constants) mode left_value right_value value status
-    → IsOnly (IsLineOf constants value status) reply
-    → IsOnly (IsReplyTo (requested (of_format constants) mode (with_two constants.bits arithmetic left right))) reply
-only_of_two constants arithmetic mode left right x y a b value status reply first second a_is b_is answers line =
-    let of_both = subst₂ (λ (d : Datum) (e : Datum). IsOfTwo arithmetic (format_with constants) mode d e value status)
-    a_is b_is answers in
-    only_with_two (of_format constants) arithmetic mode left right x y reply first second
-    (only_answer constants mode (of_two arithmetic x y) value status reply of_both line)
+pub only_of_two : {A : Type 0} (of_type : Relations A) (inverts : A → Option A → Type 0) (mode : Round)
+    (precision width : ℕ) (arithmetic : Arithmetic) (left right : List ℕ) (x y : ℕ) (a b : A)
+    (answer : StatusAnd A) (reply : Reply)
+    → AreDetermined of_type inverts mode precision width
+    → bits_of_word width left ≡ Some x → bits_of_word width right ≡ Some y
+    → a ≡ of_type.value_of_bits x → b ≡ of_type.value_of_bits y → IsOfTwo of_type arithmetic mode a b answer
+    → IsOnly (IsLineOf of_type width answer) reply
+    → IsOnly (IsReplyIn of_type width mode (with_two width arithmetic left right)) reply
+only_of_two {A} of_type inverts mode precision width arithmetic left right x y a b answer reply once first second a_is
+    b_is answers is_line =
+    let of_both = subst₂ (λ (d : A) (e : A). IsOfTwo of_type arithmetic mode d e answer) a_is b_is answers in
+    rw (first, second)
+    (only_where of_type width (IsResult of_type mode (of_two arithmetic x y)) answer reply
+    (of_two_once of_type inverts mode precision width once arithmetic _ _) of_both is_line)
+
+-- a whole number taken in has one reply
+pub only_whole_number : {A : Type 0} (of_type : Relations A) (inverts : A → Option A → Type 0) (mode : Round)
+    (precision width : ℕ) (word : List ℕ) (number : ℕ) (answer : StatusAnd A) (reply : Reply)
+    → AreDetermined of_type inverts mode precision width
+    → whole_number_of word ≡ Some number → of_type.converts_unsigned number mode answer
+    → IsOnly (IsLineOf of_type width answer) reply
+    → IsOnly (IsReplyIn of_type width mode (with_whole_number word)) reply
+only_whole_number of_type inverts mode precision width word number answer reply once read answers is_line =
+    rw (read)
+    (only_where of_type width (IsResult of_type mode (from_whole_number number)) answer reply
+    (once.of_unsigned number) answers is_line)
+
+-- a text without a fault has one reply
+pub only_text : {A : Type 0} (of_type : Relations A) (inverts : A → Option A → Type 0) (mode : Round)
+    (precision width : ℕ) (text : List ℕ) (answer : StatusAnd A) (reply : Reply)
+    → AreDetermined of_type inverts mode precision width
+    → fault_of text ≡ None → of_type.reads text mode (Ok answer)
+    → IsOnly (IsLineOf of_type width answer) reply
+    → IsOnly (IsReplyIn of_type width mode (with_text text)) reply
+only_text of_type inverts mode precision width text answer reply once none answers is_line =
+    rw (none)
+    (only_where of_type width (IsResult of_type mode (from_text text)) answer reply
+    (λ a b h k. once.reading text (Ok a) (Ok b) h k) answers is_line)
+
+-- one with a fault is refused by its words alone
+pub only_refusal : {A : Type 0} (of_type : Relations A) (mode : Round) (width : ℕ) (text word : List ℕ)
+    → IsRefusal text word → IsOnly (IsReplyIn of_type width mode (with_text text)) (refused word)
+only_refusal of_type mode width text word refusal =
+    rw (refusal.is_first, refusal.says) (record { holds = refl; only = λ other h. h })
+
+-- ---- the reply to operands, in a format
 
 -- a fused sum has one reply
 pub only_fused_sum : (constants : Constants) (mode : Round) (left right addend : List ℕ) (x y z : ℕ)
-    (left_value right_value addend_value value : Datum) (status : ℕ) (reply : Reply)
+    (left_value right_value addend_value : Datum) (answer : StatusAnd Datum) (reply : Reply)
     → bits_of_word constants.bits left ≡ Some x → bits_of_word constants.bits right ≡ Some y
     → bits_of_word constants.bits addend ≡ Some z → left_value ≡ value_of constants x
     → right_value ≡ value_of constants y → addend_value ≡ value_of constants z
-    → IsFusedSum (format_with constants) mode left_value right_value addend_value value status
-    → IsOnly (IsLineOf constants value status) reply
-    → IsOnly (IsReplyTo (requested (of_format constants) mode (with_three constants.bits left right addend))) reply
-only_fused_sum constants mode left right addend x y z a b d value status reply first second third a_is b_is d_is answers
-    line =
+    → Gives (IsFusedSum (format_with constants) mode left_value right_value addend_value) answer
+    → IsOnly (IsLineOf (in_format constants) constants.bits answer) reply
+    → IsOnly (IsFormatReply constants mode (with_three constants.bits left right addend)) reply
+only_fused_sum constants mode left right addend x y z a b d answer reply first second third a_is b_is d_is answers
+    is_line =
     let of_all = subst₃
-    (λ (e : Datum) (f : Datum) (g : Datum). IsFusedSum (format_with constants) mode e f g value status)
+    (λ (e : Datum) (f : Datum) (g : Datum). Gives (IsFusedSum (format_with constants) mode e f g) answer)
     a_is b_is d_is answers in
-    rw (first, second, third) (only_answer constants mode (fused_sum x y z) value status reply of_all line)
+    rw (first, second, third)
+    (only_where (in_format constants) constants.bits (IsFormatResult constants mode (fused_sum x y z)) answer reply
+    (gives_once _ (fused_sum_once (format_with constants) mode _ _ _)) of_all is_line)
 
--- a whole number taken in has one reply
-pub only_whole_number : (constants : Constants) (mode : Round) (word : List ℕ) (number : ℕ) (value : Datum) (status : ℕ)
-    (reply : Reply) → whole_number_of word ≡ Some number
-    → IsFromUnsigned (format_with constants) mode number value status
-    → IsOnly (IsLineOf constants value status) reply
-    → IsOnly (IsReplyTo (requested (of_format constants) mode (with_whole_number word))) reply
-only_whole_number constants mode word number value status reply read answers line =
-    only_with_whole_number (of_format constants) mode word number reply read
-    (only_answer constants mode (from_whole_number number) value status reply answers line)
+-- ---- the reply in any kind of values
 
--- a text has one reply
-pub only_text : (constants : Constants) (mode : Round) (text : List ℕ) (value : Datum) (status : ℕ) (reply : Reply)
-    → IsReading (format_with constants) mode text value status → IsOnly (IsLineOf constants value status) reply
-    → IsOnly (IsReplyTo (requested (of_format constants) mode (with_text text))) reply
-only_text constants mode text value status reply answers line =
-    only_with_text (of_format constants) mode text answers.meaning reply answers.means
-    (only_answer constants mode (from_text text) value status reply answers line)
+-- what is asked of each type is asked of a format
+only_of_format : (constants : Constants) (mode : Round) (asked : Result Calculation (List ℕ)) (reply : Reply)
+    → IsOnly (IsReplyIn (in_format constants) constants.bits mode asked) reply
+    → IsOnly (IsReplyTo (commanded (of_format constants) mode asked)) reply
+only_of_format constants mode (Ok (of_two arithmetic x y)) reply only = only
+only_of_format constants mode (Ok (fused_sum x y z)) reply only = absurd only.holds.answers
+only_of_format constants mode (Ok (from_whole_number n)) reply only = only
+only_of_format constants mode (Ok (from_text text)) reply only = only
+only_of_format constants mode (Err word) reply only = only
+
+-- what may be a fused sum is asked of a format
+only_fused_of_format : (constants : Constants) (mode : Round) (asked : Result Calculation (List ℕ)) (reply : Reply)
+    → IsOnly (IsFormatReply constants mode asked) reply
+    → IsOnly (IsReplyTo (commanded (of_format constants) mode asked)) reply
+only_fused_of_format constants mode (Ok asked) reply only = only
+only_fused_of_format constants mode (Err word) reply only = only
+
+-- the reply to a fused sum, in a format that has it
+pub only_fused : (constants : Constants) (mode : Round) (operation : Operation) (name : List ℕ)
+    (operands : List (List ℕ)) (left right addend : List ℕ) (reply : Reply)
+    → operation ≡ FusedSum → constants.precision ≤ fused_limit
+    → left ≡ word_at operands 0 → right ≡ word_at operands 1 → addend ≡ word_at operands 2
+    → IsOnly (IsFormatReply constants mode (with_three constants.bits left right addend)) reply
+    → IsOnly (IsReplyTo (commanded (of_format constants) mode
+    (calculation (of_format constants) operation name operands))) reply
+only_fused constants mode operation name operands left right addend reply is_fused within first second third only =
+    let of_words = subst₃
+    (λ (a b c : List ℕ). IsOnly (IsFormatReply constants mode (with_three constants.bits a b c)) reply)
+    first second third only in
+    rw (is_fused, le-leb _ _ within) (only_fused_of_format constants mode _ reply of_words)
+
+-- what is asked of each type is asked of pairs
+only_of_pairs : (mode : Round) (asked : Result Calculation (List ℕ)) (reply : Reply)
+    → IsOnly (IsReplyIn in_pairs (bits_in of_pairs) mode asked) reply
+    → IsOnly (IsReplyTo (commanded of_pairs mode asked)) reply
+only_of_pairs mode (Ok asked) reply only = only
+only_of_pairs mode (Err word) reply only = only
+
+-- a reply in pairs
+pub only_in_pairs : (mode : Round) (operation : Operation) (name : List ℕ) (operands : List (List ℕ)) (reply : Reply)
+    → IsOnly (IsReplyIn in_pairs (bits_in of_pairs) mode
+    (provided (type_has (multiplies of_pairs) operation) name (with_operands (bits_in of_pairs) operation operands)))
+    reply
+    → IsOnly (IsReplyTo (commanded of_pairs mode (calculation of_pairs operation name operands))) reply
+only_in_pairs mode (OfTwo arithmetic) name operands reply only = only_of_pairs mode _ reply only
+only_in_pairs mode FusedSum name operands reply only = only
+only_in_pairs mode WholeNumber name operands reply only = only_of_pairs mode _ reply only
+only_in_pairs mode Text name operands reply only = only_of_pairs mode _ reply only
+
+-- a reply in a format, to what each type has
+pub only_in_format : (constants : Constants) (mode : Round) (operation : Operation) (name : List ℕ)
+    (operands : List (List ℕ)) (reply : Reply)
+    → (operation ≡ FusedSum → nat_le constants.precision fused_limit ≡ false)
+    → IsOnly (IsReplyIn (in_format constants) constants.bits mode
+    (provided (type_has (multiplies (of_format constants)) operation) name
+    (with_operands constants.bits operation operands))) reply
+    → IsOnly (IsReplyTo (commanded (of_format constants) mode
+    (calculation (of_format constants) operation name operands))) reply
+only_in_format constants mode (OfTwo arithmetic) name operands reply lacks only =
+    only_of_format constants mode _ reply only
+only_in_format constants mode FusedSum name operands reply lacks only = rw (lacks refl) only
+only_in_format constants mode WholeNumber name operands reply lacks only =
+    only_of_format constants mode _ reply only
+only_in_format constants mode Text name operands reply lacks only = only_of_format constants mode _ reply only

@@ -1,34 +1,20 @@
 -- What the words of a command ask for, or the word of its refusal.
 use Rattle.std.specs.Prelude.{ℕ, ◌^◌, Bool, false, true, not, ◌&&◌, ◌==◌, nat_lt, nat_le, if◌then◌else◌, List, [], ◌∷◌, length, take, drop, slice_index_or, codes, Option, Some, None, ok_or, Result, Ok, Err}
 use Rattle.rustc_apfloat.specs.declared.Round.{Round}
-use Rattle.rustc_apfloat.specs.declared.Round.TheVariants.{NearestTiesToEven, TowardPositive, TowardNegative, TowardZero, NearestTiesToAway}
 use Rattle.rustc_apfloat.specs.Digits.{same, every, is_empty, is_decimal, is_hexadecimal, number}
-use Rattle.rustc_apfloat.specs.Lawful.{Constants}
-use Rattle.rustc_apfloat.specs.Formats.{half_constants, single_constants, double_constants, quad_constants, bfloat_constants, e5m2_constants, e4m3fn_constants, e4m3fnuz_constants, x87_constants}
 use Rattle.apfloat_base.specs.declared.parse_error.Fault.{Fault}
 use Rattle.rustc_apfloat.specs.Faults.{fault_of, words}
 use Rattle.dispatch.specs.declared.Arithmetic.{Arithmetic}
 use Rattle.dispatch.specs.declared.Arithmetic.TheVariants.{Sum, Difference, Product, Quotient, NearestRemainder, TruncatedRemainder}
-use Rattle.dispatch.specs.ValueKinds.{Kind, of_format, of_pairs}
+use Rattle.dispatch.specs.ValueKinds.{Kind, bits_in}
+use Rattle.dispatch.specs.BuiltIns.{kind_named, kind_of}
+use Rattle.dispatch.specs.Limits.{fuses, multiplies}
+use Rattle.dispatch.specs.Modes.{mode_named}
 use Rattle.dispatch.specs.OfTwo.{has_operation}
 use Rattle.commands.specs.declared.operation.Operation.{Operation}
 use Rattle.commands.specs.declared.operation.Operation.TheVariants.{OfTwo, FusedSum, WholeNumber, Text}
 
--- ---- the words that are known
-
-abbrev pub formats : List (List ℕ × Kind)
-formats =
-    (codes "half", of_format half_constants)
-    ∷ (codes "single", of_format single_constants)
-    ∷ (codes "double", of_format double_constants)
-    ∷ (codes "quad", of_format quad_constants)
-    ∷ (codes "bfloat", of_format bfloat_constants)
-    ∷ (codes "e5m2", of_format e5m2_constants)
-    ∷ (codes "e4m3fn", of_format e4m3fn_constants)
-    ∷ (codes "e4m3fnuz", of_format e4m3fnuz_constants)
-    ∷ (codes "x87", of_format x87_constants)
-    ∷ (codes "dd", of_pairs)
-    ∷ []
+-- ---- operations
 
 abbrev pub operations : List (List ℕ × Operation)
 operations =
@@ -43,21 +29,10 @@ operations =
     ∷ (codes "parse", Text)
     ∷ []
 
-abbrev pub modes : List (List ℕ × Round)
-modes =
-    (codes "even", NearestTiesToEven)
-    ∷ (codes "up", TowardPositive)
-    ∷ (codes "down", TowardNegative)
-    ∷ (codes "zero", TowardZero)
-    ∷ (codes "away", NearestTiesToAway)
-    ∷ []
-
 -- what the row of a word says
 abbrev pub found : {A : Type 0} → List (List ℕ × A) → List ℕ → Option A
 found [] word = None
 found (row ∷ rows) word = if same word row.0 then Some row.1 else found rows word
-
--- ---- operations
 
 abbrev pub operand_count : Operation → ℕ
 operand_count (OfTwo arithmetic) = 2
@@ -65,31 +40,21 @@ operand_count FusedSum = 3
 operand_count WholeNumber = 1
 operand_count Text = 1
 
--- whether a format of that precision has the operation: a product needs one of 64 at most, for its digits, a fused sum
--- one of 63
-abbrev pub is_supported : ℕ → Operation → Bool
-is_supported precision (OfTwo arithmetic) = has_operation (nat_le precision 64) arithmetic
-is_supported precision FusedSum = nat_le precision 63
-is_supported precision WholeNumber = true
-is_supported precision Text = true
+-- whether a type has the operation, which has products or not; no type has the fused sum
+abbrev pub type_has : Bool → Operation → Bool
+type_has multiplies (OfTwo arithmetic) = has_operation multiplies arithmetic
+type_has multiplies FusedSum = false
+type_has multiplies WholeNumber = true
+type_has multiplies Text = true
 
--- pairs of doubles have all but the fused sum
-abbrev pub pairs_have : Operation → Bool
-pairs_have (OfTwo arithmetic) = true
-pairs_have FusedSum = false
-pairs_have WholeNumber = true
-pairs_have Text = true
-
+-- whether a kind of values has it
 abbrev pub has : Kind → Operation → Bool
-has (of_format c) known = is_supported c.precision known
-has of_pairs known = pairs_have known
+has kind (OfTwo arithmetic) = type_has (multiplies kind) (OfTwo arithmetic)
+has kind FusedSum = fuses kind
+has kind WholeNumber = true
+has kind Text = true
 
 -- ---- operands
-
--- how many bits a value has
-abbrev pub bits_in : Kind → ℕ
-bits_in (of_format c) = c.bits
-bits_in of_pairs = 128
 
 -- 1 to 32 hexadecimal digits, behind 0x or without it, of a number below 2 ^ width
 abbrev pub behind_0x : List ℕ → List ℕ
@@ -120,18 +85,18 @@ word_at words place = slice_index_or words place []
 -- ---- what is asked
 
 -- an operation with what its operands say: bits, a number, or a text
-pub data Call : Type 0 where
-  of_two : Arithmetic → ℕ → ℕ → Call
-  fused_sum : ℕ → ℕ → ℕ → Call
-  from_whole_number : ℕ → Call
-  from_text : List ℕ → Call
+pub data Calculation : Type 0 where
+  of_two : Arithmetic → ℕ → ℕ → Calculation
+  fused_sum : ℕ → ℕ → ℕ → Calculation
+  from_whole_number : ℕ → Calculation
+  from_text : List ℕ → Calculation
 
-pub record Request : Type 0 where
+pub record Command : Type 0 where
   pub kind : Kind
   pub mode : Round
-  pub call : Call
+  pub calculation : Calculation
 
--- Below, a request or the word of the first fault. The faults in their order: the count of the words, the format, the
+-- Below, a command or the word of the first fault. The faults in their order: the count of the words, the format, the
 -- operation, the mode, the count of the operands, an operation that the format does not have, an operand.
 
 infixl 10 ◌>>=◌
@@ -140,7 +105,7 @@ abbrev pub ◌>>=◌ : {A B : Type 0} → Result A (List ℕ) → (A → Result 
 (Err word) >>= next = Err word
 
 abbrev pub provided : {A : Type 0} → Bool → List ℕ → Result A (List ℕ) → Result A (List ℕ)
-provided holds word request = if holds then request else Err word
+provided holds word asked = if holds then asked else Err word
 
 abbrev pub arguments : List ℕ
 arguments = codes "arguments"
@@ -148,28 +113,28 @@ arguments = codes "arguments"
 abbrev pub with_bits : ℕ → List ℕ → Result ℕ (List ℕ)
 with_bits width word = ok_or (bits_of_word width word) word
 
-abbrev pub with_two : ℕ → Arithmetic → List ℕ → List ℕ → Result Call (List ℕ)
+abbrev pub with_two : ℕ → Arithmetic → List ℕ → List ℕ → Result Calculation (List ℕ)
 with_two width arithmetic left right =
     with_bits width left >>= λ x. with_bits width right >>= λ y. Ok (of_two arithmetic x y)
 
-abbrev pub with_three : ℕ → List ℕ → List ℕ → List ℕ → Result Call (List ℕ)
+abbrev pub with_three : ℕ → List ℕ → List ℕ → List ℕ → Result Calculation (List ℕ)
 with_three width left right addend =
     with_bits width left >>= λ x. with_bits width right >>= λ y. with_bits width addend >>= λ z.
     Ok (fused_sum x y z)
 
-abbrev pub with_whole_number : List ℕ → Result Call (List ℕ)
+abbrev pub with_whole_number : List ℕ → Result Calculation (List ℕ)
 with_whole_number word = ok_or (whole_number_of word) word >>= λ n. Ok (from_whole_number n)
 
 -- a text, or the words of its first fault
-abbrev pub without_fault : Option Fault → List ℕ → Result Call (List ℕ)
+abbrev pub without_fault : Option Fault → List ℕ → Result Calculation (List ℕ)
 without_fault None text = Ok (from_text text)
 without_fault (Some fault) text = Err (words fault)
 
-abbrev pub with_text : List ℕ → Result Call (List ℕ)
+abbrev pub with_text : List ℕ → Result Calculation (List ℕ)
 with_text text = without_fault (fault_of text) text
 
 -- values have so many bits
-abbrev pub with_operands : ℕ → Operation → List (List ℕ) → Result Call (List ℕ)
+abbrev pub with_operands : ℕ → Operation → List (List ℕ) → Result Calculation (List ℕ)
 with_operands width (OfTwo arithmetic) operands =
     with_two width arithmetic (word_at operands 0) (word_at operands 1)
 with_operands width FusedSum operands =
@@ -177,29 +142,33 @@ with_operands width FusedSum operands =
 with_operands width WholeNumber operands = with_whole_number (word_at operands 0)
 with_operands width Text operands = with_text (word_at operands 0)
 
-abbrev pub requested : Kind → Round → Result Call (List ℕ) → Result Request (List ℕ)
-requested kind mode asked = asked >>= λ call. Ok (record { kind = kind; mode = mode; call = call })
+-- an operation on its operands, which a kind of values has; `name` is the word of the operation
+abbrev pub calculation : Kind → Operation → List ℕ → List (List ℕ) → Result Calculation (List ℕ)
+calculation kind operation name operands =
+    provided (has kind operation) name (with_operands (bits_in kind) operation operands)
+
+abbrev pub commanded : Kind → Round → Result Calculation (List ℕ) → Result Command (List ℕ)
+commanded kind mode asked = asked >>= λ known. Ok (record { kind = kind; mode = mode; calculation = known })
 
 -- the operation and the mode of their words, for so many operands
 abbrev pub named : List ℕ → List ℕ → ℕ → Result (Operation × Round) (List ℕ)
 named operation mode count =
     ok_or (found operations operation) operation >>= λ known.
-    ok_or (found modes mode) mode >>= λ rounding.
+    ok_or (mode_named mode) mode >>= λ rounding.
     provided (count == operand_count known) arguments (Ok (known, rounding))
 
 -- what a kind of values is asked for
-abbrev pub with_operation : Kind → List ℕ → List ℕ → List (List ℕ) → Result Request (List ℕ)
+abbrev pub with_operation : Kind → List ℕ → List ℕ → List (List ℕ) → Result Command (List ℕ)
 with_operation kind operation mode operands =
     named operation mode (length operands) >>= λ both.
-    provided (has kind both.0) operation
-    (requested kind both.1 (with_operands (bits_in kind) both.0 operands))
+    commanded kind both.1 (calculation kind both.0 operation operands)
 
-abbrev pub with_format : List ℕ → List ℕ → List ℕ → List (List ℕ) → Result Request (List ℕ)
+abbrev pub with_format : List ℕ → List ℕ → List ℕ → List (List ℕ) → Result Command (List ℕ)
 with_format format operation mode operands =
-    ok_or (found formats format) format >>= λ kind. with_operation kind operation mode operands
+    ok_or (kind_named format) format >>= λ kind. with_operation (kind_of kind) operation mode operands
 
 -- what is asked by a command, which is the words without the program's own name
-abbrev pub asked : List (List ℕ) → Result Request (List ℕ)
+abbrev pub asked : List (List ℕ) → Result Command (List ℕ)
 asked command =
     provided (nat_le 4 (length command) && nat_le (length command) 6) arguments
     (with_format (word_at command 0) (word_at command 1) (word_at command 2) (drop 3 command))

@@ -6,19 +6,16 @@ use Rattle.std.specs.Io.KnownBytes.{Appends}
 use Rattle.std.specs.declared.io.ErrorKind.{ErrorKind}
 use Rattle.std.specs.declared.io.ErrorKind.TheVariants.{OutOfMemory}
 use Rattle.rustc_apfloat.specs.declared.Round.{Round}
-use Rattle.rustc_apfloat.specs.Flags.{bits_of}
+use Rattle.rustc_apfloat.specs.declared.StatusAnd.{StatusAnd}
+use Rattle.rustc_apfloat.specs.Flags.{Gives, bits_of}
 use Rattle.rustc_apfloat.specs.Datum.{Datum}
 use Rattle.rustc_apfloat.specs.FusedSums.{IsFusedSum}
-use Rattle.rustc_apfloat.specs.WholeNumbers.{IsFromUnsigned}
-use Rattle.rustc_apfloat.specs.Readings.{IsReading}
-use Rattle.rustc_apfloat.specs.Layout.{IsEncodedBy}
-use Rattle.rustc_apfloat.specs.Lawful.{Constants, format_with, layout_with}
-use Rattle.rustc_apfloat.specs.Pairs.{Pair, pair_of, IsPairEncodedBy}
-use Rattle.rustc_apfloat.specs.PairCalls.{IsPairFromUnsigned, IsPairReading}
+use Rattle.rustc_apfloat.specs.Lawful.{Constants, format_with}
 use Rattle.commands.specs.declared.reply.Reply as program
-use Rattle.dispatch.specs.ValueKinds.{Kind, of_format, of_pairs, value_of}
-use Rattle.dispatch.specs.OfTwo.{IsOfTwo, IsPairOfTwo}
-use Rattle.commands.specs.Commands.{bits_in, Call, of_two, fused_sum, from_whole_number, from_text, Request, asked}
+use Rattle.dispatch.specs.ValueKinds.{Kind, bits_in, of_format, of_pairs, value_of}
+use Rattle.dispatch.specs.OfTwo.{IsOfTwo}
+use Rattle.dispatch.specs.Relations.{Relations, in_format, in_pairs}
+use Rattle.commands.specs.Commands.{Calculation, of_two, fused_sum, from_whole_number, from_text, Command, asked}
 
 -- bits with the number of their hexadecimal digits and the flags, or the word of a refusal
 pub data Reply : Type 0 where
@@ -34,58 +31,57 @@ abbrev pub digit_count : Reply → ℕ
 digit_count (line bits digits status) = digits
 digit_count (refused word) = 0
 
--- ---- the reply
+-- ---- the reply in a type of values
 
--- what a call answers in a format
-abbrev pub IsAnswerOf : Call → Constants → Round → Datum → ℕ → Type 0
-IsAnswerOf (of_two arithmetic x y) c mode value status =
-    IsOfTwo arithmetic (format_with c) mode (value_of c x) (value_of c y) value status
-IsAnswerOf (fused_sum x y z) c mode value status =
-    IsFusedSum (format_with c) mode (value_of c x) (value_of c y) (value_of c z) value status
-IsAnswerOf (from_whole_number n) c mode value status = IsFromUnsigned (format_with c) mode n value status
-IsAnswerOf (from_text text) c mode value status = IsReading (format_with c) mode text value status
+-- what a calculation answers; a fused sum, which not each type has, nothing
+abbrev pub IsResult : {A : Type 0} → Relations A → Round → Calculation → StatusAnd A → Type 0
+IsResult of_type mode (of_two arithmetic x y) answer =
+    IsOfTwo of_type arithmetic mode (of_type.value_of_bits x) (of_type.value_of_bits y) answer
+IsResult of_type mode (fused_sum x y z) answer = ⊥
+IsResult of_type mode (from_whole_number n) answer = of_type.converts_unsigned n mode answer
+IsResult of_type mode (from_text text) answer = of_type.reads text mode (Ok answer)
 
--- the bits of a value of the format, and its status
-pub record IsLineOf (c : Constants) (value : Datum) (status : ℕ) (reply : Reply) : Type 0 where
+-- the bits of a value, and its status
+pub record IsLineOf {A : Type 0} (of_type : Relations A) (width : ℕ) (answer : StatusAnd A) (reply : Reply) : Type 0 where
   pub bits : ℕ
-  pub is_encoded : IsEncodedBy (format_with c) (layout_with c) bits value
-  pub is : reply ≡ line bits (c.bits / 4) status
+  pub is_encoded : of_type.writes_bits answer.value bits
+  pub is : reply ≡ line bits (width / 4) (bits_of answer.status)
 
--- the line of what is asked of a format
-pub record IsAnswered (c : Constants) (mode : Round) (call : Call) (reply : Reply) : Type 0 where
-  pub value : Datum
-  pub status : ℕ
-  pub answers : IsAnswerOf call c mode value status
-  pub is_line : IsLineOf c value status reply
+-- the line of an answer that the relation holds of
+pub record IsLineWhere {A : Type 0} (of_type : Relations A) (width : ℕ) (Holds : StatusAnd A → Type 0)
+    (reply : Reply) : Type 0 where
+  pub answer : StatusAnd A
+  pub answers : Holds answer
+  pub is_line : IsLineOf of_type width answer reply
 
--- what a call answers as a pair of doubles; a fused sum, which pairs do not have, nothing
-abbrev pub IsPairAnswerOf : Call → Round → Pair → ℕ → Type 0
-IsPairAnswerOf (of_two arithmetic x y) mode value status =
-    IsPairOfTwo arithmetic mode (pair_of x) (pair_of y) value status
-IsPairAnswerOf (fused_sum x y z) mode value status = ⊥
-IsPairAnswerOf (from_whole_number n) mode value status = IsPairFromUnsigned mode n value status
-IsPairAnswerOf (from_text text) mode value status = IsPairReading mode text value status
+-- what is replied where that is asked, or a refusal
+abbrev pub IsReplyIn : {A : Type 0} → Relations A → ℕ → Round → Result Calculation (List ℕ) → Reply → Type 0
+IsReplyIn of_type width mode (Ok asked) reply = IsLineWhere of_type width (IsResult of_type mode asked) reply
+IsReplyIn of_type width mode (Err word) reply = reply ≡ refused word
 
--- the bits of a pair, and its status
-pub record IsPairLineOf (value : Pair) (status : ℕ) (reply : Reply) : Type 0 where
-  pub bits : ℕ
-  pub is_encoded : IsPairEncodedBy bits value
-  pub is : reply ≡ line bits (bits_in of_pairs / 4) status
+-- ---- the reply in any kind of values
 
--- the line of what is asked of pairs of doubles
-pub record IsAnsweredInPairs (mode : Round) (call : Call) (reply : Reply) : Type 0 where
-  pub value : Pair
-  pub status : ℕ
-  pub answers : IsPairAnswerOf call mode value status
-  pub is_line : IsPairLineOf value status reply
+-- what a calculation answers in a format, which may have the fused sum
+abbrev pub IsFormatResult : Constants → Round → Calculation → StatusAnd Datum → Type 0
+IsFormatResult c mode (of_two arithmetic x y) answer = IsResult (in_format c) mode (of_two arithmetic x y) answer
+IsFormatResult c mode (fused_sum x y z) answer =
+    Gives (IsFusedSum (format_with c) mode (value_of c x) (value_of c y) (value_of c z)) answer
+IsFormatResult c mode (from_whole_number n) answer = IsResult (in_format c) mode (from_whole_number n) answer
+IsFormatResult c mode (from_text text) answer = IsResult (in_format c) mode (from_text text) answer
 
-abbrev pub IsAnsweredIn : Kind → Round → Call → Reply → Type 0
-IsAnsweredIn (of_format c) mode call reply = IsAnswered c mode call reply
-IsAnsweredIn of_pairs mode call reply = IsAnsweredInPairs mode call reply
+abbrev pub IsFormatReply : Constants → Round → Result Calculation (List ℕ) → Reply → Type 0
+IsFormatReply c mode (Ok asked) reply = IsLineWhere (in_format c) c.bits (IsFormatResult c mode asked) reply
+IsFormatReply c mode (Err word) reply = reply ≡ refused word
 
-abbrev pub IsReplyTo : Result Request (List ℕ) → Reply → Type 0
+abbrev pub IsCalculated : Kind → Round → Calculation → Reply → Type 0
+IsCalculated (of_format c) mode calculation reply =
+    IsLineWhere (in_format c) c.bits (IsFormatResult c mode calculation) reply
+IsCalculated of_pairs mode calculation reply =
+    IsLineWhere in_pairs (bits_in of_pairs) (IsResult in_pairs mode calculation) reply
+
+abbrev pub IsReplyTo : Result Command (List ℕ) → Reply → Type 0
 IsReplyTo (Err word) reply = reply ≡ refused word
-IsReplyTo (Ok request) reply = IsAnsweredIn request.kind request.mode request.call reply
+IsReplyTo (Ok command) reply = IsCalculated command.kind command.mode command.calculation reply
 
 -- the reply to a command
 abbrev pub IsReply : List (List ℕ) → Reply → Type 0

@@ -11,10 +11,10 @@
 //! A value is given as its bits: 1 to 32 hexadecimal digits, with or without `0x` in front.
 #![tactic(auto)]
 
+mod calculation;
 mod expected_reply;
 mod operation;
 mod output;
-mod pair_reply;
 mod reply;
 mod system_words;
 mod text_buffer;
@@ -24,4 +24,4 @@ pub use expected_reply::agrees;
 pub use output::{run, run_given, write_line, write_status};
 pub use reply::{Reply, command};
 pub use system_words::words_of_system;
-pub use words::{bits_of, mode_named, number_of};
+pub use words::{bits_of, number_of};

@@ -1,7 +1,7 @@
 //! What the program computes.
 
 ghost use Rattle.std.specs.Prelude.{◌≡◌};
-ghost use Rattle.commands.specs.Commands.{is_supported, operand_count};
+ghost use Rattle.commands.specs.Commands.{operand_count};
 
 use dispatch::Arithmetic;
 
@@ -28,17 +28,6 @@ impl Operation {
             Operation::FusedSum => 3,
             Operation::WholeNumber => 1,
             Operation::Text => 1,
-        }
-    }
-
-    /// Whether a format of this precision has it.
-    pub fn is_supported(self, precision: usize) -> bool
-        ensures { result ≡ is_supported precision self }
-    {
-        match self {
-            Operation::OfTwo(arithmetic) => arithmetic.is_supported(precision),
-            Operation::FusedSum => precision <= 63,
-            _ => true,
         }
     }
 }

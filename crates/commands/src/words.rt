@@ -4,10 +4,10 @@ ghost use Rattle.std.specs.Prelude.{◌≡◌, Some, None, Ok, Err, ◌+◌, ◌
 ghost use Rattle.std.specs.Option.{IfSome};
 ghost use Rattle.std.specs.Result.{MatchResult};
 ghost use Rattle.rustc_apfloat.specs.Digits.{digit_value, every, is_decimal, is_hexadecimal, number};
-ghost use Rattle.commands.specs.Commands.{bits_of_digits, bits_of_word, found, modes, named, operations, whole_number_of};
+ghost use Rattle.commands.specs.Commands.{bits_of_digits, bits_of_word, found, named, operations, whole_number_of};
 
 use crate::operation::Operation;
-use dispatch::Arithmetic;
+use dispatch::{Arithmetic, mode_named};
 use rustc_apfloat::Round;
 
 /// The operation of this name.
@@ -24,20 +24,6 @@ fn operation_named(word: &str) -> Option<Operation>
         "fma" => Some(Operation::FusedSum),
         "int" => Some(Operation::WholeNumber),
         "parse" => Some(Operation::Text),
-        _ => None,
-    }
-}
-
-/// The rounding mode of this name.
-pub fn mode_named(word: &str) -> Option<Round>
-    ensures { result ≡ found modes word.now }
-{
-    match word {
-        "even" => Some(Round::NearestTiesToEven),
-        "up" => Some(Round::TowardPositive),
-        "down" => Some(Round::TowardNegative),
-        "zero" => Some(Round::TowardZero),
-        "away" => Some(Round::NearestTiesToAway),
         _ => None,
     }
 }

@@ -1,2 +1,2 @@
-pub mod Relations
+pub mod TextsRead
 pub mod OfTwoOnce

@@ -9,6 +9,11 @@ pub data Kind : Type 0 where
   of_format : Constants → Kind
   of_pairs : Kind
 
+-- how many bits a value has
+abbrev pub bits_in : Kind → ℕ
+bits_in (of_format c) = c.bits
+bits_in of_pairs = 128
+
 -- the value that is written as bits; those at and above the width of the format are not looked at
 abbrev pub value_of : Constants → ℕ → Datum
 value_of c bits = datum_of (format_with c) (layout_with c) bits

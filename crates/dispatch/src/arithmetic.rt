@@ -1,7 +1,8 @@
 //! The operations on two values.
 
-ghost use Rattle.std.specs.Prelude.{◌≡◌, nat_le, true};
-ghost use Rattle.dispatch.specs.OfTwo.{IsAnswer, has_operation};
+ghost use Rattle.std.specs.Prelude.{◌≡◌, true};
+ghost use Rattle.dispatch.specs.OfTwo.{IsOfTwo, has_operation};
+ghost use Rattle.dispatch.specs.Relations.{relations_of};
 
 use rustc_apfloat::{Float, Round, StatusAnd};
 
@@ -23,12 +24,12 @@ pub enum Arithmetic {
 }
 
 impl Arithmetic {
-    /// Whether a format of this precision has it.
-    pub fn is_supported(self, precision: usize) -> bool
-        ensures { result ≡ has_operation (nat_le precision 64) self }
+    /// Whether a type has it.
+    pub fn is_supported<F: Float>(self) -> bool
+        ensures { result ≡ has_operation F.MULTIPLIES self }
     {
         match self {
-            Arithmetic::Product => precision <= 64,
+            Arithmetic::Product => F::MULTIPLIES,
             _ => true,
         }
     }
@@ -36,8 +37,7 @@ impl Arithmetic {
     /// Its answer for two values. No remainder depends on the mode.
     pub fn answer<F: Float>(self, x: F, y: F, round: Round) -> StatusAnd<F>
         requires { has_operation F.MULTIPLIES self ≡ true }
-        ensures { IsAnswer self F.adds F.subtracts F.multiplies F.divides F.leaves_nearest F.leaves
-            x y round result }
+        ensures { IsOfTwo (relations_of F.Float.own F.partial_cmp) self round x y result }
     {
         match self {
             Arithmetic::Sum => x.add_r(y, round),

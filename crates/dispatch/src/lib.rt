@@ -1,6 +1,16 @@
-//! Operations that are chosen while a program runs: what the commands and the library for C have in common.
+//! What is chosen while a program runs: the kinds of values and the rounding modes, by their words and codes, a call at
+//! the type of such a kind, and an operation on two values.
 #![tactic(auto)]
 
 mod arithmetic;
+mod built_in;
+mod in_kind;
+mod modes;
 
 pub use arithmetic::Arithmetic;
+pub use built_in::{BUILT_IN_KINDS, BuiltInFormat, BuiltInKind};
+pub use in_kind::{InFormat, InKind};
+pub use modes::{mode_coded, mode_named};
+
+/// The greatest precision of a format with fused sums.
+pub const FUSED_LIMIT: usize = 63;

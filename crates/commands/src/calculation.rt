@@ -1,0 +1,182 @@
+//! Calculates the operation of a command in the values of a kind.
+
+ghost use Rattle.std.specs.Prelude.{◌≡◌, ◌≤◌, ◌<◌, length, map, string_bytes, true};
+ghost use Rattle.rustc_apfloat.specs.Types.{constants_of};
+ghost use Rattle.dispatch.specs.OfTwo.{has_operation};
+ghost use Rattle.dispatch.specs.Relations.{in_format, relations_of};
+ghost use Rattle.dispatch.specs.TextReadings.{ReadsTexts};
+ghost use Rattle.commands.specs.Commands.{calculation, commanded, operand_count, provided, type_has, with_operands, with_text, with_three, with_two, with_whole_number};
+ghost use Rattle.commands.specs.Replies.{IsFormatReply, IsLineOf, IsOnly, IsReplyIn, IsReplyTo, digit_count, reply_of};
+
+use crate::operation::Operation;
+use crate::reply::Reply;
+use crate::words::{bits_of, number_of};
+use dispatch::{Arithmetic, FUSED_LIMIT, InFormat, InKind};
+use rustc_apfloat::ieee::{IeeeFloat, Semantics};
+use rustc_apfloat::ppc::DoubleDouble;
+use rustc_apfloat::{Float, Round, StatusAnd};
+
+/// An operation on its operands.
+#[derive(Clone, Copy)]
+pub struct Calculation<'a> {
+    /// The operation.
+    pub operation: Operation,
+    /// Its name.
+    pub name: &'a str,
+    /// The rounding mode.
+    pub round: Round,
+    /// As many words as the operation has operands.
+    pub operands: &'a [String],
+}
+
+impl<'a> InFormat for Calculation<'a> {
+    type Output = Reply<'a>;
+
+    ghost can = { λ it kind. length it.operands.now ≡ operand_count it.operation };
+
+    ghost gives = { λ it kind reply. IsOnly
+        (IsReplyTo (commanded kind it.round
+        (calculation kind it.operation it.name.now (map string_bytes it.operands.now))))
+        (reply_of reply) × (digit_count (reply_of reply) ≤ 32) };
+
+    fn in_format<S: Semantics>(self) -> Reply<'a> {
+        match self.operation {
+            Operation::FusedSum if S::PRECISION <= FUSED_LIMIT => fused_sum::<S>(
+                self.round,
+                self.operands[0].as_str(),
+                self.operands[1].as_str(),
+                self.operands[2].as_str(),
+            ),
+            _ => in_type::<IeeeFloat<S>>(self),
+        }
+    }
+}
+
+impl<'a> InKind for Calculation<'a> {
+    fn in_pairs(self) -> Reply<'a> {
+        in_type::<DoubleDouble>(self)
+    }
+}
+
+/// The reply in values of a type, which has no fused sum.
+fn in_type<'a, F: Float>(it: Calculation<'a>) -> Reply<'a>
+    requires written { F.PRECISION < F.BITS }
+    requires narrow { F.BITS ≤ 128 }
+    requires reads { ReadsTexts F.reads }
+    requires count { length it.operands.now ≡ operand_count it.operation }
+    ensures reply { let words = map string_bytes it.entry.operands.now in
+        let asked = provided (type_has F.MULTIPLIES it.entry.operation) it.entry.name.now
+        (with_operands F.BITS it.entry.operation words) in IsOnly
+        (IsReplyIn (relations_of F.Float.own F.partial_cmp) F.BITS it.entry.round asked)
+        (reply_of result) }
+    ensures short { digit_count (reply_of result) ≤ 32 }
+{
+    let first = it.operands[0].as_str();
+    match it.operation {
+        Operation::OfTwo(arithmetic) => {
+            if arithmetic.is_supported::<F>() {
+                of_two::<F>(arithmetic, it.round, first, it.operands[1].as_str())
+            } else {
+                Reply::Refused(it.name)
+            }
+        }
+        Operation::FusedSum => Reply::Refused(it.name),
+        Operation::WholeNumber => from_whole_number::<F>(it.round, first),
+        Operation::Text => from_text::<F>(it.round, first),
+    }
+}
+
+/// An operation on two values.
+fn of_two<'a, F: Float>(
+    operation: Arithmetic,
+    round: Round,
+    left: &'a str,
+    right: &'a str,
+) -> Reply<'a>
+    requires written { F.PRECISION < F.BITS }
+    requires narrow { F.BITS ≤ 128 }
+    requires supported { has_operation F.MULTIPLIES operation ≡ true }
+    ensures reply { let asked = with_two F.BITS operation left.now right.now in IsOnly
+        (IsReplyIn (relations_of F.Float.own F.partial_cmp) F.BITS round asked)
+        (reply_of result) }
+    ensures short { digit_count (reply_of result) ≤ 32 }
+{
+    let Some(x) = bits_of(left, F::BITS) else {
+        return Reply::Refused(left);
+    };
+    let Some(y) = bits_of(right, F::BITS) else {
+        return Reply::Refused(right);
+    };
+    line(operation.answer(F::from_bits(x), F::from_bits(y), round))
+}
+
+/// A product plus a third value, rounded once.
+fn fused_sum<'a, S: Semantics>(
+    round: Round,
+    left: &'a str,
+    right: &'a str,
+    addend: &'a str,
+) -> Reply<'a>
+    requires written { S.PRECISION < S.BITS }
+    requires supported { S.PRECISION ≤ FUSED_LIMIT }
+    ensures reply { let c = constants_of S.Semantics in
+        let asked = with_three c.bits left.now right.now addend.now in IsOnly
+        (IsFormatReply c round asked)
+        (reply_of result) }
+    ensures short { digit_count (reply_of result) ≤ 32 }
+{
+    let Some(x) = bits_of(left, S::BITS) else {
+        return Reply::Refused(left);
+    };
+    let Some(y) = bits_of(right, S::BITS) else {
+        return Reply::Refused(right);
+    };
+    let Some(z) = bits_of(addend, S::BITS) else {
+        return Reply::Refused(addend);
+    };
+    line(S::from_bits(x).mul_add_r(S::from_bits(y), S::from_bits(z), round))
+}
+
+/// A whole number, rounded to the type.
+fn from_whole_number<'a, F: Float>(round: Round, word: &'a str) -> Reply<'a>
+    requires written { F.PRECISION < F.BITS }
+    requires narrow { F.BITS ≤ 128 }
+    ensures reply { IsOnly
+        (IsReplyIn (relations_of F.Float.own F.partial_cmp) F.BITS round
+        (with_whole_number word.now))
+        (reply_of result) }
+    ensures short { digit_count (reply_of result) ≤ 32 }
+{
+    let Some(number) = number_of(word) else {
+        return Reply::Refused(word);
+    };
+    line(F::from_u128_r(number, round))
+}
+
+/// The value that a text means.
+fn from_text<'a, F: Float>(round: Round, text: &'a str) -> Reply<'a>
+    requires written { F.PRECISION < F.BITS }
+    requires narrow { F.BITS ≤ 128 }
+    requires reads { ReadsTexts F.reads }
+    ensures reply { IsOnly
+        (IsReplyIn (relations_of F.Float.own F.partial_cmp) F.BITS round (with_text text.now))
+        (reply_of result) }
+    ensures short { digit_count (reply_of result) ≤ 32 }
+{
+    match F::from_str_r(text, round) {
+        Ok(answer) => line(answer),
+        Err(error) => Reply::Refused(error.0),
+    }
+}
+
+/// The bits and the flags of an answer.
+fn line<'a, F: Float>(answer: StatusAnd<F>) -> Reply<'a>
+    requires written { F.PRECISION < F.BITS }
+    requires narrow { F.BITS ≤ 128 }
+    ensures line { IsOnly
+        (IsLineOf (relations_of F.Float.own F.partial_cmp) F.BITS answer)
+        (reply_of result) }
+    ensures short { digit_count (reply_of result) ≤ 32 }
+{
+    Reply::Line(answer.value.to_bits(), F::BITS / 4, answer.status)
+}
