@@ -8,13 +8,13 @@ use Rattle.rustc_apfloat.specs.Determined.{Determines}
 use Rattle.rustc_apfloat.specs.Faults.{fault_of}
 use Rattle.rustc_apfloat.specs.Flags.{Gives, bits_of}
 use Rattle.rustc_apfloat.specs.Datum.{Datum}
-use Rattle.rustc_apfloat.specs.FusedSums.{IsFusedSum}
+use Rattle.rustc_apfloat.specs.FusedSums.{IsFusedSum, fused_limit}
 use Rattle.rustc_apfloat.specs.Lawful.{Constants, format_with}
 use Rattle.rustc_apfloat.specs.Readings.{IsRefusal}
 use Rattle.apfloat_base.proofs.Once.{fused_sum_once}
 use Rattle.apfloat_base.proofs.Determined.{gives_once}
 use Rattle.dispatch.specs.declared.Arithmetic.{Arithmetic}
-use Rattle.dispatch.specs.Limits.{fused_limit, multiplies}
+use Rattle.dispatch.specs.Limits.{multiplies}
 use Rattle.dispatch.specs.OfTwo.{IsOfTwo}
 use Rattle.dispatch.specs.Once.{AreDetermined}
 use Rattle.dispatch.specs.Relations.{Relations, in_format, in_pairs}

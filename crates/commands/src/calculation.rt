@@ -11,10 +11,10 @@ ghost use Rattle.commands.specs.Replies.{IsFormatReply, IsLineOf, IsOnly, IsRepl
 use crate::operation::Operation;
 use crate::reply::Reply;
 use crate::words::{bits_of, number_of};
-use dispatch::{Arithmetic, FUSED_LIMIT, InFormat, InKind};
+use dispatch::{Arithmetic, InFormat, InKind};
 use rustc_apfloat::ieee::{IeeeFloat, Semantics};
 use rustc_apfloat::ppc::DoubleDouble;
-use rustc_apfloat::{Float, Round, StatusAnd};
+use rustc_apfloat::{FUSED_LIMIT, Float, Round, StatusAnd};
 
 /// An operation on its operands.
 #[derive(Clone, Copy)]

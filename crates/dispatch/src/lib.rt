@@ -11,6 +11,3 @@ pub use arithmetic::Arithmetic;
 pub use built_in::{BUILT_IN_KINDS, BuiltInFormat, BuiltInKind};
 pub use in_kind::{InFormat, InKind};
 pub use modes::{mode_coded, mode_named};
-
-/// The greatest precision of a format with fused sums.
-pub const FUSED_LIMIT: usize = 63;

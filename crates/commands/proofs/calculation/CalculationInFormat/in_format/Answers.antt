@@ -2,7 +2,7 @@ use Rattle.std.proofs.Common.{arith, ◌≡◌, ◌≤◌, false, map, string_by
 use Rattle.std.proofs.lemmas.Grind.{common_steps}
 use Rattle.std.proofs.lemmas.Bool.{lt-leb}
 use Rattle.rustc_apfloat.specs.Types.{constants_of}
-use Rattle.dispatch.specs.Limits.{fused_limit}
+use Rattle.rustc_apfloat.specs.FusedSums.{fused_limit}
 use Rattle.dispatch.proofs.TextsRead.{format_reads}
 use Rattle.commands.specs.Commands.{word_at}
 use Rattle.commands.proofs.RepliesOnce.{only_fused, only_in_format}
