@@ -1,3 +1,4 @@
 pub mod AsciiTexts
 pub mod ExponentWords
 pub mod WrittenAnswers
+pub mod ExportsOnce

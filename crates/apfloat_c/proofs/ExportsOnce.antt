@@ -1,0 +1,275 @@
+-- What an export leaves is determined by its arguments: one code, and one answer.
+use Rattle.std.proofs.Common.{◌≡◌, ℕ, ◌^◌, ◌<◌, ◌≤◌, Bool, Option, Some, None, Ok, refl, sym, ap, ◌∙◌, subst, ⊎_elim, arith, lit<}
+use Rattle.std.specs.Int.{w128, cast_unsigned}
+use Rattle.std.specs.Prelude.{ℤ, pos, ⊤}
+use Rattle.std.proofs.lemmas.Bool.{cases_lt}
+use Rattle.rustc_apfloat.specs.declared.Round.{Round}
+use Rattle.rustc_apfloat.specs.declared.StatusAnd.{StatusAnd}
+use Rattle.rustc_apfloat.specs.Datum.{Datum}
+use Rattle.rustc_apfloat.specs.Flags.{Gives, bits_of}
+use Rattle.rustc_apfloat.specs.Formats.{half_constants, single_constants, double_constants, quad_constants, bfloat_constants, e5m2_constants, e4m3fn_constants, e4m3fnuz_constants, x87_constants}
+use Rattle.rustc_apfloat.specs.Lawful.{Constants, IsLawful, format_with, layout_with}
+use Rattle.rustc_apfloat.specs.Determined.{Determines, DeterminesBoth}
+use Rattle.rustc_apfloat.proofs.LawTest.{lawful_from_test}
+use Rattle.rustc_apfloat.specs.Exponents.{IsExactInverse}
+use Rattle.rustc_apfloat.specs.PairCalls.{IsPairExactInverse}
+use Rattle.apfloat_base.proofs.Determined.{determined, gives_once, same_answer, scale_some}
+use Rattle.apfloat_base.proofs.bits.Encodings.{lawful_interchange}
+use Rattle.apfloat_base.proofs.Once.{OnceWith, conversion_once, fused_sum_once}
+use Rattle.apfloat_pair_theory.proofs.calls.PairsDetermined.{pairs_determined}
+use Rattle.apfloat_c.specs.declared.data.Answer.{Answer}
+use Rattle.apfloat_c.specs.declared.data.Halves.{Halves}
+use Rattle.dispatch.specs.declared.BuiltInFormat.TheVariants.{Half, Single, Double, Quad, BFloat, E5M2, E4M3FN, E4M3FNUZ, X87}
+use Rattle.dispatch.specs.declared.BuiltInKind.{BuiltInKind}
+use Rattle.dispatch.specs.declared.BuiltInKind.TheVariants.{Format, Pairs}
+use Rattle.dispatch.specs.BuiltIns.{kind_of}
+use Rattle.dispatch.specs.Once.{AreDetermined}
+use Rattle.dispatch.specs.Relations.{Relations, in_format, in_pairs}
+use Rattle.dispatch.specs.ValueKinds.{Kind, of_format, of_pairs, value_of}
+use Rattle.dispatch.proofs.OfTwoOnce.{of_two_once}
+use Rattle.apfloat_c.specs.declared.exported_call.ExportedCall.{ExportedCall}
+use Rattle.apfloat_c.specs.declared.exported_call.ExportedCall.TheVariants.{OfTwo, FusedSum, FromUnsigned, FromSigned, ToUnsigned, ToSigned, RoundToIntegral, Scaling, Fraction, Exponent, NextUp, NextDown, Comparison, Class, Conversion, Text}
+use Rattle.apfloat_c.specs.KnownCalls.{asked, fault_in, without}
+use Rattle.apfloat_c.specs.Answers.{IsAnswerOf, IsConverted, IsConvertedInto, IsConvertedTo, IsFractionOf, IsNumber, IsReply, IsSigned, IsTypeAnswer, IsUnsigned, IsUntold, IsValue, IsWritten, one_if, whole}
+
+-- two answers with the same number of 128 bits, the same flags, and the same other number
+pub record SameAnswer (first second : Answer) : Type 0 where
+  pub bits : whole first.bits ≡ whole second.bits
+  pub status : first.status ≡ second.status
+  pub number : first.number ≡ second.number
+
+-- at most one answer
+abbrev pub OnceAnswer : (Answer → Type 0) → Type 0
+OnceAnswer Holds = (first second : Answer) → Holds first → Holds second → SameAnswer first second
+
+-- ---- answers without a value
+
+-- a relation with one answer leaves one, be it a whole number
+unsigned_once : (Holds : StatusAnd ℕ → Bool → Type 0) → DeterminesBoth Holds → OnceAnswer (IsUnsigned Holds)
+unsigned_once Holds once a b x y =
+    let same = once x.given y.given x.is_exact y.is_exact x.holds y.holds in
+    record {
+      bits = x.bits_are ∙ ap (λ (g : StatusAnd ℕ). g.value) same.0 ∙ sym y.bits_are;
+      status = x.status_is ∙ ap (λ (g : StatusAnd ℕ). bits_of g.status) same.0 ∙ sym y.status_is;
+      number = x.number_is ∙ ap one_if same.1 ∙ sym y.number_is;
+    }
+
+-- one with a sign
+signed_once : (Holds : StatusAnd ℤ → Bool → Type 0) → DeterminesBoth Holds → OnceAnswer (IsSigned Holds)
+signed_once Holds once a b x y =
+    let same = once x.given y.given x.is_exact y.is_exact x.holds y.holds in
+    record {
+      bits = x.bits_are ∙ ap (λ (g : StatusAnd ℤ). cast_unsigned w128 g.value) same.0 ∙ sym y.bits_are;
+      status = x.status_is ∙ ap (λ (g : StatusAnd ℤ). bits_of g.status) same.0 ∙ sym y.status_is;
+      number = x.number_is ∙ ap one_if same.1 ∙ sym y.number_is;
+    }
+
+-- a number alone
+number_once : (Holds : ℤ → Type 0) → Determines Holds → OnceAnswer (IsNumber Holds)
+number_once Holds once a b x y = record {
+  bits = x.bits_are ∙ sym y.bits_are;
+  status = x.status_is ∙ sym y.status_is;
+  number = once a.number b.number x.holds y.holds;
+}
+
+-- the answer that is a given number is one
+given_once : (given : ℤ) → OnceAnswer (IsNumber (λ (n : ℤ). n ≡ given))
+given_once given = number_once (λ (n : ℤ). n ≡ given) (λ m n h k. h ∙ sym k)
+
+-- ---- values of a type
+
+module _ {A : Type 0} (of_type : Relations A) (inverts : A → Option A → Type 0) (mode : Round) (precision width : ℕ)
+    (wide : precision < width) (once : AreDetermined of_type inverts mode precision width) where
+  written_once : (given other : StatusAnd A) (i j : ℤ) (first second : Answer) → given ≡ other → i ≡ j
+      → IsWritten of_type given i first → IsWritten of_type other j second → SameAnswer first second
+  written_once given other i j a b given_is number_is x y =
+      let encodes = λ (d : StatusAnd A). of_type.writes_bits d.value (whole a.bits) in
+      record {
+        bits = once.bits wide other.value (whole a.bits) (whole b.bits) (subst encodes given_is x.is_encoded)
+            y.is_encoded;
+        status = x.status_is ∙ ap (λ (d : StatusAnd A). bits_of d.status) given_is ∙ sym y.status_is;
+        number = x.number_is ∙ number_is ∙ sym y.number_is;
+      }
+
+  -- a value with its status
+  value_once : (Holds : StatusAnd A → Type 0) → Determines Holds → OnceAnswer (IsValue of_type Holds)
+  value_once Holds determines a b x y =
+      let same = determines x.given y.given x.holds y.holds in
+      written_once x.given y.given _ _ a b same refl x.is_written y.is_written
+
+  -- a value alone
+  untold_once : (Holds : A → Type 0) → Determines Holds → OnceAnswer (IsUntold of_type Holds)
+  untold_once Holds determines a b x y =
+      let same = determines x.given.value y.given.value x.holds y.holds in
+      let given = same_answer x.given y.given same (x.no_flags ∙ sym y.no_flags) in
+      written_once x.given y.given _ _ a b given refl x.is_written y.is_written
+
+  -- a fraction and its exponent
+  fraction_once : (Holds : A → ℤ → Type 0) → DeterminesBoth Holds → OnceAnswer (IsFractionOf of_type Holds)
+  fraction_once Holds determines a b x y =
+      let same = determines x.given.value y.given.value x.exponent y.exponent x.holds y.holds in
+      let given = same_answer x.given y.given same.0 (x.no_flags ∙ sym y.no_flags) in
+      written_once x.given y.given x.exponent y.exponent a b given same.1 x.is_written y.is_written
+
+  -- a call on values of a type has one answer
+  type_once : (call : ExportedCall) → OnceAnswer (IsTypeAnswer of_type mode call)
+  type_once (OfTwo arithmetic x y) =
+      value_once _ (of_two_once of_type inverts mode precision width once arithmetic _ _)
+  type_once (FusedSum x y z) = λ a b h k. absurd h
+  type_once (FromUnsigned number) = value_once _ (once.of_unsigned number)
+  type_once (FromSigned number) = value_once _ (once.of_signed number)
+  type_once (ToUnsigned x bits) = unsigned_once _ (once.to_unsigned _ bits)
+  type_once (ToSigned x bits) = signed_once _ (once.to_signed _ bits)
+  type_once (RoundToIntegral x) = value_once _ (once.integral _)
+  type_once (Scaling x power) = untold_once _ (once.scaled _ power)
+  type_once (Fraction x) = fraction_once _ (once.fraction _)
+  type_once (Exponent x) = number_once _ (once.exponent _)
+  type_once (NextUp x) = value_once _ (once.above _)
+  type_once (NextDown x) = value_once _ (once.below _)
+  type_once (Comparison x y) = given_once _
+  type_once (Class x) = given_once _
+  type_once (Conversion x target) = λ a b h k. absurd h
+  type_once (Text text) = value_once _ (λ a b h k. once.reading text.now (Ok a) (Ok b) h k)
+
+-- ---- the kinds of the codes
+
+-- a lawful format, whose encoding is wider than its precision
+pub record HasLaw (constants : Constants) : Type 0 where
+  pub law : IsLawful constants
+  pub wide : constants.precision < constants.bits
+
+abbrev pub KindHasLaw : Kind → Type 0
+KindHasLaw (of_format c) = HasLaw c
+KindHasLaw of_pairs = ⊤
+
+-- each format of the codes is one
+kind_law : (known : BuiltInKind) → KindHasLaw (kind_of known)
+kind_law (Format Half) = record { law = lawful_from_test half_constants refl; wide = lit< tt }
+kind_law (Format Single) = record { law = lawful_from_test single_constants refl; wide = lit< tt }
+kind_law (Format Double) = record { law = lawful_from_test double_constants refl; wide = lit< tt }
+kind_law (Format Quad) = record { law = lawful_from_test quad_constants refl; wide = lit< tt }
+kind_law (Format BFloat) = record { law = lawful_from_test bfloat_constants refl; wide = lit< tt }
+kind_law (Format E5M2) = record { law = lawful_from_test e5m2_constants refl; wide = lit< tt }
+kind_law (Format E4M3FN) = record { law = lawful_from_test e4m3fn_constants refl; wide = lit< tt }
+kind_law (Format E4M3FNUZ) = record { law = lawful_from_test e4m3fnuz_constants refl; wide = lit< tt }
+kind_law (Format X87) = record { law = lawful_from_test x87_constants refl; wide = lit< tt }
+kind_law Pairs = tt
+
+-- ---- in a format
+
+module _ (constants : Constants) (has : HasLaw constants) (mode : Round) where
+  format_determined : AreDetermined (in_format constants) (IsExactInverse (format_with constants)) mode
+      constants.precision constants.bits
+  format_determined =
+      determined (format_with constants) (layout_with constants) constants.precision constants.bits mode
+      (scale_some constants has.law) (lawful_interchange constants has.law)
+
+  -- a value in another format
+  converted_once : (Holds : Datum → ℕ → Bool → Type 0) → OnceWith Holds → OnceAnswer (IsConvertedTo constants Holds)
+  converted_once Holds determines a b x y =
+      let same = determines x.given.value y.given.value (bits_of x.given.status) (bits_of y.given.status) x.loses
+      y.loses x.holds y.holds in
+      written_once (in_format constants) (IsExactInverse (format_with constants)) mode constants.precision
+      constants.bits has.wide format_determined x.given y.given _ _ a b
+      (same_answer x.given y.given same.0 same.1) (ap one_if same.2) x.is_written y.is_written
+
+-- a conversion to a known kind has at most one answer, and none to pairs
+converted_into_once : (constants : Constants) (mode : Round) (x : Datum) (target : Kind) → KindHasLaw target
+    → OnceAnswer (IsConvertedInto constants mode x target)
+converted_into_once constants mode x (of_format d) has =
+    converted_once d has mode _ (conversion_once (format_with constants) (format_with d) mode x)
+converted_into_once constants mode x of_pairs has = λ a b h k. absurd h
+
+-- and so has one whose target may be an unknown code
+conversion_answer_once : (constants : Constants) (mode : Round) (x : Datum) (target : Option BuiltInKind)
+    → OnceAnswer (IsConverted constants mode x target)
+conversion_answer_once constants mode x None = λ a b h k. absurd h
+conversion_answer_once constants mode x (Some target) =
+    converted_into_once constants mode x (kind_of target) (kind_law target)
+
+-- ---- one reply
+
+-- a call on values of any kind has one answer
+kind_once : (kind : Kind) → KindHasLaw kind → (mode : Round) (call : ExportedCall)
+    → OnceAnswer (IsAnswerOf kind mode call)
+kind_once (of_format c) has mode (FusedSum x y z) =
+    value_once (in_format c) (IsExactInverse (format_with c)) mode c.precision c.bits has.wide
+    (format_determined c has mode) _
+    (gives_once _ (fused_sum_once (format_with c) mode (value_of c x) (value_of c y) (value_of c z)))
+kind_once (of_format c) has mode (Conversion x target) = conversion_answer_once c mode (value_of c x) target
+kind_once (of_format c) has mode call =
+    type_once (in_format c) (IsExactInverse (format_with c)) mode c.precision c.bits has.wide
+    (format_determined c has mode) call
+kind_once of_pairs has mode call =
+    type_once in_pairs IsPairExactInverse mode 106 128 (lit< tt) (pairs_determined mode) call
+
+-- an answer that is left as it was
+unchanged : (old first second : Answer) → first ≡ old → second ≡ old → SameAnswer first second
+unchanged old a b a_is b_is =
+    let same = a_is ∙ sym b_is in
+    record {
+      bits = ap (λ (x : Answer). whole x.bits) same;
+      status = ap (λ (x : Answer). x.status) same;
+      number = ap (λ (x : Answer). x.number) same;
+    }
+
+-- and one code
+without_once : (fault : Option ℕ) (known : BuiltInKind) (mode : Round) (call : ExportedCall) (old first second : Answer)
+    (code other : ℕ)
+    → IsReply (without fault (record { kind = kind_of known; mode = mode; call = call })) old first code
+    → IsReply (without fault (record { kind = kind_of known; mode = mode; call = call })) old second other
+    → (code ≡ other) × SameAnswer first second
+without_once None known mode call old a b code other x y =
+    (x.0 ∙ sym y.0, kind_once (kind_of known) (kind_law known) mode call a b x.1 y.1)
+without_once (Some fault) known mode call old a b code other x y =
+    (x.0 ∙ sym y.0, unchanged old a b x.1 y.1)
+
+-- two replies to the same arguments are one
+pub reply_once : (format : Option BuiltInKind) (mode : Option Round) (call : ExportedCall) (old first second : Answer)
+    (code other : ℕ)
+    → IsReply (asked format mode call) old first code → IsReply (asked format mode call) old second other
+    → (code ≡ other) × SameAnswer first second
+reply_once None mode call old a b code other x y = (x.0 ∙ sym y.0, unchanged old a b x.1 y.1)
+reply_once (Some known) None call old a b code other x y = (x.0 ∙ sym y.0, unchanged old a b x.1 y.1)
+reply_once (Some known) (Some mode) call old a b code other x y =
+    without_once (fault_in (kind_of known) call) known mode call old a b code other x y
+
+-- ---- answers as C holds them, whose halves have 64 bits
+
+-- two halves that say one number have one upper half
+high_once : (first second : Halves) → first.low < 2 ^ 64 → second.low < 2 ^ 64 → whole first ≡ whole second
+    → first.high ≡ second.high
+high_once a b a_fits b_fits same =
+    ⊎_elim
+    (λ (c : a.high < b.high). absurd (omega arith))
+    (λ (c : b.high ≤ a.high).
+    ⊎_elim
+    (λ (d : b.high < a.high). absurd (omega arith))
+    (λ (d : a.high ≤ b.high). omega arith)
+    (cases_lt b.high a.high))
+    (cases_lt a.high b.high)
+
+-- and then one lower half
+low_once : (first second : Halves) → first.high ≡ second.high → whole first ≡ whole second → first.low ≡ second.low
+low_once a b high same = omega arith
+
+-- two numbers of two halves are equal where both halves are
+halves_of : (first second : Halves) → first.low ≡ second.low → first.high ≡ second.high → first ≡ second
+halves_of a b low high =
+    ap (λ (n : ℕ). record { low = n; high = a.high }) low ∙ ap (λ (n : ℕ). record { low = b.low; high = n }) high
+
+-- so the halves are the same
+halves_once : (first second : Halves) → first.low < 2 ^ 64 → second.low < 2 ^ 64 → whole first ≡ whole second
+    → first ≡ second
+halves_once a b a_fits b_fits same =
+    let high = high_once a b a_fits b_fits same in
+    halves_of a b (low_once a b high same) high
+
+-- two answers as C holds them are equal where they say the same
+pub same_bytes : (first second : Answer) → first.bits.low < 2 ^ 64 → second.bits.low < 2 ^ 64
+    → SameAnswer first second → first ≡ second
+same_bytes a b a_fits b_fits same =
+    ap (λ (h : Halves). record { bits = h; status = a.status; number = a.number })
+    (halves_once a.bits b.bits a_fits b_fits same.bits)
+    ∙ ap (λ (s : ℕ). record { bits = b.bits; status = s; number = a.number }) same.status
+    ∙ ap (λ (n : ℤ). record { bits = b.bits; status = b.status; number = n }) same.number
