@@ -1,34 +1,36 @@
 -- What an export leaves is determined by its arguments: one code, and one answer.
-use Rattle.std.proofs.Common.{◌≡◌, ℕ, ◌^◌, ◌<◌, ◌≤◌, Bool, Option, Some, None, refl, sym, ap, ◌∙◌, subst, ⊎_elim, arith, lit<}
+use Rattle.std.proofs.Common.{◌≡◌, ℕ, ◌^◌, ◌<◌, ◌≤◌, Bool, Option, Some, None, Ok, refl, sym, ap, ◌∙◌, subst, ⊎_elim, arith, lit<}
 use Rattle.std.specs.Int.{w128, cast_unsigned}
-use Rattle.std.specs.Prelude.{ℤ, pos, unsigned_abs, ⊤}
+use Rattle.std.specs.Prelude.{ℤ, pos, ⊤}
 use Rattle.std.proofs.lemmas.Bool.{cases_lt}
 use Rattle.rustc_apfloat.specs.declared.Round.{Round}
+use Rattle.rustc_apfloat.specs.declared.StatusAnd.{StatusAnd}
 use Rattle.rustc_apfloat.specs.Datum.{Datum}
+use Rattle.rustc_apfloat.specs.Flags.{Gives, bits_of}
 use Rattle.rustc_apfloat.specs.Formats.{half_constants, single_constants, double_constants, quad_constants, bfloat_constants, e5m2_constants, e4m3fn_constants, e4m3fnuz_constants, x87_constants}
-use Rattle.rustc_apfloat.specs.Layout.{IsEncodedBy}
 use Rattle.rustc_apfloat.specs.Lawful.{Constants, IsLawful, format_with, layout_with}
-use Rattle.rustc_apfloat.specs.WholeNumbersOut.{IsToUnsigned, IsToSigned, to_unsigned, to_signed}
-use Rattle.rustc_apfloat.specs.Pairs.{Pair, pair_of, IsPairEncodedBy}
-use Rattle.rustc_apfloat.specs.PairAnswers.{OncePair}
-use Rattle.apfloat_base.specs.Determined.{Determines, DeterminesBoth}
+use Rattle.rustc_apfloat.specs.Determined.{Determines, DeterminesBoth}
 use Rattle.rustc_apfloat.proofs.LawTest.{lawful_from_test}
-use Rattle.apfloat_base.proofs.Determined.{exponent_once, frexp_once, reading_once, scale_some}
+use Rattle.rustc_apfloat.specs.Exponents.{IsExactInverse}
+use Rattle.rustc_apfloat.specs.PairCalls.{IsPairExactInverse}
+use Rattle.apfloat_base.proofs.Determined.{determined, gives_once, same_answer, scale_some}
 use Rattle.apfloat_base.proofs.bits.Encodings.{lawful_interchange}
-use Rattle.apfloat_base.proofs.bits.EncodedOnce.{encoded_once}
-use Rattle.apfloat_base.proofs.Once.{Once, OnceWith, conversion_once, from_signed_once, from_unsigned_once, fused_sum_once, next_down_once, next_up_once, round_to_integral_once, scaling_once, whole_once}
-use Rattle.apfloat_pair_theory.proofs.calls.CallsOnce.{OnceWhole, pair_fraction_once, pair_from_signed_once, pair_from_unsigned_once, pair_ilogb_once, pair_next_down_once, pair_next_up_once, pair_reading_once, pair_round_to_integral_once, pair_scaling_once, pair_to_signed_once, pair_to_unsigned_once}
-use Rattle.apfloat_pair_theory.proofs.pairs.PairBits.{pair_encoded_once}
+use Rattle.apfloat_base.proofs.Once.{OnceWith, conversion_once, fused_sum_once}
+use Rattle.apfloat_pair_theory.proofs.calls.PairsDetermined.{pairs_determined}
 use Rattle.apfloat_c.specs.declared.data.Answer.{Answer}
 use Rattle.apfloat_c.specs.declared.data.Halves.{Halves}
+use Rattle.dispatch.specs.declared.BuiltInFormat.TheVariants.{Half, Single, Double, Quad, BFloat, E5M2, E4M3FN, E4M3FNUZ, X87}
+use Rattle.dispatch.specs.declared.BuiltInKind.{BuiltInKind}
+use Rattle.dispatch.specs.declared.BuiltInKind.TheVariants.{Format, Pairs}
+use Rattle.dispatch.specs.BuiltIns.{kind_of}
+use Rattle.dispatch.specs.Once.{AreDetermined}
+use Rattle.dispatch.specs.Relations.{Relations, in_format, in_pairs}
 use Rattle.dispatch.specs.ValueKinds.{Kind, of_format, of_pairs, value_of}
-use Rattle.dispatch.proofs.OfTwoOnce.{of_two_once, pair_of_two_once}
-use Rattle.apfloat_c.specs.declared.call.Call.{Call}
-use Rattle.apfloat_c.specs.declared.call.Call.TheVariants.{OfTwo, FusedSum, FromUnsigned, FromSigned, ToUnsigned, ToSigned, RoundToIntegral, Scaling, Fraction, Exponent, NextUp, NextDown, Comparison, Class, Conversion, Text}
-use Rattle.apfloat_c.specs.declared.codes.Format.{Format}
-use Rattle.apfloat_c.specs.declared.codes.Format.TheVariants.{Half, Single, Double, Quad, BFloat, E5M2, E4M3FN, E4M3FNUZ, X87, DoubleDouble}
-use Rattle.apfloat_c.specs.Requests.{asked, fault_in, kind_of, without}
-use Rattle.apfloat_c.specs.Answers.{IsAnswer, IsAnswerOf, IsConverted, IsConvertedIn, IsConvertedTo, IsFractionOf, IsNumber, IsPairAnswer, IsPairFractionOf, IsPairUntold, IsPairValue, IsPairWritten, IsReply, IsSigned, IsUnsigned, IsUntold, IsValue, IsWritten, one_if, whole}
+use Rattle.dispatch.proofs.OfTwoOnce.{of_two_once}
+use Rattle.apfloat_c.specs.declared.exported_call.ExportedCall.{ExportedCall}
+use Rattle.apfloat_c.specs.declared.exported_call.ExportedCall.TheVariants.{OfTwo, FusedSum, FromUnsigned, FromSigned, ToUnsigned, ToSigned, RoundToIntegral, Scaling, Fraction, Exponent, NextUp, NextDown, Comparison, Class, Conversion, Text}
+use Rattle.apfloat_c.specs.KnownCalls.{asked, fault_in, without}
+use Rattle.apfloat_c.specs.Answers.{IsAnswerOf, IsConverted, IsConvertedInto, IsConvertedTo, IsFractionOf, IsNumber, IsReply, IsSigned, IsTypeAnswer, IsUnsigned, IsUntold, IsValue, IsWritten, one_if, whole}
 
 -- two answers with the same number of 128 bits, the same flags, and the same other number
 pub record SameAnswer (first second : Answer) : Type 0 where
@@ -43,23 +45,23 @@ OnceAnswer Holds = (first second : Answer) → Holds first → Holds second → 
 -- ---- answers without a value
 
 -- a relation with one answer leaves one, be it a whole number
-unsigned_once : (Holds : ℕ → ℕ → Bool → Type 0) → OnceWhole Holds → OnceAnswer (IsUnsigned Holds)
+unsigned_once : (Holds : StatusAnd ℕ → Bool → Type 0) → DeterminesBoth Holds → OnceAnswer (IsUnsigned Holds)
 unsigned_once Holds once a b x y =
-    let same = once (whole a.bits) (whole b.bits) a.status b.status x.is_exact y.is_exact x.holds y.holds in
+    let same = once x.given y.given x.is_exact y.is_exact x.holds y.holds in
     record {
-      bits = same.0;
-      status = same.1;
-      number = x.number_is ∙ ap one_if same.2 ∙ sym y.number_is;
+      bits = x.bits_are ∙ ap (λ (g : StatusAnd ℕ). g.value) same.0 ∙ sym y.bits_are;
+      status = x.status_is ∙ ap (λ (g : StatusAnd ℕ). bits_of g.status) same.0 ∙ sym y.status_is;
+      number = x.number_is ∙ ap one_if same.1 ∙ sym y.number_is;
     }
 
 -- one with a sign
-signed_once : (Holds : ℤ → ℕ → Bool → Type 0) → OnceWhole Holds → OnceAnswer (IsSigned Holds)
+signed_once : (Holds : StatusAnd ℤ → Bool → Type 0) → DeterminesBoth Holds → OnceAnswer (IsSigned Holds)
 signed_once Holds once a b x y =
-    let same = once x.integer y.integer a.status b.status x.is_exact y.is_exact x.holds y.holds in
+    let same = once x.given y.given x.is_exact y.is_exact x.holds y.holds in
     record {
-      bits = x.bits_are ∙ ap (cast_unsigned w128) same.0 ∙ sym y.bits_are;
-      status = same.1;
-      number = x.number_is ∙ ap one_if same.2 ∙ sym y.number_is;
+      bits = x.bits_are ∙ ap (λ (g : StatusAnd ℤ). cast_unsigned w128 g.value) same.0 ∙ sym y.bits_are;
+      status = x.status_is ∙ ap (λ (g : StatusAnd ℤ). bits_of g.status) same.0 ∙ sym y.status_is;
+      number = x.number_is ∙ ap one_if same.1 ∙ sym y.number_is;
     }
 
 -- a number alone
@@ -74,192 +76,132 @@ number_once Holds once a b x y = record {
 given_once : (given : ℤ) → OnceAnswer (IsNumber (λ (n : ℤ). n ≡ given))
 given_once given = number_once (λ (n : ℤ). n ≡ given) (λ m n h k. h ∙ sym k)
 
--- ---- in a format that has bits
+-- ---- values of a type
 
-pub record HasLaw (constants : Constants) : Type 0 where
-  pub law : IsLawful constants
-  pub wide : constants.precision < constants.bits
-
-module _ (constants : Constants) (has : HasLaw constants) where
-  written_once : (value other : Datum) (s t : ℕ) (i j : ℤ) (first second : Answer) → value ≡ other → s ≡ t → i ≡ j
-      → IsWritten constants value s i first → IsWritten constants other t j second → SameAnswer first second
-  written_once v w s t i j a b value_is status_is number_is x y =
-      let encodes = λ (d : Datum). IsEncodedBy (format_with constants) (layout_with constants) (whole a.bits) d in
+module _ {A : Type 0} (of_type : Relations A) (inverts : A → Option A → Type 0) (mode : Round) (precision width : ℕ)
+    (wide : precision < width) (once : AreDetermined of_type inverts mode precision width) where
+  written_once : (given other : StatusAnd A) (i j : ℤ) (first second : Answer) → given ≡ other → i ≡ j
+      → IsWritten of_type given i first → IsWritten of_type other j second → SameAnswer first second
+  written_once given other i j a b given_is number_is x y =
+      let encodes = λ (d : StatusAnd A). of_type.writes_bits d.value (whole a.bits) in
       record {
-        bits = encoded_once (format_with constants) (layout_with constants) w (whole a.bits) (whole b.bits)
-            (lawful_interchange constants has.law has.wide) (subst encodes value_is x.is_encoded) y.is_encoded;
-        status = x.status_is ∙ status_is ∙ sym y.status_is;
+        bits = once.bits wide other.value (whole a.bits) (whole b.bits) (subst encodes given_is x.is_encoded)
+            y.is_encoded;
+        status = x.status_is ∙ ap (λ (d : StatusAnd A). bits_of d.status) given_is ∙ sym y.status_is;
         number = x.number_is ∙ number_is ∙ sym y.number_is;
       }
 
   -- a value with its status
-  value_once : (Holds : Datum → ℕ → Type 0) → Once Holds → OnceAnswer (IsValue constants Holds)
-  value_once Holds once a b x y =
-      let same = once x.value y.value x.status y.status x.holds y.holds in
-      written_once x.value y.value x.status y.status _ _ a b same.0 same.1 refl x.is_written y.is_written
+  value_once : (Holds : StatusAnd A → Type 0) → Determines Holds → OnceAnswer (IsValue of_type Holds)
+  value_once Holds determines a b x y =
+      let same = determines x.given y.given x.holds y.holds in
+      written_once x.given y.given _ _ a b same refl x.is_written y.is_written
 
   -- a value alone
-  untold_once : (Holds : Datum → Type 0) → Determines Holds → OnceAnswer (IsUntold constants Holds)
-  untold_once Holds once a b x y =
-      let same = once x.value y.value x.holds y.holds in
-      written_once x.value y.value _ _ _ _ a b same refl refl x.is_written y.is_written
+  untold_once : (Holds : A → Type 0) → Determines Holds → OnceAnswer (IsUntold of_type Holds)
+  untold_once Holds determines a b x y =
+      let same = determines x.given.value y.given.value x.holds y.holds in
+      let given = same_answer x.given y.given same (x.no_flags ∙ sym y.no_flags) in
+      written_once x.given y.given _ _ a b given refl x.is_written y.is_written
 
   -- a fraction and its exponent
-  fraction_once : (Holds : Datum → ℤ → Type 0) → DeterminesBoth Holds → OnceAnswer (IsFractionOf constants Holds)
-  fraction_once Holds once a b x y =
-      let same = once x.value y.value x.exponent y.exponent x.holds y.holds in
-      written_once x.value y.value _ _ x.exponent y.exponent a b same.0 refl same.1 x.is_written y.is_written
+  fraction_once : (Holds : A → ℤ → Type 0) → DeterminesBoth Holds → OnceAnswer (IsFractionOf of_type Holds)
+  fraction_once Holds determines a b x y =
+      let same = determines x.given.value y.given.value x.exponent y.exponent x.holds y.holds in
+      let given = same_answer x.given y.given same.0 (x.no_flags ∙ sym y.no_flags) in
+      written_once x.given y.given x.exponent y.exponent a b given same.1 x.is_written y.is_written
 
-  -- a value in another format
-  converted_once : (Holds : Datum → ℕ → Bool → Type 0) → OnceWith Holds → OnceAnswer (IsConvertedTo constants Holds)
-  converted_once Holds once a b x y =
-      let same = once x.value y.value x.status y.status x.loses y.loses x.holds y.holds in
-      written_once x.value y.value x.status y.status _ _ a b same.0 same.1 (ap one_if same.2) x.is_written
-      y.is_written
-
--- a value has one unsigned whole number of a width
-to_unsigned_once : (constants : Constants) (mode : Round) (width : ℕ) (x : Datum)
-    → OnceWhole (IsToUnsigned (format_with constants) mode width x)
-to_unsigned_once constants mode width x m n r s a b h k =
-    let same = whole_once (to_unsigned (format_with constants) mode width x) (pos m) (pos n) r s a b h k in
-    (ap unsigned_abs same.0, same.1, same.2)
-
--- and one signed whole number
-to_signed_once : (constants : Constants) (mode : Round) (width : ℕ) (x : Datum)
-    → OnceWhole (IsToSigned (format_with constants) mode width x)
-to_signed_once constants mode width x m n r s a b h k =
-    whole_once (to_signed (format_with constants) mode width x) m n r s a b h k
+  -- a call on values of a type has one answer
+  type_once : (call : ExportedCall) → OnceAnswer (IsTypeAnswer of_type mode call)
+  type_once (OfTwo arithmetic x y) =
+      value_once _ (of_two_once of_type inverts mode precision width once arithmetic _ _)
+  type_once (FusedSum x y z) = λ a b h k. absurd h
+  type_once (FromUnsigned number) = value_once _ (once.of_unsigned number)
+  type_once (FromSigned number) = value_once _ (once.of_signed number)
+  type_once (ToUnsigned x bits) = unsigned_once _ (once.to_unsigned _ bits)
+  type_once (ToSigned x bits) = signed_once _ (once.to_signed _ bits)
+  type_once (RoundToIntegral x) = value_once _ (once.integral _)
+  type_once (Scaling x power) = untold_once _ (once.scaled _ power)
+  type_once (Fraction x) = fraction_once _ (once.fraction _)
+  type_once (Exponent x) = number_once _ (once.exponent _)
+  type_once (NextUp x) = value_once _ (once.above _)
+  type_once (NextDown x) = value_once _ (once.below _)
+  type_once (Comparison x y) = given_once _
+  type_once (Class x) = given_once _
+  type_once (Conversion x target) = λ a b h k. absurd h
+  type_once (Text text) = value_once _ (λ a b h k. once.reading text.now (Ok a) (Ok b) h k)
 
 -- ---- the kinds of the codes
+
+-- a lawful format, whose encoding is wider than its precision
+pub record HasLaw (constants : Constants) : Type 0 where
+  pub law : IsLawful constants
+  pub wide : constants.precision < constants.bits
 
 abbrev pub KindHasLaw : Kind → Type 0
 KindHasLaw (of_format c) = HasLaw c
 KindHasLaw of_pairs = ⊤
 
--- each format of the codes is lawful, and its encoding wider than its precision
-kind_law : (known : Format) → KindHasLaw (kind_of known)
-kind_law Half = record { law = lawful_from_test half_constants refl; wide = lit< tt }
-kind_law Single = record { law = lawful_from_test single_constants refl; wide = lit< tt }
-kind_law Double = record { law = lawful_from_test double_constants refl; wide = lit< tt }
-kind_law Quad = record { law = lawful_from_test quad_constants refl; wide = lit< tt }
-kind_law BFloat = record { law = lawful_from_test bfloat_constants refl; wide = lit< tt }
-kind_law E5M2 = record { law = lawful_from_test e5m2_constants refl; wide = lit< tt }
-kind_law E4M3FN = record { law = lawful_from_test e4m3fn_constants refl; wide = lit< tt }
-kind_law E4M3FNUZ = record { law = lawful_from_test e4m3fnuz_constants refl; wide = lit< tt }
-kind_law X87 = record { law = lawful_from_test x87_constants refl; wide = lit< tt }
-kind_law DoubleDouble = tt
+-- each format of the codes is one
+kind_law : (known : BuiltInKind) → KindHasLaw (kind_of known)
+kind_law (Format Half) = record { law = lawful_from_test half_constants refl; wide = lit< tt }
+kind_law (Format Single) = record { law = lawful_from_test single_constants refl; wide = lit< tt }
+kind_law (Format Double) = record { law = lawful_from_test double_constants refl; wide = lit< tt }
+kind_law (Format Quad) = record { law = lawful_from_test quad_constants refl; wide = lit< tt }
+kind_law (Format BFloat) = record { law = lawful_from_test bfloat_constants refl; wide = lit< tt }
+kind_law (Format E5M2) = record { law = lawful_from_test e5m2_constants refl; wide = lit< tt }
+kind_law (Format E4M3FN) = record { law = lawful_from_test e4m3fn_constants refl; wide = lit< tt }
+kind_law (Format E4M3FNUZ) = record { law = lawful_from_test e4m3fnuz_constants refl; wide = lit< tt }
+kind_law (Format X87) = record { law = lawful_from_test x87_constants refl; wide = lit< tt }
+kind_law Pairs = tt
 
--- ---- conversions
+-- ---- in a format
+
+module _ (constants : Constants) (has : HasLaw constants) (mode : Round) where
+  format_determined : AreDetermined (in_format constants) (IsExactInverse (format_with constants)) mode
+      constants.precision constants.bits
+  format_determined =
+      determined (format_with constants) (layout_with constants) constants.precision constants.bits mode
+      (scale_some constants has.law) (lawful_interchange constants has.law)
+
+  -- a value in another format
+  converted_once : (Holds : Datum → ℕ → Bool → Type 0) → OnceWith Holds → OnceAnswer (IsConvertedTo constants Holds)
+  converted_once Holds determines a b x y =
+      let same = determines x.given.value y.given.value (bits_of x.given.status) (bits_of y.given.status) x.loses
+      y.loses x.holds y.holds in
+      written_once (in_format constants) (IsExactInverse (format_with constants)) mode constants.precision
+      constants.bits has.wide format_determined x.given y.given _ _ a b
+      (same_answer x.given y.given same.0 same.1) (ap one_if same.2) x.is_written y.is_written
 
 -- a conversion to a known kind has at most one answer, and none to pairs
-converted_in_once : (constants : Constants) (mode : Round) (x : ℕ) (target : Kind) → KindHasLaw target
-    → OnceAnswer (IsConvertedIn constants mode x target)
-converted_in_once constants mode x (of_format d) has =
-    converted_once d has _ (conversion_once (format_with constants) (format_with d) mode (value_of constants x))
-converted_in_once constants mode x of_pairs has = λ a b h k. absurd h
+converted_into_once : (constants : Constants) (mode : Round) (x : Datum) (target : Kind) → KindHasLaw target
+    → OnceAnswer (IsConvertedInto constants mode x target)
+converted_into_once constants mode x (of_format d) has =
+    converted_once d has mode _ (conversion_once (format_with constants) (format_with d) mode x)
+converted_into_once constants mode x of_pairs has = λ a b h k. absurd h
 
 -- and so has one whose target may be an unknown code
-conversion_answer_once : (constants : Constants) (mode : Round) (x : ℕ) (target : Option Format)
+conversion_answer_once : (constants : Constants) (mode : Round) (x : Datum) (target : Option BuiltInKind)
     → OnceAnswer (IsConverted constants mode x target)
 conversion_answer_once constants mode x None = λ a b h k. absurd h
-conversion_answer_once constants mode x (Some target) = converted_in_once constants mode x (kind_of target)
-    (kind_law target)
-
--- ---- one answer in a format
-
--- a call on values of a format has one answer
-answer_once : (constants : Constants) → HasLaw constants → (mode : Round) (call : Call)
-    → OnceAnswer (IsAnswer constants mode call)
-answer_once constants has mode (OfTwo arithmetic x y) =
-    value_once constants has _ (of_two_once arithmetic (format_with constants) mode (value_of constants x)
-    (value_of constants y))
-answer_once constants has mode (FusedSum x y z) =
-    value_once constants has _ (fused_sum_once (format_with constants) mode (value_of constants x)
-    (value_of constants y) (value_of constants z))
-answer_once constants has mode (FromUnsigned number) =
-    value_once constants has _ (from_unsigned_once (format_with constants) mode number)
-answer_once constants has mode (FromSigned number) =
-    value_once constants has _ (from_signed_once (format_with constants) mode number)
-answer_once constants has mode (ToUnsigned x width) =
-    unsigned_once _ (to_unsigned_once constants mode width (value_of constants x))
-answer_once constants has mode (ToSigned x width) =
-    signed_once _ (to_signed_once constants mode width (value_of constants x))
-answer_once constants has mode (RoundToIntegral x) =
-    value_once constants has _ (round_to_integral_once (format_with constants) mode (value_of constants x))
-answer_once constants has mode (Scaling x power) =
-    untold_once constants has _ (scaling_once (format_with constants) mode (value_of constants x) power)
-answer_once constants has mode (Fraction x) =
-    fraction_once constants has _ (frexp_once (format_with constants) (value_of constants x)
-    (scale_some constants has.law))
-answer_once constants has mode (Exponent x) =
-    number_once _ (exponent_once (format_with constants) (value_of constants x))
-answer_once constants has mode (NextUp x) = value_once constants has _ (next_up_once (format_with constants)
-    (value_of constants x))
-answer_once constants has mode (NextDown x) =
-    value_once constants has _ (next_down_once (format_with constants) (value_of constants x))
-answer_once constants has mode (Comparison x y) = given_once _
-answer_once constants has mode (Class x) = given_once _
-answer_once constants has mode (Conversion x target) = conversion_answer_once constants mode x target
-answer_once constants has mode (Text text) = value_once constants has _
-    (reading_once (format_with constants) mode text.now)
-
--- ---- one answer of pairs
-
--- pairs that are equal are written as one answer
-pair_written_once : (value other : Pair) (s t : ℕ) (i j : ℤ) (first second : Answer) → value ≡ other → s ≡ t → i ≡ j
-    → IsPairWritten value s i first → IsPairWritten other t j second → SameAnswer first second
-pair_written_once v w s t i j a b value_is status_is number_is x y = record {
-  bits = pair_encoded_once w (whole a.bits) (whole b.bits)
-      (subst (λ (p : Pair). IsPairEncodedBy (whole a.bits) p) value_is x.is_encoded) y.is_encoded;
-  status = x.status_is ∙ status_is ∙ sym y.status_is;
-  number = x.number_is ∙ number_is ∙ sym y.number_is;
-}
-
--- a pair with its status
-pair_value_once : (Holds : Pair → ℕ → Type 0) → OncePair Holds → OnceAnswer (IsPairValue Holds)
-pair_value_once Holds once a b x y =
-    let same = once x.value y.value x.status y.status x.holds y.holds in
-    pair_written_once x.value y.value x.status y.status _ _ a b same.0 same.1 refl x.is_written y.is_written
-
--- a pair alone
-pair_untold_once : (Holds : Pair → Type 0) → Determines Holds → OnceAnswer (IsPairUntold Holds)
-pair_untold_once Holds once a b x y =
-    let same = once x.value y.value x.holds y.holds in
-    pair_written_once x.value y.value _ _ _ _ a b same refl refl x.is_written y.is_written
-
--- a fraction of a pair and its exponent
-pair_fraction_answer_once : (Holds : Pair → ℤ → Type 0) → DeterminesBoth Holds
-    → OnceAnswer (IsPairFractionOf Holds)
-pair_fraction_answer_once Holds once a b x y =
-    let same = once x.value y.value x.exponent y.exponent x.holds y.holds in
-    pair_written_once x.value y.value _ _ x.exponent y.exponent a b same.0 refl same.1 x.is_written y.is_written
-
--- a call on pairs has one answer
-pair_answer_once : (mode : Round) (call : Call) → OnceAnswer (IsPairAnswer mode call)
-pair_answer_once mode (OfTwo arithmetic x y) =
-    pair_value_once _ (pair_of_two_once arithmetic mode (pair_of x) (pair_of y))
-pair_answer_once mode (FusedSum x y z) = λ a b h k. absurd h
-pair_answer_once mode (FromUnsigned number) = pair_value_once _ (pair_from_unsigned_once mode number)
-pair_answer_once mode (FromSigned number) = pair_value_once _ (pair_from_signed_once mode number)
-pair_answer_once mode (ToUnsigned x width) = unsigned_once _ (pair_to_unsigned_once mode width (pair_of x))
-pair_answer_once mode (ToSigned x width) = signed_once _ (pair_to_signed_once mode width (pair_of x))
-pair_answer_once mode (RoundToIntegral x) = pair_value_once _ (pair_round_to_integral_once mode (pair_of x))
-pair_answer_once mode (Scaling x power) = pair_untold_once _ (pair_scaling_once mode (pair_of x) power)
-pair_answer_once mode (Fraction x) = pair_fraction_answer_once _ (pair_fraction_once mode (pair_of x))
-pair_answer_once mode (Exponent x) = number_once _ (pair_ilogb_once (pair_of x))
-pair_answer_once mode (NextUp x) = pair_value_once _ (pair_next_up_once (pair_of x))
-pair_answer_once mode (NextDown x) = pair_value_once _ (pair_next_down_once (pair_of x))
-pair_answer_once mode (Comparison x y) = given_once _
-pair_answer_once mode (Class x) = given_once _
-pair_answer_once mode (Conversion x target) = λ a b h k. absurd h
-pair_answer_once mode (Text text) = pair_value_once _ (pair_reading_once mode text.now)
+conversion_answer_once constants mode x (Some target) =
+    converted_into_once constants mode x (kind_of target) (kind_law target)
 
 -- ---- one reply
 
 -- a call on values of any kind has one answer
-kind_once : (kind : Kind) → KindHasLaw kind → (mode : Round) (call : Call) → OnceAnswer (IsAnswerOf kind mode call)
-kind_once (of_format c) has mode call = answer_once c has mode call
-kind_once of_pairs has mode call = pair_answer_once mode call
+kind_once : (kind : Kind) → KindHasLaw kind → (mode : Round) (call : ExportedCall)
+    → OnceAnswer (IsAnswerOf kind mode call)
+kind_once (of_format c) has mode (FusedSum x y z) =
+    value_once (in_format c) (IsExactInverse (format_with c)) mode c.precision c.bits has.wide
+    (format_determined c has mode) _
+    (gives_once _ (fused_sum_once (format_with c) mode (value_of c x) (value_of c y) (value_of c z)))
+kind_once (of_format c) has mode (Conversion x target) = conversion_answer_once c mode (value_of c x) target
+kind_once (of_format c) has mode call =
+    type_once (in_format c) (IsExactInverse (format_with c)) mode c.precision c.bits has.wide
+    (format_determined c has mode) call
+kind_once of_pairs has mode call =
+    type_once in_pairs IsPairExactInverse mode 106 128 (lit< tt) (pairs_determined mode) call
 
 -- an answer that is left as it was
 unchanged : (old first second : Answer) → first ≡ old → second ≡ old → SameAnswer first second
@@ -272,7 +214,7 @@ unchanged old a b a_is b_is =
     }
 
 -- and one code
-without_once : (fault : Option ℕ) (known : Format) (mode : Round) (call : Call) (old first second : Answer)
+without_once : (fault : Option ℕ) (known : BuiltInKind) (mode : Round) (call : ExportedCall) (old first second : Answer)
     (code other : ℕ)
     → IsReply (without fault (record { kind = kind_of known; mode = mode; call = call })) old first code
     → IsReply (without fault (record { kind = kind_of known; mode = mode; call = call })) old second other
@@ -283,7 +225,7 @@ without_once (Some fault) known mode call old a b code other x y =
     (x.0 ∙ sym y.0, unchanged old a b x.1 y.1)
 
 -- two replies to the same arguments are one
-pub reply_once : (format : Option Format) (mode : Option Round) (call : Call) (old first second : Answer)
+pub reply_once : (format : Option BuiltInKind) (mode : Option Round) (call : ExportedCall) (old first second : Answer)
     (code other : ℕ)
     → IsReply (asked format mode call) old first code → IsReply (asked format mode call) old second other
     → (code ≡ other) × SameAnswer first second
@@ -324,9 +266,9 @@ halves_once a b a_fits b_fits same =
     halves_of a b (low_once a b high same) high
 
 -- two answers as C holds them are equal where they say the same
-pub same_answer : (first second : Answer) → first.bits.low < 2 ^ 64 → second.bits.low < 2 ^ 64
+pub same_bytes : (first second : Answer) → first.bits.low < 2 ^ 64 → second.bits.low < 2 ^ 64
     → SameAnswer first second → first ≡ second
-same_answer a b a_fits b_fits same =
+same_bytes a b a_fits b_fits same =
     ap (λ (h : Halves). record { bits = h; status = a.status; number = a.number })
     (halves_once a.bits b.bits a_fits b_fits same.bits)
     ∙ ap (λ (s : ℕ). record { bits = b.bits; status = s; number = a.number }) same.status

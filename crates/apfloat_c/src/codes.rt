@@ -1,26 +1,10 @@
-//! What codes stand for.
+//! Codes of errors, of orders and of classes.
 
 ghost use Rattle.std.specs.Prelude.{◌≡◌, ◌&&◌, nat_le};
 ghost use Rattle.apfloat_c.specs.Answers.{class_code, one_if, order_code};
-ghost use Rattle.apfloat_c.specs.Requests.{formats, found, modes};
 
-use rustc_apfloat::{Category, Round};
+use rustc_apfloat::Category;
 use std::cmp::Ordering;
-
-/// The kinds of values: those of the built-in formats that have bits, and pairs of doubles.
-#[derive(Clone, Copy)]
-pub enum Format {
-    Half,
-    Single,
-    Double,
-    Quad,
-    BFloat,
-    E5M2,
-    E4M3FN,
-    E4M3FNUZ,
-    X87,
-    DoubleDouble,
-}
 
 /// What an export returns where it answered.
 pub const ANSWERED: u32 = 0;
@@ -39,39 +23,6 @@ pub const WRONG_WIDTH: u32 = 4;
 
 /// The error of a text without a meaning.
 pub const REFUSED_TEXT: u32 = 5;
-
-/// The format of a code.
-pub fn format_of(code: u32) -> Option<Format>
-    ensures { result ≡ found formats code }
-{
-    match code {
-        1 => Some(Format::Half),
-        2 => Some(Format::Single),
-        3 => Some(Format::Double),
-        4 => Some(Format::Quad),
-        5 => Some(Format::BFloat),
-        6 => Some(Format::E5M2),
-        7 => Some(Format::E4M3FN),
-        8 => Some(Format::E4M3FNUZ),
-        9 => Some(Format::X87),
-        10 => Some(Format::DoubleDouble),
-        _ => None,
-    }
-}
-
-/// The rounding mode of a code.
-pub fn mode_of(code: u32) -> Option<Round>
-    ensures { result ≡ found modes code }
-{
-    match code {
-        0 => Some(Round::NearestTiesToEven),
-        1 => Some(Round::TowardPositive),
-        2 => Some(Round::TowardNegative),
-        3 => Some(Round::TowardZero),
-        4 => Some(Round::NearestTiesToAway),
-        _ => None,
-    }
-}
 
 /// Whether a whole number can have this width, which is at least so much.
 pub fn is_width(least: u32, width: u32) -> bool

@@ -4,15 +4,16 @@ ghost use Rattle.std.specs.Prelude.{Some};
 ghost use Rattle.std.specs.Int.{cast_signed, w128};
 ghost use Rattle.rustc_apfloat.specs.declared.Round.TheVariants.{NearestTiesToEven};
 ghost use Rattle.dispatch.specs.declared.Arithmetic.TheVariants.{Sum, Difference, Product, Quotient, NearestRemainder, TruncatedRemainder};
-ghost use Rattle.apfloat_c.specs.declared.call.Call.TheVariants.{OfTwo, FusedSum, FromUnsigned, FromSigned, ToUnsigned, ToSigned, RoundToIntegral, Scaling, Fraction, Exponent, NextUp, NextDown, Comparison, Class, Conversion, Text};
-ghost use Rattle.apfloat_c.specs.Requests.{asked, formats, found, modes};
+ghost use Rattle.apfloat_c.specs.declared.exported_call.ExportedCall.TheVariants.{OfTwo, FusedSum, FromUnsigned, FromSigned, ToUnsigned, ToSigned, RoundToIntegral, Scaling, Fraction, Exponent, NextUp, NextDown, Comparison, Class, Conversion, Text};
+ghost use Rattle.dispatch.specs.BuiltIns.{kind_coded};
+ghost use Rattle.dispatch.specs.Modes.{mode_coded};
+ghost use Rattle.apfloat_c.specs.KnownCalls.{asked};
 ghost use Rattle.apfloat_c.specs.Answers.{IsReply, whole};
 
 use crate::by_code::reply;
-use crate::call::Call;
-use crate::codes::{format_of, mode_of};
 use crate::data::{Answer, Halves};
-use dispatch::Arithmetic;
+use crate::exported_call::ExportedCall;
+use dispatch::{Arithmetic, BuiltInKind, mode_coded};
 use rustc_apfloat::Round;
 
 /// The sum of two values, rounded once.
@@ -25,13 +26,13 @@ pub extern "C" fn apfloat_add(
     answer: &mut Answer,
 ) -> u32
     ensures { let call = OfTwo Sum (whole x) (whole y) in
-        IsReply (asked (found formats format) (found modes mode) call)
+        IsReply (asked (kind_coded format) (mode_coded mode) call)
         answer.old answer.new result }
 {
     reply(
         format,
-        mode_of(mode),
-        Call::OfTwo(Arithmetic::Sum, x.number(), y.number()),
+        mode_coded(mode),
+        ExportedCall::OfTwo(Arithmetic::Sum, x.number(), y.number()),
         answer,
     )
 }
@@ -46,13 +47,13 @@ pub extern "C" fn apfloat_sub(
     answer: &mut Answer,
 ) -> u32
     ensures { let call = OfTwo Difference (whole x) (whole y) in
-        IsReply (asked (found formats format) (found modes mode) call)
+        IsReply (asked (kind_coded format) (mode_coded mode) call)
         answer.old answer.new result }
 {
     reply(
         format,
-        mode_of(mode),
-        Call::OfTwo(Arithmetic::Difference, x.number(), y.number()),
+        mode_coded(mode),
+        ExportedCall::OfTwo(Arithmetic::Difference, x.number(), y.number()),
         answer,
     )
 }
@@ -67,13 +68,13 @@ pub extern "C" fn apfloat_mul(
     answer: &mut Answer,
 ) -> u32
     ensures { let call = OfTwo Product (whole x) (whole y) in
-        IsReply (asked (found formats format) (found modes mode) call)
+        IsReply (asked (kind_coded format) (mode_coded mode) call)
         answer.old answer.new result }
 {
     reply(
         format,
-        mode_of(mode),
-        Call::OfTwo(Arithmetic::Product, x.number(), y.number()),
+        mode_coded(mode),
+        ExportedCall::OfTwo(Arithmetic::Product, x.number(), y.number()),
         answer,
     )
 }
@@ -88,13 +89,13 @@ pub extern "C" fn apfloat_div(
     answer: &mut Answer,
 ) -> u32
     ensures { let call = OfTwo Quotient (whole x) (whole y) in
-        IsReply (asked (found formats format) (found modes mode) call)
+        IsReply (asked (kind_coded format) (mode_coded mode) call)
         answer.old answer.new result }
 {
     reply(
         format,
-        mode_of(mode),
-        Call::OfTwo(Arithmetic::Quotient, x.number(), y.number()),
+        mode_coded(mode),
+        ExportedCall::OfTwo(Arithmetic::Quotient, x.number(), y.number()),
         answer,
     )
 }
@@ -103,13 +104,13 @@ pub extern "C" fn apfloat_div(
 #[unsafe(no_mangle)]
 pub extern "C" fn apfloat_rem(format: u32, x: Halves, y: Halves, answer: &mut Answer) -> u32
     ensures { let call = OfTwo NearestRemainder (whole x) (whole y) in
-        IsReply (asked (found formats format) (Some NearestTiesToEven) call)
+        IsReply (asked (kind_coded format) (Some NearestTiesToEven) call)
         answer.old answer.new result }
 {
     reply(
         format,
         Some(Round::NearestTiesToEven),
-        Call::OfTwo(Arithmetic::NearestRemainder, x.number(), y.number()),
+        ExportedCall::OfTwo(Arithmetic::NearestRemainder, x.number(), y.number()),
         answer,
     )
 }
@@ -118,13 +119,13 @@ pub extern "C" fn apfloat_rem(format: u32, x: Halves, y: Halves, answer: &mut An
 #[unsafe(no_mangle)]
 pub extern "C" fn apfloat_mod(format: u32, x: Halves, y: Halves, answer: &mut Answer) -> u32
     ensures { let call = OfTwo TruncatedRemainder (whole x) (whole y) in
-        IsReply (asked (found formats format) (Some NearestTiesToEven) call)
+        IsReply (asked (kind_coded format) (Some NearestTiesToEven) call)
         answer.old answer.new result }
 {
     reply(
         format,
         Some(Round::NearestTiesToEven),
-        Call::OfTwo(Arithmetic::TruncatedRemainder, x.number(), y.number()),
+        ExportedCall::OfTwo(Arithmetic::TruncatedRemainder, x.number(), y.number()),
         answer,
     )
 }
@@ -140,13 +141,13 @@ pub extern "C" fn apfloat_fma(
     answer: &mut Answer,
 ) -> u32
     ensures { let call = FusedSum (whole x) (whole y) (whole z) in
-        IsReply (asked (found formats format) (found modes mode) call)
+        IsReply (asked (kind_coded format) (mode_coded mode) call)
         answer.old answer.new result }
 {
     reply(
         format,
-        mode_of(mode),
-        Call::FusedSum(x.number(), y.number(), z.number()),
+        mode_coded(mode),
+        ExportedCall::FusedSum(x.number(), y.number(), z.number()),
         answer,
     )
 }
@@ -160,14 +161,14 @@ pub extern "C" fn apfloat_convert(
     x: Halves,
     answer: &mut Answer,
 ) -> u32
-    ensures { let call = Conversion (whole x) (found formats to) in
-        IsReply (asked (found formats format) (found modes mode) call)
+    ensures { let call = Conversion (whole x) (kind_coded to) in
+        IsReply (asked (kind_coded format) (mode_coded mode) call)
         answer.old answer.new result }
 {
     reply(
         format,
-        mode_of(mode),
-        Call::Conversion(x.number(), format_of(to)),
+        mode_coded(mode),
+        ExportedCall::Conversion(x.number(), BuiltInKind::coded(to)),
         answer,
     )
 }
@@ -181,13 +182,13 @@ pub extern "C" fn apfloat_from_u128(
     answer: &mut Answer,
 ) -> u32
     ensures { let call = FromUnsigned (whole number) in
-        IsReply (asked (found formats format) (found modes mode) call)
+        IsReply (asked (kind_coded format) (mode_coded mode) call)
         answer.old answer.new result }
 {
     reply(
         format,
-        mode_of(mode),
-        Call::FromUnsigned(number.number()),
+        mode_coded(mode),
+        ExportedCall::FromUnsigned(number.number()),
         answer,
     )
 }
@@ -201,13 +202,13 @@ pub extern "C" fn apfloat_from_i128(
     answer: &mut Answer,
 ) -> u32
     ensures { let call = FromSigned (cast_signed w128 (whole number)) in
-        IsReply (asked (found formats format) (found modes mode) call)
+        IsReply (asked (kind_coded format) (mode_coded mode) call)
         answer.old answer.new result }
 {
     reply(
         format,
-        mode_of(mode),
-        Call::FromSigned(number.number().cast_signed()),
+        mode_coded(mode),
+        ExportedCall::FromSigned(number.number().cast_signed()),
         answer,
     )
 }
@@ -223,13 +224,13 @@ pub extern "C" fn apfloat_to_u128(
     answer: &mut Answer,
 ) -> u32
     ensures { let call = ToUnsigned (whole x) width in
-        IsReply (asked (found formats format) (found modes mode) call)
+        IsReply (asked (kind_coded format) (mode_coded mode) call)
         answer.old answer.new result }
 {
     reply(
         format,
-        mode_of(mode),
-        Call::ToUnsigned(x.number(), width),
+        mode_coded(mode),
+        ExportedCall::ToUnsigned(x.number(), width),
         answer,
     )
 }
@@ -245,13 +246,13 @@ pub extern "C" fn apfloat_to_i128(
     answer: &mut Answer,
 ) -> u32
     ensures { let call = ToSigned (whole x) width in
-        IsReply (asked (found formats format) (found modes mode) call)
+        IsReply (asked (kind_coded format) (mode_coded mode) call)
         answer.old answer.new result }
 {
     reply(
         format,
-        mode_of(mode),
-        Call::ToSigned(x.number(), width),
+        mode_coded(mode),
+        ExportedCall::ToSigned(x.number(), width),
         answer,
     )
 }
@@ -265,13 +266,13 @@ pub extern "C" fn apfloat_round_to_integral(
     answer: &mut Answer,
 ) -> u32
     ensures { let call = RoundToIntegral (whole x) in
-        IsReply (asked (found formats format) (found modes mode) call)
+        IsReply (asked (kind_coded format) (mode_coded mode) call)
         answer.old answer.new result }
 {
     reply(
         format,
-        mode_of(mode),
-        Call::RoundToIntegral(x.number()),
+        mode_coded(mode),
+        ExportedCall::RoundToIntegral(x.number()),
         answer,
     )
 }
@@ -286,13 +287,13 @@ pub extern "C" fn apfloat_scalbn(
     answer: &mut Answer,
 ) -> u32
     ensures { let call = Scaling (whole x) power in
-        IsReply (asked (found formats format) (found modes mode) call)
+        IsReply (asked (kind_coded format) (mode_coded mode) call)
         answer.old answer.new result }
 {
     reply(
         format,
-        mode_of(mode),
-        Call::Scaling(x.number(), power),
+        mode_coded(mode),
+        ExportedCall::Scaling(x.number(), power),
         answer,
     )
 }
@@ -301,13 +302,13 @@ pub extern "C" fn apfloat_scalbn(
 #[unsafe(no_mangle)]
 pub extern "C" fn apfloat_ilogb(format: u32, x: Halves, answer: &mut Answer) -> u32
     ensures { let call = Exponent (whole x) in
-        IsReply (asked (found formats format) (Some NearestTiesToEven) call)
+        IsReply (asked (kind_coded format) (Some NearestTiesToEven) call)
         answer.old answer.new result }
 {
     reply(
         format,
         Some(Round::NearestTiesToEven),
-        Call::Exponent(x.number()),
+        ExportedCall::Exponent(x.number()),
         answer,
     )
 }
@@ -316,23 +317,28 @@ pub extern "C" fn apfloat_ilogb(format: u32, x: Halves, answer: &mut Answer) -> 
 #[unsafe(no_mangle)]
 pub extern "C" fn apfloat_frexp(format: u32, mode: u32, x: Halves, answer: &mut Answer) -> u32
     ensures { let call = Fraction (whole x) in
-        IsReply (asked (found formats format) (found modes mode) call)
+        IsReply (asked (kind_coded format) (mode_coded mode) call)
         answer.old answer.new result }
 {
-    reply(format, mode_of(mode), Call::Fraction(x.number()), answer)
+    reply(
+        format,
+        mode_coded(mode),
+        ExportedCall::Fraction(x.number()),
+        answer,
+    )
 }
 
 /// The least value above the operand.
 #[unsafe(no_mangle)]
 pub extern "C" fn apfloat_next_up(format: u32, x: Halves, answer: &mut Answer) -> u32
     ensures { let call = NextUp (whole x) in
-        IsReply (asked (found formats format) (Some NearestTiesToEven) call)
+        IsReply (asked (kind_coded format) (Some NearestTiesToEven) call)
         answer.old answer.new result }
 {
     reply(
         format,
         Some(Round::NearestTiesToEven),
-        Call::NextUp(x.number()),
+        ExportedCall::NextUp(x.number()),
         answer,
     )
 }
@@ -341,13 +347,13 @@ pub extern "C" fn apfloat_next_up(format: u32, x: Halves, answer: &mut Answer) -
 #[unsafe(no_mangle)]
 pub extern "C" fn apfloat_next_down(format: u32, x: Halves, answer: &mut Answer) -> u32
     ensures { let call = NextDown (whole x) in
-        IsReply (asked (found formats format) (Some NearestTiesToEven) call)
+        IsReply (asked (kind_coded format) (Some NearestTiesToEven) call)
         answer.old answer.new result }
 {
     reply(
         format,
         Some(Round::NearestTiesToEven),
-        Call::NextDown(x.number()),
+        ExportedCall::NextDown(x.number()),
         answer,
     )
 }
@@ -356,13 +362,13 @@ pub extern "C" fn apfloat_next_down(format: u32, x: Halves, answer: &mut Answer)
 #[unsafe(no_mangle)]
 pub extern "C" fn apfloat_compare(format: u32, x: Halves, y: Halves, answer: &mut Answer) -> u32
     ensures { let call = Comparison (whole x) (whole y) in
-        IsReply (asked (found formats format) (Some NearestTiesToEven) call)
+        IsReply (asked (kind_coded format) (Some NearestTiesToEven) call)
         answer.old answer.new result }
 {
     reply(
         format,
         Some(Round::NearestTiesToEven),
-        Call::Comparison(x.number(), y.number()),
+        ExportedCall::Comparison(x.number(), y.number()),
         answer,
     )
 }
@@ -371,13 +377,13 @@ pub extern "C" fn apfloat_compare(format: u32, x: Halves, y: Halves, answer: &mu
 #[unsafe(no_mangle)]
 pub extern "C" fn apfloat_classify(format: u32, x: Halves, answer: &mut Answer) -> u32
     ensures { let call = Class (whole x) in
-        IsReply (asked (found formats format) (Some NearestTiesToEven) call)
+        IsReply (asked (kind_coded format) (Some NearestTiesToEven) call)
         answer.old answer.new result }
 {
     reply(
         format,
         Some(Round::NearestTiesToEven),
-        Call::Class(x.number()),
+        ExportedCall::Class(x.number()),
         answer,
     )
 }
@@ -386,8 +392,8 @@ pub extern "C" fn apfloat_classify(format: u32, x: Halves, answer: &mut Answer) 
 #[unsafe(no_mangle)]
 pub extern "C" fn apfloat_parse(format: u32, mode: u32, text: &[u8], answer: &mut Answer) -> u32
     ensures { let call = Text text.entry in
-        IsReply (asked (found formats format) (found modes mode) call)
+        IsReply (asked (kind_coded format) (mode_coded mode) call)
         answer.old answer.new result }
 {
-    reply(format, mode_of(mode), Call::Text(text), answer)
+    reply(format, mode_coded(mode), ExportedCall::Text(text), answer)
 }

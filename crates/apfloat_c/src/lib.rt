@@ -4,13 +4,12 @@
 //! success, and an error code otherwise. It is total: it requires nothing of the contents of its arguments.
 #![tactic(auto)]
 
+mod answers;
 mod ascii;
 mod by_code;
-mod call;
 mod codes;
 mod data;
+mod exported_call;
 mod exports;
-mod format_answers;
-mod pair_answers;
 #[cfg(test)]
 mod tests;

@@ -1,11 +1,10 @@
-//! What can be asked of a format.
+//! What can be asked of a kind of values.
 
-use crate::codes::Format;
-use dispatch::Arithmetic;
+use dispatch::{Arithmetic, BuiltInKind};
 
 /// An operation with its operands, values by their bits.
 #[derive(Clone, Copy)]
-pub enum Call<'a> {
+pub enum ExportedCall<'a> {
     /// Of two values.
     OfTwo(Arithmetic, u128, u128),
     /// The product of the first two values plus the third, rounded once.
@@ -34,8 +33,8 @@ pub enum Call<'a> {
     Comparison(u128, u128),
     /// The class of a value.
     Class(u128),
-    /// The value in another format, if that is known.
-    Conversion(u128, Option<Format>),
+    /// The value in another kind, if that is known.
+    Conversion(u128, Option<BuiltInKind>),
     /// The value of a text.
     Text(&'a [u8]),
 }

@@ -1,0 +1,96 @@
+-- What a call asks for, or its error.
+use Rattle.std.specs.Prelude.{ℕ, Bool, ◌&&◌, nat_le, if◌then◌else◌, List, Option, is_none, Some, None, ok_or, Result, Ok, Err}
+use Rattle.rustc_apfloat.specs.declared.Round.{Round}
+use Rattle.std.specs.Char.{is_ascii}
+use Rattle.rustc_apfloat.specs.Digits.{every}
+use Rattle.rustc_apfloat.specs.Faults.{fault_of}
+use Rattle.dispatch.specs.declared.BuiltInKind.{BuiltInKind}
+use Rattle.dispatch.specs.declared.BuiltInKind.TheVariants.{Format, Pairs}
+use Rattle.dispatch.specs.BuiltIns.{kind_of}
+use Rattle.dispatch.specs.Limits.{fuses, multiplies}
+use Rattle.dispatch.specs.ValueKinds.{Kind, of_format, of_pairs}
+use Rattle.dispatch.specs.OfTwo.{has_operation}
+use Rattle.apfloat_c.specs.declared.exported_call.ExportedCall.{ExportedCall}
+use Rattle.apfloat_c.specs.declared.exported_call.ExportedCall.TheVariants.{OfTwo, FusedSum, ToUnsigned, ToSigned, Conversion, Text}
+
+-- ---- codes
+
+-- what a call returns
+abbrev pub answered : ℕ
+answered = 0
+
+abbrev pub unknown_format : ℕ
+unknown_format = 1
+
+abbrev pub unknown_mode : ℕ
+unknown_mode = 2
+
+abbrev pub no_such_operation : ℕ
+no_such_operation = 3
+
+abbrev pub wrong_width : ℕ
+wrong_width = 4
+
+abbrev pub refused_text : ℕ
+refused_text = 5
+
+-- ---- what a kind of values refuses
+
+abbrev pub unless : Bool → ℕ → Option ℕ
+unless holds error = if holds then None else Some error
+
+-- the least width of a whole number is 1, and with a sign 2
+abbrev pub width_fault : ℕ → ℕ → Option ℕ
+width_fault least width = unless (nat_le least width && nat_le width 128) wrong_width
+
+abbrev pub is_text : List ℕ → Bool
+is_text text = every is_ascii text && is_none (fault_of text)
+
+-- there is no conversion to pairs of doubles
+abbrev pub target_fault : Option BuiltInKind → Option ℕ
+target_fault None = Some unknown_format
+target_fault (Some Pairs) = Some no_such_operation
+target_fault (Some (Format target)) = None
+
+abbrev pub unknown_target : Option BuiltInKind → ℕ
+unknown_target None = unknown_format
+unknown_target (Some target) = no_such_operation
+
+-- what a type refuses, which has products or not; no type has the fused sum, and none is converted
+abbrev pub type_fault : Bool → ExportedCall → Option ℕ
+type_fault multiplies (OfTwo arithmetic x y) = unless (has_operation multiplies arithmetic) no_such_operation
+type_fault multiplies (FusedSum x y z) = Some no_such_operation
+type_fault multiplies (ToUnsigned x width) = width_fault 1 width
+type_fault multiplies (ToSigned x width) = width_fault 2 width
+type_fault multiplies (Conversion x target) = Some (unknown_target target)
+type_fault multiplies (Text text) = unless (is_text text.now) refused_text
+type_fault multiplies call = None
+
+-- formats may have the fused sum, and are converted to formats
+abbrev pub fault_in : Kind → ExportedCall → Option ℕ
+fault_in (of_format c) (FusedSum x y z) = unless (fuses (of_format c)) no_such_operation
+fault_in (of_format c) (Conversion x target) = target_fault target
+fault_in kind call = type_fault (multiplies kind) call
+
+-- ---- what is asked
+
+pub record KnownCall : Type 0 where
+  pub kind : Kind
+  pub mode : Round
+  pub call : ExportedCall
+
+infixl 10 ◌>>=◌
+abbrev pub ◌>>=◌ : {A B : Type 0} → Result A ℕ → (A → Result B ℕ) → Result B ℕ
+(Ok x) >>= next = next x
+(Err error) >>= next = Err error
+
+abbrev pub without : {A : Type 0} → Option ℕ → A → Result A ℕ
+without None x = Ok x
+without (Some fault) x = Err fault
+
+-- The faults in their order: the format, the mode, what the format refuses.
+abbrev pub asked : Option BuiltInKind → Option Round → ExportedCall → Result KnownCall ℕ
+asked format mode call =
+    ok_or format unknown_format >>= λ known. ok_or mode unknown_mode >>= λ rounding.
+    without (fault_in (kind_of known) call)
+    (record { kind = kind_of known; mode = rounding; call = call })
