@@ -206,8 +206,7 @@ fn names_failed_reads_and_writes(rt: HostRuntime) -> Result<(), Fail> {
     Ok(())
 }
 
-/// The values of binary16 that a block has besides 1: what each raises as a conversion to `e4m3fn`, and how many there
-/// are of it.
+/// Values of binary16 with different outcomes of their conversion to `e4m3fn`, and how many of each are in the stream.
 const RAISING: [([u8; 2], usize); 5] = [
     // 1.0625 is inexact.
     ([0x40, 0x3c], 2),

@@ -8,7 +8,7 @@ use Rattle.apfloat_base.proofs.general.MoreDigits.{digit_more, digit_fits}
 
 -- ---- reading, from the last byte down
 
--- the last bytes, so many, say the number
+-- the last bytes, from this place down, are those of the number
 pub record IsReadDown (bytes : List ℕ) (number place : ℕ) : Type 0 where
   pub below : number < 256 ^ place
   pub read : number ≡ number_of (drop (length bytes - place) bytes)
@@ -66,7 +66,7 @@ shifted first n more power wider byte told scale =
     let scaled_byte : wider * byte ≡ power * 256 * byte = ap (λ k. k * byte) scale in
     omega arith
 
--- a byte behind the others stands above them
+-- a byte after the others is more significant than they are
 number_of-push : (bytes : List ℕ) (byte : ℕ)
     → number_of (bytes ++ byte ∷ []) ≡ number_of bytes + 256 ^ length bytes * byte
 number_of-push [] byte = omega arith
@@ -76,7 +76,7 @@ number_of-push (first ∷ bytes) byte =
     shifted first (number_of bytes) (number_of (bytes ++ byte ∷ [])) (256 ^ length bytes) (256 ^ suc (length bytes))
     byte (number_of-push bytes byte) same
 
--- the first bytes, so many, and the rest above them say the number
+-- the bytes written so far, with the rest above them, are those of the number
 pub record IsWrittenUp (number rest place : ℕ) (bytes : List ℕ) : Type 0 where
   pub written : number_of (take place bytes) + 256 ^ place * rest ≡ number
 
@@ -96,7 +96,7 @@ cut n power wider rest number scale so_far =
     let joined : power * (rest % 256 + 256 * (rest / 256)) ≡ power * rest = ap (λ k. power * k) parts in
     omega arith
 
--- one more byte is written behind
+-- one more byte is written after them
 pub write_more : (number rest place : ℕ) (bytes : List ℕ) → place < length bytes → IsWrittenUp number rest place bytes
     → IsWrittenUp number (rest / 256) (place + 1) (set bytes place (rest % 256))
 write_more number rest place bytes within so_far =
@@ -112,14 +112,14 @@ write_more number rest place bytes within so_far =
     let last = cut (number_of (take place bytes)) (256 ^ place) (256 ^ (place + 1)) rest number more so_far.written in
     record { written = ap (λ k. k + 256 ^ (place + 1) * (rest / 256)) pushed ∙ last }
 
--- what is below a power and a number of times that power is none of it
+-- if a number plus a multiple of a power is below that power, the sum is the number
 none_left : (n power rest number : ℕ) → n + power * rest ≡ number → number < power → n ≡ number
 none_left n power zero number told small = omega arith
 none_left n power (suc rest) number told small =
     let more : power * suc rest ≡ power * rest + power = mul-suc power rest in
     absurd (omega arith)
 
--- all bytes are written, and stand for the number
+-- all bytes are written, and are those of the number
 pub write_to_end : (number rest place : ℕ) (bytes : List ℕ) → place ≡ length bytes → number < 256 ^ length bytes
     → IsWrittenUp number rest place bytes
     → number_of bytes ≡ number
@@ -130,7 +130,7 @@ write_to_end number rest place bytes all small so_far =
     let below : number < 256 ^ place = omega arith in
     ap number_of (sym whole) ∙ none_left (number_of (take place bytes)) (256 ^ place) rest number so_far.written below
 
--- ---- numbers of so many bits
+-- ---- numbers of a count of bits
 
 -- n bytes have as many values as 8 n bits
 bytes_of_bits : (n : ℕ) → 256 ^ n ≡ 2 ^ (8 * n)
@@ -141,7 +141,7 @@ bytes_of_bits (suc n) =
     ∙ sym (pow-add 2 (8 * n) 8)
     ∙ ap (λ k. 2 ^ k) (sym (mul-suc 8 n))
 
--- a number of so many bits fits as many bytes
+-- a number fits in bytes that have its bits
 pub fits : (number bits places : ℕ) → number < 2 ^ bits → bits ≤ 8 * places → number < 256 ^ places
 fits number bits places small room =
     let base : 0 < 2 = lit< tt in

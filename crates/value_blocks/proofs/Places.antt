@@ -100,7 +100,7 @@ last_of Holds source new now outcomes outcome index size same here =
     ap (slice_get (outcomes ++ outcome ∷ [])) (sym size) ∙ get_last outcomes outcome in
     subst Of (sym found) (subst At (sym same) here)
 
--- behind them stands none
+-- there is no outcome after the last
 none_of : (Holds : List ℕ → List ℕ → Outcome → Type 0) (source now : List ℕ) (outcomes : List Outcome) (k : ℕ)
     → length outcomes ≤ k
     → IfSome (slice_get outcomes k) (λ o. Holds source now o)

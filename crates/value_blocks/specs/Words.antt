@@ -1,6 +1,5 @@
 -- Conversions by words.
 use Rattle.std.specs.Prelude.{ℕ, List, Option, Some, None}
-use Rattle.rustc_apfloat.specs.declared.Round.{Round}
 use Rattle.dispatch.specs.declared.built_in.BuiltInFormat.{BuiltInFormat}
 use Rattle.dispatch.specs.BuiltIns.{kind_named, format_in}
 use Rattle.dispatch.specs.Modes.{mode_named}

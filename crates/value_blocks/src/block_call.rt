@@ -37,7 +37,7 @@ struct BlockCallFrom<'a, S: Semantics> {
     source: PhantomData<S>,
 }
 
-/// The counts of a block, and the buffer, which has its converted values in front.
+/// The counts of a block, and the buffer, which begins with its converted values.
 #[derive(Drop)]
 pub struct BlockAnswer {
     /// The counts.

@@ -3,7 +3,7 @@
 ghost use Rattle.std.specs.Prelude.{◌≡◌, ◌^◌, ◌<◌, ◌≤◌, length};
 ghost use Rattle.value_blocks.specs.Bytes.{number_of};
 
-/// The whole number that bytes stand for, lowest first.
+/// The whole number that the bytes encode, lowest first.
 #[inline]
 pub fn number_of(bytes: &[u8]) -> u128
     requires { length bytes.now ≤ 16 }
@@ -16,7 +16,7 @@ pub fn number_of(bytes: &[u8]) -> u128
     number
 }
 
-/// Writes a whole number as bytes, lowest first.
+/// Writes a whole number as bytes, lowest first, with zeros above it.
 #[inline]
 pub fn write_number(number: u128, bytes: &mut [u8])
     requires { number < 256 ^ length bytes.old }

@@ -90,12 +90,12 @@ impl Conversion {
     }
 }
 
-/// What came of a block.
+/// The outcome of converting a block.
 #[derive(Drop)]
 pub struct ConvertedBlock {
     /// The counts of its values.
     pub counts: Counts,
-    /// The buffer that was given, with the converted values in front.
+    /// The buffer that was given, which begins with the converted values.
     pub buffer: Vec<u8>,
     /// How many bytes they take.
     pub written: usize,

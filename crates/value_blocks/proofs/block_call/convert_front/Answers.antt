@@ -1,4 +1,4 @@
-use Rattle.std.proofs.Common.{◌≡◌, ◌*◌, length, sym, ap, refl, ◌∙◌}
+use Rattle.std.proofs.Common.{◌≡◌, ◌*◌, length, sym, refl, ◌∙◌}
 use Rattle.std.proofs.lemmas.List.{length-take-le, take_at}
 use Rattle.rustc_apfloat.specs.Types.{constants_of}
 use Rattle.value_blocks.specs.Values.{IsConvertedValue}
