@@ -1,5 +1,1 @@
-pub mod Bytes
-pub mod Outcomes
-pub mod Values
-pub mod Blocks
-pub mod FormatNames
+pub mod Statuses

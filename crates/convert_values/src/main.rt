@@ -8,13 +8,7 @@
 //! there is not enough memory for the buffers, and 4 if a read or a write failed.
 #![tactic(auto)]
 
-mod blocks;
-mod bytes;
-mod conversion;
-mod counts;
-mod format;
-mod one_value;
-mod request;
+mod job;
 mod run;
 mod stream;
 #[cfg(test)]

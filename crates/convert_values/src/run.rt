@@ -1,11 +1,14 @@
 //! Runs the program, and reports the outcome.
 
-use crate::counts::Counts;
-use crate::request::{Request, USAGE, requested};
+ghost use Rattle.std.specs.Prelude.{◌≡◌, IfOk};
+ghost use Rattle.convert_values.specs.Statuses.{failure_status, summary_status};
+
+use crate::job::{Job, USAGE};
 use crate::stream::{Failure, Summary, convert_stream};
 use std::alloc::Global;
 use std::io;
 use std::io::{ErrorKind, Read, Write};
+use value_blocks::Counts;
 
 const ENDED_INSIDE: u8 = 1;
 
@@ -39,17 +42,17 @@ fn answer<R: Read, W: Write, V: Write>(
     output: &mut W,
     err: &mut V,
 ) -> io::Result<u8> {
-    match requested(words) {
+    match Job::named(words) {
         None => {
             err.write_all(USAGE.as_bytes())?;
             Ok(OTHER_WORDS)
         }
-        Some(Request::Help) => {
+        Some(Job::Help) => {
             output.write_all(USAGE.as_bytes())?;
             output.flush()?;
             Ok(0)
         }
-        Some(Request::Convert(conversion)) => {
+        Some(Job::Convert(conversion)) => {
             match convert_stream(alloc, conversion, input, output) {
                 Ok(summary) => tell(summary, err),
                 Err(failure) => tell_failure(failure, err),
@@ -73,7 +76,9 @@ fn refuse_words<V: Write>(error: io::Error, err: &mut V) -> io::Result<u8> {
 }
 
 /// Reports the counts, and whether the stream ended inside a value.
-fn tell<V: Write>(summary: Summary, err: &mut V) -> io::Result<u8> {
+fn tell<V: Write>(summary: Summary, err: &mut V) -> io::Result<u8>
+    ensures { IfOk result (λ status. status ≡ summary_status summary) }
+{
     tell_counts(summary.counts, err)?;
     let bytes = summary.left_over;
     if bytes == 0 {
@@ -81,7 +86,7 @@ fn tell<V: Write>(summary: Summary, err: &mut V) -> io::Result<u8> {
     }
     writeln!(
         err,
-        "convert_values: the stream ended inside a value, {bytes} bytes behind the last one"
+        "convert_values: the stream ended inside a value; bytes after the last whole one: {bytes}"
     )?;
     Ok(ENDED_INSIDE)
 }
@@ -103,7 +108,9 @@ fn tell_counts<V: Write>(counts: Counts, err: &mut V) -> io::Result<()> {
 }
 
 /// Reports what failed.
-fn tell_failure<V: Write>(failure: Failure, err: &mut V) -> io::Result<u8> {
+pub fn tell_failure<V: Write>(failure: Failure, err: &mut V) -> io::Result<u8>
+    ensures { IfOk result (λ status. status ≡ failure_status failure) }
+{
     match failure {
         Failure::Memory => {
             writeln!(err, "convert_values: no memory for the buffers")?;

@@ -1,87 +1,11 @@
-//! Conversions of streams, compared with values that were computed independently.
+//! What the program reads and writes, and how it ends.
 
-mod rows;
-
-use crate::conversion::Conversion;
-use crate::counts::Counts;
-use crate::format::{Extended, Format};
-use crate::run::run;
-use crate::stream::convert_stream;
-use rows::{
-    FROM_BFLOAT, FROM_DOUBLE, FROM_E4M3FN, FROM_E4M3FNUZ, FROM_E5M2, FROM_HALF, FROM_QUAD,
-    FROM_SINGLE, FROM_X87, Source, Target,
-};
+use crate::run::{run, tell_failure};
+use crate::stream::Failure;
 use std::alloc::{AllocError, Global};
 use std::io;
 use std::io::{ErrorKind, Read, Write};
-use std::process::Abort;
 use std::test::Fail;
-
-/// The bytes of values, each `width` bytes long.
-fn bytes_of(alloc: Global, values: &[u128], width: usize) -> Result<Vec<u8>, AllocError> {
-    let mut bytes = Vec::new(alloc);
-    for value in values {
-        for byte in value.to_le_bytes().iter().take(width) {
-            bytes.push(*byte)?;
-        }
-    }
-    Ok(bytes)
-}
-
-/// The stream of the values is converted to that of the others, with these counts.
-fn assert_target(
-    rt: &(impl Abort + AllocGlobal),
-    source: &Source,
-    target: &Target,
-    extended: Extended,
-) -> Result<(), Fail> {
-    let given = bytes_of(rt.alloc(), &source.values, source.format.width(extended))?;
-    let wanted = bytes_of(rt.alloc(), &target.values, target.format.width(extended))?;
-    let conversion = Conversion {
-        source: source.format,
-        target: target.format,
-        round: target.round,
-        extended,
-    };
-    let mut written = Vec::new(rt.alloc());
-    let summary = convert_stream(rt.alloc(), conversion, &mut given.as_slice(), &mut written)?;
-    assert_eq!(rt; written.as_slice(), wanted.as_slice(), "{conversion:?}");
-    let Counts {
-        values,
-        inexact,
-        underflow,
-        overflow,
-        invalid,
-        nans,
-    } = summary.counts;
-    assert_eq!(rt; values, 8);
-    let counts = [inexact, underflow, overflow, invalid, nans];
-    assert_eq!(rt; counts, target.counts, "{conversion:?}");
-    assert_eq!(rt; summary.left_over, 0);
-    Ok(())
-}
-
-#[test]
-fn converts_each_format_to_each(rt: HostRuntime) -> Result<(), Fail> {
-    let sources = [
-        &FROM_HALF,
-        &FROM_SINGLE,
-        &FROM_DOUBLE,
-        &FROM_QUAD,
-        &FROM_BFLOAT,
-        &FROM_E5M2,
-        &FROM_E4M3FN,
-        &FROM_E4M3FNUZ,
-        &FROM_X87,
-    ];
-    for source in sources {
-        for target in &source.targets {
-            assert_target(&rt, source, target, Extended::Packed)?;
-            assert_target(&rt, source, target, Extended::Padded)?;
-        }
-    }
-    Ok(())
-}
 
 /// A reader that gives its bytes a few at a time, is interrupted before each read, and fails when it has no more.
 #[derive(Drop)]
@@ -108,7 +32,7 @@ impl Read for Trickle<'_> {
     }
 }
 
-/// A writer that takes a limited count of bytes, and then fails.
+/// A writer that takes a limited count of bytes, and then fails; so does its flush.
 #[derive(Drop)]
 struct Narrow {
     room: usize,
@@ -125,7 +49,7 @@ impl Write for Narrow {
     }
 
     fn flush(&mut self) -> io::Result<()> {
-        Ok(())
+        Err(io::Error::from(ErrorKind::BrokenPipe))
     }
 }
 
@@ -157,13 +81,13 @@ const SINGLES: &[u8] =
     b"\x00\x00\x80\x3f\x00\x00\x88\x3f\x01\x00\x80\x7f\x00\x00\x7a\x44\x00\x00\x80\x3a\x01\x02\x03";
 
 #[test]
-fn converts_what_stands_before_the_end(rt: HostRuntime) -> Result<(), Fail> {
+fn converts_whole_values_before_the_end(rt: HostRuntime) -> Result<(), Fail> {
     let (output, err, status) = answer_to(rt.alloc(), "single e4m3fn even", SINGLES)?;
     assert_eq!(rt; output.as_slice(), b"\x38\x38\x7f\x7f\x00".as_slice());
     assert_eq!(rt;
         err.as_slice(),
         b"values 5, inexact 3, underflow 1, overflow 1, invalid 1, NaNs 2\n\
-          convert_values: the stream ended inside a value, 3 bytes behind the last one\n"
+          convert_values: the stream ended inside a value; bytes after the last whole one: 3\n"
             .as_slice()
     );
     assert_eq!(rt; status, 1);
@@ -219,7 +143,7 @@ fn refuses_other_words(rt: HostRuntime) -> Result<(), Fail> {
 }
 
 #[test]
-fn reads_what_comes_slowly(rt: HostRuntime) -> Result<(), Fail> {
+fn reads_a_few_bytes_at_a_time(rt: HostRuntime) -> Result<(), Fail> {
     let mut input = Trickle {
         rest: SINGLES,
         interrupted: false,
@@ -250,7 +174,7 @@ fn names_failed_reads_and_writes(rt: HostRuntime) -> Result<(), Fail> {
             .starts_with(b"convert_values: reading failed: ")
     );
     assert_eq!(rt; status, 4);
-    for room in 0..5usize {
+    for room in 0..6usize {
         let mut rest = SINGLES;
         let mut err = Vec::new(rt.alloc());
         let given = words(rt.alloc(), "single e4m3fn even")?;
@@ -278,6 +202,111 @@ fn names_failed_reads_and_writes(rt: HostRuntime) -> Result<(), Fail> {
             &mut Narrow { room },
         );
         assert_eq!(rt; status, 4, "{room}");
+    }
+    Ok(())
+}
+
+/// Values of binary16 with different outcomes of their conversion to `e4m3fn`, and how many of each are in the stream.
+const RAISING: [([u8; 2], usize); 5] = [
+    // 1.0625 is inexact.
+    ([0x40, 0x3c], 2),
+    // 2^-10 underflows.
+    ([0x00, 0x14], 3),
+    // 1000 overflows, to a NaN.
+    ([0xd0, 0x63], 5),
+    // A signaling NaN is invalid.
+    ([0x01, 0x7c], 7),
+    // A quiet NaN.
+    ([0x00, 0x7e], 11),
+];
+
+#[test]
+fn counts_the_values_of_all_blocks(rt: HostRuntime) -> Result<(), Fail> {
+    let mut stream = Vec::new(rt.alloc());
+    for _ in 0..16370usize {
+        stream.extend_from_slice(b"\x00\x3c")?;
+    }
+    for (bytes, count) in RAISING {
+        for _ in 0..count {
+            stream.extend_from_slice(&bytes)?;
+        }
+    }
+    for _ in 0..20000usize {
+        stream.extend_from_slice(b"\x00\x3c")?;
+    }
+    stream.push(0x3c)?;
+    let (output, err, status) = answer_to(rt.alloc(), "half e4m3fn even", stream.as_slice())?;
+    assert_eq!(rt; output.len(), 36398);
+    assert_eq!(rt;
+        err.as_slice(),
+        b"values 36398, inexact 10, underflow 3, overflow 5, invalid 7, NaNs 23\n\
+          convert_values: the stream ended inside a value; bytes after the last whole one: 1\n"
+            .as_slice()
+    );
+    assert_eq!(rt; status, 1);
+    Ok(())
+}
+
+#[test]
+fn reads_and_writes_the_lowest_byte_first(rt: HostRuntime) -> Result<(), Fail> {
+    // 1 + 2^-112 and -1.
+    let quads = b"\x01\x00\x00\x00\x00\x00\x00\x00\x00\x00\x00\x00\x00\x00\xff\x3f\
+        \x00\x00\x00\x00\x00\x00\x00\x00\x00\x00\x00\x00\x00\x00\xff\xbf";
+    let (output, _, status) = answer_to(rt.alloc(), "quad double up", quads)?;
+    let doubles = b"\x01\x00\x00\x00\x00\x00\xf0\x3f\x00\x00\x00\x00\x00\x00\xf0\xbf";
+    assert_eq!(rt; output.as_slice(), doubles.as_slice());
+    assert_eq!(rt; status, 0);
+    let (output, _, status) = answer_to(rt.alloc(), "double x87 even", doubles)?;
+    let extended = b"\x00\x08\x00\x00\x00\x00\x00\x80\xff\x3f\
+        \x00\x00\x00\x00\x00\x00\x00\x80\xff\xbf";
+    assert_eq!(rt; output.as_slice(), extended.as_slice());
+    assert_eq!(rt; status, 0);
+    Ok(())
+}
+
+/// The same, if the system gives this error in place of words.
+fn refusal_for(alloc: Global, kind: ErrorKind) -> (Vec<u8>, Vec<u8>, u8) {
+    let mut rest = SINGLES;
+    let mut output = Vec::new(alloc);
+    let mut err = Vec::new(alloc);
+    let given = Err(io::Error::from(kind));
+    let status = run(alloc, given, &mut rest, &mut output, &mut err);
+    (output, err, status)
+}
+
+#[test]
+fn refuses_to_run_without_words(rt: HostRuntime) -> Result<(), Fail> {
+    let (output, err, status) = refusal_for(rt.alloc(), ErrorKind::OutOfMemory);
+    assert!(rt; output.is_empty());
+    let wanted = b"convert_values: no memory for the words\n";
+    assert_eq!(rt; err.as_slice(), wanted.as_slice());
+    assert_eq!(rt; status, 3);
+    let (output, err, status) = refusal_for(rt.alloc(), ErrorKind::InvalidData);
+    assert!(rt; output.is_empty());
+    assert!(rt; err.as_slice().starts_with(b"usage: convert_values "));
+    assert_eq!(rt; status, 2);
+    Ok(())
+}
+
+#[test]
+fn tells_of_missing_memory(rt: HostRuntime) -> Result<(), Fail> {
+    let mut err = Vec::new(rt.alloc());
+    let status = tell_failure(Failure::from(AllocError), &mut err)?;
+    let wanted = b"convert_values: no memory for the buffers\n";
+    assert_eq!(rt; err.as_slice(), wanted.as_slice());
+    assert_eq!(rt; status, 3);
+    Ok(())
+}
+
+#[test]
+fn fails_if_a_flush_fails(rt: HostRuntime) -> Result<(), Fail> {
+    for line in ["--help", "single e4m3fn even"] {
+        let mut rest = &SINGLES[..20];
+        let given = words(rt.alloc(), line)?;
+        let mut output = Narrow { room: 1 << 16 };
+        let mut err = Vec::new(rt.alloc());
+        let status = run(rt.alloc(), Ok(given), &mut rest, &mut output, &mut err);
+        assert_eq!(rt; status, 4, "{line}");
     }
     Ok(())
 }

@@ -1,3 +1,0 @@
-pub mod LittleEndian
-pub mod Places
-pub mod Sizes

@@ -1,5 +1,0 @@
-use Rattle.convert_values.proofs.LittleEndian.{IsWrittenUp}
-use Rattle.convert_values.proofs.bytes.write_number.Given as goal
-
-abbrev pub invariant-loop-place : goal.invariant-loop-place
-invariant-loop-place l = IsWrittenUp l.number l.rest l.place l.bytes

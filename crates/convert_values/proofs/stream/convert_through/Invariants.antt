@@ -1,0 +1,7 @@
+use Rattle.std.proofs.Common.{◌≡◌, ◌*◌, length}
+use Rattle.value_blocks.specs.declared.conversion.TheConstants.{BLOCK}
+use Rattle.value_blocks.specs.Widths.{target_width}
+use Rattle.convert_values.proofs.stream.convert_through.Given as goal
+
+abbrev pub invariant-loop : goal.invariant-loop
+invariant-loop g l = length l.buffer.items ≡ BLOCK * target_width l.conversion

@@ -1,0 +1,77 @@
+//! The words of a command line, as a job for the program.
+
+use value_blocks::{Conversion, Extended};
+
+/// How the program is called.
+pub const USAGE: &str = "\
+usage: convert_values [--x87-bytes=10|16] FROM TO MODE
+       convert_values --help
+
+Reads little-endian values of the format FROM from standard input, and writes
+them, converted to the format TO, to standard output.
+
+FROM, TO  half single double quad bfloat e5m2 e4m3fn e4m3fnuz x87
+MODE      even    to the nearest value, a tie to the even one
+          up      toward positive
+          down    toward negative
+          zero    toward zero
+          away    to the nearest value, a tie away from zero
+
+--x87-bytes=10  a value of the format x87 lies in 10 bytes, as without the option
+--x87-bytes=16  in 16 bytes, of which the last 6 are not read, and written as 0
+
+At the end a line on standard error counts the values, those that raised each
+flag, and the NaNs among the values written. The exit status is 0; 1 where the
+stream ended inside a value, 2 for other words, 3 for want of memory, and 4
+where a read or a write failed.
+
+    convert_values single e4m3fn even < singles > bytes
+";
+
+/// What the program is to do.
+#[derive(Clone, Copy, Debug)]
+pub enum Job {
+    /// Tell how it is called.
+    Help,
+    /// Convert its stream.
+    Convert(Conversion),
+}
+
+impl Job {
+    /// The job that the words of a command line name, without the program's own name.
+    pub fn named(words: &[String]) -> Option<Job> {
+        match words {
+            [word] => match word.as_str() {
+                "--help" => Some(Job::Help),
+                _ => None,
+            },
+            [source, target, mode] => Job::conversion(Extended::Packed, source, target, mode),
+            [option, source, target, mode] => {
+                let extended = extended_named(option.as_str())?;
+                Job::conversion(extended, source, target, mode)
+            }
+            _ => None,
+        }
+    }
+
+    /// The conversion of these words.
+    fn conversion(
+        extended: Extended,
+        source: &String,
+        target: &String,
+        mode: &String,
+    ) -> Option<Job> {
+        let (source, target) = (source.as_str(), target.as_str());
+        let conversion = Conversion::named(extended, source, target, mode.as_str())?;
+        Some(Job::Convert(conversion))
+    }
+}
+
+/// The layout of x87 values that this option names.
+fn extended_named(option: &str) -> Option<Extended> {
+    match option {
+        "--x87-bytes=10" => Some(Extended::Packed),
+        "--x87-bytes=16" => Some(Extended::Padded),
+        _ => None,
+    }
+}

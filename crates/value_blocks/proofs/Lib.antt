@@ -1,0 +1,2 @@
+pub mod LittleEndian
+pub mod Places

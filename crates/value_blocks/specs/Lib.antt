@@ -1,0 +1,7 @@
+pub mod Bytes
+pub mod Outcomes
+pub mod Values
+pub mod Blocks
+pub mod Widths
+pub mod Calls
+pub mod Words

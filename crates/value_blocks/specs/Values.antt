@@ -1,0 +1,22 @@
+-- One value, from bytes to bytes.
+use Rattle.std.specs.Prelude.{◌≡◌, ℕ, Bool, List}
+use Rattle.rustc_apfloat.specs.declared.Round.{Round}
+use Rattle.rustc_apfloat.specs.Flags.{bits_of}
+use Rattle.rustc_apfloat.specs.Datum.{Datum}
+use Rattle.rustc_apfloat.specs.Classes.{is_nan}
+use Rattle.rustc_apfloat.specs.Conversions.{IsConversion}
+use Rattle.rustc_apfloat.specs.Lawful.{Constants, format_with, layout_with}
+use Rattle.rustc_apfloat.specs.Layout.{datum_of, IsEncodedBy}
+use Rattle.value_blocks.specs.declared.counts.Outcome.{Outcome}
+use Rattle.value_blocks.specs.Bytes.{number_of}
+
+-- The input bytes are a value of the first format, and the output bytes are the one encoding of its conversion to the
+-- second. Bytes beyond the width of the first are ignored, those beyond the width of the second are 0.
+pub record IsConvertedValue (c d : Constants) (mode : Round) (input output : List ℕ)
+    (outcome : Outcome) : Type 0 where
+  pub value : Datum
+  pub loses : Bool
+  pub is_conversion : IsConversion (format_with c) (format_with d) mode
+      (datum_of (format_with c) (layout_with c) (number_of input)) value (bits_of outcome.status) loses
+  pub is_encoded : IsEncodedBy (format_with d) (layout_with d) (number_of output) value
+  pub nan_is : outcome.is_nan ≡ is_nan value
