@@ -15,10 +15,10 @@ use crate::codes::{
 };
 use crate::data::Answer;
 use crate::exported_call::ExportedCall;
-use dispatch::{Arithmetic, BuiltInKind, FUSED_LIMIT, InFormat, InKind};
+use dispatch::{Arithmetic, BuiltInKind, InFormat, InKind};
 use rustc_apfloat::ieee::{IeeeFloat, Semantics};
 use rustc_apfloat::ppc::DoubleDouble;
-use rustc_apfloat::{Float, FloatConvert, Round, Status, StatusAnd};
+use rustc_apfloat::{FUSED_LIMIT, Float, FloatConvert, Round, Status, StatusAnd};
 
 /// A call with its rounding mode.
 #[derive(Clone, Copy)]
