@@ -4,13 +4,14 @@ ghost use Rattle.std.specs.Prelude.{◌<◌};
 
 use crate::encoding::Encoding;
 use crate::generator::Generator;
-use crate::kind::Kind;
+use crate::kind::measured;
 use crate::measure::{Rounds, for_each, in_rounds};
 use crate::nanoseconds::Nanoseconds;
 use crate::numbers::read;
 use crate::operand_set::OperandSet;
 use crate::operation::Operation;
 use crate::task::{Task, room};
+use dispatch::{BuiltInFormat, BuiltInKind};
 use rustc_apfloat::ieee::{Double, DoubleS, IeeeFloat, QuadS, Semantics, X87DoubleExtendedS};
 use rustc_apfloat::{Float, Round, StatusAnd};
 use std::alloc::{AllocError, Global};
@@ -78,6 +79,7 @@ fn print_remainders(rt: &(impl Clock + Print + AllocGlobal)) -> io::Result<()> {
     println!(rt; "")
 }
 
+/// Prints the row of a format and a difference of exponents.
 fn print_remainder<S: Semantics>(
     rt: &(impl Clock + Print + AllocGlobal),
     name: &str,
@@ -140,28 +142,29 @@ fn apart<S: Semantics>(alloc: Global, difference: i32) -> Result<Vec<[IeeeFloat<
     Ok(pairs)
 }
 
-static PRECISIONS: [(Kind, u64); 7] = [
-    (Kind::Float8E4M3FN, 4),
-    (Kind::BFloat, 8),
-    (Kind::Half, 11),
-    (Kind::Single, 24),
-    (Kind::Double, 53),
-    (Kind::X87DoubleExtended, 64),
-    (Kind::Quad, 113),
+static PRECISIONS: [(BuiltInFormat, u64); 7] = [
+    (BuiltInFormat::E4M3FN, 4),
+    (BuiltInFormat::BFloat, 8),
+    (BuiltInFormat::Half, 11),
+    (BuiltInFormat::Single, 24),
+    (BuiltInFormat::Double, 53),
+    (BuiltInFormat::X87, 64),
+    (BuiltInFormat::Quad, 113),
 ];
 
 /// Prints a table of the times of quotients, by the precision.
 fn print_quotients(rt: &(impl Clock + Print + AllocGlobal)) -> io::Result<()> {
     println!(rt; "| Quotients in | Precision | Nanoseconds | For each digit |\n|---|---|---|---|")?;
-    for (kind, precision) in PRECISIONS.iter() {
-        print_quotient(rt, *kind, *precision)?;
+    for (format, precision) in PRECISIONS.iter() {
+        print_quotient(rt, BuiltInKind::Format(*format), *precision)?;
     }
     Ok(())
 }
 
+/// Prints the row of a type and its precision.
 fn print_quotient(
     rt: &(impl Clock + Print + AllocGlobal),
-    kind: Kind,
+    kind: BuiltInKind,
     precision: u64,
 ) -> io::Result<()> {
     let task = Task {
@@ -170,13 +173,13 @@ fn print_quotient(
         mode: Round::NearestTiesToEven,
         rounds: 300,
     };
-    let Some(known) = kind.measured(rt, task)? else {
+    let Some(known) = measured(rt, kind, task)? else {
         return Ok(());
     };
     let quotient = Nanoseconds::of_each(known);
     println!(rt;
         "| {} | {precision} | {quotient} | {} |",
-        kind.name(),
+        kind.word(),
         quotient.part(precision)
     )
 }

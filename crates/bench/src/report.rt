@@ -1,10 +1,11 @@
-//! Prints the checksums and the times of all operations.
+//! What is printed about all operations: checksums, and times.
 
-use crate::kind::{KINDS, Kind};
+use crate::kind::measured;
 use crate::nanoseconds::Nanoseconds;
 use crate::operand_set::OperandSet;
 use crate::operation::{OPERATIONS, Operation};
 use crate::task::Task;
+use dispatch::{BUILT_IN_KINDS, BuiltInKind};
 use rustc_apfloat::Round;
 use std::alloc::AllocError;
 use std::io;
@@ -24,13 +25,14 @@ const TABLE_HEAD: &str =
 
 /// Prints the checksums of all operations in all types.
 pub fn print_checksums(rt: &(impl Clock + Print + AllocGlobal)) -> io::Result<()> {
-    for kind in KINDS.iter() {
+    for kind in BUILT_IN_KINDS.iter() {
         print_lines(rt, *kind)?;
     }
     Ok(())
 }
 
-fn print_lines(rt: &(impl Clock + Print + AllocGlobal), kind: Kind) -> io::Result<()> {
+/// Prints the lines of a type.
+fn print_lines(rt: &(impl Clock + Print + AllocGlobal), kind: BuiltInKind) -> io::Result<()> {
     for operation in OPERATIONS.iter() {
         print_line(rt, kind, *operation, OperandSet::Normal)?;
         print_line(rt, kind, *operation, OperandSet::Denormal)?;
@@ -41,7 +43,7 @@ fn print_lines(rt: &(impl Clock + Print + AllocGlobal), kind: Kind) -> io::Resul
 /// Prints the line of an operation in a type: its checksums for a set of operands.
 fn print_line(
     rt: &(impl Clock + Print + AllocGlobal),
-    kind: Kind,
+    kind: BuiltInKind,
     operation: Operation,
     set: OperandSet,
 ) -> io::Result<()> {
@@ -49,7 +51,7 @@ fn print_line(
     if sums.is_empty() {
         return Ok(());
     }
-    print!(rt; "{} {} {}", kind.name(), operation.name(), set.name())?;
+    print!(rt; "{} {} {}", kind.word(), operation.name(), set.name())?;
     for sum in sums.iter() {
         print!(rt; " {sum:016x}")?;
     }
@@ -59,7 +61,7 @@ fn print_line(
 /// The checksums of an operation in each mode, or one if it has no mode.
 fn sums_of(
     rt: &(impl Clock + AllocGlobal),
-    kind: Kind,
+    kind: BuiltInKind,
     operation: Operation,
     set: OperandSet,
 ) -> io::Result<Vec<u64>> {
@@ -72,7 +74,7 @@ fn sums_of(
             rounds: 0,
         };
         if operation.rounds() || sums.is_empty() {
-            if let Some(known) = kind.measured(rt, task)? {
+            if let Some(known) = measured(rt, kind, task)? {
                 sums.push(known.checksum).map_err(AllocError::from)?;
             }
         }
@@ -86,21 +88,23 @@ pub fn print_times(rt: &(impl Clock + Print + AllocGlobal)) -> io::Result<()> {
     print_table(rt, OperandSet::Denormal)
 }
 
+/// Prints the table of times for a set of operands.
 fn print_table(rt: &(impl Clock + Print + AllocGlobal), set: OperandSet) -> io::Result<()> {
     println!(rt; "Set {}, nanoseconds\n", set.name())?;
     println!(rt; "{TABLE_HEAD}")?;
-    for kind in KINDS.iter() {
+    for kind in BUILT_IN_KINDS.iter() {
         print_row(rt, *kind, set)?;
     }
     println!(rt; "")
 }
 
+/// Prints the row of a type.
 fn print_row(
     rt: &(impl Clock + Print + AllocGlobal),
-    kind: Kind,
+    kind: BuiltInKind,
     set: OperandSet,
 ) -> io::Result<()> {
-    print!(rt; "| {} |", kind.name())?;
+    print!(rt; "| {} |", kind.word())?;
     for operation in OPERATIONS.iter() {
         print_time(rt, kind, *operation, set)?;
     }
@@ -110,7 +114,7 @@ fn print_row(
 /// Prints the time of an operation in a type, or a dash if the type does not have it.
 fn print_time(
     rt: &(impl Clock + Print + AllocGlobal),
-    kind: Kind,
+    kind: BuiltInKind,
     operation: Operation,
     set: OperandSet,
 ) -> io::Result<()> {
@@ -120,7 +124,7 @@ fn print_time(
         mode: Round::NearestTiesToEven,
         rounds: 300,
     };
-    match kind.measured(rt, task)? {
+    match measured(rt, kind, task)? {
         Some(known) => {
             let time = Nanoseconds::of_each(known);
             print!(rt; " {time} |")

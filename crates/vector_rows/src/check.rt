@@ -1,30 +1,25 @@
-//! Checks the lines of an input, one at a time.
+//! Checks the lines of an input, one at a time, counts them, and reports how far it has come.
 
-use crate::calls;
-use crate::calls::{Row, row_of};
-use crate::command_row::{CommandRow, Words};
-use crate::failure::Failure;
-use crate::progress::Progress;
-use crate::row_error::RowError;
-use crate::tally::Tally;
+use crate::call_row::row_of;
+use crate::calls::{agrees, write_answers};
+use crate::command_row::CommandRow;
+use crate::failure::{Failure, RowError};
 use std::alloc::{Allocator, Global};
 use std::io::{BufRead, Write};
 use std::rt::Clock;
-use std::{io, str};
+use std::time::Instant;
+use std::{fmt, str};
 
-/// What a line is.
-#[derive(Clone, Copy)]
-enum Line<'a> {
-    // A comment, or an empty line.
-    Skipped,
-    Command(CommandRow<'a>),
-    Call(Row<'a>),
-}
+/// How many seconds pass before the first message on how far the check has come, and between two of them.
+const SECONDS: u64 = 3;
 
-/// A check, as far as it has come.
+/// How many lines are read between two looks at the clock.
+const LINES: u64 = 1024;
+
+/// A check, and how far it has come.
 #[derive(Drop)]
 pub struct Check {
-    words: Words,
+    alloc: Global,
     tally: Tally,
 }
 
@@ -32,12 +27,12 @@ impl Check {
     /// A check of no lines yet.
     pub fn new(alloc: Global) -> Check {
         Check {
-            words: Words::new(alloc),
-            tally: Tally::new(),
+            alloc,
+            tally: Tally::default(),
         }
     }
 
-    /// What became of the lines so far.
+    /// The counts of the lines so far.
     pub fn tally(&self) -> Tally {
         self.tally
     }
@@ -52,17 +47,26 @@ impl Check {
         out: &mut W,
         err: &mut V,
     ) -> Result<(), Failure> {
-        let mut progress = Progress::begin(clock);
+        let start = Instant::now(clock).ok();
+        let mut due = SECONDS;
         let mut line = Vec::new(alloc);
         for _ in 0..u64::MAX {
             line.clear();
             match input.read_until(b'\n', &mut line) {
                 Ok(0) => break,
                 Ok(_) => {}
-                Err(error) => return Err(Failure::of_reading(error)),
+                Err(error) => return Err(Failure::of_input("read", error)),
             }
             self.take_line(without_end(line.as_slice()), out)?;
-            progress.tell(self.tally.lines(), clock, err);
+            let lines = self.tally.lines();
+            if lines % LINES == 0
+                && let Some(seconds) = seconds_since(start, clock)
+                && seconds >= due
+            {
+                due = seconds.saturating_add(SECONDS);
+                // It does no harm if this fails.
+                let _ = writeln!(err, "check_vectors: {lines} lines after {seconds} seconds");
+            }
         }
         Ok(())
     }
@@ -72,14 +76,25 @@ impl Check {
         let Ok(text) = str::from_utf8(line) else {
             return self.take_error(RowError::Encoding, out);
         };
-        match line_of(text) {
-            Ok(Line::Skipped) => {
-                self.tally.skipped = self.tally.skipped.saturating_add(1);
-                Ok(())
+        if text.starts_with('#') || text.trim().is_empty() {
+            increment(&mut self.tally.skipped);
+            return Ok(());
+        }
+        if let Some(row) = row_of(text) {
+            return match agrees(row) {
+                Ok(true) => Ok(increment(&mut self.tally.agreeing)),
+                Ok(false) => {
+                    self.take_difference(text, out)?;
+                    Ok(write_answers(row, out)?)
+                }
+                Err(error) => self.take_error(error, out),
+            };
+        }
+        match text.split_once('\t') {
+            Some((command, reply)) if !reply.contains('\t') => {
+                self.take_command(CommandRow { command, reply }, text, out)
             }
-            Ok(Line::Command(row)) => self.take_command(row, text, out),
-            Ok(Line::Call(row)) => self.take_call(row, text, out),
-            Err(error) => self.take_error(error, out),
+            _ => self.take_error(RowError::Columns(text.split('\t').count()), out),
         }
     }
 
@@ -90,63 +105,42 @@ impl Check {
         text: &str,
         out: &mut W,
     ) -> Result<(), Failure> {
-        if self.words.agree(row)? {
-            self.tally.agreeing = self.tally.agreeing.saturating_add(1);
-            return Ok(());
+        if !row.has_reply() {
+            return self.take_error(RowError::Word("no reply", row.reply), out);
         }
-        self.take_difference(text, out)?;
-        written(self.words.write_answers(row, out))
-    }
-
-    /// Checks a call with its result.
-    fn take_call<W: Write>(
-        &mut self,
-        row: Row<'_>,
-        text: &str,
-        out: &mut W,
-    ) -> Result<(), Failure> {
-        match calls::agrees(row) {
-            Ok(true) => {
-                self.tally.agreeing = self.tally.agreeing.saturating_add(1);
-                Ok(())
-            }
-            Ok(false) => {
+        match row.wrong_reply(self.alloc)? {
+            None => Ok(increment(&mut self.tally.agreeing)),
+            Some(given) => {
                 self.take_difference(text, out)?;
-                written(calls::write_answers(row, out))
+                write!(out, "  expected: {}\n  given: ", row.reply)?;
+                Ok(out.write_all(given.as_slice())?)
             }
-            Err(error) => self.take_error(error, out),
         }
     }
 
-    /// Counts a row that differs, and names it.
+    /// Counts a row that differs, and writes it.
     fn take_difference<W: Write>(&mut self, text: &str, out: &mut W) -> Result<(), Failure> {
-        self.tally.differing = self.tally.differing.saturating_add(1);
+        increment(&mut self.tally.differing);
         let number = self.tally.lines();
-        written(writeln!(out, "line {number} differs: {text}"))
+        Ok(writeln!(out, "line {number} differs: {text}")?)
     }
 
-    /// Counts a line that is no row, and says why.
+    /// Counts a malformed line, and writes what is wrong with it.
     fn take_error<W: Write>(&mut self, error: RowError<'_>, out: &mut W) -> Result<(), Failure> {
-        self.tally.malformed = self.tally.malformed.saturating_add(1);
+        increment(&mut self.tally.malformed);
         let number = self.tally.lines();
-        written(writeln!(out, "line {number} malformed: {error}"))
+        Ok(writeln!(out, "line {number} malformed: {error}")?)
     }
 }
 
-/// What a text says.
-fn line_of(text: &str) -> Result<Line<'_>, RowError<'_>> {
-    if text.starts_with('#') || text.trim().is_empty() {
-        return Ok(Line::Skipped);
-    }
-    if let Some(row) = row_of(text) {
-        return Ok(Line::Call(row));
-    }
-    match text.split_once('\t') {
-        Some((command, reply)) if !reply.contains('\t') => {
-            Ok(Line::Command(CommandRow { command, reply }.checked()?))
-        }
-        _ => Err(RowError::Columns(text.split('\t').count())),
-    }
+/// How many seconds have passed since a time. Without a clock there are none.
+fn seconds_since(start: Option<Instant>, clock: &impl Clock) -> Option<u64> {
+    Some(start?.elapsed(clock).ok()?.as_secs())
+}
+
+/// Adds one to a count.
+fn increment(count: &mut u64) {
+    *count = count.saturating_add(1);
 }
 
 /// A line without the characters that end it.
@@ -155,10 +149,56 @@ fn without_end(line: &[u8]) -> &[u8] {
     line.strip_suffix(b"\r").unwrap_or(line)
 }
 
-/// A failed write as what ends a check.
-fn written(outcome: io::Result<()>) -> Result<(), Failure> {
-    match outcome {
-        Ok(()) => Ok(()),
-        Err(error) => Err(Failure::of_writing(error)),
+/// How many lines of each kind there were.
+#[derive(Clone, Copy, Default)]
+pub struct Tally {
+    /// Rows that agree with the library.
+    pub agreeing: u64,
+    /// Rows that differ from it.
+    pub differing: u64,
+    /// Lines that are not rows.
+    pub malformed: u64,
+    /// Comments and empty lines.
+    pub skipped: u64,
+}
+
+impl Tally {
+    /// How many lines there were.
+    pub fn lines(self) -> u64 {
+        let well_formed = self.agreeing.saturating_add(self.differing);
+        let others = self.malformed.saturating_add(self.skipped);
+        well_formed.saturating_add(others)
+    }
+
+    /// Whether there was nothing to check.
+    pub fn is_empty(self) -> bool {
+        self.agreeing == 0 && self.differing == 0 && self.malformed == 0
+    }
+
+    /// The exit status for an input that was read to its end. A malformed line takes precedence over a row that
+    /// differs, since what it should have checked is not known.
+    pub fn status(self) -> u8 {
+        if self.is_empty() || self.malformed > 0 {
+            2
+        } else if self.differing > 0 {
+            1
+        } else {
+            0
+        }
+    }
+}
+
+impl fmt::Display for Tally {
+    fn fmt<W: fmt::Write>(&self, f: &mut fmt::Formatter<W>) -> fmt::Result {
+        write!(
+            f,
+            "{} rows agree, {} differ, ",
+            self.agreeing, self.differing
+        )?;
+        write!(
+            f,
+            "{} malformed; {} lines skipped",
+            self.malformed, self.skipped
+        )
     }
 }

@@ -1,44 +1,24 @@
-//! What ends a check before the end of its input.
+//! What is wrong with a malformed line, and what ends a check before the end of its input.
 
-use std::alloc::AllocError;
-use std::io::ErrorKind;
 use std::{fmt, io};
 
 /// What ended a check.
 #[derive(Drop)]
 pub enum Failure {
-    /// There is no memory.
+    /// There was not enough memory.
     Memory,
-    /// The input cannot be opened.
-    Opening(io::Error),
-    /// The input cannot be read on.
-    Reading(io::Error),
-    /// An answer cannot be written.
-    Writing(io::Error),
+    /// The input could not be opened or read: the verb, and the cause.
+    Input(&'static str, io::Error),
+    /// The output could not be written.
+    Output(io::Error),
 }
 
 impl Failure {
-    /// What a failure to open the input is.
-    pub fn of_opening(error: io::Error) -> Failure {
+    /// The failure to do what the verb says with the input.
+    pub fn of_input(verb: &'static str, error: io::Error) -> Failure {
         match error.kind() {
-            ErrorKind::OutOfMemory => Failure::Memory,
-            _ => Failure::Opening(error),
-        }
-    }
-
-    /// What a failure to read is.
-    pub fn of_reading(error: io::Error) -> Failure {
-        match error.kind() {
-            ErrorKind::OutOfMemory => Failure::Memory,
-            _ => Failure::Reading(error),
-        }
-    }
-
-    /// What a failure to write is.
-    pub fn of_writing(error: io::Error) -> Failure {
-        match error.kind() {
-            ErrorKind::OutOfMemory => Failure::Memory,
-            _ => Failure::Writing(error),
+            io::ErrorKind::OutOfMemory => Failure::Memory,
+            _ => Failure::Input(verb, error),
         }
     }
 
@@ -46,19 +26,18 @@ impl Failure {
     pub fn status(&self) -> u8 {
         match self {
             Failure::Memory => 3,
-            Failure::Opening(_) | Failure::Reading(_) | Failure::Writing(_) => 4,
+            _ => 4,
         }
-    }
-
-    /// Whether more can be written.
-    pub fn lets_write(&self) -> bool {
-        !matches!(self, Failure::Writing(_))
     }
 }
 
-impl From<AllocError> for Failure {
-    fn from(_error: AllocError) -> Failure {
-        Failure::Memory
+/// The failure to write, or to get memory.
+impl From<io::Error> for Failure {
+    fn from(error: io::Error) -> Failure {
+        match error.kind() {
+            io::ErrorKind::OutOfMemory => Failure::Memory,
+            _ => Failure::Output(error),
+        }
     }
 }
 
@@ -66,9 +45,31 @@ impl fmt::Display for Failure {
     fn fmt<W: fmt::Write>(&self, f: &mut fmt::Formatter<W>) -> fmt::Result {
         match self {
             Failure::Memory => f.write_str("no memory"),
-            Failure::Opening(error) => write!(f, "cannot open: {error}"),
-            Failure::Reading(error) => write!(f, "cannot read: {error}"),
-            Failure::Writing(error) => write!(f, "cannot write: {error}"),
+            Failure::Input(verb, error) => write!(f, "cannot {verb}: {error}"),
+            Failure::Output(error) => write!(f, "cannot write: {error}"),
+        }
+    }
+}
+
+/// What is wrong with a line.
+#[derive(Clone, Copy)]
+pub enum RowError<'a> {
+    /// It is not UTF-8.
+    Encoding,
+    /// It has this many columns.
+    Columns(usize),
+    /// A column has no such thing as the first text says; the second is what it has.
+    Word(&'a str, &'a str),
+}
+
+impl fmt::Display for RowError<'_> {
+    fn fmt<W: fmt::Write>(&self, f: &mut fmt::Formatter<W>) -> fmt::Result {
+        match *self {
+            RowError::Encoding => f.write_str("it is not UTF-8"),
+            RowError::Columns(count) => {
+                write!(f, "columns: {count}, and a command has 2, a call 7")
+            }
+            RowError::Word(fault, word) => write!(f, "{fault}: `{word}`"),
         }
     }
 }

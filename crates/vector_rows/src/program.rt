@@ -1,26 +1,38 @@
-//! What the program is asked, and what it answers.
+//! What the program is asked to do, and how it ends.
 
-use crate::check::Check;
+use crate::check::{Check, Tally};
 use crate::failure::Failure;
-use crate::help::HELP;
-use crate::tally::Tally;
-use std::io::{BufRead, BufReader, BufWriter, ErrorKind, Write};
+use std::io::{BufRead, BufReader, BufWriter, ErrorKind, Read, Write};
 use std::rt::{Clock, Files};
 use std::{fs, io};
 
-/// What the program is asked for.
-#[derive(Clone, Copy)]
-enum Asked<'a> {
-    Help,
-    // A check of standard input.
-    Standard,
-    // A check of the file of this name.
-    File(&'a str),
-    Unknown,
-}
+/// What the program is for, what it reads and writes, and what its exit status means.
+const HELP: &str = "\
+usage: check_vectors [FILE | --help]
 
-/// Runs the program with the words that the system gave it, without its own name. Answers the exit
-/// status.
+Checks the rows of FILE, or of standard input if there is no FILE or it is `-`, against the library.
+A row is a line of columns separated by tabs: a command of the program vectors and its reply, or a call,
+its format, its mode, its operands, its value, its flags and what else it returns.
+
+    half int even 464<TAB>5f40 OK
+    add_r<TAB>half<TAB>any<TAB>3c00 3c00<TAB>4000<TAB>OK<TAB>-
+
+Empty lines and comments, which begin with #, are skipped. The program writes each row that differs and
+each malformed line with its number, and at the end how many lines of each kind there were.
+docs/VECTORS.md has the calls, the formats, and what the words in each column mean.
+
+Exit status, the first one that holds:
+  4  the input could not be opened or read, or something could not be written
+  3  there was not enough memory
+  2  other arguments than above, a malformed line, or an input without a row
+  1  a row differs
+  0  all rows agree
+";
+
+/// What is printed for unknown arguments.
+const USAGE: &str = "usage: check_vectors [FILE | --help]\n";
+
+/// Runs the program with the arguments from the system, without its own name. Returns the exit status.
 pub fn run<R: Files + Clock + Input + AllocGlobal, W: Write, V: Write>(
     rt: &R,
     given: io::Result<Vec<String>>,
@@ -29,86 +41,53 @@ pub fn run<R: Files + Clock + Input + AllocGlobal, W: Write, V: Write>(
 ) -> u8 {
     let words = match given {
         Ok(words) => words,
-        Err(error) => return refuse_words(error, err),
-    };
-    match subject_of(words.as_slice()) {
-        Asked::Help => write_help(out, err),
-        Asked::Unknown => refuse_usage(err),
-        Asked::Standard => check_standard(rt, out, err),
-        Asked::File(name) => check_file(rt, name, out, err),
-    }
-}
-
-/// What the words of the program ask for.
-fn subject_of(words: &[String]) -> Asked<'_> {
-    match words {
-        [] => Asked::Standard,
-        [word] => match word.as_str() {
-            "--help" | "-h" => Asked::Help,
-            "-" => Asked::Standard,
-            name if name.starts_with('-') => Asked::Unknown,
-            name => Asked::File(name),
+        Err(error) => match error.kind() {
+            ErrorKind::OutOfMemory => return report("arguments", &Failure::Memory, err),
+            _ => return status_after(err.write_all(USAGE.as_bytes()), 2),
         },
-        [mark, name] if mark.as_str() == "--" => Asked::File(name.as_str()),
-        _ => Asked::Unknown,
+    };
+    let file = match words.as_slice() {
+        [] => None,
+        [word] => match word.as_str() {
+            "--help" | "-h" => {
+                return match out.write_all(HELP.as_bytes()) {
+                    Ok(()) => 0,
+                    Err(error) => report("help", &Failure::from(error), err),
+                };
+            }
+            "-" => None,
+            option if option.starts_with('-') => {
+                return status_after(err.write_all(USAGE.as_bytes()), 2);
+            }
+            name => Some(name),
+        },
+        [mark, name] if mark.as_str() == "--" => Some(name.as_str()),
+        _ => return status_after(err.write_all(USAGE.as_bytes()), 2),
+    };
+    let Some(name) = file else {
+        return check_reader(rt, "standard input", rt.reader(), out, err);
+    };
+    match fs::open(rt, name) {
+        Ok(file) => check_reader(rt, name, file, out, err),
+        Err(error) => report(name, &Failure::of_input("open", error), err),
     }
 }
 
-/// Writes the help, and returns the exit status.
-fn write_help<W: Write, V: Write>(out: &mut W, err: &mut V) -> u8 {
-    match out.write_all(HELP.as_bytes()) {
-        Ok(()) => 0,
-        Err(error) => say("help", &Failure::of_writing(error), err),
-    }
-}
-
-/// Refuses the words, and returns the exit status.
-fn refuse_usage<V: Write>(err: &mut V) -> u8 {
-    match err.write_all(b"usage: check_vectors [FILE | --help]\n") {
-        Ok(()) => 2,
-        Err(_) => 4,
-    }
-}
-
-/// Says what the system gave in place of words.
-fn refuse_words<V: Write>(error: io::Error, err: &mut V) -> u8 {
-    match error.kind() {
-        ErrorKind::OutOfMemory => say("arguments", &Failure::Memory, err),
-        _ => refuse_usage(err),
-    }
-}
-
-/// Checks standard input.
-fn check_standard<R: Clock + Input + AllocGlobal, W: Write, V: Write>(
-    rt: &R,
-    out: &mut W,
-    err: &mut V,
-) -> u8 {
-    const NAME: &str = "standard input";
-    match BufReader::new(rt.alloc(), rt.reader()) {
-        Ok(mut input) => check_input(rt, NAME, &mut input, out, err),
-        Err(error) => say(NAME, &Failure::of_opening(error), err),
-    }
-}
-
-/// Checks the file of this name.
-fn check_file<R: Files + Clock + AllocGlobal, W: Write, V: Write>(
+/// Checks what a reader of this name gives. Returns the exit status.
+fn check_reader<R: Clock + AllocGlobal, I: Read + Drop, W: Write, V: Write>(
     rt: &R,
     name: &str,
+    reader: I,
     out: &mut W,
     err: &mut V,
 ) -> u8 {
-    let file = match fs::open(rt, name) {
-        Ok(file) => file,
-        Err(error) => return say(name, &Failure::of_opening(error), err),
-    };
-    match BufReader::new(rt.alloc(), file) {
+    match BufReader::new(rt.alloc(), reader) {
         Ok(mut input) => check_input(rt, name, &mut input, out, err),
-        Err(error) => say(name, &Failure::of_opening(error), err),
+        Err(error) => report(name, &Failure::of_input("open", error), err),
     }
 }
 
-/// Checks the lines of an input of this name. Answers the exit status.
+/// Checks the lines of an input of this name. Returns the exit status.
 pub fn check_input<R: Clock + AllocGlobal, B: BufRead, W: Write, V: Write>(
     rt: &R,
     name: &str,
@@ -118,25 +97,21 @@ pub fn check_input<R: Clock + AllocGlobal, B: BufRead, W: Write, V: Write>(
 ) -> u8 {
     let mut out = match BufWriter::new(rt.alloc(), out) {
         Ok(out) => out,
-        Err(error) => return say(name, &Failure::of_writing(error), err),
+        Err(error) => return report(name, &Failure::from(error), err),
     };
     let mut check = Check::new(rt.alloc());
-    match check.take(input, rt.alloc(), rt, &mut out, err) {
-        Ok(()) => conclude(name, check.tally(), &mut out, err),
-        Err(Failure::Writing(error)) => say(name, &Failure::Writing(error), err),
-        Err(failure) => match write_tally(check.tally(), &mut out) {
-            Ok(()) => say(name, &failure, err),
-            Err(error) => say(name, &Failure::of_writing(error), err),
-        },
+    let ended = check.take(input, rt.alloc(), rt, &mut out, err);
+    if let Err(Failure::Output(error)) = ended {
+        return report(name, &Failure::Output(error), err);
     }
-}
-
-/// Ends a check of all lines of an input.
-fn conclude<W: Write, V: Write>(name: &str, tally: Tally, out: &mut W, err: &mut V) -> u8 {
-    match write_tally(tally, out) {
-        Ok(()) if tally.is_empty() => refuse_empty(name, err),
-        Ok(()) => tally.status(),
-        Err(error) => say(name, &Failure::of_writing(error), err),
+    // What was checked before a failure is counted too.
+    match (ended, write_tally(check.tally(), &mut out)) {
+        (_, Err(error)) => report(name, &Failure::from(error), err),
+        (Err(failure), Ok(())) => report(name, &failure, err),
+        (Ok(()), Ok(())) if check.tally().is_empty() => {
+            status_after(writeln!(err, "check_vectors: {name}: no rows"), 2)
+        }
+        (Ok(()), Ok(())) => check.tally().status(),
     }
 }
 
@@ -146,19 +121,16 @@ fn write_tally<W: Write>(tally: Tally, out: &mut W) -> io::Result<()> {
     out.flush()
 }
 
-/// Refuses an input without rows, and returns the exit status.
-fn refuse_empty<V: Write>(name: &str, err: &mut V) -> u8 {
-    match writeln!(err, "check_vectors: {name}: no rows") {
-        Ok(()) => 2,
-        Err(_) => 4,
-    }
+/// Reports what ended the program. Returns the exit status.
+fn report<V: Write>(name: &str, failure: &Failure, err: &mut V) -> u8 {
+    let reported = writeln!(err, "check_vectors: {name}: {failure}");
+    status_after(reported, failure.status())
 }
 
-/// Says what ended the program. Answers the exit status, that of a failure to write where it cannot be
-/// said.
-fn say<V: Write>(name: &str, failure: &Failure, err: &mut V) -> u8 {
-    match writeln!(err, "check_vectors: {name}: {failure}") {
-        Ok(()) => failure.status(),
+/// The exit status after a write, which is 4 if that failed.
+fn status_after(written: io::Result<()>, status: u8) -> u8 {
+    match written {
+        Ok(()) => status,
         Err(_) => 4,
     }
 }

@@ -1,297 +1,291 @@
-//! What a call answers, beside what a row has.
+//! What a call returns, compared with the last three columns of a row.
 
-use crate::calls::order::{order_name, order_named};
-use crate::calls::quanta::{Quanta, is_word};
-use crate::calls::row::Row;
-use crate::calls::text::Text;
-use crate::row_error::RowError;
+use crate::call_row::CallRow;
+use crate::calls::quanta::{is_quanta_of, parts_of, text_of};
+use crate::failure::RowError;
 use commands::{bits_of, number_of, write_status};
-use rustc_apfloat::{Category, ExpInt, Flags, Status};
+use rustc_apfloat::{ExpInt, Flags, Float, Status, StatusAnd};
 use std::cmp::Ordering;
-use std::io;
+use std::fmt::{Debug, Write as _};
 use std::io::Write;
+use std::{fmt, io};
 
-/// What stands for the answer of a call in a row's column of values.
+/// A text of at most 128 bytes: no type shows more by `Debug`, and no refusal is longer.
 #[derive(Clone, Copy)]
-pub enum Word {
-    /// Bits, of so many.
+pub struct Text {
+    bytes: [u8; 128],
+    length: usize,
+}
+
+impl Text {
+    /// A copy of a text, which has room.
+    pub fn of(text: &str) -> Text {
+        let (bytes, length) = ([0; 128], 0);
+        let mut copy = Text { bytes, length };
+        let _ = copy.write_str(text);
+        copy
+    }
+
+    /// The bytes of the text.
+    pub fn as_bytes(&self) -> &[u8] {
+        &self.bytes[..self.length.min(128)]
+    }
+}
+
+impl fmt::Write for Text {
+    fn write_str(&mut self, text: &str) -> fmt::Result {
+        for byte in text.as_bytes() {
+            if self.length >= 128 {
+                return Err(fmt::Error);
+            }
+            self.bytes[self.length] = *byte;
+            self.length += 1;
+        }
+        Ok(())
+    }
+}
+
+/// What a call in the type `F` returns.
+pub enum Returned<F> {
+    Value(F),
+    Optional(Option<F>),
+    Rounded(StatusAnd<F>),
+    // A fraction, and its exponent.
+    Fraction(F, ExpInt),
+    // An integer, and whether it is exact.
+    Integer(StatusAnd<RowField>, RowField),
+    // Something else without a status.
+    Field(RowField),
+    Refused(Text),
+}
+
+/// What is compared with one of the last three columns of a row.
+#[derive(Clone, Copy)]
+pub enum RowField {
+    Nothing,
+    // The bits of a value, and how many there are.
     Bits(u128, usize),
-    /// A value of a format without bits.
-    Quanta(Quanta),
-    /// The value of a format without bits that the row has.
-    AsInRow,
+    // A value of a format without bits: that of the row, or another one.
+    InRow,
+    Quanta(Text),
     Unsigned(u128),
     Signed(i128),
     Truth(bool),
     Order(Option<Ordering>),
-    Category(Category),
-    /// No value, of a call that may have none.
-    Nothing,
-    /// What `Debug` shows, or why a text is refused.
     Text(Text),
-}
-
-/// What stands in a row's column of flags.
-#[derive(Clone, Copy)]
-pub enum Outcome {
-    /// The call has no status.
-    Silent,
-    /// The flags.
-    Raised(Status),
-    /// A text is refused.
+    // In the column of flags; `Refused` is about a text.
+    Flags(Status),
     Refused,
-}
-
-/// What stands in a row's last column.
-#[derive(Clone, Copy)]
-pub enum Extra {
-    Nothing,
+    // In the last column. A remainder takes that many steps, and at most that many.
     IsSignaling(bool),
     IsExact(bool),
     LosesInfo(bool),
     Exponent(ExpInt),
-    /// How many steps a remainder takes, and the most that it can take.
     Steps(u32, ExpInt),
 }
 
-/// What a call answers.
+/// What a call returns, as the last three columns of a row.
 #[derive(Clone, Copy)]
-pub struct Answer {
-    pub value: Word,
-    pub outcome: Outcome,
-    pub extra: Extra,
+pub struct RowAnswer {
+    /// The value.
+    pub value: RowField,
+    /// The flags.
+    pub status: RowField,
+    /// What else the call returns.
+    pub extra: RowField,
 }
 
-impl Answer {
-    /// An answer without a status and with nothing else.
-    pub fn silent(value: Word) -> Answer {
-        Answer {
+impl RowAnswer {
+    /// The columns for what the call of a row returns.
+    pub fn of<F: Float + Debug>(returned: Returned<F>, row: CallRow<'_>) -> RowAnswer {
+        match returned {
+            Returned::Value(x) | Returned::Optional(Some(x)) => RowAnswer::told(field_of(x, row)),
+            Returned::Optional(None) => RowAnswer::told(RowField::Text(shown(None::<bool>))),
+            Returned::Rounded(StatusAnd { status, value }) => RowAnswer {
+                value: field_of(value, row),
+                status: RowField::Flags(status),
+                extra: RowField::IsSignaling(value.is_signaling()),
+            },
+            Returned::Fraction(x, exponent) => RowAnswer {
+                extra: RowField::Exponent(exponent),
+                ..RowAnswer::told(field_of(x, row))
+            },
+            Returned::Integer(StatusAnd { status, value }, extra) => RowAnswer {
+                value,
+                status: RowField::Flags(status),
+                extra,
+            },
+            Returned::Field(value) => RowAnswer::told(value),
+            Returned::Refused(reason) => RowAnswer {
+                status: RowField::Refused,
+                ..RowAnswer::told(RowField::Text(reason))
+            },
+        }
+    }
+
+    /// The columns for a result without a status.
+    pub fn told(value: RowField) -> RowAnswer {
+        RowAnswer {
             value,
-            outcome: Outcome::Silent,
-            extra: Extra::Nothing,
+            status: RowField::Nothing,
+            extra: RowField::Nothing,
         }
     }
 
-    /// An answer with a status.
-    pub fn raised(value: Word, status: Status, extra: Extra) -> Answer {
-        Answer {
-            value,
-            outcome: Outcome::Raised(status),
-            extra,
-        }
-    }
-
-    /// A refusal of a text.
-    pub fn refused(reason: Text) -> Answer {
-        Answer {
-            value: Word::Text(reason),
-            outcome: Outcome::Refused,
-            extra: Extra::Nothing,
-        }
-    }
-
-    /// Whether the answer is the one that a row has.
-    pub fn is_of<'a>(&self, row: Row<'a>) -> Result<bool, RowError<'a>> {
-        let Some(has_status) = self.outcome.is_named(row.status) else {
-            return Err(RowError::Status(row.status));
+    /// Whether a row has these columns; `-` in the last one agrees with anything.
+    pub fn is_of<'a>(&self, row: CallRow<'a>) -> Result<bool, RowError<'a>> {
+        let is_refusal = row.status == "ParseError";
+        let has_status = match self.status.is_named(row.status) {
+            _ if is_refusal => matches!(self.status, RowField::Refused),
+            named => named.ok_or(RowError::Word("no flags of the call", row.status))?,
         };
-        let is_refused = row.status == "ParseError";
-        let Some(has_extra) = self.extra.is_named(row.extra) else {
-            return Err(RowError::Extra(row.extra));
+        let has_extra = match self.extra.is_named(row.extra) {
+            _ if row.extra == "-" => true,
+            named => named.ok_or(RowError::Word("nothing that the call answers", row.extra))?,
         };
-        match self.value.is_named(row.value) {
-            Some(has_value) => Ok(has_value && has_status && has_extra),
-            None if is_refused => Ok(false),
-            None => Err(RowError::Value(row.value)),
-        }
+        let has_value = match self.value.is_named(row.value) {
+            None if is_refusal => false,
+            named => named.ok_or(RowError::Word("no value of the call", row.value))?,
+        };
+        Ok(has_value && has_status && has_extra)
     }
 
-    /// Writes the answer as the last three columns of a row.
-    pub fn write<W: Write>(&self, row: Row<'_>, out: &mut W) -> io::Result<()> {
+    /// Writes the columns, the last one if the row has it.
+    pub fn write<W: Write>(&self, row: CallRow<'_>, out: &mut W) -> io::Result<()> {
         self.value.write(row.value, out)?;
         out.write_all(b"\t")?;
-        self.outcome.write(out)?;
+        self.status.write(row.status, out)?;
         out.write_all(b"\t")?;
+        if row.extra == "-" {
+            return out.write_all(b"-");
+        }
         self.extra.write(row.extra, out)
     }
 }
 
-impl Word {
-    /// Whether this is what a word stands for, if that is a word of its kind.
+/// The field of a value: its canonical bits, if the format has bits.
+fn field_of<F: Float + Debug>(x: F, row: CallRow<'_>) -> RowField {
+    if F::PRECISION < F::BITS {
+        return RowField::Bits(x.to_bits(), F::BITS);
+    }
+    if is_quanta_of(x, row.value) {
+        return RowField::InRow;
+    }
+    match text_of(x) {
+        Some(text) => RowField::Quanta(text),
+        None => RowField::Text(shown(x)),
+    }
+}
+
+/// What `Debug` shows.
+pub fn shown<T: Debug + Copy>(x: T) -> Text {
+    let mut text = Text::of("");
+    let _ = write!(text, "{x:?}");
+    text
+}
+
+impl RowField {
+    /// What a word for this begins with.
+    fn label(&self) -> &'static str {
+        match self {
+            RowField::IsSignaling(_) => "is_signaling=",
+            RowField::IsExact(_) => "is_exact=",
+            RowField::LosesInfo(_) => "loses_info=",
+            RowField::Exponent(_) => "exponent=",
+            RowField::Steps(_, _) => "steps=",
+            _ => "",
+        }
+    }
+
+    /// Whether a word stands for this, or nothing if it cannot be compared with this.
     fn is_named(&self, word: &str) -> Option<bool> {
+        let word = word.strip_prefix(self.label())?;
         match *self {
-            Word::Bits(_, _) | Word::Quanta(_) if word == "None" => Some(false),
-            Word::Bits(bits, width) => Some(bits == bits_of(word, width)?),
-            Word::Quanta(_) if is_word(word) => Some(false),
-            Word::Quanta(_) => None,
-            Word::AsInRow => Some(true),
-            Word::Unsigned(number) => Some(number == number_of(word)?),
-            Word::Signed(number) => Some(number == word.parse::<i128>().ok()?),
-            Word::Truth(holds) => Some(holds == truth_of(word)?),
-            Word::Order(order) => Some(order == order_named(word)?),
-            Word::Category(category) => Some(word == category_name(category)),
-            Word::Nothing => Some(word == "None"),
-            Word::Text(text) => Some(word.as_bytes() == text.as_bytes()),
+            RowField::Nothing => if word == "-" { Some(true) } else { None },
+            RowField::Bits(_, _) | RowField::Quanta(_) if word == "None" => Some(false),
+            RowField::Bits(bits, width) => Some(bits == bits_of(word, width)?),
+            RowField::InRow => Some(true),
+            RowField::Quanta(_) => parts_of(word).and(Some(false)),
+            RowField::Unsigned(number) => Some(number == number_of(word)?),
+            RowField::Signed(number) => Some(number == word.parse().ok()?),
+            RowField::Truth(holds)
+            | RowField::IsSignaling(holds)
+            | RowField::IsExact(holds)
+            | RowField::LosesInfo(holds) => Some(holds == word.parse().ok()?),
+            RowField::Order(order) => match word {
+                "None" | "Less" | "Equal" | "Greater" => Some(word == order_name(order)),
+                _ => None,
+            },
+            RowField::Text(text) => Some(word.as_bytes() == text.as_bytes()),
+            RowField::Refused if word == "-" => Some(false),
+            RowField::Refused => status_named(word).and(Some(false)),
+            RowField::Flags(status) => Some(status.bits() == status_named(word)?.bits()),
+            RowField::Exponent(exponent) => Some(exponent == word.parse().ok()?),
+            RowField::Steps(taken, bound) => are_steps(taken, bound, word),
         }
     }
 
-    /// Writes the word for this, which may be that of a row.
-    fn write<W: Write>(&self, of_row: &str, out: &mut W) -> io::Result<()> {
+    /// Writes the word for this, with as much as the row has.
+    fn write<W: Write>(&self, in_row: &str, out: &mut W) -> io::Result<()> {
+        out.write_all(self.label().as_bytes())?;
         match *self {
-            Word::Bits(bits, width) => write_bits(bits, width, out),
-            Word::Quanta(quanta) => quanta.write(out),
-            Word::AsInRow => out.write_all(of_row.as_bytes()),
-            Word::Unsigned(number) => write!(out, "{number}"),
-            Word::Signed(number) => write!(out, "{number}"),
-            Word::Truth(holds) => write!(out, "{holds}"),
-            Word::Order(order) => out.write_all(order_name(order).as_bytes()),
-            Word::Category(category) => out.write_all(category_name(category).as_bytes()),
-            Word::Nothing => out.write_all(b"None"),
-            Word::Text(text) => out.write_all(text.as_bytes()),
+            RowField::Nothing => out.write_all(b"-"),
+            RowField::Bits(bits, width) => {
+                let digits = width.div_ceil(4).max(1);
+                write!(out, "{bits:0digits$x}")
+            }
+            RowField::InRow => out.write_all(in_row.as_bytes()),
+            RowField::Unsigned(number) => write!(out, "{number}"),
+            RowField::Signed(number) => write!(out, "{number}"),
+            RowField::Truth(holds)
+            | RowField::IsSignaling(holds)
+            | RowField::IsExact(holds)
+            | RowField::LosesInfo(holds) => write!(out, "{holds}"),
+            RowField::Order(order) => out.write_all(order_name(order).as_bytes()),
+            RowField::Quanta(text) | RowField::Text(text) => out.write_all(text.as_bytes()),
+            RowField::Refused => out.write_all(b"ParseError"),
+            RowField::Flags(status) => write_status(status, out),
+            RowField::Exponent(exponent) => write!(out, "{exponent}"),
+            RowField::Steps(taken, bound) if in_row.contains(' ') => {
+                write!(out, "{taken} bound={bound}")
+            }
+            RowField::Steps(taken, _) => write!(out, "{taken}"),
         }
     }
 }
 
-impl Outcome {
-    /// Whether this is what a word stands for, if that is a word of a status.
-    fn is_named(self, word: &str) -> Option<bool> {
-        match (self, word) {
-            (Outcome::Refused, "ParseError") => Some(true),
-            (Outcome::Refused, "-") => Some(false),
-            (Outcome::Refused, flags) => {
-                status_named(flags)?;
-                Some(false)
-            }
-            (_, "ParseError") => Some(false),
-            (Outcome::Silent, word) => if word == "-" { Some(true) } else { None },
-            (Outcome::Raised(status), flags) => Some(status.bits() == status_named(flags)?.bits()),
-        }
-    }
-
-    /// Writes the word for this.
-    fn write<W: Write>(self, out: &mut W) -> io::Result<()> {
-        match self {
-            Outcome::Silent => out.write_all(b"-"),
-            Outcome::Raised(status) => write_status(status, out),
-            Outcome::Refused => out.write_all(b"ParseError"),
-        }
+/// The name of an order, which may be none.
+fn order_name(order: Option<Ordering>) -> &'static str {
+    match order {
+        None => "None",
+        Some(Ordering::Less) => "Less",
+        Some(Ordering::Equal) => "Equal",
+        Some(Ordering::Greater) => "Greater",
     }
 }
 
-impl Extra {
-    /// Whether this is what a word stands for, if that is a word of its kind; a `-` states nothing.
-    fn is_named(self, word: &str) -> Option<bool> {
-        if word == "-" {
-            return Some(true);
-        }
-        match self {
-            Extra::Nothing => None,
-            Extra::IsSignaling(holds) => Some(holds == truth_behind("is_signaling=", word)?),
-            Extra::IsExact(holds) => Some(holds == truth_behind("is_exact=", word)?),
-            Extra::LosesInfo(holds) => Some(holds == truth_behind("loses_info=", word)?),
-            Extra::Exponent(exponent) => {
-                let stated = word.strip_prefix("exponent=")?;
-                Some(exponent == stated.parse::<ExpInt>().ok()?)
-            }
-            Extra::Steps(taken, bound) => are_steps(taken, bound, word),
-        }
-    }
-
-    /// Writes what is answered where a row states it.
-    fn write<W: Write>(self, of_row: &str, out: &mut W) -> io::Result<()> {
-        if of_row == "-" {
-            return out.write_all(b"-");
-        }
-        match self {
-            Extra::Nothing => out.write_all(b"-"),
-            Extra::IsSignaling(holds) => write!(out, "is_signaling={holds}"),
-            Extra::IsExact(holds) => write!(out, "is_exact={holds}"),
-            Extra::LosesInfo(holds) => write!(out, "loses_info={holds}"),
-            Extra::Exponent(exponent) => write!(out, "exponent={exponent}"),
-            Extra::Steps(taken, bound) => {
-                write!(out, "steps={taken}")?;
-                if of_row.contains(' ') {
-                    write!(out, " bound={bound}")?;
-                }
-                Ok(())
-            }
-        }
-    }
-}
-
-/// Whether a remainder takes as many steps as a word says, and they are within the bound that it may have.
-fn are_steps(taken: u32, bound: ExpInt, word: &str) -> Option<bool> {
-    let counted = word.strip_prefix("steps=")?;
-    let (steps, is_bounded) = match counted.split_once(" bound=") {
-        None => (counted, true),
-        Some((steps, stated)) => {
-            let is_stated = bound == stated.parse::<ExpInt>().ok()?;
-            (steps, is_stated && i64::from(taken) <= i64::from(bound))
-        }
+/// Whether a remainder takes the stated number of steps, and no more than the stated bound, if there is one.
+fn are_steps(taken: u32, bound: ExpInt, stated: &str) -> Option<bool> {
+    let Some((steps, stated)) = stated.split_once(" bound=") else {
+        return Some(taken == stated.parse().ok()?);
     };
-    Some(taken == steps.parse::<u32>().ok()? && is_bounded)
+    let is_stated = bound == stated.parse().ok()?;
+    let is_within = i64::from(taken) <= i64::from(bound);
+    Some(taken == steps.parse().ok()? && is_stated && is_within)
 }
 
-/// Writes bits as hexadecimal digits, with leading zeros.
-fn write_bits<W: Write>(bits: u128, width: usize, out: &mut W) -> io::Result<()> {
-    let digits = width.div_ceil(4).max(1).min(32);
-    for i in 0..32usize {
-        if i >= 32 - digits {
-            let digit = ((bits >> (4 * (31 - i))) % 16) as u8;
-            write!(out, "{digit:x}")?;
-        }
-    }
-    Ok(())
-}
-
-/// The status of the names of flags, which bars join in the order of their bits, or of `OK`.
+/// The status of this word: `OK`, or the names of flags, joined by bars in the order of their bits.
 pub fn status_named(word: &str) -> Option<Status> {
     let mut status = Status::OK;
     if word == "OK" {
         return Some(status);
     }
     for name in word.split('|') {
-        let flag = flag_named(name)?;
+        let flag = Status::from_name(name)?;
         if flag.bits() <= status.bits() {
             return None;
         }
         status = status.union(flag);
     }
     Some(status)
-}
-
-/// The flag of this name.
-fn flag_named(name: &str) -> Option<Status> {
-    match name {
-        "INVALID_OP" => Some(Status::INVALID_OP),
-        "DIV_BY_ZERO" => Some(Status::DIV_BY_ZERO),
-        "OVERFLOW" => Some(Status::OVERFLOW),
-        "UNDERFLOW" => Some(Status::UNDERFLOW),
-        "INEXACT" => Some(Status::INEXACT),
-        _ => None,
-    }
-}
-
-/// The truth value that stands behind a name.
-fn truth_behind(name: &str, word: &str) -> Option<bool> {
-    truth_of(word.strip_prefix(name)?)
-}
-
-/// The truth value of this name.
-fn truth_of(word: &str) -> Option<bool> {
-    match word {
-        "true" => Some(true),
-        "false" => Some(false),
-        _ => None,
-    }
-}
-
-/// The name of a category.
-fn category_name(category: Category) -> &'static str {
-    match category {
-        Category::Infinity => "Infinity",
-        Category::NaN => "NaN",
-        Category::Normal => "Normal",
-        Category::Zero => "Zero",
-    }
 }

@@ -1,0 +1,75 @@
+//! Rows of calls: their seven columns.
+
+ghost use Rattle.std.specs.Prelude.{◌≡◌, ◌++◌, ◌∷◌};
+ghost use Rattle.std.specs.Option.{IfSome};
+
+use crate::failure::RowError;
+
+/// The columns of a row.
+#[derive(Clone, Copy)]
+pub struct CallRow<'a> {
+    /// The name of the call, or an operator.
+    pub call: &'a str,
+    /// The format, or `SOURCE>TARGET` of a conversion.
+    pub format: &'a str,
+    /// The rounding mode, `any` for each mode, or `-` for a call without one.
+    pub mode: &'a str,
+    /// The operands, separated by single spaces, or a text.
+    pub operands: &'a str,
+    /// The value, or the words of a refusal.
+    pub value: &'a str,
+    /// The names of the flags, `OK` for none, `-` for a call without a status, or `ParseError` for a refusal.
+    pub status: &'a str,
+    /// What else the call returns, as `exponent=-3`, or `-`.
+    pub extra: &'a str,
+}
+
+/// The row on a line, if the line has seven columns.
+pub fn row_of(line: &str) -> Option<CallRow<'_>>
+    ensures { IfSome result
+        (λ row. line.now ≡ row.call.now ++ 9 ∷ row.format.now ++ 9 ∷ row.mode.now ++ 9
+        ∷ row.operands.now ++ 9 ∷ row.value.now ++ 9 ∷ row.status.now ++ 9 ∷ row.extra.now) }
+{
+    let (call, others) = cut_column(line)?;
+    let (format, others) = cut_column(others)?;
+    let (mode, others) = cut_column(others)?;
+    let (operands, others) = cut_column(others)?;
+    let (value, others) = cut_column(others)?;
+    let (status, extra) = cut_column(others)?;
+    if extra.contains('\t') {
+        return None;
+    }
+    Some(CallRow {
+        call,
+        format,
+        mode,
+        operands,
+        value,
+        status,
+        extra,
+    })
+}
+
+/// The first column, and the text after its tab.
+fn cut_column(text: &str) -> Option<(&str, &str)>
+    ensures { IfSome result (λ parts. text.now ≡ parts.0.now ++ 9 ∷ parts.1.now) }
+{
+    text.split_once('\t')
+}
+
+impl<'a> CallRow<'a> {
+    /// The first operand, and the others.
+    pub fn cut_operand(self) -> Result<(&'a str, &'a str), RowError<'a>> {
+        self.operands.split_once(' ').ok_or(self.operand_error())
+    }
+
+    /// The error for operands that the call does not take.
+    pub fn operand_error(self) -> RowError<'a> {
+        RowError::Word("no operands of the call", self.operands)
+    }
+
+    /// The error for a call that the format does not have.
+    pub fn support_error(self) -> RowError<'a> {
+        RowError::Word("no such call here", self.call)
+    }
+}
