@@ -132,7 +132,7 @@ near_end true false e = cc
 near_end false true e = cc
 near_end false false e = cc
 
--- beside a number that is not zero stands only one of its sign
+-- only a number of the same sign is next to a number that is not zero
 number_beside : (category : Category) (shape : Shape) (y : Unpacked) (negative : Bool) → IsStoredBy category shape y
     → number_side negative ≡ side (datum_by category shape y) → (category ≡ Normal) × (y.negative ≡ negative)
 number_beside Normal shape y b h e =

@@ -1,4 +1,4 @@
--- Where a number stands beside the smallest one whose significand has all digits.
+-- How a number compares with the smallest one whose significand has all digits.
 use Rattle.std.proofs.Common.{refl, sym, subst, ◌≡◌, ℕ, ◌-◌, ◌*◌, ◌^◌, ◌<◌, ◌≤◌, ℤ, ◌-ℤ◌, ◌<ℤ◌, ◌≤ℤ◌, Bool, true, false, not, T, arith}
 use Rattle.std.specs.Prelude.{unsigned_abs, ltb}
 use Rattle.std.specs.Int.Signed.{lt_z, lt_z_yes, lt_z_no}

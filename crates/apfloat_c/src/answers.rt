@@ -159,7 +159,7 @@ fn to_signed<F: Float>(round: Round, x: u128, width: u32) -> Result<Answer, u32>
     Ok(Answer::of(whole.value.cast_unsigned(), whole.status, one_if(is_exact)))
 }
 
-/// The whole number beside a value.
+/// A value rounded to an integral value.
 fn round_to_integral<F: Float>(round: Round, x: u128) -> Answer
     requires { F.PRECISION < F.BITS }
     ensures { IsTypeAnswer (relations_of F.Float.own F.partial_cmp) round (RoundToIntegral x)

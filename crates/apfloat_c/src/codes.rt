@@ -24,7 +24,7 @@ pub const WRONG_WIDTH: u32 = 4;
 /// The error of a text without a meaning.
 pub const REFUSED_TEXT: u32 = 5;
 
-/// Whether a whole number can have this width, which is at least so much.
+/// Whether an integer can have this width, with at least that many bits.
 pub fn is_width(least: u32, width: u32) -> bool
     ensures { result ≡ (nat_le least width && nat_le width 128) }
 {
@@ -38,7 +38,7 @@ pub fn one_if(holds: bool) -> i32
     if holds { 1 } else { 0 }
 }
 
-/// The code of an order: -1, 0 or 1, and 2 beside a NaN.
+/// The code of an order: -1, 0 or 1, and 2 if either operand is a NaN.
 pub fn order_code(order: Option<Ordering>) -> i32
     ensures { result ≡ order_code order }
 {

@@ -13,11 +13,11 @@ pub enum ExportedCall<'a> {
     FromUnsigned(u128),
     /// A whole number with a sign as a value.
     FromSigned(i128),
-    /// A value as a whole number of so many digits.
+    /// A value as an integer of that many binary digits.
     ToUnsigned(u128, u32),
-    /// A value as a whole number of so many digits in two's complement.
+    /// A value as an integer of that many binary digits, in two's complement.
     ToSigned(u128, u32),
-    /// The whole number beside a value.
+    /// A value rounded to an integral value.
     RoundToIntegral(u128),
     /// A value times a power of two.
     Scaling(u128, i32),

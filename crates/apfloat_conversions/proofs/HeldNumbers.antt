@@ -202,7 +202,7 @@ same_quanta m a b f g k d u d' u' h h' e =
     let t : m * 2 ^ k * 2 ^ u' * 2 ^ f ≡ m * (2 ^ f * 2 ^ (k + u')) = rw (pow-add 2 k u') (omega arith) in
     eq_of_mul-eq-mul_right (2 ^ d') (pow_pos d') (a * 2 ^ g) (b * 2 ^ f) (l ∙ sym (q ∙ r ∙ t))
 
--- it stands for so many quanta more, or less, as the quantum is finer, or coarser
+-- it is more quanta where the quantum is finer, and fewer where it is coarser
 pub same_there : (source target : Shape) (m : ℕ) (e : ℤ)
     → source.precision ≤ target.precision → IsNormalAt source m e
     → IsNormalAt target (m * 2 ^ (target.precision - source.precision)) e

@@ -1,4 +1,4 @@
--- Whole numbers of so many binary digits, and the ends of their range.
+-- Integers of a given count of binary digits, and the ends of their range.
 use Rattle.std.proofs.Common.{◌≡◌, ℕ, ◌+◌, ◌-◌, ◌*◌, ◌/◌, ◌^◌, ◌<◌, ◌≤◌, Bool, true, false, cond, ◌&&◌, eqb, sym, refl, ap, ◌∙◌, arith, pos, neg_ℤ, ◌≤ℤ◌, int_lt}
 use Rattle.std.proofs.Math.Nat.{div-eq_of_lt-le}
 use Rattle.std.proofs.lemmas.Nat.{pow-add, pow_pos}
@@ -17,7 +17,7 @@ use Rattle.apfloat_base.proofs.whole_numbers.SignedTests.{less_so, less_not}
 pub same_number : (m n : ℕ) → pos m ≡ pos n → m ≡ n
 same_number m n h = omega (arith, ints, h)
 
--- a word shifted to so many digits has them all set
+-- a word of ones, shifted to leave some digits, has all of these set
 pub greatest_is : (width : ℕ) → width ≤ 128 → (2 ^ 128 - 1) / 2 ^ (128 - width) ≡ 2 ^ width - 1
 greatest_is width h =
     let e : width + (128 - width) ≡ 128 = omega arith in
@@ -38,7 +38,7 @@ signed_in : (negative : Bool) (width mag : ℕ) → mag ≤ limit width negative
 signed_in true width mag h = let e : mag ≡ 0 = omega arith in rw e refl
 signed_in false width mag h = refl
 
--- a magnitude in range is at most the greatest number of so many digits
+-- a magnitude in range is at most the greatest number of that many digits
 limit_high : (negative : Bool) (width mag : ℕ) → mag ≤ limit width negative → pos mag ≤ℤ pos (2 ^ width - 1)
 limit_high true width mag h = omega (arith, ints)
 limit_high false width mag h = omega (arith, ints)

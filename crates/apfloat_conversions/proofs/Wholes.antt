@@ -158,7 +158,7 @@ shifted_past digits s k f h =
     let b : 2 ^ 128 ≤ 2 ^ (digits + k) = pow-le-pow_right two_pos h in
     omega (arith, e, a, b)
 
--- a whole number of so many digits fits the word
+-- an integer of that many digits fits the word
 pub shifted_within : (precision s k : ℕ) → s < 2 ^ precision → precision + k ≤ 128 → s * 2 ^ k < 2 ^ 128
 shifted_within precision s k f h =
     let e : 2 ^ (precision + k) ≡ 2 ^ precision * 2 ^ k = pow-add 2 precision k in

@@ -43,7 +43,7 @@ fn round_fraction(significand: u128, places: u32, round: Round, negative: bool) 
     }
 }
 
-/// A nonzero number with digits behind its dot, rounded by the mode to a whole number; `exponent` is that of its last
+/// A nonzero number with digits after its dot, rounded by the mode to a whole number; `exponent` is that of its last
 /// digit.
 #[inline(always)]
 pub(crate) fn round_at_dot(shape: Shape, x: Unpacked, exponent: ExpInt, round: Round) -> Whole

@@ -20,14 +20,14 @@ use Rattle.apfloat_texts.specs.Scans.{IsScanned}
 use Rattle.apfloat_texts.specs.Saturation.{count_bound, fault_behind}
 use Rattle.apfloat_texts.specs.LiteralParts.{IsLiteralRead}
 
--- ---- the number behind the prefix
+-- ---- the number after the prefix
 
--- what was scanned, with an exponent behind it, has no fault
+-- what was scanned, followed by an exponent, has no fault
 fault_free : (rest tail : List ℕ) (scan : Scan) → is_empty rest ≡ false
     → IsScanned rest tail scan → fault_behind scan.some tail ≡ None → behind_prefix_fault rest ≡ None
 fault_free rest tail scan n s f = rw (n, s.one_dot, s.empty_is, s.tail_is) f
 
--- the number behind the prefix, where no fault was found
+-- the number after the prefix, where no fault was found
 pub literal_read : (shape : Shape) (mode : Round) (negative : Bool) (rest tail : List ℕ) (scan : Scan)
     (answer : StatusAnd Unpacked)
     → is_empty rest ≡ false → IsScanned rest tail scan → fault_behind scan.some tail ≡ None

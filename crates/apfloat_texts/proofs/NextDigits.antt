@@ -1,4 +1,4 @@
--- One more digit behind a number of which the leading bits are kept.
+-- One more digit after a number of which the leading bits are kept.
 use Rattle.std.proofs.Common.{◌≡◌, ℕ, ◌+◌, ◌-◌, ◌*◌, ◌^◌, ◌<◌, ◌≤◌, sym, ap, ◌∙◌, subst, inr, arith}
 use Rattle.std.proofs.lemmas.Nat.{pow-add, pow_pos}
 use Rattle.apfloat_base.specs.declared.sig.loss.Loss.{Loss}

@@ -20,7 +20,7 @@ by_ends c d ys =
     let e : length (c ∷ d ∷ ys) - 2 ≡ length ys = omega arith in
     rw e (ap (λ (b : Bool). eqb c 40 && b) (last_same d ys))
 
--- the last character of a text of two or more is the last one behind the first
+-- the last character of a text of two or more is the last one after the first
 last_of : (c d : ℕ) (ys : List ℕ) → get_or (c ∷ d ∷ ys) (length (c ∷ d ∷ ys) - 1) 0 ≡ get_or (d ∷ ys) (length ys) 0
 last_of c d ys =
     let e : length (c ∷ d ∷ ys) - 1 ≡ length (d ∷ ys) = omega arith in

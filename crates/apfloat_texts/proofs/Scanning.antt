@@ -29,7 +29,7 @@ ended : (left : List ℕ) → begins is_digit_or_dot left ≡ false → signific
 ended [] h = refl
 ended (c ∷ left) h = rw h refl
 
--- all of a text that begins with no digit and no dot stands behind the significand
+-- a text that begins with neither a digit nor a dot is all after the significand
 unmoved : (left : List ℕ) → begins is_digit_or_dot left ≡ false → behind_significand left ≡ left
 unmoved [] h = refl
 unmoved (c ∷ left) h = rw h refl
@@ -39,7 +39,7 @@ one_at_most : (pointed : Bool) → ltb 1 ((if pointed then 1 else 0) + 0) ≡ fa
 one_at_most true = refl
 one_at_most false = refl
 
--- with nothing left to read, no place behind the dot is added
+-- with nothing left to read, no place after the dot is added
 no_more : (pointed : Bool) (places : ℕ) → places + (if pointed then 0 else 0) ≡ places
 no_more true places = omega arith
 no_more false places = omega arith

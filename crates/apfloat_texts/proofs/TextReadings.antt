@@ -66,7 +66,7 @@ no_capital_special Unmarked rest = refl
 no_capital_special Plus rest = refl
 no_capital_special Minus rest = refl
 
--- a text with a literal's prefix behind its mark is no special value
+-- a text with a literal's prefix after its mark is no special value
 no_special : (text : List ℕ) → begins_literal (behind_mark text) ≡ true → special_of text ≡ None
 no_special text b =
     let body = behind_mark text in
@@ -77,7 +77,7 @@ no_special text b =
     (λ (p : body ≡ codes "0X" ++ rest). ap meaning p ∙ no_capital_special (mark_of text) rest)
     (begun_of body b)
 
--- the fault of a literal is the one behind its prefix
+-- the fault of a literal is that of what follows its prefix
 literal_fault_is : (text : List ℕ) → is_empty text ≡ false → is_empty (behind_mark text) ≡ false
     → special_of text ≡ None → begins_literal (behind_mark text) ≡ true
     → fault_of text ≡ behind_prefix_fault (drop 2 (behind_mark text))
@@ -100,7 +100,7 @@ text_of_literal shape mode text answer l r =
       };
     }
 
--- a number, or the first fault behind the prefix
+-- a number, or the first fault after the prefix
 pub literal_text : (shape : Shape) (mode : Round) (text rest : List ℕ) (negative : Bool)
     (result : Result (StatusAnd Unpacked) Fault)
     → is_empty text ≡ false → is_empty (behind_mark text) ≡ false → begins_literal (behind_mark text) ≡ true

@@ -23,7 +23,7 @@ pub record IsNamedTo (status : ℕ) (table : List (List ℕ × ℕ)) (place : �
 pub name_none : (status : ℕ) (table : List (List ℕ × ℕ)) (old : Option (List ℕ)) → IsNamedTo status table 0 [] old old
 name_none status table old = record { separator_is = refl; written = Appends-nil old }
 
--- one more name is joined behind a bar, unless it is the first
+-- one more name is joined by a bar, unless it is the first
 join-push : (names : List (List ℕ)) (name : List ℕ)
     → join_with_byte bar (names ++ name ∷ []) ≡ join_with_byte bar names ++ (bar_after names ++ name)
 join-push [] name = refl
@@ -32,7 +32,7 @@ join-push (x ∷ y ∷ names) name =
     ap (λ l. x ++ bar ∷ l) (join-push (y ∷ names) name)
     ∙ sym (append_assoc x (bar ∷ join_with_byte bar (y ∷ names)) (bar ∷ name))
 
--- behind a name there is a bar before the next
+-- after a name there is a bar before the next
 bar-push : (names : List (List ℕ)) (name : List ℕ) → bar_after (names ++ name ∷ []) ≡ bar ∷ []
 bar-push [] name = refl
 bar-push (x ∷ names) name = refl
@@ -51,7 +51,7 @@ names_more status place table flag d b within e raised =
     ∙ ap (λ v. filter (is_raised status) (take place table) ++ cond v (flag ∷ []) []) raised)
     ∙ map-append _ (filter (is_raised status) (take place table)) (cond b (flag ∷ []) [])
 
--- a raised flag is named behind those before it
+-- a raised flag is named after those before it
 named : (status place : ℕ) (table : List (List ℕ × ℕ)) (flag fallback : List ℕ × ℕ) (separator : List ℕ)
     (old now new : Option (List ℕ))
     → place < length table → get_or table place fallback ≡ flag → is_raised status flag ≡ true
@@ -87,7 +87,7 @@ at_place : {A : Type 0} (row : A → List ℕ × ℕ) (items : List A) (place : 
     → get_or (map row items) place (row fallback) ≡ row (get_or items place fallback)
 at_place row items place d within = get_or-map row items place d (row d) within
 
--- a flag that is raised is written behind those before it
+-- a raised flag is written after those before it
 pub name_more : {A : Type 0} (row : A → List ℕ × ℕ) (items : List A) (fallback : A) (status place : ℕ)
     (separator name : List ℕ) (old now new : Option (List ℕ))
     → place < length items → is_raised status (row (get_or items place fallback)) ≡ true

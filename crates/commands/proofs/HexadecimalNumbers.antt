@@ -5,7 +5,7 @@ use Rattle.rustc_apfloat.specs.Digits.{every, is_hexadecimal, digit_value, numbe
 use Rattle.apfloat_base.proofs.general.Choices.{passed, refused}
 use Rattle.apfloat_base.proofs.general.MoreDigits.{digit_more, digit_fits}
 
--- a number with one more digit behind it
+-- a number followed by one more digit
 abbrev pub longer : ℕ → ℕ → ℕ
 longer n c = n * 16 + digit_value c
 
@@ -21,7 +21,7 @@ value_of c = if is_hexadecimal c then Some (digit_value c) else None
 
 -- ---- one digit
 
--- behind a digit the reading goes on with the longer number
+-- after a digit the reading goes on with the longer number
 read_on-cons : (n c : ℕ) (digits : List ℕ) → is_hexadecimal c ≡ true
     → read_on n (c ∷ digits) ≡ read_on (longer n c) digits
 unfolding read_on

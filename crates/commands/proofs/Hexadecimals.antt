@@ -62,14 +62,14 @@ write_more number rest place digit text within so_far digit_is = record {
   digits = digits_more number rest place digit text within so_far digit_is;
 }
 
--- the last digits of a longer text are the text of so many digits
+-- the last digits of a longer text are the text of that many digits
 text_drop : (number digits more : ℕ)
     → drop more (hexadecimal_text number (digits + more)) ≡ hexadecimal_text number digits
 unfolding hexadecimal_text
 text_drop number digits zero = rw (add-zero digits) refl
 text_drop number digits (suc more) = rw (add-suc digits more) (text_drop number digits more)
 
--- the text of so many digits has that length
+-- the text of a count of digits has that length
 length-text : (number digits : ℕ) → length (hexadecimal_text number digits) ≡ digits
 unfolding hexadecimal_text
 length-text number zero = refl

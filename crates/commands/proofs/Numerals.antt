@@ -7,7 +7,7 @@ use Rattle.apfloat_base.proofs.general.Choices.{first_holds, first_fails, last_f
 use Rattle.rustc_apfloat.specs.Digits.{every, is_decimal, digit_value}
 use Rattle.commands.specs.Commands.{whole_number_of}
 
--- a number with one more digit behind it
+-- a number followed by one more digit
 abbrev pub longer : ℕ → ℕ → ℕ
 longer n c = n * 10 + digit_value c
 
@@ -29,7 +29,7 @@ fold_grows n (c ∷ digits) =
     let grown : n ≤ longer n c = omega arith in
     omega arith
 
--- behind a digit the reading goes on with the longer number
+-- after a digit the reading goes on with the longer number
 read_on-cons : (n c : ℕ) (digits : List ℕ) → is_decimal c ≡ true
     → read_on n (c ∷ digits) ≡ read_on (longer n c) digits
 unfolding read_on
@@ -47,7 +47,7 @@ read_on-too_large n digits h =
     let grown = fold_grows n digits in
     last_fails (every is_decimal digits) _ _ (le-ltb _ _ (omega arith))
 
--- with no digits left, the number is the one that was read
+-- with no digits left, the number is what was read
 read_on-nil : (n : ℕ) → n < 2 ^ 128 → read_on n [] ≡ Some n
 unfolding read_on
 read_on-nil n h = grind (arith, nat_tests)

@@ -56,7 +56,7 @@ has kind Text = true
 
 -- ---- operands
 
--- 1 to 32 hexadecimal digits, behind 0x or without it, of a number below 2 ^ width
+-- 1 to 32 hexadecimal digits, after 0x or without it, of a number below 2 ^ width
 abbrev pub behind_0x : List ℕ → List ℕ
 behind_0x word = if same (take 2 word) (codes "0x") then drop 2 word else word
 
@@ -133,7 +133,7 @@ without_fault (Some fault) text = Err (words fault)
 abbrev pub with_text : List ℕ → Result Calculation (List ℕ)
 with_text text = without_fault (fault_of text) text
 
--- values have so many bits
+-- values have that many bits
 abbrev pub with_operands : ℕ → Operation → List (List ℕ) → Result Calculation (List ℕ)
 with_operands width (OfTwo arithmetic) operands =
     with_two width arithmetic (word_at operands 0) (word_at operands 1)
@@ -150,7 +150,7 @@ calculation kind operation name operands =
 abbrev pub commanded : Kind → Round → Result Calculation (List ℕ) → Result Command (List ℕ)
 commanded kind mode asked = asked >>= λ known. Ok (record { kind = kind; mode = mode; calculation = known })
 
--- the operation and the mode of their words, for so many operands
+-- the operation and the mode of their words, for a count of operands
 abbrev pub named : List ℕ → List ℕ → ℕ → Result (Operation × Round) (List ℕ)
 named operation mode count =
     ok_or (found operations operation) operation >>= λ known.
