@@ -110,16 +110,12 @@ def special_sum(x, y):
     return None
 
 
-def summed(x, y, mode):
-    """The sum of two pairs, by a chain of steps."""
-    special = special_sum(x, y)
-    if special:
-        return special
+def summed(x, y, steps):
+    """The sum of two numbers, by a chain of steps."""
     a, aa, c, cc = x.high, x.low, y.high, y.low
-    steps = Steps(mode)
     z = steps.add(a, c)
     if isinstance(z, Infinite):
-        return summed_from_the_smallest(x, y, mode)
+        return summed_from_the_smallest(x, y, Steps(steps.mode))
     q = steps.subtract(a, z)
     zz = steps.add(q, c)
     q = minus(steps.subtract(steps.add(q, z), a))
@@ -129,10 +125,9 @@ def summed(x, y, mode):
     return steps.closed(z, zz)
 
 
-def summed_from_the_smallest(x, y, mode):
+def summed_from_the_smallest(x, y, steps):
     """The sum where the high parts add up to an infinity: the low parts are added up first."""
     a, aa, c, cc = x.high, x.low, y.high, y.low
-    steps = Steps(mode)
     greater, smaller = (a, c) if a.quanta > c.quanta else (c, a)
     z = steps.add(steps.add(steps.add(cc, aa), smaller), greater)
     if not isinstance(z, Finite):
@@ -155,13 +150,9 @@ def special_product(x, y):
     return y if is_nonzero_number(x.high) else x, OK
 
 
-def multiplied(x, y, mode):
-    """The product of two pairs, by a chain of steps. The product of the low parts is left out."""
-    special = special_product(x, y)
-    if special:
-        return special
+def multiplied(x, y, steps):
+    """The product of two numbers, by a chain of steps, without the product of the low parts."""
     a, b, c, d = x.high, x.low, y.high, y.low
-    steps = Steps(mode)
     t = steps.multiply(a, c)
     if not is_nonzero_number(t):
         return Pair(t), steps.status
@@ -228,11 +219,11 @@ class PairValues(Values):
 
     def add(self, x, y, mode):
         """x + y."""
-        return summed(x, y, mode)
+        return special_sum(x, y) or summed(x, y, Steps(mode))
 
     def multiply(self, x, y, mode):
         """x * y."""
-        return multiplied(x, y, mode)
+        return special_product(x, y) or multiplied(x, y, Steps(mode))
 
     # By the wide format.
 
@@ -340,14 +331,6 @@ class PairValues(Values):
             for pair in (x, y)
         )
         return 1 if left > right else -1
-
-    def equal(self, x, y):
-        """Whether the values are equal in both parts."""
-        return self.compared(x, y) == 0
-
-    def same(self, x, y):
-        """Whether the data are the same."""
-        return x == y
 
     def is_negative(self, x):
         """Whether the sign of the high part is minus."""

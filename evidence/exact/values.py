@@ -4,6 +4,8 @@ A call takes and returns data, and returns the flags with its value where it has
 that both kinds share, in terms of others, stand in `Values`.
 """
 
+import functools
+
 from exact import (
     arithmetic,
     bits,
@@ -69,6 +71,14 @@ class Values:
             return x if self.is_negative(x) == (side == -1) else y
         return self.chosen_number(x, y, side)
 
+    def equal(self, x, y):
+        """Whether the values are equal. A NaN equals nothing; both zeros are equal."""
+        return self.compared(x, y) == 0
+
+    def same(self, x, y):
+        """Whether the data are the same."""
+        return x == y
+
     def is_normal(self, x):
         """Whether x is a number of full precision."""
         return self.category(x) == "Normal" and not self.is_denormal(x)
@@ -84,6 +94,16 @@ class Values:
     def is_largest(self, x):
         """Whether x is the largest number of its sign."""
         return self.same(x, self.copy_sign(self.largest(), x))
+
+
+def in_format(call):
+    """A method that makes a call at the format of its values."""
+
+    @functools.wraps(call)
+    def method(self, *operands):
+        return call(self.format, *operands)
+
+    return method
 
 
 class FormatValues(Values):
@@ -102,13 +122,8 @@ class FormatValues(Values):
 
     # Bits.
 
-    def decoded(self, pattern):
-        """The value of a bit pattern."""
-        return bits.decoded(self.format, pattern)
-
-    def encoded(self, x):
-        """The bits of a value."""
-        return bits.encoded(self.format, x)
+    decoded = in_format(bits.decoded)
+    encoded = in_format(bits.encoded)
 
     # Values that a format has.
 
@@ -132,79 +147,33 @@ class FormatValues(Values):
         """The infinity, or the NaN in its place."""
         return data.infinity(self.format, False)
 
-    def qnan(self, payload):
-        """The quiet NaN with a payload."""
-        return data.qnan(self.format, payload)
-
-    def snan(self, payload):
-        """The signaling NaN with a payload."""
-        return data.snan(self.format, payload)
+    qnan = in_format(data.qnan)
+    snan = in_format(data.snan)
 
     # Arithmetic.
 
-    def add(self, x, y, mode):
-        """x + y."""
-        return arithmetic.add(self.format, x, y, mode)
-
-    def subtract(self, x, y, mode):
-        """x - y. A NaN on the right keeps its sign."""
-        return arithmetic.subtract(self.format, x, y, mode)
-
-    def multiply(self, x, y, mode):
-        """x * y."""
-        return arithmetic.multiply(self.format, x, y, mode)
-
-    def divide(self, x, y, mode):
-        """x / y."""
-        return arithmetic.divide(self.format, x, y, mode)
-
-    def multiply_add(self, x, y, z, mode):
-        """x * y + z, rounded once."""
-        return arithmetic.multiply_add(self.format, x, y, z, mode)
-
-    def truncated_remainder(self, x, y):
-        """The remainder by the quotient cut toward zero."""
-        return remainders.truncated_remainder(self.format, x, y)
-
-    def nearest_remainder(self, x, y):
-        """The remainder by the nearest integer quotient."""
-        return remainders.nearest_remainder(self.format, x, y)
-
-    def next_up(self, x):
-        """The least value above x."""
-        return neighbours.next_up(self.format, x)
-
-    def negated(self, x):
-        """-x."""
-        return data.negated(self.format, x)
+    add = in_format(arithmetic.add)
+    subtract = in_format(arithmetic.subtract)
+    multiply = in_format(arithmetic.multiply)
+    divide = in_format(arithmetic.divide)
+    multiply_add = in_format(arithmetic.multiply_add)
+    truncated_remainder = in_format(remainders.truncated_remainder)
+    nearest_remainder = in_format(remainders.nearest_remainder)
+    next_up = in_format(neighbours.next_up)
+    negated = in_format(data.negated)
 
     # Exponents.
 
-    def scaled(self, x, exponent, mode):
-        """x * 2^exponent."""
-        return exponents.scaled(self.format, x, exponent, mode)
-
-    def logarithm(self, x):
-        """The floor of the binary logarithm."""
-        return exponents.logarithm(self.format, x)
-
-    def fraction(self, x, mode):
-        """The fraction and the exponent."""
-        return exponents.fraction(self.format, x, mode)
-
-    def exact_inverse(self, x):
-        """1 / x, if x is a power of two and both are normal numbers."""
-        return exponents.exact_inverse(self.format, x)
+    scaled = in_format(exponents.scaled)
+    logarithm = in_format(exponents.logarithm)
+    fraction = in_format(exponents.fraction)
+    exact_inverse = in_format(exponents.exact_inverse)
 
     # Integers.
 
-    def round_to_integral(self, x, mode):
-        """The integral value that the mode picks."""
-        return integers.round_to_integral(self.format, x, mode)
-
-    def from_integer(self, integer, mode):
-        """The value of an integer."""
-        return integers.from_integer(self.format, integer, mode)
+    round_to_integral = in_format(integers.round_to_integral)
+    from_integer = in_format(integers.from_integer)
+    is_integer = in_format(integers.is_integer)
 
     def to_unsigned(self, x, width, mode):
         """The unsigned integer of so many bits, the flags, and whether it is exactly x."""
@@ -217,13 +186,8 @@ class FormatValues(Values):
 
     # Texts.
 
-    def read(self, text, mode):
-        """The value of a text."""
-        return texts.read(self.format, text, mode)
-
-    def shown(self, x):
-        """A value as it is shown for debugging."""
-        return texts.shown(self.format, x)
+    read = in_format(texts.read)
+    shown = in_format(texts.shown)
 
     # Order and classes.
 
@@ -239,14 +203,6 @@ class FormatValues(Values):
         """The same for the magnitudes of two numbers."""
         return order.compared(self.absolute(x), self.absolute(y))
 
-    def equal(self, x, y):
-        """Whether the values are equal. A NaN equals nothing; both zeros are equal."""
-        return order.compared(x, y) == 0
-
-    def same(self, x, y):
-        """Whether the data are the same."""
-        return x == y
-
     def is_negative(self, x):
         """Whether the sign is minus, of NaNs too."""
         return x.negative
@@ -255,13 +211,7 @@ class FormatValues(Values):
         """Whether x is a number other than zero and below the normal ones."""
         return data.is_nonzero_number(x) and x.quanta < self.format.smallest_normalized
 
-    def is_signaling(self, x):
-        """Whether x is a signaling NaN."""
-        return data.is_signaling(self.format, x)
-
-    def is_integer(self, x):
-        """Whether x is an integer."""
-        return integers.is_integer(self.format, x)
+    is_signaling = in_format(data.is_signaling)
 
 
 VALUES = {name: FormatValues(known) for name, known in FORMATS.items()}

@@ -72,16 +72,21 @@ static int measure(const fltSemantics &format, const std::string &operation, con
                    const std::map<std::string, const fltSemantics *> &formats) {
   Result blank{APFloat::getZero(format), 0};
   if (operation == "parse")
-    return timed(lines.size(), blank, [&](size_t i, Result &to) { to.status = cantFail(to.value.convertFromString(lines[i], EVEN)); });
+    return timed(lines.size(), blank, [&](size_t i, Result &to) {
+      to.status = cantFail(to.value.convertFromString(lines[i], EVEN));
+    });
   if (operation == "int") {
     std::vector<APInt> integers;
     for (auto &line : lines) integers.push_back(APInt(128, line, 16));
-    return timed(lines.size(), blank, [&](size_t i, Result &to) { to.status = to.value.convertFromAPInt(integers[i], false, EVEN); });
+    return timed(lines.size(), blank, [&](size_t i, Result &to) {
+      to.status = to.value.convertFromAPInt(integers[i], false, EVEN);
+    });
   }
   std::vector<APFloat> x;
   for (auto &line : lines) {
     std::istringstream words(line);
-    for (std::string word; words >> word;) x.push_back(APFloat(format, APInt(APFloat::getSizeInBits(format), word, 16)));
+    unsigned width = APFloat::getSizeInBits(format);
+    for (std::string word; words >> word;) x.push_back(APFloat(format, APInt(width, word, 16)));
   }
   size_t count = lines.size();
   if (operation == "toint")

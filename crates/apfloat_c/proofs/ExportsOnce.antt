@@ -78,7 +78,8 @@ given_once given = number_once (λ (n : ℤ). n ≡ given) (λ m n h k. h ∙ sy
 
 -- ---- values of a type
 
-module _ {A : Type 0} (of_type : Relations A) (inverts : A → Option A → Type 0) (mode : Round) (precision width : ℕ)
+module _ {A : Type 0} (of_type : Relations A) (inverts : A → Option A → Type 0)
+    (mode : Round) (precision width : ℕ)
     (wide : precision < width) (once : AreDetermined of_type inverts mode precision width) where
   written_once : (given other : StatusAnd A) (i j : ℤ) (first second : Answer) → given ≡ other → i ≡ j
       → IsWritten of_type given i first → IsWritten of_type other j second → SameAnswer first second
@@ -165,7 +166,8 @@ module _ (constants : Constants) (has : HasLaw constants) (mode : Round) where
       (scale_some constants has.law) (lawful_interchange constants has.law)
 
   -- a value in another format
-  converted_once : (Holds : Datum → ℕ → Bool → Type 0) → OnceWith Holds → OnceAnswer (IsConvertedTo constants Holds)
+  converted_once : (Holds : Datum → ℕ → Bool → Type 0) → OnceWith Holds
+      → OnceAnswer (IsConvertedTo constants Holds)
   converted_once Holds determines a b x y =
       let same = determines x.given.value y.given.value (bits_of x.given.status) (bits_of y.given.status) x.loses
       y.loses x.holds y.holds in
@@ -214,8 +216,8 @@ unchanged old a b a_is b_is =
     }
 
 -- and one code
-without_once : (fault : Option ℕ) (known : BuiltInKind) (mode : Round) (call : ExportedCall) (old first second : Answer)
-    (code other : ℕ)
+without_once : (fault : Option ℕ) (known : BuiltInKind) (mode : Round) (call : ExportedCall)
+    (old first second : Answer) (code other : ℕ)
     → IsReply (without fault (record { kind = kind_of known; mode = mode; call = call })) old first code
     → IsReply (without fault (record { kind = kind_of known; mode = mode; call = call })) old second other
     → (code ≡ other) × SameAnswer first second

@@ -25,18 +25,20 @@ use Rattle.apfloat_c.specs.KnownCalls.{is_text, refused_text, unless}
 use Rattle.apfloat_c.specs.Answers.{FractionFits, IsOutcome, IsOutcomeBy, IsTypeOutcome}
 
 -- where the test holds, the answer is no refusal
-pub answered_if : (holds : Bool) (error : ℕ) (Holds : Answer → Type 0) (answer : Answer) → holds ≡ true → Holds answer
-    → IsOutcomeBy (unless holds error) Holds (Ok answer)
+pub answered_if : (holds : Bool) (error : ℕ) (Holds : Answer → Type 0) (answer : Answer)
+    → holds ≡ true → Holds answer → IsOutcomeBy (unless holds error) Holds (Ok answer)
 answered_if true error Holds answer e h = h
 answered_if false error Holds answer e h = absurd (false≢true e)
 
 -- ASCII bytes without a fault are a text
-pub text_without_fault : (bytes : List ℕ) → every is_ascii bytes ≡ true → fault_of bytes ≡ None → is_text bytes ≡ true
+pub text_without_fault : (bytes : List ℕ) → every is_ascii bytes ≡ true → fault_of bytes ≡ None
+    → is_text bytes ≡ true
 text_without_fault bytes ascii none = rw (ascii, none) refl
 
 -- what each type answers, but for the calls that formats have and others do not, is what a format answers
 pub type_outcome : (constants : Constants) (mode : Round) (call : ExportedCall) (outcome : Result Answer ℕ)
-    → ((x y z : ℕ) → call ≡ FusedSum x y z → ⊥) → ((x : ℕ) (target : Option BuiltInKind) → call ≡ Conversion x target → ⊥)
+    → ((x y z : ℕ) → call ≡ FusedSum x y z → ⊥)
+    → ((x : ℕ) (target : Option BuiltInKind) → call ≡ Conversion x target → ⊥)
     → IsTypeOutcome (in_format constants) (multiplies (of_format constants)) mode call outcome
     → IsOutcome (of_format constants) mode call outcome
 type_outcome constants mode (FusedSum x y z) outcome no_fused no_conversion holds = absurd (no_fused x y z refl)
@@ -47,8 +49,8 @@ type_outcome constants mode call outcome no_fused no_conversion holds = holds
 -- ---- fractions
 
 -- a call that asks for no fraction
-pub no_fraction : {A : Type 0} (of_type : Relations A) (call : ExportedCall) → ((x : ℕ) → call ≡ Fraction x → ⊥)
-    → FractionFits of_type call
+pub no_fraction : {A : Type 0} (of_type : Relations A) (call : ExportedCall)
+    → ((x : ℕ) → call ≡ Fraction x → ⊥) → FractionFits of_type call
 no_fraction of_type (Fraction x) other = absurd (other x refl)
 no_fraction of_type call other = tt
 

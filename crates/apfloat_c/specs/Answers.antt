@@ -82,7 +82,8 @@ pub record IsWritten {A : Type 0} (of_type : Relations A) (given : StatusAnd A) 
   pub number_is : answer.number ≡ number
 
 -- a value with its flags, and no number
-pub record IsValue {A : Type 0} (of_type : Relations A) (Holds : StatusAnd A → Type 0) (answer : Answer) : Type 0 where
+pub record IsValue {A : Type 0} (of_type : Relations A) (Holds : StatusAnd A → Type 0)
+    (answer : Answer) : Type 0 where
   pub given : StatusAnd A
   pub holds : Holds given
   pub is_written : IsWritten of_type given (pos 0) answer
@@ -95,7 +96,8 @@ pub record IsUntold {A : Type 0} (of_type : Relations A) (Holds : A → Type 0) 
   pub is_written : IsWritten of_type given (pos 0) answer
 
 -- a fraction and its exponent, without flags
-pub record IsFractionOf {A : Type 0} (of_type : Relations A) (Holds : A → ℤ → Type 0) (answer : Answer) : Type 0 where
+pub record IsFractionOf {A : Type 0} (of_type : Relations A) (Holds : A → ℤ → Type 0)
+    (answer : Answer) : Type 0 where
   pub given : StatusAnd A
   pub exponent : ℤ
   pub holds : Holds given.value exponent
@@ -178,7 +180,8 @@ IsOutcomeBy None Holds (Err error) = ⊥
 IsOutcomeBy (Some fault) Holds (Ok answer) = ⊥
 IsOutcomeBy (Some fault) Holds (Err error) = error ≡ fault
 
-abbrev pub IsTypeOutcome : {A : Type 0} → Relations A → Bool → Round → ExportedCall → Result Answer ℕ → Type 0
+abbrev pub IsTypeOutcome : {A : Type 0} → Relations A → Bool → Round → ExportedCall
+    → Result Answer ℕ → Type 0
 IsTypeOutcome of_type multiplies mode call outcome =
     IsOutcomeBy (type_fault multiplies call) (IsTypeAnswer of_type mode call) outcome
 

@@ -161,7 +161,8 @@ only_of_pairs mode (Ok asked) reply only = only
 only_of_pairs mode (Err word) reply only = only
 
 -- a reply in pairs
-pub only_in_pairs : (mode : Round) (operation : Operation) (name : List ℕ) (operands : List (List ℕ)) (reply : Reply)
+pub only_in_pairs : (mode : Round) (operation : Operation) (name : List ℕ) (operands : List (List ℕ))
+    (reply : Reply)
     → IsOnly (IsReplyIn in_pairs (bits_in of_pairs) mode
     (provided (type_has (multiplies of_pairs) operation) name (with_operands (bits_in of_pairs) operation operands)))
     reply

@@ -42,7 +42,8 @@ IsResult of_type mode (from_whole_number n) answer = of_type.converts_unsigned n
 IsResult of_type mode (from_text text) answer = of_type.reads text mode (Ok answer)
 
 -- the bits of a value, and its status
-pub record IsLineOf {A : Type 0} (of_type : Relations A) (width : ℕ) (answer : StatusAnd A) (reply : Reply) : Type 0 where
+pub record IsLineOf {A : Type 0} (of_type : Relations A) (width : ℕ) (answer : StatusAnd A)
+    (reply : Reply) : Type 0 where
   pub bits : ℕ
   pub is_encoded : of_type.writes_bits answer.value bits
   pub is : reply ≡ line bits (width / 4) (bits_of answer.status)
@@ -55,7 +56,8 @@ pub record IsLineWhere {A : Type 0} (of_type : Relations A) (width : ℕ) (Holds
   pub is_line : IsLineOf of_type width answer reply
 
 -- what is replied where that is asked, or a refusal
-abbrev pub IsReplyIn : {A : Type 0} → Relations A → ℕ → Round → Result Calculation (List ℕ) → Reply → Type 0
+abbrev pub IsReplyIn : {A : Type 0} → Relations A → ℕ → Round → Result Calculation (List ℕ)
+    → Reply → Type 0
 IsReplyIn of_type width mode (Ok asked) reply = IsLineWhere of_type width (IsResult of_type mode asked) reply
 IsReplyIn of_type width mode (Err word) reply = reply ≡ refused word
 

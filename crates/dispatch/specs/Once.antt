@@ -5,8 +5,8 @@ use Rattle.rustc_apfloat.specs.Determined.{IsDetermined}
 use Rattle.dispatch.specs.Relations.{Relations}
 
 -- those that round, under the mode; the exact inverse is not among the relations
-abbrev pub AreDetermined : {A : Type 0} → Relations A → (inverts : A → Option A → Type 0) → Round → (precision width : ℕ)
-    → Type 0
+abbrev pub AreDetermined : {A : Type 0} → Relations A → (inverts : A → Option A → Type 0) → Round
+    → (precision width : ℕ) → Type 0
 AreDetermined r inverts mode precision width =
     IsDetermined mode precision width r.adds r.subtracts r.multiplies r.divides inverts r.leaves r.leaves_nearest
     r.writes_bits r.converts_unsigned r.converts_signed r.rounds_to_integral r.converts_to_unsigned

@@ -61,8 +61,8 @@ close_low precision s p t j d h l (inr e) q =
     (left_over s (t * 2 ^ (j - p)) (2 ^ p) d (pow_pos p) (e ∙ ap (λ (x : ℕ). x + d) r)) q
 
 -- Sterbenz's lemma on the grid: the difference of two grid numbers within a factor of two is on the grid
-pub sterbenz_on_grid : (precision m n d : ℕ) → IsOnGrid precision m → IsOnGrid precision n → (m ≡ n + d) ⊎ (n ≡ m + d)
-    → m ≤ 2 * n → n ≤ 2 * m → IsOnGrid precision d
+pub sterbenz_on_grid : (precision m n d : ℕ) → IsOnGrid precision m → IsOnGrid precision n
+    → (m ≡ n + d) ⊎ (n ≡ m + d) → m ≤ 2 * n → n ≤ 2 * m → IsOnGrid precision d
 sterbenz_on_grid precision m n d x y e a b =
     let e' : (x.significand * 2 ^ x.place ≡ y.significand * 2 ^ y.place + d)
     ⊎ (y.significand * 2 ^ y.place ≡ x.significand * 2 ^ x.place + d) =
@@ -144,7 +144,8 @@ minus_is : (m n : ℕ) → (signed false m +ℤ signed true n) ≡ (pos m -ℤ p
 minus_is m n = omega (arith, ints)
 
 -- Sterbenz's lemma: the difference of two data within a factor of two is exact
-pub sterbenz : (format : Format) (mode : Round) (x y value : Datum) (status : ℕ) → IsMember format x → IsMember format y
+pub sterbenz : (format : Format) (mode : Round) (x y value : Datum) (status : ℕ)
+    → IsMember format x → IsMember format y
     → IsDifference format mode x y value status → IsNearby x y value status
 sterbenz format mode x y v s hx hy h = λ m n p q sm sn a b.
     let d : IsDifference format mode (finite false m) (finite false n) v s = rw (p, q) at h in

@@ -102,5 +102,5 @@ pub record IsEncodedBy (f : Format) (layout : Layout) (bits : ℕ) (datum : Datu
 pub record IsReadFrom (f : Format) (layout : Layout) (bits : ℕ) (datum : Datum) : Type 0 where
   pub read : datum ≡ datum_of f layout bits
   pub back : f.explicit_integer_bit ≡ false → bits < 2 ^ layout.bits → IsEncodedBy f layout bits datum
-  pub once : f.explicit_integer_bit ≡ false → bits < 2 ^ layout.bits → (other : ℕ) → IsEncodedBy f layout other datum
-      → other ≡ bits
+  pub once : f.explicit_integer_bit ≡ false → bits < 2 ^ layout.bits
+      → (other : ℕ) → IsEncodedBy f layout other datum → other ≡ bits

@@ -197,8 +197,9 @@ module _ (format : Format) (kind : format.nonfinite ≡ IEEE754) (wide : 8 ≤ 2
       let n = sum_of a c z status fa fc (sum_low _ _ _ _ la lc (magnitude_le (number a) (number c))) x in n.is_finite
 
   -- within a third of the largest value, no step overflows
-  pub two_sum_rounded : (a c z q lost_of_c z_again gained lost : Datum) → is_finite a ≡ true → is_finite c ≡ true
-      → size a ≤ top → size c ≤ top → IsTwoSumSteps format a c z q lost_of_c z_again gained lost
+  pub two_sum_rounded : (a c z q lost_of_c z_again gained lost : Datum)
+      → is_finite a ≡ true → is_finite c ≡ true → size a ≤ top → size c ≤ top
+      → IsTwoSumSteps format a c z q lost_of_c z_again gained lost
       → IsTwoSumRounded format.precision a c z q lost_of_c z_again gained lost
   two_sum_rounded a c z q v r d e fa fc la lc x =
       let s₀ = sum_low _ _ _ _ la lc (magnitude_le (number a) (number c)) in

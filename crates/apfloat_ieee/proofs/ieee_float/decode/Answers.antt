@@ -20,7 +20,8 @@ returns g c =
     c.packed.ensures ∙
     subst (λ (k : Layout). datum_at (shape_of g.S.Semantics) c.decode.result ≡ datum_of f k c.args.bits)
     c.widths_of.ensures.value d in
-    let back : f.explicit_integer_bit ≡ false → c.args.bits < 2 ^ l.bits → IsEncodedBy f l c.args.bits c.packed.result =
+    let back : f.explicit_integer_bit ≡ false → c.args.bits < 2 ^ l.bits
+    → IsEncodedBy f l c.args.bits c.packed.result =
     λ e h.
     record {
       below = h;
