@@ -175,6 +175,10 @@ fn tells_what_is_malformed(rt: HostRuntime) {
             "no mode of the call: `even`",
         ),
         (
+            "abs\thalf\tany\t3c00\t3c00\t-\t-",
+            "no mode of the call: `any`",
+        ),
+        (
             "add_r\thalf\t-\t3c00 3c00\t4000\tOK\t-",
             "no mode of the call: `-`",
         ),
@@ -209,6 +213,19 @@ fn tells_what_is_malformed(rt: HostRuntime) {
         (
             "mul_r\tquad\teven\t0 0\t0\tOK\t-",
             "no such call here: `mul_r`",
+        ),
+        // Of two faults, the first in the order of `docs/VECTORS.md`.
+        (
+            "abs\tthird\teven\t3c00\t3c00\t-\t-",
+            "no mode of the call: `even`",
+        ),
+        (
+            "abs\thalf\t-\t3c00\t3g00\tOK\texponent=1",
+            "no flags of the call: `OK`",
+        ),
+        (
+            "abs\thalf\t-\t3c00\t3g00\t-\texponent=1",
+            "nothing that the call answers: `exponent=1`",
         ),
     ] {
         expect_fault(&rt, line, fault);

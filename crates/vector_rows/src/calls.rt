@@ -19,7 +19,7 @@ const MODES: [&str; 5] = ["even", "up", "down", "zero", "away"];
 
 /// Whether a row agrees, in each mode that it names.
 pub fn agrees(row: CallRow<'_>) -> Result<bool, RowError<'_>> {
-    if row.mode != "any" {
+    if row.mode != "any" || !takes_mode(row.call) {
         return answer_of(row)?.is_of(row);
     }
     let mut all_agree = true;
@@ -63,7 +63,7 @@ fn write_given<W: Write>(row: CallRow<'_>, mode: &str, out: &mut W) -> io::Resul
 
 /// What the operands of a call are.
 #[derive(Clone, Copy)]
-pub enum Shape {
+pub enum Operands {
     // There are none: the call is a constant of the type.
     Constant,
     OneValue,
@@ -83,7 +83,7 @@ pub struct RowRequest<'a> {
     /// The row.
     pub row: CallRow<'a>,
     /// What its operands are.
-    pub shape: Shape,
+    pub operands: Operands,
     /// The mode, which matters only if the call takes one.
     pub round: Round,
 }
@@ -91,14 +91,18 @@ pub struct RowRequest<'a> {
 impl<'a> RowRequest<'a> {
     /// What a row asks for, if there is such a call and it takes the mode.
     pub fn of(row: CallRow<'a>) -> Result<RowRequest<'a>, RowError<'a>> {
-        let shape = shape_of(row.call).ok_or(RowError::Word("no call", row.call))?;
+        let operands = operands_of(row.call).ok_or(RowError::Word("no call", row.call))?;
         let round = match row.mode {
             mode if takes_mode(row.call) => mode_named(mode),
             "-" => Some(Round::NearestTiesToEven),
             _ => None,
         };
         let round = round.ok_or(RowError::Word("no mode of the call", row.mode))?;
-        Ok(RowRequest { row, shape, round })
+        Ok(RowRequest {
+            row,
+            operands,
+            round,
+        })
     }
 }
 
@@ -108,30 +112,30 @@ fn takes_mode(call: &str) -> bool {
 }
 
 /// What the operands of the call of this name are.
-fn shape_of(call: &str) -> Option<Shape> {
+fn operands_of(call: &str) -> Option<Operands> {
     match call {
-        "BITS" | "PRECISION" | "MAX_EXP" | "MIN_EXP" | "MULTIPLIES" => Some(Shape::Constant),
-        "zero" | "default" | "infinity" | "nan" | "largest" => Some(Shape::Constant),
-        "smallest" | "smallest_normalized" => Some(Shape::Constant),
-        "round_to_integral" | "next_up" | "next_down" | "neg" | "abs" => Some(Shape::OneValue),
-        "through_i128" | "get_exact_inverse" | "frexp" | "frexp_r" => Some(Shape::OneValue),
-        "ilogb" | "to_bits" | "category" | "debug" | "is_normal" => Some(Shape::OneValue),
-        "is_denormal" | "is_integer" | "is_negative" | "is_finite" => Some(Shape::OneValue),
-        "is_infinite" | "is_nan" | "is_signaling" | "is_zero" => Some(Shape::OneValue),
-        "is_non_zero" | "is_finite_non_zero" | "is_pos_zero" => Some(Shape::OneValue),
-        "is_neg_zero" | "is_pos_infinity" | "is_neg_infinity" => Some(Shape::OneValue),
-        "is_smallest" | "is_smallest_normalized" | "is_largest" => Some(Shape::OneValue),
-        "add_r" | "sub_r" | "mul_r" | "div_r" | "ieee_rem" | "c_fmod" => Some(Shape::TwoValues),
-        "+" | "-" | "*" | "/" | "%" | "+=" | "-=" | "*=" | "/=" | "%=" => Some(Shape::TwoValues),
-        "copy_sign" | "min" | "max" | "minimum" | "maximum" => Some(Shape::TwoValues),
-        "eq" | "partial_cmp" | "bitwise_eq" => Some(Shape::TwoValues),
-        "scalbn" | "scalbn_r" => Some(Shape::ValueAndInteger),
-        "to_u128" | "to_u128_r" | "to_i128" | "to_i128_r" => Some(Shape::ValueAndInteger),
-        "from_u128" | "from_u128_r" | "from_i128" | "from_i128_r" => Some(Shape::Word),
-        "qnan" | "snan" => Some(Shape::Word),
-        "from_str" | "from_str_r" => Some(Shape::Word),
-        "mul_add" | "mul_add_r" | "c_fmod_steps" | "cmp_abs_normal" => Some(Shape::OneType),
-        "convert" | "convert_r" | "from" => Some(Shape::Conversion),
+        "BITS" | "PRECISION" | "MAX_EXP" | "MIN_EXP" | "MULTIPLIES" => Some(Operands::Constant),
+        "zero" | "default" | "infinity" | "nan" | "largest" => Some(Operands::Constant),
+        "smallest" | "smallest_normalized" => Some(Operands::Constant),
+        "round_to_integral" | "next_up" | "next_down" | "neg" | "abs" => Some(Operands::OneValue),
+        "through_i128" | "get_exact_inverse" | "frexp" | "frexp_r" => Some(Operands::OneValue),
+        "ilogb" | "to_bits" | "category" | "debug" | "is_normal" => Some(Operands::OneValue),
+        "is_denormal" | "is_integer" | "is_negative" | "is_finite" => Some(Operands::OneValue),
+        "is_infinite" | "is_nan" | "is_signaling" | "is_zero" => Some(Operands::OneValue),
+        "is_non_zero" | "is_finite_non_zero" | "is_pos_zero" => Some(Operands::OneValue),
+        "is_neg_zero" | "is_pos_infinity" | "is_neg_infinity" => Some(Operands::OneValue),
+        "is_smallest" | "is_smallest_normalized" | "is_largest" => Some(Operands::OneValue),
+        "add_r" | "sub_r" | "mul_r" | "div_r" | "ieee_rem" | "c_fmod" => Some(Operands::TwoValues),
+        "+" | "-" | "*" | "/" | "%" | "+=" | "-=" | "*=" | "/=" | "%=" => Some(Operands::TwoValues),
+        "copy_sign" | "min" | "max" | "minimum" | "maximum" => Some(Operands::TwoValues),
+        "eq" | "partial_cmp" | "bitwise_eq" => Some(Operands::TwoValues),
+        "scalbn" | "scalbn_r" => Some(Operands::ValueAndInteger),
+        "to_u128" | "to_u128_r" | "to_i128" | "to_i128_r" => Some(Operands::ValueAndInteger),
+        "from_u128" | "from_u128_r" | "from_i128" | "from_i128_r" => Some(Operands::Word),
+        "qnan" | "snan" => Some(Operands::Word),
+        "from_str" | "from_str_r" => Some(Operands::Word),
+        "mul_add" | "mul_add_r" | "c_fmod_steps" | "cmp_abs_normal" => Some(Operands::OneType),
+        "convert" | "convert_r" | "from" => Some(Operands::Conversion),
         _ => None,
     }
 }

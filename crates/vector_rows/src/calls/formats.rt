@@ -6,7 +6,7 @@ ghost use Rattle.rustc_apfloat.specs.PairParts.{CanComparePairMagnitudes};
 use crate::call_row::CallRow;
 use crate::calls::answer::{Returned, RowAnswer, RowField};
 use crate::calls::of_type::{of_type, two_values, value_of};
-use crate::calls::{RowRequest, Shape};
+use crate::calls::{Operands, RowRequest};
 use crate::failure::RowError;
 use custom_formats::{
     BroadS, DeepS, HalfTinyBeforeS, LeastFiniteS, LeastS, PreciseS, SevenS, TenS, VastS,
@@ -121,10 +121,14 @@ fn in_format_named<C: CallInFormat + Drop>(word: &str, call: C) -> Option<C::Out
 
 /// What a call returns in a format.
 fn of_format<S: Semantics>(request: RowRequest<'_>) -> Answered<'_> {
-    let RowRequest { row, shape, round } = request;
-    match (shape, row.call) {
-        (Shape::OneType, "mul_add" | "mul_add_r") => fused_sum::<S>(row, round),
-        (Shape::OneType, call) => {
+    let RowRequest {
+        row,
+        operands,
+        round,
+    } = request;
+    match (operands, row.call) {
+        (Operands::OneType, "mul_add" | "mul_add_r") => fused_sum::<S>(row, round),
+        (Operands::OneType, call) => {
             let (x, y) = two_values::<IeeeFloat<S>>(row)?;
             of_two_numbers(call, x, y, row).ok_or(row.support_error())
         }

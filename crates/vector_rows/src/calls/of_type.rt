@@ -2,7 +2,7 @@
 
 use crate::call_row::CallRow;
 use crate::calls::answer::{Returned, RowAnswer, RowField, Text, shown};
-use crate::calls::{RowRequest, Shape, quanta};
+use crate::calls::{Operands, RowRequest, quanta};
 use crate::failure::RowError;
 use commands::{bits_of, number_of};
 use rustc_apfloat::{Float, Round};
@@ -10,25 +10,29 @@ use std::fmt::Debug;
 
 /// What a call returns.
 pub fn of_type<F: Float + Debug>(request: RowRequest<'_>) -> Result<RowAnswer, RowError<'_>> {
-    let RowRequest { row, shape, round } = request;
-    let returned = match shape {
-        Shape::Constant if row.operands != "-" => return Err(row.operand_error()),
-        Shape::Constant => constant::<F>(row.call),
-        Shape::OneValue => of_one_value::<F>(row.call, value_of(row.operands)?, round),
-        Shape::TwoValues => {
+    let RowRequest {
+        row,
+        operands,
+        round,
+    } = request;
+    let returned = match operands {
+        Operands::Constant if row.operands != "-" => return Err(row.operand_error()),
+        Operands::Constant => constant::<F>(row.call),
+        Operands::OneValue => of_one_value::<F>(row.call, value_of(row.operands)?, round),
+        Operands::TwoValues => {
             let (x, y) = two_values::<F>(row)?;
             of_two_values(row.call, x, y, round)
         }
-        Shape::ValueAndInteger => {
+        Operands::ValueAndInteger => {
             let (word, integer) = row.cut_operand()?;
             of_value_and_integer::<F>(row.call, value_of(word)?, integer, round)
         }
-        Shape::Word => of_word::<F>(row.call, row.operands, round),
-        Shape::OneType | Shape::Conversion => None,
+        Operands::Word => of_word::<F>(row.call, row.operands, round),
+        Operands::OneType | Operands::Conversion => None,
     };
-    match (returned, shape) {
+    match (returned, operands) {
         (Some(returned), _) => Ok(RowAnswer::of(returned, row)),
-        (None, Shape::ValueAndInteger | Shape::Word) => Err(row.operand_error()),
+        (None, Operands::ValueAndInteger | Operands::Word) => Err(row.operand_error()),
         (None, _) => Err(row.support_error()),
     }
 }
