@@ -3,7 +3,8 @@
 
     python3 evidence/streams.py FROM TO MODE < FILE > OTHER
 
-A value is its bits, the lowest byte first; those of x87 take 10 bytes.
+A value is its bits, the lowest byte first; those of x87 take 10 bytes. An unfinished value at the
+end is ignored.
 """
 
 import sys
@@ -22,7 +23,7 @@ def main():
     mode = Mode(sys.argv[3])
     values = sys.stdin.buffer.read()
     size = source.bits // 8
-    for place in range(0, len(values), size):
+    for place in range(0, len(values) - size + 1, size):
         x = decoded(source, int.from_bytes(values[place:place + size], "little"))
         y = convert(source, target, x, mode)[0]
         sys.stdout.buffer.write(encoded(target, y).to_bytes(target.bits // 8, "little"))

@@ -20,7 +20,7 @@ def next_up(format, x):
     if isinstance(x, Infinite):
         return number(format, True, format.largest) if x.negative else x, OK
     if x.negative and x.quanta > 0:
-        # Toward zero, the points between 0 and x are as far apart as those beside x - 1.
+        # Toward zero, the points between 0 and x are as far apart as those next to x - 1.
         return number(format, True, x.quanta - spacing(format, x.quanta - 1)), OK
     if x.quanta == format.largest:
         return infinity(format, False), OK
@@ -28,5 +28,5 @@ def next_up(format, x):
 
 
 def spacing(format, quanta):
-    """How far apart numbers are beside so many quanta."""
+    """The spacing of numbers near that many quanta."""
     return 1 << max(0, quanta.bit_length() - format.precision)

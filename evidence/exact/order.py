@@ -13,7 +13,7 @@ def category(x):
 
 
 def compared(x, y):
-    """-1, 0 or 1 for less, equal or greater; None beside a NaN."""
+    """-1, 0 or 1 for less, equal or greater; None if either operand is a NaN."""
     if is_nan(x) or is_nan(y):
         return None
     left, right = order_key(x), order_key(y)

@@ -313,7 +313,10 @@ class PairValues(Values):
         return order.category(x.high)
 
     def compared(self, x, y):
-        """-1, 0 or 1 for less, equal or greater; None beside a NaN. The high parts come first."""
+        """-1, 0 or 1 for less, equal or greater; None if either operand is a NaN.
+
+        The high parts come first.
+        """
         by_high = order.compared(x.high, y.high)
         return order.compared(x.low, y.low) if by_high == 0 else by_high
 

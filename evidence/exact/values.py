@@ -196,7 +196,7 @@ class FormatValues(Values):
         return order.category(x)
 
     def compared(self, x, y):
-        """-1, 0 or 1 for less, equal or greater; None beside a NaN."""
+        """-1, 0 or 1 for less, equal or greater; None if either operand is a NaN."""
         return order.compared(x, y)
 
     def compared_magnitudes(self, x, y):

@@ -136,7 +136,7 @@ fn past_largest(nonfinite: NonfiniteBehavior, negative: bool) -> Answer
     }
 }
 
-/// The number of this sign and so many quanta; a zero is negative only if the format has a negative zero.
+/// The number of this sign and that many quanta; a zero is negative only if the format has a negative zero.
 fn number_of(nonfinite: NonfiniteBehavior, negative: bool, quanta: u128) -> Answer
     ensures { (precision : ℕ)
         → datum_of nonfinite precision result ≡ signed_quanta nonfinite negative quanta }
