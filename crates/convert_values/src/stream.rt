@@ -6,7 +6,10 @@ ghost use Rattle.value_blocks.specs.Widths.{source_width, target_width};
 use std::alloc::{AllocError, Global};
 use std::io;
 use std::io::{ErrorKind, Read, Write};
-use value_blocks::{BLOCK, Conversion, Counts};
+use value_blocks::{Conversion, Counts};
+
+/// How many values a block has at most.
+const BLOCK: usize = 1 << 14;
 
 /// What a stream contained.
 #[derive(Clone, Copy, Debug)]

@@ -13,9 +13,6 @@ use crate::widths::{Extended, Widths, width};
 use dispatch::{BuiltInFormat, BuiltInKind, mode_named};
 use rustc_apfloat::Round;
 
-/// How many values a block has at most.
-pub const BLOCK: usize = 1 << 14;
-
 /// The formats converted from and to, the rounding mode, and how many bytes a value of the x87 format takes.
 #[derive(Clone, Copy, Debug)]
 pub struct Conversion {
@@ -56,14 +53,15 @@ impl Conversion {
         }
     }
 
-    /// Converts the values that are complete in the bytes read, each in its place.
+    /// Converts the values that are complete in the bytes read, each in its place. The buffer has to have room for
+    /// them; what its bytes after them hold is not specified.
     pub fn convert(self, read: &[u8], written: Vec<u8>) -> ConvertedBlock
-        requires read { length read.now ≤ BLOCK * source_width self }
-        requires written { length written.items ≡ BLOCK * target_width self }
+        requires { (length read.now / source_width self) * target_width self
+            ≤ length written.items }
         ensures parts { let count = length read.now / source_width self in
             (result.written ≡ count * target_width self)
             × (result.left_over + count * source_width self ≡ length read.now) }
-        ensures room { length result.buffer.items ≡ BLOCK * target_width self }
+        ensures room { length result.buffer.items ≡ length written.items }
         ensures within { result.written ≤ length result.buffer.items }
         ensures block { let count = length read.now / source_width self in
             let c = constants_in self.source in let d = constants_in self.target in

@@ -10,6 +10,6 @@ mod one_value;
 mod widths;
 
 pub use blocks::convert_block;
-pub use conversion::{BLOCK, Conversion, ConvertedBlock};
+pub use conversion::{Conversion, ConvertedBlock};
 pub use counts::{Counts, Outcome};
 pub use widths::{Extended, Widths};

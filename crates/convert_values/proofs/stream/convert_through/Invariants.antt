@@ -1,5 +1,5 @@
 use Rattle.std.proofs.Common.{◌≡◌, ◌*◌, length}
-use Rattle.value_blocks.specs.declared.conversion.TheConstants.{BLOCK}
+use Rattle.convert_values.specs.declared.stream.TheConstants.{BLOCK}
 use Rattle.value_blocks.specs.Widths.{target_width}
 use Rattle.convert_values.proofs.stream.convert_through.Given as goal
 
