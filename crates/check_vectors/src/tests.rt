@@ -1,16 +1,13 @@
 //! Checks of short inputs, including failures of reading, writing and memory.
 
-use bumpalo::Bump;
-use commands::words_of_system;
 use std::alloc::{AllocError, Global};
-use std::env::{Env, FillError};
 use std::io::{BufRead, BufReader, ErrorKind, Read, Write};
 use std::process::Abort;
 use std::rt::Clock;
 use std::test::Fail;
 use std::time::Duration;
 use std::{fs, io};
-use vector_rows::{Check, Failure, check_input, run};
+use vector_rows::{Check, check_input, run};
 
 /// Asserts what the program writes for an input, and its exit status.
 fn expect<R: Abort + Clock + AllocGlobal>(
@@ -477,88 +474,15 @@ fn does_what_its_words_say(rt: HostRuntime) -> Result<(), Fail> {
     Ok(())
 }
 
-/// A system that gives these arguments.
-#[derive(Drop)]
-struct System;
-
-impl Env for System {
-    fn arg(&self, i: usize, buf: &mut [u8]) -> Result<usize, FillError> {
-        let Some(argument) = ["check_vectors", "rows"].get(i) else {
-            return Err(FillError::NotPresent);
-        };
-        let Some(front) = buf.get_mut(..argument.len()) else {
-            return Err(FillError::TooLong);
-        };
-        front.copy_from_slice(argument.as_bytes());
-        Ok(argument.len())
-    }
-
-    fn var(&self, _name: &str, _buf: &mut [u8]) -> Result<usize, FillError> {
-        Err(FillError::NotPresent)
-    }
-
-    fn var_at(&self, _i: usize, _buf: &mut [u8]) -> Result<usize, FillError> {
-        Err(FillError::NotPresent)
-    }
-}
-
-/// An arena with `bytes` bytes left that cannot grow. It is in its second chunk, since blocks of the first one are
-/// reused; so each growth of memory takes new bytes.
-fn arena_with(alloc: Global, bytes: usize) -> Result<Bump, AllocError> {
-    let arena = Bump::try_with_capacity(alloc, 4000)?;
-    arena.try_alloc_slice_fill_clone(arena.chunk_capacity(), 0u8)?;
-    arena.try_alloc_slice_fill_clone(1, 0u8)?;
-    arena.set_allocation_limit(Some(arena.allocated_bytes()));
-    let unused = arena.chunk_capacity().saturating_sub(bytes);
-    arena.try_alloc_slice_fill_clone(unused, 0u8)?;
-    Ok(arena)
-}
-
-/// Memory grows for each argument, for the missing one after them, and for each list of arguments.
 #[test]
-fn wants_memory_for_its_words(rt: HostRuntime) -> Result<(), Fail> {
-    for eighths in 0..100usize {
-        let arena = arena_with(rt.alloc(), 8 * eighths)?;
-        let Err(error) = words_of_system(&(System, &arena)) else {
-            assert!(rt; eighths >= 96, "{eighths}");
-            break;
-        };
-        let mut out = Vec::new(rt.alloc());
-        let mut err = Vec::new(rt.alloc());
-        assert_eq!(rt; run(&rt, Err(error), &mut out, &mut err), 3, "{eighths}");
-        assert!(rt; out.is_empty());
-        assert_eq!(rt;
-            err.as_slice(),
-            b"check_vectors: arguments: no memory\n".as_slice()
-        );
-    }
-    Ok(())
-}
-
-/// The memory for lines is as much as the longest one needs.
-#[test]
-fn wants_memory_for_a_line(rt: HostRuntime) -> Result<(), Fail> {
-    let mut rows = String::new(rt.alloc());
-    for _ in 0..100 {
-        rows.push_str("half int even 464\t5f40 OK\n")?;
-    }
-    let mut is_enough = false;
-    for bytes in 0..64usize {
-        let arena = arena_with(rt.alloc(), bytes)?;
-        let mut out = Vec::new(rt.alloc());
-        let mut err = Vec::new(rt.alloc());
-        let mut check = Check::new(rt.alloc());
-        match check.take(&mut rows.as_bytes(), &arena, &rt, &mut out, &mut err) {
-            Ok(()) => {
-                is_enough = true;
-                assert_eq!(rt; check.tally().agreeing, 100, "{bytes}");
-            }
-            Err(failure) => {
-                assert!(rt; matches!(failure, Failure::Memory), "{bytes}");
-                assert!(rt; !is_enough && check.tally().agreeing == 0, "{bytes}");
-            }
-        }
-    }
-    assert!(rt; is_enough);
-    Ok(())
+fn tells_of_words_without_memory(rt: HostRuntime) {
+    let given = Err(io::Error::from(ErrorKind::OutOfMemory));
+    let mut out = Vec::new(rt.alloc());
+    let mut err = Vec::new(rt.alloc());
+    assert_eq!(rt; run(&rt, given, &mut out, &mut err), 3);
+    assert!(rt; out.is_empty());
+    assert_eq!(rt;
+        err.as_slice(),
+        b"check_vectors: arguments: no memory\n".as_slice()
+    );
 }
