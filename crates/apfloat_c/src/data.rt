@@ -28,6 +28,13 @@ pub struct Answer {
     pub number: i32,
 }
 
+// A C program has these sizes from the header. The order of the fields is tested from C (`tests/c/check_rows.c`).
+const _: () = prove!(size_of::<Halves>() == 16);
+
+const _: () = prove!(size_of::<Answer>() == 24);
+
+const _: () = prove!(align_of::<Answer>() == 8);
+
 impl Halves {
     /// The 128 bits of these halves.
     pub fn number(self) -> u128

@@ -1,0 +1,324 @@
+/* Calls the library from C for rows of calls with their results, as crates/check_vectors/stdin has them
+ * (docs/VECTORS.md), and compares each field of the answer, for these calls are where a field or an argument in the
+ * wrong place shows. Rows that the library has no function or no code for are passed over.
+ *
+ * It prints each row that differs, and for each call how many rows agree. .ci/run compares this with tests/c/agreeing.
+ * By hand, at the top of the repository, after `rt lib` in crates/apfloat_c:
+ *
+ *   cc -std=c99 -Wall -Wextra -O2 -Iinclude tests/c/check_rows.c crates/apfloat_c/out/libapfloat_c.a -o check_rows
+ *   ./check_rows < crates/check_vectors/stdin | diff - tests/c/agreeing */
+#include "apfloat.h"
+
+#include <stdbool.h>
+#include <stdio.h>
+#include <stdlib.h>
+#include <string.h>
+
+#define COUNT(table) (sizeof(table) / sizeof((table)[0]))
+
+struct code {
+    const char *name;
+    uint32_t code;
+};
+
+static const struct code formats[] = {
+    {"half", APFLOAT_HALF},     {"single", APFLOAT_SINGLE}, {"double", APFLOAT_DOUBLE},
+    {"quad", APFLOAT_QUAD},     {"bfloat", APFLOAT_BFLOAT}, {"e5m2", APFLOAT_E5M2},
+    {"e4m3fn", APFLOAT_E4M3FN}, {"x87", APFLOAT_X87},       {"e4m3fnuz", APFLOAT_E4M3FNUZ},
+    {"dd", APFLOAT_DOUBLE_PAIR}};
+
+static const struct code modes[] = {{"even", APFLOAT_NEAREST_EVEN},
+                                    {"up", APFLOAT_UPWARD},
+                                    {"down", APFLOAT_DOWNWARD},
+                                    {"zero", APFLOAT_TOWARD_ZERO},
+                                    {"away", APFLOAT_NEAREST_AWAY}};
+
+static const struct code flags[] = {{"INVALID_OP", APFLOAT_INVALID_OP},
+                                    {"DIV_BY_ZERO", APFLOAT_DIV_BY_ZERO},
+                                    {"OVERFLOW", APFLOAT_OVERFLOW},
+                                    {"UNDERFLOW", APFLOAT_UNDERFLOW},
+                                    {"INEXACT", APFLOAT_INEXACT}};
+
+static const struct code orders[] = {{"Less", (uint32_t)APFLOAT_LESS},
+                                     {"Equal", APFLOAT_EQUAL},
+                                     {"Greater", APFLOAT_GREATER},
+                                     {"None", APFLOAT_UNORDERED}};
+
+/* Each question about a value that its class answers, with the classes for which the answer is yes. */
+#define CLASS(number) (UINT32_C(1) << (number))
+static const struct code questions[] = {
+    {"is_signaling", CLASS(APFLOAT_SIGNALING_NAN)},
+    {"is_nan", CLASS(APFLOAT_SIGNALING_NAN) | CLASS(APFLOAT_QUIET_NAN)},
+    {"is_neg_infinity", CLASS(APFLOAT_NEGATIVE_INFINITY)},
+    {"is_neg_zero", CLASS(APFLOAT_NEGATIVE_ZERO)},
+    {"is_denormal", CLASS(APFLOAT_NEGATIVE_SUBNORMAL) | CLASS(APFLOAT_POSITIVE_SUBNORMAL)},
+    {"is_normal", CLASS(APFLOAT_NEGATIVE_NORMAL) | CLASS(APFLOAT_POSITIVE_NORMAL)},
+    {"is_pos_zero", CLASS(APFLOAT_POSITIVE_ZERO)},
+    {"is_pos_infinity", CLASS(APFLOAT_POSITIVE_INFINITY)},
+    /* Nothing is asked of a NaN's sign, which its class does not show. */
+    {"is_negative", CLASS(APFLOAT_NEGATIVE_INFINITY) | CLASS(APFLOAT_NEGATIVE_NORMAL) |
+                        CLASS(APFLOAT_NEGATIVE_SUBNORMAL) | CLASS(APFLOAT_NEGATIVE_ZERO)}};
+
+#define NO_CODE UINT32_MAX
+
+static uint32_t code_of(const struct code *table, size_t count, const char *name) {
+    for (size_t i = 0; i < count; i++)
+        if (strcmp(table[i].name, name) == 0) return table[i].code;
+    return NO_CODE;
+}
+
+/* ---- calls */
+
+struct arguments {
+    uint32_t format, mode, to, width;
+    int32_t power;
+    apfloat_halves x, y, z;
+    const char *text;
+};
+
+typedef uint32_t made(const struct arguments *a, apfloat_answer *answer);
+
+#define MAKES(name, ...) \
+    static uint32_t make_##name(const struct arguments *a, apfloat_answer *answer) { \
+        return apfloat_##name(__VA_ARGS__, answer); \
+    }
+
+MAKES(add, a->format, a->mode, a->x, a->y)
+MAKES(sub, a->format, a->mode, a->x, a->y)
+MAKES(mul, a->format, a->mode, a->x, a->y)
+MAKES(div, a->format, a->mode, a->x, a->y)
+MAKES(fma, a->format, a->mode, a->x, a->y, a->z)
+MAKES(rem, a->format, a->x, a->y)
+MAKES(mod, a->format, a->x, a->y)
+MAKES(convert, a->format, a->mode, a->to, a->x)
+MAKES(from_u128, a->format, a->mode, a->x)
+MAKES(from_i128, a->format, a->mode, a->x)
+MAKES(to_u128, a->format, a->mode, a->x, a->width)
+MAKES(to_i128, a->format, a->mode, a->x, a->width)
+MAKES(round_to_integral, a->format, a->mode, a->x)
+MAKES(scalbn, a->format, a->mode, a->x, a->power)
+MAKES(ilogb, a->format, a->x)
+MAKES(frexp, a->format, a->mode, a->x)
+MAKES(next_up, a->format, a->x)
+MAKES(next_down, a->format, a->x)
+MAKES(compare, a->format, a->x, a->y)
+MAKES(classify, a->format, a->x)
+MAKES(parse, a->format, a->mode, (const uint8_t *)a->text, strlen(a->text))
+
+/* The operands of a call, by letters: x, y and z are bits, n is an integer, w a width, p a power, and t a text. Its
+ * value: b for bits, n for an integer in the bits, e for an exponent, o for an order, q for a question's answer. */
+static const struct call {
+    const char *name, *operands;
+    char value;
+    made *make;
+} calls[] = {{"add_r", "xy", 'b', make_add},
+             {"sub_r", "xy", 'b', make_sub},
+             {"mul_r", "xy", 'b', make_mul},
+             {"div_r", "xy", 'b', make_div},
+             {"mul_add_r", "xyz", 'b', make_fma},
+             {"ieee_rem", "xy", 'b', make_rem},
+             {"c_fmod", "xy", 'b', make_mod},
+             {"convert_r", "x", 'b', make_convert},
+             {"from_u128_r", "n", 'b', make_from_u128},
+             {"from_i128_r", "n", 'b', make_from_i128},
+             {"to_u128_r", "xw", 'n', make_to_u128},
+             {"to_i128_r", "xw", 'n', make_to_i128},
+             {"round_to_integral", "x", 'b', make_round_to_integral},
+             {"scalbn_r", "xp", 'b', make_scalbn},
+             {"ilogb", "x", 'e', make_ilogb},
+             {"frexp_r", "x", 'b', make_frexp},
+             {"next_up", "x", 'b', make_next_up},
+             {"next_down", "x", 'b', make_next_down},
+             {"partial_cmp", "xy", 'o', make_compare},
+             {"is_signaling", "x", 'q', make_classify},
+             {"is_nan", "x", 'q', make_classify},
+             {"is_neg_infinity", "x", 'q', make_classify},
+             {"is_neg_zero", "x", 'q', make_classify},
+             {"is_denormal", "x", 'q', make_classify},
+             {"is_normal", "x", 'q', make_classify},
+             {"is_pos_zero", "x", 'q', make_classify},
+             {"is_pos_infinity", "x", 'q', make_classify},
+             {"is_negative", "x", 'q', make_classify},
+             {"from_str_r", "t", 'b', make_parse}};
+
+static unsigned agreeing[COUNT(calls)];
+
+/* ---- reading */
+
+/* Digits of a base up to 16 as 128 bits; a minus sign negates, in two's complement. */
+static bool read_integer(const char *word, uint64_t base, apfloat_halves *number) {
+    bool is_negative = *word == '-';
+    if (is_negative) word++;
+    number->low = number->high = 0;
+    if (*word == '\0') return false;
+    for (; *word; word++) {
+        const char *all = "0123456789abcdef", *digit = strchr(all, *word);
+        if (!digit || (uint64_t)(digit - all) >= base) return false;
+        uint64_t lowest = (number->low & UINT32_MAX) * base + (uint64_t)(digit - all);
+        uint64_t next = (number->low >> 32) * base + (lowest >> 32);
+        number->high = number->high * base + (next >> 32);
+        number->low = next << 32 | (lowest & UINT32_MAX);
+    }
+    if (is_negative) {
+        number->low = -number->low;
+        number->high = ~number->high + (number->low == 0);
+    }
+    return true;
+}
+
+static bool read_operands(char *words, const char *letters, struct arguments *a) {
+    if (*letters == 't') {
+        a->text = words;
+        return true;
+    }
+    for (char *word = strtok(words, " "); word; word = strtok(NULL, " "), letters++) {
+        apfloat_halves number;
+        bool is_bits = *letters == 'x' || *letters == 'y' || *letters == 'z';
+        if (*letters == '\0' || !read_integer(word, is_bits ? 16 : 10, &number)) return false;
+        if (*letters == 'x' || *letters == 'n') a->x = number;
+        if (*letters == 'y') a->y = number;
+        if (*letters == 'z') a->z = number;
+        if (*letters == 'w') a->width = (uint32_t)number.low;
+        if (*letters == 'p') a->power = (int32_t)strtol(word, NULL, 10);
+    }
+    return *letters == '\0';
+}
+
+static bool read_flags(char *names, uint32_t *status) {
+    *status = 0;
+    if (strcmp(names, "OK") == 0 || strcmp(names, "-") == 0) return true;
+    for (char *name = strtok(names, "|"); name; name = strtok(NULL, "|")) {
+        uint32_t flag = code_of(flags, COUNT(flags), name);
+        if (flag == NO_CODE) return false;
+        *status |= flag;
+    }
+    return true;
+}
+
+/* What a row says of an answer; `classes` are those of its value, if it answers a question. */
+struct expected {
+    uint32_t code, classes;
+    apfloat_answer answer;
+    bool has_number;
+};
+
+/* Memory that no call left as it is. */
+static const apfloat_answer before = {{UINT64_C(0x0123456789abcdef), UINT64_C(0xfedcba9876543210)}, 0x55aa, -77};
+
+enum column { CALL, FORMAT, MODE, OPERANDS, VALUE, FLAGS, MORE, COLUMNS };
+
+static bool read_expected(char *columns[], char value, struct expected *e) {
+    *e = (struct expected){APFLOAT_ANSWERED, 0, {{0, 0}, 0, 0}, true};
+    if (strcmp(columns[FLAGS], "ParseError") == 0) {
+        e->code = APFLOAT_REFUSED_TEXT;
+        e->answer = before;
+        return true;
+    }
+    const char *said = strchr(columns[MORE], '=');
+    if (said && strcmp(said, "=true") == 0)
+        e->answer.number = 1;
+    else if (said && strcmp(said, "=false") != 0)
+        e->answer.number = (int32_t)strtol(said + 1, NULL, 10);
+    e->has_number = said || value != 'n';
+    if (value == 'e') e->answer.number = (int32_t)strtol(columns[VALUE], NULL, 10);
+    if (value == 'o') e->answer.number = (int32_t)code_of(orders, COUNT(orders), columns[VALUE]);
+    if (value == 'q') {
+        uint32_t yes = code_of(questions, COUNT(questions), columns[CALL]);
+        e->classes = strcmp(columns[VALUE], "true") == 0 ? yes : ~yes;
+    }
+    if ((value == 'b' || value == 'n') &&
+        !read_integer(columns[VALUE], value == 'b' ? 16 : 10, &e->answer.bits)) return false;
+    return read_flags(columns[FLAGS], &e->answer.status);
+}
+
+/* ---- checking */
+
+static bool is_as_expected(const struct expected *e, uint32_t code, const apfloat_answer *answer) {
+    bool is_number = !e->has_number || answer->number == e->answer.number;
+    if (e->classes) is_number = answer->number >= 0 && answer->number < 10 && e->classes >> answer->number & 1;
+    return code == e->code && answer->bits.low == e->answer.bits.low && answer->bits.high == e->answer.bits.high &&
+           answer->status == e->answer.status && is_number;
+}
+
+static bool agrees(const struct call *call, const struct arguments *a, const struct expected *e) {
+    apfloat_answer answer = before;
+    uint32_t code = call->make(a, &answer);
+    /* A NaN's class does not show its sign. */
+    if (strcmp(call->name, "is_negative") == 0 && answer.number <= APFLOAT_QUIET_NAN && code == e->code) return true;
+    return is_as_expected(e, code, &answer);
+}
+
+/* The index of a call, or COUNT(calls). */
+static size_t call_named(const char *name) {
+    size_t i = 0;
+    while (i < COUNT(calls) && strcmp(calls[i].name, name) != 0) i++;
+    return i;
+}
+
+/* Whether a row agrees. One that no function of the library answers is passed over. */
+static bool check(char *columns[]) {
+    size_t i = call_named(columns[CALL]);
+    if (i == COUNT(calls)) return true;
+    struct arguments a = {0, 0, 0, 0, 0, {0, 0}, {0, 0}, {0, 0}, NULL};
+    char *target = strchr(columns[FORMAT], '>');
+    if (target) {
+        *target++ = '\0';
+        a.to = code_of(formats, COUNT(formats), target);
+    }
+    a.format = code_of(formats, COUNT(formats), columns[FORMAT]);
+    if (a.format == NO_CODE || a.to == NO_CODE) return true;
+    struct expected e;
+    bool has_mode = strcmp(columns[MODE], "any") != 0;
+    a.mode = has_mode ? code_of(modes, COUNT(modes), columns[MODE]) : 0;
+    if (has_mode && a.mode == NO_CODE && strcmp(columns[MODE], "-") != 0) return false;
+    if (!read_expected(columns, calls[i].value, &e) || !read_operands(columns[OPERANDS], calls[i].operands, &a))
+        return false;
+    if (has_mode) {
+        if (!agrees(&calls[i], &a, &e)) return false;
+    } else
+        for (size_t m = 0; m < COUNT(modes); m++) {
+            a.mode = modes[m].code;
+            if (!agrees(&calls[i], &a, &e)) return false;
+        }
+    agreeing[i]++;
+    return true;
+}
+
+/* The errors that no row has, each of which leaves the answer as it was. */
+static unsigned refusals(void) {
+    const apfloat_halves one = {1, 0};
+    apfloat_answer answer = before;
+    const uint32_t codes[][2] = {
+        {apfloat_add(0, APFLOAT_NEAREST_EVEN, one, one, &answer), APFLOAT_UNKNOWN_FORMAT},
+        {apfloat_add(11, 5, one, one, &answer), APFLOAT_UNKNOWN_FORMAT},
+        {apfloat_add(APFLOAT_DOUBLE, 5, one, one, &answer), APFLOAT_UNKNOWN_MODE},
+        {apfloat_mul(APFLOAT_QUAD, APFLOAT_UPWARD, one, one, &answer), APFLOAT_NO_SUCH_OPERATION},
+        {apfloat_fma(APFLOAT_X87, APFLOAT_UPWARD, one, one, one, &answer), APFLOAT_NO_SUCH_OPERATION},
+        {apfloat_convert(APFLOAT_HALF, APFLOAT_UPWARD, APFLOAT_DOUBLE_PAIR, one, &answer), APFLOAT_NO_SUCH_OPERATION},
+        {apfloat_convert(APFLOAT_HALF, APFLOAT_UPWARD, 0, one, &answer), APFLOAT_UNKNOWN_FORMAT},
+        {apfloat_to_u128(APFLOAT_HALF, APFLOAT_UPWARD, one, 129, &answer), APFLOAT_WRONG_WIDTH},
+        {apfloat_to_i128(APFLOAT_HALF, APFLOAT_UPWARD, one, 1, &answer), APFLOAT_WRONG_WIDTH}};
+    unsigned count = 0;
+    for (size_t i = 0; i < COUNT(codes); i++)
+        if (codes[i][0] == codes[i][1] && memcmp(&answer, &before, sizeof answer) == 0) count++;
+    return count;
+}
+
+int main(void) {
+    static char line[4096], copy[4096];
+    while (fgets(line, sizeof line, stdin)) {
+        line[strcspn(line, "\r\n")] = '\0';
+        strcpy(copy, line);
+        char *columns[COLUMNS], *rest = copy;
+        size_t count = 0;
+        for (char *tab = rest; rest && count < COLUMNS; rest = tab) {
+            columns[count++] = rest;
+            tab = strchr(rest, '\t');
+            if (tab) *tab++ = '\0';
+        }
+        if (line[0] != '#' && count == COLUMNS && !rest && !check(columns)) printf("differs: %s\n", line);
+    }
+    for (size_t i = 0; i < COUNT(calls); i++) printf("%s: %u rows agree\n", calls[i].name, agreeing[i]);
+    printf("%u errors agree\n", refusals());
+    return 0;
+}
