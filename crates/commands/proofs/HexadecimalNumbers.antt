@@ -1,81 +1,81 @@
--- Hexadecimal digits read one by one.
-use Rattle.std.proofs.Common.{◌≡◌, ℕ, ◌+◌, ◌*◌, ◌^◌, ◌<◌, ◌≤◌, Bool, true, false, if◌then◌else◌, List, ◌∷◌, drop, length, get_or, fold, Option, Some, None, refl, ap, ◌∙◌, lit<}
-use Rattle.std.proofs.lemmas.List.{at_drop_more, at_drop_all}
-use Rattle.rustc_apfloat.specs.Digits.{every, is_hexadecimal, digit_value, number}
-use Rattle.apfloat_base.proofs.general.Choices.{passed, refused}
-use Rattle.apfloat_base.proofs.general.MoreDigits.{digit_more, digit_fits}
+-- At most 32 hexadecimal digits stand for a number below 2 ^ 128.
+use Rattle.std.proofs.Common.{◌≡◌, ℕ, ◌+◌, ◌^◌, ◌<◌, ◌≤◌, Bool, true, false, not, ◌&&◌, nat_lt, nat_le, if◌then◌else◌, List, [], ◌∷◌, length, fold, Some, None, refl, sym, subst, arith, lit<}
+use Rattle.std.proofs.lemmas.Bool.{false≢true, lt-ltb, le-leb}
+use Rattle.std.proofs.lemmas.Bool.Decides.{nat_tests}
+use Rattle.std.proofs.Math.Nat.{pow-le-pow_right}
+use Rattle.apfloat_base.proofs.general.MoreDigits.{digit_more}
+use Rattle.apfloat_base.specs.declared.marks.Radix.TheVariants.{Sixteen}
+use Rattle.rustc_apfloat.specs.Digits.{every, is_empty, is_hexadecimal, digit_value, number}
+use Rattle.commands.specs.Commands.{bits_of_digits, number_of_digits}
+use Rattle.commands.proofs.Numerals.{longer}
 
--- a number followed by one more digit
-abbrev pub longer : ℕ → ℕ → ℕ
-longer n c = n * 16 + digit_value c
+-- ---- the bound
 
--- the number whose first digits say n and whose other digits are these
-unfoldable pub read_on : ℕ → List ℕ → Option ℕ
-read_on n digits = if every is_hexadecimal digits then Some (fold longer n digits) else None
+-- the value of a digit is below 16
+digit_below : (c : ℕ) → is_hexadecimal c ≡ true → digit_value c < 16
+digit_below c e = grind (arith, nat_tests)
 
-abbrev pub number_of : List ℕ → Option ℕ
-number_of digits = if every is_hexadecimal digits then Some (number 16 digits) else None
+-- where both tests pass, each does
+both : (first second : Bool) → (first && second) ≡ true → (first ≡ true) × (second ≡ true)
+both true second e = (refl, e)
+both false second e = cc
 
-abbrev pub value_of : ℕ → Option ℕ
-value_of c = if is_hexadecimal c then Some (digit_value c) else None
+-- each digit adds a place
+fold_below : (n place : ℕ) (digits : List ℕ) → n < 16 ^ place → every is_hexadecimal digits ≡ true
+    → fold (longer Sixteen) n digits < 16 ^ (place + length digits)
+fold_below n place [] small e = rw (let same : place + 0 ≡ place = omega arith in same) small
+fold_below n place (c ∷ digits) small e =
+    let each = both (is_hexadecimal c) (every is_hexadecimal digits) e in
+    let more = digit_more 16 n (digit_value c) place small (digit_below c each.0) in
+    let rest = fold_below (longer Sixteen n c) (place + 1) digits more each.1 in
+    let size : place + 1 + length digits ≡ place + length (c ∷ digits) = omega arith in
+    subst (λ k. fold (longer Sixteen) (longer Sixteen n c) digits < 16 ^ k) size rest
 
--- ---- one digit
+-- so 32 of them are below 2 ^ 128
+number_below : (digits : List ℕ) → length digits ≤ 32 → every is_hexadecimal digits ≡ true
+    → nat_lt (number 16 digits) (2 ^ 128) ≡ true
+number_below digits few e =
+    let size : 0 + length digits ≡ length digits = omega arith in
+    let below : number 16 digits < 16 ^ length digits =
+    subst (λ k. number 16 digits < 16 ^ k) size (fold_below 0 0 digits (lit< tt) e) in
+    let base : 0 < 16 = lit< tt in
+    let wide : 16 ^ length digits ≤ 2 ^ 128 = pow-le-pow_right base few in
+    lt-ltb _ _ (omega arith)
 
--- after a digit the reading goes on with the longer number
-read_on-cons : (n c : ℕ) (digits : List ℕ) → is_hexadecimal c ≡ true
-    → read_on n (c ∷ digits) ≡ read_on (longer n c) digits
-unfolding read_on
-read_on-cons n c digits e = passed (is_hexadecimal c) (every is_hexadecimal digits) _ e
+-- ---- what is left of the tests
 
--- a character that is no digit ends the reading
-stops : (n c : ℕ) (digits : List ℕ) (is_digit : Bool) → is_hexadecimal c ≡ is_digit
-    → (if is_digit then Some (digit_value c) else None) ≡ None → read_on n (c ∷ digits) ≡ None
-unfolding read_on
-stops n c digits true p e = cc
-stops n c digits false p e = refused (is_hexadecimal c) (every is_hexadecimal digits) _ p
+no_bits_by : (some few read fits within : Bool) (n : ℕ) → (read ≡ true → fits ≡ true)
+    → (if some && read && fits then Some n else None) ≡ None
+    → (if some && few && read && within then Some n else None) ≡ None
+no_bits_by false few read fits within n h e = refl
+no_bits_by true false read fits within n h e = refl
+no_bits_by true true false fits within n h e = refl
+no_bits_by true true true true within n h e = cc
+no_bits_by true true true false within n h e = absurd (false≢true (h refl))
 
--- a digit goes on with the longer number
-goes : (n c d : ℕ) (digits : List ℕ) (is_digit : Bool) → is_hexadecimal c ≡ is_digit
-    → (if is_digit then Some (digit_value c) else None) ≡ Some d
-    → read_on n (c ∷ digits) ≡ read_on (n * 16 + d) digits
-goes n c d digits true p e =
-    let same : digit_value c ≡ d = cc in
-    read_on-cons n c digits p ∙ ap (λ k. read_on (n * 16 + k) digits) same
-goes n c d digits false p e = cc
+bits_by : (some few read fits : Bool) (n m : ℕ) (within : ℕ → Bool) → few ≡ true → within m ≡ true
+    → (if some && read && fits then Some n else None) ≡ Some m
+    → (if some && few && read && within n then Some n else None) ≡ Some m
+bits_by false few read fits n m within p q e = cc
+bits_by true false read fits n m within p q e = cc
+bits_by true true false fits n m within p q e = cc
+bits_by true true true false n m within p q e = cc
+bits_by true true true true n m within p q e =
+    let same : n ≡ m = cc in
+    subst (λ k. (if within k then Some k else None) ≡ Some m) (sym same) (rw q refl)
 
--- ---- at a place of a word
+-- of at most 32 digits, those without a number have no bits
+pub no_bits : (width : ℕ) (digits : List ℕ) → length digits ≤ 32 → number_of_digits Sixteen digits ≡ None
+    → bits_of_digits width digits ≡ None
+no_bits width digits few e =
+    no_bits_by (not (is_empty digits)) (nat_le (length digits) 32) (every is_hexadecimal digits)
+    (nat_lt (number 16 digits) (2 ^ 128)) (nat_lt (number 16 digits) (2 ^ width)) (number 16 digits)
+    (number_below digits few) e
 
--- the digits before the place say n
-pub record IsReadTo (word : List ℕ) (n place : ℕ) : Type 0 where
-  pub small : n < 16 ^ place
-  pub read : number_of word ≡ read_on n (drop place word)
-
--- before the first place the digits say 0
-pub read_none : (word : List ℕ) → IsReadTo word 0 0
-unfolding read_on
-read_none word = record { small = lit< tt; read = refl }
-
--- a character that is no digit ends the reading
-pub read_stops : (word : List ℕ) (n place : ℕ) → place < length word → IsReadTo word n place
-    → value_of (get_or word place 0) ≡ None → number_of word ≡ None
-read_stops word n place within so_far e = so_far.read ∙ at_drop_more (read_on n) word place 0 within ∙
-    stops n _ _ _ refl e
-
--- a digit is read
-pub read_goes : (word : List ℕ) (n d place : ℕ) → place < length word → IsReadTo word n place
-    → value_of (get_or word place 0) ≡ Some d → d < 16
-    → IsReadTo word (n * 16 + d) (place + 1)
-read_goes word n d place within so_far e digit = record {
-  small = digit_more 16 n d place so_far.small digit;
-  read = so_far.read ∙ at_drop_more (read_on n) word place 0 within ∙ goes n _ d _ _ refl e;
-}
-
--- at the end of the word its number was read
-pub read_to_end : (word : List ℕ) (n place : ℕ) → length word ≤ place → IsReadTo word n place
-    → number_of word ≡ Some n
-unfolding read_on
-read_to_end word n place past so_far = so_far.read ∙ at_drop_all (read_on n) word place past
-
--- a number of at most 32 digits is below 2 ^ 128
-pub one_more_fits : (n d place : ℕ) → n < 16 ^ place → d < 16 → place < 32 → n * 16 + d < 2 ^ 128
-one_more_fits n d place small digit within = digit_fits 16 n d place 32 small digit within
+-- and the number of the others is their bits, if it is within the width
+pub has_bits : (width : ℕ) (digits : List ℕ) (n : ℕ) → length digits ≤ 32 → number_of_digits Sixteen digits ≡ Some n
+    → nat_lt n (2 ^ width) ≡ true → bits_of_digits width digits ≡ Some n
+has_bits width digits n few e within =
+    bits_by (not (is_empty digits)) (nat_le (length digits) 32) (every is_hexadecimal digits)
+    (nat_lt (number 16 digits) (2 ^ 128)) (number 16 digits) n (λ k. nat_lt k (2 ^ width))
+    (le-leb _ _ few) within e

@@ -1,12 +1,13 @@
 //! The words of a command: names, whole numbers, and bits.
 
-ghost use Rattle.std.specs.Prelude.{◌≡◌, Some, None, Ok, Err, ◌+◌, ◌<◌, ◌*◌, ◌^◌, ◌&&◌, ◌≤◌, nat_lt, if◌then◌else◌, length};
-ghost use Rattle.std.specs.Option.{IfSome};
+ghost use Rattle.std.specs.Prelude.{◌≡◌, Some, None, Ok, Err, ◌+◌, ◌*◌, ◌^◌, ◌&&◌, nat_lt, if◌then◌else◌};
 ghost use Rattle.std.specs.Result.{MatchResult};
-ghost use Rattle.rustc_apfloat.specs.Digits.{digit_value, every, is_decimal, is_hexadecimal, number};
-ghost use Rattle.commands.specs.Commands.{bits_of_digits, bits_of_word, found, named, operations, whole_number_of};
+ghost use Rattle.rustc_apfloat.specs.Digits.{digit_value};
+ghost use Rattle.apfloat_base.specs.texts.Specials.{base_of, is_digit_of};
+ghost use Rattle.commands.specs.Commands.{bits_of_digits, bits_of_word, found, named, number_of_digits, operations, whole_number_of};
 
 use crate::operation::Operation;
+use apfloat_base::marks::Radix;
 use dispatch::{Arithmetic, mode_named};
 use rustc_apfloat::Round;
 
@@ -58,26 +59,7 @@ pub fn named<'a>(
 pub fn number_of(word: &str) -> Option<u128>
     ensures { result ≡ whole_number_of word.now }
 {
-    if word.is_empty() {
-        return None;
-    }
-    let mut number = 0;
-    for byte in word.as_bytes() {
-        number = with_digit(number, *byte)?;
-    }
-    Some(number)
-}
-
-/// A whole number followed by one more decimal digit.
-fn with_digit(number: u128, byte: u8) -> Option<u128>
-    ensures { let longer = number * 10 + digit_value byte in
-        result ≡ (if is_decimal byte && nat_lt longer (2 ^ 128) then Some longer else None) }
-{
-    let digit = match byte {
-        b'0'..=b'9' => byte - b'0',
-        _ => return None,
-    };
-    number.checked_mul(10)?.checked_add(u128::from(digit))
+    number_of_digits(Radix::Ten, word.as_bytes())
 }
 
 /// The bits that 1 to 32 hexadecimal digits stand for, with or without `0x` in front, if they are below `2^width`.
@@ -92,28 +74,15 @@ pub fn bits_of(word: &str, width: usize) -> Option<u128>
 fn bits_of_digits(digits: &[u8], width: usize) -> Option<u128>
     ensures { result ≡ bits_of_digits width digits.now }
 {
-    if digits.is_empty() || digits.len() > 32 {
+    if digits.len() > 32 {
         return None;
     }
-    let bits = hexadecimal_number(digits)?;
+    let bits = number_of_digits(Radix::Sixteen, digits)?;
     if is_within(bits, width) {
         Some(bits)
     } else {
         None
     }
-}
-
-/// The bits that hexadecimal digits stand for.
-fn hexadecimal_number(digits: &[u8]) -> Option<u128>
-    requires { length digits.now ≤ 32 }
-    ensures { result ≡ (if every is_hexadecimal digits.now
-        then Some (number 16 digits.now) else None) }
-{
-    let mut number = 0;
-    for byte in digits {
-        number = number * 16 + u128::from(hexadecimal_value(*byte)?);
-    }
-    Some(number)
 }
 
 /// Whether a bit pattern is below `2^width`.
@@ -123,15 +92,40 @@ fn is_within(number: u128, width: usize) -> bool
     width >= 128 || number < 1 << width
 }
 
-/// The value of a hexadecimal digit.
-fn hexadecimal_value(byte: u8) -> Option<u8>
-    ensures small { IfSome result (λ digit. digit < 16) }
-    ensures value { result ≡ (if is_hexadecimal byte then Some (digit_value byte) else None) }
+/// The whole number that one or more digits stand for, if it is below 2^128.
+fn number_of_digits(radix: Radix, digits: &[u8]) -> Option<u128>
+    ensures { result ≡ number_of_digits radix digits.now }
 {
-    match byte {
-        b'0'..=b'9' => Some(byte - b'0'),
-        b'A'..=b'F' => Some(byte - b'A' + 10),
-        b'a'..=b'f' => Some(byte - b'a' + 10),
+    if digits.is_empty() {
+        return None;
+    }
+    let mut number = 0;
+    for byte in digits {
+        number = with_digit(radix, number, *byte)?;
+    }
+    Some(number)
+}
+
+/// A whole number followed by one more digit, if that is below 2^128.
+fn with_digit(radix: Radix, number: u128, byte: u8) -> Option<u128>
+    ensures { let longer = number * base_of radix + digit_value byte in
+        result ≡ (if is_digit_of radix byte && nat_lt longer (2 ^ 128) then Some longer else None) }
+{
+    let digit = digit_of(radix, byte)?;
+    number
+        .checked_mul(radix.base())?
+        .checked_add(u128::from(digit))
+}
+
+/// The value of a digit.
+fn digit_of(radix: Radix, byte: u8) -> Option<u8>
+    ensures { result ≡ (if is_digit_of radix byte then Some (digit_value byte) else None) }
+{
+    match (radix, byte) {
+        (Radix::Sixteen, b'A'..=b'F') => Some(byte - b'A' + 10),
+        (Radix::Sixteen, b'a'..=b'f') => Some(byte - b'a' + 10),
+        (Radix::Sixteen | Radix::Ten, b'0'..=b'9') => Some(byte - b'0'),
+        (Radix::Eight, b'0'..=b'7') => Some(byte - b'0'),
         _ => None,
     }
 }
