@@ -2,15 +2,13 @@
 use Rattle.std.proofs.Common.{◌≡◌, ℕ, ◌^◌, ◌<◌, ◌≤◌, Bool, Option, Some, None, Ok, refl, sym, ap, ◌∙◌, subst, ⊎_elim, arith, lit<}
 use Rattle.std.specs.Int.{w128, cast_unsigned}
 use Rattle.std.specs.Prelude.{ℤ, pos, ⊤}
-use Rattle.std.proofs.lemmas.Bool.{cases_lt}
+use Rattle.std.proofs.lemmas.Bool.{cases_lt, ltb-true}
 use Rattle.rustc_apfloat.specs.declared.Round.{Round}
 use Rattle.rustc_apfloat.specs.declared.StatusAnd.{StatusAnd}
 use Rattle.rustc_apfloat.specs.Datum.{Datum}
 use Rattle.rustc_apfloat.specs.Flags.{Gives, bits_of}
-use Rattle.rustc_apfloat.specs.Formats.{half_constants, single_constants, double_constants, quad_constants, bfloat_constants, e5m2_constants, e4m3fn_constants, e4m3fnuz_constants, x87_constants}
 use Rattle.rustc_apfloat.specs.Lawful.{Constants, IsLawful, format_with, layout_with}
 use Rattle.rustc_apfloat.specs.Determined.{Determines, DeterminesBoth}
-use Rattle.rustc_apfloat.proofs.LawTest.{lawful_from_test}
 use Rattle.rustc_apfloat.specs.Exponents.{IsExactInverse}
 use Rattle.rustc_apfloat.specs.PairCalls.{IsPairExactInverse}
 use Rattle.apfloat_base.proofs.Determined.{determined, gives_once, same_answer, scale_some}
@@ -19,18 +17,17 @@ use Rattle.apfloat_base.proofs.Once.{OnceWith, conversion_once, fused_sum_once}
 use Rattle.apfloat_pair_theory.proofs.calls.PairsDetermined.{pairs_determined}
 use Rattle.apfloat_c.specs.declared.data.Answer.{Answer}
 use Rattle.apfloat_c.specs.declared.data.Halves.{Halves}
-use Rattle.dispatch.specs.declared.BuiltInFormat.TheVariants.{Half, Single, Double, Quad, BFloat, E5M2, E4M3FN, E4M3FNUZ, X87}
 use Rattle.dispatch.specs.declared.BuiltInKind.{BuiltInKind}
-use Rattle.dispatch.specs.declared.BuiltInKind.TheVariants.{Format, Pairs}
-use Rattle.dispatch.specs.BuiltIns.{kind_of}
+use Rattle.dispatch.specs.declared.BuiltInKind.TheVariants.{OfFormat, Pairs}
+use Rattle.dispatch.specs.BuiltIns.{kind_of, known_format}
 use Rattle.dispatch.specs.Once.{AreDetermined}
 use Rattle.dispatch.specs.Relations.{Relations, in_format, in_pairs}
 use Rattle.dispatch.specs.ValueKinds.{Kind, of_format, of_pairs, value_of}
 use Rattle.dispatch.proofs.OfTwoOnce.{of_two_once}
 use Rattle.apfloat_c.specs.declared.exported_call.ExportedCall.{ExportedCall}
 use Rattle.apfloat_c.specs.declared.exported_call.ExportedCall.TheVariants.{OfTwo, FusedSum, FromUnsigned, FromSigned, ToUnsigned, ToSigned, RoundToIntegral, Scaling, Fraction, Exponent, NextUp, NextDown, Comparison, Class, Conversion, Text}
-use Rattle.apfloat_c.specs.KnownCalls.{asked, fault_in, without}
-use Rattle.apfloat_c.specs.Answers.{IsAnswerOf, IsConverted, IsConvertedInto, IsConvertedTo, IsFractionOf, IsNumber, IsReply, IsSigned, IsTypeAnswer, IsUnsigned, IsUntold, IsValue, IsWritten, one_if, whole}
+use Rattle.apfloat_c.specs.KnownCalls.{fault_in, known_call, without}
+use Rattle.apfloat_c.specs.Answers.{IsKindAnswer, IsConverted, IsConvertedInto, IsConvertedTo, IsFractionOf, IsNumber, IsReturned, IsSigned, IsTypeAnswer, IsUnsigned, IsUntold, IsValue, IsWritten, one_if, whole}
 
 -- two answers with the same number of 128 bits, the same flags, and the same other number
 pub record SameAnswer (first second : Answer) : Type 0 where
@@ -145,15 +142,9 @@ KindHasLaw of_pairs = ⊤
 
 -- each format of the codes is one
 kind_law : (known : BuiltInKind) → KindHasLaw (kind_of known)
-kind_law (Format Half) = record { law = lawful_from_test half_constants refl; wide = lit< tt }
-kind_law (Format Single) = record { law = lawful_from_test single_constants refl; wide = lit< tt }
-kind_law (Format Double) = record { law = lawful_from_test double_constants refl; wide = lit< tt }
-kind_law (Format Quad) = record { law = lawful_from_test quad_constants refl; wide = lit< tt }
-kind_law (Format BFloat) = record { law = lawful_from_test bfloat_constants refl; wide = lit< tt }
-kind_law (Format E5M2) = record { law = lawful_from_test e5m2_constants refl; wide = lit< tt }
-kind_law (Format E4M3FN) = record { law = lawful_from_test e4m3fn_constants refl; wide = lit< tt }
-kind_law (Format E4M3FNUZ) = record { law = lawful_from_test e4m3fnuz_constants refl; wide = lit< tt }
-kind_law (Format X87) = record { law = lawful_from_test x87_constants refl; wide = lit< tt }
+kind_law (OfFormat format) =
+    let known = known_format format in
+    record { law = known.lawful; wide = ltb-true _ _ known.wide }
 kind_law Pairs = tt
 
 -- ---- in a format
@@ -193,7 +184,7 @@ conversion_answer_once constants mode x (Some target) =
 
 -- a call on values of any kind has one answer
 kind_once : (kind : Kind) → KindHasLaw kind → (mode : Round) (call : ExportedCall)
-    → OnceAnswer (IsAnswerOf kind mode call)
+    → OnceAnswer (IsKindAnswer kind mode call)
 kind_once (of_format c) has mode (FusedSum x y z) =
     value_once (in_format c) (IsExactInverse (format_with c)) mode c.precision c.bits has.wide
     (format_determined c has mode) _
@@ -218,8 +209,8 @@ unchanged old a b a_is b_is =
 -- and one code
 without_once : (fault : Option ℕ) (known : BuiltInKind) (mode : Round) (call : ExportedCall)
     (old first second : Answer) (code other : ℕ)
-    → IsReply (without fault (record { kind = kind_of known; mode = mode; call = call })) old first code
-    → IsReply (without fault (record { kind = kind_of known; mode = mode; call = call })) old second other
+    → IsReturned (without fault (record { kind = kind_of known; mode = mode; call = call })) old first code
+    → IsReturned (without fault (record { kind = kind_of known; mode = mode; call = call })) old second other
     → (code ≡ other) × SameAnswer first second
 without_once None known mode call old a b code other x y =
     (x.0 ∙ sym y.0, kind_once (kind_of known) (kind_law known) mode call a b x.1 y.1)
@@ -229,7 +220,7 @@ without_once (Some fault) known mode call old a b code other x y =
 -- two replies to the same arguments are one
 pub reply_once : (format : Option BuiltInKind) (mode : Option Round) (call : ExportedCall) (old first second : Answer)
     (code other : ℕ)
-    → IsReply (asked format mode call) old first code → IsReply (asked format mode call) old second other
+    → IsReturned (known_call format mode call) old first code → IsReturned (known_call format mode call) old second other
     → (code ≡ other) × SameAnswer first second
 reply_once None mode call old a b code other x y = (x.0 ∙ sym y.0, unchanged old a b x.1 y.1)
 reply_once (Some known) None call old a b code other x y = (x.0 ∙ sym y.0, unchanged old a b x.1 y.1)

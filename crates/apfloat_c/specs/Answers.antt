@@ -164,14 +164,14 @@ IsConverted c mode x (Some target) answer = IsConvertedInto c mode x (kind_of ta
 -- ---- of any kind
 
 -- formats have the fused sum, and are converted
-abbrev pub IsAnswerOf : Kind → Round → ExportedCall → Answer → Type 0
-IsAnswerOf (of_format c) mode (FusedSum x y z) answer =
+abbrev pub IsKindAnswer : Kind → Round → ExportedCall → Answer → Type 0
+IsKindAnswer (of_format c) mode (FusedSum x y z) answer =
     IsValue (in_format c)
     (λ given. Gives (IsFusedSum (format_with c) mode (value_of c x) (value_of c y) (value_of c z)) given)
     answer
-IsAnswerOf (of_format c) mode (Conversion x target) answer = IsConverted c mode (value_of c x) target answer
-IsAnswerOf (of_format c) mode call answer = IsTypeAnswer (in_format c) mode call answer
-IsAnswerOf of_pairs mode call answer = IsTypeAnswer in_pairs mode call answer
+IsKindAnswer (of_format c) mode (Conversion x target) answer = IsConverted c mode (value_of c x) target answer
+IsKindAnswer (of_format c) mode call answer = IsTypeAnswer (in_format c) mode call answer
+IsKindAnswer of_pairs mode call answer = IsTypeAnswer in_pairs mode call answer
 
 -- an answer where nothing is refused, and else that error
 abbrev pub IsOutcomeBy : Option ℕ → (Answer → Type 0) → Result Answer ℕ → Type 0
@@ -186,10 +186,10 @@ IsTypeOutcome of_type multiplies mode call outcome =
     IsOutcomeBy (type_fault multiplies call) (IsTypeAnswer of_type mode call) outcome
 
 abbrev pub IsOutcome : Kind → Round → ExportedCall → Result Answer ℕ → Type 0
-IsOutcome kind mode call outcome = IsOutcomeBy (fault_in kind call) (IsAnswerOf kind mode call) outcome
+IsOutcome kind mode call outcome = IsOutcomeBy (fault_in kind call) (IsKindAnswer kind mode call) outcome
 
 -- what an export leaves: the code 0 and the answer, or the code of the error and what was there before
-abbrev pub IsReply : Result KnownCall ℕ → Answer → Answer → ℕ → Type 0
-IsReply (Err error) old new code = (code ≡ error) × (new ≡ old)
-IsReply (Ok known) old new code =
-    (code ≡ answered) × IsAnswerOf known.kind known.mode known.call new
+abbrev pub IsReturned : Result KnownCall ℕ → Answer → Answer → ℕ → Type 0
+IsReturned (Err error) old new code = (code ≡ error) × (new ≡ old)
+IsReturned (Ok known) old new code =
+    (code ≡ answered) × IsKindAnswer known.kind known.mode known.call new

@@ -5,7 +5,7 @@ use Rattle.std.specs.Char.{is_ascii}
 use Rattle.rustc_apfloat.specs.Digits.{every}
 use Rattle.rustc_apfloat.specs.Faults.{fault_of}
 use Rattle.dispatch.specs.declared.BuiltInKind.{BuiltInKind}
-use Rattle.dispatch.specs.declared.BuiltInKind.TheVariants.{Format, Pairs}
+use Rattle.dispatch.specs.declared.BuiltInKind.TheVariants.{OfFormat, Pairs}
 use Rattle.dispatch.specs.BuiltIns.{kind_of}
 use Rattle.dispatch.specs.Limits.{fuses, multiplies}
 use Rattle.dispatch.specs.ValueKinds.{Kind, of_format, of_pairs}
@@ -50,7 +50,7 @@ is_text text = every is_ascii text && is_none (fault_of text)
 abbrev pub target_fault : Option BuiltInKind → Option ℕ
 target_fault None = Some unknown_format
 target_fault (Some Pairs) = Some no_such_operation
-target_fault (Some (Format target)) = None
+target_fault (Some (OfFormat target)) = None
 
 abbrev pub unknown_target : Option BuiltInKind → ℕ
 unknown_target None = unknown_format
@@ -89,8 +89,8 @@ without None x = Ok x
 without (Some fault) x = Err fault
 
 -- The faults in their order: the format, the mode, what the format refuses.
-abbrev pub asked : Option BuiltInKind → Option Round → ExportedCall → Result KnownCall ℕ
-asked format mode call =
+abbrev pub known_call : Option BuiltInKind → Option Round → ExportedCall → Result KnownCall ℕ
+known_call format mode call =
     ok_or format unknown_format >>= λ known. ok_or mode unknown_mode >>= λ rounding.
     without (fault_in (kind_of known) call)
     (record { kind = kind_of known; mode = rounding; call = call })

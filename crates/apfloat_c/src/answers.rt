@@ -255,7 +255,7 @@ fn converted<S: Semantics>(
     match target {
         None => Err(UNKNOWN_FORMAT),
         Some(BuiltInKind::Pairs) => Err(NO_SUCH_OPERATION),
-        Some(BuiltInKind::Format(target)) => {
+        Some(BuiltInKind::OfFormat(target)) => {
             let x = S::from_bits(x);
             Ok(target.run(ConversionTo { round, x }))
         }

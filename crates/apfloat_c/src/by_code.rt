@@ -1,8 +1,8 @@
 //! Answers a call in the values of a code.
 
 ghost use Rattle.dispatch.specs.BuiltIns.{kind_coded};
-ghost use Rattle.apfloat_c.specs.KnownCalls.{asked};
-ghost use Rattle.apfloat_c.specs.Answers.{IsReply};
+ghost use Rattle.apfloat_c.specs.KnownCalls.{known_call};
+ghost use Rattle.apfloat_c.specs.Answers.{IsReturned};
 
 use crate::answers::RoundedCall;
 use crate::codes::{ANSWERED, UNKNOWN_FORMAT, UNKNOWN_MODE};
@@ -14,7 +14,8 @@ use rustc_apfloat::Round;
 /// Computes a call in the values of a code, and returns 0 or the code of the first error; on an error the answer is
 /// unchanged.
 pub fn reply(format: u32, mode: Option<Round>, call: ExportedCall, answer: &mut Answer) -> u32
-    ensures { IsReply (asked (kind_coded format) mode call.entry) answer.old answer.new result }
+    ensures { IsReturned (known_call (kind_coded format) mode call.entry)
+        answer.old answer.new result }
 {
     let Some(kind) = BuiltInKind::coded(format) else {
         return UNKNOWN_FORMAT;

@@ -156,7 +156,7 @@ static PRECISIONS: [(BuiltInFormat, u64); 7] = [
 fn print_quotients(rt: &(impl Clock + Print + AllocGlobal)) -> io::Result<()> {
     println!(rt; "| Quotients in | Precision | Nanoseconds | For each digit |\n|---|---|---|---|")?;
     for (format, precision) in PRECISIONS.iter() {
-        print_quotient(rt, BuiltInKind::Format(*format), *precision)?;
+        print_quotient(rt, BuiltInKind::OfFormat(*format), *precision)?;
     }
     Ok(())
 }

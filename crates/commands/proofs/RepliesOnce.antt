@@ -123,9 +123,9 @@ only_fused_sum constants mode left right addend x y z a b d answer reply first s
 -- ---- the reply in any kind of values
 
 -- what is asked of each type is asked of a format
-only_of_format : (constants : Constants) (mode : Round) (asked : Result Calculation (List ℕ)) (reply : Reply)
-    → IsOnly (IsReplyIn (in_format constants) constants.bits mode asked) reply
-    → IsOnly (IsReplyTo (commanded (of_format constants) mode asked)) reply
+only_of_format : (constants : Constants) (mode : Round) (wanted : Result Calculation (List ℕ)) (reply : Reply)
+    → IsOnly (IsReplyIn (in_format constants) constants.bits mode wanted) reply
+    → IsOnly (IsReplyTo (commanded (of_format constants) mode wanted)) reply
 only_of_format constants mode (Ok (of_two arithmetic x y)) reply only = only
 only_of_format constants mode (Ok (fused_sum x y z)) reply only = absurd only.holds.answers
 only_of_format constants mode (Ok (from_whole_number n)) reply only = only
@@ -133,10 +133,10 @@ only_of_format constants mode (Ok (from_text text)) reply only = only
 only_of_format constants mode (Err word) reply only = only
 
 -- what may be a fused sum is asked of a format
-only_fused_of_format : (constants : Constants) (mode : Round) (asked : Result Calculation (List ℕ)) (reply : Reply)
-    → IsOnly (IsFormatReply constants mode asked) reply
-    → IsOnly (IsReplyTo (commanded (of_format constants) mode asked)) reply
-only_fused_of_format constants mode (Ok asked) reply only = only
+only_fused_of_format : (constants : Constants) (mode : Round) (wanted : Result Calculation (List ℕ)) (reply : Reply)
+    → IsOnly (IsFormatReply constants mode wanted) reply
+    → IsOnly (IsReplyTo (commanded (of_format constants) mode wanted)) reply
+only_fused_of_format constants mode (Ok known) reply only = only
 only_fused_of_format constants mode (Err word) reply only = only
 
 -- the reply to a fused sum, in a format that has it
@@ -154,10 +154,10 @@ only_fused constants mode operation name operands left right addend reply is_fus
     rw (is_fused, le-leb _ _ within) (only_fused_of_format constants mode _ reply of_words)
 
 -- what is asked of each type is asked of pairs
-only_of_pairs : (mode : Round) (asked : Result Calculation (List ℕ)) (reply : Reply)
-    → IsOnly (IsReplyIn in_pairs (bits_in of_pairs) mode asked) reply
-    → IsOnly (IsReplyTo (commanded of_pairs mode asked)) reply
-only_of_pairs mode (Ok asked) reply only = only
+only_of_pairs : (mode : Round) (wanted : Result Calculation (List ℕ)) (reply : Reply)
+    → IsOnly (IsReplyIn in_pairs (bits_in of_pairs) mode wanted) reply
+    → IsOnly (IsReplyTo (commanded of_pairs mode wanted)) reply
+only_of_pairs mode (Ok known) reply only = only
 only_of_pairs mode (Err word) reply only = only
 
 -- a reply in pairs

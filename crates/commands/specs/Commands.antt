@@ -113,7 +113,7 @@ abbrev pub ◌>>=◌ : {A B : Type 0} → Result A (List ℕ) → (A → Result 
 (Err word) >>= next = Err word
 
 abbrev pub provided : {A : Type 0} → Bool → List ℕ → Result A (List ℕ) → Result A (List ℕ)
-provided holds word asked = if holds then asked else Err word
+provided holds word wanted = if holds then wanted else Err word
 
 abbrev pub arguments : List ℕ
 arguments = codes "arguments"
@@ -156,7 +156,7 @@ calculation kind operation name operands =
     provided (has kind operation) name (with_operands (bits_in kind) operation operands)
 
 abbrev pub commanded : Kind → Round → Result Calculation (List ℕ) → Result Command (List ℕ)
-commanded kind mode asked = asked >>= λ known. Ok (record { kind = kind; mode = mode; calculation = known })
+commanded kind mode wanted = wanted >>= λ known. Ok (record { kind = kind; mode = mode; calculation = known })
 
 -- the operation and the mode of their words, for a count of operands
 abbrev pub named : List ℕ → List ℕ → ℕ → Result (Operation × Round) (List ℕ)
@@ -175,8 +175,8 @@ abbrev pub with_format : List ℕ → List ℕ → List ℕ → List (List ℕ) 
 with_format format operation mode operands =
     ok_or (kind_named format) format >>= λ kind. with_operation (kind_of kind) operation mode operands
 
--- what is asked by a command, which is the words without the program's own name
-abbrev pub asked : List (List ℕ) → Result Command (List ℕ)
-asked command =
-    provided (nat_le 4 (length command) && nat_le (length command) 6) arguments
-    (with_format (word_at command 0) (word_at command 1) (word_at command 2) (drop 3 command))
+-- the command that is given by words, which are those after the program's own name
+abbrev pub command_of : List (List ℕ) → Result Command (List ℕ)
+command_of given =
+    provided (nat_le 4 (length given) && nat_le (length given) 6) arguments
+    (with_format (word_at given 0) (word_at given 1) (word_at given 2) (drop 3 given))

@@ -15,7 +15,7 @@ use Rattle.commands.specs.declared.reply.Reply as program
 use Rattle.dispatch.specs.ValueKinds.{Kind, bits_in, of_format, of_pairs, value_of}
 use Rattle.dispatch.specs.OfTwo.{IsOfTwo}
 use Rattle.dispatch.specs.Relations.{Relations, in_format, in_pairs}
-use Rattle.commands.specs.Commands.{Calculation, of_two, fused_sum, from_whole_number, from_text, Command, asked}
+use Rattle.commands.specs.Commands.{Calculation, of_two, fused_sum, from_whole_number, from_text, Command, command_of}
 
 -- bits with the number of their hexadecimal digits and the flags, or the word of a refusal
 pub data Reply : Type 0 where
@@ -55,10 +55,11 @@ pub record IsLineWhere {A : Type 0} (of_type : Relations A) (width : ℕ) (Holds
   pub answers : Holds answer
   pub is_line : IsLineOf of_type width answer reply
 
--- what is replied where that is asked, or a refusal
+-- what is replied to a calculation, or a refusal
 abbrev pub IsReplyIn : {A : Type 0} → Relations A → ℕ → Round → Result Calculation (List ℕ)
     → Reply → Type 0
-IsReplyIn of_type width mode (Ok asked) reply = IsLineWhere of_type width (IsResult of_type mode asked) reply
+IsReplyIn of_type width mode (Ok calculation) reply =
+    IsLineWhere of_type width (IsResult of_type mode calculation) reply
 IsReplyIn of_type width mode (Err word) reply = reply ≡ refused word
 
 -- ---- the reply in any kind of values
@@ -72,7 +73,8 @@ IsFormatResult c mode (from_whole_number n) answer = IsResult (in_format c) mode
 IsFormatResult c mode (from_text text) answer = IsResult (in_format c) mode (from_text text) answer
 
 abbrev pub IsFormatReply : Constants → Round → Result Calculation (List ℕ) → Reply → Type 0
-IsFormatReply c mode (Ok asked) reply = IsLineWhere (in_format c) c.bits (IsFormatResult c mode asked) reply
+IsFormatReply c mode (Ok calculation) reply =
+    IsLineWhere (in_format c) c.bits (IsFormatResult c mode calculation) reply
 IsFormatReply c mode (Err word) reply = reply ≡ refused word
 
 abbrev pub IsCalculated : Kind → Round → Calculation → Reply → Type 0
@@ -87,7 +89,7 @@ IsReplyTo (Ok command) reply = IsCalculated command.kind command.mode command.ca
 
 -- the reply to a command
 abbrev pub IsReply : List (List ℕ) → Reply → Type 0
-IsReply command reply = IsReplyTo (asked command) reply
+IsReply words reply = IsReplyTo (command_of words) reply
 
 -- it holds of that reply and of no other one
 pub record IsOnly (Holds : Reply → Type 0) (reply : Reply) : Type 0 where

@@ -65,9 +65,9 @@ fn in_type<'a, F: Float>(it: Calculation<'a>) -> Reply<'a>
     requires reads { ReadsTexts F.reads }
     requires count { length it.operands.now ≡ operand_count it.operation }
     ensures reply { let words = map string_bytes it.entry.operands.now in
-        let asked = provided (type_has F.MULTIPLIES it.entry.operation) it.entry.name.now
+        let wanted = provided (type_has F.MULTIPLIES it.entry.operation) it.entry.name.now
         (with_operands F.BITS it.entry.operation words) in IsOnly
-        (IsReplyIn (relations_of F.Float.own F.partial_cmp) F.BITS it.entry.round asked)
+        (IsReplyIn (relations_of F.Float.own F.partial_cmp) F.BITS it.entry.round wanted)
         (reply_of result) }
     ensures short { digit_count (reply_of result) ≤ 32 }
 {
@@ -96,8 +96,8 @@ fn of_two<'a, F: Float>(
     requires written { F.PRECISION < F.BITS }
     requires narrow { F.BITS ≤ 128 }
     requires supported { has_operation F.MULTIPLIES operation ≡ true }
-    ensures reply { let asked = with_two F.BITS operation left.now right.now in IsOnly
-        (IsReplyIn (relations_of F.Float.own F.partial_cmp) F.BITS round asked)
+    ensures reply { let wanted = with_two F.BITS operation left.now right.now in IsOnly
+        (IsReplyIn (relations_of F.Float.own F.partial_cmp) F.BITS round wanted)
         (reply_of result) }
     ensures short { digit_count (reply_of result) ≤ 32 }
 {
@@ -120,8 +120,8 @@ fn fused_sum<'a, S: Semantics>(
     requires written { S.PRECISION < S.BITS }
     requires supported { S.PRECISION ≤ FUSED_LIMIT }
     ensures reply { let c = constants_of S.Semantics in
-        let asked = with_three c.bits left.now right.now addend.now in IsOnly
-        (IsFormatReply c round asked)
+        let wanted = with_three c.bits left.now right.now addend.now in IsOnly
+        (IsFormatReply c round wanted)
         (reply_of result) }
     ensures short { digit_count (reply_of result) ≤ 32 }
 {

@@ -39,8 +39,8 @@ pub fn named<'a>(
     mode: &'a str,
     operands: usize,
 ) -> Result<(Operation, Round), &'a str>
-    ensures { let asked = named operation.now mode.now operands in
-        MatchResult result (λ both. asked ≡ Ok (both.0, both.1)) (λ word. asked ≡ Err word.now) }
+    ensures { let meant = named operation.now mode.now operands in
+        MatchResult result (λ both. meant ≡ Ok (both.0, both.1)) (λ word. meant ≡ Err word.now) }
 {
     let Some(known) = operation_named(operation) else {
         return Err(operation);

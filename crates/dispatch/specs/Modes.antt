@@ -4,15 +4,15 @@ use Rattle.rustc_apfloat.specs.Digits.{same}
 use Rattle.rustc_apfloat.specs.declared.Round.{Round}
 use Rattle.rustc_apfloat.specs.declared.Round.TheVariants.{NearestTiesToEven, TowardPositive, TowardNegative, TowardZero, NearestTiesToAway}
 
-pub record Row : Type 0 where
+pub record ModeRow : Type 0 where
   pub mode : Round
   pub word : List ℕ
   pub code : ℕ
 
-abbrev row : Round → List ℕ → ℕ → Row
+abbrev row : Round → List ℕ → ℕ → ModeRow
 row mode word code = record { mode = mode; word = word; code = code }
 
-abbrev pub modes : List Row
+abbrev pub modes : List ModeRow
 modes =
     row NearestTiesToEven (codes "even") 0
     ∷ row TowardPositive (codes "up") 1
@@ -22,12 +22,12 @@ modes =
     ∷ []
 
 -- the mode of the first row that passes the test
-abbrev pub first_mode : (Row → Bool) → List Row → Option Round
+abbrev pub first_mode : (ModeRow → Bool) → List ModeRow → Option Round
 first_mode test [] = None
 first_mode test (row ∷ rows) = if test row then Some row.mode else first_mode test rows
 
 abbrev pub mode_named : List ℕ → Option Round
-mode_named word = first_mode (λ (row : Row). same word row.word) modes
+mode_named word = first_mode (λ (row : ModeRow). same word row.word) modes
 
 abbrev pub mode_coded : ℕ → Option Round
-mode_coded code = first_mode (λ (row : Row). code == row.code) modes
+mode_coded code = first_mode (λ (row : ModeRow). code == row.code) modes

@@ -10,6 +10,67 @@ use rustc_apfloat::ieee::{
     X87DoubleExtendedS,
 };
 
+// Each built-in format: its variant, the constants of its type, its word and its code, for the macro that is named.
+macro_rules! each_format {
+    ($taker:ident($($given:tt)*)) => {
+        $taker! {
+            ($($given)*)
+            Half HalfS "half" 1,
+            Single SingleS "single" 2,
+            Double DoubleS "double" 3,
+            Quad QuadS "quad" 4,
+            BFloat BFloatS "bfloat" 5,
+            E5M2 Float8E5M2S "e5m2" 6,
+            E4M3FN Float8E4M3FNS "e4m3fn" 7,
+            E4M3FNUZ Float8E4M3FNUZS "e4m3fnuz" 8,
+            X87 X87DoubleExtendedS "x87" 9,
+        }
+    };
+}
+
+macro_rules! all_kinds {
+    (() $($name:ident $semantics:ident $word:literal $code:literal,)*) => {
+        [$(BuiltInKind::OfFormat(BuiltInFormat::$name),)* BuiltInKind::Pairs]
+    };
+}
+
+macro_rules! run_in {
+    (($format:expr, $call:expr) $($name:ident $semantics:ident $word:literal $code:literal,)*) => {
+        match $format {
+            $(BuiltInFormat::$name => $call.in_format::<$semantics>(),)*
+        }
+    };
+}
+
+macro_rules! kind_of_word {
+    (($of:expr) $($name:ident $semantics:ident $word:literal $code:literal,)*) => {
+        match $of {
+            $($word => Some(BuiltInKind::OfFormat(BuiltInFormat::$name)),)*
+            "dd" => Some(BuiltInKind::Pairs),
+            _ => None,
+        }
+    };
+}
+
+macro_rules! word_of_kind {
+    (($kind:expr) $($name:ident $semantics:ident $word:literal $code:literal,)*) => {
+        match $kind {
+            $(BuiltInKind::OfFormat(BuiltInFormat::$name) => $word,)*
+            BuiltInKind::Pairs => "dd",
+        }
+    };
+}
+
+macro_rules! kind_of_code {
+    (($of:expr) $($name:ident $semantics:ident $word:literal $code:literal,)*) => {
+        match $of {
+            $($code => Some(BuiltInKind::OfFormat(BuiltInFormat::$name)),)*
+            10 => Some(BuiltInKind::Pairs),
+            _ => None,
+        }
+    };
+}
+
 /// The built-in formats that have bits.
 #[derive(Clone, Copy, PartialEq, Eq, Debug)]
 pub enum BuiltInFormat {
@@ -37,24 +98,13 @@ pub enum BuiltInFormat {
 #[derive(Clone, Copy, PartialEq, Eq, Debug)]
 pub enum BuiltInKind {
     /// Those of a format.
-    Format(BuiltInFormat),
+    OfFormat(BuiltInFormat),
     /// Pairs of doubles.
     Pairs,
 }
 
 /// All of them, in the order of their codes.
-pub static BUILT_IN_KINDS: [BuiltInKind; 10] = [
-    BuiltInKind::Format(BuiltInFormat::Half),
-    BuiltInKind::Format(BuiltInFormat::Single),
-    BuiltInKind::Format(BuiltInFormat::Double),
-    BuiltInKind::Format(BuiltInFormat::Quad),
-    BuiltInKind::Format(BuiltInFormat::BFloat),
-    BuiltInKind::Format(BuiltInFormat::E5M2),
-    BuiltInKind::Format(BuiltInFormat::E4M3FN),
-    BuiltInKind::Format(BuiltInFormat::E4M3FNUZ),
-    BuiltInKind::Format(BuiltInFormat::X87),
-    BuiltInKind::Pairs,
-];
+pub static BUILT_IN_KINDS: &[BuiltInKind] = &each_format!(all_kinds());
 
 impl BuiltInFormat {
     /// Makes a call in the format.
@@ -62,17 +112,7 @@ impl BuiltInFormat {
         requires { C.can call (of_format (constants_in self)) }
         ensures { C.gives call (of_format (constants_in self)) result }
     {
-        match self {
-            BuiltInFormat::Half => call.in_format::<HalfS>(),
-            BuiltInFormat::Single => call.in_format::<SingleS>(),
-            BuiltInFormat::Double => call.in_format::<DoubleS>(),
-            BuiltInFormat::Quad => call.in_format::<QuadS>(),
-            BuiltInFormat::BFloat => call.in_format::<BFloatS>(),
-            BuiltInFormat::E5M2 => call.in_format::<Float8E5M2S>(),
-            BuiltInFormat::E4M3FN => call.in_format::<Float8E4M3FNS>(),
-            BuiltInFormat::E4M3FNUZ => call.in_format::<Float8E4M3FNUZS>(),
-            BuiltInFormat::X87 => call.in_format::<X87DoubleExtendedS>(),
-        }
+        each_format!(run_in(self, call))
     }
 }
 
@@ -83,7 +123,7 @@ impl BuiltInKind {
         ensures { C.gives call (kind_of self) result }
     {
         match self {
-            BuiltInKind::Format(format) => format.run(call),
+            BuiltInKind::OfFormat(format) => format.run(call),
             BuiltInKind::Pairs => call.in_pairs(),
         }
     }
@@ -92,56 +132,21 @@ impl BuiltInKind {
     pub fn named(word: &str) -> Option<BuiltInKind>
         ensures { result ≡ kind_named word.now }
     {
-        match word {
-            "half" => Some(BuiltInKind::Format(BuiltInFormat::Half)),
-            "single" => Some(BuiltInKind::Format(BuiltInFormat::Single)),
-            "double" => Some(BuiltInKind::Format(BuiltInFormat::Double)),
-            "quad" => Some(BuiltInKind::Format(BuiltInFormat::Quad)),
-            "bfloat" => Some(BuiltInKind::Format(BuiltInFormat::BFloat)),
-            "e5m2" => Some(BuiltInKind::Format(BuiltInFormat::E5M2)),
-            "e4m3fn" => Some(BuiltInKind::Format(BuiltInFormat::E4M3FN)),
-            "e4m3fnuz" => Some(BuiltInKind::Format(BuiltInFormat::E4M3FNUZ)),
-            "x87" => Some(BuiltInKind::Format(BuiltInFormat::X87)),
-            "dd" => Some(BuiltInKind::Pairs),
-            _ => None,
-        }
+        each_format!(kind_of_word(word))
     }
 
     /// Its word.
     pub fn word(self) -> &'static str
         ensures { kind_named result.now ≡ Some self }
     {
-        match self {
-            BuiltInKind::Format(BuiltInFormat::Half) => "half",
-            BuiltInKind::Format(BuiltInFormat::Single) => "single",
-            BuiltInKind::Format(BuiltInFormat::Double) => "double",
-            BuiltInKind::Format(BuiltInFormat::Quad) => "quad",
-            BuiltInKind::Format(BuiltInFormat::BFloat) => "bfloat",
-            BuiltInKind::Format(BuiltInFormat::E5M2) => "e5m2",
-            BuiltInKind::Format(BuiltInFormat::E4M3FN) => "e4m3fn",
-            BuiltInKind::Format(BuiltInFormat::E4M3FNUZ) => "e4m3fnuz",
-            BuiltInKind::Format(BuiltInFormat::X87) => "x87",
-            BuiltInKind::Pairs => "dd",
-        }
+        each_format!(word_of_kind(self))
     }
 
     /// The kind of this code.
     pub fn coded(code: u32) -> Option<BuiltInKind>
         ensures { result ≡ kind_coded code }
     {
-        match code {
-            1 => Some(BuiltInKind::Format(BuiltInFormat::Half)),
-            2 => Some(BuiltInKind::Format(BuiltInFormat::Single)),
-            3 => Some(BuiltInKind::Format(BuiltInFormat::Double)),
-            4 => Some(BuiltInKind::Format(BuiltInFormat::Quad)),
-            5 => Some(BuiltInKind::Format(BuiltInFormat::BFloat)),
-            6 => Some(BuiltInKind::Format(BuiltInFormat::E5M2)),
-            7 => Some(BuiltInKind::Format(BuiltInFormat::E4M3FN)),
-            8 => Some(BuiltInKind::Format(BuiltInFormat::E4M3FNUZ)),
-            9 => Some(BuiltInKind::Format(BuiltInFormat::X87)),
-            10 => Some(BuiltInKind::Pairs),
-            _ => None,
-        }
+        each_format!(kind_of_code(code))
     }
 
     /// The format, where it is one.
@@ -149,7 +154,7 @@ impl BuiltInKind {
         ensures { result ≡ format_in self }
     {
         match self {
-            BuiltInKind::Format(format) => Some(format),
+            BuiltInKind::OfFormat(format) => Some(format),
             BuiltInKind::Pairs => None,
         }
     }

@@ -5,10 +5,10 @@ use Rattle.commands.specs.Commands.{Command, arguments, provided, with_format, w
 use Rattle.commands.specs.Replies.{IsOnly, IsReply, IsReplyTo, refused}
 use Rattle.commands.proofs.reply.command.Goals as goal
 
-only_fault : (holds : Bool) (word : List ℕ) (asked : Result Command (List ℕ)) → holds ≡ false
-    → IsOnly (IsReplyTo (provided holds word asked)) (refused word)
-only_fault true word asked e = cc
-only_fault false word asked e = record { holds = refl; only = λ other h. h }
+only_fault : (holds : Bool) (word : List ℕ) (wanted : Result Command (List ℕ)) → holds ≡ false
+    → IsOnly (IsReplyTo (provided holds word wanted)) (refused word)
+only_fault true word wanted e = cc
+only_fault false word wanted e = record { holds = refl; only = λ other h. h }
 
 few_or_many : (n : ℕ) → (n < 4) ⊎ ((4 ≤ n) × (6 < n)) → (nat_le 4 n && nat_le n 6) ≡ false
 few_or_many n (inl few) = rw (lt-leb 4 n few) refl
