@@ -6,4 +6,5 @@ pub mod Picks
 pub mod PickedPoints
 pub mod Deliveries
 pub mod Laws
+pub mod FlagsTogether
 pub mod FarMagnitudes

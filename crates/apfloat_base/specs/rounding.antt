@@ -3,6 +3,7 @@ pub mod Rounding
 pub mod Answer
 pub mod Negation
 pub mod Flags
+pub mod RaisedFlags
 pub mod Standing
 pub mod Enclosure
 pub mod Bounds
