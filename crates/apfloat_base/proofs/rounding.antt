@@ -7,4 +7,5 @@ pub mod PickedPoints
 pub mod Deliveries
 pub mod Laws
 pub mod FlagsTogether
+pub mod ModesAgree
 pub mod FarMagnitudes
