@@ -220,7 +220,8 @@ without_once (Some fault) known mode call old a b code other x y =
 -- two replies to the same arguments are one
 pub reply_once : (format : Option BuiltInKind) (mode : Option Round) (call : ExportedCall) (old first second : Answer)
     (code other : ℕ)
-    → IsReturned (known_call format mode call) old first code → IsReturned (known_call format mode call) old second other
+    → IsReturned (known_call format mode call) old first code
+    → IsReturned (known_call format mode call) old second other
     → (code ≡ other) × SameAnswer first second
 reply_once None mode call old a b code other x y = (x.0 ∙ sym y.0, unchanged old a b x.1 y.1)
 reply_once (Some known) None call old a b code other x y = (x.0 ∙ sym y.0, unchanged old a b x.1 y.1)

@@ -66,7 +66,8 @@ read_on-nil radix n h = grind (arith, nat_tests)
 -- a character that is no digit, or leads past the bound, ends the reading
 stops : (radix : Radix) (n c : ℕ) (digits : List ℕ) (is_digit fits : Bool) → is_digit_of radix c ≡ is_digit
     → nat_lt (longer radix n c) (2 ^ 128) ≡ fits
-    → (if is_digit && fits then Some (longer radix n c) else None) ≡ None → read_on radix n (c ∷ digits) ≡ None
+    → (if is_digit && fits then Some (longer radix n c) else None) ≡ None
+    → read_on radix n (c ∷ digits) ≡ None
 stops radix n c digits false l p q e = read_on-no_digit radix n c digits p
 stops radix n c digits true false p q e =
     read_on-cons radix n c digits p ∙ read_on-too_large radix _ digits (ltb-false _ _ q)

@@ -84,7 +84,8 @@ bit_raises : (status k : ℕ) → 0 < bit_at status k → 0 < bit_and status (2 
 bit_raises status k h = subst (λ (n : ℕ). 0 < n) (sym (and_pow status k)) (mul-pos h (pow_pos k))
 
 -- a flag of a union is a flag of one of the two
-raised_by_either : (k s t : ℕ) → 0 < bit_and (bit_or s t) (2 ^ k) → (0 < bit_and s (2 ^ k)) ⊎ (0 < bit_and t (2 ^ k))
+raised_by_either : (k s t : ℕ) → 0 < bit_and (bit_or s t) (2 ^ k)
+    → (0 < bit_and s (2 ^ k)) ⊎ (0 < bit_and t (2 ^ k))
 raised_by_either k s t h =
     ⊎_elim (λ (a : 0 < bit_at s k). inl (bit_raises s k a)) (λ (b : 0 < bit_at t k). inr (bit_raises t k b))
     (either_bit (bit_at s k) (bit_at t k)
@@ -285,7 +286,8 @@ pub from_unsigned_together : (format : Format) (mode : Round) (number : ℕ)
     → Together (IsFromUnsigned format mode number)
 from_unsigned_together format mode number = delivered_together format mode _ _ _
 
-pub from_signed_together : (format : Format) (mode : Round) (number : ℤ) → Together (IsFromSigned format mode number)
+pub from_signed_together : (format : Format) (mode : Round) (number : ℤ)
+    → Together (IsFromSigned format mode number)
 from_signed_together format mode number = delivered_together format mode _ _ _
 
 pub round_to_integral_together : (format : Format) (mode : Round) (x : Datum)
@@ -317,8 +319,8 @@ to_signed_together format mode width x number status is_exact h =
 
 -- the signed whole number that is made from a magnitude
 pub negated_whole_together : (is_zero : Bool) (width number flags : ℕ) (exact : Bool) (value : ℤ) (status : ℕ)
-    (is_exact : Bool) → FlagsGoTogether flags → IsNegatedWhole is_zero width number flags exact value status is_exact
-    → FlagsGoTogether status
+    (is_exact : Bool) → FlagsGoTogether flags
+    → IsNegatedWhole is_zero width number flags exact value status is_exact → FlagsGoTogether status
 negated_whole_together is_zero width number flags exact value status is_exact f h =
     ⊎_elim
     (λ (past : 2 ^ (width - 1) < number). subst FlagsGoTogether (sym (h.past past).0) invalid_together)

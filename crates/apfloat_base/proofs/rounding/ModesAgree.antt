@@ -69,7 +69,8 @@ ok_in_each_mode format mode other negative amount parts value p x =
     let t = ok_is_exact format mode negative amount parts x.pick (sym x.status_is) in
     let g = pick_on_grid format.precision mode negative amount parts x.pick x.is_pick in
     let a : ltb (largest format) x.pick ≡ false = t.0 in
-    let v : delivered_value format mode negative x.pick ≡ signed_quanta format.nonfinite negative x.pick = rw a refl in
+    let v : delivered_value format mode negative x.pick ≡ signed_quanta format.nonfinite negative x.pick =
+    rw a refl in
     subst (λ (d : Datum). IsDelivered format other negative amount parts d ok_bits) (sym (x.value_is ∙ v))
     (exact_delivered format other negative x.pick amount parts p g (ltb-false (largest format) x.pick t.0) (sym t.1))
 
@@ -78,7 +79,8 @@ ok_in_each_mode format mode other negative amount parts value p x =
 -- where the status is OK in one mode, each mode gives that value, with status OK
 abbrev pub AgreesWhereOk : (Round → Datum → ℕ → Type 0) → Type 0
 AgreesWhereOk R =
-    (mode other : Round) (value other_value : Datum) (status : ℕ) → R mode value ok_bits → R other other_value status
+    (mode other : Round) (value other_value : Datum) (status : ℕ)
+    → R mode value ok_bits → R other other_value status
     → (other_value ≡ value) × (status ≡ ok_bits)
 
 pub delivered_agrees : (format : Format) (negative : Bool) (amount parts : ℕ) → 0 < parts
@@ -148,8 +150,8 @@ conversion_agrees from into (finite b zero) = λ mode other v w s x y.
     (y.1.value_is ∙ sym x.1.value_is, y.1.status_is ∙ sym x.1.status_is)
 conversion_agrees from into (finite b (suc n)) =
     rw (not_zero (suc n) (omega arith))
-    (λ mode other v w s x y. delivered_agrees into b (suc n * 2 ^ into.scale) (2 ^ from.scale) (pow_pos from.scale) mode
-    other v w s x.1.is_delivered y.1.is_delivered)
+    (λ mode other v w s x y. delivered_agrees into b (suc n * 2 ^ into.scale) (2 ^ from.scale)
+    (pow_pos from.scale) mode other v w s x.1.is_delivered y.1.is_delivered)
 
 meant_agrees : (format : Format) (meaning : Meaning) → AgreesWhereOk (λ mode. IsMeant format mode meaning)
 meant_agrees format (infinity negative) = answer_agrees _ _
@@ -167,8 +169,10 @@ reading_agrees format text mode other v w s h k =
 
 abbrev pub AgreesButForZeros : (Round → Datum → ℕ → Type 0) → Type 0
 AgreesButForZeros R =
-    (mode other : Round) (value other_value : Datum) (status : ℕ) → R mode value ok_bits → R other other_value status
-    → ((other_value ≡ value) ⊎ ((is_zero value ≡ true) × (is_zero other_value ≡ true))) × (status ≡ ok_bits)
+    (mode other : Round) (value other_value : Datum) (status : ℕ)
+    → R mode value ok_bits → R other other_value status
+    → ((other_value ≡ value) ⊎ ((is_zero value ≡ true) × (is_zero other_value ≡ true)))
+    × (status ≡ ok_bits)
 
 agrees_too : (R : Round → Datum → ℕ → Type 0) → AgreesWhereOk R → AgreesButForZeros R
 agrees_too R h mode other v w s x y = let e = h mode other v w s x y in (inl e.0, e.1)

@@ -200,12 +200,12 @@ pair_product_together mode x y = product_of_categories_together (pair_category x
 split_together : (call : Datum → ℕ → Type 0) → Together call → Together (IsSplitAnswer call)
 split_together call h answer status x = h x.value status x.is_value
 
-of_one_together : (call : Datum → Datum → ℕ → Type 0) → ((joined : Datum) → Together (call joined)) → (x : Pair)
-    → Together (IsWideAnswer call x)
+of_one_together : (call : Datum → Datum → ℕ → Type 0) → ((joined : Datum) → Together (call joined))
+    → (x : Pair) → Together (IsWideAnswer call x)
 of_one_together call h x answer status w = split_together (call w.joined) (h w.joined) answer status w.is_answer
 
-of_two_together : (call : Datum → Datum → Datum → ℕ → Type 0) → ((left right : Datum) → Together (call left right))
-    → (x y : Pair) → Together (IsWideAnswerOfTwo call x y)
+of_two_together : (call : Datum → Datum → Datum → ℕ → Type 0)
+    → ((left right : Datum) → Together (call left right)) → (x y : Pair) → Together (IsWideAnswerOfTwo call x y)
 of_two_together call h x y answer status w =
     split_together (call w.left w.right) (h w.left w.right) answer status w.is_answer
 
@@ -252,9 +252,11 @@ pair_from_signed_together mode number =
 
 -- the relation of a number, a status and whether the number is exact holds only of such statuses
 abbrev pub WholeTogether : {N : Type 0} → (N → ℕ → Bool → Type 0) → Type 0
-WholeTogether {N} R = (number : N) (status : ℕ) (is_exact : Bool) → R number status is_exact → FlagsGoTogether status
+WholeTogether {N} R =
+    (number : N) (status : ℕ) (is_exact : Bool) → R number status is_exact → FlagsGoTogether status
 
-pub pair_to_unsigned_together : (mode : Round) (width : ℕ) (x : Pair) → WholeTogether (IsPairToUnsigned mode width x)
+pub pair_to_unsigned_together : (mode : Round) (width : ℕ) (x : Pair)
+    → WholeTogether (IsPairToUnsigned mode width x)
 pair_to_unsigned_together mode width x number status is_exact h =
     to_unsigned_together wide mode width h.joined number status is_exact h.is
 

@@ -186,7 +186,8 @@ pub record IsNumber (exact : ℤ) (value : Datum) : Type 0 where
 
 -- TwoProduct with a fused multiply-add: a * c - t, rounded once, is the exact error of the rounded product t
 pub two_product : (format : Format) (first second product rest : Datum) (flags : ℕ) (x : ℤ)
-    → format.nonfinite ≡ IEEE754 → 8 ≤ 2 ^ format.precision → is_finite first ≡ true → is_finite second ≡ true → is_finite product ≡ true
+    → format.nonfinite ≡ IEEE754 → 8 ≤ 2 ^ format.precision
+    → is_finite first ≡ true → is_finite second ≡ true → is_finite product ≡ true
     → IsWholeProduct format.precision format.scale (number first) (number second) x → magnitude x ≤ largest format
     → IsNearest format.precision x (number product)
     → IsFusedSum format NearestTiesToEven first second (negated IEEE754 product) rest flags
