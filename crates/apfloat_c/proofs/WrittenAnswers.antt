@@ -35,7 +35,7 @@ pub text_without_fault : (bytes : List ℕ) → every is_ascii bytes ≡ true �
     → is_text bytes ≡ true
 text_without_fault bytes ascii none = rw (ascii, none) refl
 
--- what each type answers, but for the calls that formats have and others do not, is what a format answers
+-- a type returns what its format does, except for calls that only formats have
 pub type_outcome : (constants : Constants) (mode : Round) (call : ExportedCall) (outcome : Result Answer ℕ)
     → ((x y z : ℕ) → call ≡ FusedSum x y z → ⊥)
     → ((x : ℕ) (target : Option BuiltInKind) → call ≡ Conversion x target → ⊥)

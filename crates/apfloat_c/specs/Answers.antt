@@ -1,4 +1,4 @@
--- What a call answers.
+-- What a call returns.
 use Rattle.std.specs.Prelude.{⊤, FitsSigned, ◌≡◌, ℕ, ◌+◌, ◌*◌, ◌^◌, ℤ, pos, neg_ℤ, Bool, if◌then◌else◌, Option, Some, None, Result, Ok, Err}
 use Rattle.std.specs.Int.{w32, w128, cast_unsigned}
 use Rattle.std.specs.declared.cmp.Ordering.{Ordering}
@@ -107,7 +107,7 @@ pub record IsFractionOf {A : Type 0} (of_type : Relations A) (Holds : A → ℤ 
 abbrev pub class_of : {A : Type 0} → Relations A → A → ℤ
 class_of of_type x = class_code (of_type.category x) (of_type.sign x) (of_type.denormal x) (of_type.signals x)
 
--- a fused sum and a conversion, which not each type has, answer nothing
+-- fused sums and conversions, which not every type has, have no result
 abbrev pub IsTypeAnswer : {A : Type 0} → Relations A → Round → ExportedCall → Answer → Type 0
 IsTypeAnswer of_type mode (OfTwo arithmetic x y) answer =
     IsValue of_type (IsOfTwo of_type arithmetic mode (of_type.value_of_bits x) (of_type.value_of_bits y)) answer

@@ -1,4 +1,4 @@
-//! Answers in the values of a kind.
+//! Results of calls in a kind of values.
 
 ghost use Rattle.std.specs.Prelude.{◌≡◌, ◌<◌, pos};
 ghost use Rattle.rustc_apfloat.specs.Types.{constants_of};
@@ -39,7 +39,7 @@ impl InFormat for RoundedCall<'_> {
             ExportedCall::FusedSum(x, y, z) => fused_sum::<S>(self.round, x, y, z),
             ExportedCall::Conversion(x, target) => converted::<S>(self.round, x, target),
             ExportedCall::Fraction(x) => {
-                // It says that `x` is a value of the format: so its exponent is one of 32 bits.
+                // That `x` belongs to the format bounds its exponent, which therefore fits 32 bits.
                 let _ = S::from_bits(x).category();
                 in_type::<IeeeFloat<S>>(self.round, self.call)
             }
@@ -51,7 +51,7 @@ impl InFormat for RoundedCall<'_> {
 impl InKind for RoundedCall<'_> {
     fn in_pairs(self) -> Result<Answer, u32> {
         if let ExportedCall::Fraction(x) = self.call {
-            // It says that the parts are doubles: so the exponent is one of 32 bits.
+            // That both parts are doubles bounds the exponent, which therefore fits 32 bits.
             let _ = DoubleDouble::from_bits(x).category();
         }
         in_type::<DoubleDouble>(self.round, self.call)

@@ -1,4 +1,4 @@
-//! Answers a call in the values of a code.
+//! Makes a call in the kind of values that a code names.
 
 ghost use Rattle.dispatch.specs.BuiltIns.{kind_coded};
 ghost use Rattle.apfloat_c.specs.KnownCalls.{known_call};

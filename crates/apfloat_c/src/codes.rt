@@ -24,14 +24,14 @@ pub const WRONG_WIDTH: u32 = 4;
 /// The error of a text without a meaning.
 pub const REFUSED_TEXT: u32 = 5;
 
-/// Whether an integer can have this width, with at least that many bits.
+/// Whether an integer may have this width: at least `least`, and at most 128 bits.
 pub fn is_width(least: u32, width: u32) -> bool
     ensures { result ≡ (nat_le least width && nat_le width 128) }
 {
     least <= width && width <= 128
 }
 
-/// 1 where it holds, and else 0.
+/// 1 if it holds, otherwise 0.
 pub fn one_if(holds: bool) -> i32
     ensures { result ≡ one_if holds }
 {

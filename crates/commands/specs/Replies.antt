@@ -33,7 +33,7 @@ digit_count (refused word) = 0
 
 -- ---- the reply in a type of values
 
--- what a calculation answers; a fused sum, which not each type has, nothing
+-- the result of a calculation; a fused sum, which not every type has, has none
 abbrev pub IsResult : {A : Type 0} → Relations A → Round → Calculation → StatusAnd A → Type 0
 IsResult of_type mode (of_two arithmetic x y) answer =
     IsOfTwo of_type arithmetic mode (of_type.value_of_bits x) (of_type.value_of_bits y) answer
@@ -64,7 +64,7 @@ IsReplyIn of_type width mode (Err word) reply = reply ≡ refused word
 
 -- ---- the reply in any kind of values
 
--- what a calculation answers in a format, which may have the fused sum
+-- the result in a format, which may have fused sums
 abbrev pub IsFormatResult : Constants → Round → Calculation → StatusAnd Datum → Type 0
 IsFormatResult c mode (of_two arithmetic x y) answer = IsResult (in_format c) mode (of_two arithmetic x y) answer
 IsFormatResult c mode (fused_sum x y z) answer =
@@ -102,7 +102,7 @@ pub record IsOnly (Holds : Reply → Type 0) (reply : Reply) : Type 0 where
 abbrev pub hexadecimal_digit : ℕ → ℕ
 hexadecimal_digit d = if nat_lt d 10 then 48 + d else 87 + d
 
--- so many last digits of a number
+-- that many last digits of a number
 unfoldable pub hexadecimal_text : ℕ → ℕ → List ℕ
 hexadecimal_text n zero = []
 hexadecimal_text n (suc place) = hexadecimal_digit (n / 16 ^ place % 16) ∷ hexadecimal_text n place

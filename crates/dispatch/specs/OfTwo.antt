@@ -1,4 +1,4 @@
--- What an operation on two values answers.
+-- What an operation on two values returns.
 use Rattle.std.specs.Prelude.{Bool, true}
 use Rattle.rustc_apfloat.specs.declared.Round.{Round}
 use Rattle.rustc_apfloat.specs.declared.StatusAnd.{StatusAnd}

@@ -1,4 +1,4 @@
--- What the operations of a type of values answer, as relations: those of a type that implements `Float`, those of a
+-- What the operations of a type of values return, as relations: those of a type that implements `Float`, those of a
 -- format, and those of pairs of doubles.
 use Rattle.std.specs.Prelude.{ℕ, ℤ, Bool, Option, List, Result}
 use Rattle.std.specs.declared.cmp.Ordering.{Ordering}

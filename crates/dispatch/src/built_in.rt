@@ -97,13 +97,13 @@ pub enum BuiltInFormat {
 /// The built-in kinds of values.
 #[derive(Clone, Copy, PartialEq, Eq, Debug)]
 pub enum BuiltInKind {
-    /// Those of a format.
+    /// Values of a format.
     OfFormat(BuiltInFormat),
     /// Pairs of doubles.
     Pairs,
 }
 
-/// All of them, in the order of their codes.
+/// All built-in kinds, in the order of their codes.
 pub static BUILT_IN_KINDS: &[BuiltInKind] = &each_format!(all_kinds());
 
 impl BuiltInFormat {
@@ -128,28 +128,28 @@ impl BuiltInKind {
         }
     }
 
-    /// The kind of this word.
+    /// The kind that this word names, if any.
     pub fn named(word: &str) -> Option<BuiltInKind>
         ensures { result ≡ kind_named word.now }
     {
         each_format!(kind_of_word(word))
     }
 
-    /// Its word.
+    /// The word that names the kind: `half`, `single` and so on, `dd` for pairs.
     pub fn word(self) -> &'static str
         ensures { kind_named result.now ≡ Some self }
     {
         each_format!(word_of_kind(self))
     }
 
-    /// The kind of this code.
+    /// The kind that this code names, if any.
     pub fn coded(code: u32) -> Option<BuiltInKind>
         ensures { result ≡ kind_coded code }
     {
         each_format!(kind_of_code(code))
     }
 
-    /// The format, where it is one.
+    /// Its format; `None` for pairs.
     pub fn format(self) -> Option<BuiltInFormat>
         ensures { result ≡ format_in self }
     {

@@ -5,7 +5,7 @@ ghost use Rattle.dispatch.specs.Modes.{mode_coded, mode_named};
 
 use rustc_apfloat::Round;
 
-/// The rounding mode of this word.
+/// The rounding mode that this word names, if any.
 pub fn mode_named(word: &str) -> Option<Round>
     ensures { result ≡ mode_named word.now }
 {
@@ -19,7 +19,7 @@ pub fn mode_named(word: &str) -> Option<Round>
     }
 }
 
-/// The rounding mode of this code.
+/// The rounding mode that this code names, if any.
 pub fn mode_coded(code: u32) -> Option<Round>
     ensures { result ≡ mode_coded code }
 {
