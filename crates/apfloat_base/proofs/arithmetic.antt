@@ -2,6 +2,7 @@ pub mod Signs
 pub mod Fractions
 pub mod FractionExponents
 pub mod Divisions
+pub mod LongDivisions
 pub mod ProductLaws
 pub mod Inverses
 pub mod Tables

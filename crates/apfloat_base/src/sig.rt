@@ -3,6 +3,7 @@
 //! A significand `s` with a unit and a `Loss` represents each magnitude that is `s` units plus a rest below one unit
 //! that the `Loss` describes (`StandsFor` in `specs/rounding/Standing.antt`).
 
+pub mod long_quotient;
 pub mod loss;
 pub mod product;
 pub mod quotient;
@@ -10,6 +11,7 @@ pub mod shift;
 pub mod short_quotient;
 pub mod sum;
 
+pub use long_quotient::{LongDivisor, divide_by_words, long_divisor, next_digits};
 pub use loss::{Loss, is_exact, loss_of_rest};
 pub use product::full_product;
 pub use quotient::{Quotient, divide};
