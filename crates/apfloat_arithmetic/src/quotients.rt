@@ -14,7 +14,7 @@ ghost use Rattle.apfloat_unpacked.specs.Stored.{IsStored, IsNormal, quanta_of, d
 use crate::classes::are_normal;
 use crate::exact::{exact_infinity, exact_zero};
 use crate::products::product_sign;
-use apfloat_base::sig::{self, Quotient, divide_short, divide_word};
+use apfloat_base::sig::{Quotient, divide_by_words, divide_short, divide_word};
 use apfloat_base::{Category, ExpInt, Round, Status, StatusAnd};
 use apfloat_unpacked::nans::{invalid, propagated, propagated_left};
 use apfloat_unpacked::rounding::deliver;
@@ -51,7 +51,7 @@ fn quotient_of(precision: u32, dividend: u128, divisor: u128) -> Quotient
     } else if places <= 62 {
         divide_short(dividend as u64, divisor as u64, places)
     } else {
-        sig::divide(dividend, divisor, places)
+        divide_by_words(dividend, divisor, places)
     }
 }
 

@@ -4,8 +4,8 @@ use Rattle.apfloat_base.proofs.general.Powers.{two_pos}
 use Rattle.apfloat_base.proofs.rounding.KeptDigits.{fits_shifted}
 use Rattle.apfloat_arithmetic.proofs.quotients.quotient_of.Goals as goal
 
-pub divide-requires-clause-narrow : goal.divide-requires-clause-narrow
-divide-requires-clause-narrow c =
+pub divide_by_words-requires-clause-narrow : goal.divide_by_words-requires-clause-narrow
+divide_by_words-requires-clause-narrow c =
     let a : 2 ^ c.args.precision ≤ 2 ^ 125 = pow-le-pow_right two_pos c.requires.precise in
     let f = c.requires.divisor_fits in
     omega arith
