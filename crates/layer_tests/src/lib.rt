@@ -6,6 +6,8 @@
 #[cfg(test)]
 mod modes;
 #[cfg(test)]
+mod quotients;
+#[cfg(test)]
 mod statuses;
 #[cfg(test)]
 mod sums;
