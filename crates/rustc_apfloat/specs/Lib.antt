@@ -13,6 +13,7 @@ pub use Rattle.apfloat_base.specs.rounding.Rounding
 pub use Rattle.apfloat_base.specs.rounding.Answer
 pub use Rattle.apfloat_base.specs.rounding.Negation
 pub use Rattle.apfloat_base.specs.rounding.Flags
+pub use Rattle.apfloat_base.specs.rounding.RaisedFlags
 pub use Rattle.apfloat_base.specs.rounding.Standing
 pub use Rattle.apfloat_base.specs.rounding.Enclosure
 pub use Rattle.apfloat_base.specs.rounding.Bounds
