@@ -106,40 +106,42 @@ MAKES(classify, a->format, a->x)
 MAKES(parse, a->format, a->mode, (const uint8_t *)a->text, strlen(a->text))
 
 /* The operands of a call, by letters: x, y and z are bits, n is an integer, w a width, p a power, and t a text. Its
- * value: b for bits, n for an integer in the bits, e for an exponent, o for an order, q for a question's answer. */
+ * value: b for bits, n for an integer in the bits, e for an exponent, o for an order, q for a question's answer. And
+ * the name of its extra result, if it has one. */
 static const struct call {
     const char *name, *operands;
     char value;
     made *make;
-} calls[] = {{"add_r", "xy", 'b', make_add},
-             {"sub_r", "xy", 'b', make_sub},
-             {"mul_r", "xy", 'b', make_mul},
-             {"div_r", "xy", 'b', make_div},
-             {"mul_add_r", "xyz", 'b', make_fma},
-             {"ieee_rem", "xy", 'b', make_rem},
-             {"c_fmod", "xy", 'b', make_mod},
-             {"convert_r", "x", 'b', make_convert},
-             {"from_u128_r", "n", 'b', make_from_u128},
-             {"from_i128_r", "n", 'b', make_from_i128},
-             {"to_u128_r", "xw", 'n', make_to_u128},
-             {"to_i128_r", "xw", 'n', make_to_i128},
-             {"round_to_integral", "x", 'b', make_round_to_integral},
-             {"scalbn_r", "xp", 'b', make_scalbn},
-             {"ilogb", "x", 'e', make_ilogb},
-             {"frexp_r", "x", 'b', make_frexp},
-             {"next_up", "x", 'b', make_next_up},
-             {"next_down", "x", 'b', make_next_down},
-             {"partial_cmp", "xy", 'o', make_compare},
-             {"is_signaling", "x", 'q', make_classify},
-             {"is_nan", "x", 'q', make_classify},
-             {"is_neg_infinity", "x", 'q', make_classify},
-             {"is_neg_zero", "x", 'q', make_classify},
-             {"is_denormal", "x", 'q', make_classify},
-             {"is_normal", "x", 'q', make_classify},
-             {"is_pos_zero", "x", 'q', make_classify},
-             {"is_pos_infinity", "x", 'q', make_classify},
-             {"is_negative", "x", 'q', make_classify},
-             {"from_str_r", "t", 'b', make_parse}};
+    const char *extra;
+} calls[] = {{"add_r", "xy", 'b', make_add, NULL},
+             {"sub_r", "xy", 'b', make_sub, NULL},
+             {"mul_r", "xy", 'b', make_mul, NULL},
+             {"div_r", "xy", 'b', make_div, NULL},
+             {"mul_add_r", "xyz", 'b', make_fma, NULL},
+             {"ieee_rem", "xy", 'b', make_rem, NULL},
+             {"c_fmod", "xy", 'b', make_mod, NULL},
+             {"convert_r", "x", 'b', make_convert, "loses_info"},
+             {"from_u128_r", "n", 'b', make_from_u128, NULL},
+             {"from_i128_r", "n", 'b', make_from_i128, NULL},
+             {"to_u128_r", "xw", 'n', make_to_u128, "is_exact"},
+             {"to_i128_r", "xw", 'n', make_to_i128, "is_exact"},
+             {"round_to_integral", "x", 'b', make_round_to_integral, NULL},
+             {"scalbn_r", "xp", 'b', make_scalbn, NULL},
+             {"ilogb", "x", 'e', make_ilogb, NULL},
+             {"frexp_r", "x", 'b', make_frexp, "exponent"},
+             {"next_up", "x", 'b', make_next_up, NULL},
+             {"next_down", "x", 'b', make_next_down, NULL},
+             {"partial_cmp", "xy", 'o', make_compare, NULL},
+             {"is_signaling", "x", 'q', make_classify, NULL},
+             {"is_nan", "x", 'q', make_classify, NULL},
+             {"is_neg_infinity", "x", 'q', make_classify, NULL},
+             {"is_neg_zero", "x", 'q', make_classify, NULL},
+             {"is_denormal", "x", 'q', make_classify, NULL},
+             {"is_normal", "x", 'q', make_classify, NULL},
+             {"is_pos_zero", "x", 'q', make_classify, NULL},
+             {"is_pos_infinity", "x", 'q', make_classify, NULL},
+             {"is_negative", "x", 'q', make_classify, NULL},
+             {"from_str_r", "t", 'b', make_parse, NULL}};
 
 static unsigned agreeing[COUNT(calls)];
 
@@ -207,19 +209,21 @@ static const apfloat_answer before = {{UINT64_C(0x0123456789abcdef), UINT64_C(0x
 
 enum column { CALL, FORMAT, MODE, OPERANDS, VALUE, FLAGS, MORE, COLUMNS };
 
-static bool read_expected(char *columns[], char value, struct expected *e) {
+static bool read_expected(char *columns[], const struct call *call, struct expected *e) {
+    char value = call->value;
     *e = (struct expected){APFLOAT_ANSWERED, 0, {{0, 0}, 0, 0}, true};
     if (strcmp(columns[FLAGS], "ParseError") == 0) {
         e->code = APFLOAT_REFUSED_TEXT;
         e->answer = before;
         return true;
     }
-    const char *said = strchr(columns[MORE], '=');
-    if (said && strcmp(said, "=true") == 0)
-        e->answer.number = 1;
-    else if (said && strcmp(said, "=false") != 0)
-        e->answer.number = (int32_t)strtol(said + 1, NULL, 10);
-    e->has_number = said || value != 'n';
+    if (call->extra) {
+        size_t length = strlen(call->extra);
+        e->has_number = strncmp(columns[MORE], call->extra, length) == 0 && columns[MORE][length] == '=';
+        const char *said = columns[MORE] + length + 1;
+        if (e->has_number)
+            e->answer.number = strcmp(said, "true") == 0 ? 1 : (int32_t)strtol(said, NULL, 10);
+    }
     if (value == 'e') e->answer.number = (int32_t)strtol(columns[VALUE], NULL, 10);
     if (value == 'o') e->answer.number = (int32_t)code_of(orders, COUNT(orders), columns[VALUE]);
     if (value == 'q') {
@@ -271,7 +275,7 @@ static bool check(char *columns[]) {
     bool has_mode = strcmp(columns[MODE], "any") != 0;
     a.mode = has_mode ? code_of(modes, COUNT(modes), columns[MODE]) : 0;
     if (has_mode && a.mode == NO_CODE && strcmp(columns[MODE], "-") != 0) return false;
-    if (!read_expected(columns, calls[i].value, &e) || !read_operands(columns[OPERANDS], calls[i].operands, &a))
+    if (!read_expected(columns, &calls[i], &e) || !read_operands(columns[OPERANDS], calls[i].operands, &a))
         return false;
     if (has_mode) {
         if (!agrees(&calls[i], &a, &e)) return false;
