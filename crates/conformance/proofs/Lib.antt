@@ -2,3 +2,4 @@ pub mod Spacings
 pub mod Multiples
 pub mod PlainAnswers
 pub mod Summands
+pub mod Readings

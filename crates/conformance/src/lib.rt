@@ -5,6 +5,8 @@
 
 pub mod agreements;
 pub mod laws;
+pub mod pair_statuses;
 pub mod pairs;
 pub mod plain;
+pub mod statuses;
 pub mod widest;

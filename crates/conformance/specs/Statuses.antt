@@ -1,0 +1,11 @@
+-- The status of what a text is read as.
+use Rattle.std.specs.Prelude.{Result, Ok, Err, ⊤}
+use Rattle.apfloat_base.specs.declared.parse_error.ParseError.{ParseError}
+use Rattle.apfloat_base.specs.declared.status.StatusAnd.{StatusAnd}
+use Rattle.rustc_apfloat.specs.Flags.{bits_of}
+use Rattle.rustc_apfloat.specs.RaisedFlags.{FlagsGoTogether}
+
+-- a refusal has no status
+abbrev pub HasFlagsTogether : {A : Type 0} → Result (StatusAnd A) ParseError → Type 0
+HasFlagsTogether (Ok answer) = FlagsGoTogether (bits_of answer.status)
+HasFlagsTogether (Err error) = ⊤
