@@ -1,6 +1,6 @@
 /* Calls the library from C for rows of calls with their results, as crates/check_vectors/stdin has them
- * (docs/VECTORS.md), and compares each field of the answer, for these calls are where a field or an argument in the
- * wrong place shows. Rows that the library has no function or no code for are passed over.
+ * (docs/VECTORS.md), and compares each field of the answer: a field or an argument in the wrong place shows only in a
+ * call from C. Rows that the library has no function or no code for are passed over.
  *
  * It prints each row that differs, and for each call how many rows agree. .ci/run compares this with tests/c/agreeing.
  * By hand, at the top of the repository, after `rt lib` in crates/apfloat_c:
@@ -8,36 +8,12 @@
  *   cc -std=c99 -Wall -Wextra -O2 -Iinclude tests/c/check_rows.c crates/apfloat_c/out/libapfloat_c.a -o check_rows
  *   ./check_rows < crates/check_vectors/stdin | diff - tests/c/agreeing */
 #include "apfloat.h"
+#include "../../examples/c/names.h"
 
 #include <stdbool.h>
 #include <stdio.h>
 #include <stdlib.h>
 #include <string.h>
-
-#define COUNT(table) (sizeof(table) / sizeof((table)[0]))
-
-struct code {
-    const char *name;
-    uint32_t code;
-};
-
-static const struct code formats[] = {
-    {"half", APFLOAT_HALF},     {"single", APFLOAT_SINGLE}, {"double", APFLOAT_DOUBLE},
-    {"quad", APFLOAT_QUAD},     {"bfloat", APFLOAT_BFLOAT}, {"e5m2", APFLOAT_E5M2},
-    {"e4m3fn", APFLOAT_E4M3FN}, {"x87", APFLOAT_X87},       {"e4m3fnuz", APFLOAT_E4M3FNUZ},
-    {"dd", APFLOAT_DOUBLE_PAIR}};
-
-static const struct code modes[] = {{"even", APFLOAT_NEAREST_EVEN},
-                                    {"up", APFLOAT_UPWARD},
-                                    {"down", APFLOAT_DOWNWARD},
-                                    {"zero", APFLOAT_TOWARD_ZERO},
-                                    {"away", APFLOAT_NEAREST_AWAY}};
-
-static const struct code flags[] = {{"INVALID_OP", APFLOAT_INVALID_OP},
-                                    {"DIV_BY_ZERO", APFLOAT_DIV_BY_ZERO},
-                                    {"OVERFLOW", APFLOAT_OVERFLOW},
-                                    {"UNDERFLOW", APFLOAT_UNDERFLOW},
-                                    {"INEXACT", APFLOAT_INEXACT}};
 
 static const struct code orders[] = {{"Less", (uint32_t)APFLOAT_LESS},
                                      {"Equal", APFLOAT_EQUAL},
@@ -58,14 +34,6 @@ static const struct code questions[] = {
     /* Nothing is asked of a NaN's sign, which its class does not show. */
     {"is_negative", CLASS(APFLOAT_NEGATIVE_INFINITY) | CLASS(APFLOAT_NEGATIVE_NORMAL) |
                         CLASS(APFLOAT_NEGATIVE_SUBNORMAL) | CLASS(APFLOAT_NEGATIVE_ZERO)}};
-
-#define NO_CODE UINT32_MAX
-
-static uint32_t code_of(const struct code *table, size_t count, const char *name) {
-    for (size_t i = 0; i < count; i++)
-        if (strcmp(table[i].name, name) == 0) return table[i].code;
-    return NO_CODE;
-}
 
 /* ---- calls */
 

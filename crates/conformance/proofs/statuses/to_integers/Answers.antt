@@ -4,7 +4,8 @@ use Rattle.conformance.proofs.statuses.to_integers.Goals as goal
 
 pub returns-clause-unsigned : goal.returns-clause-unsigned
 returns-clause-unsigned g c =
-    to_unsigned_together (format_of g.S.Semantics) c.args.mode c.args.width c.args.x _ _ _ c.to_u128_r-unsigned.ensures.answer
+    to_unsigned_together (format_of g.S.Semantics) c.args.mode c.args.width c.args.x _ _ _
+    c.to_u128_r-unsigned.ensures.answer
 
 pub returns-clause-signed : goal.returns-clause-signed
 returns-clause-signed g c =
