@@ -2,11 +2,15 @@ pub mod Comparisons
 mod WholeQuotients
 mod NearestMultiples
 pub mod ProductExponents
+pub mod RootExponents
+mod RootCases
 pub mod ZeroAnswers
 mod NumberClasses
 mod PowerFactors
 mod ExactInverses
 mod WideTerms
+mod LongProducts
+mod LongTerms
 mod FusedCases
 mod SpecialRemainders
 mod Additions

@@ -1,5 +1,5 @@
 -- A whole quotient, by one multiple of the divisor less at a time.
-use Rattle.std.proofs.Common.{◌≡◌, ℕ, true, false, eqb, ◌+◌, ◌-◌, ◌*◌, ◌/◌, ◌%◌, ◌^◌, ◌<◌, ◌≤◌, count_ones, sym, ap, ◌∙◌, subst, arith, lit<}
+use Rattle.std.proofs.Common.{◌≡◌, ℕ, false, eqb, ◌+◌, ◌-◌, ◌*◌, ◌/◌, ◌%◌, ◌^◌, ◌<◌, ◌≤◌, count_ones, sym, ap, ◌∙◌, subst, arith, lit<}
 use lib.Count.{ones, ones_in}
 use Rattle.std.proofs.Math.Nat.{mul-le-mul_right, mul-le-mul_left, mul-lt-mul_of_pos_right, pow-le-pow_right, div-lt_iff_lt-mul, mod-eq_of_lt, div-eq_of_lt, mul-pos, add-mul-div_right, add-mul-mod_self_right}
 use Rattle.std.proofs.lemmas.Nat.{pow-add, pow_pos, ones_cat, ones-le}
@@ -30,21 +30,6 @@ turn_ones d r s k p t =
     let l = turn_small d r s k p t in
     let e : r / d ≡ 1 * 2 ^ k + s / d = omega arith in
     ap count_ones e ∙ ones_cat k 1 (s / d) l
-
--- the last turn takes the last digit
-pub turn_odd : (d r s : ℕ) → 0 < d → IsTurn d r s 0 → r / d ≡ 1
-turn_odd d r s p t =
-    let q = turn_quotient d r s 0 p t in
-    let l = turn_small d r s 0 p t in
-    omega arith
-
--- each other turn leaves it
-pub turn_even : (d r s k : ℕ) → 0 < d → 0 < k → IsTurn d r s k → r / d % 2 ≡ s / d % 2
-turn_even d r s k p g t =
-    let q = turn_quotient d r s k p t in
-    let e : 2 ^ k ≡ 2 * 2 ^ (k - 1) = sym (twice_half k g) in
-    let f : r / d ≡ s / d + 2 ^ (k - 1) * 2 = omega arith in
-    ap (λ (x : ℕ). x % 2) f ∙ add-mul-mod_self_right (s / d) (2 ^ (k - 1)) 2
 
 -- one subtraction, by significands and places
 pub is_turn : (r p t q s b : ℕ) → (s + t) * 2 ^ b ≡ r * 2 ^ p → s < t → q ≤ b
@@ -93,6 +78,14 @@ moved_up s j p l =
     let w : j + (p - j) ≡ p = omega arith in
     let e : 2 ^ j * 2 ^ (p - j) ≡ 2 ^ p = sym (pow-add 2 j (p - j)) ∙ ap (λ (x : ℕ). 2 ^ x) w in
     let f : s * (2 ^ j * 2 ^ (p - j)) ≡ s * 2 ^ p = ap (λ (x : ℕ). s * x) e in
+    omega arith
+
+-- digits at a lower place
+pub at_lower_place : (s p q : ℕ) → q ≤ p → s * 2 ^ p ≡ s * 2 ^ (p - q) * 2 ^ q
+at_lower_place s p q l =
+    let w : p ≡ (p - q) + q = omega arith in
+    let e : 2 ^ p ≡ 2 ^ (p - q) * 2 ^ q = ap (λ (x : ℕ). 2 ^ x) w ∙ pow-add 2 (p - q) q in
+    let f : s * 2 ^ p ≡ s * (2 ^ (p - q) * 2 ^ q) = ap (λ (x : ℕ). s * x) e in
     omega arith
 
 -- one place lower
@@ -146,7 +139,3 @@ last_turn d r s k e t = subst (λ (x : ℕ). IsTurn d r s x) e t
 -- after the last turn the rest is below the divisor
 pub last_below : (d r s : ℕ) → IsTurn d r s 0 → s < d
 last_below d r s t = let b = t.below in omega arith
-
--- and the quotient was odd
-pub last_odd : (d r s x : ℕ) → 0 < d → IsTurn d r s 0 → r / d % 2 ≡ x / d % 2 → true ≡ eqb (x / d % 2) 1
-last_odd d r s x p t e = ap (λ (q : ℕ). eqb (q % 2) 1) (sym (turn_odd d r s p t)) ∙ ap (λ (q : ℕ). eqb q 1) e

@@ -13,5 +13,8 @@ pub mod order;
 pub mod products;
 pub mod quotients;
 pub mod remainders;
+pub mod roots;
 pub mod signs;
 pub mod sums;
+pub mod wide_fused;
+pub mod wide_products;

@@ -14,7 +14,7 @@ ghost use Rattle.apfloat_unpacked.specs.Stored.{IsStored, IsNormal, quanta_of, d
 use crate::classes::are_normal;
 use crate::exact::{exact_infinity, exact_zero};
 use crate::products::product_sign;
-use apfloat_base::sig::{Quotient, divide_by_words, divide_short, divide_word};
+use apfloat_base::sig::{Quotient, divide_by_words, divide_short_by_words, divide_word};
 use apfloat_base::{Category, ExpInt, Round, Status, StatusAnd};
 use apfloat_unpacked::nans::{invalid, propagated, propagated_left};
 use apfloat_unpacked::rounding::deliver;
@@ -49,7 +49,7 @@ fn quotient_of(precision: u32, dividend: u128, divisor: u128) -> Quotient
     if precision <= 31 {
         divide_word(dividend as u64, divisor as u64, places)
     } else if places <= 62 {
-        divide_short(dividend as u64, divisor as u64, places)
+        divide_short_by_words(dividend as u64, divisor as u64, places)
     } else {
         divide_by_words(dividend, divisor, places)
     }

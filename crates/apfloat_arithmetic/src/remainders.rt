@@ -1,8 +1,9 @@
 //! Remainders: by the quotient cut toward zero, and by the whole number nearest to the quotient. Both are exact.
 //!
-//! The digits of the quotient are found from the highest down. Each turn subtracts the greatest multiple of the divisor
-//! by a power of two that is not above the rest, so there is one turn for each digit that is 1. A significand has a
-//! place, which is counted from that of the last digit of the least number whose significand has all its digits.
+//! The rest is found by many digits of the quotient at a time (`moved_rest`). Where the subtractions are counted, each
+//! turn subtracts the greatest multiple of the divisor by a power of two that is not above the rest, so there is one
+//! turn for each digit of the quotient that is 1. A significand has a place, which is counted from that of the last
+//! digit of the least number whose significand has all its digits.
 
 ghost use Rattle.std.specs.Prelude.{◌≡◌, ℕ, ◌+◌, ◌-◌, ◌*◌, ◌/◌, ◌%◌, ◌^◌, ◌<◌, ◌≤◌, ◌⊎◌, false, eqb, count_ones, cond, ℤ, pos, ◌≤ℤ◌, ◌+ℤ◌, ◌-ℤ◌};
 ghost use Rattle.apfloat_base.specs.declared.kinds.Category.{Category};
@@ -17,7 +18,7 @@ ghost use Rattle.apfloat_unpacked.specs.Stored.{IsOperand, IsNormal, IsStored, d
 ghost use Rattle.apfloat_arithmetic.specs.Magnitudes.{units_of, HasAllDigits};
 
 use crate::classes::are_normal;
-use apfloat_base::sig::digits;
+use apfloat_base::sig::{MovedRest, digits, moved_rest, short_moved_rest};
 use apfloat_base::{Category, ExpInt, Status, StatusAnd};
 use apfloat_unpacked::nans::{invalid, propagated, propagated_left};
 use apfloat_unpacked::shape::Shape;
@@ -83,15 +84,14 @@ fn less_multiple(rest: Magnitude, divisor: Magnitude) -> Magnitude
     }
 }
 
-/// The rest of a number, after how many subtractions, and whether the whole quotient is odd.
+/// The rest of a number, after how many subtractions.
 #[derive(Clone, Copy, Debug)]
 struct Rest {
     magnitude: Magnitude,
     steps: u32,
-    odd: bool,
 }
 
-/// The rest of `x` by a divisor.
+/// The rest of `x` by a divisor, by single subtractions, which are counted.
 fn rest_by(precision: u32, x: Magnitude, y: Magnitude) -> Rest
     requires some { 0 < precision }
     requires precise { precision ≤ 125 }
@@ -100,7 +100,6 @@ fn rest_by(precision: u32, x: Magnitude, y: Magnitude) -> Rest
     requires near { x.place ≤ place_bound }
     ensures rest { units_of result.magnitude ≡ units_of x % units_of y }
     ensures steps { result.steps ≡ count_ones (units_of x / units_of y) }
-    ensures odd { result.odd ≡ eqb (units_of x / units_of y % 2) 1 }
     ensures fits { result.magnitude.significand < 2 ^ precision }
     ensures low { result.magnitude.place ≤ y.place }
 {
@@ -108,7 +107,6 @@ fn rest_by(precision: u32, x: Magnitude, y: Magnitude) -> Rest
         return Rest {
             magnitude: x,
             steps: 0,
-            odd: false,
         };
     }
     let mut steps: u32 = 0;
@@ -120,7 +118,6 @@ fn rest_by(precision: u32, x: Magnitude, y: Magnitude) -> Rest
             return Rest {
                 magnitude: less,
                 steps,
-                odd: true,
             };
         }
         rest = raised(precision, less, y.place);
@@ -128,7 +125,58 @@ fn rest_by(precision: u32, x: Magnitude, y: Magnitude) -> Rest
     Rest {
         magnitude: rest,
         steps,
-        odd: false,
+    }
+}
+
+/// The rest of a number moved up, by the fastest division that has room.
+#[inline(always)]
+fn rest_of_moved(precision: u32, dividend: u128, divisor: u128, places: u32) -> MovedRest
+    requires some { 0 < precision }
+    requires precise { precision ≤ 125 }
+    requires dividend_fits { dividend < 2 ^ precision }
+    requires divisor_fits { divisor < 2 ^ precision }
+    requires divisor_full { 2 ^ (precision - 1) ≤ divisor }
+    ensures rest { result.rest ≡ dividend * 2 ^ places % divisor }
+    ensures odd { result.odd ≡ eqb (dividend * 2 ^ places / divisor % 2) 1 }
+{
+    if precision <= 62 {
+        short_moved_rest(dividend as u64, divisor as u64, places)
+    } else {
+        moved_rest(dividend, divisor, places)
+    }
+}
+
+/// The rest of a number, and whether the whole quotient is odd.
+#[derive(Clone, Copy, Debug)]
+struct Remaining {
+    magnitude: Magnitude,
+    odd: bool,
+}
+
+/// The rest of `x` by a divisor, and whether the whole quotient is odd.
+fn remaining_by(precision: u32, x: Magnitude, y: Magnitude) -> Remaining
+    requires some { 0 < precision }
+    requires precise { precision ≤ 125 }
+    requires x { HasAllDigits precision x }
+    requires y { HasAllDigits precision y }
+    ensures rest { units_of result.magnitude ≡ units_of x % units_of y }
+    ensures odd { result.odd ≡ eqb (units_of x / units_of y % 2) 1 }
+    ensures fits { result.magnitude.significand < 2 ^ precision }
+    ensures low { result.magnitude.place ≤ y.place }
+{
+    if x.place < y.place {
+        return Remaining {
+            magnitude: x,
+            odd: false,
+        };
+    }
+    let left = rest_of_moved(precision, x.significand, y.significand, x.place - y.place);
+    Remaining {
+        magnitude: Magnitude {
+            significand: left.rest,
+            place: y.place,
+        },
+        odd: left.odd,
     }
 }
 
@@ -162,7 +210,7 @@ fn nearest_by(precision: u32, x: Magnitude, y: Magnitude) -> Nearest
     ensures fits { result.magnitude.significand < 2 ^ precision }
     ensures low { result.magnitude.place ≤ y.place }
 {
-    let rest = rest_by(precision, x, y);
+    let rest = remaining_by(precision, x, y);
     let gap = y.place - rest.magnitude.place;
     // at least two places below the divisor means less than half of it
     if gap > 1 {
@@ -233,7 +281,23 @@ fn in_quanta(precision: u32, magnitude: Magnitude) -> Magnitude
 }
 
 /// The rest of `x` after the quotient cut toward zero, in quanta.
-fn truncated_rest(shape: Shape, x: Unpacked, y: Unpacked) -> Rest
+fn truncated_rest(shape: Shape, x: Unpacked, y: Unpacked) -> Magnitude
+    requires x { IsNormal shape x }
+    requires y { IsNormal shape y }
+    ensures fits { result.significand < 2 ^ shape.precision }
+    ensures near { result.place ≤ place_bound }
+    ensures quanta { units_of result ≡ quanta_of shape x % quanta_of shape y }
+{
+    let rest = remaining_by(
+        shape.precision,
+        magnitude_of(shape, x),
+        magnitude_of(shape, y),
+    );
+    in_quanta(shape.precision, rest.magnitude)
+}
+
+/// The same, and the count of subtractions.
+fn counted_rest(shape: Shape, x: Unpacked, y: Unpacked) -> Rest
     requires x { IsNormal shape x }
     requires y { IsNormal shape y }
     ensures fits { result.magnitude.significand < 2 ^ shape.precision }
@@ -250,7 +314,6 @@ fn truncated_rest(shape: Shape, x: Unpacked, y: Unpacked) -> Rest
     Rest {
         magnitude: in_quanta(shape.precision, rest.magnitude),
         steps: rest.steps,
-        odd: rest.odd,
     }
 }
 
@@ -284,8 +347,21 @@ pub struct Remainder {
     pub steps: u32,
 }
 
-/// The remainder of numbers by the quotient cut toward zero, which is exact, and the count of subtractions.
-fn truncated_number(shape: Shape, x: Unpacked, y: Unpacked) -> Remainder
+/// The remainder of numbers by the quotient cut toward zero, which is exact.
+fn truncated_number(shape: Shape, x: Unpacked, y: Unpacked) -> StatusAnd<Unpacked>
+    requires x { IsNormal shape x }
+    requires y { IsNormal shape y }
+    ensures stored { IsStored shape result.value }
+    ensures answer { let m = quanta_of shape x in let n = quanta_of shape y in
+        GivesAt shape (IsAnswer (rest_of shape.nonfinite x.negative m
+        (n * truncated_quotient m n)) ok_bits) result }
+{
+    let rest = truncated_rest(shape, x, y);
+    Status::OK.and(from_quanta(shape, x.negative, rest.significand, rest.place))
+}
+
+/// The same, and the count of subtractions.
+fn counted_number(shape: Shape, x: Unpacked, y: Unpacked) -> Remainder
     requires x { IsNormal shape x }
     requires y { IsNormal shape y }
     ensures stored { IsStored shape result.answer.value }
@@ -295,11 +371,7 @@ fn truncated_number(shape: Shape, x: Unpacked, y: Unpacked) -> Remainder
     ensures steps { result.steps
         ≡ count_ones (truncated_quotient (quanta_of shape x) (quanta_of shape y)) }
 {
-    let Rest {
-        magnitude,
-        steps,
-        odd: _,
-    } = truncated_rest(shape, x, y);
+    let Rest { magnitude, steps } = counted_rest(shape, x, y);
     Remainder {
         answer: Status::OK.and(from_quanta(
             shape,
@@ -371,10 +443,25 @@ fn special_remainder(shape: Shape, x: Unpacked, y: Unpacked) -> StatusAnd<Unpack
     }
 }
 
-/// The remainder by the quotient cut toward zero, and the count of subtractions.
+/// The remainder by the quotient cut toward zero.
+pub fn truncated_remainder(shape: Shape, x: Unpacked, y: Unpacked) -> StatusAnd<Unpacked>
+    requires x { IsStored shape x }
+    requires y { IsStored shape y }
+    ensures stored { IsStored shape result.value }
+    ensures delivered { GivesAt shape (IsTruncatedRemainder (format_at shape) (datum_at shape x)
+        (datum_at shape y)) result }
+{
+    if are_normal(x, y) {
+        truncated_number(shape, x, y)
+    } else {
+        special_remainder(shape, x, y)
+    }
+}
+
+/// The same, and the count of subtractions.
 ///
 /// If an operand is a NaN or infinite, or the divisor is zero, nothing is subtracted.
-pub fn truncated_remainder(shape: Shape, x: Unpacked, y: Unpacked) -> Remainder
+pub fn counted_remainder(shape: Shape, x: Unpacked, y: Unpacked) -> Remainder
     requires x { IsStored shape x }
     requires y { IsStored shape y }
     ensures stored { IsStored shape result.answer.value }
@@ -386,7 +473,7 @@ pub fn truncated_remainder(shape: Shape, x: Unpacked, y: Unpacked) -> Remainder
         → pos result.steps ≤ℤ ((a -ℤ b) +ℤ pos 1) }
 {
     if are_normal(x, y) {
-        truncated_number(shape, x, y)
+        counted_number(shape, x, y)
     } else {
         Remainder {
             answer: special_remainder(shape, x, y),

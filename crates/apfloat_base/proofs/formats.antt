@@ -1,4 +1,5 @@
 pub mod LawTest
+pub mod OtherFlags
 pub mod Greatest
 pub mod Ranges
 pub mod NanMembers

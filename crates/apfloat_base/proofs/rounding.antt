@@ -8,4 +8,7 @@ pub mod Deliveries
 pub mod Laws
 pub mod FlagsTogether
 pub mod ModesAgree
+pub mod Tininess
 pub mod FarMagnitudes
+pub mod OutwardRoundings
+pub mod OutwardResults

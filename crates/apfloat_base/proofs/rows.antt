@@ -1,4 +1,5 @@
 pub mod RowsIn
 pub mod Rows
 pub mod RowsExact
+pub mod RowsRoots
 pub mod RowsTexts

@@ -2,9 +2,11 @@ pub mod Exact
 pub mod Sums
 pub mod Products
 pub mod Quotients
+pub mod Roots
 pub mod FusedSums
 pub mod Remainders
 pub mod Totals
+pub mod Wides
 pub mod Exponents
 pub mod Scaling
 pub mod NextUp

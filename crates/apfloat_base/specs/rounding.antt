@@ -5,5 +5,7 @@ pub mod Negation
 pub mod Flags
 pub mod RaisedFlags
 pub mod Standing
+pub mod RootStanding
 pub mod Enclosure
 pub mod Bounds
+pub mod TwoModes

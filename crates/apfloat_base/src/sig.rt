@@ -2,19 +2,36 @@
 //!
 //! A significand `s` with a unit and a `Loss` represents each magnitude that is `s` units plus a rest below one unit
 //! that the `Loss` describes (`StandsFor` in `specs/rounding/Standing.antt`).
+//!
+//! Products of long significands, and sums with them, take two words (`Wide`) until they are cut to one.
 
+pub mod long_product;
 pub mod long_quotient;
 pub mod loss;
 pub mod product;
 pub mod quotient;
+pub mod rest;
+pub mod roots;
 pub mod shift;
 pub mod short_quotient;
 pub mod sum;
+pub mod wide;
+pub mod wide_shift;
+pub mod wide_sum;
 
-pub use long_quotient::{LongDivisor, divide_by_words, long_divisor, next_digits};
+pub use long_product::wide_product;
+pub use long_quotient::{Digits, LongDivisor, divide_by_words, long_divisor, next_digits};
 pub use loss::{Loss, is_exact, loss_of_rest};
 pub use product::full_product;
 pub use quotient::{Quotient, divide};
+pub use rest::{MovedRest, moved_rest, short_moved_rest};
+pub use roots::{Root, root_of};
 pub use shift::{Shifted, digits, low_digits, power_of_two, shift_right, steps_between};
-pub use short_quotient::{divide_short, divide_word};
+pub use short_quotient::{
+    ShortDivisor, divide_short, divide_short_by_words, divide_word, next_short_digits,
+    short_divisor,
+};
 pub use sum::{Term, Total, add_terms, is_zero};
+pub use wide::Wide;
+pub use wide_shift::{WideShifted, is_within, narrowed, wide_shift_right, widened};
+pub use wide_sum::{WideTerm, add_wide_terms, doubled};

@@ -10,11 +10,17 @@ use Rattle.rustc_apfloat.specs.Flags.{Gives, bits_of}
 use Rattle.rustc_apfloat.specs.Lawful.{Constants, IsLawful, format_with, layout_with}
 use Rattle.rustc_apfloat.specs.Determined.{Determines, DeterminesBoth}
 use Rattle.rustc_apfloat.specs.Exponents.{IsExactInverse}
+use Rattle.rustc_apfloat.specs.Roots.{IsRoot}
+use Rattle.rustc_apfloat.specs.PairFormats.{wide}
+use Rattle.rustc_apfloat.specs.Pairs.{Pair, pair_of}
+use Rattle.rustc_apfloat.specs.PairAnswers.{OncePair}
 use Rattle.rustc_apfloat.specs.PairCalls.{IsPairExactInverse}
+use Rattle.rustc_apfloat.specs.PairRoots.{IsPairRoot}
 use Rattle.apfloat_base.proofs.Determined.{determined, gives_once, same_answer, scale_some}
 use Rattle.apfloat_base.proofs.bits.Encodings.{lawful_interchange}
-use Rattle.apfloat_base.proofs.Once.{OnceWith, conversion_once, fused_sum_once}
+use Rattle.apfloat_base.proofs.Once.{OnceWith, conversion_once, fused_sum_once, root_once}
 use Rattle.apfloat_pair_theory.proofs.calls.PairsDetermined.{pairs_determined}
+use Rattle.apfloat_pair_theory.proofs.calls.PairsOnce.{wide_answer_once}
 use Rattle.apfloat_c.specs.declared.data.Answer.{Answer}
 use Rattle.apfloat_c.specs.declared.data.Halves.{Halves}
 use Rattle.dispatch.specs.declared.BuiltInKind.{BuiltInKind}
@@ -25,7 +31,7 @@ use Rattle.dispatch.specs.Relations.{Relations, in_format, in_pairs}
 use Rattle.dispatch.specs.ValueKinds.{Kind, of_format, of_pairs, value_of}
 use Rattle.dispatch.proofs.OfTwoOnce.{of_two_once}
 use Rattle.apfloat_c.specs.declared.exported_call.ExportedCall.{ExportedCall}
-use Rattle.apfloat_c.specs.declared.exported_call.ExportedCall.TheVariants.{OfTwo, FusedSum, FromUnsigned, FromSigned, ToUnsigned, ToSigned, RoundToIntegral, Scaling, Fraction, Exponent, NextUp, NextDown, Comparison, Class, Conversion, Text}
+use Rattle.apfloat_c.specs.declared.exported_call.ExportedCall.TheVariants.{OfTwo, FusedSum, SquareRoot, FromUnsigned, FromSigned, ToUnsigned, ToSigned, RoundToIntegral, Scaling, Fraction, Exponent, NextUp, NextDown, Comparison, Class, Conversion, Text}
 use Rattle.apfloat_c.specs.KnownCalls.{fault_in, known_call, without}
 use Rattle.apfloat_c.specs.Answers.{IsKindAnswer, IsConverted, IsConvertedInto, IsConvertedTo, IsFractionOf, IsNumber, IsReturned, IsSigned, IsTypeAnswer, IsUnsigned, IsUntold, IsValue, IsWritten, one_if, whole}
 
@@ -114,6 +120,7 @@ module _ {A : Type 0} (of_type : Relations A) (inverts : A → Option A → Type
   type_once (OfTwo arithmetic x y) =
       value_once _ (of_two_once of_type inverts mode precision width once arithmetic _ _)
   type_once (FusedSum x y z) = λ a b h k. absurd h
+  type_once (SquareRoot x) = λ a b h k. absurd h
   type_once (FromUnsigned number) = value_once _ (once.of_unsigned number)
   type_once (FromSigned number) = value_once _ (once.of_signed number)
   type_once (ToUnsigned x bits) = unsigned_once _ (once.to_unsigned _ bits)
@@ -180,6 +187,12 @@ conversion_answer_once constants mode x None = λ a b h k. absurd h
 conversion_answer_once constants mode x (Some target) =
     converted_into_once constants mode x (kind_of target) (kind_law target)
 
+-- ---- of pairs of doubles
+
+-- the square root of a pair is one
+pair_root_once : (mode : Round) (x : Pair) → OncePair (IsPairRoot mode x)
+pair_root_once mode x = wide_answer_once (IsRoot wide mode) (root_once wide mode) x
+
 -- ---- one reply
 
 -- a call on values of any kind has one answer
@@ -189,10 +202,16 @@ kind_once (of_format c) has mode (FusedSum x y z) =
     value_once (in_format c) (IsExactInverse (format_with c)) mode c.precision c.bits has.wide
     (format_determined c has mode) _
     (gives_once _ (fused_sum_once (format_with c) mode (value_of c x) (value_of c y) (value_of c z)))
+kind_once (of_format c) has mode (SquareRoot x) =
+    value_once (in_format c) (IsExactInverse (format_with c)) mode c.precision c.bits has.wide
+    (format_determined c has mode) _ (gives_once _ (root_once (format_with c) mode (value_of c x)))
 kind_once (of_format c) has mode (Conversion x target) = conversion_answer_once c mode (value_of c x) target
 kind_once (of_format c) has mode call =
     type_once (in_format c) (IsExactInverse (format_with c)) mode c.precision c.bits has.wide
     (format_determined c has mode) call
+kind_once of_pairs has mode (SquareRoot x) =
+    value_once in_pairs IsPairExactInverse mode 106 128 (lit< tt) (pairs_determined mode) _
+    (gives_once _ (pair_root_once mode (pair_of x)))
 kind_once of_pairs has mode call =
     type_once in_pairs IsPairExactInverse mode 106 128 (lit< tt) (pairs_determined mode) call
 

@@ -17,10 +17,10 @@ use Rattle.apfloat_c.proofs.ExponentWords.{frexp_fits}
 use Rattle.dispatch.specs.declared.BuiltInKind.{BuiltInKind}
 use Rattle.dispatch.specs.Limits.{multiplies}
 use Rattle.dispatch.specs.Relations.{Relations, in_format, in_pairs}
-use Rattle.dispatch.specs.ValueKinds.{of_format, value_of}
+use Rattle.dispatch.specs.ValueKinds.{of_format, of_pairs, value_of}
 use Rattle.apfloat_c.specs.declared.data.Answer.{Answer}
 use Rattle.apfloat_c.specs.declared.exported_call.ExportedCall.{ExportedCall}
-use Rattle.apfloat_c.specs.declared.exported_call.ExportedCall.TheVariants.{OfTwo, FusedSum, FromUnsigned, FromSigned, ToUnsigned, ToSigned, RoundToIntegral, Scaling, Fraction, Exponent, NextUp, NextDown, Comparison, Class, Conversion, Text}
+use Rattle.apfloat_c.specs.declared.exported_call.ExportedCall.TheVariants.{OfTwo, FusedSum, SquareRoot, FromUnsigned, FromSigned, ToUnsigned, ToSigned, RoundToIntegral, Scaling, Fraction, Exponent, NextUp, NextDown, Comparison, Class, Conversion, Text}
 use Rattle.apfloat_c.specs.KnownCalls.{is_text, refused_text, unless}
 use Rattle.apfloat_c.specs.Answers.{FractionFits, IsOutcome, IsOutcomeBy, IsTypeOutcome}
 
@@ -38,13 +38,24 @@ text_without_fault bytes ascii none = rw (ascii, none) refl
 -- a type returns what its format does, except for calls that only formats have
 pub type_outcome : (constants : Constants) (mode : Round) (call : ExportedCall) (outcome : Result Answer ℕ)
     → ((x y z : ℕ) → call ≡ FusedSum x y z → ⊥)
+    → ((x : ℕ) → call ≡ SquareRoot x → ⊥)
     → ((x : ℕ) (target : Option BuiltInKind) → call ≡ Conversion x target → ⊥)
     → IsTypeOutcome (in_format constants) (multiplies (of_format constants)) mode call outcome
     → IsOutcome (of_format constants) mode call outcome
-type_outcome constants mode (FusedSum x y z) outcome no_fused no_conversion holds = absurd (no_fused x y z refl)
-type_outcome constants mode (Conversion x target) outcome no_fused no_conversion holds =
+type_outcome constants mode (FusedSum x y z) outcome no_fused no_root no_conversion holds =
+    absurd (no_fused x y z refl)
+type_outcome constants mode (SquareRoot x) outcome no_fused no_root no_conversion holds = absurd (no_root x refl)
+type_outcome constants mode (Conversion x target) outcome no_fused no_root no_conversion holds =
     absurd (no_conversion x target refl)
-type_outcome constants mode call outcome no_fused no_conversion holds = holds
+type_outcome constants mode call outcome no_fused no_root no_conversion holds = holds
+
+-- and what pairs of doubles do, except for the square root
+pub pair_outcome : (mode : Round) (call : ExportedCall) (outcome : Result Answer ℕ)
+    → ((x : ℕ) → call ≡ SquareRoot x → ⊥)
+    → IsTypeOutcome in_pairs (multiplies of_pairs) mode call outcome
+    → IsOutcome of_pairs mode call outcome
+pair_outcome mode (SquareRoot x) outcome no_root holds = absurd (no_root x refl)
+pair_outcome mode call outcome no_root holds = holds
 
 -- ---- fractions
 

@@ -10,6 +10,9 @@ use Rattle.rustc_apfloat.specs.declared.StatusAnd.{StatusAnd}
 use Rattle.rustc_apfloat.specs.Flags.{Gives, bits_of}
 use Rattle.rustc_apfloat.specs.Datum.{Datum}
 use Rattle.rustc_apfloat.specs.FusedSums.{IsFusedSum}
+use Rattle.rustc_apfloat.specs.Roots.{IsRoot}
+use Rattle.rustc_apfloat.specs.Pairs.{pair_of}
+use Rattle.rustc_apfloat.specs.PairRoots.{IsPairRoot}
 use Rattle.rustc_apfloat.specs.Conversions.{IsConversion}
 use Rattle.rustc_apfloat.specs.Lawful.{Constants, format_with}
 use Rattle.apfloat_c.specs.declared.data.Halves.{Halves}
@@ -20,7 +23,7 @@ use Rattle.dispatch.specs.ValueKinds.{Kind, of_format, of_pairs, value_of}
 use Rattle.dispatch.specs.OfTwo.{IsOfTwo}
 use Rattle.dispatch.specs.Relations.{Relations, in_format, in_pairs}
 use Rattle.apfloat_c.specs.declared.exported_call.ExportedCall.{ExportedCall}
-use Rattle.apfloat_c.specs.declared.exported_call.ExportedCall.TheVariants.{OfTwo, FusedSum, FromUnsigned, FromSigned, ToUnsigned, ToSigned, RoundToIntegral, Scaling, Fraction, Exponent, NextUp, NextDown, Comparison, Class, Conversion, Text}
+use Rattle.apfloat_c.specs.declared.exported_call.ExportedCall.TheVariants.{OfTwo, FusedSum, SquareRoot, FromUnsigned, FromSigned, ToUnsigned, ToSigned, RoundToIntegral, Scaling, Fraction, Exponent, NextUp, NextDown, Comparison, Class, Conversion, Text}
 use Rattle.apfloat_c.specs.KnownCalls.{KnownCall, answered, fault_in, type_fault}
 
 -- the number that two halves stand for
@@ -107,11 +110,12 @@ pub record IsFractionOf {A : Type 0} (of_type : Relations A) (Holds : A → ℤ 
 abbrev pub class_of : {A : Type 0} → Relations A → A → ℤ
 class_of of_type x = class_code (of_type.category x) (of_type.sign x) (of_type.denormal x) (of_type.signals x)
 
--- fused sums and conversions, which not every type has, have no result
+-- fused sums, square roots and conversions, which not every type has, have no result
 abbrev pub IsTypeAnswer : {A : Type 0} → Relations A → Round → ExportedCall → Answer → Type 0
 IsTypeAnswer of_type mode (OfTwo arithmetic x y) answer =
     IsValue of_type (IsOfTwo of_type arithmetic mode (of_type.value_of_bits x) (of_type.value_of_bits y)) answer
 IsTypeAnswer of_type mode (FusedSum x y z) answer = ⊥
+IsTypeAnswer of_type mode (SquareRoot x) answer = ⊥
 IsTypeAnswer of_type mode (FromUnsigned number) answer =
     IsValue of_type (of_type.converts_unsigned number mode) answer
 IsTypeAnswer of_type mode (FromSigned number) answer = IsValue of_type (of_type.converts_signed number mode) answer
@@ -163,14 +167,18 @@ IsConverted c mode x (Some target) answer = IsConvertedInto c mode x (kind_of ta
 
 -- ---- of any kind
 
--- formats have the fused sum, and are converted
+-- each kind has the square root; formats have the fused sum, and are converted
 abbrev pub IsKindAnswer : Kind → Round → ExportedCall → Answer → Type 0
 IsKindAnswer (of_format c) mode (FusedSum x y z) answer =
     IsValue (in_format c)
     (λ given. Gives (IsFusedSum (format_with c) mode (value_of c x) (value_of c y) (value_of c z)) given)
     answer
+IsKindAnswer (of_format c) mode (SquareRoot x) answer =
+    IsValue (in_format c) (λ given. Gives (IsRoot (format_with c) mode (value_of c x)) given) answer
 IsKindAnswer (of_format c) mode (Conversion x target) answer = IsConverted c mode (value_of c x) target answer
 IsKindAnswer (of_format c) mode call answer = IsTypeAnswer (in_format c) mode call answer
+IsKindAnswer of_pairs mode (SquareRoot x) answer =
+    IsValue in_pairs (λ given. Gives (IsPairRoot mode (pair_of x)) given) answer
 IsKindAnswer of_pairs mode call answer = IsTypeAnswer in_pairs mode call answer
 
 -- an answer where nothing is refused, and else that error

@@ -11,7 +11,7 @@ use Rattle.dispatch.specs.Limits.{fuses, multiplies}
 use Rattle.dispatch.specs.ValueKinds.{Kind, of_format, of_pairs}
 use Rattle.dispatch.specs.OfTwo.{has_operation}
 use Rattle.apfloat_c.specs.declared.exported_call.ExportedCall.{ExportedCall}
-use Rattle.apfloat_c.specs.declared.exported_call.ExportedCall.TheVariants.{OfTwo, FusedSum, ToUnsigned, ToSigned, Conversion, Text}
+use Rattle.apfloat_c.specs.declared.exported_call.ExportedCall.TheVariants.{OfTwo, FusedSum, SquareRoot, ToUnsigned, ToSigned, Conversion, Text}
 
 -- ---- codes
 
@@ -56,20 +56,22 @@ abbrev pub unknown_target : Option BuiltInKind → ℕ
 unknown_target None = unknown_format
 unknown_target (Some target) = no_such_operation
 
--- what a type refuses, which has products or not; no type has the fused sum, and none is converted
+-- what a type refuses, which has products or not; no type has the fused sum or the square root, and none is converted
 abbrev pub type_fault : Bool → ExportedCall → Option ℕ
 type_fault multiplies (OfTwo arithmetic x y) = unless (has_operation multiplies arithmetic) no_such_operation
 type_fault multiplies (FusedSum x y z) = Some no_such_operation
+type_fault multiplies (SquareRoot x) = Some no_such_operation
 type_fault multiplies (ToUnsigned x width) = width_fault 1 width
 type_fault multiplies (ToSigned x width) = width_fault 2 width
 type_fault multiplies (Conversion x target) = Some (unknown_target target)
 type_fault multiplies (Text text) = unless (is_text text.now) refused_text
 type_fault multiplies call = None
 
--- formats may have the fused sum, and are converted to formats
+-- each kind has the square root; formats may have the fused sum, and are converted to formats
 abbrev pub fault_in : Kind → ExportedCall → Option ℕ
 fault_in (of_format c) (FusedSum x y z) = unless (fuses (of_format c)) no_such_operation
 fault_in (of_format c) (Conversion x target) = target_fault target
+fault_in kind (SquareRoot x) = None
 fault_in kind call = type_fault (multiplies kind) call
 
 -- ---- what is asked

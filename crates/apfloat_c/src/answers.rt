@@ -4,9 +4,9 @@ ghost use Rattle.std.specs.Prelude.{◌≡◌, ◌<◌, pos};
 ghost use Rattle.rustc_apfloat.specs.Types.{constants_of};
 ghost use Rattle.dispatch.specs.Relations.{relations_of};
 ghost use Rattle.dispatch.specs.TextReadings.{ReadsTexts};
-ghost use Rattle.dispatch.specs.ValueKinds.{of_format};
-ghost use Rattle.apfloat_c.specs.declared.exported_call.ExportedCall.TheVariants.{OfTwo, FusedSum, FromUnsigned, FromSigned, ToUnsigned, ToSigned, RoundToIntegral, Scaling, Fraction, Conversion, Text};
-ghost use Rattle.apfloat_c.specs.Answers.{FractionFits, IsConvertedInto, IsNumber, IsOutcome, IsTypeAnswer, IsTypeOutcome, IsValue, IsWritten, class_of, order_code};
+ghost use Rattle.dispatch.specs.ValueKinds.{of_format, of_pairs};
+ghost use Rattle.apfloat_c.specs.declared.exported_call.ExportedCall.TheVariants.{OfTwo, FusedSum, SquareRoot, FromUnsigned, FromSigned, ToUnsigned, ToSigned, RoundToIntegral, Scaling, Fraction, Conversion, Text};
+ghost use Rattle.apfloat_c.specs.Answers.{FractionFits, IsConvertedInto, IsKindAnswer, IsNumber, IsOutcome, IsTypeAnswer, IsTypeOutcome, IsValue, IsWritten, class_of, order_code};
 
 use crate::ascii::text_of;
 use crate::codes::{
@@ -37,6 +37,7 @@ impl InFormat for RoundedCall<'_> {
     fn in_format<S: Semantics>(self) -> Result<Answer, u32> {
         match self.call {
             ExportedCall::FusedSum(x, y, z) => fused_sum::<S>(self.round, x, y, z),
+            ExportedCall::SquareRoot(x) => Ok(root::<S>(self.round, x)),
             ExportedCall::Conversion(x, target) => converted::<S>(self.round, x, target),
             ExportedCall::Fraction(x) => {
                 // That `x` belongs to the format bounds its exponent, which therefore fits 32 bits.
@@ -50,15 +51,20 @@ impl InFormat for RoundedCall<'_> {
 
 impl InKind for RoundedCall<'_> {
     fn in_pairs(self) -> Result<Answer, u32> {
-        if let ExportedCall::Fraction(x) = self.call {
-            // That both parts are doubles bounds the exponent, which therefore fits 32 bits.
-            let _ = DoubleDouble::from_bits(x).category();
+        match self.call {
+            ExportedCall::SquareRoot(x) => Ok(pair_root(self.round, x)),
+            ExportedCall::Fraction(x) => {
+                // That both parts are doubles bounds the exponent, which therefore fits 32 bits.
+                let _ = DoubleDouble::from_bits(x).category();
+                in_type::<DoubleDouble>(self.round, self.call)
+            }
+            _ => in_type::<DoubleDouble>(self.round, self.call),
         }
-        in_type::<DoubleDouble>(self.round, self.call)
     }
 }
 
-/// The answer in values of a type, which has no fused sum and no conversion, or the error of a call that it refuses.
+/// The answer in values of a type, which has no fused sum, no square root and no conversion, or the error of a call
+/// that it refuses.
 fn in_type<F: Float>(round: Round, call: ExportedCall) -> Result<Answer, u32>
     requires written { F.PRECISION < F.BITS }
     requires reads { ReadsTexts F.reads }
@@ -69,6 +75,7 @@ fn in_type<F: Float>(round: Round, call: ExportedCall) -> Result<Answer, u32>
     match call {
         ExportedCall::OfTwo(arithmetic, x, y) => of_two::<F>(round, arithmetic, x, y),
         ExportedCall::FusedSum(_, _, _) => Err(NO_SUCH_OPERATION),
+        ExportedCall::SquareRoot(_) => Err(NO_SUCH_OPERATION),
         ExportedCall::FromUnsigned(number) => Ok(from_unsigned::<F>(round, number)),
         ExportedCall::FromSigned(number) => Ok(from_signed::<F>(round, number)),
         ExportedCall::ToUnsigned(x, width) => to_unsigned::<F>(round, x, width),
@@ -111,6 +118,21 @@ fn fused_sum<S: Semantics>(round: Round, x: u128, y: u128, z: u128) -> Result<An
     }
     let (x, y, z) = (S::from_bits(x), S::from_bits(y), S::from_bits(z));
     Ok(written(x.mul_add_r(y, z, round)))
+}
+
+/// The square root of a value of a format.
+fn root<S: Semantics>(round: Round, x: u128) -> Answer
+    requires { S.PRECISION < S.BITS }
+    ensures { IsKindAnswer (of_format (constants_of S.Semantics)) round (SquareRoot x) result }
+{
+    written(S::from_bits(x).sqrt_r(round))
+}
+
+/// The square root of a pair of doubles.
+fn pair_root(round: Round, x: u128) -> Answer
+    ensures { IsKindAnswer of_pairs round (SquareRoot x) result }
+{
+    written(DoubleDouble::from_bits(x).sqrt_r(round))
 }
 
 /// A whole number.

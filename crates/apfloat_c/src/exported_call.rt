@@ -9,6 +9,8 @@ pub enum ExportedCall<'a> {
     OfTwo(Arithmetic, u128, u128),
     /// The product of the first two values plus the third, rounded once.
     FusedSum(u128, u128, u128),
+    /// The square root of a value.
+    SquareRoot(u128),
     /// A whole number as a value.
     FromUnsigned(u128),
     /// A whole number with a sign as a value.

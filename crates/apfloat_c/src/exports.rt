@@ -4,7 +4,7 @@ ghost use Rattle.std.specs.Prelude.{Some};
 ghost use Rattle.std.specs.Int.{cast_signed, w128};
 ghost use Rattle.rustc_apfloat.specs.declared.Round.TheVariants.{NearestTiesToEven};
 ghost use Rattle.dispatch.specs.declared.Arithmetic.TheVariants.{Sum, Difference, Product, Quotient, NearestRemainder, TruncatedRemainder};
-ghost use Rattle.apfloat_c.specs.declared.exported_call.ExportedCall.TheVariants.{OfTwo, FusedSum, FromUnsigned, FromSigned, ToUnsigned, ToSigned, RoundToIntegral, Scaling, Fraction, Exponent, NextUp, NextDown, Comparison, Class, Conversion, Text};
+ghost use Rattle.apfloat_c.specs.declared.exported_call.ExportedCall.TheVariants.{OfTwo, FusedSum, SquareRoot, FromUnsigned, FromSigned, ToUnsigned, ToSigned, RoundToIntegral, Scaling, Fraction, Exponent, NextUp, NextDown, Comparison, Class, Conversion, Text};
 ghost use Rattle.dispatch.specs.BuiltIns.{kind_coded};
 ghost use Rattle.dispatch.specs.Modes.{mode_coded};
 ghost use Rattle.apfloat_c.specs.KnownCalls.{known_call};
@@ -148,6 +148,21 @@ pub extern "C" fn apfloat_fma(
         format,
         mode_coded(mode),
         ExportedCall::FusedSum(x.number(), y.number(), z.number()),
+        answer,
+    )
+}
+
+/// The square root of a value, rounded once.
+#[unsafe(no_mangle)]
+pub extern "C" fn apfloat_sqrt(format: u32, mode: u32, x: Halves, answer: &mut Answer) -> u32
+    ensures { let call = SquareRoot (whole x) in
+        IsReturned (known_call (kind_coded format) (mode_coded mode) call)
+        answer.old answer.new result }
+{
+    reply(
+        format,
+        mode_coded(mode),
+        ExportedCall::SquareRoot(x.number()),
         answer,
     )
 }

@@ -1,12 +1,15 @@
 //! The built-in binary floating-point formats, together with the functions on values of any format.
 //!
-//! A format is a type that implements `Semantics`; `IeeeFloat<S>` is a value of the format `S`.
+//! A format is a type that implements `Semantics`; `IeeeFloat<S>` is a value of the format `S`, and
+//! `IeeeFloat<IeeeFlags<S>>` one whose operations raise the flags of IEEE 754-2008.
 #![tactic(auto)]
 
 mod formats;
 
 pub use apfloat_base::sig::Loss;
-pub use apfloat_ieee::{IeeeFloat, NonfiniteBehavior, Semantics, deliver};
+pub use apfloat_ieee::{
+    Flagged, IeeeFlags, IeeeFloat, NonfiniteBehavior, Semantics, TinyBefore, deliver,
+};
 pub use formats::{
     BFloat, BFloatS, Double, DoubleS, Float8E4M3FN, Float8E4M3FNS, Float8E4M3FNUZ, Float8E4M3FNUZS,
     Float8E5M2, Float8E5M2S, Half, HalfS, Quad, QuadS, Single, SingleS, X87DoubleExtended,

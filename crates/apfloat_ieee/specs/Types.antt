@@ -3,7 +3,6 @@ use Rattle.apfloat_base.specs.formats.Format.{Format}
 use Rattle.apfloat_base.specs.bits.Layout.{Layout}
 use Rattle.apfloat_base.specs.formats.Lawful.{Constants, constants_with, format_with, layout_with}
 use Rattle.apfloat_ieee.specs.declared.semantics.Semantics.{Ghosts}
-use Rattle.apfloat_unpacked.specs.declared.shape.Shape.{Shape}
 
 abbrev pub constants_of : {X : Type 0} → Ghosts X → Constants
 constants_of s =
@@ -16,16 +15,3 @@ format_of s = format_with (constants_of s)
 
 abbrev pub layout_of : {X : Type 0} → Ghosts X → Layout
 layout_of s = layout_with (constants_of s)
-
--- the constants that rounding reads
-abbrev pub shape_of : {X : Type 0} → Ghosts X → Shape
-shape_of s =
-    record {
-      precision = s.PRECISION;
-      min_exp = s.MIN_EXP;
-      max_exp = s.MAX_EXP;
-      nonfinite = s.NONFINITE_BEHAVIOR;
-      explicit_integer_bit = s.EXPLICIT_INTEGER_BIT;
-      tiny_before_rounding = s.TINY_BEFORE_ROUNDING;
-      parameters = s.lawful.parameters;
-    }

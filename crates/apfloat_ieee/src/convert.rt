@@ -2,23 +2,23 @@
 
 ghost use Rattle.apfloat_base.specs.rounding.Flags.{bits_of};
 ghost use Rattle.apfloat_base.specs.arithmetic.Conversions.{IsConversion, IsExactlyConverted};
-ghost use Rattle.apfloat_ieee.specs.Types.{format_of};
+ghost use Rattle.apfloat_ieee.specs.FlaggedTypes.{format_of};
 
+use crate::flagged::Flagged;
 use crate::ieee_float::{IeeeFloat, shape_of};
-use crate::semantics::Semantics;
 use apfloat_base::{FloatConvert, Round, StatusAnd};
 use apfloat_conversions::between_formats::convert;
 
-impl<S: Semantics, T: Semantics> FloatConvert<IeeeFloat<T>> for IeeeFloat<S> {
-    ghost converts = { λ x mode answer loses_info. IsConversion (format_of S.Semantics)
-        (format_of T.Semantics) mode x answer.value (bits_of answer.status) loses_info };
+impl<S: Flagged, T: Flagged> FloatConvert<IeeeFloat<T>> for IeeeFloat<S> {
+    ghost converts = { λ x mode answer loses_info. IsConversion (format_of S.Flagged)
+        (format_of T.Flagged) mode x answer.value (bits_of answer.status) loses_info };
 
     /// A finite value whose number the format `T` has, with its sign, is converted unchanged, with OK and without loss.
     #[inline(always)]
     fn convert_r(self, round: Round, loses_info: &mut bool) -> StatusAnd<IeeeFloat<T>>
-        ensures converted { IsConversion (format_of S.Semantics) (format_of T.Semantics) round
+        ensures converted { IsConversion (format_of S.Flagged) (format_of T.Flagged) round
             self result.value (bits_of result.status) loses_info.new }
-        ensures exact { IsExactlyConverted (format_of S.Semantics) (format_of T.Semantics) self
+        ensures exact { IsExactlyConverted (format_of S.Flagged) (format_of T.Flagged) self
             result.value (bits_of result.status) loses_info.new }
     {
         let converted = convert(shape_of::<S>(), shape_of::<T>(), self.unpacked(), round);

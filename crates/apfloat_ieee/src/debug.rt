@@ -5,8 +5,8 @@
 
 ghost use Rattle.apfloat_unpacked.specs.Stored.{IsStored, IsNormal};
 
+use crate::flagged::Flagged;
 use crate::ieee_float::{IeeeFloat, shape_of};
-use crate::semantics::Semantics;
 use apfloat_base::sig::steps_between;
 use apfloat_base::{Category, ExpInt, NonfiniteBehavior};
 use apfloat_unpacked::shape::Shape;
@@ -66,7 +66,7 @@ fn text_of(shape: Shape, x: Unpacked) -> Text
     }
 }
 
-impl<S: Semantics> fmt::Debug for IeeeFloat<S> {
+impl<S: Flagged> fmt::Debug for IeeeFloat<S> {
     fn fmt<W: fmt::Write>(&self, f: &mut fmt::Formatter<W>) -> fmt::Result {
         let x = self.unpacked();
         let Text {

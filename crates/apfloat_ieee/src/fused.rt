@@ -4,14 +4,14 @@ ghost use Rattle.std.specs.Prelude.{◌≤◌};
 ghost use Rattle.apfloat_base.specs.declared.kinds.Round.TheVariants.{NearestTiesToEven};
 ghost use Rattle.apfloat_base.specs.rounding.Flags.{Gives};
 ghost use Rattle.apfloat_base.specs.arithmetic.FusedSums.{IsFusedSum, fused_limit};
-ghost use Rattle.apfloat_ieee.specs.Types.{format_of};
+ghost use Rattle.apfloat_ieee.specs.FlaggedTypes.{format_of};
 
+use crate::flagged::Flagged;
 use crate::ieee_float::{IeeeFloat, shape_of};
-use crate::semantics::Semantics;
 use apfloat_arithmetic::fused::multiply_add;
 use apfloat_base::{Round, StatusAnd};
 
-impl<S: Semantics> IeeeFloat<S> {
+impl<S: Flagged> IeeeFloat<S> {
     /// The product with `multiplicand` plus `addend`, rounded once (IEEE 754-2008 5.4.1, fusedMultiplyAdd).
     ///
     /// This holds too if the product is below the smallest denormal value, or cancels the addend. An exact zero has the
@@ -21,7 +21,7 @@ impl<S: Semantics> IeeeFloat<S> {
     #[inline(always)]
     pub fn mul_add_r(self, multiplicand: Self, addend: Self, round: Round) -> StatusAnd<Self>
         requires { S.PRECISION ≤ fused_limit }
-        ensures { Gives (IsFusedSum (format_of S.Semantics) round self multiplicand addend) result }
+        ensures { Gives (IsFusedSum (format_of S.Flagged) round self multiplicand addend) result }
     {
         IeeeFloat::answered(multiply_add(
             shape_of::<S>(),
@@ -36,7 +36,7 @@ impl<S: Semantics> IeeeFloat<S> {
     #[inline]
     pub fn mul_add(self, multiplicand: Self, addend: Self) -> StatusAnd<Self>
         requires { S.PRECISION ≤ fused_limit }
-        ensures { Gives (IsFusedSum (format_of S.Semantics) NearestTiesToEven self multiplicand
+        ensures { Gives (IsFusedSum (format_of S.Flagged) NearestTiesToEven self multiplicand
             addend) result }
     {
         self.mul_add_r(multiplicand, addend, Round::NearestTiesToEven)

@@ -7,14 +7,14 @@ ghost use Rattle.apfloat_base.specs.formats.Members.{IsMember};
 ghost use Rattle.apfloat_base.specs.rounding.Bounds.{IsWithin, exponent_bound};
 ghost use Rattle.apfloat_base.specs.rounding.Flags.{Gives};
 ghost use Rattle.apfloat_base.specs.rounding.Rounding.{IsDelivered};
-ghost use Rattle.apfloat_base.specs.rounding.Standing.{StandsFor, IsFineEnough, up, down};
+ghost use Rattle.apfloat_base.specs.rounding.Standing.{StandsFor, IsFineFor, up, down};
 ghost use Rattle.apfloat_base.specs.bits.Interchange.{IsInterchange};
 ghost use Rattle.apfloat_base.specs.bits.Layout.{IsEncodedBy, IsReadFrom};
 ghost use Rattle.apfloat_unpacked.specs.Encoded.{layout_at};
 ghost use Rattle.apfloat_unpacked.specs.Stored.{IsStored, datum_at};
-ghost use Rattle.apfloat_ieee.specs.Types.{shape_of, format_of, layout_of};
+ghost use Rattle.apfloat_ieee.specs.FlaggedTypes.{shape_of, format_of, layout_of};
 
-use crate::semantics::Semantics;
+use crate::flagged::Flagged;
 use apfloat_base::sig::Loss;
 use apfloat_base::{ExpInt, Round, StatusAnd};
 use apfloat_unpacked::bits::{self, Widths};
@@ -25,33 +25,33 @@ use std::marker::{Model, PhantomData};
 
 /// A value of the format `S`.
 #[derive_where(Clone, Copy)]
-pub struct IeeeFloat<S: Semantics> {
+pub struct IeeeFloat<S: Flagged> {
     unpacked: Unpacked,
     marker: PhantomData<S>,
 }
 
-impl<S: Semantics> Model for IeeeFloat<S> {
+impl<S: Flagged> Model for IeeeFloat<S> {
     ghost use Rattle.apfloat_base.specs.formats.Datum.{Datum};
     ghost use Rattle.apfloat_unpacked.specs.Stored.{IsStored, datum_at, unpacked_of};
     ghost use Rattle.apfloat_unpacked.proofs.StoredBack.{comes_back};
-    ghost use Rattle.apfloat_ieee.specs.Types.{shape_of};
+    ghost use Rattle.apfloat_ieee.specs.FlaggedTypes.{shape_of};
 
     ghost Value = { Datum };
 
-    ghost view = { λ x. datum_at (shape_of S.Semantics) x.unpacked };
+    ghost view = { λ x. datum_at (shape_of S.Flagged) x.unpacked };
 
-    ghost invariant = { λ x. IsStored (shape_of S.Semantics) x.unpacked };
+    ghost invariant = { λ x. IsStored (shape_of S.Flagged) x.unpacked };
 
     ghost inverse = { λ d.
-        record { unpacked = unpacked_of (shape_of S.Semantics) d; marker = record {} } };
+        record { unpacked = unpacked_of (shape_of S.Flagged) d; marker = record {} } };
 
-    ghost inverse_ok = { λ x h. Prim.rw (comes_back (shape_of S.Semantics) x.unpacked h) };
+    ghost inverse_ok = { λ x h. Prim.rw (comes_back (shape_of S.Flagged) x.unpacked h) };
 }
 
 /// The constants of a format that rounding reads.
 #[inline]
-pub(crate) fn shape_of<S: Semantics>() -> Shape
-    ensures { result ≡ shape_of S.Semantics }
+pub(crate) fn shape_of<S: Flagged>() -> Shape
+    ensures { result ≡ shape_of S.Flagged }
 {
     Shape {
         precision: S::PRECISION as u32,
@@ -60,15 +60,16 @@ pub(crate) fn shape_of<S: Semantics>() -> Shape
         nonfinite: S::NONFINITE_BEHAVIOR,
         explicit_integer_bit: S::EXPLICIT_INTEGER_BIT,
         tiny_before_rounding: S::TINY_BEFORE_ROUNDING,
+        ieee_flags: S::IEEE_FLAGS,
     }
 }
 
 /// The widths of a format's encodings.
 #[inline]
-fn widths_of<S: Semantics>() -> Widths
+fn widths_of<S: Flagged>() -> Widths
     requires { S.PRECISION < S.BITS }
-    ensures value { layout_at result ≡ layout_of S.Semantics }
-    ensures interchange { IsInterchange (format_of S.Semantics) (layout_of S.Semantics) }
+    ensures value { layout_at result ≡ layout_of S.Flagged }
+    ensures interchange { IsInterchange (format_of S.Flagged) (layout_of S.Flagged) }
 {
     Widths {
         bits: S::BITS as u32,
@@ -78,30 +79,30 @@ fn widths_of<S: Semantics>() -> Widths
 
 /// The value whose encoding is `bits`.
 #[inline]
-pub(crate) fn decode<S: Semantics>(bits: u128) -> IeeeFloat<S>
+pub(crate) fn decode<S: Flagged>(bits: u128) -> IeeeFloat<S>
     requires { S.PRECISION < S.BITS }
-    ensures { IsReadFrom (format_of S.Semantics) (layout_of S.Semantics) bits result }
+    ensures { IsReadFrom (format_of S.Flagged) (layout_of S.Flagged) bits result }
 {
     IeeeFloat::packed(bits::decode(shape_of::<S>(), widths_of::<S>(), bits))
 }
 
 /// The bits of the one canonical encoding of the value.
 #[inline]
-pub(crate) fn encode<S: Semantics>(x: IeeeFloat<S>) -> u128
+pub(crate) fn encode<S: Flagged>(x: IeeeFloat<S>) -> u128
     requires { S.PRECISION < S.BITS }
-    ensures written { IsEncodedBy (format_of S.Semantics) (layout_of S.Semantics) result x }
+    ensures written { IsEncodedBy (format_of S.Flagged) (layout_of S.Flagged) result x }
     ensures only { (other : ℕ)
-        → IsEncodedBy (format_of S.Semantics) (layout_of S.Semantics) other x → other ≡ result }
+        → IsEncodedBy (format_of S.Flagged) (layout_of S.Flagged) other x → other ≡ result }
 {
     bits::encode(shape_of::<S>(), widths_of::<S>(), x.unpacked())
 }
 
-impl<S: Semantics> IeeeFloat<S> {
+impl<S: Flagged> IeeeFloat<S> {
     /// The value with this stored form.
     #[inline]
     pub(crate) fn packed(unpacked: Unpacked) -> Self
-        requires { IsStored (shape_of S.Semantics) unpacked }
-        ensures { result ≡ datum_at (shape_of S.Semantics) unpacked }
+        requires { IsStored (shape_of S.Flagged) unpacked }
+        ensures { result ≡ datum_at (shape_of S.Flagged) unpacked }
     {
         IeeeFloat {
             unpacked: Unpacked {
@@ -117,10 +118,10 @@ impl<S: Semantics> IeeeFloat<S> {
     /// The stored form of the value.
     #[inline]
     pub(crate) fn unpacked(self) -> Unpacked
-        ensures stored { IsStored (shape_of S.Semantics) result }
-        ensures datum { self ≡ datum_at (shape_of S.Semantics) result }
+        ensures stored { IsStored (shape_of S.Flagged) result }
+        ensures datum { self ≡ datum_at (shape_of S.Flagged) result }
         ensures category { result.category ≡ category_of self }
-        ensures member { IsMember (format_of S.Semantics) self }
+        ensures member { IsMember (format_of S.Flagged) self }
     {
         self.unpacked
     }
@@ -128,9 +129,9 @@ impl<S: Semantics> IeeeFloat<S> {
     /// The result with the value of this stored form.
     #[inline]
     pub(crate) fn answered(answer: StatusAnd<Unpacked>) -> StatusAnd<Self>
-        requires { IsStored (shape_of S.Semantics) answer.value }
+        requires { IsStored (shape_of S.Flagged) answer.value }
         ensures status { result.status ≡ answer.status }
-        ensures value { result.value ≡ datum_at (shape_of S.Semantics) answer.value }
+        ensures value { result.value ≡ datum_at (shape_of S.Flagged) answer.value }
     {
         answer.status.and(Self::packed(answer.value))
     }
@@ -140,9 +141,10 @@ impl<S: Semantics> IeeeFloat<S> {
 /// 4.3), with exactly the flags of that rounding.
 ///
 /// If something was lost below, the unit must be fine enough to divide the spacing of the format there: it is at most
-/// the quantum, or the significand has all digits of the format.
+/// the quantum, or the significand has all digits of the format. Where tininess is judged with an unbounded exponent,
+/// it is at most half a quantum in place of the quantum.
 #[inline]
-pub fn deliver<S: Semantics>(
+pub fn deliver<S: Flagged>(
     significand: u128,
     exponent: ExpInt,
     loss: Loss,
@@ -150,11 +152,11 @@ pub fn deliver<S: Semantics>(
     negative: bool,
 ) -> StatusAnd<IeeeFloat<S>>
     requires within { IsWithin exponent_bound exponent }
-    requires fine { let format = format_of S.Semantics in
-        IsFineEnough format.precision significand (exponent +ℤ pos format.scale) loss }
-    ensures { let unit = exponent +ℤ pos (format_of S.Semantics).scale in (amount parts : ℕ)
+    requires fine { let format = format_of S.Flagged in
+        IsFineFor format significand (exponent +ℤ pos format.scale) loss }
+    ensures { let unit = exponent +ℤ pos (format_of S.Flagged).scale in (amount parts : ℕ)
         → 0 < parts → StandsFor significand loss (amount * 2 ^ down unit) (parts * 2 ^ up unit)
-        → Gives (IsDelivered (format_of S.Semantics) round negative amount parts) result }
+        → Gives (IsDelivered (format_of S.Flagged) round negative amount parts) result }
 {
     IeeeFloat::answered(rounding::deliver(
         shape_of::<S>(),

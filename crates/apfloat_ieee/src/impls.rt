@@ -26,13 +26,13 @@ ghost use Rattle.apfloat_conversions.proofs.ToSigned.{to_signed_above, to_signed
 ghost use Rattle.apfloat_base.specs.texts.Parsing.{IsRead};
 ghost use Rattle.apfloat_base.proofs.Determined.{determined, scale_some};
 ghost use Rattle.apfloat_base.proofs.bits.Encodings.{lawful_interchange};
-ghost use Rattle.apfloat_ieee.specs.Types.{constants_of, format_of, layout_of};
+ghost use Rattle.apfloat_ieee.specs.FlaggedTypes.{constants_of, format_of, layout_of};
 
+use crate::flagged::Flagged;
 use crate::ieee_float::{IeeeFloat, decode, encode, shape_of};
 use crate::products::{product, quotient};
 use crate::reading::read;
 use crate::remainders::truncated;
-use crate::semantics::Semantics;
 use crate::sums::{difference, sum};
 use apfloat_arithmetic::classes::is_denormal;
 use apfloat_arithmetic::inverses::exact_inverse;
@@ -49,7 +49,7 @@ use apfloat_unpacked::unpacked::{
 };
 use std::cmp::Ordering;
 
-impl<S: Semantics> Default for IeeeFloat<S> {
+impl<S: Flagged> Default for IeeeFloat<S> {
     ghost is_default = { λ x. x ≡ zero_datum };
 
     /// +0.
@@ -58,7 +58,7 @@ impl<S: Semantics> Default for IeeeFloat<S> {
     }
 }
 
-impl<S: Semantics> Float for IeeeFloat<S> {
+impl<S: Flagged> Float for IeeeFloat<S> {
     const BITS: usize = S::BITS;
 
     const PRECISION: usize = S::PRECISION;
@@ -81,62 +81,62 @@ impl<S: Semantics> Float for IeeeFloat<S> {
 
     ghost the_zero = { zero_datum };
 
-    ghost the_infinity = { infinity_datum (format_of S.Semantics) };
+    ghost the_infinity = { infinity_datum (format_of S.Flagged) };
 
-    ghost quiet_nan_of = { qnan (format_of S.Semantics) };
+    ghost quiet_nan_of = { qnan (format_of S.Flagged) };
 
-    ghost signaling_nan_of = { snan (format_of S.Semantics) };
+    ghost signaling_nan_of = { snan (format_of S.Flagged) };
 
-    ghost the_largest = { largest_datum (format_of S.Semantics) };
+    ghost the_largest = { largest_datum (format_of S.Flagged) };
 
     ghost the_smallest = { smallest_datum };
 
-    ghost the_smallest_normalized = { smallest_normalized_datum (format_of S.Semantics) };
+    ghost the_smallest_normalized = { smallest_normalized_datum (format_of S.Flagged) };
 
-    ghost adds = { λ x y mode answer. Gives (IsSum (format_of S.Semantics) mode x y) answer };
+    ghost adds = { λ x y mode answer. Gives (IsSum (format_of S.Flagged) mode x y) answer };
 
-    ghost subtracts = { λ x y mode answer. Gives (IsDifference (format_of S.Semantics) mode x y)
+    ghost subtracts = { λ x y mode answer. Gives (IsDifference (format_of S.Flagged) mode x y)
         answer };
 
-    ghost multiplies = { λ x y mode answer. Gives (IsProduct (format_of S.Semantics) mode x y)
+    ghost multiplies = { λ x y mode answer. Gives (IsProduct (format_of S.Flagged) mode x y)
         answer };
 
-    ghost divides = { λ x y mode answer. Gives (IsQuotient (format_of S.Semantics) mode x y)
+    ghost divides = { λ x y mode answer. Gives (IsQuotient (format_of S.Flagged) mode x y)
         answer };
 
-    ghost leaves_nearest = { λ x y answer. Gives (IsNearestRemainder (format_of S.Semantics) x y)
+    ghost leaves_nearest = { λ x y answer. Gives (IsNearestRemainder (format_of S.Flagged) x y)
         answer };
 
-    ghost leaves = { λ x y answer. Gives (IsTruncatedRemainder (format_of S.Semantics) x y)
+    ghost leaves = { λ x y answer. Gives (IsTruncatedRemainder (format_of S.Flagged) x y)
         answer };
 
     ghost rounds_to_integral = { λ x mode answer. Gives
-        (IsRoundToIntegral (format_of S.Semantics) mode x) answer };
+        (IsRoundToIntegral (format_of S.Flagged) mode x) answer };
 
-    ghost steps_up = { λ x answer. Gives (IsNextUp (format_of S.Semantics) x) answer };
+    ghost steps_up = { λ x answer. Gives (IsNextUp (format_of S.Flagged) x) answer };
 
-    ghost steps_down = { λ x answer. Gives (IsNextDown (format_of S.Semantics) x) answer };
+    ghost steps_down = { λ x answer. Gives (IsNextDown (format_of S.Flagged) x) answer };
 
-    ghost negated = { negated (format_of S.Semantics).nonfinite };
+    ghost negated = { negated (format_of S.Flagged).nonfinite };
 
-    ghost value_of_bits = { datum_of (format_of S.Semantics) (layout_of S.Semantics) };
+    ghost value_of_bits = { datum_of (format_of S.Flagged) (layout_of S.Flagged) };
 
     ghost converts_signed = { λ number mode answer. Gives
-        (IsFromSigned (format_of S.Semantics) mode number) answer };
+        (IsFromSigned (format_of S.Flagged) mode number) answer };
 
     ghost converts_unsigned = { λ number mode answer. Gives
-        (IsFromUnsigned (format_of S.Semantics) mode number) answer };
+        (IsFromUnsigned (format_of S.Flagged) mode number) answer };
 
-    ghost reads = { λ text mode answer. IsRead (format_of S.Semantics) mode text answer };
+    ghost reads = { λ text mode answer. IsRead (format_of S.Flagged) mode text answer };
 
-    ghost writes_bits = { λ x bits. IsEncodedBy (format_of S.Semantics) (layout_of S.Semantics)
+    ghost writes_bits = { λ x bits. IsEncodedBy (format_of S.Flagged) (layout_of S.Flagged)
         bits x };
 
-    ghost converts_to_signed = { λ x width mode answer exact. IsToSigned (format_of S.Semantics)
+    ghost converts_to_signed = { λ x width mode answer exact. IsToSigned (format_of S.Flagged)
         mode width x answer.value (bits_of answer.status) exact };
 
     ghost converts_to_unsigned = { λ x width mode answer exact. IsToUnsigned
-        (format_of S.Semantics) mode width x answer.value (bits_of answer.status) exact };
+        (format_of S.Flagged) mode width x answer.value (bits_of answer.status) exact };
 
     ghost can_compare_magnitudes = { AreFiniteNonZero };
 
@@ -146,21 +146,21 @@ impl<S: Semantics> Float for IeeeFloat<S> {
 
     ghost sign_of = { is_negative };
 
-    ghost denormal = { is_denormal (format_of S.Semantics) };
+    ghost denormal = { is_denormal (format_of S.Flagged) };
 
-    ghost signals = { is_signaling_nan (format_of S.Semantics) };
+    ghost signals = { is_signaling_nan (format_of S.Flagged) };
 
     ghost category_of = { category_of };
 
-    ghost is_whole = { is_integer (format_of S.Semantics) };
+    ghost is_whole = { is_integer (format_of S.Flagged) };
 
-    ghost inverts = { IsExactInverse (format_of S.Semantics) };
+    ghost inverts = { IsExactInverse (format_of S.Flagged) };
 
-    ghost has_exponent = { λ x exponent. IsIlogb (format_of S.Semantics) x exponent };
+    ghost has_exponent = { λ x exponent. IsIlogb (format_of S.Flagged) x exponent };
 
-    ghost scales = { λ x places mode value. IsScaling (format_of S.Semantics) mode x places value };
+    ghost scales = { λ x places mode value. IsScaling (format_of S.Flagged) mode x places value };
 
-    ghost has_fraction = { λ x mode value exponent. IsFrexp (format_of S.Semantics) x value
+    ghost has_fraction = { λ x mode value exponent. IsFrexp (format_of S.Flagged) x value
         exponent };
 
     #[inline]
@@ -200,15 +200,15 @@ impl<S: Semantics> Float for IeeeFloat<S> {
 
     #[inline(always)]
     fn add_r(self, rhs: Self, round: Round) -> StatusAnd<Self>
-        ensures sum { Gives (IsSum (format_of S.Semantics) round self rhs) result }
-        ensures monotone { IsMonotone (format_of S.Semantics) round self rhs result.value }
+        ensures sum { Gives (IsSum (format_of S.Flagged) round self rhs) result }
+        ensures monotone { IsMonotone (format_of S.Flagged) round self rhs result.value }
     {
         sum(self, rhs, round)
     }
 
     #[inline(always)]
     fn sub_r(self, rhs: Self, round: Round) -> StatusAnd<Self>
-        ensures difference { Gives (IsDifference (format_of S.Semantics) round self rhs) result }
+        ensures difference { Gives (IsDifference (format_of S.Flagged) round self rhs) result }
         ensures nearby { Gives (IsNearby self rhs) result }
     {
         difference(self, rhs, round)
@@ -217,8 +217,8 @@ impl<S: Semantics> Float for IeeeFloat<S> {
     #[inline(always)]
     fn mul_r(self, rhs: Self, round: Round) -> StatusAnd<Self>
         requires { IsTrue (leb S.PRECISION product_limit) }
-        ensures product { Gives (IsProduct (format_of S.Semantics) round self rhs) result }
-        ensures opposite { Gives (IsOpposite (format_of S.Semantics) round self rhs) result }
+        ensures product { Gives (IsProduct (format_of S.Flagged) round self rhs) result }
+        ensures opposite { Gives (IsOpposite (format_of S.Flagged) round self rhs) result }
     {
         product(self, rhs, round)
     }
@@ -245,9 +245,9 @@ impl<S: Semantics> Float for IeeeFloat<S> {
 
     #[inline]
     fn next_up(self) -> StatusAnd<Self>
-        ensures next { Gives (IsNextUp (format_of S.Semantics) self) result }
+        ensures next { Gives (IsNextUp (format_of S.Flagged) self) result }
         ensures back { S.NONFINITE_BEHAVIOR ≡ IEEE754 → is_finite_non_zero self ≡ true
-            → IsNextDown (format_of S.Semantics) result.value self ok_bits }
+            → IsNextDown (format_of S.Flagged) result.value self ok_bits }
     {
         IeeeFloat::answered(next_up(shape_of::<S>(), self.unpacked()))
     }
@@ -255,7 +255,7 @@ impl<S: Semantics> Float for IeeeFloat<S> {
     #[inline]
     fn from_bits(bits: u128) -> Self
         requires { S.PRECISION < S.BITS }
-        ensures { IsReadFrom (format_of S.Semantics) (layout_of S.Semantics) bits result }
+        ensures { IsReadFrom (format_of S.Flagged) (layout_of S.Flagged) bits result }
     {
         decode::<S>(bits)
     }
@@ -273,11 +273,11 @@ impl<S: Semantics> Float for IeeeFloat<S> {
     #[inline]
     fn to_bits(self) -> u128
         requires { S.PRECISION < S.BITS }
-        ensures written { IsEncodedBy (format_of S.Semantics) (layout_of S.Semantics) result self }
+        ensures written { IsEncodedBy (format_of S.Flagged) (layout_of S.Flagged) result self }
         ensures below { result < 2 ^ S.BITS }
-        ensures back { datum_of (format_of S.Semantics) (layout_of S.Semantics) result ≡ self }
+        ensures back { datum_of (format_of S.Flagged) (layout_of S.Flagged) result ≡ self }
         ensures only { (other : ℕ)
-            → IsEncodedBy (format_of S.Semantics) (layout_of S.Semantics) other self
+            → IsEncodedBy (format_of S.Flagged) (layout_of S.Flagged) other self
             → other ≡ result }
     {
         encode::<S>(self)
@@ -318,7 +318,7 @@ impl<S: Semantics> Float for IeeeFloat<S> {
     #[inline]
     fn category(self) -> Category
         ensures category { result ≡ category_of self }
-        ensures member { IsMember (format_of S.Semantics) self }
+        ensures member { IsMember (format_of S.Flagged) self }
     {
         self.unpacked().category
     }
@@ -402,24 +402,24 @@ impl<S: Semantics> Float for IeeeFloat<S> {
     ghost steps_down_law = { λ x r h.
         record { up_of_negated = r.value; is_next_up = h; is = refl } };
 
-    ghost signed_above_law = { λ n mode r h. signed_above (format_of S.Semantics) mode n r.value
+    ghost signed_above_law = { λ n mode r h. signed_above (format_of S.Flagged) mode n r.value
         (bits_of r.status) h };
 
-    ghost signed_below_law = { λ n mode r p h. signed_below (format_of S.Semantics) mode n r.value
-        (bits_of r.status) (largest_some (format_of S.Semantics) S.lawful.parameters.precision_low) p h };
+    ghost signed_below_law = { λ n mode r p h. signed_below (format_of S.Flagged) mode n r.value
+        (bits_of r.status) (largest_some (format_of S.Flagged) S.lawful.parameters.precision_low) p h };
 
     ghost read_law = { λ text r h. h };
 
     ghost to_signed_above_law = { λ x width mode number exact z h.
-        to_signed_above (format_of S.Semantics) mode width x number.value (bits_of number.status)
+        to_signed_above (format_of S.Flagged) mode width x number.value (bits_of number.status)
         exact z h };
 
     ghost to_signed_below_law = { λ x width mode number exact answer is_exact z w h g.
-        to_signed_below (format_of S.Semantics) mode width x number.value (bits_of number.status)
+        to_signed_below (format_of S.Flagged) mode width x number.value (bits_of number.status)
         exact answer.value (bits_of answer.status) is_exact z w h g };
 
     ghost determined = { λ mode.
-        determined (format_of S.Semantics) (layout_of S.Semantics) S.PRECISION S.BITS mode
-        (scale_some (constants_of S.Semantics) S.lawful)
-        (lawful_interchange (constants_of S.Semantics) S.lawful) };
+        determined (format_of S.Flagged) (layout_of S.Flagged) S.PRECISION S.BITS mode
+        (scale_some (constants_of S.Flagged) S.lawful)
+        (lawful_interchange (constants_of S.Flagged) S.lawful) };
 }

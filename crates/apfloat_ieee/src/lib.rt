@@ -7,6 +7,7 @@
 
 mod convert;
 mod debug;
+pub mod flagged;
 pub mod fused;
 pub mod ieee_float;
 pub mod impls;
@@ -14,9 +15,12 @@ pub mod order;
 pub mod products;
 pub mod reading;
 pub mod remainders;
+pub mod roots;
 pub mod semantics;
 pub mod sums;
+pub mod wide;
 
 pub use apfloat_base::NonfiniteBehavior;
+pub use flagged::{Flagged, IeeeFlags, TinyBefore};
 pub use ieee_float::{IeeeFloat, deliver};
 pub use semantics::Semantics;

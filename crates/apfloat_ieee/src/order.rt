@@ -3,20 +3,20 @@
 ghost use Rattle.std.specs.Prelude.{◌≡◌};
 ghost use Rattle.apfloat_base.specs.order.Order.{compared};
 
+use crate::flagged::Flagged;
 use crate::ieee_float::IeeeFloat;
-use crate::semantics::Semantics;
 use apfloat_arithmetic::order;
 use std::cmp::Ordering;
 
 /// The numeric order of two values: both zeros are equal, the infinities are at the ends, and a NaN is unordered.
 #[inline]
-fn compare<S: Semantics>(x: IeeeFloat<S>, y: IeeeFloat<S>) -> Option<Ordering>
+fn compare<S: Flagged>(x: IeeeFloat<S>, y: IeeeFloat<S>) -> Option<Ordering>
     ensures { result ≡ compared x y }
 {
     order::compare(x.unpacked(), y.unpacked())
 }
 
-impl<S: Semantics> PartialEq for IeeeFloat<S> {
+impl<S: Flagged> PartialEq for IeeeFloat<S> {
     ghost use Rattle.apfloat_base.specs.order.Order.{is_equal};
     ghost use Rattle.apfloat_base.proofs.order.OrderLaws.{equal_laws};
 
@@ -34,7 +34,7 @@ impl<S: Semantics> PartialEq for IeeeFloat<S> {
     }
 }
 
-impl<S: Semantics> PartialOrd for IeeeFloat<S> {
+impl<S: Flagged> PartialOrd for IeeeFloat<S> {
     ghost use Rattle.apfloat_base.specs.order.Order.{compared};
     ghost use Rattle.apfloat_base.proofs.order.OrderLaws.{compared_laws};
 

@@ -7,10 +7,10 @@ ghost use Rattle.apfloat_base.specs.rounding.Flags.{Gives};
 ghost use Rattle.apfloat_base.specs.arithmetic.Exponents.{IsExactInverse};
 ghost use Rattle.apfloat_base.specs.arithmetic.Products.{IsProduct, IsOpposite, product_limit};
 ghost use Rattle.apfloat_base.specs.arithmetic.Quotients.{IsQuotient};
-ghost use Rattle.apfloat_ieee.specs.Types.{format_of};
+ghost use Rattle.apfloat_ieee.specs.FlaggedTypes.{format_of};
 
+use crate::flagged::Flagged;
 use crate::ieee_float::{IeeeFloat, shape_of};
-use crate::semantics::Semantics;
 use apfloat_arithmetic::products::multiply;
 use apfloat_arithmetic::quotients::divide;
 use apfloat_base::{Round, StatusAnd};
@@ -18,36 +18,36 @@ use std::ops::{Div, DivAssign, Mul, MulAssign};
 
 /// The product of two values, rounded once; only a format of at most `PRODUCT_LIMIT` digits has it.
 #[inline(always)]
-pub(crate) fn product<S: Semantics>(
+pub(crate) fn product<S: Flagged>(
     x: IeeeFloat<S>,
     y: IeeeFloat<S>,
     round: Round,
 ) -> StatusAnd<IeeeFloat<S>>
     requires { S.PRECISION ≤ product_limit }
-    ensures product { Gives (IsProduct (format_of S.Semantics) round x y) result }
-    ensures opposite { Gives (IsOpposite (format_of S.Semantics) round x y) result }
+    ensures product { Gives (IsProduct (format_of S.Flagged) round x y) result }
+    ensures opposite { Gives (IsOpposite (format_of S.Flagged) round x y) result }
 {
     IeeeFloat::answered(multiply(shape_of::<S>(), x.unpacked(), y.unpacked(), round))
 }
 
 /// The quotient of two values, rounded once.
 #[inline(always)]
-pub(crate) fn quotient<S: Semantics>(
+pub(crate) fn quotient<S: Flagged>(
     x: IeeeFloat<S>,
     y: IeeeFloat<S>,
     round: Round,
 ) -> StatusAnd<IeeeFloat<S>>
-    ensures { Gives (IsQuotient (format_of S.Semantics) round x y) result }
+    ensures { Gives (IsQuotient (format_of S.Flagged) round x y) result }
 {
     IeeeFloat::answered(divide(shape_of::<S>(), x.unpacked(), y.unpacked(), round))
 }
 
-impl<S: Semantics> Mul for IeeeFloat<S> {
+impl<S: Flagged> Mul for IeeeFloat<S> {
     type Output = StatusAnd<IeeeFloat<S>>;
 
     ghost can_mul = { λ _ _. S.PRECISION ≤ product_limit };
 
-    ghost mul_gives = { λ x y r. Gives (IsProduct (format_of S.Semantics) NearestTiesToEven x y)
+    ghost mul_gives = { λ x y r. Gives (IsProduct (format_of S.Flagged) NearestTiesToEven x y)
         r };
 
     /// The product, rounded once to the nearest value, ties to even.
@@ -57,10 +57,10 @@ impl<S: Semantics> Mul for IeeeFloat<S> {
     }
 }
 
-impl<S: Semantics> Div for IeeeFloat<S> {
+impl<S: Flagged> Div for IeeeFloat<S> {
     type Output = StatusAnd<IeeeFloat<S>>;
 
-    ghost div_gives = { λ x y r. Gives (IsQuotient (format_of S.Semantics) NearestTiesToEven x y)
+    ghost div_gives = { λ x y r. Gives (IsQuotient (format_of S.Flagged) NearestTiesToEven x y)
         r };
 
     /// The quotient, rounded once to the nearest value, ties to even.
@@ -70,11 +70,11 @@ impl<S: Semantics> Div for IeeeFloat<S> {
     }
 }
 
-impl<S: Semantics> MulAssign for IeeeFloat<S> {
+impl<S: Flagged> MulAssign for IeeeFloat<S> {
     ghost can_mul_assign = { λ _ _. S.PRECISION ≤ product_limit };
 
     ghost mul_assign_gives = { λ x y z. (r : StatusAnd Self) ×
-        Gives (IsProduct (format_of S.Semantics) NearestTiesToEven x y) r × (z ≡ r.value) };
+        Gives (IsProduct (format_of S.Flagged) NearestTiesToEven x y) r × (z ≡ r.value) };
 
     /// The product by `*`; the status is dropped.
     #[inline]
@@ -83,9 +83,9 @@ impl<S: Semantics> MulAssign for IeeeFloat<S> {
     }
 }
 
-impl<S: Semantics> DivAssign for IeeeFloat<S> {
+impl<S: Flagged> DivAssign for IeeeFloat<S> {
     ghost div_assign_gives = { λ x y z. (r : StatusAnd Self) ×
-        Gives (IsQuotient (format_of S.Semantics) NearestTiesToEven x y) r × (z ≡ r.value) };
+        Gives (IsQuotient (format_of S.Flagged) NearestTiesToEven x y) r × (z ≡ r.value) };
 
     /// The quotient by `/`; the status is dropped.
     #[inline]

@@ -6,20 +6,20 @@ ghost use Rattle.apfloat_base.specs.declared.parse_error.ParseError.{ParseError}
 ghost use Rattle.apfloat_base.specs.declared.status.StatusAnd.{StatusAnd};
 ghost use Rattle.apfloat_base.specs.formats.Datum.{Datum};
 ghost use Rattle.apfloat_base.specs.texts.Parsing.{IsRead, without_status};
-ghost use Rattle.apfloat_ieee.specs.Types.{format_of};
+ghost use Rattle.apfloat_ieee.specs.FlaggedTypes.{format_of};
 
+use crate::flagged::Flagged;
 use crate::ieee_float::{IeeeFloat, shape_of};
-use crate::semantics::Semantics;
 use apfloat_base::{ParseError, Round, StatusAnd};
 use std::str::FromStr;
 
 /// The value of a text, or its refusal.
 #[inline]
-pub(crate) fn read<S: Semantics>(
+pub(crate) fn read<S: Flagged>(
     text: &str,
     round: Round,
 ) -> Result<StatusAnd<IeeeFloat<S>>, ParseError>
-    ensures { IsRead (format_of S.Semantics) round text.now result }
+    ensures { IsRead (format_of S.Flagged) round text.now result }
 {
     match apfloat_texts::read(shape_of::<S>(), text, round) {
         Ok(answer) => Ok(IeeeFloat::answered(answer)),
@@ -27,11 +27,11 @@ pub(crate) fn read<S: Semantics>(
     }
 }
 
-impl<S: Semantics> FromStr for IeeeFloat<S> {
+impl<S: Flagged> FromStr for IeeeFloat<S> {
     type Err = ParseError;
 
     ghost from_str_gives = { λ text r. (answer : Result (StatusAnd Datum) ParseError)
-        × IsRead (format_of S.Semantics) NearestTiesToEven text answer
+        × IsRead (format_of S.Flagged) NearestTiesToEven text answer
         × (r ≡ without_status answer) };
 
     /// Reads a text like `from_str_r`, rounding to the nearest value, ties to even; the status is dropped.

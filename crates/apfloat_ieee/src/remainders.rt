@@ -5,23 +5,23 @@ ghost use Rattle.apfloat_base.specs.declared.status.StatusAnd.{StatusAnd};
 ghost use Rattle.apfloat_base.specs.rounding.Flags.{Gives};
 ghost use Rattle.apfloat_base.specs.arithmetic.Exponents.{IsIlogb};
 ghost use Rattle.apfloat_base.specs.arithmetic.Remainders.{IsTruncatedRemainder, ones_of_quotient};
-ghost use Rattle.apfloat_ieee.specs.Types.{format_of};
+ghost use Rattle.apfloat_ieee.specs.FlaggedTypes.{format_of};
 
+use crate::flagged::Flagged;
 use crate::ieee_float::{IeeeFloat, shape_of};
-use crate::semantics::Semantics;
-use apfloat_arithmetic::remainders::truncated_remainder;
+use apfloat_arithmetic::remainders::{counted_remainder, truncated_remainder};
 use apfloat_base::StatusAnd;
 use std::ops::{Rem, RemAssign};
 
 /// The remainder by the quotient cut toward zero, which is exact.
 #[inline]
-pub(crate) fn truncated<S: Semantics>(x: IeeeFloat<S>, y: IeeeFloat<S>) -> StatusAnd<IeeeFloat<S>>
-    ensures { Gives (IsTruncatedRemainder (format_of S.Semantics) x y) result }
+pub(crate) fn truncated<S: Flagged>(x: IeeeFloat<S>, y: IeeeFloat<S>) -> StatusAnd<IeeeFloat<S>>
+    ensures { Gives (IsTruncatedRemainder (format_of S.Flagged) x y) result }
 {
-    IeeeFloat::answered(truncated_remainder(shape_of::<S>(), x.unpacked(), y.unpacked()).answer)
+    IeeeFloat::answered(truncated_remainder(shape_of::<S>(), x.unpacked(), y.unpacked()))
 }
 
-impl<S: Semantics> IeeeFloat<S> {
+impl<S: Flagged> IeeeFloat<S> {
     /// The remainder by `%`, and the count of subtractions that it took.
     ///
     /// Each turn subtracts the greatest multiple of the divisor by a power of two (1 or more) that is not above the
@@ -29,21 +29,21 @@ impl<S: Semantics> IeeeFloat<S> {
     /// `ilogb(self) - ilogb(rhs) + 1` if it is not 0. If an operand is zero, infinite or a NaN, it is 0.
     #[inline]
     pub fn c_fmod_steps(self, rhs: Self) -> (StatusAnd<Self>, u32)
-        ensures answer { Gives (IsTruncatedRemainder (format_of S.Semantics) self rhs) result.0 }
+        ensures answer { Gives (IsTruncatedRemainder (format_of S.Flagged) self rhs) result.0 }
         ensures steps { result.1 ≡ ones_of_quotient self rhs }
-        ensures few { (a b : ℤ) → IsIlogb (format_of S.Semantics) self a
-            → IsIlogb (format_of S.Semantics) rhs b → 0 < result.1
+        ensures few { (a b : ℤ) → IsIlogb (format_of S.Flagged) self a
+            → IsIlogb (format_of S.Flagged) rhs b → 0 < result.1
             → pos result.1 ≤ℤ ((a -ℤ b) +ℤ pos 1) }
     {
-        let remainder = truncated_remainder(shape_of::<S>(), self.unpacked(), rhs.unpacked());
+        let remainder = counted_remainder(shape_of::<S>(), self.unpacked(), rhs.unpacked());
         (IeeeFloat::answered(remainder.answer), remainder.steps)
     }
 }
 
-impl<S: Semantics> Rem for IeeeFloat<S> {
+impl<S: Flagged> Rem for IeeeFloat<S> {
     type Output = StatusAnd<IeeeFloat<S>>;
 
-    ghost rem_gives = { λ x y r. Gives (IsTruncatedRemainder (format_of S.Semantics) x y) r };
+    ghost rem_gives = { λ x y r. Gives (IsTruncatedRemainder (format_of S.Flagged) x y) r };
 
     /// The remainder by the quotient cut toward zero, which is exact.
     #[inline]
@@ -52,9 +52,9 @@ impl<S: Semantics> Rem for IeeeFloat<S> {
     }
 }
 
-impl<S: Semantics> RemAssign for IeeeFloat<S> {
+impl<S: Flagged> RemAssign for IeeeFloat<S> {
     ghost rem_assign_gives = { λ x y z. (r : StatusAnd Self) ×
-        Gives (IsTruncatedRemainder (format_of S.Semantics) x y) r × (z ≡ r.value) };
+        Gives (IsTruncatedRemainder (format_of S.Flagged) x y) r × (z ≡ r.value) };
 
     /// The remainder by `%`; the status is dropped.
     #[inline]

@@ -6,10 +6,10 @@ ghost use Rattle.apfloat_base.specs.declared.status.StatusAnd.{StatusAnd};
 ghost use Rattle.apfloat_base.specs.rounding.Flags.{Gives};
 ghost use Rattle.apfloat_base.specs.rounding.Negation.{negated};
 ghost use Rattle.apfloat_base.specs.arithmetic.Sums.{IsSum, IsDifference, IsMonotone, IsNearby};
-ghost use Rattle.apfloat_ieee.specs.Types.{format_of};
+ghost use Rattle.apfloat_ieee.specs.FlaggedTypes.{format_of};
 
+use crate::flagged::Flagged;
 use crate::ieee_float::{IeeeFloat, shape_of};
-use crate::semantics::Semantics;
 use apfloat_arithmetic::signs::negated;
 use apfloat_arithmetic::sums::{add, subtract};
 use apfloat_base::{Round, StatusAnd};
@@ -17,13 +17,13 @@ use std::ops::{Add, AddAssign, Neg, Sub, SubAssign};
 
 /// The sum of two values, rounded once. In a format with infinities it does not decrease as a finite `x` increases.
 #[inline(always)]
-pub(crate) fn sum<S: Semantics>(
+pub(crate) fn sum<S: Flagged>(
     x: IeeeFloat<S>,
     y: IeeeFloat<S>,
     round: Round,
 ) -> StatusAnd<IeeeFloat<S>>
-    ensures sum { Gives (IsSum (format_of S.Semantics) round x y) result }
-    ensures monotone { IsMonotone (format_of S.Semantics) round x y result.value }
+    ensures sum { Gives (IsSum (format_of S.Flagged) round x y) result }
+    ensures monotone { IsMonotone (format_of S.Flagged) round x y result.value }
 {
     IeeeFloat::answered(add(shape_of::<S>(), x.unpacked(), y.unpacked(), round))
 }
@@ -31,21 +31,21 @@ pub(crate) fn sum<S: Semantics>(
 /// The difference of two values, rounded once. That of positive numbers is exact if neither is more than twice the
 /// other.
 #[inline(always)]
-pub(crate) fn difference<S: Semantics>(
+pub(crate) fn difference<S: Flagged>(
     x: IeeeFloat<S>,
     y: IeeeFloat<S>,
     round: Round,
 ) -> StatusAnd<IeeeFloat<S>>
-    ensures difference { Gives (IsDifference (format_of S.Semantics) round x y) result }
+    ensures difference { Gives (IsDifference (format_of S.Flagged) round x y) result }
     ensures nearby { Gives (IsNearby x y) result }
 {
     IeeeFloat::answered(subtract(shape_of::<S>(), x.unpacked(), y.unpacked(), round))
 }
 
-impl<S: Semantics> Neg for IeeeFloat<S> {
+impl<S: Flagged> Neg for IeeeFloat<S> {
     type Output = IeeeFloat<S>;
 
-    ghost neg_gives = { λ x r. r ≡ negated (format_of S.Semantics).nonfinite x };
+    ghost neg_gives = { λ x r. r ≡ negated (format_of S.Flagged).nonfinite x };
 
     /// The negated value (IEEE 754-2008 5.5.1, negate). A NaN is negated too; no flag is raised.
     #[inline]
@@ -54,10 +54,10 @@ impl<S: Semantics> Neg for IeeeFloat<S> {
     }
 }
 
-impl<S: Semantics> Add for IeeeFloat<S> {
+impl<S: Flagged> Add for IeeeFloat<S> {
     type Output = StatusAnd<IeeeFloat<S>>;
 
-    ghost add_gives = { λ x y r. Gives (IsSum (format_of S.Semantics) NearestTiesToEven x y) r };
+    ghost add_gives = { λ x y r. Gives (IsSum (format_of S.Flagged) NearestTiesToEven x y) r };
 
     /// The sum, rounded once to the nearest value, ties to even.
     #[inline]
@@ -66,11 +66,11 @@ impl<S: Semantics> Add for IeeeFloat<S> {
     }
 }
 
-impl<S: Semantics> Sub for IeeeFloat<S> {
+impl<S: Flagged> Sub for IeeeFloat<S> {
     type Output = StatusAnd<IeeeFloat<S>>;
 
     ghost sub_gives = { λ x y r. Gives
-        (IsDifference (format_of S.Semantics) NearestTiesToEven x y) r };
+        (IsDifference (format_of S.Flagged) NearestTiesToEven x y) r };
 
     /// The difference, rounded once to the nearest value, ties to even.
     #[inline]
@@ -79,9 +79,9 @@ impl<S: Semantics> Sub for IeeeFloat<S> {
     }
 }
 
-impl<S: Semantics> AddAssign for IeeeFloat<S> {
+impl<S: Flagged> AddAssign for IeeeFloat<S> {
     ghost add_assign_gives = { λ x y z. (r : StatusAnd Self)
-        × Gives (IsSum (format_of S.Semantics) NearestTiesToEven x y) r × (z ≡ r.value) };
+        × Gives (IsSum (format_of S.Flagged) NearestTiesToEven x y) r × (z ≡ r.value) };
 
     /// The sum by `+`; the status is dropped.
     #[inline]
@@ -90,9 +90,9 @@ impl<S: Semantics> AddAssign for IeeeFloat<S> {
     }
 }
 
-impl<S: Semantics> SubAssign for IeeeFloat<S> {
+impl<S: Flagged> SubAssign for IeeeFloat<S> {
     ghost sub_assign_gives = { λ x y z. (r : StatusAnd Self)
-        × Gives (IsDifference (format_of S.Semantics) NearestTiesToEven x y) r × (z ≡ r.value) };
+        × Gives (IsDifference (format_of S.Flagged) NearestTiesToEven x y) r × (z ≡ r.value) };
 
     /// The difference by `-`; the status is dropped.
     #[inline]

@@ -19,6 +19,7 @@ ghost use Rattle.apfloat_pair_theory.specs.PairSums.{IsPairSum, IsPairDifference
 ghost use Rattle.apfloat_pair_theory.specs.PairProducts.{IsPairProduct};
 ghost use Rattle.apfloat_pair_theory.specs.PairParts.{IsDenormalPair, is_denormal_pair};
 ghost use Rattle.apfloat_pair_theory.specs.PairCalls.{IsPairQuotient, IsPairTruncatedRemainder, IsPairNearestRemainder, IsPairRoundToIntegral, IsPairNextUp, IsPairNextDown, IsPairFromUnsigned, IsPairFromSigned};
+ghost use Rattle.apfloat_pair_theory.specs.PairRoots.{IsPairRoot};
 ghost use Rattle.apfloat_pair_theory.specs.PairAnswers.{HasOneAnswer};
 ghost use Rattle.apfloat_pair_theory.specs.PairAccuracy.{IsErrorFreeSum, IsAccurateSum, IsErrorFreeDifference, IsAccurateDifference, IsErrorFreeProduct, IsAccurateProduct, HasPlainStatus, IsExactSplit, IsLosslessSplit, IsExactQuotient, IsExactTruncatedRemainder, IsExactNearestRemainder};
 ghost use Rattle.apfloat_pair_theory.specs.WrongAnswers.{before_closing, half_unit, least, one, one_and_half_unit, one_and_quarter_unit};
@@ -116,4 +117,9 @@ pub fn wide_calls_have_one_answer()
         → HasOneAnswer (IsPairFromUnsigned mode number) }
     ensures from_signed { (mode : Round) (number : ℤ)
         → HasOneAnswer (IsPairFromSigned mode number) }
+{}
+
+/// So does the square root.
+pub fn roots_have_one_answer()
+    ensures { (mode : Round) (x : Pair) → HasOneAnswer (IsPairRoot mode x) }
 {}

@@ -13,7 +13,7 @@ use apfloat_base::{Float, ParseError, Round, StatusAnd};
 
 /// A result of the wide format as a pair, with its status.
 #[inline]
-fn split_answer(answer: StatusAnd<Fallback>) -> StatusAnd<DoubleFloat>
+pub(crate) fn split_answer(answer: StatusAnd<Fallback>) -> StatusAnd<DoubleFloat>
     ensures status { result.status ≡ answer.status }
     ensures value { IsSplit answer.value result.value }
 {

@@ -2,3 +2,4 @@ pub mod StoredBack
 pub mod StoredNumbers
 pub mod StoredMembers
 pub mod ShapeExponents
+pub mod HalfQuanta

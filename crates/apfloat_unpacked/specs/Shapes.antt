@@ -12,4 +12,5 @@ format_at s =
       nonfinite = s.nonfinite;
       explicit_integer_bit = s.explicit_integer_bit;
       tiny_before_rounding = s.tiny_before_rounding;
+      ieee_flags = s.ieee_flags;
     }

@@ -9,7 +9,8 @@
 //! shift to that place leaves the kept digits and a `Loss`: what was cut off, together with the incoming loss, in one
 //! of four cases, which is all that a mode needs. The mode adds one to the kept digits, or does not; a carry to the
 //! next power of two moves the place up by one. The point so picked decides the rest: overflow if it is past the
-//! largest value, otherwise the value, exact or inexact, tiny or not.
+//! largest value, otherwise the value, exact or inexact, tiny or not. Only one question needs the digits again: whether
+//! the magnitude would be below the smallest normalized value if exponents had no lower end.
 
 ghost use Rattle.std.specs.Prelude.{◌≡◌, ℕ, ◌+◌, ◌-◌, ◌*◌, ◌^◌, ◌<◌, ◌≤◌, ◌⊎◌, ltb, pos, neg_ℤ, ◌≤ℤ◌, ◌+ℤ◌, if◌then◌else◌, false};
 ghost use Rattle.apfloat_base.specs.rounding.Bounds.{IsWithin, exponent_bound, unit_bound, place_bound};
@@ -17,10 +18,10 @@ ghost use Rattle.apfloat_base.specs.rounding.Flags.{bits_of};
 ghost use Rattle.apfloat_base.specs.formats.Format.{largest, nan_base};
 ghost use Rattle.apfloat_base.specs.formats.Datum.{finite};
 ghost use Rattle.apfloat_base.specs.rounding.Answer.{IsAnswer};
-ghost use Rattle.apfloat_base.specs.rounding.Standing.{StandsFor, IsFineEnough, up, down};
+ghost use Rattle.apfloat_base.specs.rounding.Standing.{StandsFor, IsFineEnough, IsFineFor, up, down};
 ghost use Rattle.apfloat_base.specs.rounding.Enclosure.{rounds_up};
-ghost use Rattle.apfloat_base.specs.rounding.Rounding.{points_away, ok_bits, overflow_bit, underflow_bit, inexact_bit, IsPick, IsDelivered, leads_out, past_largest};
-ghost use Rattle.apfloat_unpacked.specs.Cuts.{IsCut};
+ghost use Rattle.apfloat_base.specs.rounding.Rounding.{points_away, ok_bits, overflow_bit, underflow_bit, inexact_bit, IsPick, IsDelivered, leads_out, past_largest, raises_overflow, rounds_below_normal, is_tiny};
+ghost use Rattle.apfloat_unpacked.specs.Cuts.{IsCut, IsGiven};
 ghost use Rattle.apfloat_unpacked.specs.Shapes.{format_at};
 ghost use Rattle.apfloat_unpacked.specs.Stored.{IsStored, GivesAt};
 
@@ -28,6 +29,14 @@ use crate::shape::Shape;
 use crate::unpacked::{Unpacked, from_rounded_quanta, infinity_of, largest_of};
 use apfloat_base::sig::{Loss, digits, power_of_two, shift_right};
 use apfloat_base::{ExpInt, Flags, Round, Status, StatusAnd};
+
+/// `significand * 2^unit` quanta, and what was lost below that.
+#[derive(Clone, Copy, Debug)]
+struct Given {
+    significand: u128,
+    unit: ExpInt,
+    loss: Loss,
+}
 
 /// `significand * 2^place` quanta, and what was lost below that.
 #[derive(Clone, Copy, Debug)]
@@ -201,17 +210,63 @@ fn leads_past(mode: Round, negative: bool) -> bool
     to_nearest | is_outward(mode, negative)
 }
 
-/// Whether an inexact result counts as tiny, by its significand before or after rounding.
+/// What was lost below half a quantum.
 #[inline(always)]
-fn is_tiny(shape: Shape, before: u128, after: u128) -> bool
-    ensures { result ≡ (if shape.tiny_before_rounding then ltb before
-        (2 ^ (shape.precision - 1)) else ltb after (2 ^ (shape.precision - 1))) }
+fn loss_below_half(given: Given) -> Loss
+    requires within { IsWithin unit_bound given.unit }
+    requires fine { (given.unit +ℤ pos 1) ≤ℤ pos 0 }
+    ensures { (amount parts last : ℕ) → 0 < parts → IsGiven given amount parts
+        → last * parts ≤ 2 * amount → 2 * amount < (last + 1) * parts
+        → StandsFor last result (2 * amount) parts }
+{
+    let steps = steps_up(given.unit + 1, 0);
+    shift_right(given.significand, steps, given.loss).loss
+}
+
+/// Whether the magnitude, rounded with an unbounded exponent, is below the smallest normalized value. If the kept
+/// digits are all ones just below it, and more than half a quantum was cut off, one more digit has to be looked at.
+#[inline(always)]
+fn rounds_below_normal(shape: Shape, given: Given, kept: Kept, mode: Round, negative: bool) -> bool
+    requires within { IsWithin unit_bound given.unit }
+    requires fine { IsFineEnough shape.precision given.significand (given.unit +ℤ pos 1)
+        given.loss }
+    ensures { (amount parts : ℕ) → 0 < parts → IsGiven given amount parts
+        → IsCut shape.precision kept amount parts
+        → rounds_below_normal shape.precision mode negative amount parts ≡ result }
+{
+    let last = shape.integer_bit() - 1;
+    if kept.significand != last {
+        return kept.significand < last;
+    }
+    match kept.loss {
+        Loss::MoreThanHalf => {
+            if given.unit >= 0 {
+                return true;
+            }
+            !moves_up(mode, negative, loss_below_half(given), true)
+        }
+        _ => true,
+    }
+}
+
+/// Whether an inexact result counts as tiny: by its significand before or after rounding, or rounded with an unbounded
+/// exponent.
+#[inline(always)]
+fn is_tiny(shape: Shape, given: Given, kept: Kept, after: u128, mode: Round, negative: bool) -> bool
+    requires within { IsWithin unit_bound given.unit }
+    requires fine { IsFineFor (format_at shape) given.significand given.unit given.loss }
+    ensures { (amount parts place : ℕ) → 0 < parts → IsGiven given amount parts
+        → IsCut shape.precision kept amount parts
+        → (place ≡ 0) ⊎ (2 ^ (shape.precision - 1) ≤ after)
+        → is_tiny (format_at shape) mode negative amount parts (after * 2 ^ place) ≡ result }
 {
     if shape.tiny_before_rounding {
-        before < shape.integer_bit()
-    } else {
-        after < shape.integer_bit()
+        return kept.significand < shape.integer_bit();
     }
+    if shape.ieee_flags {
+        return rounds_below_normal(shape, given, kept, mode, negative);
+    }
+    after < shape.integer_bit()
 }
 
 /// The result of a rounding past the largest value.
@@ -221,15 +276,20 @@ fn overflowed(shape: Shape, mode: Round, negative: bool) -> StatusAnd<Unpacked>
     ensures answer { GivesAt shape (IsAnswer (if leads_out mode negative
         then past_largest shape.nonfinite (nan_base (format_at shape)) negative
         else finite negative (largest (format_at shape)))
-        (if leads_out mode negative then overflow_bit + inexact_bit else inexact_bit)) result }
+        (if raises_overflow (format_at shape) mode negative
+        then overflow_bit + inexact_bit else inexact_bit)) result }
 {
     if leads_past(mode, negative) {
-        Status::OVERFLOW
+        return Status::OVERFLOW
             .union(Status::INEXACT)
-            .and(infinity_of(shape, negative))
-    } else {
-        Status::INEXACT.and(largest_of(shape, negative))
+            .and(infinity_of(shape, negative));
     }
+    let status = if shape.ieee_flags {
+        Status::OVERFLOW.union(Status::INEXACT)
+    } else {
+        Status::INEXACT
+    };
+    status.and(largest_of(shape, negative))
 }
 
 /// The status of a rounding that stays within the format.
@@ -253,12 +313,21 @@ fn status_within(loss: Loss, tiny: bool) -> Status
 
 /// Rounds kept digits to a value of the format.
 #[inline(always)]
-fn finish(shape: Shape, kept: Kept, mode: Round, negative: bool) -> StatusAnd<Unpacked>
+fn finish(
+    shape: Shape,
+    given: Given,
+    kept: Kept,
+    mode: Round,
+    negative: bool,
+) -> StatusAnd<Unpacked>
+    requires within { IsWithin unit_bound given.unit }
+    requires fine { IsFineFor (format_at shape) given.significand given.unit given.loss }
     requires fits { kept.significand < 2 ^ shape.precision }
     requires full { (kept.place ≡ 0) ⊎ (2 ^ (shape.precision - 1) ≤ kept.significand) }
     requires near { kept.place < place_bound }
     ensures stored { IsStored shape result.value }
-    ensures delivered { (amount parts : ℕ) → 0 < parts → IsCut shape.precision kept amount parts
+    ensures delivered { (amount parts : ℕ) → 0 < parts → IsGiven given amount parts
+        → IsCut shape.precision kept amount parts
         → GivesAt shape (IsDelivered (format_at shape) mode negative amount parts) result }
 {
     let point = pick(shape.precision, kept, mode, negative);
@@ -266,7 +335,7 @@ fn finish(shape: Shape, kept: Kept, mode: Round, negative: bool) -> StatusAnd<Un
     if is_past(shape.precision, point, greatest, shape.span()) {
         return overflowed(shape, mode, negative);
     }
-    let tiny = is_tiny(shape, kept.significand, point.significand);
+    let tiny = is_tiny(shape, given, kept, point.significand, mode, negative);
     let status = status_within(kept.loss, tiny);
     status.and(from_rounded_quanta(shape, negative, point.significand, point.place))
 }
@@ -284,7 +353,8 @@ fn unit_place(shape: Shape, exponent: ExpInt) -> ExpInt
 /// Delivers `significand * 2^exponent`, with `loss` below its last digit, rounded once.
 ///
 /// If something was lost below, the unit must be fine enough to divide the spacing of the format there: it is at most
-/// the quantum, or the significand has all digits of the format.
+/// the quantum, or the significand has all digits of the format. Where tininess is judged with an unbounded exponent,
+/// it is at most half a quantum in place of the quantum.
 #[inline(always)]
 pub fn deliver(
     shape: Shape,
@@ -295,7 +365,7 @@ pub fn deliver(
     negative: bool,
 ) -> StatusAnd<Unpacked>
     requires within { IsWithin exponent_bound exponent }
-    requires fine { IsFineEnough shape.precision significand
+    requires fine { IsFineFor (format_at shape) significand
         (exponent +ℤ pos (format_at shape).scale) loss }
     ensures stored { IsStored shape result.value }
     ensures delivered { let unit = exponent +ℤ pos (format_at shape).scale in (amount parts : ℕ)
@@ -304,5 +374,10 @@ pub fn deliver(
 {
     let unit = unit_place(shape, exponent);
     let kept = keep(shape.precision, significand, unit, loss);
-    finish(shape, kept, mode, negative)
+    let given = Given {
+        significand,
+        unit,
+        loss,
+    };
+    finish(shape, given, kept, mode, negative)
 }

@@ -23,6 +23,8 @@ pub struct Shape {
     pub explicit_integer_bit: bool,
     /// Whether tininess is detected before rounding.
     pub tiny_before_rounding: bool,
+    /// Whether flags are raised as IEEE 754-2008 7.4 and 7.5 say.
+    pub ieee_flags: bool,
     pub ghost parameters: { AreParameters precision min_exp max_exp },
 }
 
@@ -44,6 +46,7 @@ impl Shape {
             nonfinite: self.nonfinite,
             explicit_integer_bit: self.explicit_integer_bit,
             tiny_before_rounding: self.tiny_before_rounding,
+            ieee_flags: self.ieee_flags,
         }
     }
 

@@ -161,7 +161,7 @@ fn tells_what_is_malformed(rt: HostRuntime) {
         ("half int even 464\t5f40", "no reply: `5f40`"),
         ("half int even 464\t5F40 OK", "no reply: `5F40 OK`"),
         ("half int even 464\t5f40 FINE", "no reply: `5f40 FINE`"),
-        ("sqrt\thalf\teven\t3c00\t3c00\tOK\t-", "no call: `sqrt`"),
+        ("cbrt\thalf\teven\t3c00\t3c00\tOK\t-", "no call: `cbrt`"),
         ("abs\tthird\t-\t3c00\t3c00\t-\t-", "no format: `third`"),
         (
             "convert\thalf>third\t-\t3c00\t3c00\tOK\t-",

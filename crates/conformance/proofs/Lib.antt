@@ -3,3 +3,5 @@ pub mod Multiples
 pub mod PlainAnswers
 pub mod Summands
 pub mod Readings
+pub mod Nearby
+pub mod TwoModes

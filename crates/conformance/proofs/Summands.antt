@@ -1,15 +1,19 @@
 -- Sums of doubles as pairs, by the laws of sums of pairs.
-use Rattle.std.proofs.Common.{◌≡◌, ℕ, ◌+◌, ◌*◌, ◌≤◌, refl, sym, ◌∙◌, subst, arith}
+use Rattle.std.proofs.Common.{◌≡◌, ℕ, ◌+◌, ◌*◌, ◌^◌, ◌<◌, ◌≤◌, refl, sym, ◌∙◌, subst, arith}
 use Rattle.std.specs.Prelude.{ℤ, ◌+ℤ◌}
 use Rattle.std.proofs.Math.IntN.{+ℤ_idr}
+use Rattle.std.proofs.Math.Nat.{mod-eq_of_lt, div-eq_of_lt}
 use Rattle.std.proofs.Math.Path.{subst₂}
 use Rattle.rustc_apfloat.specs.Datum.{Datum}
 use Rattle.rustc_apfloat.specs.Classes.{quanta_of}
 use Rattle.rustc_apfloat.specs.Exact.{magnitude}
+use Rattle.rustc_apfloat.specs.Formats.{double_constants}
+use Rattle.rustc_apfloat.specs.Layout.{datum_of}
+use Rattle.rustc_apfloat.specs.Lawful.{layout_with}
 use Rattle.rustc_apfloat.specs.Members.{IsMember}
 use Rattle.rustc_apfloat.specs.Order.{number}
 use Rattle.rustc_apfloat.specs.PairFormats.{double}
-use Rattle.rustc_apfloat.specs.Pairs.{Pair, alone, pair_number}
+use Rattle.rustc_apfloat.specs.Pairs.{Pair, alone, pair_of, pair_number}
 use Rattle.rustc_apfloat.specs.PairAccuracy.{sum_reach, IsSingle, IsExactPair, IsClosePair, IsErrorFreeSum, IsAccurateSum}
 use Rattle.apfloat_pair_theory.proofs.numbers.Signed.{magnitude_le, first_most}
 use Rattle.apfloat_pair_theory.proofs.numbers.SignedProducts.{times_one}
@@ -20,6 +24,11 @@ use Rattle.conformance.specs.Summands.{reach_of_three, IsSummand}
 -- the number of a pair that is a double and +0
 alone_number : (x : Datum) → pair_number (alone x) ≡ number x
 alone_number x = +ℤ_idr (number x)
+
+-- the bits of a double are those of a pair with low part +0
+pub alone_of_bits : (x : Datum) (bits : ℕ) → bits < 2 ^ 64 → datum_of double (layout_with double_constants) bits ≡ x
+    → pair_of bits ≡ alone x
+alone_of_bits x bits h e = rw (mod-eq_of_lt h, div-eq_of_lt h, e) refl
 
 -- a summand with low part +0 is a single double
 single : (reach : ℕ) (x : Datum) → IsSummand reach x → IsSingle (alone x)

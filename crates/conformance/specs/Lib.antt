@@ -3,3 +3,4 @@ pub mod LawPremises
 pub mod Plain
 pub mod Statuses
 pub mod Summands
+pub mod TwoReadings

@@ -2,6 +2,8 @@
 use Rattle.std.specs.Prelude.{◌≡◌, ℕ, ◌-◌, ◌*◌, ◌^◌, ◌<◌, ◌≤◌, ◌⊎◌, Bool, ltb, if◌then◌else◌}
 use Rattle.apfloat_base.specs.declared.kinds.NonfiniteBehavior.{NonfiniteBehavior}
 use Rattle.rustc_apfloat.specs.Format.{Format, smallest_normalized, largest, nan_base_of}
+use Rattle.apfloat_base.specs.declared.kinds.Round.{Round}
+use Rattle.rustc_apfloat.specs.Rounding.{rounds_below_normal}
 use Rattle.rustc_apfloat.specs.Datum.{Datum, finite, infinite, nan}
 use Rattle.conformance.specs.declared.plain.Answer.{Answer}
 use Rattle.conformance.specs.declared.plain.Answer.TheVariants.{Finite, Infinite, NotANumber}
@@ -30,10 +32,13 @@ pub record HasBounds (f : Format) (b : Bounds) : Type 0 where
   pub smallest_normalized : smallest_normalized f ≡ b.smallest_normalized
   pub nonfinite : f.nonfinite ≡ b.nonfinite
   pub tiny_before_rounding : f.tiny_before_rounding ≡ b.tiny_before_rounding
+  pub ieee_flags : f.ieee_flags ≡ b.ieee_flags
 
-abbrev pub tiny_of : Bounds → ℕ → ℕ → ℕ → Bool
-tiny_of b amount parts pick =
-    if b.tiny_before_rounding then ltb amount (b.smallest_normalized * parts) else ltb pick b.smallest_normalized
+abbrev pub tiny_of : Bounds → Round → Bool → ℕ → ℕ → ℕ → Bool
+tiny_of b mode negative amount parts pick =
+    if b.tiny_before_rounding then ltb amount (b.smallest_normalized * parts)
+    else (if b.ieee_flags then rounds_below_normal b.precision mode negative amount parts
+    else ltb pick b.smallest_normalized)
 
 -- the datum of an answer, in a format of this kind and precision
 abbrev pub datum_of : NonfiniteBehavior → ℕ → Answer → Datum

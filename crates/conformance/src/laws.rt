@@ -9,14 +9,14 @@ ghost use Rattle.rustc_apfloat.specs.Negation.{negated};
 ghost use Rattle.rustc_apfloat.specs.Products.{product_limit};
 ghost use Rattle.rustc_apfloat.specs.Order.{number, AtMost};
 ghost use Rattle.rustc_apfloat.specs.Rounding.{ok_bits};
-ghost use Rattle.rustc_apfloat.specs.Types.{format_of};
+ghost use Rattle.rustc_apfloat.specs.FlaggedTypes.{format_of};
 ghost use Rattle.conformance.specs.LawPremises.{AreNear, IsInBoth};
 
-use rustc_apfloat::ieee::{IeeeFloat, Semantics};
+use rustc_apfloat::ieee::{Flagged, IeeeFloat};
 use rustc_apfloat::{Float, FloatConvert, Round, StatusAnd};
 
 /// The difference of two values. For two positive numbers, neither more than twice the other, it is exact in each mode.
-pub fn near_difference<S: Semantics>(
+pub fn near_difference<S: Flagged>(
     x: IeeeFloat<S>,
     y: IeeeFloat<S>,
     mode: Round,
@@ -28,7 +28,7 @@ pub fn near_difference<S: Semantics>(
 }
 
 /// `x + z` and `y + z`: for numbers in order, in a format with infinities, the sums are in order too.
-pub fn sums_in_order<S: Semantics>(
+pub fn sums_in_order<S: Flagged>(
     x: IeeeFloat<S>,
     y: IeeeFloat<S>,
     z: IeeeFloat<S>,
@@ -42,7 +42,7 @@ pub fn sums_in_order<S: Semantics>(
 
 /// A product, and the product of the negated left factor in the opposite mode, which is the negated product with the
 /// same flags.
-pub fn opposite_products<S: Semantics>(
+pub fn opposite_products<S: Flagged>(
     x: IeeeFloat<S>,
     y: IeeeFloat<S>,
     mode: Round,
@@ -58,12 +58,9 @@ pub fn opposite_products<S: Semantics>(
 
 /// The value converted to the format `T` and back, and whether either conversion lost information. A number of both
 /// formats is unchanged.
-pub fn there_and_back<S: Semantics, T: Semantics>(
-    x: IeeeFloat<S>,
-    mode: Round,
-) -> (IeeeFloat<S>, bool)
-    ensures value { IsInBoth (format_of S.Semantics) (format_of T.Semantics) x → result.0 ≡ x }
-    ensures loss { IsInBoth (format_of S.Semantics) (format_of T.Semantics) x → result.1 ≡ false }
+pub fn there_and_back<S: Flagged, T: Flagged>(x: IeeeFloat<S>, mode: Round) -> (IeeeFloat<S>, bool)
+    ensures value { IsInBoth (format_of S.Flagged) (format_of T.Flagged) x → result.0 ≡ x }
+    ensures loss { IsInBoth (format_of S.Flagged) (format_of T.Flagged) x → result.1 ≡ false }
 {
     // `category` ensures that a value is one of its format.
     let _ = x.category();
@@ -75,14 +72,14 @@ pub fn there_and_back<S: Semantics, T: Semantics>(
 }
 
 /// The next value up, and then the next down: in a format with infinities, a nonzero number is unchanged.
-pub fn up_and_down<S: Semantics>(x: IeeeFloat<S>) -> IeeeFloat<S>
+pub fn up_and_down<S: Flagged>(x: IeeeFloat<S>) -> IeeeFloat<S>
     ensures { S.NONFINITE_BEHAVIOR ≡ IEEE754 → is_finite_non_zero x ≡ true → result ≡ x }
 {
     x.next_up().value.next_down().value
 }
 
 /// A value written as bits and read back.
-pub fn through_bits<S: Semantics>(x: IeeeFloat<S>) -> IeeeFloat<S>
+pub fn through_bits<S: Flagged>(x: IeeeFloat<S>) -> IeeeFloat<S>
     requires { S.PRECISION < S.BITS }
     ensures { result ≡ x }
 {
@@ -90,7 +87,7 @@ pub fn through_bits<S: Semantics>(x: IeeeFloat<S>) -> IeeeFloat<S>
 }
 
 /// A bit pattern read as a value and written back. With an implied integer bit, it is unchanged.
-pub fn through_value<S: Semantics>(bits: u128) -> u128
+pub fn through_value<S: Flagged>(bits: u128) -> u128
     requires { S.PRECISION < S.BITS }
     ensures { S.EXPLICIT_INTEGER_BIT ≡ false → bits < 2 ^ S.BITS → result ≡ bits }
 {

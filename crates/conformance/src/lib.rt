@@ -9,4 +9,6 @@ pub mod pair_statuses;
 pub mod pairs;
 pub mod plain;
 pub mod statuses;
+pub mod two_modes;
+pub mod wide;
 pub mod widest;

@@ -1,7 +1,13 @@
 //! OVERFLOW and UNDERFLOW are raised only together with INEXACT by the calls of pairs of doubles too, as in `statuses`.
 
-ghost use Rattle.std.specs.Prelude.{◌≤◌};
-ghost use Rattle.rustc_apfloat.specs.Flags.{bits_of};
+ghost use Rattle.std.specs.Prelude.{◌≤◌, Bool};
+ghost use Rattle.rustc_apfloat.specs.Flags.{Gives, bits_of};
+ghost use Rattle.rustc_apfloat.specs.PairCalls.{IsPairFromSigned, IsPairFromUnsigned, IsPairNearestRemainder};
+ghost use Rattle.rustc_apfloat.specs.PairCalls.{IsPairNextDown, IsPairNextUp, IsPairQuotient, IsPairRead};
+ghost use Rattle.rustc_apfloat.specs.PairCalls.{IsPairRoundToIntegral, IsPairToSigned, IsPairToUnsigned};
+ghost use Rattle.rustc_apfloat.specs.PairCalls.{IsPairTruncatedRemainder};
+ghost use Rattle.rustc_apfloat.specs.PairProducts.{IsPairProduct};
+ghost use Rattle.rustc_apfloat.specs.PairSums.{IsPairDifference, IsPairSum};
 ghost use Rattle.rustc_apfloat.specs.RaisedFlags.{FlagsGoTogether};
 ghost use Rattle.conformance.specs.Statuses.{HasFlagsTogether};
 
@@ -18,6 +24,9 @@ pub fn chains(
     StatusAnd<DoubleDouble>,
     StatusAnd<DoubleDouble>,
 )
+    ensures adds { Gives (IsPairSum mode x y) result.0 }
+    ensures subtracts { Gives (IsPairDifference mode x y) result.1 }
+    ensures multiplies { Gives (IsPairProduct mode x y) result.2 }
     ensures sum { FlagsGoTogether (bits_of result.0.status) }
     ensures difference { FlagsGoTogether (bits_of result.1.status) }
     ensures product { FlagsGoTogether (bits_of result.2.status) }
@@ -35,6 +44,9 @@ pub fn quotient_and_remainders(
     StatusAnd<DoubleDouble>,
     StatusAnd<DoubleDouble>,
 )
+    ensures divides { Gives (IsPairQuotient mode x y) result.0 }
+    ensures leaves { Gives (IsPairTruncatedRemainder x y) result.1 }
+    ensures leaves_nearest { Gives (IsPairNearestRemainder x y) result.2 }
     ensures quotient { FlagsGoTogether (bits_of result.0.status) }
     ensures truncated { FlagsGoTogether (bits_of result.1.status) }
     ensures nearest { FlagsGoTogether (bits_of result.2.status) }
@@ -51,6 +63,9 @@ pub fn neighbours_and_integral(
     StatusAnd<DoubleDouble>,
     StatusAnd<DoubleDouble>,
 )
+    ensures steps_up { Gives (IsPairNextUp x) result.0 }
+    ensures steps_down { Gives (IsPairNextDown x) result.1 }
+    ensures rounds { Gives (IsPairRoundToIntegral mode x) result.2 }
     ensures up { FlagsGoTogether (bits_of result.0.status) }
     ensures down { FlagsGoTogether (bits_of result.1.status) }
     ensures integral { FlagsGoTogether (bits_of result.2.status) }
@@ -64,6 +79,8 @@ pub fn of_integers(
     signed: i128,
     mode: Round,
 ) -> (StatusAnd<DoubleDouble>, StatusAnd<DoubleDouble>)
+    ensures converts_unsigned { Gives (IsPairFromUnsigned mode unsigned) result.0 }
+    ensures converts_signed { Gives (IsPairFromSigned mode signed) result.1 }
     ensures unsigned { FlagsGoTogether (bits_of result.0.status) }
     ensures signed { FlagsGoTogether (bits_of result.1.status) }
 {
@@ -77,6 +94,10 @@ pub fn of_integers(
 pub fn to_integers(x: DoubleDouble, width: usize, mode: Round) -> (StatusAnd<u128>, StatusAnd<i128>)
     requires low { 2 ≤ width }
     requires high { width ≤ 128 }
+    ensures converts_unsigned { (exact : Bool) × IsPairToUnsigned mode width x
+        result.0.value (bits_of result.0.status) exact }
+    ensures converts_signed { (exact : Bool) × IsPairToSigned mode width x
+        result.1.value (bits_of result.1.status) exact }
     ensures unsigned { FlagsGoTogether (bits_of result.0.status) }
     ensures signed { FlagsGoTogether (bits_of result.1.status) }
 {
@@ -87,7 +108,8 @@ pub fn to_integers(x: DoubleDouble, width: usize, mode: Round) -> (StatusAnd<u12
 
 /// The pair of a text, or a refusal.
 pub fn reading(text: &str, mode: Round) -> Result<StatusAnd<DoubleDouble>, ParseError>
-    ensures { HasFlagsTogether result }
+    ensures reads { IsPairRead mode text.now result }
+    ensures flags { HasFlagsTogether result }
 {
     DoubleDouble::from_str_r(text, mode)
 }

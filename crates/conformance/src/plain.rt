@@ -8,7 +8,7 @@ ghost use Rattle.std.specs.Prelude.{◌≡◌, ◌+◌, ◌*◌, ◌/◌, ◌^�
 ghost use Rattle.rustc_apfloat.specs.Flags.{bits_of};
 ghost use Rattle.rustc_apfloat.specs.Format.{Format, nan_base_of};
 ghost use Rattle.rustc_apfloat.specs.Grid.{IsBelow, IsAbove};
-ghost use Rattle.rustc_apfloat.specs.Rounding.{takes_above, IsPick, IsDelivered, leads_out, past_largest, signed_quanta, ok_bits, underflow_bit, inexact_bit};
+ghost use Rattle.rustc_apfloat.specs.Rounding.{takes_above, IsPick, IsDelivered, leads_out, past_largest, signed_quanta, rounds_below_normal, ok_bits, underflow_bit, inexact_bit};
 ghost use Rattle.rustc_apfloat.specs.WholeNumbers.{whole_pick};
 ghost use Rattle.conformance.specs.Plain.{IsSmall, IsSpacing, HasBounds, tiny_of, datum_of};
 
@@ -109,6 +109,8 @@ pub struct Bounds {
     pub smallest_normalized: u128,
     /// Whether tininess is detected before rounding.
     pub tiny_before_rounding: bool,
+    /// Whether flags are raised as IEEE 754-2008 7.4 and 7.5 say.
+    pub ieee_flags: bool,
     /// Which non-finite values the format has.
     pub nonfinite: NonfiniteBehavior,
 }
@@ -161,32 +163,67 @@ fn leads_out(mode: Round, negative: bool) -> bool
     }
 }
 
-/// Whether an inexact result is tiny, by the exact magnitude or by the picked one, as the format says.
-fn is_tiny(bounds: Bounds, amount: u128, parts: u128, picked: u128) -> bool
+/// Whether the magnitude, rounded with an unbounded exponent, is below the smallest normalized value: if the pick of
+/// twice the magnitude is below twice that value.
+fn rounds_below_normal(
+    precision: u32,
+    mode: Round,
+    negative: bool,
+    amount: u128,
+    parts: u128,
+) -> bool
+    requires { IsSmall precision amount parts }
+    ensures { result ≡ rounds_below_normal precision mode negative amount parts }
+{
+    let least = 2u128.pow(precision);
+    if 2 * amount >= least * parts {
+        return false;
+    }
+    pick(precision, mode, negative, 2 * amount, parts) < least
+}
+
+/// Whether an inexact result is tiny, by the exact magnitude or by the rounded one, as the format says.
+fn is_tiny(
+    bounds: Bounds,
+    mode: Round,
+    negative: bool,
+    amount: u128,
+    parts: u128,
+    picked: u128,
+) -> bool
+    requires small { IsSmall bounds.precision amount parts }
     requires normalized { bounds.smallest_normalized < 2 ^ 60 }
-    requires parts { parts < 2 ^ 64 }
-    ensures { result ≡ tiny_of bounds amount parts picked }
+    ensures { result ≡ tiny_of bounds mode negative amount parts picked }
 {
     if bounds.tiny_before_rounding {
-        amount < bounds.smallest_normalized * parts
-    } else {
-        picked < bounds.smallest_normalized
+        return amount < bounds.smallest_normalized * parts;
     }
+    if bounds.ieee_flags {
+        return rounds_below_normal(bounds.precision, mode, negative, amount, parts);
+    }
+    picked < bounds.smallest_normalized
 }
 
 /// The status of a rounding that stays within the format.
-fn status_within(bounds: Bounds, amount: u128, parts: u128, picked: u128) -> Status
+fn status_within(
+    bounds: Bounds,
+    mode: Round,
+    negative: bool,
+    amount: u128,
+    parts: u128,
+    picked: u128,
+) -> Status
+    requires small { IsSmall bounds.precision amount parts }
     requires normalized { bounds.smallest_normalized < 2 ^ 60 }
-    requires parts { parts < 2 ^ 64 }
     requires picked { picked * parts < 2 ^ 128 }
     ensures exact { picked * parts ≡ amount → bits_of result ≡ ok_bits }
     ensures inexact { (picked * parts ≡ amount → ⊥)
-        → bits_of result ≡ (if tiny_of bounds amount parts picked
+        → bits_of result ≡ (if tiny_of bounds mode negative amount parts picked
         then underflow_bit + inexact_bit else inexact_bit) }
 {
     if picked * parts == amount {
         Status::OK
-    } else if is_tiny(bounds, amount, parts, picked) {
+    } else if is_tiny(bounds, mode, negative, amount, parts, picked) {
         Status::UNDERFLOW.union(Status::INEXACT)
     } else {
         Status::INEXACT
@@ -209,17 +246,19 @@ pub fn deliver(
 {
     let quanta = pick(bounds.precision, mode, negative, amount, parts);
     if quanta <= bounds.largest {
-        return status_within(bounds, amount, parts, quanta).and(number_of(
-            bounds.nonfinite,
-            negative,
-            quanta,
-        ));
+        let status = status_within(bounds, mode, negative, amount, parts, quanta);
+        return status.and(number_of(bounds.nonfinite, negative, quanta));
     }
     if leads_out(mode, negative) {
         return Status::OVERFLOW
             .union(Status::INEXACT)
             .and(past_largest(bounds.nonfinite, negative));
     }
+    let status = if bounds.ieee_flags {
+        Status::OVERFLOW.union(Status::INEXACT)
+    } else {
+        Status::INEXACT
+    };
     let quanta = bounds.largest;
-    Status::INEXACT.and(Answer::Finite { negative, quanta })
+    status.and(Answer::Finite { negative, quanta })
 }

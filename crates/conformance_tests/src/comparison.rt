@@ -1,14 +1,14 @@
 //! The library's roundings compared with the plain program's.
 
 ghost use Rattle.std.specs.Prelude.{◌*◌, ◌^◌, ◌<◌, ◌≤◌, pos, negsuc, ◌≤ℤ◌};
-ghost use Rattle.rustc_apfloat.specs.Types.{format_of};
+ghost use Rattle.rustc_apfloat.specs.FlaggedTypes.{format_of};
 ghost use Rattle.conformance.specs.Plain.{HasBounds};
 
 use crate::small::magnitude_bits;
 use crate::tables::MODES;
 use conformance::plain::{Answer, Bounds, deliver};
 use custom_formats::{HalfTinyBeforeS, SevenS};
-use rustc_apfloat::ieee::{Half, HalfS, Loss, NonfiniteBehavior, Semantics};
+use rustc_apfloat::ieee::{Flagged, Half, HalfS, IeeeFlags, Loss, NonfiniteBehavior, TinyBefore};
 use rustc_apfloat::{ExpInt, Float, Round, ieee};
 use std::process::Abort;
 
@@ -29,6 +29,7 @@ const HALF: Subject = Subject {
         largest: 65504 << 24,
         smallest_normalized: 1 << 10,
         tiny_before_rounding: false,
+        ieee_flags: false,
         nonfinite: NonfiniteBehavior::IEEE754,
     },
     exponent: -27,
@@ -42,6 +43,35 @@ const HALF_TINY_BEFORE: Subject = Subject {
         largest: 65504 << 24,
         smallest_normalized: 1 << 10,
         tiny_before_rounding: true,
+        ieee_flags: false,
+        nonfinite: NonfiniteBehavior::IEEE754,
+    },
+    exponent: -27,
+    minus: 0x8000,
+    infinity: 0x7c00,
+};
+
+const HALF_IEEE: Subject = Subject {
+    bounds: Bounds {
+        precision: 11,
+        largest: 65504 << 24,
+        smallest_normalized: 1 << 10,
+        tiny_before_rounding: false,
+        ieee_flags: true,
+        nonfinite: NonfiniteBehavior::IEEE754,
+    },
+    exponent: -27,
+    minus: 0x8000,
+    infinity: 0x7c00,
+};
+
+const HALF_IEEE_TINY_BEFORE: Subject = Subject {
+    bounds: Bounds {
+        precision: 11,
+        largest: 65504 << 24,
+        smallest_normalized: 1 << 10,
+        tiny_before_rounding: true,
+        ieee_flags: true,
         nonfinite: NonfiniteBehavior::IEEE754,
     },
     exponent: -27,
@@ -56,6 +86,7 @@ const SEVEN: Subject = Subject {
         largest: 30 << 4,
         smallest_normalized: 1 << 3,
         tiny_before_rounding: false,
+        ieee_flags: false,
         nonfinite: NonfiniteBehavior::IEEE754,
     },
     exponent: -7,
@@ -81,9 +112,9 @@ fn sign_bit(subject: Subject, negative: bool) -> u128 {
 
 /// Compares the results of the library and of the plain program for `eighths / 8` quanta, in each mode and with each
 /// sign.
-fn compare<S: Semantics>(rt: &impl Abort, subject: Subject, eighths: u128)
+fn compare<S: Flagged>(rt: &impl Abort, subject: Subject, eighths: u128)
     requires written { S.PRECISION < S.BITS }
-    requires bounds { HasBounds (format_of S.Semantics) subject.bounds }
+    requires bounds { HasBounds (format_of S.Flagged) subject.bounds }
     requires some_digits { 3 ≤ subject.bounds.precision }
     requires few_digits { subject.bounds.precision ≤ 60 }
     requires some_normalized { 0 < subject.bounds.smallest_normalized }
@@ -92,11 +123,28 @@ fn compare<S: Semantics>(rt: &impl Abort, subject: Subject, eighths: u128)
     requires near { subject.exponent ≤ℤ pos 0 }
     requires eighths { eighths < 2 ^ 60 }
 {
+    compare_parts::<S>(rt, subject, eighths, 8);
+}
+
+/// The same for `amount / parts` quanta; the exponent of the subject is that of a part.
+fn compare_parts<S: Flagged>(rt: &impl Abort, subject: Subject, amount: u128, parts: u128)
+    requires written { S.PRECISION < S.BITS }
+    requires bounds { HasBounds (format_of S.Flagged) subject.bounds }
+    requires some_digits { 3 ≤ subject.bounds.precision }
+    requires few_digits { subject.bounds.precision ≤ 60 }
+    requires some_normalized { 0 < subject.bounds.smallest_normalized }
+    requires few_normalized { subject.bounds.smallest_normalized < 2 ^ 60 }
+    requires far { negsuc 99 ≤ℤ subject.exponent }
+    requires near { subject.exponent ≤ℤ pos 0 }
+    requires amount { amount < 2 ^ 60 }
+    requires some_parts { 0 < parts }
+    requires few_parts { parts ≤ 16 }
+{
     for mode in MODES {
         for negative in [false, true] {
-            let plain = deliver(subject.bounds, mode, negative, eighths, 8);
+            let plain = deliver(subject.bounds, mode, negative, amount, parts);
             let answer = ieee::deliver::<S>(
-                eighths,
+                amount,
                 subject.exponent,
                 Loss::ExactlyZero,
                 mode,
@@ -105,12 +153,12 @@ fn compare<S: Semantics>(rt: &impl Abort, subject: Subject, eighths: u128)
             assert_eq!(rt;
                 answer.value.to_bits(),
                 bits_of(subject, plain.value),
-                "{eighths} {mode:?} {negative}"
+                "{amount} {parts} {mode:?} {negative}"
             );
             assert_eq!(rt;
                 answer.status,
                 plain.status,
-                "{eighths} {mode:?} {negative}"
+                "{amount} {parts} {mode:?} {negative}"
             );
         }
     }
@@ -161,6 +209,35 @@ fn threshold_of_overflow(rt: HostRuntime) {
 fn denormals_where_tininess_comes_before_rounding(rt: HostRuntime) {
     for eighths in 0..0x2800u64 {
         compare::<HalfTinyBeforeS>(&rt, HALF_TINY_BEFORE, u128::from(eighths));
+    }
+}
+
+#[test]
+fn denormals_with_the_flags_of_the_standard(rt: HostRuntime) {
+    for eighths in 0..0x2800u64 {
+        compare::<IeeeFlags<HalfS>>(&rt, HALF_IEEE, u128::from(eighths));
+    }
+}
+
+#[test]
+fn denormals_with_the_flags_of_the_standard_before_rounding(rt: HostRuntime) {
+    for eighths in 0..0x2800u64 {
+        compare::<IeeeFlags<TinyBefore<HalfS>>>(&rt, HALF_IEEE_TINY_BEFORE, u128::from(eighths));
+    }
+}
+
+/// Sixteenths of a quantum around the smallest normalized value, and the largest value in each mode.
+#[test]
+fn flags_of_the_standard_at_the_ends(rt: HostRuntime) {
+    let sixteenths = Subject {
+        exponent: -28,
+        ..HALF_IEEE
+    };
+    for parts in 0x3f80..0x4080u64 {
+        compare_parts::<IeeeFlags<HalfS>>(&rt, sixteenths, u128::from(parts), 16);
+    }
+    for number in 65400..66000u64 {
+        compare::<IeeeFlags<HalfS>>(&rt, HALF_IEEE, u128::from(number) << 27);
     }
 }
 

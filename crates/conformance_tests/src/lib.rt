@@ -38,6 +38,8 @@ mod small;
 #[cfg(test)]
 mod tables;
 #[cfg(test)]
+mod wide;
+#[cfg(test)]
 mod wider;
 #[cfg(test)]
 mod widest;

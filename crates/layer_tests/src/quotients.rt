@@ -1,8 +1,10 @@
-//! Quotients of significands: 32 digits at a time, and one at a time.
+//! Quotients and rests of significands: by many digits at a time, and one digit at a time.
 
 ghost use Rattle.std.specs.Prelude.{◌*◌, ◌^◌, ◌<◌, ◌≤◌};
 
-use apfloat_base::sig::{divide, divide_by_words};
+use apfloat_base::sig::{
+    divide, divide_by_words, divide_short, divide_short_by_words, moved_rest, short_moved_rest,
+};
 
 /// Whether the division by words returns what the division by single digits does.
 fn agree(dividend: u128, divisor: u128, places: u32) -> bool
@@ -27,5 +29,144 @@ fn words_and_single_digits_agree(rt: HostRuntime) {
         assert!(rt; agree((1 << 125) - 1, (1 << 124) + 1, places));
         let dividend = 0x1234_5678_9abc_def0_0fed_cba9_8765;
         assert!(rt; agree(dividend, 0x1f0f_0000_ffff_0000_0000_1234_0001, places));
+    }
+}
+
+/// Whether the division of short significands by words returns what the division by single digits does.
+fn short_agree(dividend: u64, divisor: u64, places: u32) -> bool
+    requires some { 0 < divisor }
+    requires narrow { divisor < 2 ^ 62 }
+    requires close { dividend < 2 * divisor }
+    requires short { places ≤ 62 }
+{
+    let words = divide_short_by_words(dividend, divisor, places);
+    let single = divide_short(dividend, divisor, places);
+    words.whole == single.whole && words.loss == single.loss
+}
+
+/// The rest after `places` doublings, one at a time, and whether the whole quotient is odd.
+fn doubled_rest(dividend: u128, divisor: u128, places: u32) -> (u128, bool)
+    requires some { 0 < divisor }
+{
+    let mut rest = dividend % divisor;
+    let mut odd = dividend >= divisor;
+    for _place in 0..places {
+        let twice = rest.wrapping_mul(2);
+        odd = twice >= divisor;
+        rest = twice % divisor;
+    }
+    (rest, odd)
+}
+
+/// Whether the rests found by many digits at a time are those found by doublings.
+fn rests_agree(dividend: u128, divisor: u128, places: u32) -> bool
+    requires some { 0 < divisor }
+    requires narrow { divisor < 2 ^ 125 }
+    requires close { dividend < 2 * divisor }
+{
+    let single = doubled_rest(dividend, divisor, places);
+    let long = moved_rest(dividend, divisor, places);
+    if long.rest != single.0 || long.odd != single.1 {
+        return false;
+    }
+    if divisor >= 1 << 62 {
+        return true;
+    }
+    let short = short_moved_rest(dividend as u64, divisor as u64, places);
+    short.rest == single.0 && short.odd == single.1
+}
+
+/// The next word of a generator (xorshift).
+fn next_word(word: u64) -> u64 {
+    let first = word ^ (word << 13);
+    let second = first ^ (first >> 7);
+    second ^ (second << 17)
+}
+
+/// A dividend below twice the divisor.
+fn close_to(divisor: u128, dividend: u128) -> u128
+    requires some { 0 < divisor }
+    requires narrow { divisor < 2 ^ 126 }
+    ensures close { result < 2 * divisor }
+{
+    if dividend < 2 * divisor {
+        dividend
+    } else {
+        divisor - 1
+    }
+}
+
+/// Whether all ways agree for a dividend and a divisor made of two words.
+fn words_agree(first: u64, second: u64, places: u32) -> bool {
+    let divisor = u128::from(first % (1 << 61)) + 1;
+    let dividend = close_to(divisor, u128::from(second % (1 << 62)));
+    let long_divisor = u128::from(first) * (1 << 60) + 1;
+    let long_dividend = close_to(
+        long_divisor,
+        u128::from(second) * (1 << 60) + u128::from(first),
+    );
+    rests_agree(dividend, divisor, places) && rests_agree(long_dividend, long_divisor, places)
+}
+
+/// Whether both ways agree for a short dividend and divisor made of two words.
+fn short_words_agree(first: u64, second: u64) -> bool {
+    let divisor = first % (1 << 61) + 1;
+    let dividend = second % (1 << 62);
+    if dividend < 2 * divisor {
+        short_agree(dividend, divisor, (first % 63) as u32)
+    } else {
+        short_agree(divisor - 1, divisor, (first % 63) as u32)
+    }
+}
+
+#[test]
+fn words_and_single_digits_agree_on_made_operands(rt: HostRuntime) {
+    let mut word: u64 = 88172645463325252;
+    for round in 0..1000u32 {
+        let first = next_word(word);
+        word = next_word(first);
+        assert!(rt; words_agree(first, word, round % 400));
+        assert!(rt; short_words_agree(first >> (round % 60), word >> (round % 60)));
+    }
+}
+
+#[test]
+fn short_words_and_single_digits_agree(rt: HostRuntime) {
+    for places in 0..63 {
+        assert!(rt; short_agree(1, 1, places));
+        assert!(rt; short_agree(5, 3, places));
+        assert!(rt; short_agree((1 << 53) - 1, 1 << 52, places));
+        assert!(rt; short_agree(1 << 52, (1 << 53) - 1, places));
+        assert!(rt; short_agree((1 << 62) - 2, (1 << 62) - 1, places));
+        assert!(rt; short_agree((1 << 62) - 1, (1 << 61) + 1, places));
+    }
+}
+
+/// Whether the rests after many places are those found by doublings.
+fn far_rests_agree(places: u32) -> bool {
+    rests_agree(5, 3, places)
+        && rests_agree((1 << 113) - 1, 1 << 112, places)
+        && rests_agree((1 << 125) - 2, (1 << 125) - 1, places)
+        && rests_agree((1 << 125) - 1, (1 << 124) + 1, places)
+}
+
+#[test]
+fn far_rests_and_doubled_rests_agree(rt: HostRuntime) {
+    assert!(rt; far_rests_agree(1500));
+    assert!(rt; far_rests_agree(1501));
+    assert!(rt; far_rests_agree(2048));
+    assert!(rt; far_rests_agree(5000));
+}
+
+#[test]
+fn rests_and_doubled_rests_agree(rt: HostRuntime) {
+    for places in 0..200 {
+        assert!(rt; rests_agree(1, 1, places));
+        assert!(rt; rests_agree(5, 3, places));
+        assert!(rt; rests_agree((1 << 53) - 1, 1 << 52, places));
+        assert!(rt; rests_agree((1 << 62) - 1, (1 << 61) + 1, places));
+        assert!(rt; rests_agree((1 << 113) - 1, 1 << 112, places));
+        assert!(rt; rests_agree((1 << 125) - 2, (1 << 125) - 1, places));
+        assert!(rt; rests_agree((1 << 125) - 1, (1 << 124) + 1, places));
     }
 }

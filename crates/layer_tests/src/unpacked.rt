@@ -16,6 +16,7 @@ pub const HALF: Shape = Shape {
     nonfinite: NonfiniteBehavior::IEEE754,
     explicit_integer_bit: false,
     tiny_before_rounding: false,
+    ieee_flags: false,
 };
 
 const HALF_WIDTHS: Widths = Widths {

@@ -15,13 +15,16 @@ pub use Rattle.apfloat_base.specs.rounding.Negation
 pub use Rattle.apfloat_base.specs.rounding.Flags
 pub use Rattle.apfloat_base.specs.rounding.RaisedFlags
 pub use Rattle.apfloat_base.specs.rounding.Standing
+pub use Rattle.apfloat_base.specs.rounding.RootStanding
 pub use Rattle.apfloat_base.specs.rounding.Enclosure
 pub use Rattle.apfloat_base.specs.rounding.Bounds
+pub use Rattle.apfloat_base.specs.rounding.TwoModes
 -- arithmetic
 pub use Rattle.apfloat_base.specs.arithmetic.Exact
 pub use Rattle.apfloat_base.specs.arithmetic.Sums
 pub use Rattle.apfloat_base.specs.arithmetic.Products
 pub use Rattle.apfloat_base.specs.arithmetic.Quotients
+pub use Rattle.apfloat_base.specs.arithmetic.Roots
 pub use Rattle.apfloat_base.specs.arithmetic.FusedSums
 pub use Rattle.apfloat_base.specs.arithmetic.Remainders
 pub use Rattle.apfloat_base.specs.arithmetic.Totals
@@ -52,6 +55,7 @@ pub use Rattle.apfloat_base.specs.texts.Parsing
 -- what a type has to provide, and its constants as a format
 pub use Rattle.apfloat_base.specs.Determined
 pub use Rattle.apfloat_ieee.specs.Types
+pub use Rattle.apfloat_ieee.specs.FlaggedTypes
 -- pairs of doubles
 pub use Rattle.apfloat_pair_theory.specs.PairFormats
 pub use Rattle.apfloat_pair_theory.specs.Pairs
@@ -60,5 +64,6 @@ pub use Rattle.apfloat_pair_theory.specs.PairSums
 pub use Rattle.apfloat_pair_theory.specs.PairProducts
 pub use Rattle.apfloat_pair_theory.specs.PairParts
 pub use Rattle.apfloat_pair_theory.specs.PairCalls
+pub use Rattle.apfloat_pair_theory.specs.PairRoots
 pub use Rattle.apfloat_pair_theory.specs.PairAnswers
 pub use Rattle.apfloat_pair_theory.specs.PairAccuracy

@@ -168,7 +168,7 @@ level_difference flipped n high low gap loss z e h =
     (exact_difference flipped n (high * 1) low 1 loss e (balances_one flipped n high low h))
 
 -- doubling the units and halving their size changes nothing
-doubled : (high gap : ℕ) → 0 < gap → high * 2 * 2 ^ (gap - 1) ≡ high * 2 ^ gap
+pub doubled : (high gap : ℕ) → 0 < gap → high * 2 * 2 ^ (gap - 1) ≡ high * 2 ^ gap
 doubled high gap p =
     let t : 2 * 2 ^ (gap - 1) ≡ 2 ^ gap = twice_half gap p in
     let k : high * (2 * 2 ^ (gap - 1)) ≡ high * 2 ^ gap = ap (λ (x : ℕ). high * x) t in

@@ -11,7 +11,7 @@ use Rattle.apfloat_base.specs.formats.Format.{Format, largest, greatest_signific
 use Rattle.apfloat_base.specs.formats.Datum.{Datum, finite}
 use Rattle.apfloat_base.specs.rounding.Standing.{StandsFor}
 use Rattle.apfloat_base.specs.rounding.Enclosure.{IsEnclosed, rounds_up}
-use Rattle.apfloat_base.specs.rounding.Rounding.{IsPick, IsDelivered, past_largest, signed_quanta, leads_out, is_tiny}
+use Rattle.apfloat_base.specs.rounding.Rounding.{IsPick, IsDelivered, past_largest, signed_quanta, leads_out, raises_overflow, rounds_below_normal, is_tiny}
 use Rattle.apfloat_base.proofs.rounding.Picks.{kept, pick_is, pick_unique}
 use Rattle.apfloat_base.proofs.rounding.Losses.{stands_past, stands_to}
 use Rattle.apfloat_base.proofs.general.Choices.{off_both}
@@ -32,7 +32,7 @@ signed_some kind negative p h = let e : eqb p 0 ≡ false = ne_eqb p 0 (λ z. om
 pub delivered_past : (format : Format) (mode : Round) (negative : Bool) (amount parts p : ℕ) (value : Datum)
     (status : ℕ) → IsPick format.precision mode negative amount parts p → ltb (largest format) p ≡ true
     → value ≡ cond (leads_out mode negative) (past_largest format.nonfinite (nan_base format) negative)
-    (finite negative (largest format)) → status ≡ cond (leads_out mode negative) 20 16
+    (finite negative (largest format)) → status ≡ cond (raises_overflow format mode negative) 20 16
     → IsDelivered format mode negative amount parts value status
 delivered_past format mode negative amount parts p v s i a e d =
     record { pick = p; is_pick = i; value_is = rw a e; status_is = rw a d }
@@ -51,7 +51,8 @@ delivered_exactly format mode negative amount parts p v s i a e w d =
 pub delivered_inexactly : (format : Format) (mode : Round) (negative : Bool) (amount parts p : ℕ) (value : Datum)
     (status : ℕ) → IsPick format.precision mode negative amount parts p → ltb (largest format) p ≡ false
     → (p * parts ≡ amount → ⊥)
-    → value ≡ signed_quanta format.nonfinite negative p → status ≡ cond (is_tiny format amount parts p) 24 16
+    → value ≡ signed_quanta format.nonfinite negative p
+    → status ≡ cond (is_tiny format mode negative amount parts p) 24 16
     → IsDelivered format mode negative amount parts value status
 delivered_inexactly format mode negative amount parts p v s i a n w d =
     let b : eqb (p * parts) amount ≡ false = ne_eqb (p * parts) amount n in
@@ -120,7 +121,7 @@ large_before precision half m c amount parts l i =
     omega arith
 
 -- so the kept significand decides whether the amount is tiny before rounding
-tiny_before : (precision half m c amount parts : ℕ) → 0 < parts → IsEnclosed precision half m c amount parts
+pub tiny_before : (precision half m c amount parts : ℕ) → 0 < parts → IsEnclosed precision half m c amount parts
     → ltb m half ≡ ltb amount (half * parts)
 tiny_before precision half m c amount parts p i =
     ⊎_elim
@@ -143,23 +144,9 @@ large_after half s place l =
     omega arith
 
 -- so it is tiny after rounding exactly if its significand is below the half
-tiny_after : (half s place : ℕ) → (place ≡ 0) ⊎ (half ≤ s) → ltb s half ≡ ltb (s * 2 ^ place) half
+pub tiny_after : (half s place : ℕ) → (place ≡ 0) ⊎ (half ≤ s) → ltb s half ≡ ltb (s * 2 ^ place) half
 tiny_after half s place f =
     ⊎_elim
     (λ (l : s < half). lt-ltb s half l ∙ sym (lt-ltb (s * 2 ^ place) half (small_after half s place l f)))
     (λ (l : half ≤ s). le-ltb s half l ∙ sym (le-ltb (s * 2 ^ place) half (large_after half s place l)))
     (cases_lt s half)
-
--- whether the magnitude is tiny, before or after rounding, from the digits that were kept
-pub tiny_is : (format : Format) (m c amount parts s place : ℕ) (tiny : Bool) → 0 < parts
-    → IsEnclosed format.precision (2 ^ (format.precision - 1)) m c amount parts
-    → (place ≡ 0) ⊎ (2 ^ (format.precision - 1) ≤ s)
-    → tiny ≡ cond format.tiny_before_rounding (ltb m (2 ^ (format.precision - 1)))
-    (ltb s (2 ^ (format.precision - 1)))
-    → is_tiny format amount parts (s * 2 ^ place) ≡ tiny
-tiny_is format m c amount parts s place b p i g e =
-    ap (λ (x : Bool). cond format.tiny_before_rounding x (ltb (s * 2 ^ place) (2 ^ (format.precision - 1))))
-    (sym (tiny_before format.precision (2 ^ (format.precision - 1)) m c amount parts p i))
-    ∙ ap (λ (x : Bool). cond format.tiny_before_rounding (ltb m (2 ^ (format.precision - 1))) x)
-    (sym (tiny_after (2 ^ (format.precision - 1)) s place g))
-    ∙ sym e

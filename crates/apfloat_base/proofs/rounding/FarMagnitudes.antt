@@ -1,14 +1,14 @@
 -- Magnitudes so far out of a format's range that only the side they are on matters.
-use Rattle.std.proofs.Common.{◌≡◌, ℕ, ◌+◌, ◌-◌, ◌*◌, ◌^◌, ◌<◌, ◌≤◌, Bool, true, false, cond, ltb, eqb, sym, refl, ap, ◌∙◌, subst, inl, arith, zero, suc}
+use Rattle.std.proofs.Common.{◌≡◌, ℕ, ◌+◌, ◌-◌, ◌*◌, ◌^◌, ◌<◌, ◌≤◌, Bool, true, false, cond, ltb, leb, eqb, sym, refl, ap, ◌∙◌, subst, inl, arith, zero, suc}
 use Rattle.std.proofs.Math.Nat.{mul-le-mul_right, mul-lt-mul_of_pos_right, pow-le-pow_right}
 use Rattle.std.proofs.lemmas.Nat.{pow-add, pow_pos}
-use Rattle.std.proofs.lemmas.Bool.{lt-ltb, ne_eqb}
+use Rattle.std.proofs.lemmas.Bool.{lt-ltb, le-leb, ne_eqb}
 use Rattle.apfloat_base.specs.declared.kinds.Round.{Round}
 use Rattle.apfloat_base.specs.declared.sig.loss.Loss.TheVariants.{LessThanHalf}
 use Rattle.apfloat_base.specs.formats.Format.{Format, largest, greatest_significand, smallest_normalized}
 use Rattle.apfloat_base.specs.formats.Datum.{Datum}
 use Rattle.apfloat_base.specs.rounding.Grid.{IsOnGrid}
-use Rattle.apfloat_base.specs.rounding.Rounding.{IsPick, IsDelivered, delivered_value, delivered_status, is_tiny}
+use Rattle.apfloat_base.specs.rounding.Rounding.{IsPick, IsDelivered, delivered_value, delivered_status, rounds_below_normal, is_tiny}
 use Rattle.apfloat_base.specs.rounding.Enclosure.{IsEnclosed, rounds_up}
 use Rattle.apfloat_base.proofs.general.Powers.{two_pos, twice_half}
 use Rattle.apfloat_base.proofs.general.Choices.{cond_within}
@@ -141,22 +141,42 @@ before_little format amount parts x =
     let a : 1 * parts ≤ 2 ^ (format.precision - 1) * parts = mul-le-mul_right parts w in
     lt-ltb amount (smallest_normalized format * parts) (omega (arith, l, a))
 
+-- also when it is rounded with an unbounded exponent
+below_little : (precision : ℕ) (mode : Round) (negative : Bool) (amount parts : ℕ) → 0 < precision
+    → IsFarBelow amount parts → rounds_below_normal precision mode negative amount parts ≡ true
+below_little precision mode negative amount parts h x =
+    let l = x.to in
+    let d : 2 * 2 ^ (precision - 1) ≡ 2 ^ precision = twice_half precision h in
+    let v : 0 < 2 ^ (precision - 1) = pow_pos (precision - 1) in
+    let w : 1 ≤ 2 ^ precision - 1 = omega arith in
+    let a : 1 * parts ≤ (2 ^ precision - 1) * parts = mul-le-mul_right parts w in
+    let b : leb (2 * amount) ((2 ^ precision - 1) * parts) ≡ true =
+    le-leb (2 * amount) ((2 ^ precision - 1) * parts) (omega (arith, l, a)) in
+    rw b refl
+
 -- all such magnitudes are tiny, or none are
-tiny_little : (format : Format) (amount parts amount' parts' p : ℕ) → IsFarBelow amount parts
-    → IsFarBelow amount' parts' → is_tiny format amount parts p ≡ is_tiny format amount' parts' p
-tiny_little format amount parts amount' parts' p x y =
+tiny_little : (format : Format) (mode : Round) (negative : Bool) (amount parts amount' parts' p : ℕ)
+    → 0 < format.precision → IsFarBelow amount parts → IsFarBelow amount' parts'
+    → is_tiny format mode negative amount parts p ≡ is_tiny format mode negative amount' parts' p
+tiny_little format mode negative amount parts amount' parts' p h x y =
     let a = before_little format amount parts x in
     let b = before_little format amount' parts' y in
-    ap (λ (z : Bool). cond format.tiny_before_rounding z (ltb p (smallest_normalized format))) (a ∙ sym b)
+    let c = below_little format.precision mode negative amount parts h x in
+    let d = below_little format.precision mode negative amount' parts' h y in
+    ap (λ (z : Bool). cond format.tiny_before_rounding z
+    (cond format.ieee_flags (rounds_below_normal format.precision mode negative amount parts)
+    (ltb p (smallest_normalized format)))) (a ∙ sym b)
+    ∙ ap (λ (z : Bool). cond format.tiny_before_rounding (ltb amount' (smallest_normalized format * parts'))
+    (cond format.ieee_flags z (ltb p (smallest_normalized format)))) (c ∙ sym d)
 
 -- and they deliver one status
 status_little : (format : Format) (mode : Round) (negative : Bool) (amount parts amount' parts' p : ℕ) → p ≤ 1
-    → IsFarBelow amount parts → IsFarBelow amount' parts'
+    → 0 < format.precision → IsFarBelow amount parts → IsFarBelow amount' parts'
     → delivered_status format mode negative amount parts p ≡ delivered_status format mode negative amount' parts' p
-status_little format mode negative amount parts amount' parts' p h x y =
+status_little format mode negative amount parts amount' parts' p h q x y =
     let a = inexact_little amount parts p x h in
     let b = inexact_little amount' parts' p y h in
-    let t = tiny_little format amount parts amount' parts' p x y in
+    let t = tiny_little format mode negative amount parts amount' parts' p q x y in
     rw (a, b, t) refl
 
 -- all magnitudes far below have one result
@@ -176,5 +196,5 @@ far_below format mode negative amount parts amount' parts' v s h x y d =
       status_is =
           d.status_is ∙ ap (λ (z : ℕ). delivered_status format mode negative amount parts z) e
           ∙ status_little format mode negative amount parts amount' parts' (little_pick mode negative)
-          (little_within mode negative) x y;
+          (little_within mode negative) h x y;
     }

@@ -12,11 +12,12 @@ use Rattle.apfloat_base.specs.formats.Format.{Format, largest}
 use Rattle.apfloat_base.specs.formats.Datum.{Datum, finite, infinite, nan}
 use Rattle.apfloat_base.specs.formats.Constants.{infinity_of}
 use Rattle.apfloat_base.specs.formats.Nan.{invalid_bit, invalid_if, is_signaling}
-use Rattle.apfloat_base.specs.rounding.Rounding.{ok_bits, overflow_bit, underflow_bit, inexact_bit, leads_out, is_tiny, zero_sign, delivered_status, IsDelivered}
+use Rattle.apfloat_base.specs.rounding.Rounding.{ok_bits, overflow_bit, underflow_bit, inexact_bit, raises_overflow, is_tiny, zero_sign, delivered_status, IsDelivered}
 use Rattle.apfloat_base.specs.rounding.Negation.{negated}
 use Rattle.apfloat_base.specs.rounding.Answer.{IsAnswer}
 use Rattle.apfloat_base.specs.rounding.RaisedFlags.{FlagsGoTogether}
 use Rattle.apfloat_base.specs.arithmetic.Exact.{same_sign}
+use Rattle.apfloat_base.specs.arithmetic.Roots.{IsRoot, IsRootOfInfinity, IsRootOfNumber, is_tiny_root, root_status}
 use Rattle.apfloat_base.specs.arithmetic.Sums.{IsSum, IsDifference}
 use Rattle.apfloat_base.specs.arithmetic.Products.{IsProduct}
 use Rattle.apfloat_base.specs.arithmetic.Quotients.{IsQuotient, div_by_zero_bit}
@@ -127,16 +128,26 @@ status_together : (format : Format) (mode : Round) (negative : Bool) (amount par
     → FlagsGoTogether (delivered_status format mode negative amount parts pick)
 status_together format mode negative amount parts pick =
     if_case FlagsGoTogether (ltb (largest format) pick)
-    (λ past. if_case FlagsGoTogether (leads_out mode negative)
+    (λ past. if_case FlagsGoTogether (raises_overflow format mode negative)
     (λ out. inexact_together (overflow_bit + inexact_bit) (lit< tt)) (λ stays. only_inexact_together))
     (λ within. if_case FlagsGoTogether (eqb (pick * parts) amount) (λ exact. ok_together)
-    (λ lost. if_case FlagsGoTogether (is_tiny format amount parts pick)
+    (λ lost. if_case FlagsGoTogether (is_tiny format mode negative amount parts pick)
     (λ tiny. inexact_together (underflow_bit + inexact_bit) (lit< tt)) (λ normal. only_inexact_together)))
 
 pub delivered_together : (format : Format) (mode : Round) (negative : Bool) (amount parts : ℕ)
     → Together (IsDelivered format mode negative amount parts)
 delivered_together format mode negative amount parts value status x =
     subst FlagsGoTogether (sym x.status_is) (status_together format mode negative amount parts x.pick)
+
+root_status_together : (format : Format) (mode : Round) (square pick : ℕ)
+    → FlagsGoTogether (root_status format mode square pick)
+root_status_together format mode square pick =
+    if_case FlagsGoTogether (ltb (largest format) pick)
+    (λ past. if_case FlagsGoTogether (raises_overflow format mode false)
+    (λ out. inexact_together (overflow_bit + inexact_bit) (lit< tt)) (λ stays. only_inexact_together))
+    (λ within. if_case FlagsGoTogether (eqb (pick * pick) square) (λ exact. ok_together)
+    (λ lost. if_case FlagsGoTogether (is_tiny_root format mode square pick)
+    (λ tiny. inexact_together (underflow_bit + inexact_bit) (lit< tt)) (λ normal. only_inexact_together)))
 
 -- a result given outright
 pub answer_together : (datum : Datum) (flags : ℕ) → FlagsGoTogether flags → Together (IsAnswer datum flags)
@@ -154,6 +165,23 @@ sum_together format mode (infinite b) (infinite c) =
 sum_together format mode (infinite b) (finite c n) = answer_together _ _ ok_together
 sum_together format mode (finite b m) (infinite c) = answer_together _ _ ok_together
 sum_together format mode (finite b m) (finite c n) = delivered_together format mode _ _ _
+
+root_of_number_together : (format : Format) (mode : Round) (negative : Bool) (quanta : ℕ)
+    → Together (IsRootOfNumber format mode negative quanta)
+root_of_number_together format mode true quanta value status x = answer_together _ _ invalid_together value status x
+root_of_number_together format mode false quanta value status x =
+    subst FlagsGoTogether (sym x.status_is) (root_status_together format mode _ x.pick)
+
+root_of_infinity_together : (format : Format) (negative : Bool) → Together (IsRootOfInfinity format negative)
+root_of_infinity_together format true = answer_together _ _ invalid_together
+root_of_infinity_together format false = answer_together _ _ ok_together
+
+pub root_together : (format : Format) (mode : Round) (x : Datum) → Together (IsRoot format mode x)
+root_together format mode (nan b s) = answer_together _ _ (invalid_if_together _)
+root_together format mode (infinite b) = root_of_infinity_together format b
+root_together format mode (finite b n) =
+    match_case Together (eqb n 0) (IsAnswer _ _) (IsRootOfNumber format mode b n) (answer_together _ _ ok_together)
+    (root_of_number_together format mode b n)
 
 pub difference_together : (format : Format) (mode : Round) (x y : Datum) → Together (IsDifference format mode x y)
 difference_together format mode (nan b s) y = answer_together _ _ (invalid_if_together _)

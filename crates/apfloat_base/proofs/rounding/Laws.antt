@@ -1,14 +1,14 @@
 -- Laws of one rounding.
-use Rattle.std.proofs.Common.{◌≡◌, ℕ, ◌-◌, ◌*◌, ◌/◌, ◌%◌, ◌^◌, ◌<◌, ◌≤◌, Bool, true, false, not, cond, ltb, eqb, sym, refl, ap, ◌∙◌, subst, ⊎_elim, arith}
+use Rattle.std.proofs.Common.{◌≡◌, ℕ, ◌-◌, ◌*◌, ◌/◌, ◌%◌, ◌^◌, ◌<◌, ◌≤◌, Bool, true, false, not, ◌&&◌, ◌||◌, cond, ltb, leb, eqb, sym, refl, ap, ◌∙◌, subst, ⊎_elim, arith}
 use Rattle.std.proofs.Math.Nat.{le_of_mul-le-mul_right}
 use Rattle.std.proofs.lemmas.Nat.{pow_pos}
 use Rattle.std.proofs.lemmas.Bool.{cases_lt, cases_eq, eq-eqb, ne_eqb, le-ltb}
 use Rattle.apfloat_base.specs.declared.kinds.Round.{Round}
 use Rattle.apfloat_base.specs.declared.kinds.Round.TheVariants.{NearestTiesToEven, TowardPositive, TowardNegative, TowardZero, NearestTiesToAway}
-use Rattle.apfloat_base.specs.formats.Format.{Format, largest, nan_base}
+use Rattle.apfloat_base.specs.formats.Format.{Format, largest, smallest_normalized, nan_base}
 use Rattle.apfloat_base.specs.formats.Datum.{Datum, finite}
 use Rattle.apfloat_base.specs.rounding.Grid.{IsOnGrid, IsBelow, IsAbove}
-use Rattle.apfloat_base.specs.rounding.Rounding.{takes_above, pick_between, IsPick, IsDelivered, delivered_value, delivered_status, leads_out, zero_sign, signed_quanta, past_largest, is_tiny, ok_bits}
+use Rattle.apfloat_base.specs.rounding.Rounding.{takes_above, pick_between, IsPick, IsDelivered, delivered_value, delivered_status, leads_out, zero_sign, signed_quanta, past_largest, rounds_below_normal, ok_bits}
 use Rattle.apfloat_base.specs.rounding.Negation.{swapped, negated}
 use Rattle.apfloat_base.specs.declared.kinds.NonfiniteBehavior.{NonfiniteBehavior}
 use Rattle.apfloat_base.specs.declared.kinds.NonfiniteBehavior.TheVariants.{IEEE754, NanOnly, NanNegativeZero}
@@ -113,6 +113,34 @@ leads_swapped TowardNegative true = refl
 leads_swapped TowardNegative false = refl
 leads_swapped TowardZero negative = refl
 leads_swapped NearestTiesToAway negative = refl
+
+-- and rounds to a number below the smallest normalized one exactly if the mode does
+below_swapped : (precision : ℕ) (mode : Round) (negative : Bool) (amount parts : ℕ)
+    → rounds_below_normal precision (swapped mode) (not negative) amount parts
+    ≡ rounds_below_normal precision mode negative amount parts
+below_swapped precision mode negative amount parts =
+    ap (λ (b : Bool). leb (2 * amount) ((2 ^ precision - 1) * parts)
+    || (ltb (2 * amount) (2 ^ precision * parts) && not b))
+    (takes_swapped mode negative (2 * amount - (2 ^ precision - 1) * parts) (2 ^ precision * parts - 2 * amount) true)
+
+-- the status, from whether the mode leads out and whether it rounds to a number below the smallest normalized one
+abbrev status_with : Format → ℕ → ℕ → ℕ → Bool → Bool → ℕ
+status_with format amount parts pick out below =
+    cond (ltb (largest format) pick) (cond (format.ieee_flags || out) 20 16)
+    (cond (eqb (pick * parts) amount) 0
+    (cond (cond format.tiny_before_rounding (ltb amount (smallest_normalized format * parts))
+    (cond format.ieee_flags below (ltb pick (smallest_normalized format)))) 24 16))
+
+-- so the flags are the same
+status_swapped : (format : Format) (mode : Round) (negative : Bool) (amount parts pick : ℕ)
+    → delivered_status format mode negative amount parts pick
+    ≡ delivered_status format (swapped mode) (not negative) amount parts pick
+status_swapped format mode negative amount parts pick =
+    let l = sym (leads_swapped mode negative) in
+    let b = sym (below_swapped format.precision mode negative amount parts) in
+    ap (λ (x : Bool). status_with format amount parts pick x
+    (rounds_below_normal format.precision mode negative amount parts)) l
+    ∙ ap (λ (x : Bool). status_with format amount parts pick (leads_out (swapped mode) (not negative)) x) b
 
 -- the swapped mode picks the same magnitude on the other side of zero
 pub pick_swapped : (precision : ℕ) (mode : Round) (negative : Bool) (amount parts p : ℕ)
@@ -283,10 +311,7 @@ delivered_swapped format mode negative amount parts v s h x = record {
       (cond b (past_largest format.nonfinite (nan_base format) (not negative)) (finite (not negative) (largest format)))
       (signed_quanta format.nonfinite (not negative) x.pick)) (sym l);
   status_is =
-      let l = leads_swapped mode negative in
-      x.status_is ∙
-      ap (λ (b : Bool). cond (ltb (largest format) x.pick) (cond b 20 16)
-      (cond (eqb (x.pick * parts) amount) 0 (cond (is_tiny format amount parts x.pick) 24 16))) (sym l);
+      x.status_is ∙ status_swapped format mode negative amount parts x.pick;
 }
 
 -- each magnitude has a delivered value and status

@@ -8,7 +8,7 @@ use Rattle.apfloat_base.specs.declared.kinds.Round.{Round}
 use Rattle.apfloat_base.specs.formats.Format.{Format, largest}
 use Rattle.apfloat_base.specs.formats.Datum.{Datum, finite, infinite, nan}
 use Rattle.apfloat_base.specs.rounding.Grid.{IsOnGrid}
-use Rattle.apfloat_base.specs.rounding.Rounding.{takes_above, IsPick, ok_bits, overflow_bit, underflow_bit, inexact_bit, leads_out, is_tiny, zero_sign, signed_quanta, delivered_value, delivered_status, IsDelivered}
+use Rattle.apfloat_base.specs.rounding.Rounding.{takes_above, IsPick, ok_bits, overflow_bit, underflow_bit, inexact_bit, raises_overflow, is_tiny, zero_sign, signed_quanta, delivered_value, delivered_status, IsDelivered}
 use Rattle.apfloat_base.specs.rounding.Answer.{IsAnswer}
 use Rattle.apfloat_base.specs.rounding.Negation.{negated}
 use Rattle.apfloat_base.specs.order.Classes.{is_zero}
@@ -48,8 +48,8 @@ ok_is_exact : (format : Format) (mode : Round) (negative : Bool) (amount parts p
     → delivered_status format mode negative amount parts pick ≡ ok_bits
     → (ltb (largest format) pick ≡ false) × (pick * parts ≡ amount)
 ok_is_exact format mode negative amount parts pick e =
-    let t = ok_tests (ltb (largest format) pick) (eqb (pick * parts) amount) (leads_out mode negative)
-    (is_tiny format amount parts pick) e in
+    let t = ok_tests (ltb (largest format) pick) (eqb (pick * parts) amount) (raises_overflow format mode negative)
+    (is_tiny format mode negative amount parts pick) e in
     (t.0, eqb-true (pick * parts) amount t.1)
 
 pick_on_grid : (precision : ℕ) (mode : Round) (negative : Bool) (amount parts pick : ℕ)
@@ -113,7 +113,7 @@ product_agrees format (infinite b) (infinite c) = answer_agrees _ _
 product_agrees format (finite b m) (finite c n) =
     delivered_agrees format (product_sign b c) (m * n) (2 ^ format.scale) (pow_pos format.scale)
 
-some : (n : ℕ) → eqb n 0 ≡ false → 0 < n
+pub some : (n : ℕ) → eqb n 0 ≡ false → 0 < n
 some zero e = absurd (eqb-false 0 0 e refl)
 some (suc n) e = omega arith
 
@@ -237,7 +237,7 @@ flags_ok format mode product z value flags h =
     (cases_eq flags ok_bits)
 
 -- and then it is the sum of the product and the addend
-added : (format : Format) (mode : Round) (product z value : Datum) (flags status : ℕ) → flags ≡ ok_bits
+pub added : (format : Format) (mode : Round) (product z value : Datum) (flags status : ℕ) → flags ≡ ok_bits
     → MatchBool (eqb flags ok_bits) (IsSum format mode product z value status) (IsAnswer product flags value status)
     → IsSum format mode product z value status
 added format mode product z value flags status e h =

@@ -13,7 +13,7 @@ use Rattle.apfloat_base.specs.arithmetic.Scaling.{IsScaling}
 use Rattle.apfloat_base.specs.whole_numbers.WholeNumbers.{IsFromUnsigned, IsFromSigned}
 use Rattle.apfloat_base.specs.arithmetic.Conversions.{IsConversion}
 use Rattle.apfloat_base.proofs.Once.{from_unsigned_once}
-use Rattle.apfloat_base.proofs.rows.RowsIn.{half, single, e5m2, e4m3fn, e4m3fnuz, half_tiny_before, in_half, in_single, in_e5m2, in_e4m3fn, in_e4m3fnuz, rounded}
+use Rattle.apfloat_base.proofs.rows.RowsIn.{half, single, e5m2, e4m3fn, e4m3fnuz, half_tiny_before, half_ieee, half_ieee_before, in_half, in_single, in_e5m2, in_e4m3fn, in_e4m3fnuz, rounded}
 
 -- ---- whole numbers in
 
@@ -83,6 +83,19 @@ sum_past_the_largest = rounded 2047 29 refl refl refl
 sum_kept_at_the_largest : IsSum half TowardZero (in_half 0x7bff) (in_half 0x4c00) (in_half 0x7bff) inexact_bit
 sum_kept_at_the_largest = rounded 2047 29 refl refl refl
 
+-- twice 65504 is past the largest value also when it is rounded toward zero, which the built-in formats do not tell
+double_of_the_largest : IsSum half TowardZero (in_half 0x7bff) (in_half 0x7bff) (in_half 0x7bff) inexact_bit
+double_of_the_largest = rounded 2047 30 refl refl refl
+
+-- with the flags of IEEE 754-2008 it is an overflow
+overflow_toward_zero : IsSum half_ieee TowardZero (in_half 0x7bff) (in_half 0x7bff) (in_half 0x7bff)
+    (overflow_bit + inexact_bit)
+overflow_toward_zero = rounded 2047 30 refl refl refl
+
+-- but 65504 + 16 toward zero is 65504, which is not past it
+no_overflow_toward_zero : IsSum half_ieee TowardZero (in_half 0x7bff) (in_half 0x4c00) (in_half 0x7bff) inexact_bit
+no_overflow_toward_zero = rounded 2047 29 refl refl refl
+
 -- 1 minus the least positive value
 just_below_one : IsDifference half NearestTiesToEven (in_half 0x3c00) (in_half 0x0001) (in_half 0x3c00) inexact_bit
 just_below_one = rounded 2047 13 refl refl refl
@@ -128,6 +141,26 @@ tiny_after_rounding = rounded 1023 0 refl refl refl
 tiny_before_rounding : IsProduct half_tiny_before NearestTiesToEven (in_half 0x0400) (in_half 0x3bff)
     (in_half 0x0400) (underflow_bit + inexact_bit)
 tiny_before_rounding = rounded 1023 0 refl refl refl
+
+-- rounded with an unbounded exponent it is exact, 2047 half quanta, and so it is below the smallest normal value
+tiny_by_half_quanta : IsProduct half_ieee NearestTiesToEven (in_half 0x0400) (in_half 0x3bff) (in_half 0x0400)
+    (underflow_bit + inexact_bit)
+tiny_by_half_quanta = rounded 1023 0 refl refl refl
+
+-- 1025 quanta times 2046 / 2048, nearer to 1024 than to 1023.5 quanta
+normal_by_half_quanta : IsProduct half_ieee NearestTiesToEven (in_half 0x0401) (in_half 0x3bfe) (in_half 0x0400)
+    inexact_bit
+normal_by_half_quanta = rounded 1023 0 refl refl refl
+
+-- toward zero it is rounded to 1023.5 quanta
+tiny_toward_zero : IsProduct half_ieee TowardZero (in_half 0x0401) (in_half 0x3bfe) (in_half 0x03ff)
+    (underflow_bit + inexact_bit)
+tiny_toward_zero = rounded 1023 0 refl refl refl
+
+-- before rounding it is tiny in each mode
+tiny_before_with_ieee_flags : IsProduct half_ieee_before NearestTiesToEven (in_half 0x0401) (in_half 0x3bfe)
+    (in_half 0x0400) (underflow_bit + inexact_bit)
+tiny_before_with_ieee_flags = rounded 1023 0 refl refl refl
 
 -- ---- quotients: 1 divided by 3
 

@@ -37,6 +37,13 @@ e4m3fnuz = format_with e4m3fnuz_constants
 abbrev pub half_tiny_before : Format
 half_tiny_before = format_with (record half_constants { tiny_before_rounding = true })
 
+-- half precision, with the flags of IEEE 754-2008, tininess decided after or before rounding
+abbrev pub half_ieee : Format
+half_ieee = format_with (record half_constants { ieee_flags = true })
+
+abbrev pub half_ieee_before : Format
+half_ieee_before = format_with (record half_constants { ieee_flags = true; tiny_before_rounding = true })
+
 abbrev pub value_in : Constants → ℕ → Datum
 value_in constants bits = datum_of (format_with constants) (layout_with constants) bits
 

@@ -22,6 +22,7 @@ interchange bits exp_bits precision kind max_exp min_exp explicit =
       qnan_significand = quiet_bits_of kind explicit precision;
       explicit_integer_bit = explicit;
       tiny_before_rounding = false;
+      ieee_flags = false;
     }
 
 abbrev pub half_constants : Constants

@@ -21,6 +21,7 @@ pub record Constants : Type 0 where
   pub qnan_significand : ℕ
   pub explicit_integer_bit : Bool
   pub tiny_before_rounding : Bool
+  pub ieee_flags : Bool
 
 -- in the order of the types of formats
 abbrev pub constants_with : ℕ → ℕ → ℕ → NonfiniteBehavior → ℤ → ℤ → ℤ → ℤ → ℕ → ℕ → ℕ → Bool → Bool → Constants
@@ -40,6 +41,7 @@ constants_with bits exp_bits precision nonfinite max_exp ieee_max_exp min_exp ie
       qnan_significand = quiet;
       explicit_integer_bit = explicit;
       tiny_before_rounding = tiny;
+      ieee_flags = false;
     }
 
 -- the quantum is the value of the last digit at the least exponent
@@ -52,6 +54,7 @@ format_with c =
       nonfinite = c.nonfinite;
       explicit_integer_bit = c.explicit_integer_bit;
       tiny_before_rounding = c.tiny_before_rounding;
+      ieee_flags = c.ieee_flags;
     }
 
 abbrev pub layout_with : Constants → Layout

@@ -1,5 +1,5 @@
 -- One rounding: the neighbour that a mode picks, and the value and status that are delivered.
-use Rattle.std.specs.Prelude.{◌≡◌, ℕ, ◌+◌, ◌-◌, ◌*◌, ◌/◌, ◌%◌, Bool, true, false, not, ◌&&◌, ◌||◌, ltb, leb, eqb, if◌then◌else◌}
+use Rattle.std.specs.Prelude.{◌≡◌, ℕ, ◌+◌, ◌-◌, ◌*◌, ◌/◌, ◌%◌, ◌^◌, Bool, true, false, not, ◌&&◌, ◌||◌, ltb, leb, eqb, if◌then◌else◌}
 use Rattle.apfloat_base.specs.declared.kinds.Round.{Round}
 use Rattle.apfloat_base.specs.declared.kinds.Round.TheVariants.{NearestTiesToEven, TowardPositive, TowardNegative, TowardZero, NearestTiesToAway}
 use Rattle.apfloat_base.specs.declared.kinds.NonfiniteBehavior.{NonfiniteBehavior}
@@ -75,9 +75,25 @@ abbrev pub signed_quanta : NonfiniteBehavior → Bool → ℕ → Datum
 signed_quanta kind negative quanta = if eqb quanta 0 then finite (zero_sign kind negative) 0
     else finite negative quanta
 
-abbrev pub is_tiny : Format → ℕ → ℕ → ℕ → Bool
-is_tiny f amount parts pick =
-    if f.tiny_before_rounding then ltb amount (smallest_normalized f * parts) else ltb pick (smallest_normalized f)
+-- Whether the magnitude, rounded to `precision` digits with an unbounded exponent, is below the smallest normalized
+-- number. That number is 2 ^ precision half quanta; just below it, numbers with all digits are half a quantum apart.
+abbrev pub rounds_below_normal : ℕ → Round → Bool → ℕ → ℕ → Bool
+rounds_below_normal precision mode negative amount parts =
+    leb (2 * amount) ((2 ^ precision - 1) * parts)
+    || (ltb (2 * amount) (2 ^ precision * parts)
+    && not (takes_above mode negative (2 * amount - (2 ^ precision - 1) * parts)
+    (2 ^ precision * parts - 2 * amount) true))
+
+-- whether an inexact result is tiny (7.5): by its exact magnitude; rounded with an unbounded exponent; or by the pick
+abbrev pub is_tiny : Format → Round → Bool → ℕ → ℕ → ℕ → Bool
+is_tiny f mode negative amount parts pick =
+    if f.tiny_before_rounding then ltb amount (smallest_normalized f * parts)
+    else (if f.ieee_flags then rounds_below_normal f.precision mode negative amount parts
+    else ltb pick (smallest_normalized f))
+
+-- whether a pick past the largest value raises OVERFLOW: by 7.4 in each mode, otherwise where the mode leads out
+abbrev pub raises_overflow : Format → Round → Bool → Bool
+raises_overflow f mode negative = f.ieee_flags || leads_out mode negative
 
 abbrev pub delivered_value : Format → Round → Bool → ℕ → Datum
 delivered_value f mode negative pick =
@@ -89,9 +105,9 @@ delivered_value f mode negative pick =
 abbrev pub delivered_status : Format → Round → Bool → ℕ → ℕ → ℕ → ℕ
 delivered_status f mode negative amount parts pick =
     if ltb (largest f) pick
-    then (if leads_out mode negative then overflow_bit + inexact_bit else inexact_bit)
+    then (if raises_overflow f mode negative then overflow_bit + inexact_bit else inexact_bit)
     else (if eqb (pick * parts) amount then ok_bits
-    else (if is_tiny f amount parts pick then underflow_bit + inexact_bit else inexact_bit))
+    else (if is_tiny f mode negative amount parts pick then underflow_bit + inexact_bit else inexact_bit))
 
 -- the magnitude amount / parts quanta with that sign, rounded once
 pub record IsDelivered (f : Format) (mode : Round) (negative : Bool) (amount parts : ℕ) (value : Datum)

@@ -1,8 +1,9 @@
 -- A finite sum of finite data raises no flag other than INEXACT.
-use Rattle.std.proofs.Common.{◌≡◌, ℕ, ◌*◌, ◌^◌, ◌<◌, ◌≤◌, Bool, true, false, eqb, ltb, inl, inr, sym, refl, ap, ◌∙◌, ⊎_elim, arith, lit<}
+use Rattle.std.proofs.Common.{◌≡◌, ℕ, ◌-◌, ◌*◌, ◌^◌, ◌<◌, ◌≤◌, Bool, true, false, eqb, ltb, leb, inl, inr, sym, refl, ap, ◌∙◌, ⊎_elim, arith, lit<}
 use Rattle.std.specs.Prelude.{ℤ, ◌+ℤ◌}
 use Rattle.std.proofs.Math.Nat.{pow-le-pow_right}
-use Rattle.std.proofs.lemmas.Bool.{cases_lt, cases_eq, false≢true, le-ltb, eq-eqb, ne_eqb}
+use Rattle.std.proofs.lemmas.Nat.{pow_pos}
+use Rattle.std.proofs.lemmas.Bool.{cases_lt, cases_eq, false≢true, le-ltb, lt-leb, eq-eqb, ne_eqb}
 use Rattle.apfloat_base.specs.declared.kinds.NonfiniteBehavior.TheVariants.{IEEE754}
 use Rattle.apfloat_base.specs.declared.kinds.Round.TheVariants.{NearestTiesToEven}
 use Rattle.apfloat_base.specs.formats.Format.{Format, largest, smallest_normalized}
@@ -46,22 +47,26 @@ large_is_picked_large precision negative amount p w h x =
     omega (arith, b, l)
 
 -- an amount and a pick of more than `precision` digits are not tiny
-not_tiny : (format : Format) (amount p : ℕ) → 2 ^ format.precision ≤ amount → 2 ^ format.precision ≤ p
-    → is_tiny format amount 1 p ≡ false
-not_tiny format amount p h l =
+not_tiny : (format : Format) (negative : Bool) (amount p : ℕ) → 2 ^ format.precision ≤ amount
+    → 2 ^ format.precision ≤ p → is_tiny format NearestTiesToEven negative amount 1 p ≡ false
+not_tiny format negative amount p h l =
     let s : smallest_normalized format ≤ 2 ^ format.precision = pow-le-pow_right two_pos (omega arith) in
+    let w : 0 < 2 ^ format.precision = pow_pos format.precision in
+    let a : leb (2 * amount) ((2 ^ format.precision - 1) * 1) ≡ false = lt-leb _ _ (omega arith) in
+    let b : ltb (2 * amount) (2 ^ format.precision * 1) ≡ false = le-ltb _ _ (omega arith) in
     either_false format.tiny_before_rounding _ _ (le-ltb amount (smallest_normalized format * 1) (omega arith))
-    (le-ltb p (smallest_normalized format) (omega arith))
+    (either_false format.ieee_flags _ _ (rw (a, b) refl) (le-ltb p (smallest_normalized format) (omega arith)))
 
 -- an inexact pick is not tiny, since a number of at most `precision` digits is exact
 inexact_not_tiny : (format : Format) (negative : Bool) (amount p : ℕ) → 1 < 2 ^ format.precision → (p * 1 ≡ amount → ⊥)
-    → IsPick format.precision NearestTiesToEven negative amount 1 p → is_tiny format amount 1 p ≡ false
+    → IsPick format.precision NearestTiesToEven negative amount 1 p
+    → is_tiny format NearestTiesToEven negative amount 1 p ≡ false
 inexact_not_tiny format negative amount p w n x =
     ⊎_elim
     (λ (h : amount < 2 ^ format.precision). let e = small_is_exact format.precision negative amount p h x in
     absurd (n (omega (arith, e))))
     (λ (h : 2 ^ format.precision ≤ amount).
-    not_tiny format amount p h (large_is_picked_large format.precision negative amount p w h x))
+    not_tiny format negative amount p h (large_is_picked_large format.precision negative amount p w h x))
     (cases_lt amount (2 ^ format.precision))
 
 -- a pick within the largest value raises at most INEXACT
@@ -77,7 +82,8 @@ within_status format negative amount p status w l x e =
     inl (e ∙ d))
     (λ (h : p * 1 ≡ amount → ⊥).
     let b : eqb (p * 1) amount ≡ false = ne_eqb (p * 1) amount h in
-    let t : is_tiny format amount 1 p ≡ false = inexact_not_tiny format negative amount p w h x in
+    let t : is_tiny format NearestTiesToEven negative amount 1 p ≡ false =
+    inexact_not_tiny format negative amount p w h x in
     let d : delivered_status format NearestTiesToEven negative amount 1 p ≡ inexact_bit = rw (a, b, t) refl in
     inr (e ∙ d))
     (cases_eq (p * 1) amount)

@@ -111,9 +111,10 @@ ok_is_exact format s amount u p status l d o =
     (λ (h : p * u ≡ amount → ⊥).
     let a : ltb (largest format) p ≡ false = le-ltb (largest format) p l in
     let b : eqb (p * u) amount ≡ false = ne_eqb (p * u) amount h in
-    let e : delivered_status format NearestTiesToEven s amount u p ≡ cond (is_tiny format amount u p) 24 16 =
+    let e : delivered_status format NearestTiesToEven s amount u p
+    ≡ cond (is_tiny format NearestTiesToEven s amount u p) 24 16 =
     rw (a, b) refl in
-    absurd (never_ok (is_tiny format amount u p) (sym o ∙ d ∙ e)))
+    absurd (never_ok (is_tiny format NearestTiesToEven s amount u p) (sym o ∙ d ∙ e)))
     (cases_eq (p * u) amount)
 
 -- ---- the low part is the rest

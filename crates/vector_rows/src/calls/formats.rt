@@ -4,17 +4,14 @@ ghost use Rattle.std.specs.Prelude.{◌≡◌, true};
 ghost use Rattle.rustc_apfloat.specs.PairParts.{CanComparePairMagnitudes};
 
 use crate::call_row::CallRow;
+use crate::calls::RowRequest;
 use crate::calls::answer::{Returned, RowAnswer, RowField};
+use crate::calls::call::{Call, ConversionCall, OneTypeCall};
 use crate::calls::of_type::{of_type, two_values, value_of};
-use crate::calls::{Operands, RowRequest};
+use crate::calls::row_format::{CallInFormat, RowFormat};
 use crate::failure::RowError;
-use custom_formats::{
-    BroadS, DeepS, HalfTinyBeforeS, LeastFiniteS, LeastS, PreciseS, SevenS, TenS, VastS,
-    WrittenBitS,
-};
-use dispatch::{BuiltInKind, InFormat};
 use rustc_apfloat::ieee::{Double, IeeeFloat, Semantics};
-use rustc_apfloat::ppc::{DoubleDouble, FallbackExtendedS, FallbackS};
+use rustc_apfloat::ppc::{DoubleDouble, FallbackS};
 use rustc_apfloat::{Category, FUSED_LIMIT, Float, FloatConvert, Round, StatusAnd};
 use std::cmp::Ordering;
 use std::fmt::Debug;
@@ -26,33 +23,32 @@ type Answered<'a> = Result<RowAnswer, RowError<'a>>;
 /// What the call of a row returns in its format.
 pub fn answered(request: RowRequest<'_>) -> Answered<'_> {
     let row = request.row;
-    let (word, target) = match row.format.split_once('>') {
-        Some(("dd", "fallback")) => return from::<DoubleDouble, IeeeFloat<FallbackS>>(row),
-        Some(("fallback", "dd")) => return from::<IeeeFloat<FallbackS>, DoubleDouble>(row),
+    let (source, target) = match row.format.split_once('>') {
+        Some(("dd", "fallback")) => return from::<DoubleDouble, IeeeFloat<FallbackS>>(request),
+        Some(("fallback", "dd")) => return from::<IeeeFloat<FallbackS>, DoubleDouble>(request),
         Some((source, target)) => (source, Some(target)),
         None if row.format == "dd" => return of_pairs(request),
         None => (row.format, None),
     };
-    let answer = in_format_named(word, FromFormat { target, request });
-    match answer {
-        Some(answer) => answer,
+    match formats_named(source, target) {
+        Some((source, target)) => source.run(FromFormat { target, request }),
         None => Err(RowError::Word("no format", row.format)),
     }
 }
 
-/// A call that can be made in every format, with bits or without.
-trait CallInFormat {
-    /// What it returns.
-    type Output;
-
-    /// Makes the call in the format `S`.
-    fn made_in<S: Semantics>(self) -> Self::Output;
+/// The format of the first word, and that of the second if there is one.
+fn formats_named(source: &str, target: Option<&str>) -> Option<(RowFormat, Option<RowFormat>)> {
+    let target = match target {
+        Some(word) => Some(RowFormat::named(word)?),
+        None => None,
+    };
+    Some((RowFormat::named(source)?, target))
 }
 
-/// A call in one format, or a conversion from it to that of the target's word.
+/// A call in one format, or a conversion from it to another one.
 #[derive(Drop)]
 struct FromFormat<'a> {
-    target: Option<&'a str>,
+    target: Option<RowFormat>,
     request: RowRequest<'a>,
 }
 
@@ -61,14 +57,12 @@ impl<'a> CallInFormat for FromFormat<'a> {
 
     fn made_in<S: Semantics>(self) -> Answered<'a> {
         let FromFormat { target, request } = self;
-        let Some(target) = target else {
-            return of_format::<S>(request);
-        };
-        let source = PhantomData::<S>;
-        let answer = in_format_named(target, ToFormat { source, request });
-        match answer {
-            Some(answer) => answer,
-            None => Err(RowError::Word("no format", request.row.format)),
+        match target {
+            None => of_format::<S>(request),
+            Some(target) => target.run(ToFormat {
+                source: PhantomData::<S>,
+                request,
+            }),
         }
     }
 }
@@ -88,102 +82,101 @@ impl<'a, S: Semantics> CallInFormat for ToFormat<'a, S> {
     }
 }
 
-/// A call that is made in a format with bits.
-#[derive(Drop)]
-struct WithBits<C>(C);
-
-impl<C: CallInFormat> InFormat for WithBits<C> {
-    type Output = C::Output;
-
-    fn in_format<S: Semantics>(self) -> C::Output {
-        self.0.made_in::<S>()
-    }
-}
-
-/// Makes a call in the format of this word, if there is one.
-fn in_format_named<C: CallInFormat + Drop>(word: &str, call: C) -> Option<C::Output> {
-    Some(match word {
-        "fallback" => call.made_in::<FallbackS>(),
-        "fallbackext" => call.made_in::<FallbackExtendedS>(),
-        "lim3" => call.made_in::<LeastS>(),
-        "lim3nan" => call.made_in::<LeastFiniteS>(),
-        "lim3deep" => call.made_in::<DeepS>(),
-        "lim125" => call.made_in::<PreciseS>(),
-        "lim125deep" => call.made_in::<VastS>(),
-        "seven" => call.made_in::<SevenS>(),
-        "wide128" => call.made_in::<BroadS>(),
-        "expl14" => call.made_in::<WrittenBitS>(),
-        "nan10" => call.made_in::<TenS>(),
-        "halftbr" => call.made_in::<HalfTinyBeforeS>(),
-        _ => BuiltInKind::named(word)?.format()?.run(WithBits(call)),
-    })
-}
-
 /// What a call returns in a format.
 fn of_format<S: Semantics>(request: RowRequest<'_>) -> Answered<'_> {
-    let RowRequest {
-        row,
-        operands,
-        round,
-    } = request;
-    match (operands, row.call) {
-        (Operands::OneType, "mul_add" | "mul_add_r") => fused_sum::<S>(row, round),
-        (Operands::OneType, call) => {
-            let (x, y) = two_values::<IeeeFloat<S>>(row)?;
-            of_two_numbers(call, x, y, row).ok_or(row.support_error())
-        }
+    let RowRequest { row, call, round } = request;
+    match call {
+        Call::OfOneType(OneTypeCall::Sqrt) => square_root::<S>(row, None),
+        Call::OfOneType(OneTypeCall::SqrtR) => square_root::<S>(row, Some(round)),
+        Call::OfOneType(OneTypeCall::WideMulR) => wide_product::<S>(row, round),
+        Call::OfOneType(OneTypeCall::WideMulAddR) => wide_fused_sum::<S>(row, round),
+        Call::OfOneType(OneTypeCall::MulAdd) => fused_sum::<S>(row, None),
+        Call::OfOneType(OneTypeCall::MulAddR) => fused_sum::<S>(row, Some(round)),
+        Call::OfOneType(OneTypeCall::CFmodSteps) => remainder_steps::<S>(row),
+        Call::OfOneType(OneTypeCall::CmpAbsNormal) => order_of_magnitudes::<S>(row),
         _ => of_type::<IeeeFloat<S>>(request),
     }
 }
 
-/// What a call of two values that only formats have returns, if it can be made.
-fn of_two_numbers<S: Semantics>(
-    call: &str,
-    x: IeeeFloat<S>,
-    y: IeeeFloat<S>,
-    row: CallRow<'_>,
-) -> Option<RowAnswer> {
-    if call == "c_fmod_steps" {
-        let (answer, taken) = x.c_fmod_steps(y);
-        let bound = x.ilogb().saturating_sub(y.ilogb()).saturating_add(1).max(0);
-        return Some(RowAnswer {
-            extra: RowField::Steps(taken, bound),
-            ..RowAnswer::of(Returned::Rounded(answer), row)
-        });
-    }
-    match (x.category(), y.category()) {
-        (Category::Normal, Category::Normal) => {
-            Some(RowAnswer::told(RowField::Order(Some(x.cmp_abs_normal(y)))))
-        }
-        _ => None,
-    }
-}
-
-/// A product plus a third value, rounded once.
-fn fused_sum<S: Semantics>(row: CallRow<'_>, round: Round) -> Answered<'_> {
-    let (first, others) = row.cut_operand()?;
-    let (second, third) = others.split_once(' ').ok_or(row.operand_error())?;
-    let x = value_of::<IeeeFloat<S>>(first)?;
-    let y = value_of::<IeeeFloat<S>>(second)?;
-    let z = value_of::<IeeeFloat<S>>(third)?;
-    if S::PRECISION > FUSED_LIMIT {
-        return Err(row.support_error());
-    }
-    let answer = if row.call == "mul_add" {
-        x.mul_add(y, z)
-    } else {
-        x.mul_add_r(y, z, round)
+/// A square root, in the mode if there is one.
+fn square_root<S: Semantics>(row: CallRow<'_>, mode: Option<Round>) -> Answered<'_> {
+    let x = value_of::<IeeeFloat<S>>(row.operands)?;
+    let answer = match mode {
+        None => x.sqrt(),
+        Some(round) => x.sqrt_r(round),
     };
     Ok(RowAnswer::of(Returned::Rounded(answer), row))
 }
 
+/// A product in a format of any precision.
+fn wide_product<S: Semantics>(row: CallRow<'_>, round: Round) -> Answered<'_> {
+    let (x, y) = two_values::<IeeeFloat<S>>(row)?;
+    Ok(RowAnswer::of(Returned::Rounded(x.wide_mul_r(y, round)), row))
+}
+
+/// A product plus a third value, rounded once, in a format of any precision.
+fn wide_fused_sum<S: Semantics>(row: CallRow<'_>, round: Round) -> Answered<'_> {
+    let (x, y, z) = three_values::<S>(row)?;
+    let answer = x.wide_mul_add_r(y, z, round);
+    Ok(RowAnswer::of(Returned::Rounded(answer), row))
+}
+
+/// A product plus a third value, rounded once, in the mode if there is one.
+fn fused_sum<S: Semantics>(row: CallRow<'_>, mode: Option<Round>) -> Answered<'_> {
+    let (x, y, z) = three_values::<S>(row)?;
+    if S::PRECISION > FUSED_LIMIT {
+        return Err(row.support_error());
+    }
+    let answer = match mode {
+        None => x.mul_add(y, z),
+        Some(round) => x.mul_add_r(y, z, round),
+    };
+    Ok(RowAnswer::of(Returned::Rounded(answer), row))
+}
+
+/// The values of three operands.
+fn three_values<S: Semantics>(
+    row: CallRow<'_>,
+) -> Result<(IeeeFloat<S>, IeeeFloat<S>, IeeeFloat<S>), RowError<'_>> {
+    let (first, others) = row.cut_operand()?;
+    let (second, third) = others.split_once(' ').ok_or(row.operand_error())?;
+    Ok((value_of(first)?, value_of(second)?, value_of(third)?))
+}
+
+/// A remainder, with the steps that it takes and how many they are at most.
+fn remainder_steps<S: Semantics>(row: CallRow<'_>) -> Answered<'_> {
+    let (x, y) = two_values::<IeeeFloat<S>>(row)?;
+    let (answer, taken) = x.c_fmod_steps(y);
+    let bound = x.ilogb().saturating_sub(y.ilogb()).saturating_add(1).max(0);
+    Ok(RowAnswer {
+        extra: RowField::Steps(taken, bound),
+        ..RowAnswer::of(Returned::Rounded(answer), row)
+    })
+}
+
+/// The order of two magnitudes.
+fn order_of_magnitudes<S: Semantics>(row: CallRow<'_>) -> Answered<'_> {
+    let (x, y) = two_values::<IeeeFloat<S>>(row)?;
+    match (x.category(), y.category()) {
+        (Category::Normal, Category::Normal) => {
+            let order = x.cmp_abs_normal(y);
+            Ok(RowAnswer::told(RowField::Order(Some(order))))
+        }
+        _ => Err(row.support_error()),
+    }
+}
+
 /// A value converted to another format, and whether that loses information.
 fn converted<S: Semantics, T: Semantics>(request: RowRequest<'_>) -> Answered<'_> {
-    let RowRequest { row, round, .. } = request;
+    let RowRequest { row, call, round } = request;
     let mut loses_info = false;
-    let answer: StatusAnd<IeeeFloat<T>> = match row.call {
-        "convert" => value_of::<IeeeFloat<S>>(row.operands)?.convert(&mut loses_info),
-        "convert_r" => value_of::<IeeeFloat<S>>(row.operands)?.convert_r(round, &mut loses_info),
+    let answer: StatusAnd<IeeeFloat<T>> = match call {
+        Call::Conversion(ConversionCall::Convert) => {
+            value_of::<IeeeFloat<S>>(row.operands)?.convert(&mut loses_info)
+        }
+        Call::Conversion(ConversionCall::ConvertR) => {
+            value_of::<IeeeFloat<S>>(row.operands)?.convert_r(round, &mut loses_info)
+        }
         _ => return Err(row.support_error()),
     };
     Ok(RowAnswer {
@@ -193,8 +186,9 @@ fn converted<S: Semantics, T: Semantics>(request: RowRequest<'_>) -> Answered<'_
 }
 
 /// A pair as a wide value, or a wide value as a pair.
-fn from<F: Float + Debug, T: Float + Debug + From<F>>(row: CallRow<'_>) -> Answered<'_> {
-    if row.call != "from" {
+fn from<F: Float + Debug, T: Float + Debug + From<F>>(request: RowRequest<'_>) -> Answered<'_> {
+    let RowRequest { row, call, .. } = request;
+    if !matches!(call, Call::Conversion(ConversionCall::From)) {
         return Err(row.support_error());
     }
     let x = value_of::<F>(row.operands)?;
@@ -203,10 +197,27 @@ fn from<F: Float + Debug, T: Float + Debug + From<F>>(row: CallRow<'_>) -> Answe
 
 /// What a call returns in pairs of doubles.
 fn of_pairs(request: RowRequest<'_>) -> Answered<'_> {
-    let row = request.row;
-    if row.call != "cmp_abs_normal" {
-        return of_type::<DoubleDouble>(request);
+    let RowRequest { row, call, round } = request;
+    match call {
+        Call::OfOneType(OneTypeCall::Sqrt) => square_root_of_pair(row, None),
+        Call::OfOneType(OneTypeCall::SqrtR) => square_root_of_pair(row, Some(round)),
+        Call::OfOneType(OneTypeCall::CmpAbsNormal) => order_of_pair_magnitudes(row),
+        _ => of_type::<DoubleDouble>(request),
     }
+}
+
+/// The square root of a pair, in the mode if there is one.
+fn square_root_of_pair(row: CallRow<'_>, mode: Option<Round>) -> Answered<'_> {
+    let x = value_of::<DoubleDouble>(row.operands)?;
+    let answer = match mode {
+        None => x.sqrt(),
+        Some(round) => x.sqrt_r(round),
+    };
+    Ok(RowAnswer::of(Returned::Rounded(answer), row))
+}
+
+/// The order of the magnitudes of two pairs.
+fn order_of_pair_magnitudes(row: CallRow<'_>) -> Answered<'_> {
     let (x, y) = two_values(row)?;
     if !can_compare_magnitudes(x, y) {
         return Err(row.support_error());

@@ -10,8 +10,8 @@ divide_by_words-requires-clause-narrow c =
     let f = c.requires.divisor_fits in
     omega arith
 
-pub divide_short-requires-clause-narrow : goal.divide_short-requires-clause-narrow
-divide_short-requires-clause-narrow c =
+pub divide_short_by_words-requires-clause-narrow : goal.divide_short_by_words-requires-clause-narrow
+divide_short_by_words-requires-clause-narrow c =
     let l : c.args.precision ≤ 61 = omega arith in
     let a : 2 ^ c.args.precision ≤ 2 ^ 61 = pow-le-pow_right two_pos l in
     let f = c.requires.divisor_fits in

@@ -13,12 +13,12 @@ pub returns-then-gap-gt1-clause-past : goal.returns-then-gap-gt1-clause-past
 returns-then-gap-gt1-clause-past c =
     let x : ℕ = units_of c.args.x in
     let y : ℕ = units_of c.args.y in
-    let rest = c.rest_by-rest.result.magnitude in
-    let low = c.rest_by-rest.ensures.low in
+    let rest = c.remaining_by-rest.result.magnitude in
+    let low = c.remaining_by-rest.ensures.low in
     let f : 2 * units_of rest < y =
     far_below c.args.precision rest.significand rest.place c.args.y.significand c.args.y.place c.requires.some
-    c.rest_by-rest.ensures.fits c.requires.y.full (omega arith) in
-    lower_near (x % y) y (eqb (x / y % 2) 1) (subst (λ (z : ℕ). 2 * z < y) c.rest_by-rest.ensures.rest f)
+    c.remaining_by-rest.ensures.fits c.requires.y.full (omega arith) in
+    lower_near (x % y) y (eqb (x / y % 2) 1) (subst (λ (z : ℕ). 2 * z < y) c.remaining_by-rest.ensures.rest f)
 
 pub overflow_mul-divisor : goal.overflow_mul-divisor
 overflow_mul-divisor c =
@@ -31,10 +31,10 @@ level_places t p q e = ap (λ (x : ℕ). t * 2 ^ x) e
 
 -- the divisor at the place of the rest
 divisor_there : (state : Joined-gap-eq1)
-    → state.if-gap-eq1.divisor * 2 ^ state.rest_by-rest.result.magnitude.place ≡ units_of state.args.y
+    → state.if-gap-eq1.divisor * 2 ^ state.remaining_by-rest.result.magnitude.place ≡ units_of state.args.y
 divisor_there c =
-    let p : ℕ = c.rest_by-rest.result.magnitude.place in
-    let low = c.rest_by-rest.ensures.low in
+    let p : ℕ = c.remaining_by-rest.result.magnitude.place in
+    let low = c.remaining_by-rest.ensures.low in
     elim c.if-gap-eq1.branch [
       | then-gap-eq1 w ↦ ap (λ (z : ℕ). z * 2 ^ p) w.divisor-is ∙
           one_below c.args.y.significand p c.args.y.place (omega arith)
@@ -46,29 +46,29 @@ pub overflow_sub-other : goal.overflow_sub-other
 overflow_sub-other c =
     let x : ℕ = units_of c.args.x in
     let y : ℕ = units_of c.args.y in
-    let s : ℕ = c.rest_by-rest.result.magnitude.significand in
+    let s : ℕ = c.remaining_by-rest.result.magnitude.significand in
     let d : ℕ = c.if-gap-eq1.divisor in
     let l : x % y < y =
     mod-lt x (divisor_pos c.args.precision c.args.y.significand c.args.y.place c.requires.y.full) in
     let k : s < d =
-    digits_less s d (2 ^ c.rest_by-rest.result.magnitude.place) (x % y) y c.rest_by-rest.ensures.rest
+    digits_less s d (2 ^ c.remaining_by-rest.result.magnitude.place) (x % y) y c.remaining_by-rest.ensures.rest
     (divisor_there (goal.at.overflow_sub-other c).Joined-gap-eq1) l in
     omega arith
 
 -- which multiple is nearest, by the digits at the place of the rest
 nearest_there : (state : Joined-gap-eq1)
-    → upper state.rest_by-rest.result.magnitude.significand
-    (state.if-gap-eq1.divisor - state.rest_by-rest.result.magnitude.significand) state.rest_by-rest.result.odd
+    → upper state.remaining_by-rest.result.magnitude.significand
+    (state.if-gap-eq1.divisor - state.remaining_by-rest.result.magnitude.significand) state.remaining_by-rest.result.odd
     ≡ upper (units_of state.args.x % units_of state.args.y)
     (units_of state.args.y - units_of state.args.x % units_of state.args.y)
     (eqb (units_of state.args.x / units_of state.args.y % 2) 1)
 nearest_there c =
     let x : ℕ = units_of c.args.x in
     let y : ℕ = units_of c.args.y in
-    let p : ℕ = c.rest_by-rest.result.magnitude.place in
-    upper_level c.rest_by-rest.result.magnitude.significand c.if-gap-eq1.divisor (2 ^ p) (x % y) y
-    c.rest_by-rest.result.odd (eqb (x / y % 2) 1) (pow_pos p) c.rest_by-rest.ensures.rest (divisor_there c)
-    c.rest_by-rest.ensures.odd
+    let p : ℕ = c.remaining_by-rest.result.magnitude.place in
+    upper_level c.remaining_by-rest.result.magnitude.significand c.if-gap-eq1.divisor (2 ^ p) (x % y) y
+    c.remaining_by-rest.result.odd (eqb (x / y % 2) 1) (pow_pos p) c.remaining_by-rest.ensures.rest (divisor_there c)
+    c.remaining_by-rest.ensures.odd
 
 pub returns-then-is_upper_nearest-clause-past : goal.returns-then-is_upper_nearest-clause-past
 returns-then-is_upper_nearest-clause-past c =
@@ -79,10 +79,10 @@ pub returns-then-is_upper_nearest-clause-distance : goal.returns-then-is_upper_n
 returns-then-is_upper_nearest-clause-distance c =
     let x : ℕ = units_of c.args.x in
     let y : ℕ = units_of c.args.y in
-    let p : ℕ = c.rest_by-rest.result.magnitude.place in
+    let p : ℕ = c.remaining_by-rest.result.magnitude.place in
     let d : ℕ = c.if-gap-eq1.divisor in
-    less_scaled d c.rest_by-rest.result.magnitude.significand (2 ^ p) ∙
-    ap (λ (z : ℕ). d * 2 ^ p - z) c.rest_by-rest.ensures.rest ∙
+    less_scaled d c.remaining_by-rest.result.magnitude.significand (2 ^ p) ∙
+    ap (λ (z : ℕ). d * 2 ^ p - z) c.remaining_by-rest.ensures.rest ∙
     ap (λ (z : ℕ). z - x % y)
     (divisor_there (goal.at.returns-then-is_upper_nearest-clause-distance c).Joined-gap-eq1)
 

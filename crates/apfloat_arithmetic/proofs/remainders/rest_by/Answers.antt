@@ -1,8 +1,8 @@
-use Rattle.std.proofs.Common.{◌≡◌, ℕ, ◌+◌, ◌-◌, ◌/◌, ◌%◌, ◌^◌, ◌<◌, ◌≤◌, eqb, count_ones, sym, ap, ◌∙◌, subst, arith}
+use Rattle.std.proofs.Common.{◌≡◌, ℕ, ◌+◌, ◌-◌, ◌/◌, ◌%◌, ◌^◌, ◌<◌, ◌≤◌, count_ones, sym, ap, ◌∙◌, subst, arith}
 use Rattle.std.proofs.Math.Nat.{pow-le-pow_right}
 use Rattle.apfloat_base.proofs.general.Powers.{two_pos}
 use Rattle.apfloat_arithmetic.specs.Magnitudes.{units_of}
-use Rattle.apfloat_arithmetic.proofs.WholeQuotients.{IsTurn, is_turn, turn_rest, turn_ones, turn_even, turn_less, below_divisor, few_digits, left_all, none_set, not_odd, at_place, divisor_pos, last_turn, last_below, last_odd}
+use Rattle.apfloat_arithmetic.proofs.WholeQuotients.{IsTurn, is_turn, turn_rest, turn_ones, turn_less, below_divisor, few_digits, left_all, none_set, at_place, divisor_pos, last_turn, last_below}
 use Rattle.apfloat_arithmetic.proofs.remainders.rest_by.Goals.{Then-x-y, After-less_multiple-less, Then-less-y, Else-rest-y-2}
 use Rattle.apfloat_arithmetic.proofs.remainders.rest_by.Goals as goal
 
@@ -17,9 +17,6 @@ returns-then-x-y-clause-rest c = left_all (units_of c.args.y) (units_of c.args.x
 
 pub returns-then-x-y-clause-steps : goal.returns-then-x-y-clause-steps
 returns-then-x-y-clause-steps c = none_set (units_of c.args.y) (units_of c.args.x) (is_less c)
-
-pub returns-then-x-y-clause-odd : goal.returns-then-x-y-clause-odd
-returns-then-x-y-clause-odd c = not_odd (units_of c.args.y) (units_of c.args.x) (is_less c)
 
 pub less_multiple-less-requires-clause-narrow : goal.less_multiple-less-requires-clause-narrow
 less_multiple-less-requires-clause-narrow c =
@@ -85,12 +82,6 @@ returns-then-less-y-clause-steps c =
     let n = none_set (units_of c.args.y) (units_of c.less_multiple-less.result) (leaves_less c) in
     omega arith
 
-pub returns-then-less-y-clause-odd : goal.returns-then-less-y-clause-odd
-returns-then-less-y-clause-odd c =
-    last_odd (units_of c.args.y) (units_of c.loop-rest.rest) (units_of c.less_multiple-less.result)
-    (units_of c.args.x) (divides (goal.at.returns-then-less-y-clause-odd c).After-less_multiple-less) (last c)
-    c.loop-rest.invariant.parity
-
 -- ---- any other turn
 
 pub loop-rest-smaller : goal.loop-rest-smaller
@@ -119,8 +110,6 @@ loop-rest-preserved c =
       left = ap (λ (x : ℕ). x % d) c.raised-rest.ensures.same ∙ sym (turn_rest d r s k (turn state)) ∙
           c.loop-rest.invariant.left;
       counted = omega arith;
-      parity = ap (λ (x : ℕ). x / d % 2) c.raised-rest.ensures.same ∙
-          sym (turn_even d r s k (divides state) (omega arith) (turn state)) ∙ c.loop-rest.invariant.parity;
     }
 
 -- ---- after the loop
@@ -140,8 +129,3 @@ returns-clause-steps c =
     let i = c.loop-rest.invariant.counted in
     let n = none_set (units_of c.args.y) (units_of c.loop-rest.rest) (is_left c) in
     omega arith
-
-pub returns-clause-odd : goal.returns-clause-odd
-returns-clause-odd c =
-    not_odd (units_of c.args.y) (units_of c.loop-rest.rest) (is_left c) ∙
-    ap (λ (x : ℕ). eqb x 1) c.loop-rest.invariant.parity

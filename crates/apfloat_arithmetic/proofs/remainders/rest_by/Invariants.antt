@@ -10,7 +10,6 @@ invariant-loop-rest l = record {
   left : units_of l.rest % units_of l.y ≡ units_of l.fn.x % units_of l.y;
   counted : l.steps + count_ones (units_of l.rest / units_of l.y)
       ≡ count_ones (units_of l.fn.x / units_of l.y);
-  parity : units_of l.rest / units_of l.y % 2 ≡ units_of l.fn.x / units_of l.y % 2;
 }
 
 abbrev pub decreases-loop-rest : goal.decreases-loop-rest

@@ -1,8 +1,8 @@
-use Rattle.std.proofs.Common.{◌≡◌, ℕ, ◌-◌, ◌*◌, ◌%◌, ◌^◌, count_ones, ap, ◌∙◌, ◌-ℤ◌}
+use Rattle.std.proofs.Common.{◌≡◌, ℕ, ◌-◌, ◌*◌, ◌%◌, ◌^◌, ◌-ℤ◌}
 use Rattle.std.proofs.lemmas.Nat.{pow_pos}
 use Rattle.apfloat_unpacked.specs.Stored.{quanta_of}
 use Rattle.apfloat_arithmetic.specs.Magnitudes.{units_of}
-use Rattle.apfloat_arithmetic.proofs.NearestMultiples.{operand_scaled, rest_in, quotient_in}
+use Rattle.apfloat_arithmetic.proofs.NearestMultiples.{operand_scaled, rest_in}
 use Rattle.apfloat_arithmetic.proofs.remainders.truncated_rest.Goals.{After-magnitude_of-2}
 use Rattle.apfloat_arithmetic.proofs.remainders.truncated_rest.Goals as goal
 
@@ -30,12 +30,4 @@ returns-clause-quanta c =
     let b : ℕ = quanta_of c.args.shape c.args.y in
     c.in_quanta.ensures.same (a % b)
     (rest_in _ _ a b (2 ^ low) _ (pow_pos low) (number_scaled state) (divisor_scaled state)
-    c.rest_by-rest.ensures.rest)
-
-pub returns-clause-steps : goal.returns-clause-steps
-returns-clause-steps c =
-    let state = (goal.at.returns-clause-steps c).After-magnitude_of-2 in
-    let low : ℕ = c.args.shape.precision - 1 in
-    c.rest_by-rest.ensures.steps ∙
-    ap count_ones (quotient_in _ _ (quanta_of c.args.shape c.args.x) (quanta_of c.args.shape c.args.y) (2 ^ low)
-    (pow_pos low) (number_scaled state) (divisor_scaled state))
+    c.remaining_by-rest.ensures.rest)

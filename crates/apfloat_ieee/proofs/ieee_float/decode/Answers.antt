@@ -4,7 +4,7 @@ use Rattle.apfloat_base.specs.formats.Format.{Format}
 use Rattle.apfloat_base.specs.bits.Layout.{Layout, Fields, datum_of, fields_of, is_canonical, IsEncodedBy}
 use Rattle.apfloat_base.proofs.bits.EncodedOnce.{encoded_once}
 use Rattle.apfloat_unpacked.specs.Stored.{datum_at}
-use Rattle.apfloat_ieee.specs.Types.{shape_of, format_of, layout_of}
+use Rattle.apfloat_ieee.specs.FlaggedTypes.{shape_of, format_of, layout_of}
 use Rattle.apfloat_ieee.proofs.ieee_float.decode.Goals as goal
 
 implied_is_canonical : (format : Format) (layout : Layout) (fields : Fields) → format.explicit_integer_bit ≡ false
@@ -13,12 +13,12 @@ implied_is_canonical f layout x e = rw e refl
 
 pub returns : goal.returns
 returns g c =
-    let f = format_of g.S.Semantics in
-    let l = layout_of g.S.Semantics in
+    let f = format_of g.S.Flagged in
+    let l = layout_of g.S.Flagged in
     let d = rw c.shape_of.ensures at c.decode.ensures.datum in
     let read : c.packed.result ≡ datum_of f l c.args.bits =
     c.packed.ensures ∙
-    subst (λ (k : Layout). datum_at (shape_of g.S.Semantics) c.decode.result ≡ datum_of f k c.args.bits)
+    subst (λ (k : Layout). datum_at (shape_of g.S.Flagged) c.decode.result ≡ datum_of f k c.args.bits)
     c.widths_of.ensures.value d in
     let back : f.explicit_integer_bit ≡ false → c.args.bits < 2 ^ l.bits
     → IsEncodedBy f l c.args.bits c.packed.result =

@@ -2,12 +2,12 @@ use Rattle.apfloat_base.specs.rounding.Flags.{bits_of}
 use Rattle.apfloat_base.proofs.arithmetic.SumLaws.{sterbenz}
 use Rattle.apfloat_unpacked.specs.Stored.{datum_at}
 use Rattle.apfloat_unpacked.proofs.StoredMembers.{member_is}
-use Rattle.apfloat_ieee.specs.Types.{format_of, shape_of}
+use Rattle.apfloat_ieee.specs.FlaggedTypes.{format_of, shape_of}
 use Rattle.apfloat_ieee.proofs.sums.difference.Goals as goal
 
 pub returns-clause-nearby : goal.returns-clause-nearby
 returns-clause-nearby g c =
-    let s = shape_of g.S.Semantics in
+    let s = shape_of g.S.Flagged in
     let d = rw c.shape_of.ensures at c.subtract.ensures.delivered in
     let e = rw (← c.unpacked.ensures.datum, ← c.unpacked-2.ensures.datum) at d in
     let xm = member_is s c.unpacked.result c.unpacked.ensures.stored in
@@ -15,7 +15,7 @@ returns-clause-nearby g c =
     let ym = member_is s c.unpacked-2.result c.unpacked-2.ensures.stored in
     let y = rw (← c.unpacked-2.ensures.datum) at ym in
     rw (c.answered.ensures.value, c.answered.ensures.status)
-    (sterbenz (format_of g.S.Semantics) c.args.round c.args.x c.args.y (datum_at s c.subtract.result.value)
+    (sterbenz (format_of g.S.Flagged) c.args.round c.args.x c.args.y (datum_at s c.subtract.result.value)
     (bits_of c.subtract.result.status) x y e)
 
 pub returns-clause-difference : goal.returns-clause-difference

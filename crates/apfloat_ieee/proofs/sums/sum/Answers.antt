@@ -1,15 +1,15 @@
 use Rattle.apfloat_base.specs.rounding.Flags.{bits_of}
 use Rattle.apfloat_base.proofs.arithmetic.SumLaws.{monotone}
 use Rattle.apfloat_unpacked.specs.Stored.{datum_at}
-use Rattle.apfloat_ieee.specs.Types.{format_of, shape_of}
+use Rattle.apfloat_ieee.specs.FlaggedTypes.{format_of, shape_of}
 use Rattle.apfloat_ieee.proofs.sums.sum.Goals as goal
 
 pub returns-clause-monotone : goal.returns-clause-monotone
 returns-clause-monotone g c =
-    let s = shape_of g.S.Semantics in
+    let s = shape_of g.S.Flagged in
     let d = rw c.shape_of.ensures at c.add.ensures.delivered in
     let e = rw (← c.unpacked.ensures.datum, ← c.unpacked-2.ensures.datum) at d in
-    rw c.answered.ensures.value (monotone (format_of g.S.Semantics) c.args.round c.args.x c.args.y
+    rw c.answered.ensures.value (monotone (format_of g.S.Flagged) c.args.round c.args.x c.args.y
     (datum_at s c.add.result.value) (bits_of c.add.result.status) e)
 
 pub returns-clause-sum : goal.returns-clause-sum

@@ -14,4 +14,4 @@ returns-clause-delivered c = λ amount parts u h.
     (parts * 2 ^ up (to_z w32 (of_z w32 c.unit_place-unit.result))) =
     subst (λ (x : ℤ). StandsFor c.args.significand c.args.loss (amount * 2 ^ down x) (parts * 2 ^ up x))
     (sym v ∙ sym w) h in
-    c.finish.ensures.delivered amount parts u (c.keep-kept.ensures.cut amount parts u h')
+    c.finish.ensures.delivered amount parts u h' (c.keep-kept.ensures.cut amount parts u h')

@@ -3,11 +3,11 @@ use Rattle.apfloat_base.specs.declared.sig.loss.Loss.TheVariants.{ExactlyZero}
 use Rattle.apfloat_base.specs.rounding.Flags.{bits_of}
 use Rattle.apfloat_unpacked.specs.Shapes.{format_at}
 use Rattle.apfloat_unpacked.specs.Stored.{datum_at}
-use Rattle.apfloat_base.proofs.rounding.Deliveries.{past_is, delivered_past, delivered_exactly, delivered_inexactly, exact_if, inexact_if, loss_cases, tiny_is}
+use Rattle.apfloat_base.proofs.rounding.Deliveries.{past_is, delivered_past, delivered_exactly, delivered_inexactly, exact_if, inexact_if, loss_cases}
 use Rattle.apfloat_unpacked.proofs.rounding.finish.Goals as goal
 
 pub returns-then-is_past-clause-delivered : goal.returns-then-is_past-clause-delivered
-returns-then-is_past-clause-delivered c = λ amount parts u h.
+returns-then-is_past-clause-delivered c = λ amount parts u g h.
     let f = format_at c.args.shape in
     let p = c.pick-point.result.significand * 2 ^ c.pick-point.result.place in
     let a = past_is f c.greatest_significand-greatest.result c.span.result p c.is_past.result true
@@ -16,7 +16,7 @@ returns-then-is_past-clause-delivered c = λ amount parts u h.
     a c.overflowed.ensures.answer.value_is c.overflowed.ensures.answer.status_is
 
 pub returns-clause-delivered : goal.returns-clause-delivered
-returns-clause-delivered c = λ amount parts u h.
+returns-clause-delivered c = λ amount parts u g h.
     let f = format_at c.args.shape in
     let p = c.pick-point.result.significand * 2 ^ c.pick-point.result.place in
     let half = 2 ^ (c.args.shape.precision - 1) in
@@ -32,8 +32,7 @@ returns-clause-delivered c = λ amount parts u h.
     c.args.kept.loss z u h.0 h.1 is)
     v (s ∙ c.status_within-status.ensures.exact z))
     (λ (n : c.args.kept.loss ≡ ExactlyZero → ⊥).
-    let t = tiny_is f c.args.kept.significand c.args.kept.place amount parts c.pick-point.result.significand
-    c.pick-point.result.place c.is_tiny-tiny.result u h.0 c.pick-point.ensures.full c.is_tiny-tiny.ensures in
+    let t = c.is_tiny-tiny.ensures amount parts c.pick-point.result.place u g h c.pick-point.ensures.full in
     delivered_inexactly f c.args.mode c.args.negative amount parts p _ _ is a
     (inexact_if f.precision c.args.mode c.args.negative half c.args.kept.significand c.args.kept.place amount parts
     p c.args.kept.loss n u h.0 h.1 is)

@@ -4,7 +4,7 @@ use Rattle.rustc_apfloat.specs.Format.{Format}
 use Rattle.rustc_apfloat.specs.Datum.{Datum}
 use Rattle.rustc_apfloat.specs.Negation.{swapped}
 use Rattle.rustc_apfloat.specs.Products.{IsProduct}
-use Rattle.rustc_apfloat.specs.Types.{format_of}
+use Rattle.rustc_apfloat.specs.FlaggedTypes.{format_of}
 use Rattle.apfloat_base.proofs.Once.{product_once}
 use Rattle.conformance.proofs.laws.opposite_products.Goals as goal
 
@@ -18,10 +18,10 @@ turned_once f opposite other x turned y v w s t m e h k =
 
 pub returns-clause-value : goal.returns-clause-value
 returns-clause-value g c = λ left right.
-    (turned_once (format_of g.S.Semantics) (swapped c.args.mode) _ _ _ _ _ _ _ _ c.neg-2.ensures c.neg.ensures
+    (turned_once (format_of g.S.Flagged) (swapped c.args.mode) _ _ _ _ _ _ _ _ c.neg-2.ensures c.neg.ensures
     c.mul_r-2.ensures.product (c.mul_r.ensures.opposite left right)).0
 
 pub returns-clause-status : goal.returns-clause-status
 returns-clause-status g c = λ left right.
-    (turned_once (format_of g.S.Semantics) (swapped c.args.mode) _ _ _ _ _ _ _ _ c.neg-2.ensures c.neg.ensures
+    (turned_once (format_of g.S.Flagged) (swapped c.args.mode) _ _ _ _ _ _ _ _ c.neg-2.ensures c.neg.ensures
     c.mul_r-2.ensures.product (c.mul_r.ensures.opposite left right)).1

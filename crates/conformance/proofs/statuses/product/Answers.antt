@@ -1,7 +1,10 @@
-use Rattle.rustc_apfloat.specs.Types.{format_of}
+use Rattle.rustc_apfloat.specs.FlaggedTypes.{format_of}
 use Rattle.apfloat_base.proofs.rounding.FlagsTogether.{product_together}
 use Rattle.conformance.proofs.statuses.product.Goals as goal
 
-pub returns : goal.returns
-returns g c =
-    product_together (format_of g.S.Semantics) c.args.mode c.args.x c.args.y _ _ c.mul_r.ensures.product
+pub returns-clause-multiplies : goal.returns-clause-multiplies
+returns-clause-multiplies g c = c.mul_r.ensures.product
+
+pub returns-clause-flags : goal.returns-clause-flags
+returns-clause-flags g c =
+    product_together (format_of g.S.Flagged) c.args.mode c.args.x c.args.y _ _ c.mul_r.ensures.product

@@ -1,16 +1,16 @@
-use Rattle.rustc_apfloat.specs.Types.{format_of}
+use Rattle.rustc_apfloat.specs.FlaggedTypes.{format_of}
 use Rattle.rustc_apfloat.specs.Remainders.{truncated_quotient, nearest_quotient}
 use Rattle.apfloat_base.proofs.rounding.FlagsTogether.{quotient_together, remainder_together}
 use Rattle.conformance.proofs.statuses.quotient_and_remainders.Goals as goal
 
 pub returns-clause-quotient : goal.returns-clause-quotient
 returns-clause-quotient g c =
-    quotient_together (format_of g.S.Semantics) c.args.mode c.args.x c.args.y _ _ c.div_r.ensures
+    quotient_together (format_of g.S.Flagged) c.args.mode c.args.x c.args.y _ _ c.div_r.ensures
 
 pub returns-clause-truncated : goal.returns-clause-truncated
 returns-clause-truncated g c =
-    remainder_together (format_of g.S.Semantics) truncated_quotient c.args.x c.args.y _ _ c.c_fmod.ensures
+    remainder_together (format_of g.S.Flagged) truncated_quotient c.args.x c.args.y _ _ c.c_fmod.ensures
 
 pub returns-clause-nearest : goal.returns-clause-nearest
 returns-clause-nearest g c =
-    remainder_together (format_of g.S.Semantics) nearest_quotient c.args.x c.args.y _ _ c.ieee_rem.ensures
+    remainder_together (format_of g.S.Flagged) nearest_quotient c.args.x c.args.y _ _ c.ieee_rem.ensures

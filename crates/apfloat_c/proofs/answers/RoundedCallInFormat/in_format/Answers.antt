@@ -22,4 +22,5 @@ in_type-requires-in_default g c = record {
 pub returns-in_default : goal.returns-in_default
 returns-in_default g c =
     type_outcome (constants_of g.S.Semantics) c.args.self.round c.args.self.call _
-    c.in_default.not-FusedSum c.in_default.not-Conversion c.in_type-in_default.ensures
+    c.in_default.not-FusedSum c.in_default.not-SquareRoot c.in_default.not-Conversion
+    c.in_type-in_default.ensures

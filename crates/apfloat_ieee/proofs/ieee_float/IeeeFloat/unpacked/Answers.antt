@@ -2,16 +2,16 @@ use Rattle.std.proofs.Common.{◌≡◌, sym, subst}
 use Rattle.apfloat_base.specs.formats.Datum.{Datum}
 use Rattle.apfloat_base.specs.order.Classes.{category_of}
 use Rattle.apfloat_base.specs.formats.Members.{IsMember}
-use Rattle.apfloat_ieee.specs.Types.{shape_of, format_of}
+use Rattle.apfloat_ieee.specs.FlaggedTypes.{shape_of, format_of}
 use Rattle.apfloat_unpacked.proofs.StoredMembers.{category_is, member_is}
 use Rattle.apfloat_ieee.proofs.ieee_float.IeeeFloat.unpacked.Goals as goal
 
 pub returns-clause-category : goal.returns-clause-category
 returns-clause-category g c =
     subst (λ (d : Datum). c.self.inside.unpacked.category ≡ category_of d) c.self.view_is
-    (sym (category_is (shape_of g.S.Semantics) c.self.inside.unpacked c.self.invariant))
+    (sym (category_is (shape_of g.S.Flagged) c.self.inside.unpacked c.self.invariant))
 
 pub returns-clause-member : goal.returns-clause-member
 returns-clause-member g c =
-    subst (IsMember (format_of g.S.Semantics)) c.self.view_is
-    (member_is (shape_of g.S.Semantics) c.self.inside.unpacked c.self.invariant)
+    subst (IsMember (format_of g.S.Flagged)) c.self.view_is
+    (member_is (shape_of g.S.Flagged) c.self.inside.unpacked c.self.invariant)

@@ -1,7 +1,7 @@
-use Rattle.apfloat_ieee.specs.Types.{shape_of}
+use Rattle.apfloat_ieee.specs.FlaggedTypes.{shape_of}
 use Rattle.apfloat_ieee.proofs.impls.IeeeFloatFloat.bitwise_eq.Goals as goal
 
 pub returns : goal.returns
 returns g c =
     rw (c.unpacked.ensures.datum, c.unpacked-2.ensures.datum)
-    (c.is_same.ensures (shape_of g.S.Semantics) c.unpacked.ensures.stored c.unpacked-2.ensures.stored)
+    (c.is_same.ensures (shape_of g.S.Flagged) c.unpacked.ensures.stored c.unpacked-2.ensures.stored)

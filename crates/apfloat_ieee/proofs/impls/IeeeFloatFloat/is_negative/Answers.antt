@@ -5,7 +5,7 @@ use Rattle.apfloat_base.specs.order.Classes.{is_negative}
 use Rattle.apfloat_unpacked.specs.declared.shape.Shape.{Shape}
 use Rattle.apfloat_unpacked.specs.declared.unpacked.Unpacked.{Unpacked}
 use Rattle.apfloat_unpacked.specs.Stored.{datum_by}
-use Rattle.apfloat_ieee.specs.Types.{shape_of}
+use Rattle.apfloat_ieee.specs.FlaggedTypes.{shape_of}
 use Rattle.apfloat_ieee.proofs.impls.IeeeFloatFloat.is_negative.Goals as goal
 
 sign_by : (category : Category) (shape : Shape) (x : Unpacked) → x.negative ≡ is_negative (datum_by category shape x)
@@ -16,5 +16,5 @@ sign_by NaN s x = refl
 
 pub returns : goal.returns
 returns g c =
-    let n = sign_by c.unpacked.result.category (shape_of g.S.Semantics) c.unpacked.result in
+    let n = sign_by c.unpacked.result.category (shape_of g.S.Flagged) c.unpacked.result in
     rw c.unpacked.ensures.datum (assumption n)

@@ -4,5 +4,5 @@ use Rattle.apfloat_ieee.proofs.impls.IeeeFloatFloat.zero.Goals as goal
 pub returns : goal.returns
 returns g c =
     let d = rw c.shape_of.ensures at c.zero_of.ensures.datum in
-    let p = rw (plus_zero g.S.Semantics.NONFINITE_BEHAVIOR) at d in
+    let p = rw (plus_zero g.S.Flagged.NONFINITE_BEHAVIOR) at d in
     rw c.packed.ensures (assumption p)

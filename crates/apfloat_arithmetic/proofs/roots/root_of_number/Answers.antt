@@ -1,0 +1,34 @@
+use Rattle.std.proofs.Common.{◌≡◌, ◌+◌, ◌-◌, ◌*◌, ◌^◌, refl, w32, to_z, of_z, arith, ℤ, pos, ◌+ℤ◌, ◌-ℤ◌}
+use Rattle.std.proofs.lemmas.Nat.{pow_pos}
+use Rattle.std.proofs.lemmas.Int.{to_z-of_z, ints}
+use borrow.Author.Differences.{fits_in}
+use Rattle.apfloat_base.specs.rounding.Flags.{bits_of}
+use Rattle.apfloat_base.specs.rounding.Standing.{up, down}
+use Rattle.apfloat_base.proofs.arithmetic.RootStandings.{delivered_of_standing}
+use Rattle.apfloat_unpacked.specs.Shapes.{format_at}
+use Rattle.apfloat_unpacked.specs.Stored.{quanta_at, datum_at}
+use Rattle.apfloat_arithmetic.proofs.ProductExponents.{normal_near}
+use Rattle.apfloat_arithmetic.proofs.RootExponents.{root_is}
+use Rattle.apfloat_arithmetic.proofs.roots.root_of_number.Goals as goal
+
+pub returns-clause-delivered : goal.returns-clause-delivered
+returns-clause-delivered c =
+    let s = c.args.shape in
+    let x = normal_near s c.args.x.significand c.args.x.exponent c.requires in
+    let half : ℤ = c.halves_of-exponent.result.half in
+    let last : ℤ = c.root_exponent-last.result in
+    let h : c.args.x.exponent ≡ (half +ℤ half) +ℤ pos c.halves_of-exponent.result.odd =
+    rw x.word at c.halves_of-exponent.ensures.halves in
+    let w : to_z w32 (of_z w32 last) ≡ last = to_z-of_z w32 last (record { sfits = c.root_exponent-last.type_inv }) in
+    let u : to_z w32 (of_z w32 half) ≡ half =
+    to_z-of_z w32 half (fits_in w32 half (omega (arith, ints, c.halves_of-exponent.ensures.within))) in
+    let v : last ≡ half -ℤ pos (s.precision - 1) = rw u at c.root_exponent-last.ensures.value in
+    let unit : ℤ = last +ℤ pos (format_at s).scale in
+    delivered_of_standing (format_at s) c.args.round
+    (quanta_at s.min_exp c.args.x.significand c.args.x.exponent * 2 ^ (format_at s).scale)
+    (c.args.x.significand * 2 ^ (s.precision - 1 + c.halves_of-exponent.result.odd))
+    (2 ^ up unit) (2 ^ down unit) c.root_of-root.result.whole c.root_of-root.result.loss
+    (datum_at s c.deliver.result.value) (bits_of c.deliver.result.status) (pow_pos (up unit)) (pow_pos (down unit))
+    (root_is s c.args.x.exponent half last c.args.x.significand (s.precision - 1 + c.halves_of-exponent.result.odd)
+    c.halves_of-exponent.result.odd c.requires h refl v)
+    c.root_of-root.ensures.stands (rw w at c.deliver.ensures.delivered)

@@ -1,0 +1,19 @@
+use Rattle.std.proofs.Common.{subst}
+use Rattle.apfloat_base.specs.declared.kinds.Category.{Category}
+use Rattle.apfloat_base.specs.declared.kinds.Category.TheVariants.{Normal}
+use Rattle.apfloat_unpacked.specs.Shapes.{format_at}
+use Rattle.apfloat_unpacked.specs.Stored.{IsStoredBy, IsNormalAt, quanta_at}
+use Rattle.apfloat_unpacked.proofs.StoredBack.{quanta_some}
+use Rattle.apfloat_arithmetic.proofs.SumCases.{datum_is}
+use Rattle.apfloat_arithmetic.proofs.RootCases.{negative_root}
+use Rattle.apfloat_arithmetic.proofs.roots.root_of_special.Goals as goal
+
+pub returns-in-Normal-clause-delivered : goal.returns-in-Normal-clause-delivered
+returns-in-Normal-clause-delivered c =
+    let s = c.args.shape in
+    let x = c.args.x in
+    let n : IsNormalAt s x.significand x.exponent =
+    subst (λ (k : Category). IsStoredBy k s x) c.in-Normal.is c.requires.stored in
+    rw (datum_is Normal s x c.in-Normal.is)
+    (negative_root (format_at s) c.args.round x.negative (quanta_at s.min_exp x.significand x.exponent) _ _
+    (quanta_some s x.significand x.exponent n) (c.requires.special c.in-Normal.is) c.invalid.ensures.delivered)

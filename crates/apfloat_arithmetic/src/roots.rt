@@ -1,0 +1,110 @@
+//! Square roots.
+
+ghost use Rattle.std.specs.Prelude.{◌≡◌, ◌-◌, ◌*◌, ◌^◌, ◌<◌, ◌≤◌, pos, ◌+ℤ◌, ◌-ℤ◌, true, false};
+ghost use Rattle.apfloat_base.specs.rounding.Bounds.{IsWithin, number_bound, exponent_bound};
+ghost use Rattle.apfloat_base.specs.arithmetic.Roots.{IsDeliveredRoot, IsRoot};
+ghost use Rattle.apfloat_unpacked.specs.Shapes.{format_at};
+ghost use Rattle.apfloat_unpacked.specs.Stored.{IsStored, IsNormal, quanta_of, datum_at, GivesAt};
+
+use apfloat_base::sig::root_of;
+use apfloat_base::{Category, ExpInt, Round, Status, StatusAnd};
+use apfloat_unpacked::nans::{invalid, propagated};
+use apfloat_unpacked::rounding::deliver;
+use apfloat_unpacked::shape::Shape;
+use apfloat_unpacked::unpacked::{Unpacked, remade};
+
+/// Half of an exponent, rounded down, and 1 if it is odd.
+#[derive(Clone, Copy, Debug)]
+struct Halves {
+    half: ExpInt,
+    odd: u32,
+}
+
+/// Half of an exponent. It is raised by an even number first, so that it is not negative.
+#[inline(always)]
+fn halves_of(exponent: ExpInt) -> Halves
+    requires { IsWithin number_bound exponent }
+    ensures odd { result.odd ≤ 1 }
+    ensures halves { exponent ≡ (result.half +ℤ result.half) +ℤ pos result.odd }
+    ensures within { IsWithin number_bound result.half }
+{
+    let raised = (exponent + 4194304) as u32;
+    Halves {
+        half: (raised / 2) as ExpInt - 2097152,
+        odd: raised % 2,
+    }
+}
+
+/// The exponent of the last digit of a root of `precision` digits, of which `half` is that of the integer bit.
+#[inline(always)]
+fn root_exponent(precision: u32, half: ExpInt) -> ExpInt
+    requires some { 0 < precision }
+    requires short { precision ≤ 128 }
+    requires within { IsWithin number_bound half }
+    ensures value { result ≡ half -ℤ pos (precision - 1) }
+    ensures within { IsWithin exponent_bound result }
+{
+    half - (precision - 1) as ExpInt
+}
+
+/// The root of a positive number, rounded once. Its significand is followed by as many zeros as it takes for a whole
+/// root with all digits of the format, and for an even exponent.
+#[inline(always)]
+fn root_of_number(shape: Shape, x: Unpacked, round: Round) -> StatusAnd<Unpacked>
+    requires { IsNormal shape x }
+    ensures stored { IsStored shape result.value }
+    ensures delivered { GivesAt shape (IsDeliveredRoot (format_at shape) round
+        (quanta_of shape x * 2 ^ (format_at shape).scale)) result }
+{
+    let exponent = halves_of(x.exponent);
+    let places = shape.precision - 1 + exponent.odd;
+    let root = root_of(shape.precision, x.significand, places);
+    let last = root_exponent(shape.precision, exponent.half);
+    deliver(shape, root.whole, last, root.loss, round, false)
+}
+
+/// The root of any value but a positive number. Kept out of line, like `add_any`.
+#[cold]
+#[inline(never)]
+fn root_of_special(shape: Shape, x: Unpacked, round: Round) -> StatusAnd<Unpacked>
+    requires stored { IsStored shape x }
+    requires special { x.category ≡ Category.Normal → x.negative ≡ true }
+    ensures stored { IsStored shape result.value }
+    ensures delivered { GivesAt shape (IsRoot (format_at shape) round (datum_at shape x)) result }
+{
+    match x.category {
+        Category::Normal => invalid(shape),
+        Category::Zero => Status::OK.and(x),
+        Category::Infinity => {
+            if x.negative {
+                invalid(shape)
+            } else {
+                Status::OK.and(x)
+            }
+        }
+        Category::NaN => propagated(shape, x),
+    }
+}
+
+/// Whether the value is a positive number, neither zero nor infinity.
+#[inline(always)]
+fn is_positive_number(x: Unpacked) -> bool
+    ensures yes { result ≡ true → (x.category ≡ Category.Normal) × (x.negative ≡ false) }
+    ensures no { result ≡ false → x.category ≡ Category.Normal → x.negative ≡ true }
+{
+    (x.category == Category::Normal) & !x.negative
+}
+
+/// The square root of a value, rounded once (IEEE 754-2008 5.4.1, squareRoot).
+#[inline(always)]
+pub fn square_root(shape: Shape, x: Unpacked, round: Round) -> StatusAnd<Unpacked>
+    requires { IsStored shape x }
+    ensures stored { IsStored shape result.value }
+    ensures delivered { GivesAt shape (IsRoot (format_at shape) round (datum_at shape x)) result }
+{
+    if is_positive_number(x) {
+        root_of_number(shape, x, round)
+    } else {
+        remade(root_of_special(shape.remade(), x.remade(), round))
+    }
+}

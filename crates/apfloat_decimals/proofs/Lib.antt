@@ -1,0 +1,5 @@
+pub mod Clamped
+pub mod DecimalPowers
+pub mod Quotients
+pub mod Readings
+pub mod Values

@@ -1,0 +1,58 @@
+//! Decimals as values of a format.
+
+ghost use Rattle.apfloat_base.specs.formats.Formats.{half_constants, single_constants, double_constants, quad_constants, bfloat_constants, e5m2_constants, e4m3fn_constants, e4m3fnuz_constants, x87_constants};
+ghost use Rattle.apfloat_base.specs.formats.Lawful.{format_with};
+ghost use Rattle.apfloat_base.specs.rounding.Flags.{Gives};
+ghost use Rattle.apfloat_ieee.specs.Types.{format_of};
+ghost use Rattle.apfloat_decimals.specs.Decimals.{IsDecimalDelivery, HasQuadExponents};
+
+use crate::reading::{nearest, scaled};
+use apfloat_base::sig::Loss;
+use apfloat_base::{ExpInt, Round, StatusAnd};
+use apfloat_ieee::{IeeeFloat, Semantics, deliver};
+
+/// The number `digits * 10^exponent`, with a sign.
+#[derive(Clone, Copy, PartialEq, Eq, Debug)]
+pub struct Decimal {
+    /// Whether the number is below zero, or a zero with a negative sign.
+    pub negative: bool,
+    /// Its digits, as a whole number.
+    pub digits: u128,
+    /// The exponent of ten of the last digit.
+    pub exponent: ExpInt,
+}
+
+/// The value of a decimal, rounded once to the format (IEEE 754-2008 5.12.2), with exactly the flags of that rounding.
+///
+/// The exponents of the format are within those of `Quad`, as in each built-in format; that of the decimal is any. A
+/// zero keeps its sign if the format has it.
+pub fn from_decimal<S: Semantics>(decimal: Decimal, round: Round) -> StatusAnd<IeeeFloat<S>>
+    requires { HasQuadExponents (format_of S.Semantics) }
+    ensures { Gives (IsDecimalDelivery (format_of S.Semantics) round decimal.negative
+        decimal.digits decimal.exponent) result }
+{
+    if decimal.digits == 0 {
+        return deliver::<S>(0, 0, Loss::ExactlyZero, round, decimal.negative);
+    }
+    let ratio = scaled(decimal.digits, nearest(decimal.exponent));
+    deliver::<S>(
+        ratio.significand,
+        ratio.exponent,
+        ratio.loss,
+        round,
+        decimal.negative,
+    )
+}
+
+/// Each built-in format has the exponents that `from_decimal` requires.
+pub fn built_in_formats()
+    ensures half { HasQuadExponents (format_with half_constants) }
+    ensures single { HasQuadExponents (format_with single_constants) }
+    ensures double { HasQuadExponents (format_with double_constants) }
+    ensures quad { HasQuadExponents (format_with quad_constants) }
+    ensures bfloat { HasQuadExponents (format_with bfloat_constants) }
+    ensures e5m2 { HasQuadExponents (format_with e5m2_constants) }
+    ensures e4m3fn { HasQuadExponents (format_with e4m3fn_constants) }
+    ensures e4m3fnuz { HasQuadExponents (format_with e4m3fnuz_constants) }
+    ensures x87 { HasQuadExponents (format_with x87_constants) }
+{}

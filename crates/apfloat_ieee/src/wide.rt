@@ -1,0 +1,60 @@
+//! Products and fused sums in every format, however many digits it has.
+
+ghost use Rattle.apfloat_base.specs.declared.kinds.Round.TheVariants.{NearestTiesToEven};
+ghost use Rattle.apfloat_base.specs.rounding.Flags.{Gives};
+ghost use Rattle.apfloat_base.specs.arithmetic.Products.{IsProduct};
+ghost use Rattle.apfloat_base.specs.arithmetic.FusedSums.{IsFusedSum};
+ghost use Rattle.apfloat_ieee.specs.FlaggedTypes.{format_of};
+
+use crate::flagged::Flagged;
+use crate::ieee_float::{IeeeFloat, shape_of};
+use apfloat_arithmetic::wide_fused::wide_multiply_add;
+use apfloat_arithmetic::wide_products::wide_multiply;
+use apfloat_base::{Round, StatusAnd};
+
+impl<S: Flagged> IeeeFloat<S> {
+    /// The product with `rhs`, rounded once (IEEE 754-2008 5.4.1, multiplication), in a format of any precision.
+    ///
+    /// It is the product that `mul_r` returns, which only formats of at most `PRODUCT_LIMIT` digits have.
+    #[inline(always)]
+    pub fn wide_mul_r(self, rhs: Self, round: Round) -> StatusAnd<Self>
+        ensures { Gives (IsProduct (format_of S.Flagged) round self rhs) result }
+    {
+        IeeeFloat::answered(wide_multiply(shape_of::<S>(), self.unpacked(), rhs.unpacked(), round))
+    }
+
+    /// The product with `rhs`, rounded once to the nearest value, ties to even, in a format of any precision.
+    #[inline]
+    pub fn wide_mul(self, rhs: Self) -> StatusAnd<Self>
+        ensures { Gives (IsProduct (format_of S.Flagged) NearestTiesToEven self rhs) result }
+    {
+        self.wide_mul_r(rhs, Round::NearestTiesToEven)
+    }
+
+    /// The product with `multiplicand` plus `addend`, rounded once (IEEE 754-2008 5.4.1, fusedMultiplyAdd), in a format
+    /// of any precision.
+    ///
+    /// It is the fused sum that `mul_add_r` returns, which only formats of at most `FUSED_LIMIT` digits have.
+    #[inline(always)]
+    pub fn wide_mul_add_r(self, multiplicand: Self, addend: Self, round: Round) -> StatusAnd<Self>
+        ensures { Gives (IsFusedSum (format_of S.Flagged) round self multiplicand addend) result }
+    {
+        IeeeFloat::answered(wide_multiply_add(
+            shape_of::<S>(),
+            self.unpacked(),
+            multiplicand.unpacked(),
+            addend.unpacked(),
+            round,
+        ))
+    }
+
+    /// The product with `multiplicand` plus `addend`, rounded once to the nearest value, ties to even, in a format of
+    /// any precision.
+    #[inline]
+    pub fn wide_mul_add(self, multiplicand: Self, addend: Self) -> StatusAnd<Self>
+        ensures { Gives (IsFusedSum (format_of S.Flagged) NearestTiesToEven self multiplicand
+            addend) result }
+    {
+        self.wide_mul_add_r(multiplicand, addend, Round::NearestTiesToEven)
+    }
+}

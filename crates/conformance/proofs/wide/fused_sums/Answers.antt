@@ -1,0 +1,12 @@
+use Rattle.rustc_apfloat.specs.FlaggedTypes.{format_of}
+use Rattle.rustc_apfloat.specs.FusedSums.{IsFusedSum}
+use Rattle.apfloat_base.proofs.Once.{fused_sum_once}
+use Rattle.apfloat_base.proofs.Determined.{gives_once}
+use Rattle.conformance.proofs.wide.fused_sums.Goals as goal
+
+pub returns : goal.returns
+returns g c =
+    let format = format_of g.S.Flagged in
+    gives_once (IsFusedSum format c.args.mode c.args.x c.args.y c.args.addend)
+    (fused_sum_once format c.args.mode c.args.x c.args.y c.args.addend) c.wide_mul_add_r.result
+    c.mul_add_r.result c.wide_mul_add_r.ensures c.mul_add_r.ensures

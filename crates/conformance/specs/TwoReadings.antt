@@ -1,0 +1,13 @@
+-- Two readings of one text.
+use Rattle.std.specs.Prelude.{◌≡◌, Result, Ok, Err}
+use Rattle.apfloat_base.specs.declared.parse_error.ParseError.{ParseError}
+use Rattle.apfloat_base.specs.declared.status.StatusAnd.{StatusAnd}
+use Rattle.rustc_apfloat.specs.Datum.{Datum}
+
+-- two values, with what is said of them, or refusals with the same words
+abbrev pub AreReadings : (StatusAnd Datum → StatusAnd Datum → Type 0) → Result (StatusAnd Datum) ParseError
+    → Result (StatusAnd Datum) ParseError → Type 0
+AreReadings Say (Ok one) (Ok other) = Say one other
+AreReadings Say (Ok one) (Err error) = ⊥
+AreReadings Say (Err error) (Ok one) = ⊥
+AreReadings Say (Err error) (Err other) = error.0.now ≡ other.0.now

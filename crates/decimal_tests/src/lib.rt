@@ -1,0 +1,7 @@
+//! Tests of decimals.
+//!
+//! They are in a separate crate, since testing a crate proves the whole crate again.
+#![tactic(auto)]
+
+#[cfg(test)]
+mod values;

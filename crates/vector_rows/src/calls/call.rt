@@ -1,0 +1,281 @@
+//! The calls that rows can ask for, and their names.
+
+use crate::calls::table::found;
+
+/// A call, by what its operands are.
+#[derive(Clone, Copy)]
+pub enum Call {
+    /// There are none: the call is a constant of the type.
+    Constant(Constant),
+    /// One value.
+    OfOneValue(OneValueCall),
+    /// One value, which has the property or not.
+    HasProperty(Property),
+    /// Two values.
+    OfTwoValues(TwoValuesCall),
+    /// Two values, of which the left one takes the result.
+    Assigning(AssigningOperator),
+    /// A value and an integer.
+    OfValueAndInteger(IntegerCall),
+    /// An integer, the payload of a NaN, or a text.
+    OfWord(WordCall),
+    /// Values of a type that has the call by itself, and not by a trait.
+    OfOneType(OneTypeCall),
+    /// A value of another type.
+    Conversion(ConversionCall),
+}
+
+/// A constant of a type.
+#[derive(Clone, Copy)]
+pub enum Constant {
+    Bits,
+    Precision,
+    MaxExp,
+    MinExp,
+    Multiplies,
+    Zero,
+    Default,
+    Infinity,
+    Nan,
+    Largest,
+    Smallest,
+    SmallestNormalized,
+}
+
+/// A call of one value.
+#[derive(Clone, Copy)]
+pub enum OneValueCall {
+    RoundToIntegral,
+    NextUp,
+    NextDown,
+    Neg,
+    Abs,
+    ThroughI128,
+    ExactInverse,
+    Frexp,
+    FrexpR,
+    Ilogb,
+    ToBits,
+    Category,
+    Debug,
+}
+
+/// A property of a value.
+#[derive(Clone, Copy)]
+pub enum Property {
+    Normal,
+    Denormal,
+    Integer,
+    Negative,
+    Finite,
+    Infinite,
+    Nan,
+    Signaling,
+    Zero,
+    NonZero,
+    FiniteNonZero,
+    PosZero,
+    NegZero,
+    PosInfinity,
+    NegInfinity,
+    Smallest,
+    SmallestNormalized,
+    Largest,
+}
+
+/// A call of two values.
+#[derive(Clone, Copy)]
+pub enum TwoValuesCall {
+    AddR,
+    SubR,
+    MulR,
+    DivR,
+    IeeeRem,
+    CFmod,
+    Add,
+    Sub,
+    Mul,
+    Div,
+    Rem,
+    CopySign,
+    Min,
+    Max,
+    Minimum,
+    Maximum,
+    Eq,
+    BitwiseEq,
+    PartialCmp,
+}
+
+/// An assigning operator.
+#[derive(Clone, Copy)]
+pub enum AssigningOperator {
+    Add,
+    Sub,
+    Mul,
+    Div,
+    Rem,
+}
+
+/// A call of a value and an integer.
+#[derive(Clone, Copy)]
+pub enum IntegerCall {
+    Scalbn,
+    ScalbnR,
+    ToU128,
+    ToU128R,
+    ToI128,
+    ToI128R,
+}
+
+/// A call of an integer, a payload or a text.
+#[derive(Clone, Copy)]
+pub enum WordCall {
+    FromU128,
+    FromU128R,
+    FromI128,
+    FromI128R,
+    Qnan,
+    Snan,
+    FromStr,
+    FromStrR,
+}
+
+/// A call that some types have by themselves.
+#[derive(Clone, Copy)]
+pub enum OneTypeCall {
+    Sqrt,
+    SqrtR,
+    WideMulR,
+    WideMulAddR,
+    MulAdd,
+    MulAddR,
+    CFmodSteps,
+    CmpAbsNormal,
+}
+
+/// A conversion from another type.
+#[derive(Clone, Copy)]
+pub enum ConversionCall {
+    Convert,
+    ConvertR,
+    From,
+}
+
+// The calls by their names. A `match` on so many texts would take minutes to prove.
+static CALLS: &[(&str, Call)] = &[
+    ("BITS", Call::Constant(Constant::Bits)),
+    ("PRECISION", Call::Constant(Constant::Precision)),
+    ("MAX_EXP", Call::Constant(Constant::MaxExp)),
+    ("MIN_EXP", Call::Constant(Constant::MinExp)),
+    ("MULTIPLIES", Call::Constant(Constant::Multiplies)),
+    ("zero", Call::Constant(Constant::Zero)),
+    ("default", Call::Constant(Constant::Default)),
+    ("infinity", Call::Constant(Constant::Infinity)),
+    ("nan", Call::Constant(Constant::Nan)),
+    ("largest", Call::Constant(Constant::Largest)),
+    ("smallest", Call::Constant(Constant::Smallest)),
+    (
+        "smallest_normalized",
+        Call::Constant(Constant::SmallestNormalized),
+    ),
+    (
+        "round_to_integral",
+        Call::OfOneValue(OneValueCall::RoundToIntegral),
+    ),
+    ("next_up", Call::OfOneValue(OneValueCall::NextUp)),
+    ("next_down", Call::OfOneValue(OneValueCall::NextDown)),
+    ("neg", Call::OfOneValue(OneValueCall::Neg)),
+    ("abs", Call::OfOneValue(OneValueCall::Abs)),
+    ("through_i128", Call::OfOneValue(OneValueCall::ThroughI128)),
+    (
+        "get_exact_inverse",
+        Call::OfOneValue(OneValueCall::ExactInverse),
+    ),
+    ("frexp", Call::OfOneValue(OneValueCall::Frexp)),
+    ("frexp_r", Call::OfOneValue(OneValueCall::FrexpR)),
+    ("ilogb", Call::OfOneValue(OneValueCall::Ilogb)),
+    ("to_bits", Call::OfOneValue(OneValueCall::ToBits)),
+    ("category", Call::OfOneValue(OneValueCall::Category)),
+    ("debug", Call::OfOneValue(OneValueCall::Debug)),
+    ("is_normal", Call::HasProperty(Property::Normal)),
+    ("is_denormal", Call::HasProperty(Property::Denormal)),
+    ("is_integer", Call::HasProperty(Property::Integer)),
+    ("is_negative", Call::HasProperty(Property::Negative)),
+    ("is_finite", Call::HasProperty(Property::Finite)),
+    ("is_infinite", Call::HasProperty(Property::Infinite)),
+    ("is_nan", Call::HasProperty(Property::Nan)),
+    ("is_signaling", Call::HasProperty(Property::Signaling)),
+    ("is_zero", Call::HasProperty(Property::Zero)),
+    ("is_non_zero", Call::HasProperty(Property::NonZero)),
+    (
+        "is_finite_non_zero",
+        Call::HasProperty(Property::FiniteNonZero),
+    ),
+    ("is_pos_zero", Call::HasProperty(Property::PosZero)),
+    ("is_neg_zero", Call::HasProperty(Property::NegZero)),
+    ("is_pos_infinity", Call::HasProperty(Property::PosInfinity)),
+    ("is_neg_infinity", Call::HasProperty(Property::NegInfinity)),
+    ("is_smallest", Call::HasProperty(Property::Smallest)),
+    (
+        "is_smallest_normalized",
+        Call::HasProperty(Property::SmallestNormalized),
+    ),
+    ("is_largest", Call::HasProperty(Property::Largest)),
+    ("add_r", Call::OfTwoValues(TwoValuesCall::AddR)),
+    ("sub_r", Call::OfTwoValues(TwoValuesCall::SubR)),
+    ("mul_r", Call::OfTwoValues(TwoValuesCall::MulR)),
+    ("div_r", Call::OfTwoValues(TwoValuesCall::DivR)),
+    ("ieee_rem", Call::OfTwoValues(TwoValuesCall::IeeeRem)),
+    ("c_fmod", Call::OfTwoValues(TwoValuesCall::CFmod)),
+    ("+", Call::OfTwoValues(TwoValuesCall::Add)),
+    ("-", Call::OfTwoValues(TwoValuesCall::Sub)),
+    ("*", Call::OfTwoValues(TwoValuesCall::Mul)),
+    ("/", Call::OfTwoValues(TwoValuesCall::Div)),
+    ("%", Call::OfTwoValues(TwoValuesCall::Rem)),
+    ("copy_sign", Call::OfTwoValues(TwoValuesCall::CopySign)),
+    ("min", Call::OfTwoValues(TwoValuesCall::Min)),
+    ("max", Call::OfTwoValues(TwoValuesCall::Max)),
+    ("minimum", Call::OfTwoValues(TwoValuesCall::Minimum)),
+    ("maximum", Call::OfTwoValues(TwoValuesCall::Maximum)),
+    ("eq", Call::OfTwoValues(TwoValuesCall::Eq)),
+    ("bitwise_eq", Call::OfTwoValues(TwoValuesCall::BitwiseEq)),
+    ("partial_cmp", Call::OfTwoValues(TwoValuesCall::PartialCmp)),
+    ("+=", Call::Assigning(AssigningOperator::Add)),
+    ("-=", Call::Assigning(AssigningOperator::Sub)),
+    ("*=", Call::Assigning(AssigningOperator::Mul)),
+    ("/=", Call::Assigning(AssigningOperator::Div)),
+    ("%=", Call::Assigning(AssigningOperator::Rem)),
+    ("scalbn", Call::OfValueAndInteger(IntegerCall::Scalbn)),
+    ("scalbn_r", Call::OfValueAndInteger(IntegerCall::ScalbnR)),
+    ("to_u128", Call::OfValueAndInteger(IntegerCall::ToU128)),
+    ("to_u128_r", Call::OfValueAndInteger(IntegerCall::ToU128R)),
+    ("to_i128", Call::OfValueAndInteger(IntegerCall::ToI128)),
+    ("to_i128_r", Call::OfValueAndInteger(IntegerCall::ToI128R)),
+    ("from_u128", Call::OfWord(WordCall::FromU128)),
+    ("from_u128_r", Call::OfWord(WordCall::FromU128R)),
+    ("from_i128", Call::OfWord(WordCall::FromI128)),
+    ("from_i128_r", Call::OfWord(WordCall::FromI128R)),
+    ("qnan", Call::OfWord(WordCall::Qnan)),
+    ("snan", Call::OfWord(WordCall::Snan)),
+    ("from_str", Call::OfWord(WordCall::FromStr)),
+    ("from_str_r", Call::OfWord(WordCall::FromStrR)),
+    ("sqrt", Call::OfOneType(OneTypeCall::Sqrt)),
+    ("sqrt_r", Call::OfOneType(OneTypeCall::SqrtR)),
+    ("wide_mul_r", Call::OfOneType(OneTypeCall::WideMulR)),
+    ("wide_mul_add_r", Call::OfOneType(OneTypeCall::WideMulAddR)),
+    ("mul_add", Call::OfOneType(OneTypeCall::MulAdd)),
+    ("mul_add_r", Call::OfOneType(OneTypeCall::MulAddR)),
+    ("c_fmod_steps", Call::OfOneType(OneTypeCall::CFmodSteps)),
+    ("cmp_abs_normal", Call::OfOneType(OneTypeCall::CmpAbsNormal)),
+    ("convert", Call::Conversion(ConversionCall::Convert)),
+    ("convert_r", Call::Conversion(ConversionCall::ConvertR)),
+    ("from", Call::Conversion(ConversionCall::From)),
+];
+
+impl Call {
+    /// The call of this name.
+    pub fn named(name: &str) -> Option<Call> {
+        found(CALLS, name)
+    }
+}
