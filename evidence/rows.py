@@ -34,8 +34,11 @@ _REFUSED = "Commands that are refused"
 _CALL_SUBJECTS = {
     "add_r sub_r + += - -=": "sums and differences",
     "mul_r * *=": "products",
+    "wide_mul_r": "products at every precision",
     "div_r / /= get_exact_inverse": "quotients and exact inverses",
     "mul_add_r mul_add": "fused sums",
+    "wide_mul_add_r": "fused sums at every precision",
+    "sqrt_r sqrt": "square roots",
     "ieee_rem c_fmod c_fmod_steps % %=": "remainders",
     "next_up next_down": "neighbours",
     "scalbn_r scalbn ilogb frexp_r frexp": "powers of two, logarithms and fractions",
@@ -44,6 +47,7 @@ _CALL_SUBJECTS = {
     "to_u128_r to_u128 to_i128_r to_i128 through_i128": "conversions to integers",
     "convert_r convert from": "conversions between formats, and with the wide format",
     "from_str_r from_str": "texts",
+    "from_decimal_r shortest_decimal": "decimals",
     "to_bits neg abs copy_sign": "bits and signs",
     "qnan snan nan infinity zero default smallest smallest_normalized largest "
     "BITS PRECISION MIN_EXP MAX_EXP MULTIPLIES": "NaNs and constants",

@@ -6,7 +6,7 @@ operands, the value, the flags, and what else the call returns. The first four a
 
 from typing import NamedTuple
 
-from exact import conversions, remainders, status, words
+from exact import conversions, decimals, remainders, status, words
 from exact.pairs import PAIRS, joined, split
 from exact.rounding import Mode
 from exact.texts import ParseError
@@ -23,6 +23,9 @@ _ROUNDED = {
     "mul_r": lambda kind, mode, x, y: kind.multiply(x, y, mode),
     "div_r": lambda kind, mode, x, y: kind.divide(x, y, mode),
     "mul_add_r": lambda kind, mode, x, y, z: kind.multiply_add(x, y, z, mode),
+    "wide_mul_r": lambda kind, mode, x, y: kind.multiply(x, y, mode),
+    "wide_mul_add_r": lambda kind, mode, x, y, z: kind.multiply_add(x, y, z, mode),
+    "sqrt_r": lambda kind, mode, x: kind.square_root(x, mode),
     "round_to_integral": lambda kind, mode, x: kind.round_to_integral(x, mode),
     "ieee_rem": lambda kind, mode, x, y: kind.nearest_remainder(x, y),
     "c_fmod": lambda kind, mode, x, y: kind.truncated_remainder(x, y),
@@ -125,6 +128,8 @@ def answered_in(call, kind_word, mode, operands):
     kind = _KINDS[kind_word]
     if call == "from_str_r":
         return answered_text(kind, operands, mode)
+    if call == "from_decimal_r":
+        return valued(kind, decimals.read(kind.format, operands, mode))._replace(more=())
     if call == "from_str":
         answer = answered_text(kind, operands, mode)
         return answer if answer.flags == "ParseError" else Answer(answer.value)
@@ -228,6 +233,13 @@ def answered_snan(kind, _mode, payload):
     return Answer(words.word_of(kind, kind.snan(words.payload_of(payload))))
 
 
+def answered_shortest(kind, _mode, x):
+    """A number written with the fewest decimal digits, for example -15e-1."""
+    x = words.value_of(kind, x)
+    digits, exponent = decimals.shortest(kind.format, x)
+    return Answer(f"{'-' if x.negative else ''}{digits}e{exponent}")
+
+
 # Calls with operands that are not all values.
 _ON_WORDS = {
     "from_u128_r": answered_from_integer,
@@ -242,6 +254,7 @@ _ON_WORDS = {
     "scalbn": answered_scaling,
     "qnan": answered_qnan,
     "snan": answered_snan,
+    "shortest_decimal": answered_shortest,
 }
 
 

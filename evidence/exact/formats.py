@@ -1,6 +1,6 @@
 """Formats: what a binary floating-point format is, and the formats that rows name."""
 
-from dataclasses import dataclass
+from dataclasses import dataclass, replace
 from enum import Enum
 from functools import cached_property
 
@@ -18,7 +18,8 @@ class Format:
     """A binary format.
 
     Its quantum, 2^-scale, is its smallest positive value. Every number of the format is an
-    integer count of quanta.
+    integer count of quanta. With `ieee_flags` it raises OVERFLOW and UNDERFLOW by IEEE 754;
+    otherwise it raises them as the Rust crate `rustc_apfloat` does.
     """
 
     name: str
@@ -30,6 +31,7 @@ class Format:
     non_finite: NonFinite = NonFinite.IEEE754
     writes_integer_bit: bool = False
     tiny_before_rounding: bool = False
+    ieee_flags: bool = False
 
     @cached_property
     def scale(self):
@@ -126,7 +128,17 @@ OWN_FORMATS = (
     Format("halftbr", 16, 5, 11, -14, 15, tiny_before_rounding=True),
 )
 
-FORMATS = {
-    known.name: known
-    for known in PROGRAM_FORMATS + (FALLBACK, FALLBACK_EXTENDED) + OWN_FORMATS
-}
+
+
+def with_ieee_flags(known):
+    """The same numbers with the flags of IEEE 754, tininess after or before rounding."""
+    after = replace(known, name=f"{known.name}+ieee", ieee_flags=True)
+    return after, replace(after, name=f"{after.name}+before", tiny_before_rounding=True)
+
+
+_KNOWN = (*PROGRAM_FORMATS, FALLBACK, FALLBACK_EXTENDED, *OWN_FORMATS)
+_WITH_IEEE_FLAGS = [
+    form for known in _KNOWN if not known.tiny_before_rounding for form in with_ieee_flags(known)
+]
+
+FORMATS = {known.name: known for known in (*_KNOWN, *_WITH_IEEE_FLAGS)}

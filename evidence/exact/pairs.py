@@ -231,6 +231,10 @@ class PairValues(Values):
         """x / y."""
         return split_result(_WIDE.divide(joined(x), joined(y), mode))
 
+    def square_root(self, x, mode):
+        """The square root."""
+        return split_result(_WIDE.square_root(joined(x), mode))
+
     def truncated_remainder(self, x, y):
         """The remainder by the quotient cut toward zero."""
         return split_result(_WIDE.truncated_remainder(joined(x), joined(y)))

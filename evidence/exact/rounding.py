@@ -75,12 +75,25 @@ def delivered(format, mode, negative, amount, parts=1):
     if quanta > format.largest:
         if overflows(mode, negative):
             return infinity(format, negative), OVERFLOW | INEXACT
-        return number(format, negative, format.largest), INEXACT
+        flags = OVERFLOW | INEXACT if format.ieee_flags else INEXACT
+        return number(format, negative, format.largest), flags
     value = number(format, negative, quanta)
     if exact:
         return value, OK
     if format.tiny_before_rounding:
         is_tiny = amount < format.smallest_normalized * parts
+    elif format.ieee_flags:
+        is_tiny = is_tiny_without_end(format, mode, negative, amount, parts)
     else:
         is_tiny = quanta < format.smallest_normalized
     return value, INEXACT | UNDERFLOW if is_tiny else INEXACT
+
+
+def is_tiny_without_end(format, mode, negative, amount, parts):
+    """Whether the pick is below the normal numbers if there is no least exponent.
+
+    In units that are small enough for the magnitude to have all digits of a significand.
+    """
+    finer = format.precision + parts.bit_length()
+    units, _ = picked(format.precision, mode, negative, amount << finer, parts)
+    return units < format.smallest_normalized << finer

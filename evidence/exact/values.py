@@ -15,6 +15,7 @@ from exact import (
     neighbours,
     order,
     remainders,
+    roots,
     texts,
 )
 from exact.data import Finite
@@ -157,6 +158,7 @@ class FormatValues(Values):
     multiply = in_format(arithmetic.multiply)
     divide = in_format(arithmetic.divide)
     multiply_add = in_format(arithmetic.multiply_add)
+    square_root = in_format(roots.square_root)
     truncated_remainder = in_format(remainders.truncated_remainder)
     nearest_remainder = in_format(remainders.nearest_remainder)
     next_up = in_format(neighbours.next_up)

@@ -1,0 +1,1 @@
+"""Questions: rows without their answers, drawn at random, by subject."""
