@@ -4,8 +4,8 @@
  * result through a pointer. It returns APFLOAT_ANSWERED, or the code of the first error, in the order in which these
  * codes are listed; on an error, *answer is unchanged.
  *
- * The library never allocates, keeps no state between calls, and calls no other functions. So its functions may be
- * called from any thread, and from a signal handler. Given valid pointers, they are defined for every value of every
+ * The library never allocates, keeps no state between calls, and calls no other functions but the compiler's own
+ * division of 128-bit integers. So its functions may be called from any thread, and from a signal handler. Given valid pointers, they are defined for every value of every
  * argument: no code, bit pattern, width or text causes undefined behaviour.
  *
  * Pointers are not checked. The caller must ensure that:
@@ -90,6 +90,10 @@ uint32_t apfloat_div(uint32_t format, uint32_t mode, apfloat_halves x, apfloat_h
 uint32_t apfloat_fma(uint32_t format, uint32_t mode, apfloat_halves x, apfloat_halves y, apfloat_halves z,
                      apfloat_answer *answer);
 
+/* The square root of x, rounded once (IEEE 754-2008 5.4.1): -0 gives -0, and a value below zero a NaN with
+ * APFLOAT_INVALID_OP. That of a pair of doubles is rounded to 106 binary digits, and then split into two doubles. */
+uint32_t apfloat_sqrt(uint32_t format, uint32_t mode, apfloat_halves x, apfloat_answer *answer);
+
 /* The remainder of x by y: with the quotient rounded to the nearest integer, like remainder() in C, and with the
  * quotient truncated toward zero, like fmod(). */
 uint32_t apfloat_rem(uint32_t format, apfloat_halves x, apfloat_halves y, apfloat_answer *answer);
@@ -148,6 +152,8 @@ uint32_t apfloat_compare(uint32_t format, apfloat_halves x, apfloat_halves y, ap
 uint32_t apfloat_classify(uint32_t format, apfloat_halves x, apfloat_answer *answer);
 
 /* The value of a text of `length` bytes, rounded once: a hexadecimal number such as -0x1.8p-1, an infinity or a NaN.
+ * An infinity is one of inf, INFINITY, +Inf, -inf, -INFINITY and -Inf (not Infinity). A NaN is nan or NaN, after s or S
+ * if it is signaling, and after - if it is negative; a payload may follow, with or without parentheses, as in nan(0x7).
  * Decimal numbers, texts without a meaning, and texts with a byte above 127 are refused. */
 uint32_t apfloat_parse(uint32_t format, uint32_t mode, const uint8_t *text, size_t length, apfloat_answer *answer);
 

@@ -1,7 +1,9 @@
 /* A constant folder: reads lines FORMAT OP MODE OPERAND.., and prints the bits and the flags of each result.
  *
- * OP is add, sub, mul, div, rem or mod of two values, fma of three, or parse of a text. A value is its bits in
- * hexadecimal. Build it at the top of the repository, after `rt lib` in crates/apfloat_c:
+ * OP is add, sub, mul, div, rem or mod of two values, fma of three, or parse of a text. A value is its bits, 1 to 32
+ * hexadecimal digits, with or without 0x before them. Words are separated by spaces and tabs. Any other line is refused
+ * with -1, as is one of more than 4000 bytes; a line that the library refuses is refused with the library's code. Build it at the top of the repository, after
+ * `rt lib` in crates/apfloat_c:
  *
  *   cc -std=c99 -Wall -Wextra -O2 -Iinclude examples/c/fold.c crates/apfloat_c/out/libapfloat_c.a -o fold
  *
@@ -9,18 +11,22 @@
 #include "apfloat.h"
 #include "names.h"
 
+#include <ctype.h>
 #include <stdbool.h>
 #include <stdio.h>
 #include <string.h>
 
-/* Hexadecimal digits, with or without 0x in front, as bits. */
+#define MOST_WORDS 6
+#define MOST_BYTES 4000
+
+/* 1 to 32 hexadecimal digits of either case, with or without 0x before them, as bits. */
 static bool read_bits(const char *word, apfloat_halves *bits) {
     bits->low = bits->high = 0;
     if (strncmp(word, "0x", 2) == 0) word += 2;
     size_t digits = strlen(word);
     if (digits == 0 || digits > 32) return false;
     for (; *word; word++) {
-        const char *all = "0123456789abcdef", *digit = strchr(all, *word);
+        const char *all = "0123456789abcdef", *digit = strchr(all, tolower((unsigned char)*word));
         if (!digit) return false;
         bits->high = bits->high << 4 | bits->low >> 60;
         bits->low = bits->low << 4 | (uint64_t)(digit - all);
@@ -30,11 +36,11 @@ static bool read_bits(const char *word, apfloat_halves *bits) {
 
 /* Computes one line. Returns the library's code, or UINT32_MAX if the operation or an operand is malformed. */
 static uint32_t fold(char *words[], size_t count, apfloat_answer *answer) {
-    if (count < 4) return UINT32_MAX;
+    if (count < 4 || count > MOST_WORDS) return UINT32_MAX;
     uint32_t format = code_of(formats, COUNT(formats), words[0]);
     uint32_t mode = code_of(modes, COUNT(modes), words[2]);
     const char *op = words[1];
-    if (strcmp(op, "parse") == 0)
+    if (strcmp(op, "parse") == 0 && count == 4)
         return apfloat_parse(format, mode, (const uint8_t *)words[3], strlen(words[3]), answer);
     apfloat_halves x[3];
     for (size_t i = 3; i < count; i++)
@@ -64,14 +70,26 @@ static void print(const apfloat_answer *answer) {
     puts(answer->status ? "" : " OK");
 }
 
+/* Computes a line that is not too long. */
+static uint32_t fold_line(char *line, apfloat_answer *answer) {
+    char *words[MOST_WORDS];
+    size_t count = 0;
+    for (char *word = strtok(line, " \t\r\n"); word; word = strtok(NULL, " \t\r\n")) {
+        if (count < MOST_WORDS) words[count] = word;
+        count++;
+    }
+    return fold(words, count, answer);
+}
+
 int main(void) {
-    char line[4096];
+    char line[MOST_BYTES + 2];
     while (fgets(line, sizeof line, stdin)) {
-        char *words[6];
-        size_t count = 0;
-        for (char *word = strtok(line, " \n"); word && count < 6; word = strtok(NULL, " \n")) words[count++] = word;
         apfloat_answer answer;
-        uint32_t code = fold(words, count, &answer);
+        uint32_t code = UINT32_MAX;
+        if (strchr(line, '\n') || strlen(line) <= MOST_BYTES)
+            code = fold_line(line, &answer);
+        else
+            for (int next = getchar(); next != EOF && next != '\n';) next = getchar();
         if (code == APFLOAT_ANSWERED)
             print(&answer);
         else

@@ -1,7 +1,9 @@
 //! A constant folder: reads lines FORMAT OP MODE OPERAND.., and prints the bits and the flags of each result.
 //!
-//! OP is add, sub, mul, div, rem or mod of two values, fma of three, or parse of a text. A value is its bits in
-//! hexadecimal. Build it at the top of the repository, after `rt lib` in crates/apfloat_c:
+//! OP is add, sub, mul, div, rem or mod of two values, fma of three, or parse of a text. A value is its bits, 1 to 32
+//! hexadecimal digits, with or without 0x before them. Words are separated by spaces and tabs. Any other line is refused
+//! with -1, as is one of more than 4000 bytes; a line that the library refuses is refused with the library's code. Build it at the top of the repository, after
+//! `rt lib` in crates/apfloat_c:
 //!
 //! ```text
 //! rustc --edition 2021 -O examples/rust/fold.rs -L crates/apfloat_c/out -l static=apfloat_c -o fold_rs
@@ -55,6 +57,7 @@ unsafe extern "C" {
 const FORMATS: [&str; 10] =
     ["half", "single", "double", "quad", "bfloat", "e5m2", "e4m3fn", "e4m3fnuz", "x87", "dd"];
 const MODES: [&str; 5] = ["even", "up", "down", "zero", "away"];
+const MOST_BYTES: usize = 4000;
 const FLAGS: [&str; 5] = ["INVALID_OP", "DIV_BY_ZERO", "OVERFLOW", "UNDERFLOW", "INEXACT"];
 
 /// The index of a name, or one that the library refuses if the name is unknown.
@@ -62,9 +65,13 @@ fn place(names: &[&str], name: &str) -> u32 {
     names.iter().position(|known| *known == name).map_or(99, |at| at as u32)
 }
 
-/// Hexadecimal digits, with or without 0x in front, as bits.
+/// 1 to 32 hexadecimal digits of either case, with or without 0x before them, as bits.
 fn bits(word: &str) -> Option<Halves> {
-    let bits = u128::from_str_radix(word.strip_prefix("0x").unwrap_or(word), 16).ok()?;
+    let digits = word.strip_prefix("0x").unwrap_or(word);
+    if digits.len() > 32 || digits.starts_with('+') {
+        return None;
+    }
+    let bits = u128::from_str_radix(digits, 16).ok()?;
     Some(Halves { low: bits as u64, high: (bits >> 64) as u64 })
 }
 
@@ -74,12 +81,17 @@ fn parse(format: u32, mode: u32, text: &str, answer: &mut Answer) -> u32 {
 }
 
 /// The result of a line, or the library's error code; -1 if the operation or an operand is malformed.
-fn fold(line: &str) -> Result<Answer, i32> {
-    let words: Vec<&str> = line.split_whitespace().collect();
+fn fold(line: &[u8]) -> Result<Answer, i32> {
+    if line.len() > MOST_BYTES {
+        return Err(-1);
+    }
+    let line = String::from_utf8_lossy(line);
+    let words: Vec<&str> =
+        line.split([' ', '\t', '\r']).filter(|word| !word.is_empty()).collect();
     let &[format, op, mode, first, ref rest @ ..] = words.as_slice() else { return Err(-1) };
     let (format, mode) = (1 + place(&FORMATS, format), place(&MODES, mode));
     let mut answer = Answer::default();
-    let code = if op == "parse" {
+    let code = if op == "parse" && rest.is_empty() {
         parse(format, mode, first, &mut answer)
     } else {
         let x = bits(first).ok_or(-1)?;
@@ -105,7 +117,7 @@ fn flags(status: u32) -> String {
 }
 
 fn main() {
-    for line in std::io::stdin().lock().lines() {
+    for line in std::io::stdin().lock().split(b'\n') {
         match fold(&line.expect("a line")) {
             Ok(answer) => {
                 let bits = (answer.bits.high as u128) << 64 | answer.bits.low as u128;

@@ -2,7 +2,7 @@
  * (docs/VECTORS.md), and compares each field of the answer: a field or an argument in the wrong place shows only in a
  * call from C. Rows that the library has no function or no code for are passed over.
  *
- * It prints each row that differs, and for each call how many rows agree. .ci/run compares this with tests/c/agreeing.
+ * It prints each row that differs, and for each call that has rows how many agree. .ci/run compares this with tests/c/agreeing.
  * By hand, at the top of the repository, after `rt lib` in crates/apfloat_c:
  *
  *   cc -std=c99 -Wall -Wextra -O2 -Iinclude tests/c/check_rows.c crates/apfloat_c/out/libapfloat_c.a -o check_rows
@@ -56,6 +56,7 @@ MAKES(sub, a->format, a->mode, a->x, a->y)
 MAKES(mul, a->format, a->mode, a->x, a->y)
 MAKES(div, a->format, a->mode, a->x, a->y)
 MAKES(fma, a->format, a->mode, a->x, a->y, a->z)
+MAKES(sqrt, a->format, a->mode, a->x)
 MAKES(rem, a->format, a->x, a->y)
 MAKES(mod, a->format, a->x, a->y)
 MAKES(convert, a->format, a->mode, a->to, a->x)
@@ -86,6 +87,7 @@ static const struct call {
              {"mul_r", "xy", 'b', make_mul, NULL},
              {"div_r", "xy", 'b', make_div, NULL},
              {"mul_add_r", "xyz", 'b', make_fma, NULL},
+             {"sqrt_r", "x", 'b', make_sqrt, NULL},
              {"ieee_rem", "xy", 'b', make_rem, NULL},
              {"c_fmod", "xy", 'b', make_mod, NULL},
              {"convert_r", "x", 'b', make_convert, "loses_info"},
@@ -290,7 +292,8 @@ int main(void) {
         }
         if (line[0] != '#' && count == COLUMNS && !rest && !check(columns)) printf("differs: %s\n", line);
     }
-    for (size_t i = 0; i < COUNT(calls); i++) printf("%s: %u rows agree\n", calls[i].name, agreeing[i]);
+    for (size_t i = 0; i < COUNT(calls); i++)
+        if (agreeing[i]) printf("%s: %u rows agree\n", calls[i].name, agreeing[i]);
     printf("%u errors agree\n", refusals());
     return 0;
 }

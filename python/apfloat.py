@@ -1,0 +1,440 @@
+"""Software floating point in any of ten formats, correctly rounded, with exact flags.
+
+The arithmetic is that of the library for C, whose functions are proved. The shared library is libapfloat.so beside this
+file, or the file that the environment variable APFLOAT_LIBRARY names; packaging/install builds it.
+
+A format makes values of texts, of integers, of Python's floats and of values of other formats:
+
+>>> x = half('0x1.8p0')
+>>> x
+half('0x1.8p+0')
+>>> x + 1
+half('0x1.4p+1')
+>>> half(2049)
+half('0x1p+11')
+>>> double(0.1).bits == 0x3fb999999999999a
+True
+
+Each operation rounds once, in the mode of the context, and joins its flags to those of the context:
+
+>>> with Context(mode=UPWARD) as context:
+...     third = single(1) / 3
+>>> third
+single('0x1.555556p-2')
+>>> context.flags
+<Flags.INEXACT: 16>
+>>> with Context() as context:
+...     half(1) / 0
+half('inf')
+>>> context.flags
+<Flags.DIV_BY_ZERO: 2>
+
+The operands of an operation have one format, which integers and floats take if they are exact in it:
+
+>>> half(1) + single(1)
+Traceback (most recent call last):
+...
+TypeError: half and single: convert one of them
+>>> half(1) + 0.1
+Traceback (most recent call last):
+...
+ValueError: 0.1 is not a value of half
+"""
+
+import contextvars
+import ctypes
+import enum
+import os
+import struct
+
+__all__ = [
+    'Context', 'DOWNWARD', 'Flags', 'Format', 'NEAREST_AWAY', 'NEAREST_EVEN', 'Rounding', 'TOWARD_ZERO', 'UPWARD',
+    'Value', 'bfloat', 'context', 'double', 'double_pair', 'e4m3fn', 'e4m3fnuz', 'e5m2', 'half', 'quad', 'single', 'x87',
+]
+
+
+class Rounding(enum.IntEnum):
+    """The rounding modes of IEEE 754-2008 4.3."""
+
+    NEAREST_EVEN = 0
+    UPWARD = 1
+    DOWNWARD = 2
+    TOWARD_ZERO = 3
+    NEAREST_AWAY = 4
+
+
+NEAREST_EVEN, UPWARD, DOWNWARD, TOWARD_ZERO, NEAREST_AWAY = Rounding
+
+
+class Flags(enum.IntFlag):
+    """The flags of IEEE 754-2008 7; OK is none of them."""
+
+    OK = 0
+    INVALID_OP = 1
+    DIV_BY_ZERO = 2
+    OVERFLOW = 4
+    UNDERFLOW = 8
+    INEXACT = 16
+
+
+class Context:
+    """A rounding mode, and the flags that operations raised in its `with` block.
+
+    >>> with Context(mode=TOWARD_ZERO):
+    ...     half(65504) + half(65504)
+    half('0x1.ffcp+15')
+    """
+
+    def __init__(self, mode=NEAREST_EVEN):
+        self.mode = Rounding(mode)
+        self.flags = Flags.OK
+
+    def __enter__(self):
+        self._token = _context.set(self)
+        return self
+
+    def __exit__(self, *_):
+        _context.reset(self._token)
+
+
+_context = contextvars.ContextVar('apfloat', default=Context())
+
+
+def context():
+    """The context in force: that of the innermost `with` block, or the program's own."""
+    return _context.get()
+
+
+class _Halves(ctypes.Structure):
+    _fields_ = [('low', ctypes.c_uint64), ('high', ctypes.c_uint64)]
+
+
+class _Answer(ctypes.Structure):
+    _fields_ = [('bits', _Halves), ('status', ctypes.c_uint32), ('number', ctypes.c_int32)]
+
+
+_REFUSALS = {
+    3: 'the format does not have the operation',
+    4: 'no integer has this width',
+    5: 'the text has no meaning',
+}
+
+
+def _library():
+    beside = os.path.join(os.path.dirname(os.path.abspath(__file__)), 'libapfloat.so')
+    return ctypes.CDLL(os.environ.get('APFLOAT_LIBRARY', beside))
+
+
+_functions = _library()
+
+
+def _halves(bits):
+    return _Halves(bits & (1 << 64) - 1, bits >> 64 & (1 << 64) - 1)
+
+
+def _call(name, *arguments):
+    """The answer of a function of the library; its flags join those of the context."""
+    answer = _Answer()
+    code = getattr(_functions, 'apfloat_' + name)(*arguments, ctypes.byref(answer))
+    if code:
+        raise ValueError(_REFUSALS.get(code, f'code {code}'))
+    context().flags |= Flags(answer.status)
+    return answer
+
+
+def _whole(halves):
+    return halves.high << 64 | halves.low
+
+
+class Format:
+    """A format of values; calling it makes one.
+
+    >>> half(1).bits
+    15360
+    >>> half.from_bits(0x3c01)
+    half('0x1.004p+0')
+    """
+
+    def __init__(self, name, code, width, precision, exponent_bits):
+        self.name, self.code, self.width = name, code, width
+        self._precision, self._exponent_bits = precision, exponent_bits
+
+    def __repr__(self):
+        return self.name
+
+    def from_bits(self, bits):
+        """The value with these bits."""
+        if not 0 <= bits < 1 << self.width:
+            raise ValueError(f'{self.name} has {self.width} bits')
+        return Value(self, bits)
+
+    def __call__(self, of):
+        """The value of a text, an integer, a float or a value, rounded once in the mode of the context."""
+        mode = context().mode
+        if isinstance(of, Value):
+            if of.format is self:
+                return of
+            answer = _call('convert', ctypes.c_uint32(of.format.code), ctypes.c_uint32(mode),
+                           ctypes.c_uint32(self.code), _halves(of.bits))
+        elif isinstance(of, str):
+            text = of.strip().encode()
+            answer = _call('parse', ctypes.c_uint32(self.code), ctypes.c_uint32(mode), text, ctypes.c_size_t(len(text)))
+        elif isinstance(of, int):
+            if -1 << 127 <= of < 1 << 127:
+                answer = _call('from_i128', ctypes.c_uint32(self.code), ctypes.c_uint32(mode), _halves(of))
+            else:
+                return self(hex(of) + 'p0')
+        elif isinstance(of, float):
+            of = double.from_bits(struct.unpack('<Q', struct.pack('<d', of))[0])
+            return self(of) if self is not double_pair else self.from_bits(of.bits)
+        else:
+            return NotImplemented
+        return Value(self, _whole(answer.bits))
+
+
+class Value:
+    """A value of a format: its bits. Operations round once, in the mode of the context.
+
+    >>> x = double('0x1p-1074')
+    >>> x / 2, x * 2 == x + x, -x < x
+    (double('0x0p+0'), True, True)
+    >>> double('nan') == double('nan')
+    False
+    """
+
+    __slots__ = ('format', 'bits')
+
+    def __init__(self, format, bits):
+        object.__setattr__(self, 'format', format)
+        object.__setattr__(self, 'bits', bits)
+
+    def __setattr__(self, name, value):
+        raise AttributeError('values do not change')
+
+    def _same_format(self, other):
+        if isinstance(other, Value):
+            if other.format is not self.format:
+                raise TypeError(f'{self.format} and {other.format}: convert one of them')
+            return other
+        if not isinstance(other, (int, float)):
+            return None
+        with Context() as exact:
+            value = self.format(other)
+        if exact.flags & Flags.INEXACT:
+            raise ValueError(f'{other} is not a value of {self.format}')
+        return value
+
+    def _rounded(self, name, *operands):
+        answer = _call(name, ctypes.c_uint32(self.format.code), ctypes.c_uint32(context().mode),
+                       *[_halves(operand.bits) for operand in operands])
+        return Value(self.format, _whole(answer.bits))
+
+    def _exact(self, name, *operands):
+        return _call(name, ctypes.c_uint32(self.format.code), *[_halves(operand.bits) for operand in operands])
+
+    def _of_two(self, name, other, swapped=False):
+        other = self._same_format(other)
+        if other is None:
+            return NotImplemented
+        return self._rounded(name, other, self) if swapped else self._rounded(name, self, other)
+
+    def __add__(self, other):
+        return self._of_two('add', other)
+
+    def __radd__(self, other):
+        return self._of_two('add', other, swapped=True)
+
+    def __sub__(self, other):
+        return self._of_two('sub', other)
+
+    def __rsub__(self, other):
+        return self._of_two('sub', other, swapped=True)
+
+    def __mul__(self, other):
+        return self._of_two('mul', other)
+
+    def __rmul__(self, other):
+        return self._of_two('mul', other, swapped=True)
+
+    def __truediv__(self, other):
+        return self._of_two('div', other)
+
+    def __rtruediv__(self, other):
+        return self._of_two('div', other, swapped=True)
+
+    def fma(self, factor, addend):
+        """self * factor + addend, rounded once.
+
+        >>> half.from_bits(0x3c01).fma(half.from_bits(0x3c01), half.from_bits(0xbc02))
+        half('0x1p-20')
+        """
+        return self._rounded('fma', self, self._same_format(factor), self._same_format(addend))
+
+    def remainder(self, divisor):
+        """self less the divisor times the integer nearest to the quotient, a tie going to the even one: exact.
+
+        >>> double(5).remainder(3), double(5).fmod(3)
+        (double('-0x1p+0'), double('0x1p+1'))
+        """
+        return Value(self.format, _whole(self._exact('rem', self, self._same_format(divisor)).bits))
+
+    def fmod(self, divisor):
+        """self less the divisor times the quotient truncated toward zero: exact, like math.fmod."""
+        return Value(self.format, _whole(self._exact('mod', self, self._same_format(divisor)).bits))
+
+    def next_up(self):
+        """The least value above self.
+
+        >>> half(1).next_up(), half(1).next_down()
+        (half('0x1.004p+0'), half('0x1.ffcp-1'))
+        """
+        return Value(self.format, _whole(self._exact('next_up', self).bits))
+
+    def next_down(self):
+        """The greatest value below self."""
+        return Value(self.format, _whole(self._exact('next_down', self).bits))
+
+    def round_to_integral(self):
+        """The integral value that the mode picks.
+
+        >>> half('0x1.4p1').round_to_integral()
+        half('0x1p+1')
+        """
+        return self._rounded('round_to_integral', self)
+
+    def _class(self):
+        return self._exact('classify', self).number
+
+    @property
+    def is_nan(self):
+        """Whether it is a NaN."""
+        return self._class() in (0, 1)
+
+    @property
+    def is_infinite(self):
+        """Whether it is an infinity."""
+        return self._class() in (2, 9)
+
+    @property
+    def is_zero(self):
+        """Whether it is +0 or -0."""
+        return self._class() in (5, 6)
+
+    @property
+    def is_negative(self):
+        """Whether it is a negative number, -0 or -infinity; no NaN is."""
+        return self._class() in (2, 3, 4, 5)
+
+    def __neg__(self):
+        flipped = Value(self.format, self.bits ^ 1 << (63 if self.format is double_pair else self.format.width - 1))
+        if self.format is double_pair:
+            return Value(self.format, flipped.bits ^ 1 << 127)
+        if self.format is e4m3fnuz and (self.is_zero or self.is_nan):
+            return self
+        return flipped
+
+    def __pos__(self):
+        return self
+
+    def __abs__(self):
+        return -self if self.is_negative else self
+
+    def __bool__(self):
+        return not self.is_zero
+
+    def _compared(self, other):
+        other = self._same_format(other)
+        return None if other is None else self._exact('compare', self, other).number
+
+    def __eq__(self, other):
+        order = self._compared(other)
+        return NotImplemented if order is None else order == 0
+
+    def __lt__(self, other):
+        order = self._compared(other)
+        return NotImplemented if order is None else order == -1
+
+    def __le__(self, other):
+        order = self._compared(other)
+        return NotImplemented if order is None else order in (-1, 0)
+
+    def __gt__(self, other):
+        order = self._compared(other)
+        return NotImplemented if order is None else order == 1
+
+    def __ge__(self, other):
+        order = self._compared(other)
+        return NotImplemented if order is None else order in (0, 1)
+
+    def __hash__(self):
+        return hash((self.format.name, 0 if self.is_zero else self.bits))
+
+    def __int__(self):
+        """The integer of a value of at most 128 digits, truncated toward zero."""
+        answer = _call('to_i128', ctypes.c_uint32(self.format.code), ctypes.c_uint32(TOWARD_ZERO), _halves(self.bits),
+                       ctypes.c_uint32(128))
+        if answer.status & Flags.INVALID_OP:
+            raise OverflowError(f'{self!r} has no integer of 128 bits')
+        number = _whole(answer.bits)
+        return number - (1 << 128) if number >> 127 else number
+
+    def __float__(self):
+        """The value as a Python float, rounded once in the mode of the context.
+
+        >>> float(quad(1) / 3)
+        0.3333333333333333
+        """
+        high = self if self.format is double_pair else double(self)
+        return struct.unpack('<d', struct.pack('<Q', high.bits & (1 << 64) - 1))[0]
+
+    def hex(self):
+        """The value as a hexadecimal text that its format reads exactly.
+
+        >>> single(1).hex(), half('-inf').hex(), half.from_bits(0x7e01).hex()
+        ('0x1p+0', '-inf', 'nan(0x1)')
+        """
+        if self.format is double_pair:
+            low = double.from_bits(self.bits >> 64)
+            return double.from_bits(self.bits & (1 << 64) - 1).hex() + (' + ' + low.hex() if low else '')
+        return _hexadecimal(self)
+
+    def __repr__(self):
+        return f'{self.format}({self.hex()!r})'
+
+    __str__ = hex
+
+
+def _hexadecimal(value):
+    format = value.format
+    sign = '-' if value.bits >> (format.width - 1) and not (format is e4m3fnuz and value.is_nan) else ''
+    kind = value._class()
+    if kind in (0, 1):
+        payload = value.bits & (1 << format._precision - 2) - 1 if format not in (e4m3fn, e4m3fnuz) else 0
+        return sign + ('snan' if kind == 0 else 'nan') + (f'({payload:#x})' if payload else '')
+    if kind in (2, 9):
+        return sign + 'inf'
+    if kind in (5, 6):
+        return sign + '0x0p+0'
+    answer = value._exact('ilogb', value)
+    exponent = answer.number
+    stored = format._precision - (format is not x87)
+    digits = value.bits & (1 << stored) - 1
+    biased = value.bits >> stored & (1 << format._exponent_bits) - 1
+    if format is not x87 and biased:
+        digits |= 1 << stored
+    fraction = digits << (format._precision - digits.bit_length()) & (1 << format._precision - 1) - 1
+    places = -(-(format._precision - 1) // 4)
+    text = f'{fraction << places * 4 - (format._precision - 1):0{places}x}'.rstrip('0')
+    return f'{sign}0x1{"." + text if text else ""}p{exponent:+}'
+
+
+half = Format('half', 1, 16, 11, 5)
+single = Format('single', 2, 32, 24, 8)
+double = Format('double', 3, 64, 53, 11)
+quad = Format('quad', 4, 128, 113, 15)
+bfloat = Format('bfloat', 5, 16, 8, 8)
+e5m2 = Format('e5m2', 6, 8, 3, 5)
+e4m3fn = Format('e4m3fn', 7, 8, 4, 4)
+e4m3fnuz = Format('e4m3fnuz', 8, 8, 4, 4)
+x87 = Format('x87', 9, 80, 64, 15)
+double_pair = Format('double_pair', 10, 128, 106, 11)
