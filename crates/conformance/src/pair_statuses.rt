@@ -7,6 +7,7 @@ ghost use Rattle.rustc_apfloat.specs.PairCalls.{IsPairNextDown, IsPairNextUp, Is
 ghost use Rattle.rustc_apfloat.specs.PairCalls.{IsPairRoundToIntegral, IsPairToSigned, IsPairToUnsigned};
 ghost use Rattle.rustc_apfloat.specs.PairCalls.{IsPairTruncatedRemainder};
 ghost use Rattle.rustc_apfloat.specs.PairProducts.{IsPairProduct};
+ghost use Rattle.rustc_apfloat.specs.PairRoots.{IsPairRoot};
 ghost use Rattle.rustc_apfloat.specs.PairSums.{IsPairDifference, IsPairSum};
 ghost use Rattle.rustc_apfloat.specs.RaisedFlags.{FlagsGoTogether};
 ghost use Rattle.conformance.specs.Statuses.{HasFlagsTogether};
@@ -52,6 +53,14 @@ pub fn quotient_and_remainders(
     ensures nearest { FlagsGoTogether (bits_of result.2.status) }
 {
     (x.div_r(y, mode), x.c_fmod(y), x.ieee_rem(y))
+}
+
+/// The square root of a pair of doubles. The status is that of the wide format.
+pub fn root(x: DoubleDouble, mode: Round) -> StatusAnd<DoubleDouble>
+    ensures takes_root { Gives (IsPairRoot mode x) result }
+    ensures flags { FlagsGoTogether (bits_of result.status) }
+{
+    x.sqrt_r(mode)
 }
 
 /// The next pairs up and down, and the pair rounded to an integral value.

@@ -15,17 +15,19 @@ use Rattle.apfloat_base.specs.arithmetic.Exact.{same_sign}
 use Rattle.apfloat_base.specs.arithmetic.Sums.{IsSum, IsDifference}
 use Rattle.apfloat_base.specs.arithmetic.Products.{IsProduct}
 use Rattle.apfloat_base.specs.arithmetic.Quotients.{IsQuotient}
+use Rattle.apfloat_base.specs.arithmetic.Roots.{IsRoot}
 use Rattle.apfloat_base.specs.arithmetic.Remainders.{IsTruncatedRemainder, IsNearestRemainder, truncated_quotient, nearest_quotient}
 use Rattle.apfloat_base.specs.arithmetic.NextUp.{IsNextUp}
 use Rattle.apfloat_base.specs.whole_numbers.WholeNumbers.{IsFromUnsigned, IsRoundToIntegral}
 use Rattle.apfloat_base.specs.texts.Readings.{IsReading}
 use Rattle.apfloat_base.proofs.general.Choices.{match_case, match_three}
-use Rattle.apfloat_base.proofs.rounding.FlagsTogether.{Together, ok_together, invalid_together, union_together, sum_together, difference_together, product_together, fused_sum_together, quotient_together, remainder_together, round_to_integral_together, next_up_together, reading_together, from_unsigned_together, to_unsigned_together, negated_whole_together}
+use Rattle.apfloat_base.proofs.rounding.FlagsTogether.{Together, ok_together, invalid_together, union_together, sum_together, difference_together, product_together, fused_sum_together, quotient_together, root_together, remainder_together, round_to_integral_together, next_up_together, reading_together, from_unsigned_together, to_unsigned_together, negated_whole_together}
 use Rattle.apfloat_pair_theory.specs.PairFormats.{double, wide}
 use Rattle.apfloat_pair_theory.specs.Pairs.{Pair, IsPairAnswer, alone, positive_zero, negated_pair, pair_category, pair_nan_signed_as, IsSplitAnswer, IsWideAnswer, IsWideAnswerOfTwo}
 use Rattle.apfloat_pair_theory.specs.PairSums.{◌∪◌, IsLowPart, IsClosed, IsLost, IsFiniteSum, greater, lesser, IsSumAnewLow, IsSumAnew, IsSumOfNumbers, IsSumOfInfinities, IsSumOfCategories, IsPairSum, IsPairDifference}
 use Rattle.apfloat_pair_theory.specs.PairProducts.{IsLostOfProduct, IsNumberProduct, IsProductOfNumbers, IsProductOfCategories, IsPairProduct}
 use Rattle.apfloat_pair_theory.specs.PairCalls.{IsPairQuotient, IsPairTruncatedRemainder, IsPairNearestRemainder, IsPairRoundToIntegral, IsPairNextUp, IsPairNextDown, IsPairReading, IsPairFromUnsigned, IsPairFromNegative, IsPairFromSigned, IsPairToUnsigned, IsPairToNegative, IsPairToNatural, IsPairToSigned}
+use Rattle.apfloat_pair_theory.specs.PairRoots.{IsPairRoot}
 
 -- a given pair and its flags
 given_together : (given : Pair) (flags : ℕ) → FlagsGoTogether flags → Together (IsPairAnswer given flags)
@@ -211,6 +213,9 @@ of_two_together call h x y answer status w =
 
 pub pair_quotient_together : (mode : Round) (x y : Pair) → Together (IsPairQuotient mode x y)
 pair_quotient_together mode x y = of_two_together (IsQuotient wide mode) (quotient_together wide mode) x y
+
+pub pair_root_together : (mode : Round) (x : Pair) → Together (IsPairRoot mode x)
+pair_root_together mode x = of_one_together (IsRoot wide mode) (root_together wide mode) x
 
 pub pair_truncated_remainder_together : (x y : Pair) → Together (IsPairTruncatedRemainder x y)
 pair_truncated_remainder_together x y =
