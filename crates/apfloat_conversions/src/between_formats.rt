@@ -13,9 +13,9 @@ ghost use Rattle.apfloat_conversions.specs.Results.{ConvertsAt};
 
 use crate::held::{has, widened};
 use crate::payloads::converted_nan;
-use apfloat_base::sig::Loss;
+use apfloat_base::sig::low_digits;
 use apfloat_base::{Category, NonfiniteBehavior, Round, Status, StatusAnd};
-use apfloat_unpacked::rounding::deliver;
+use apfloat_unpacked::rounding::deliver_digits;
 use apfloat_unpacked::shape::{Shape, last_exponent};
 use apfloat_unpacked::unpacked::{Unpacked, infinity_of, remade, zero_of};
 
@@ -29,6 +29,7 @@ pub struct Converted {
 }
 
 /// A number, rounded once; an inexact result loses information. If the other format has the number, nothing is rounded.
+/// Its significand is its own low digits: in a narrow format the compiler then computes with one word of it.
 #[inline(always)]
 fn converted_number(from: Shape, into: Shape, x: Unpacked, round: Round) -> Converted
     requires { IsNormal from x }
@@ -42,11 +43,11 @@ fn converted_number(from: Shape, into: Shape, x: Unpacked, round: Round) -> Conv
             loses_info: false,
         };
     }
-    let answer = deliver(
+    let answer = deliver_digits(
         into,
-        x.significand,
+        low_digits(x.significand, from.precision),
+        from.precision,
         last_exponent(from, x.exponent),
-        Loss::ExactlyZero,
         round,
         x.negative,
     );

@@ -1,6 +1,6 @@
 //! Conversion from and to whole numbers.
 
-ghost use Rattle.std.specs.Prelude.{◌≡◌, ◌-◌, ◌^◌, ◌<◌, ◌≤◌, pos, if◌then◌else◌};
+ghost use Rattle.std.specs.Prelude.{◌≡◌, ◌-◌, ◌*◌, ◌^◌, ◌<◌, ◌≤◌, pos, ◌-ℤ◌, if◌then◌else◌};
 ghost use Rattle.apfloat_base.specs.formats.Datum.{finite};
 ghost use Rattle.apfloat_base.specs.rounding.Flags.{bits_of};
 ghost use Rattle.apfloat_base.specs.whole_numbers.WholeNumbers.{IsFromUnsigned, inexact_unless};
@@ -10,19 +10,53 @@ ghost use Rattle.apfloat_unpacked.specs.Stored.{IsStored, IsNormal, datum_at, nu
 ghost use Rattle.apfloat_conversions.specs.Results.{GivesWhole};
 
 use crate::whole::{Whole, whole_of};
-use apfloat_base::sig::Loss;
-use apfloat_base::{Category, Round, Status, StatusAnd};
-use apfloat_unpacked::rounding::deliver;
+use apfloat_base::sig::{Loss, digits};
+use apfloat_base::{Category, ExpInt, Round, Status, StatusAnd};
+use apfloat_unpacked::rounding::{deliver, deliver_digits};
 use apfloat_unpacked::shape::Shape;
 use apfloat_unpacked::unpacked::Unpacked;
 
-/// A whole number, rounded once.
+/// A whole number with `count` digits, moved up until it has 128.
+#[inline(always)]
+fn aligned(number: u128, count: u32) -> u128
+    requires some { 0 < count }
+    requires short { count ≤ 128 }
+    requires below { number < 2 ^ count }
+    requires full { 2 ^ (count - 1) ≤ number }
+    ensures value { result ≡ number * 2 ^ (128 - count) }
+    ensures full { 2 ^ 127 ≤ result }
+{
+    number << (128 - count)
+}
+
+/// The exponent of the last digit of a whole number that was moved up until it has 128 digits.
+#[inline(always)]
+fn aligned_exponent(count: u32) -> ExpInt
+    requires { count ≤ 128 }
+    ensures { result ≡ pos count -ℤ pos 128 }
+{
+    count as ExpInt - 128
+}
+
+/// A whole number, rounded once. It is moved up first, so that the cut is at the same digit for each.
 #[inline(always)]
 pub fn from_unsigned(shape: Shape, number: u128, round: Round) -> StatusAnd<Unpacked>
     ensures stored { IsStored shape result.value }
     ensures delivered { GivesAt shape (IsFromUnsigned (format_at shape) round number) result }
 {
-    deliver(shape, number, 0, Loss::ExactlyZero, round, false)
+    let count = digits(number);
+    if count == 0 {
+        return deliver(shape, number, 0, Loss::ExactlyZero, round, false);
+    }
+    let significand = aligned(number, count);
+    deliver_digits(
+        shape,
+        significand,
+        128,
+        aligned_exponent(count),
+        round,
+        false,
+    )
 }
 
 /// The whole number that a value was converted to, and whether it equals the value.

@@ -3,3 +3,4 @@ pub mod StoredNumbers
 pub mod StoredMembers
 pub mod ShapeExponents
 pub mod HalfQuanta
+pub mod CutRests

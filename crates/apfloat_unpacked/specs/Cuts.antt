@@ -1,7 +1,10 @@
 -- What is left of a magnitude when its digits are cut once.
-use Rattle.std.specs.Prelude.{ℕ, ◌-◌, ◌*◌, ◌^◌}
+use Rattle.std.specs.Prelude.{ℕ, ◌-◌, ◌*◌, ◌^◌, ltb, eqb, if◌then◌else◌}
+use Rattle.apfloat_base.specs.declared.sig.loss.Loss.{Loss}
+use Rattle.apfloat_base.specs.declared.sig.loss.Loss.TheVariants.{ExactlyZero, LessThanHalf, ExactlyHalf, MoreThanHalf}
 use Rattle.apfloat_base.specs.rounding.Enclosure.{IsEnclosed}
 use Rattle.apfloat_base.specs.rounding.Standing.{StandsFor, up, down}
+use Rattle.apfloat_unpacked.specs.declared.rounding.Cut.{Cut}
 use Rattle.apfloat_unpacked.specs.declared.rounding.Given.{Given}
 use Rattle.apfloat_unpacked.specs.declared.rounding.Kept.{Kept}
 
@@ -15,3 +18,15 @@ abbrev pub IsCut : ℕ → Kept → ℕ → ℕ → Type 0
 IsCut precision kept amount parts =
     IsEnclosed precision (2 ^ (precision - 1)) kept.significand kept.place amount parts
     × StandsFor kept.significand kept.loss amount (2 ^ kept.place * parts)
+
+-- the loss of a rest, in units of which the lowest kept digit is twice `half`
+abbrev pub loss_at : ℕ → ℕ → Loss
+loss_at rest half =
+    if eqb rest 0 then ExactlyZero
+    else (if ltb rest half then LessThanHalf else (if eqb rest half then ExactlyHalf else MoreThanHalf))
+
+-- the same as a cut, where the rest itself says what is left
+abbrev pub IsCutOff : ℕ → Cut → ℕ → ℕ → Type 0
+IsCutOff precision cut amount parts =
+    IsEnclosed precision (2 ^ (precision - 1)) cut.significand cut.place amount parts
+    × StandsFor cut.significand (loss_at cut.rest cut.half) amount (2 ^ cut.place * parts)

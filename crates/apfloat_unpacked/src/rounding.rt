@@ -21,13 +21,13 @@ ghost use Rattle.apfloat_base.specs.rounding.Answer.{IsAnswer};
 ghost use Rattle.apfloat_base.specs.rounding.Standing.{StandsFor, IsFineEnough, IsFineFor, up, down};
 ghost use Rattle.apfloat_base.specs.rounding.Enclosure.{rounds_up};
 ghost use Rattle.apfloat_base.specs.rounding.Rounding.{points_away, ok_bits, overflow_bit, underflow_bit, inexact_bit, IsPick, IsDelivered, leads_out, past_largest, raises_overflow, rounds_below_normal, is_tiny};
-ghost use Rattle.apfloat_unpacked.specs.Cuts.{IsCut, IsGiven};
+ghost use Rattle.apfloat_unpacked.specs.Cuts.{IsCut, IsCutOff, IsGiven, loss_at};
 ghost use Rattle.apfloat_unpacked.specs.Shapes.{format_at};
 ghost use Rattle.apfloat_unpacked.specs.Stored.{IsStored, GivesAt};
 
 use crate::shape::Shape;
-use crate::unpacked::{Unpacked, from_rounded_quanta, infinity_of, largest_of};
-use apfloat_base::sig::{Loss, digits, power_of_two, shift_right};
+use crate::unpacked::{Unpacked, from_full_quanta, from_rounded_quanta, infinity_of, largest_of};
+use apfloat_base::sig::{Loss, digits, low_digits, power_of_two, shift_right};
 use apfloat_base::{ExpInt, Flags, Round, Status, StatusAnd};
 
 /// `significand * 2^unit` quanta, and what was lost below that.
@@ -44,6 +44,16 @@ struct Kept {
     significand: u128,
     place: u32,
     loss: Loss,
+}
+
+/// `significand * 2^place` quanta, and the rest that was cut off below that, in units of which the lowest kept digit is
+/// `2 * half`.
+#[derive(Clone, Copy, Debug)]
+struct Cut {
+    significand: u128,
+    place: u32,
+    rest: u128,
+    half: u128,
 }
 
 /// The place of the lowest kept digit of a significand with `digits` digits at `unit`; places and units are counted
@@ -151,6 +161,34 @@ struct Point {
     place: u32,
 }
 
+/// The point one significand up, if it moved, or the point itself; a carry to the next power of two moves the place.
+#[inline(always)]
+fn raised(precision: u32, significand: u128, place: u32, moved: bool) -> Point
+    requires some { 0 < precision }
+    requires precise { precision ≤ 125 }
+    requires fits { significand < 2 ^ precision }
+    requires near { place < place_bound }
+    ensures value { result.significand * 2 ^ result.place
+        ≡ (if moved then significand + 1 else significand) * 2 ^ place }
+    ensures fits { result.significand < 2 ^ precision }
+    ensures full { 2 ^ (precision - 1) ≤ significand → 2 ^ (precision - 1) ≤ result.significand }
+    ensures last { place ≡ 0 → (result.place ≡ 0) ⊎ (2 ^ (precision - 1) ≤ result.significand) }
+    ensures near { result.place ≤ place_bound }
+{
+    let next = if moved { significand + 1 } else { significand };
+    if next == power_of_two(precision) {
+        Point {
+            significand: power_of_two(precision - 1),
+            place: place + 1,
+        }
+    } else {
+        Point {
+            significand: next,
+            place,
+        }
+    }
+}
+
 /// The point that the mode picks.
 #[inline(always)]
 fn pick(precision: u32, kept: Kept, mode: Round, negative: bool) -> Point
@@ -166,22 +204,7 @@ fn pick(precision: u32, kept: Kept, mode: Round, negative: bool) -> Point
     ensures near { result.place ≤ place_bound }
 {
     let moved = moves_up(mode, negative, kept.loss, kept.significand % 2 == 1);
-    let significand = if moved {
-        kept.significand + 1
-    } else {
-        kept.significand
-    };
-    if significand == power_of_two(precision) {
-        Point {
-            significand: power_of_two(precision - 1),
-            place: kept.place + 1,
-        }
-    } else {
-        Point {
-            significand,
-            place: kept.place,
-        }
-    }
+    raised(precision, kept.significand, kept.place, moved)
 }
 
 /// Whether the point is past the greatest significand at the greatest place.
@@ -380,4 +403,138 @@ pub fn deliver(
         loss,
     };
     finish(shape, given, kept, mode, negative)
+}
+
+// Most results have all digits of their format. If the significand's digits have been counted too, as those of a number
+// to be converted, the cut is at the same digit for each of them, and no case has to be told from another: the rest
+// that is cut off decides by comparisons alone, without the four cases of a `Loss`.
+
+/// The place of the lowest kept digit, if all digits of the precision are kept.
+#[inline(always)]
+fn full_place(precision: u32, digits: u32, unit: ExpInt) -> u32
+    requires precise { precision ≤ 125 }
+    requires short { digits ≤ 128 }
+    requires within { IsWithin unit_bound unit }
+    requires above { pos precision ≤ℤ (unit +ℤ pos digits) }
+    ensures near { result < place_bound }
+    ensures reached { digits + up unit ≡ result + precision + down unit }
+{
+    (unit + digits as ExpInt - precision as ExpInt) as u32
+}
+
+/// Cuts a significand with `digits` digits to the precision.
+#[inline(always)]
+fn cut_digits(precision: u32, given: Given, digits: u32) -> Cut
+    requires some { 0 < precision }
+    requires precise { precision ≤ 125 }
+    requires long { precision < digits }
+    requires short { digits ≤ 128 }
+    requires fits { given.significand < 2 ^ digits }
+    requires full { 2 ^ (digits - 1) ≤ given.significand }
+    requires exact { given.loss ≡ Loss.ExactlyZero }
+    requires within { IsWithin unit_bound given.unit }
+    requires above { pos precision ≤ℤ (given.unit +ℤ pos digits) }
+    ensures fits { result.significand < 2 ^ precision }
+    ensures full { 2 ^ (precision - 1) ≤ result.significand }
+    ensures near { result.place < place_bound }
+    ensures rest { result.rest < 2 * result.half }
+    ensures cut { (amount parts : ℕ) → 0 < parts → IsGiven given amount parts
+        → IsCutOff precision result amount parts }
+{
+    let places = digits - precision;
+    Cut {
+        significand: given.significand >> places,
+        place: full_place(precision, digits, given.unit),
+        rest: low_digits(given.significand, places),
+        half: power_of_two(places - 1),
+    }
+}
+
+/// Whether the mode moves a significand up for the rest below it, in units of which its last digit is `2 * half`.
+#[inline(always)]
+fn moves_past(mode: Round, negative: bool, rest: u128, half: u128, odd: bool) -> bool
+    requires { rest < 2 * half }
+    ensures { result ≡ rounds_up mode negative (loss_at rest half) odd }
+{
+    let to_even = mode == Round::NearestTiesToEven;
+    let to_nearest = to_even | (mode == Round::NearestTiesToAway);
+    let outward = is_outward(mode, negative) & (rest != 0);
+    let tie = (rest == half) & (odd | !to_even);
+    outward | (to_nearest & (tie | (rest > half)))
+}
+
+/// The status of a rounding within the format that cuts off a rest, and leaves all digits of the precision.
+#[inline(always)]
+fn status_of_rest(rest: u128) -> Status
+    ensures exact { rest ≡ 0 → bits_of result ≡ ok_bits }
+    ensures inexact { (rest ≡ 0 → ⊥) → bits_of result ≡ inexact_bit }
+{
+    if rest == 0 {
+        Status::OK
+    } else {
+        Status::INEXACT
+    }
+}
+
+/// Rounds all digits of the precision, with the rest below them, to a value of the format.
+#[inline(always)]
+fn round_cut(shape: Shape, cut: Cut, mode: Round, negative: bool) -> StatusAnd<Unpacked>
+    requires fits { cut.significand < 2 ^ shape.precision }
+    requires full { 2 ^ (shape.precision - 1) ≤ cut.significand }
+    requires near { cut.place < place_bound }
+    requires rest { cut.rest < 2 * cut.half }
+    ensures stored { IsStored shape result.value }
+    ensures delivered { (amount parts : ℕ) → 0 < parts → IsCutOff shape.precision cut amount parts
+        → GivesAt shape (IsDelivered (format_at shape) mode negative amount parts) result }
+{
+    let odd = cut.significand % 2 == 1;
+    let moved = moves_past(mode, negative, cut.rest, cut.half, odd);
+    let point = raised(shape.precision, cut.significand, cut.place, moved);
+    let greatest = shape.greatest_significand();
+    if is_past(shape.precision, point, greatest, shape.span()) {
+        return overflowed(shape, mode, negative);
+    }
+    let status = status_of_rest(cut.rest);
+    status.and(from_full_quanta(shape, negative, point.significand, point.place))
+}
+
+/// Delivers `significand * 2^exponent`, rounded once, where the significand has exactly `digits` digits. It is `deliver`
+/// with nothing lost, and faster where the count of digits is a constant.
+#[inline(always)]
+pub fn deliver_digits(
+    shape: Shape,
+    significand: u128,
+    digits: u32,
+    exponent: ExpInt,
+    mode: Round,
+    negative: bool,
+) -> StatusAnd<Unpacked>
+    requires within { IsWithin exponent_bound exponent }
+    requires short { digits ≤ 128 }
+    requires fits { significand < 2 ^ digits }
+    requires full { 2 ^ (digits - 1) ≤ significand }
+    ensures stored { IsStored shape result.value }
+    ensures delivered { let unit = exponent +ℤ pos (format_at shape).scale in (amount parts : ℕ)
+        → 0 < parts
+        → StandsFor significand Loss.ExactlyZero (amount * 2 ^ down unit) (parts * 2 ^ up unit)
+        → GivesAt shape (IsDelivered (format_at shape) mode negative amount parts) result }
+{
+    let unit = unit_place(shape, exponent);
+    if digits > shape.precision && unit + digits as ExpInt >= shape.precision as ExpInt {
+        let given = Given {
+            significand,
+            unit,
+            loss: Loss::ExactlyZero,
+        };
+        let cut = cut_digits(shape.precision, given, digits);
+        return round_cut(shape, cut, mode, negative);
+    }
+    deliver(
+        shape,
+        significand,
+        exponent,
+        Loss::ExactlyZero,
+        mode,
+        negative,
+    )
 }

@@ -1,6 +1,6 @@
 //! Unpacked values, and one constructor for each kind of them.
 
-ghost use Rattle.std.specs.Prelude.{◌≡◌, ◌+◌, ◌*◌, ◌^◌, ◌<◌, ◌≤◌, pos, neg_ℤ, ◌+ℤ◌, ◌-ℤ◌, ◌≤ℤ◌};
+ghost use Rattle.std.specs.Prelude.{◌≡◌, ◌+◌, ◌-◌, ◌*◌, ◌^◌, ◌<◌, ◌≤◌, pos, neg_ℤ, ◌+ℤ◌, ◌-ℤ◌, ◌≤ℤ◌};
 ghost use Rattle.apfloat_base.specs.arithmetic.Exact.{up, down};
 ghost use Rattle.apfloat_base.specs.formats.Format.{largest};
 ghost use Rattle.apfloat_base.specs.formats.Datum.{finite, infinite, nan};
@@ -158,6 +158,25 @@ pub fn from_quanta(shape: Shape, negative: bool, significand: u128, place: u32) 
     }
 }
 
+/// `significand * 2^place` quanta with that sign, if the significand has all its digits.
+#[inline(always)]
+pub fn from_full_quanta(shape: Shape, negative: bool, significand: u128, place: u32) -> Unpacked
+    requires fits { significand < 2 ^ shape.precision }
+    requires full { 2 ^ (shape.precision - 1) ≤ significand }
+    requires near { place ≤ place_bound }
+    requires within { significand * 2 ^ place ≤ largest (format_at shape) }
+    ensures stored { IsStored shape result }
+    ensures datum { datum_at shape result
+        ≡ signed_quanta shape.nonfinite negative (significand * 2 ^ place) }
+{
+    Unpacked {
+        significand,
+        exponent: exponent_at(shape.min_exp, place, 0),
+        category: Category::Normal,
+        negative,
+    }
+}
+
 /// `significand * 2^place` quanta with that sign, after a rounding: most of these significands have all their digits
 /// and need not be normalized again.
 #[inline(always)]
@@ -170,12 +189,7 @@ pub fn from_rounded_quanta(shape: Shape, negative: bool, significand: u128, plac
         ≡ signed_quanta shape.nonfinite negative (significand * 2 ^ place) }
 {
     if significand >= shape.integer_bit() {
-        return Unpacked {
-            significand,
-            exponent: exponent_at(shape.min_exp, place, 0),
-            category: Category::Normal,
-            negative,
-        };
+        return from_full_quanta(shape, negative, significand, place);
     }
     from_quanta(shape, negative, significand, place)
 }
