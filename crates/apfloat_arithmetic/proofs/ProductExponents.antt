@@ -1,7 +1,7 @@
 -- Products and quotients of stored numbers: their exponents, counted from the quantum's.
 use Rattle.std.proofs.Common.{◌≡◌, ℕ, ◌+◌, ◌-◌, ◌*◌, ◌^◌, ◌<◌, ◌≤◌, sym, ap, ◌∙◌, arith, ℤ, pos, ◌+ℤ◌, ◌-ℤ◌, to_z, of_z, w32}
 use Rattle.std.proofs.lemmas.Int.{ints}
-use Rattle.std.proofs.lemmas.Nat.{pow_pos}
+use Rattle.std.proofs.lemmas.Nat.{pow_pos, pow-add}
 use Rattle.apfloat_base.specs.declared.sig.loss.Loss.{Loss}
 use Rattle.apfloat_base.specs.rounding.Bounds.{IsWithin, number_bound}
 use Rattle.apfloat_base.specs.rounding.Standing.{StandsFor, up, down}
@@ -33,6 +33,13 @@ balanced_product : (precision scale : ℕ) (min_exp x y r : ℤ) → 3 ≤ preci
     ≡ down (x -ℤ min_exp) + down (y -ℤ min_exp) + (scale + up (r +ℤ pos scale))
 balanced_product precision scale min_exp x y r t l e = omega (arith, ints)
 
+-- also if it was moved up, and its exponent lowered as far
+balanced_raised : (precision scale moved : ℕ) (min_exp x y e r : ℤ) → 3 ≤ precision
+    → pos scale ≡ pos (precision - 1) -ℤ min_exp → e ≡ ((x +ℤ y) -ℤ pos (2 * (precision - 1))) → r ≡ e -ℤ pos moved
+    → up (x -ℤ min_exp) + up (y -ℤ min_exp) + down (r +ℤ pos scale)
+    ≡ down (x -ℤ min_exp) + down (y -ℤ min_exp) + (scale + (moved + up (r +ℤ pos scale)))
+balanced_raised precision scale moved min_exp x y e r t l g h = omega (arith, ints)
+
 -- and so do those of a quotient
 balanced_quotient : (precision places scale : ℕ) (min_exp x y r : ℤ) → 3 ≤ precision
     → pos scale ≡ pos (precision - 1) -ℤ min_exp → r ≡ ((x -ℤ y) -ℤ pos places)
@@ -54,6 +61,27 @@ product_is shape x y r m n p hx hy v e =
     hx.whole hy.whole (balanced_product shape.precision (format_at shape).scale shape.min_exp x y r
     shape.parameters.precision_low
     (scale_is shape) e) ∙ ap (λ (z : ℕ). z * (2 ^ (format_at shape).scale * 2 ^ up unit)) (sym v)
+
+-- so does the product that was moved up, with the exponent that was lowered as far
+pub raised_product_is : (shape : Shape) (x y e r : ℤ) (m n p moved : ℕ) → IsNormalAt shape m x → IsNormalAt shape n y
+    → p ≡ m * n * 2 ^ moved
+    → e ≡ ((x +ℤ y) -ℤ pos (2 * (shape.precision - 1))) → r ≡ e -ℤ pos moved
+    → quanta_at shape.min_exp m x * quanta_at shape.min_exp n y * 2 ^ down (r +ℤ pos (format_at shape).scale)
+    ≡ p * (2 ^ (format_at shape).scale * 2 ^ up (r +ℤ pos (format_at shape).scale))
+raised_product_is shape x y e r m n p moved hx hy v g l =
+    let scale = (format_at shape).scale in
+    let unit : ℤ = r +ℤ pos scale in
+    let a = product_stands m n (quanta_at shape.min_exp m x) (quanta_at shape.min_exp n y) (up (x -ℤ shape.min_exp))
+    (up (y -ℤ shape.min_exp)) (down (x -ℤ shape.min_exp)) (down (y -ℤ shape.min_exp)) scale (moved + up unit)
+    (down unit) hx.whole hy.whole (balanced_raised shape.precision scale moved shape.min_exp x y e r
+    shape.parameters.precision_low (scale_is shape) g l) in
+    let b : 2 ^ scale * 2 ^ (moved + up unit) ≡ 2 ^ scale * (2 ^ moved * 2 ^ up unit) =
+    ap (λ (z : ℕ). 2 ^ scale * z) (pow-add 2 moved (up unit)) in
+    let d : m * n * (2 ^ scale * 2 ^ (moved + up unit)) ≡ m * n * (2 ^ scale * (2 ^ moved * 2 ^ up unit)) =
+    ap (λ (z : ℕ). m * n * z) b in
+    let f : m * n * (2 ^ scale * (2 ^ moved * 2 ^ up unit)) ≡ m * n * 2 ^ moved * (2 ^ scale * 2 ^ up unit) =
+    omega arith in
+    a ∙ d ∙ f ∙ ap (λ (z : ℕ). z * (2 ^ scale * 2 ^ up unit)) (sym v)
 
 -- the quotient of the significands stands for the quotient of the numbers
 pub quotient_is : (shape : Shape) (x y r : ℤ) (places q : ℕ) (loss : Loss) (m n : ℕ)

@@ -20,6 +20,10 @@ struct Halves {
     odd: u32,
 }
 
+/// Half of the even number by which an exponent is raised, so that it is not negative: exponents of numbers are at most
+/// this far from 0.
+const HALF_RAISE: ExpInt = 2097152;
+
 /// Half of an exponent. It is raised by an even number first, so that it is not negative.
 #[inline(always)]
 fn halves_of(exponent: ExpInt) -> Halves
@@ -28,9 +32,9 @@ fn halves_of(exponent: ExpInt) -> Halves
     ensures halves { exponent ≡ (result.half +ℤ result.half) +ℤ pos result.odd }
     ensures within { IsWithin number_bound result.half }
 {
-    let raised = (exponent + 4194304) as u32;
+    let raised = (exponent + 2 * HALF_RAISE) as u32;
     Halves {
-        half: (raised / 2) as ExpInt - 2097152,
+        half: (raised / 2) as ExpInt - HALF_RAISE,
         odd: raised % 2,
     }
 }

@@ -1,24 +1,12 @@
-use Rattle.std.proofs.Common.{◌≡◌, ◌*◌, ◌^◌, Bool, w32, to_z, of_z, subst, ◌≤◌, arith, refl, inl}
-use Rattle.std.proofs.Math.Nat.{pow-le-pow_right}
+use Rattle.std.proofs.Common.{◌≡◌, ◌*◌, ◌^◌, Bool, w32, to_z, of_z, subst, arith}
 use Rattle.std.proofs.lemmas.Int.{to_z-of_z, ints}
 use Rattle.std.proofs.lemmas.Nat.{pow_pos}
 use Rattle.apfloat_base.specs.rounding.Flags.{bits_of}
 use Rattle.apfloat_base.specs.rounding.Rounding.{IsDelivered}
-use Rattle.apfloat_base.proofs.general.Powers.{two_pos}
 use Rattle.apfloat_unpacked.specs.Shapes.{format_at}
 use Rattle.apfloat_unpacked.specs.Stored.{quanta_at, datum_at}
-use Rattle.apfloat_arithmetic.proofs.ProductExponents.{normal_near, product_is}
+use Rattle.apfloat_arithmetic.proofs.ProductExponents.{normal_near, raised_product_is}
 use Rattle.apfloat_arithmetic.proofs.products.multiply_numbers.Goals as goal
-
-pub full_product-requires-clause-left_short : goal.full_product-requires-clause-left_short
-full_product-requires-clause-left_short c =
-    let l : 2 ^ c.args.shape.precision ≤ 2 ^ 64 = pow-le-pow_right two_pos c.requires.short in
-    omega (arith, l, c.requires.left.operand.fits)
-
-pub full_product-requires-clause-right_short : goal.full_product-requires-clause-right_short
-full_product-requires-clause-right_short c =
-    let l : 2 ^ c.args.shape.precision ≤ 2 ^ 64 = pow-le-pow_right two_pos c.requires.short in
-    omega (arith, l, c.requires.right.operand.fits)
 
 pub product_exponent-requires-clause-left : goal.product_exponent-requires-clause-left
 product_exponent-requires-clause-left c =
@@ -34,18 +22,26 @@ product_exponent-requires-clause-right c =
       high = omega (arith, ints, c.args.shape.parameters, c.requires.right.operand);
     }
 
-pub deliver-requires-clause-within : goal.deliver-requires-clause-within
-deliver-requires-clause-within c =
+pub lowered-last-requires-clause-within : goal.lowered-last-requires-clause-within
+lowered-last-requires-clause-within c =
+    let l = c.args.shape.parameters in
+    let x = c.requires.left.operand in
+    let y = c.requires.right.operand in
+    let e = c.product_exponent.ensures.value in
+    record { low = omega (arith, ints, l, x, y, e); high = omega (arith, ints, l, x, y, e) }
+
+pub lowered-last-requires-clause-short : goal.lowered-last-requires-clause-short
+lowered-last-requires-clause-short c = omega (arith, c.raised_product-product.ensures.moved)
+
+pub deliver_digits-requires-clause-within : goal.deliver_digits-requires-clause-within
+deliver_digits-requires-clause-within c =
     record {
-      low = omega (arith, ints, c.product_exponent.ensures.within);
-      high = omega (arith, ints, c.product_exponent.ensures.within);
+      low = omega (arith, ints, c.lowered-last.ensures.within);
+      high = omega (arith, ints, c.lowered-last.ensures.within);
     }
 
-pub deliver-requires-clause-fine : goal.deliver-requires-clause-fine
-deliver-requires-clause-fine c = inl refl
-
 pub returns-clause-stored : goal.returns-clause-stored
-returns-clause-stored c = c.deliver.ensures.stored
+returns-clause-stored c = c.deliver_digits.ensures.stored
 
 pub returns-clause-delivered : goal.returns-clause-delivered
 returns-clause-delivered c =
@@ -53,15 +49,19 @@ returns-clause-delivered c =
     let x = normal_near s c.args.x.significand c.args.x.exponent c.requires.left in
     let y = normal_near s c.args.y.significand c.args.y.exponent c.requires.right in
     let v = rw (x.word, y.word) at c.product_exponent.ensures.value in
-    let w : to_z w32 (of_z w32 c.product_exponent.result) ≡ c.product_exponent.result =
+    let q : to_z w32 (of_z w32 c.product_exponent.result) ≡ c.product_exponent.result =
     to_z-of_z w32 c.product_exponent.result (record { sfits = c.product_exponent.type_inv }) in
-    let g = rw w at c.deliver.ensures.delivered in
+    let e = rw q at c.lowered-last.ensures.value in
+    let w : to_z w32 (of_z w32 c.lowered-last.result) ≡ c.lowered-last.result =
+    to_z-of_z w32 c.lowered-last.result (record { sfits = c.lowered-last.type_inv }) in
+    let g = rw w at c.deliver_digits.ensures.delivered in
     let d = g (quanta_at s.min_exp c.args.x.significand c.args.x.exponent * quanta_at s.min_exp c.args.y.significand
     c.args.y.exponent) (2 ^ (format_at s).scale) (pow_pos (format_at s).scale)
-    (product_is s c.args.x.exponent c.args.y.exponent c.product_exponent.result c.args.x.significand
-    c.args.y.significand c.full_product.result c.requires.left c.requires.right
-    c.full_product.ensures v) in
+    (raised_product_is s c.args.x.exponent c.args.y.exponent c.product_exponent.result c.lowered-last.result
+    c.args.x.significand c.args.y.significand c.raised_product-product.result.significand
+    c.raised_product-product.result.moved c.requires.left c.requires.right c.raised_product-product.ensures.value v
+    e) in
     subst (λ (b : Bool). IsDelivered (format_at s) c.args.round b
     (quanta_at s.min_exp c.args.x.significand c.args.x.exponent * quanta_at s.min_exp c.args.y.significand
-    c.args.y.exponent) (2 ^ (format_at s).scale) (datum_at s c.deliver.result.value)
-    (bits_of c.deliver.result.status)) c.product_sign.ensures d
+    c.args.y.exponent) (2 ^ (format_at s).scale) (datum_at s c.deliver_digits.result.value)
+    (bits_of c.deliver_digits.result.status)) c.product_sign.ensures d

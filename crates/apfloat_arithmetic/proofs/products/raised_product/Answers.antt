@@ -1,6 +1,18 @@
-use Rattle.std.proofs.Common.{ℕ, ◌*◌, ◌^◌, ◌<◌, ◌≤◌, ◌-◌, sym, subst, arith}
+use Rattle.std.proofs.Common.{◌≡◌, ℕ, ◌*◌, ◌^◌, ◌<◌, ◌≤◌, ◌-◌, sym, subst, arith}
+use Rattle.std.proofs.Math.Nat.{pow-le-pow_right}
+use Rattle.apfloat_base.proofs.general.Powers.{two_pos, twice_half}
 use Rattle.apfloat_arithmetic.proofs.WideTerms.{wide_fits, product_full}
-use Rattle.apfloat_arithmetic.proofs.fused.wide_product.Goals as goal
+use Rattle.apfloat_arithmetic.proofs.products.raised_product.Goals as goal
+
+pub overflow_mul-result : goal.overflow_mul-result
+overflow_mul-result c =
+    let some = c.requires.some in
+    let short = c.requires.short in
+    let t : 2 * 2 ^ (2 * c.args.precision - 1) ≡ 2 ^ (2 * c.args.precision) =
+    twice_half (2 * c.args.precision) (omega (arith, some)) in
+    let m : 2 * c.args.precision ≤ 128 = omega (arith, short) in
+    let l : 2 ^ (2 * c.args.precision) ≤ 2 ^ 128 = pow-le-pow_right two_pos m in
+    record { fits = omega (arith, t, l, c.power_of_two.ensures, c.if-significand-power_of_two.true) }
 
 pub returns-then-significand-power_of_two-clause-full : goal.returns-then-significand-power_of_two-clause-full
 returns-then-significand-power_of_two-clause-full c =
