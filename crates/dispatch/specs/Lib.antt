@@ -1,6 +1,7 @@
 pub mod ValueKinds
 pub mod Limits
 pub mod BuiltIns
+pub mod FlaggedKinds
 pub mod Modes
 pub mod Relations
 pub mod OfTwo

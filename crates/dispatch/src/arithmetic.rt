@@ -1,9 +1,11 @@
 //! The operations on two values.
 
 ghost use Rattle.std.specs.Prelude.{◌≡◌, true};
+ghost use Rattle.rustc_apfloat.specs.FlaggedTypes.{constants_of};
 ghost use Rattle.dispatch.specs.OfTwo.{IsOfTwo, has_operation};
-ghost use Rattle.dispatch.specs.Relations.{relations_of};
+ghost use Rattle.dispatch.specs.Relations.{in_format, relations_of};
 
+use rustc_apfloat::ieee::{Flagged, IeeeFloat};
 use rustc_apfloat::{Float, Round, StatusAnd};
 
 /// An operation on two values.
@@ -46,6 +48,26 @@ impl Arithmetic {
             Arithmetic::Quotient => x.div_r(y, round),
             Arithmetic::NearestRemainder => x.ieee_rem(y),
             Arithmetic::TruncatedRemainder => x.c_fmod(y),
+        }
+    }
+
+    /// Its answer for two values of a format, which has each operation however many digits it has.
+    #[inline(always)]
+    pub fn answer_in_format<S: Flagged>(
+        self,
+        left: IeeeFloat<S>,
+        right: IeeeFloat<S>,
+        round: Round,
+    ) -> StatusAnd<IeeeFloat<S>>
+        ensures { IsOfTwo (in_format (constants_of S.Flagged)) self round left right result }
+    {
+        match self {
+            Arithmetic::Sum => left.add_r(right, round),
+            Arithmetic::Difference => left.sub_r(right, round),
+            Arithmetic::Product => left.wide_mul_r(right, round),
+            Arithmetic::Quotient => left.div_r(right, round),
+            Arithmetic::NearestRemainder => left.ieee_rem(right),
+            Arithmetic::TruncatedRemainder => left.c_fmod(right),
         }
     }
 }

@@ -108,6 +108,7 @@ pub static BUILT_IN_KINDS: &[BuiltInKind] = &each_format!(all_kinds());
 
 impl BuiltInFormat {
     /// Makes a call in the format.
+    #[inline(always)]
     pub fn run<C: InFormat>(self, call: C) -> C::Output
         requires { C.can call (of_format (constants_in self)) }
         ensures { C.gives call (of_format (constants_in self)) result }

@@ -4,10 +4,12 @@
 
 mod arithmetic;
 mod built_in;
+mod flagged;
 mod in_kind;
 mod modes;
 
 pub use arithmetic::Arithmetic;
 pub use built_in::{BUILT_IN_KINDS, BuiltInFormat, BuiltInKind};
+pub use flagged::{FlaggedFormat, FlaggedKind, IeeeFormat, InFlaggedFormat, InFlaggedKind};
 pub use in_kind::{InFormat, InKind};
 pub use modes::{mode_coded, mode_named};
