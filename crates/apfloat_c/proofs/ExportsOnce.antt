@@ -1,12 +1,12 @@
 -- What an export leaves is determined by its arguments: one code, and one answer.
-use Rattle.std.proofs.Common.{◌≡◌, ℕ, ◌^◌, ◌<◌, ◌≤◌, Bool, Option, Some, None, Ok, refl, sym, ap, ◌∙◌, subst, ⊎_elim, arith, lit<}
+use Rattle.std.proofs.Common.{◌≡◌, ℕ, ◌^◌, ◌<◌, ◌≤◌, Bool, Option, Some, None, Ok, refl, sym, ap, ◌∙◌, subst, ⊎_elim, true, arith, lit<}
 use Rattle.std.specs.Int.{w128, cast_unsigned}
-use Rattle.std.specs.Prelude.{ℤ, pos, ⊤}
+use Rattle.std.specs.Prelude.{ℤ, ⊤}
 use Rattle.std.proofs.lemmas.Bool.{cases_lt, ltb-true}
 use Rattle.rustc_apfloat.specs.declared.Round.{Round}
 use Rattle.rustc_apfloat.specs.declared.StatusAnd.{StatusAnd}
 use Rattle.rustc_apfloat.specs.Datum.{Datum}
-use Rattle.rustc_apfloat.specs.Flags.{Gives, bits_of}
+use Rattle.rustc_apfloat.specs.Flags.{bits_of}
 use Rattle.rustc_apfloat.specs.Lawful.{Constants, IsLawful, format_with, layout_with}
 use Rattle.rustc_apfloat.specs.Determined.{Determines, DeterminesBoth}
 use Rattle.rustc_apfloat.specs.Exponents.{IsExactInverse}
@@ -17,15 +17,20 @@ use Rattle.rustc_apfloat.specs.PairAnswers.{OncePair}
 use Rattle.rustc_apfloat.specs.PairCalls.{IsPairExactInverse}
 use Rattle.rustc_apfloat.specs.PairRoots.{IsPairRoot}
 use Rattle.apfloat_base.proofs.Determined.{determined, gives_once, same_answer, scale_some}
+use Rattle.apfloat_base.proofs.formats.OtherFlags.{other_flags}
 use Rattle.apfloat_base.proofs.bits.Encodings.{lawful_interchange}
 use Rattle.apfloat_base.proofs.Once.{OnceWith, conversion_once, fused_sum_once, root_once}
 use Rattle.apfloat_pair_theory.proofs.calls.PairsDetermined.{pairs_determined}
 use Rattle.apfloat_pair_theory.proofs.calls.PairsOnce.{wide_answer_once}
 use Rattle.apfloat_c.specs.declared.data.Answer.{Answer}
 use Rattle.apfloat_c.specs.declared.data.Halves.{Halves}
-use Rattle.dispatch.specs.declared.BuiltInKind.{BuiltInKind}
-use Rattle.dispatch.specs.declared.BuiltInKind.TheVariants.{OfFormat, Pairs}
-use Rattle.dispatch.specs.BuiltIns.{kind_of, known_format}
+use Rattle.dispatch.specs.declared.FlaggedFormat.{FlaggedFormat}
+use Rattle.dispatch.specs.declared.FlaggedFormat.TheVariants.{BuiltIn, AfterRounding, BeforeRounding}
+use Rattle.dispatch.specs.declared.FlaggedKind.{FlaggedKind}
+use Rattle.dispatch.specs.declared.FlaggedKind.TheVariants.{OfFormat, Pairs}
+use Rattle.dispatch.specs.declared.BuiltInFormat.{BuiltInFormat}
+use Rattle.dispatch.specs.BuiltIns.{constants_in, known_format}
+use Rattle.dispatch.specs.FlaggedKinds.{flagged_constants, flagged_kind_of, format_of_ieee}
 use Rattle.dispatch.specs.Once.{AreDetermined}
 use Rattle.dispatch.specs.Relations.{Relations, in_format, in_pairs}
 use Rattle.dispatch.specs.ValueKinds.{Kind, of_format, of_pairs, value_of}
@@ -117,8 +122,7 @@ module _ {A : Type 0} (of_type : Relations A) (inverts : A → Option A → Type
 
   -- a call on values of a type has one answer
   type_once : (call : ExportedCall) → OnceAnswer (IsTypeAnswer of_type mode call)
-  type_once (OfTwo arithmetic x y) =
-      value_once _ (of_two_once of_type inverts mode precision width once arithmetic _ _)
+  type_once (OfTwo arithmetic x y) = λ a b h k. absurd h
   type_once (FusedSum x y z) = λ a b h k. absurd h
   type_once (SquareRoot x) = λ a b h k. absurd h
   type_once (FromUnsigned number) = value_once _ (once.of_unsigned number)
@@ -147,11 +151,28 @@ abbrev pub KindHasLaw : Kind → Type 0
 KindHasLaw (of_format c) = HasLaw c
 KindHasLaw of_pairs = ⊤
 
--- each format of the codes is one
-kind_law : (known : BuiltInKind) → KindHasLaw (kind_of known)
-kind_law (OfFormat format) =
+-- each built-in format is one
+built_in_law : (format : BuiltInFormat) → HasLaw (constants_in format)
+built_in_law format =
     let known = known_format format in
     record { law = known.lawful; wide = ltb-true _ _ known.wide }
+
+-- with any flags
+other_flags_law : (c : Constants) (tiny ieee : Bool) → HasLaw c
+    → HasLaw (record c { tiny_before_rounding = tiny; ieee_flags = ieee })
+other_flags_law c tiny ieee has = record { law = other_flags c tiny ieee has.law; wide = has.wide }
+
+-- so each format of the codes is one
+format_law : (format : FlaggedFormat) → HasLaw (flagged_constants format)
+format_law (BuiltIn format) = built_in_law format
+format_law (AfterRounding format) =
+    let c = constants_in (format_of_ieee format) in
+    other_flags_law c c.tiny_before_rounding true (built_in_law (format_of_ieee format))
+format_law (BeforeRounding format) =
+    other_flags_law (constants_in (format_of_ieee format)) true true (built_in_law (format_of_ieee format))
+
+kind_law : (known : FlaggedKind) → KindHasLaw (flagged_kind_of known)
+kind_law (OfFormat format) = format_law format
 kind_law Pairs = tt
 
 -- ---- in a format
@@ -181,11 +202,11 @@ converted_into_once constants mode x (of_format d) has =
 converted_into_once constants mode x of_pairs has = λ a b h k. absurd h
 
 -- and so has one whose target may be an unknown code
-conversion_answer_once : (constants : Constants) (mode : Round) (x : Datum) (target : Option BuiltInKind)
+conversion_answer_once : (constants : Constants) (mode : Round) (x : Datum) (target : Option FlaggedKind)
     → OnceAnswer (IsConverted constants mode x target)
 conversion_answer_once constants mode x None = λ a b h k. absurd h
 conversion_answer_once constants mode x (Some target) =
-    converted_into_once constants mode x (kind_of target) (kind_law target)
+    converted_into_once constants mode x (flagged_kind_of target) (kind_law target)
 
 -- ---- of pairs of doubles
 
@@ -198,6 +219,10 @@ pair_root_once mode x = wide_answer_once (IsRoot wide mode) (root_once wide mode
 -- a call on values of any kind has one answer
 kind_once : (kind : Kind) → KindHasLaw kind → (mode : Round) (call : ExportedCall)
     → OnceAnswer (IsKindAnswer kind mode call)
+kind_once (of_format c) has mode (OfTwo arithmetic x y) =
+    let once = format_determined c has mode in
+    value_once (in_format c) (IsExactInverse (format_with c)) mode c.precision c.bits has.wide once _
+    (of_two_once (in_format c) (IsExactInverse (format_with c)) mode c.precision c.bits once arithmetic _ _)
 kind_once (of_format c) has mode (FusedSum x y z) =
     value_once (in_format c) (IsExactInverse (format_with c)) mode c.precision c.bits has.wide
     (format_determined c has mode) _
@@ -209,6 +234,9 @@ kind_once (of_format c) has mode (Conversion x target) = conversion_answer_once 
 kind_once (of_format c) has mode call =
     type_once (in_format c) (IsExactInverse (format_with c)) mode c.precision c.bits has.wide
     (format_determined c has mode) call
+kind_once of_pairs has mode (OfTwo arithmetic x y) =
+    value_once in_pairs IsPairExactInverse mode 106 128 (lit< tt) (pairs_determined mode) _
+    (of_two_once in_pairs IsPairExactInverse mode 106 128 (pairs_determined mode) arithmetic _ _)
 kind_once of_pairs has mode (SquareRoot x) =
     value_once in_pairs IsPairExactInverse mode 106 128 (lit< tt) (pairs_determined mode) _
     (gives_once _ (pair_root_once mode (pair_of x)))
@@ -226,18 +254,18 @@ unchanged old a b a_is b_is =
     }
 
 -- and one code
-without_once : (fault : Option ℕ) (known : BuiltInKind) (mode : Round) (call : ExportedCall)
+without_once : (fault : Option ℕ) (known : FlaggedKind) (mode : Round) (call : ExportedCall)
     (old first second : Answer) (code other : ℕ)
-    → IsReturned (without fault (record { kind = kind_of known; mode = mode; call = call })) old first code
-    → IsReturned (without fault (record { kind = kind_of known; mode = mode; call = call })) old second other
+    → IsReturned (without fault (record { kind = flagged_kind_of known; mode = mode; call = call })) old first code
+    → IsReturned (without fault (record { kind = flagged_kind_of known; mode = mode; call = call })) old second other
     → (code ≡ other) × SameAnswer first second
 without_once None known mode call old a b code other x y =
-    (x.0 ∙ sym y.0, kind_once (kind_of known) (kind_law known) mode call a b x.1 y.1)
+    (x.0 ∙ sym y.0, kind_once (flagged_kind_of known) (kind_law known) mode call a b x.1 y.1)
 without_once (Some fault) known mode call old a b code other x y =
     (x.0 ∙ sym y.0, unchanged old a b x.1 y.1)
 
 -- two replies to the same arguments are one
-pub reply_once : (format : Option BuiltInKind) (mode : Option Round) (call : ExportedCall) (old first second : Answer)
+pub reply_once : (format : Option FlaggedKind) (mode : Option Round) (call : ExportedCall) (old first second : Answer)
     (code other : ℕ)
     → IsReturned (known_call format mode call) old first code
     → IsReturned (known_call format mode call) old second other
@@ -245,7 +273,7 @@ pub reply_once : (format : Option BuiltInKind) (mode : Option Round) (call : Exp
 reply_once None mode call old a b code other x y = (x.0 ∙ sym y.0, unchanged old a b x.1 y.1)
 reply_once (Some known) None call old a b code other x y = (x.0 ∙ sym y.0, unchanged old a b x.1 y.1)
 reply_once (Some known) (Some mode) call old a b code other x y =
-    without_once (fault_in (kind_of known) call) known mode call old a b code other x y
+    without_once (fault_in (flagged_kind_of known) call) known mode call old a b code other x y
 
 -- ---- answers as C holds them, whose halves have 64 bits
 

@@ -1,9 +1,8 @@
 -- Answers where nothing is refused, and the exponents of fractions.
-use Rattle.std.proofs.Common.{◌≡◌, ℕ, Bool, true, false, List, None, Some, Option, Ok, Result, refl, subst}
+use Rattle.std.proofs.Common.{◌≡◌, ℕ, Bool, true, false, List, None, Option, Ok, Result, refl, subst}
 use Rattle.std.proofs.lemmas.Bool.{false≢true}
 use Rattle.std.specs.Char.{is_ascii}
 use Rattle.rustc_apfloat.specs.declared.Round.{Round}
-use Rattle.rustc_apfloat.specs.declared.StatusAnd.{StatusAnd}
 use Rattle.rustc_apfloat.specs.Digits.{every}
 use Rattle.rustc_apfloat.specs.Faults.{fault_of}
 use Rattle.rustc_apfloat.specs.Datum.{Datum}
@@ -14,14 +13,14 @@ use Rattle.rustc_apfloat.specs.PairFormats.{double}
 use Rattle.rustc_apfloat.specs.Pairs.{Pair, pair_of}
 use Rattle.apfloat_pair_theory.proofs.pairs.PairBits.{double_is_lawful}
 use Rattle.apfloat_c.proofs.ExponentWords.{frexp_fits}
-use Rattle.dispatch.specs.declared.BuiltInKind.{BuiltInKind}
-use Rattle.dispatch.specs.Limits.{multiplies}
+use Rattle.dispatch.specs.declared.FlaggedKind.{FlaggedKind}
+use Rattle.dispatch.specs.declared.Arithmetic.{Arithmetic}
 use Rattle.dispatch.specs.Relations.{Relations, in_format, in_pairs}
 use Rattle.dispatch.specs.ValueKinds.{of_format, of_pairs, value_of}
 use Rattle.apfloat_c.specs.declared.data.Answer.{Answer}
 use Rattle.apfloat_c.specs.declared.exported_call.ExportedCall.{ExportedCall}
-use Rattle.apfloat_c.specs.declared.exported_call.ExportedCall.TheVariants.{OfTwo, FusedSum, SquareRoot, FromUnsigned, FromSigned, ToUnsigned, ToSigned, RoundToIntegral, Scaling, Fraction, Exponent, NextUp, NextDown, Comparison, Class, Conversion, Text}
-use Rattle.apfloat_c.specs.KnownCalls.{is_text, refused_text, unless}
+use Rattle.apfloat_c.specs.declared.exported_call.ExportedCall.TheVariants.{OfTwo, FusedSum, SquareRoot, Fraction, Conversion}
+use Rattle.apfloat_c.specs.KnownCalls.{is_text, unless}
 use Rattle.apfloat_c.specs.Answers.{FractionFits, IsOutcome, IsOutcomeBy, IsTypeOutcome}
 
 -- where the test holds, the answer is no refusal
@@ -35,27 +34,33 @@ pub text_without_fault : (bytes : List ℕ) → every is_ascii bytes ≡ true �
     → is_text bytes ≡ true
 text_without_fault bytes ascii none = rw (ascii, none) refl
 
--- a type returns what its format does, except for calls that only formats have
+-- a type returns what its format does, except for calls that are not those of a type
 pub type_outcome : (constants : Constants) (mode : Round) (call : ExportedCall) (outcome : Result Answer ℕ)
+    → ((arithmetic : Arithmetic) (x y : ℕ) → call ≡ OfTwo arithmetic x y → ⊥)
     → ((x y z : ℕ) → call ≡ FusedSum x y z → ⊥)
     → ((x : ℕ) → call ≡ SquareRoot x → ⊥)
-    → ((x : ℕ) (target : Option BuiltInKind) → call ≡ Conversion x target → ⊥)
-    → IsTypeOutcome (in_format constants) (multiplies (of_format constants)) mode call outcome
+    → ((x : ℕ) (target : Option FlaggedKind) → call ≡ Conversion x target → ⊥)
+    → IsTypeOutcome (in_format constants) mode call outcome
     → IsOutcome (of_format constants) mode call outcome
-type_outcome constants mode (FusedSum x y z) outcome no_fused no_root no_conversion holds =
+type_outcome constants mode (OfTwo arithmetic x y) outcome no_two no_fused no_root no_conversion holds =
+    absurd (no_two arithmetic x y refl)
+type_outcome constants mode (FusedSum x y z) outcome no_two no_fused no_root no_conversion holds =
     absurd (no_fused x y z refl)
-type_outcome constants mode (SquareRoot x) outcome no_fused no_root no_conversion holds = absurd (no_root x refl)
-type_outcome constants mode (Conversion x target) outcome no_fused no_root no_conversion holds =
+type_outcome constants mode (SquareRoot x) outcome no_two no_fused no_root no_conversion holds =
+    absurd (no_root x refl)
+type_outcome constants mode (Conversion x target) outcome no_two no_fused no_root no_conversion holds =
     absurd (no_conversion x target refl)
-type_outcome constants mode call outcome no_fused no_root no_conversion holds = holds
+type_outcome constants mode call outcome no_two no_fused no_root no_conversion holds = holds
 
--- and what pairs of doubles do, except for the square root
+-- and what pairs of doubles do, except for operations on two values and the square root
 pub pair_outcome : (mode : Round) (call : ExportedCall) (outcome : Result Answer ℕ)
+    → ((arithmetic : Arithmetic) (x y : ℕ) → call ≡ OfTwo arithmetic x y → ⊥)
     → ((x : ℕ) → call ≡ SquareRoot x → ⊥)
-    → IsTypeOutcome in_pairs (multiplies of_pairs) mode call outcome
+    → IsTypeOutcome in_pairs mode call outcome
     → IsOutcome of_pairs mode call outcome
-pair_outcome mode (SquareRoot x) outcome no_root holds = absurd (no_root x refl)
-pair_outcome mode call outcome no_root holds = holds
+pair_outcome mode (OfTwo arithmetic x y) outcome no_two no_root holds = absurd (no_two arithmetic x y refl)
+pair_outcome mode (SquareRoot x) outcome no_two no_root holds = absurd (no_root x refl)
+pair_outcome mode call outcome no_two no_root holds = holds
 
 -- ---- fractions
 

@@ -17,8 +17,8 @@ use Rattle.rustc_apfloat.specs.Conversions.{IsConversion}
 use Rattle.rustc_apfloat.specs.Lawful.{Constants, format_with}
 use Rattle.apfloat_c.specs.declared.data.Halves.{Halves}
 use Rattle.apfloat_c.specs.declared.data.Answer.{Answer}
-use Rattle.dispatch.specs.declared.BuiltInKind.{BuiltInKind}
-use Rattle.dispatch.specs.BuiltIns.{kind_of}
+use Rattle.dispatch.specs.declared.FlaggedKind.{FlaggedKind}
+use Rattle.dispatch.specs.FlaggedKinds.{flagged_kind_of}
 use Rattle.dispatch.specs.ValueKinds.{Kind, of_format, of_pairs, value_of}
 use Rattle.dispatch.specs.OfTwo.{IsOfTwo}
 use Rattle.dispatch.specs.Relations.{Relations, in_format, in_pairs}
@@ -110,10 +110,9 @@ pub record IsFractionOf {A : Type 0} (of_type : Relations A) (Holds : A → ℤ 
 abbrev pub class_of : {A : Type 0} → Relations A → A → ℤ
 class_of of_type x = class_code (of_type.category x) (of_type.sign x) (of_type.denormal x) (of_type.signals x)
 
--- fused sums, square roots and conversions, which not every type has, have no result
+-- operations on two values, fused sums, square roots and conversions, which are not calls of a type, have no result
 abbrev pub IsTypeAnswer : {A : Type 0} → Relations A → Round → ExportedCall → Answer → Type 0
-IsTypeAnswer of_type mode (OfTwo arithmetic x y) answer =
-    IsValue of_type (IsOfTwo of_type arithmetic mode (of_type.value_of_bits x) (of_type.value_of_bits y)) answer
+IsTypeAnswer of_type mode (OfTwo arithmetic x y) answer = ⊥
 IsTypeAnswer of_type mode (FusedSum x y z) answer = ⊥
 IsTypeAnswer of_type mode (SquareRoot x) answer = ⊥
 IsTypeAnswer of_type mode (FromUnsigned number) answer =
@@ -161,14 +160,16 @@ IsConvertedInto c mode x (of_format d) answer =
     IsConvertedTo d (IsConversion (format_with c) (format_with d) mode x) answer
 IsConvertedInto c mode x of_pairs answer = ⊥
 
-abbrev pub IsConverted : Constants → Round → Datum → Option BuiltInKind → Answer → Type 0
+abbrev pub IsConverted : Constants → Round → Datum → Option FlaggedKind → Answer → Type 0
 IsConverted c mode x None answer = ⊥
-IsConverted c mode x (Some target) answer = IsConvertedInto c mode x (kind_of target) answer
+IsConverted c mode x (Some target) answer = IsConvertedInto c mode x (flagged_kind_of target) answer
 
 -- ---- of any kind
 
--- each kind has the square root; formats have the fused sum, and are converted
+-- each kind has the operations on two values and the square root; formats have the fused sum, and are converted
 abbrev pub IsKindAnswer : Kind → Round → ExportedCall → Answer → Type 0
+IsKindAnswer (of_format c) mode (OfTwo arithmetic x y) answer =
+    IsValue (in_format c) (IsOfTwo (in_format c) arithmetic mode (value_of c x) (value_of c y)) answer
 IsKindAnswer (of_format c) mode (FusedSum x y z) answer =
     IsValue (in_format c)
     (λ given. Gives (IsFusedSum (format_with c) mode (value_of c x) (value_of c y) (value_of c z)) given)
@@ -177,6 +178,8 @@ IsKindAnswer (of_format c) mode (SquareRoot x) answer =
     IsValue (in_format c) (λ given. Gives (IsRoot (format_with c) mode (value_of c x)) given) answer
 IsKindAnswer (of_format c) mode (Conversion x target) answer = IsConverted c mode (value_of c x) target answer
 IsKindAnswer (of_format c) mode call answer = IsTypeAnswer (in_format c) mode call answer
+IsKindAnswer of_pairs mode (OfTwo arithmetic x y) answer =
+    IsValue in_pairs (IsOfTwo in_pairs arithmetic mode (pair_of x) (pair_of y)) answer
 IsKindAnswer of_pairs mode (SquareRoot x) answer =
     IsValue in_pairs (λ given. Gives (IsPairRoot mode (pair_of x)) given) answer
 IsKindAnswer of_pairs mode call answer = IsTypeAnswer in_pairs mode call answer
@@ -188,10 +191,8 @@ IsOutcomeBy None Holds (Err error) = ⊥
 IsOutcomeBy (Some fault) Holds (Ok answer) = ⊥
 IsOutcomeBy (Some fault) Holds (Err error) = error ≡ fault
 
-abbrev pub IsTypeOutcome : {A : Type 0} → Relations A → Bool → Round → ExportedCall
-    → Result Answer ℕ → Type 0
-IsTypeOutcome of_type multiplies mode call outcome =
-    IsOutcomeBy (type_fault multiplies call) (IsTypeAnswer of_type mode call) outcome
+abbrev pub IsTypeOutcome : {A : Type 0} → Relations A → Round → ExportedCall → Result Answer ℕ → Type 0
+IsTypeOutcome of_type mode call outcome = IsOutcomeBy (type_fault call) (IsTypeAnswer of_type mode call) outcome
 
 abbrev pub IsOutcome : Kind → Round → ExportedCall → Result Answer ℕ → Type 0
 IsOutcome kind mode call outcome = IsOutcomeBy (fault_in kind call) (IsKindAnswer kind mode call) outcome

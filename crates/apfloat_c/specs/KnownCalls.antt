@@ -4,12 +4,10 @@ use Rattle.rustc_apfloat.specs.declared.Round.{Round}
 use Rattle.std.specs.Char.{is_ascii}
 use Rattle.rustc_apfloat.specs.Digits.{every}
 use Rattle.rustc_apfloat.specs.Faults.{fault_of}
-use Rattle.dispatch.specs.declared.BuiltInKind.{BuiltInKind}
-use Rattle.dispatch.specs.declared.BuiltInKind.TheVariants.{OfFormat, Pairs}
-use Rattle.dispatch.specs.BuiltIns.{kind_of}
-use Rattle.dispatch.specs.Limits.{fuses, multiplies}
-use Rattle.dispatch.specs.ValueKinds.{Kind, of_format, of_pairs}
-use Rattle.dispatch.specs.OfTwo.{has_operation}
+use Rattle.dispatch.specs.declared.FlaggedKind.{FlaggedKind}
+use Rattle.dispatch.specs.declared.FlaggedKind.TheVariants.{OfFormat, Pairs}
+use Rattle.dispatch.specs.FlaggedKinds.{flagged_kind_of}
+use Rattle.dispatch.specs.ValueKinds.{Kind, of_format}
 use Rattle.apfloat_c.specs.declared.exported_call.ExportedCall.{ExportedCall}
 use Rattle.apfloat_c.specs.declared.exported_call.ExportedCall.TheVariants.{OfTwo, FusedSum, SquareRoot, ToUnsigned, ToSigned, Conversion, Text}
 
@@ -47,32 +45,34 @@ abbrev pub is_text : List ℕ → Bool
 is_text text = every is_ascii text && is_none (fault_of text)
 
 -- there is no conversion to pairs of doubles
-abbrev pub target_fault : Option BuiltInKind → Option ℕ
+abbrev pub target_fault : Option FlaggedKind → Option ℕ
 target_fault None = Some unknown_format
 target_fault (Some Pairs) = Some no_such_operation
 target_fault (Some (OfFormat target)) = None
 
-abbrev pub unknown_target : Option BuiltInKind → ℕ
+abbrev pub unknown_target : Option FlaggedKind → ℕ
 unknown_target None = unknown_format
 unknown_target (Some target) = no_such_operation
 
--- what a type refuses, which has products or not; no type has the fused sum or the square root, and none is converted
-abbrev pub type_fault : Bool → ExportedCall → Option ℕ
-type_fault multiplies (OfTwo arithmetic x y) = unless (has_operation multiplies arithmetic) no_such_operation
-type_fault multiplies (FusedSum x y z) = Some no_such_operation
-type_fault multiplies (SquareRoot x) = Some no_such_operation
-type_fault multiplies (ToUnsigned x width) = width_fault 1 width
-type_fault multiplies (ToSigned x width) = width_fault 2 width
-type_fault multiplies (Conversion x target) = Some (unknown_target target)
-type_fault multiplies (Text text) = unless (is_text text.now) refused_text
-type_fault multiplies call = None
+-- what a type refuses: no type has operations on two values, fused sums or square roots, and none is converted
+abbrev pub type_fault : ExportedCall → Option ℕ
+type_fault (OfTwo arithmetic x y) = Some no_such_operation
+type_fault (FusedSum x y z) = Some no_such_operation
+type_fault (SquareRoot x) = Some no_such_operation
+type_fault (ToUnsigned x width) = width_fault 1 width
+type_fault (ToSigned x width) = width_fault 2 width
+type_fault (Conversion x target) = Some (unknown_target target)
+type_fault (Text text) = unless (is_text text.now) refused_text
+type_fault call = None
 
--- each kind has the square root; formats may have the fused sum, and are converted to formats
+-- each kind has the operations on two values and the square root; formats have the fused sum, and are converted to
+-- formats
 abbrev pub fault_in : Kind → ExportedCall → Option ℕ
-fault_in (of_format c) (FusedSum x y z) = unless (fuses (of_format c)) no_such_operation
+fault_in (of_format c) (FusedSum x y z) = None
 fault_in (of_format c) (Conversion x target) = target_fault target
+fault_in kind (OfTwo arithmetic x y) = None
 fault_in kind (SquareRoot x) = None
-fault_in kind call = type_fault (multiplies kind) call
+fault_in kind call = type_fault call
 
 -- ---- what is asked
 
@@ -91,8 +91,8 @@ without None x = Ok x
 without (Some fault) x = Err fault
 
 -- The faults in their order: the format, the mode, what the format refuses.
-abbrev pub known_call : Option BuiltInKind → Option Round → ExportedCall → Result KnownCall ℕ
+abbrev pub known_call : Option FlaggedKind → Option Round → ExportedCall → Result KnownCall ℕ
 known_call format mode call =
     ok_or format unknown_format >>= λ known. ok_or mode unknown_mode >>= λ rounding.
-    without (fault_in (kind_of known) call)
-    (record { kind = kind_of known; mode = rounding; call = call })
+    without (fault_in (flagged_kind_of known) call)
+    (record { kind = flagged_kind_of known; mode = rounding; call = call })

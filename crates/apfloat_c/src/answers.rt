@@ -1,7 +1,7 @@
 //! Results of calls in a kind of values.
 
 ghost use Rattle.std.specs.Prelude.{◌≡◌, ◌<◌, pos};
-ghost use Rattle.rustc_apfloat.specs.Types.{constants_of};
+ghost use Rattle.rustc_apfloat.specs.FlaggedTypes.{constants_of};
 ghost use Rattle.dispatch.specs.Relations.{relations_of};
 ghost use Rattle.dispatch.specs.TextReadings.{ReadsTexts};
 ghost use Rattle.dispatch.specs.ValueKinds.{of_format, of_pairs};
@@ -15,10 +15,10 @@ use crate::codes::{
 };
 use crate::data::Answer;
 use crate::exported_call::ExportedCall;
-use dispatch::{Arithmetic, BuiltInKind, InFormat, InKind};
-use rustc_apfloat::ieee::{IeeeFloat, Semantics};
+use dispatch::{Arithmetic, FlaggedKind, InFlaggedFormat, InFlaggedKind};
+use rustc_apfloat::ieee::{Flagged, IeeeFloat};
 use rustc_apfloat::ppc::DoubleDouble;
-use rustc_apfloat::{FUSED_LIMIT, Float, FloatConvert, Round, Status, StatusAnd};
+use rustc_apfloat::{Float, FloatConvert, Round, Status, StatusAnd};
 
 /// A call with its rounding mode.
 #[derive(Clone, Copy)]
@@ -29,19 +29,23 @@ pub struct RoundedCall<'a> {
     pub call: ExportedCall<'a>,
 }
 
-impl InFormat for RoundedCall<'_> {
+impl InFlaggedFormat for RoundedCall<'_> {
     type Output = Result<Answer, u32>;
 
     ghost gives = { λ it kind outcome. IsOutcome kind it.round it.call outcome };
 
-    fn in_format<S: Semantics>(self) -> Result<Answer, u32> {
+    #[inline(always)]
+    fn in_flagged_format<S: Flagged>(self) -> Result<Answer, u32> {
         match self.call {
-            ExportedCall::FusedSum(x, y, z) => fused_sum::<S>(self.round, x, y, z),
+            ExportedCall::OfTwo(arithmetic, x, y) => {
+                Ok(of_two::<S>(self.round, arithmetic, x, y))
+            }
+            ExportedCall::FusedSum(x, y, z) => Ok(fused_sum::<S>(self.round, x, y, z)),
             ExportedCall::SquareRoot(x) => Ok(root::<S>(self.round, x)),
             ExportedCall::Conversion(x, target) => converted::<S>(self.round, x, target),
             ExportedCall::Fraction(x) => {
                 // That `x` belongs to the format bounds its exponent, which therefore fits 32 bits.
-                let _ = S::from_bits(x).category();
+                let _ = IeeeFloat::<S>::from_bits(x).category();
                 in_type::<IeeeFloat<S>>(self.round, self.call)
             }
             _ => in_type::<IeeeFloat<S>>(self.round, self.call),
@@ -49,9 +53,13 @@ impl InFormat for RoundedCall<'_> {
     }
 }
 
-impl InKind for RoundedCall<'_> {
+impl InFlaggedKind for RoundedCall<'_> {
+    #[inline(always)]
     fn in_pairs(self) -> Result<Answer, u32> {
         match self.call {
+            ExportedCall::OfTwo(arithmetic, x, y) => {
+                Ok(of_two_pairs(self.round, arithmetic, x, y))
+            }
             ExportedCall::SquareRoot(x) => Ok(pair_root(self.round, x)),
             ExportedCall::Fraction(x) => {
                 // That both parts are doubles bounds the exponent, which therefore fits 32 bits.
@@ -63,17 +71,17 @@ impl InKind for RoundedCall<'_> {
     }
 }
 
-/// The answer in values of a type, which has no fused sum, no square root and no conversion, or the error of a call
-/// that it refuses.
+/// The answer in values of a type, or the error of a call that it refuses. Operations on two values, fused sums, square
+/// roots and conversions are not calls of a type.
+#[inline(always)]
 fn in_type<F: Float>(round: Round, call: ExportedCall) -> Result<Answer, u32>
     requires written { F.PRECISION < F.BITS }
     requires reads { ReadsTexts F.reads }
     requires fraction { FractionFits (relations_of F.Float.own F.partial_cmp) call }
-    ensures { IsTypeOutcome (relations_of F.Float.own F.partial_cmp) F.MULTIPLIES round call.entry
-        result }
+    ensures { IsTypeOutcome (relations_of F.Float.own F.partial_cmp) round call.entry result }
 {
     match call {
-        ExportedCall::OfTwo(arithmetic, x, y) => of_two::<F>(round, arithmetic, x, y),
+        ExportedCall::OfTwo(_, _, _) => Err(NO_SUCH_OPERATION),
         ExportedCall::FusedSum(_, _, _) => Err(NO_SUCH_OPERATION),
         ExportedCall::SquareRoot(_) => Err(NO_SUCH_OPERATION),
         ExportedCall::FromUnsigned(number) => Ok(from_unsigned::<F>(round, number)),
@@ -94,38 +102,46 @@ fn in_type<F: Float>(round: Round, call: ExportedCall) -> Result<Answer, u32>
     }
 }
 
-/// An operation on two values.
-fn of_two<F: Float>(round: Round, arithmetic: Arithmetic, x: u128, y: u128) -> Result<Answer, u32>
-    requires { F.PRECISION < F.BITS }
-    ensures { IsTypeOutcome (relations_of F.Float.own F.partial_cmp) F.MULTIPLIES round
-        (OfTwo arithmetic x y) result }
+/// An operation on two values of a format.
+#[inline(always)]
+fn of_two<S: Flagged>(round: Round, arithmetic: Arithmetic, x: u128, y: u128) -> Answer
+    requires { S.PRECISION < S.BITS }
+    ensures { let kind = of_format (constants_of S.Flagged) in
+        IsKindAnswer kind round (OfTwo arithmetic x y) result }
 {
-    if !arithmetic.is_supported::<F>() {
-        return Err(NO_SUCH_OPERATION);
-    }
-    let (x, y) = (F::from_bits(x), F::from_bits(y));
-    Ok(written(arithmetic.answer(x, y, round)))
+    let (x, y) = (IeeeFloat::<S>::from_bits(x), IeeeFloat::<S>::from_bits(y));
+    written(arithmetic.answer_in_format(x, y, round))
+}
+
+/// An operation on two pairs of doubles.
+#[inline(always)]
+fn of_two_pairs(round: Round, arithmetic: Arithmetic, x: u128, y: u128) -> Answer
+    ensures { IsKindAnswer of_pairs round (OfTwo arithmetic x y) result }
+{
+    let (x, y) = (DoubleDouble::from_bits(x), DoubleDouble::from_bits(y));
+    written(arithmetic.answer(x, y, round))
 }
 
 /// A product plus a third value, rounded once.
-fn fused_sum<S: Semantics>(round: Round, x: u128, y: u128, z: u128) -> Result<Answer, u32>
+fn fused_sum<S: Flagged>(round: Round, x: u128, y: u128, z: u128) -> Answer
     requires { S.PRECISION < S.BITS }
-    ensures { let kind = of_format (constants_of S.Semantics) in
-        IsOutcome kind round (FusedSum x y z) result }
+    ensures { let kind = of_format (constants_of S.Flagged) in
+        IsKindAnswer kind round (FusedSum x y z) result }
 {
-    if S::PRECISION > FUSED_LIMIT {
-        return Err(NO_SUCH_OPERATION);
-    }
-    let (x, y, z) = (S::from_bits(x), S::from_bits(y), S::from_bits(z));
-    Ok(written(x.mul_add_r(y, z, round)))
+    let (x, y, z) = (
+        IeeeFloat::<S>::from_bits(x),
+        IeeeFloat::<S>::from_bits(y),
+        IeeeFloat::<S>::from_bits(z),
+    );
+    written(x.wide_mul_add_r(y, z, round))
 }
 
 /// The square root of a value of a format.
-fn root<S: Semantics>(round: Round, x: u128) -> Answer
+fn root<S: Flagged>(round: Round, x: u128) -> Answer
     requires { S.PRECISION < S.BITS }
-    ensures { IsKindAnswer (of_format (constants_of S.Semantics)) round (SquareRoot x) result }
+    ensures { IsKindAnswer (of_format (constants_of S.Flagged)) round (SquareRoot x) result }
 {
-    written(S::from_bits(x).sqrt_r(round))
+    written(IeeeFloat::<S>::from_bits(x).sqrt_r(round))
 }
 
 /// The square root of a pair of doubles.
@@ -156,7 +172,7 @@ fn from_signed<F: Float>(round: Round, number: i128) -> Answer
 /// A value as a whole number.
 fn to_unsigned<F: Float>(round: Round, x: u128, width: u32) -> Result<Answer, u32>
     requires { F.PRECISION < F.BITS }
-    ensures { IsTypeOutcome (relations_of F.Float.own F.partial_cmp) F.MULTIPLIES round
+    ensures { IsTypeOutcome (relations_of F.Float.own F.partial_cmp) round
         (ToUnsigned x width) result }
 {
     if !is_width(1, width) {
@@ -170,7 +186,7 @@ fn to_unsigned<F: Float>(round: Round, x: u128, width: u32) -> Result<Answer, u3
 /// A value as a whole number with a sign.
 fn to_signed<F: Float>(round: Round, x: u128, width: u32) -> Result<Answer, u32>
     requires { F.PRECISION < F.BITS }
-    ensures { IsTypeOutcome (relations_of F.Float.own F.partial_cmp) F.MULTIPLIES round
+    ensures { IsTypeOutcome (relations_of F.Float.own F.partial_cmp) round
         (ToSigned x width) result }
 {
     if !is_width(2, width) {
@@ -265,20 +281,16 @@ fn class<F: Float>(x: u128) -> Answer
 }
 
 /// A value in another kind.
-fn converted<S: Semantics>(
-    round: Round,
-    x: u128,
-    target: Option<BuiltInKind>,
-) -> Result<Answer, u32>
+fn converted<S: Flagged>(round: Round, x: u128, target: Option<FlaggedKind>) -> Result<Answer, u32>
     requires { S.PRECISION < S.BITS }
-    ensures { let kind = of_format (constants_of S.Semantics) in
+    ensures { let kind = of_format (constants_of S.Flagged) in
         IsOutcome kind round (Conversion x target) result }
 {
     match target {
         None => Err(UNKNOWN_FORMAT),
-        Some(BuiltInKind::Pairs) => Err(NO_SUCH_OPERATION),
-        Some(BuiltInKind::OfFormat(target)) => {
-            let x = S::from_bits(x);
+        Some(FlaggedKind::Pairs) => Err(NO_SUCH_OPERATION),
+        Some(FlaggedKind::OfFormat(target)) => {
+            let x = IeeeFloat::<S>::from_bits(x);
             Ok(target.run(ConversionTo { round, x }))
         }
     }
@@ -286,18 +298,18 @@ fn converted<S: Semantics>(
 
 /// The conversion of a value of the format `S`.
 #[derive_where(Clone, Copy)]
-struct ConversionTo<S: Semantics> {
+struct ConversionTo<S: Flagged> {
     round: Round,
     x: IeeeFloat<S>,
 }
 
-impl<S: Semantics> InFormat for ConversionTo<S> {
+impl<S: Flagged> InFlaggedFormat for ConversionTo<S> {
     type Output = Answer;
 
     ghost gives = { λ it kind answer.
-        IsConvertedInto (constants_of S.Semantics) it.round it.x kind answer };
+        IsConvertedInto (constants_of S.Flagged) it.round it.x kind answer };
 
-    fn in_format<T: Semantics>(self) -> Answer {
+    fn in_flagged_format<T: Flagged>(self) -> Answer {
         let mut loses_info = false;
         let answer: StatusAnd<IeeeFloat<T>> = self.x.convert_r(self.round, &mut loses_info);
         shown(answer, one_if(loses_info))
@@ -308,7 +320,7 @@ impl<S: Semantics> InFormat for ConversionTo<S> {
 fn read<F: Float>(round: Round, bytes: &[u8]) -> Result<Answer, u32>
     requires written { F.PRECISION < F.BITS }
     requires reads { ReadsTexts F.reads }
-    ensures { IsTypeOutcome (relations_of F.Float.own F.partial_cmp) F.MULTIPLIES round
+    ensures { IsTypeOutcome (relations_of F.Float.own F.partial_cmp) round
         (Text bytes.entry) result }
 {
     let Some(text) = text_of(bytes) else {

@@ -1,6 +1,6 @@
 //! What can be asked of a kind of values.
 
-use dispatch::{Arithmetic, BuiltInKind};
+use dispatch::{Arithmetic, FlaggedKind};
 
 /// An operation with its operands, values by their bits.
 #[derive(Clone, Copy)]
@@ -36,7 +36,7 @@ pub enum ExportedCall<'a> {
     /// The class of a value.
     Class(u128),
     /// The value in another kind, if that is known.
-    Conversion(u128, Option<BuiltInKind>),
+    Conversion(u128, Option<FlaggedKind>),
     /// The value of a text.
     Text(&'a [u8]),
 }

@@ -5,7 +5,7 @@ ghost use Rattle.std.specs.Int.{cast_signed, w128};
 ghost use Rattle.rustc_apfloat.specs.declared.Round.TheVariants.{NearestTiesToEven};
 ghost use Rattle.dispatch.specs.declared.Arithmetic.TheVariants.{Sum, Difference, Product, Quotient, NearestRemainder, TruncatedRemainder};
 ghost use Rattle.apfloat_c.specs.declared.exported_call.ExportedCall.TheVariants.{OfTwo, FusedSum, SquareRoot, FromUnsigned, FromSigned, ToUnsigned, ToSigned, RoundToIntegral, Scaling, Fraction, Exponent, NextUp, NextDown, Comparison, Class, Conversion, Text};
-ghost use Rattle.dispatch.specs.BuiltIns.{kind_coded};
+ghost use Rattle.dispatch.specs.FlaggedKinds.{flagged_kind_coded};
 ghost use Rattle.dispatch.specs.Modes.{mode_coded};
 ghost use Rattle.apfloat_c.specs.KnownCalls.{known_call};
 ghost use Rattle.apfloat_c.specs.Answers.{IsReturned, whole};
@@ -13,7 +13,7 @@ ghost use Rattle.apfloat_c.specs.Answers.{IsReturned, whole};
 use crate::by_code::reply;
 use crate::data::{Answer, Halves};
 use crate::exported_call::ExportedCall;
-use dispatch::{Arithmetic, BuiltInKind, mode_coded};
+use dispatch::{Arithmetic, FlaggedKind, mode_coded};
 use rustc_apfloat::Round;
 
 /// The sum of two values, rounded once.
@@ -26,7 +26,7 @@ pub extern "C" fn apfloat_add(
     answer: &mut Answer,
 ) -> u32
     ensures { let call = OfTwo Sum (whole x) (whole y) in
-        IsReturned (known_call (kind_coded format) (mode_coded mode) call)
+        IsReturned (known_call (flagged_kind_coded format) (mode_coded mode) call)
         answer.old answer.new result }
 {
     reply(
@@ -47,7 +47,7 @@ pub extern "C" fn apfloat_sub(
     answer: &mut Answer,
 ) -> u32
     ensures { let call = OfTwo Difference (whole x) (whole y) in
-        IsReturned (known_call (kind_coded format) (mode_coded mode) call)
+        IsReturned (known_call (flagged_kind_coded format) (mode_coded mode) call)
         answer.old answer.new result }
 {
     reply(
@@ -58,7 +58,7 @@ pub extern "C" fn apfloat_sub(
     )
 }
 
-/// The product of two values, rounded once; formats of more than 64 digits do not have it.
+/// The product of two values, rounded once.
 #[unsafe(no_mangle)]
 pub extern "C" fn apfloat_mul(
     format: u32,
@@ -68,7 +68,7 @@ pub extern "C" fn apfloat_mul(
     answer: &mut Answer,
 ) -> u32
     ensures { let call = OfTwo Product (whole x) (whole y) in
-        IsReturned (known_call (kind_coded format) (mode_coded mode) call)
+        IsReturned (known_call (flagged_kind_coded format) (mode_coded mode) call)
         answer.old answer.new result }
 {
     reply(
@@ -89,7 +89,7 @@ pub extern "C" fn apfloat_div(
     answer: &mut Answer,
 ) -> u32
     ensures { let call = OfTwo Quotient (whole x) (whole y) in
-        IsReturned (known_call (kind_coded format) (mode_coded mode) call)
+        IsReturned (known_call (flagged_kind_coded format) (mode_coded mode) call)
         answer.old answer.new result }
 {
     reply(
@@ -104,7 +104,7 @@ pub extern "C" fn apfloat_div(
 #[unsafe(no_mangle)]
 pub extern "C" fn apfloat_rem(format: u32, x: Halves, y: Halves, answer: &mut Answer) -> u32
     ensures { let call = OfTwo NearestRemainder (whole x) (whole y) in
-        IsReturned (known_call (kind_coded format) (Some NearestTiesToEven) call)
+        IsReturned (known_call (flagged_kind_coded format) (Some NearestTiesToEven) call)
         answer.old answer.new result }
 {
     reply(
@@ -119,7 +119,7 @@ pub extern "C" fn apfloat_rem(format: u32, x: Halves, y: Halves, answer: &mut An
 #[unsafe(no_mangle)]
 pub extern "C" fn apfloat_mod(format: u32, x: Halves, y: Halves, answer: &mut Answer) -> u32
     ensures { let call = OfTwo TruncatedRemainder (whole x) (whole y) in
-        IsReturned (known_call (kind_coded format) (Some NearestTiesToEven) call)
+        IsReturned (known_call (flagged_kind_coded format) (Some NearestTiesToEven) call)
         answer.old answer.new result }
 {
     reply(
@@ -130,7 +130,7 @@ pub extern "C" fn apfloat_mod(format: u32, x: Halves, y: Halves, answer: &mut An
     )
 }
 
-/// The product of two values plus a third, rounded once; formats of more than 63 digits and pairs do not have it.
+/// The product of two values plus a third, rounded once. Pairs of doubles do not have it.
 #[unsafe(no_mangle)]
 pub extern "C" fn apfloat_fma(
     format: u32,
@@ -141,7 +141,7 @@ pub extern "C" fn apfloat_fma(
     answer: &mut Answer,
 ) -> u32
     ensures { let call = FusedSum (whole x) (whole y) (whole z) in
-        IsReturned (known_call (kind_coded format) (mode_coded mode) call)
+        IsReturned (known_call (flagged_kind_coded format) (mode_coded mode) call)
         answer.old answer.new result }
 {
     reply(
@@ -156,7 +156,7 @@ pub extern "C" fn apfloat_fma(
 #[unsafe(no_mangle)]
 pub extern "C" fn apfloat_sqrt(format: u32, mode: u32, x: Halves, answer: &mut Answer) -> u32
     ensures { let call = SquareRoot (whole x) in
-        IsReturned (known_call (kind_coded format) (mode_coded mode) call)
+        IsReturned (known_call (flagged_kind_coded format) (mode_coded mode) call)
         answer.old answer.new result }
 {
     reply(
@@ -176,14 +176,14 @@ pub extern "C" fn apfloat_convert(
     x: Halves,
     answer: &mut Answer,
 ) -> u32
-    ensures { let call = Conversion (whole x) (kind_coded to) in
-        IsReturned (known_call (kind_coded format) (mode_coded mode) call)
+    ensures { let call = Conversion (whole x) (flagged_kind_coded to) in
+        IsReturned (known_call (flagged_kind_coded format) (mode_coded mode) call)
         answer.old answer.new result }
 {
     reply(
         format,
         mode_coded(mode),
-        ExportedCall::Conversion(x.number(), BuiltInKind::coded(to)),
+        ExportedCall::Conversion(x.number(), FlaggedKind::coded(to)),
         answer,
     )
 }
@@ -197,7 +197,7 @@ pub extern "C" fn apfloat_from_u128(
     answer: &mut Answer,
 ) -> u32
     ensures { let call = FromUnsigned (whole number) in
-        IsReturned (known_call (kind_coded format) (mode_coded mode) call)
+        IsReturned (known_call (flagged_kind_coded format) (mode_coded mode) call)
         answer.old answer.new result }
 {
     reply(
@@ -217,7 +217,7 @@ pub extern "C" fn apfloat_from_i128(
     answer: &mut Answer,
 ) -> u32
     ensures { let call = FromSigned (cast_signed w128 (whole number)) in
-        IsReturned (known_call (kind_coded format) (mode_coded mode) call)
+        IsReturned (known_call (flagged_kind_coded format) (mode_coded mode) call)
         answer.old answer.new result }
 {
     reply(
@@ -239,7 +239,7 @@ pub extern "C" fn apfloat_to_u128(
     answer: &mut Answer,
 ) -> u32
     ensures { let call = ToUnsigned (whole x) width in
-        IsReturned (known_call (kind_coded format) (mode_coded mode) call)
+        IsReturned (known_call (flagged_kind_coded format) (mode_coded mode) call)
         answer.old answer.new result }
 {
     reply(
@@ -261,7 +261,7 @@ pub extern "C" fn apfloat_to_i128(
     answer: &mut Answer,
 ) -> u32
     ensures { let call = ToSigned (whole x) width in
-        IsReturned (known_call (kind_coded format) (mode_coded mode) call)
+        IsReturned (known_call (flagged_kind_coded format) (mode_coded mode) call)
         answer.old answer.new result }
 {
     reply(
@@ -281,7 +281,7 @@ pub extern "C" fn apfloat_round_to_integral(
     answer: &mut Answer,
 ) -> u32
     ensures { let call = RoundToIntegral (whole x) in
-        IsReturned (known_call (kind_coded format) (mode_coded mode) call)
+        IsReturned (known_call (flagged_kind_coded format) (mode_coded mode) call)
         answer.old answer.new result }
 {
     reply(
@@ -302,7 +302,7 @@ pub extern "C" fn apfloat_scalbn(
     answer: &mut Answer,
 ) -> u32
     ensures { let call = Scaling (whole x) power in
-        IsReturned (known_call (kind_coded format) (mode_coded mode) call)
+        IsReturned (known_call (flagged_kind_coded format) (mode_coded mode) call)
         answer.old answer.new result }
 {
     reply(
@@ -317,7 +317,7 @@ pub extern "C" fn apfloat_scalbn(
 #[unsafe(no_mangle)]
 pub extern "C" fn apfloat_ilogb(format: u32, x: Halves, answer: &mut Answer) -> u32
     ensures { let call = Exponent (whole x) in
-        IsReturned (known_call (kind_coded format) (Some NearestTiesToEven) call)
+        IsReturned (known_call (flagged_kind_coded format) (Some NearestTiesToEven) call)
         answer.old answer.new result }
 {
     reply(
@@ -332,7 +332,7 @@ pub extern "C" fn apfloat_ilogb(format: u32, x: Halves, answer: &mut Answer) -> 
 #[unsafe(no_mangle)]
 pub extern "C" fn apfloat_frexp(format: u32, mode: u32, x: Halves, answer: &mut Answer) -> u32
     ensures { let call = Fraction (whole x) in
-        IsReturned (known_call (kind_coded format) (mode_coded mode) call)
+        IsReturned (known_call (flagged_kind_coded format) (mode_coded mode) call)
         answer.old answer.new result }
 {
     reply(
@@ -347,7 +347,7 @@ pub extern "C" fn apfloat_frexp(format: u32, mode: u32, x: Halves, answer: &mut 
 #[unsafe(no_mangle)]
 pub extern "C" fn apfloat_next_up(format: u32, x: Halves, answer: &mut Answer) -> u32
     ensures { let call = NextUp (whole x) in
-        IsReturned (known_call (kind_coded format) (Some NearestTiesToEven) call)
+        IsReturned (known_call (flagged_kind_coded format) (Some NearestTiesToEven) call)
         answer.old answer.new result }
 {
     reply(
@@ -362,7 +362,7 @@ pub extern "C" fn apfloat_next_up(format: u32, x: Halves, answer: &mut Answer) -
 #[unsafe(no_mangle)]
 pub extern "C" fn apfloat_next_down(format: u32, x: Halves, answer: &mut Answer) -> u32
     ensures { let call = NextDown (whole x) in
-        IsReturned (known_call (kind_coded format) (Some NearestTiesToEven) call)
+        IsReturned (known_call (flagged_kind_coded format) (Some NearestTiesToEven) call)
         answer.old answer.new result }
 {
     reply(
@@ -377,7 +377,7 @@ pub extern "C" fn apfloat_next_down(format: u32, x: Halves, answer: &mut Answer)
 #[unsafe(no_mangle)]
 pub extern "C" fn apfloat_compare(format: u32, x: Halves, y: Halves, answer: &mut Answer) -> u32
     ensures { let call = Comparison (whole x) (whole y) in
-        IsReturned (known_call (kind_coded format) (Some NearestTiesToEven) call)
+        IsReturned (known_call (flagged_kind_coded format) (Some NearestTiesToEven) call)
         answer.old answer.new result }
 {
     reply(
@@ -392,7 +392,7 @@ pub extern "C" fn apfloat_compare(format: u32, x: Halves, y: Halves, answer: &mu
 #[unsafe(no_mangle)]
 pub extern "C" fn apfloat_classify(format: u32, x: Halves, answer: &mut Answer) -> u32
     ensures { let call = Class (whole x) in
-        IsReturned (known_call (kind_coded format) (Some NearestTiesToEven) call)
+        IsReturned (known_call (flagged_kind_coded format) (Some NearestTiesToEven) call)
         answer.old answer.new result }
 {
     reply(
@@ -407,7 +407,7 @@ pub extern "C" fn apfloat_classify(format: u32, x: Halves, answer: &mut Answer) 
 #[unsafe(no_mangle)]
 pub extern "C" fn apfloat_parse(format: u32, mode: u32, text: &[u8], answer: &mut Answer) -> u32
     ensures { let call = Text text.entry in
-        IsReturned (known_call (kind_coded format) (mode_coded mode) call)
+        IsReturned (known_call (flagged_kind_coded format) (mode_coded mode) call)
         answer.old answer.new result }
 {
     reply(format, mode_coded(mode), ExportedCall::Text(text), answer)

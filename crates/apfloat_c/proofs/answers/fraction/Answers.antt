@@ -1,5 +1,4 @@
 use Rattle.std.proofs.Common.{ap, subst, sym, ◌∙◌}
-use Rattle.std.proofs.Math.Path.{subst₂}
 use Rattle.std.specs.Int.{w32}
 use Rattle.std.proofs.lemmas.Int.{to_z-of_z}
 use Rattle.rustc_apfloat.specs.Flags.{bits_of}

@@ -1,5 +1,4 @@
-use Rattle.std.proofs.Common.{◌≡◌, None, Ok, List, ℕ, subst}
-use Rattle.rustc_apfloat.specs.Faults.{fault_of}
+use Rattle.std.proofs.Common.{Ok, List, ℕ, subst}
 use Rattle.apfloat_c.proofs.WrittenAnswers.{answered_if, text_without_fault}
 use Rattle.apfloat_c.specs.KnownCalls.{is_text, refused_text}
 use Rattle.apfloat_c.proofs.answers.read.Goals as goal

@@ -1,7 +1,7 @@
 use Rattle.dispatch.specs.Relations.{in_pairs}
 use Rattle.dispatch.proofs.TextsRead.{pairs_read}
 use Rattle.apfloat_c.proofs.WrittenAnswers.{no_fraction, pair_fraction_fits, pair_outcome}
-use Rattle.apfloat_c.proofs.answers.RoundedCallInKind.in_pairs.Goals as goal
+use Rattle.apfloat_c.proofs.answers.RoundedCallInFlaggedKind.in_pairs.Goals as goal
 
 pub in_type-requires-clause-reads : goal.in_type-requires-clause-reads
 in_type-requires-clause-reads c = pairs_read
@@ -18,4 +18,5 @@ in_type-requires-in_default-clause-fraction c = no_fraction in_pairs c.args.self
 
 pub returns-in_default : goal.returns-in_default
 returns-in_default c =
-    pair_outcome c.args.self.round c.args.self.call _ c.in_default.not-SquareRoot c.in_type-in_default.ensures
+    pair_outcome c.args.self.round c.args.self.call _ c.in_default.not-OfTwo c.in_default.not-SquareRoot
+    c.in_type-in_default.ensures
