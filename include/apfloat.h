@@ -58,6 +58,18 @@ typedef struct apfloat_answer {
 #define APFLOAT_X87 UINT32_C(9)        /* the 80 bits of the x87 */
 #define APFLOAT_DOUBLE_PAIR UINT32_C(10) /* pairs of doubles, IBM's extended double */
 
+/* Joined to the code of a format by |, these choose by which rule its roundings raise APFLOAT_OVERFLOW and
+ * APFLOAT_UNDERFLOW. No value depends on the rule. Without them, a result that a mode rounds to the largest value raises
+ * no APFLOAT_OVERFLOW, and an inexact result raises APFLOAT_UNDERFLOW if it is below the smallest normal number once it
+ * is rounded to the format. With the first, APFLOAT_OVERFLOW is raised wherever the result, rounded with an unbounded
+ * exponent, is past the largest value (IEEE 754-2008 7.4), and APFLOAT_UNDERFLOW if an inexact result is below the
+ * smallest normal number when it is rounded with an unbounded exponent, as x86 and RISC-V have it, or, with both, before
+ * it is rounded, as Arm and POWER have it (7.5). APFLOAT_E4M3FN, APFLOAT_E4M3FNUZ and APFLOAT_DOUBLE_PAIR have no such
+ * choice. Joined to their codes, or the second without the first, these make an unknown format. In a conversion, the
+ * rule of `to` counts. */
+#define APFLOAT_IEEE_FLAGS UINT32_C(0x100)
+#define APFLOAT_TINY_BEFORE_ROUNDING UINT32_C(0x200)
+
 /* Rounding modes (IEEE 754-2008 4.3). */
 #define APFLOAT_NEAREST_EVEN UINT32_C(0) /* to the nearest value, ties to even */
 #define APFLOAT_UPWARD UINT32_C(1)       /* toward positive infinity */
@@ -80,13 +92,13 @@ typedef struct apfloat_answer {
 #define APFLOAT_WRONG_WIDTH UINT32_C(4)       /* of an integer */
 #define APFLOAT_REFUSED_TEXT UINT32_C(5)      /* the text has no meaning */
 
-/* Operations on two values, rounded once: x + y, x - y, x * y, x / y. APFLOAT_QUAD has no product. */
+/* Operations on two values, rounded once: x + y, x - y, x * y, x / y. */
 uint32_t apfloat_add(uint32_t format, uint32_t mode, apfloat_halves x, apfloat_halves y, apfloat_answer *answer);
 uint32_t apfloat_sub(uint32_t format, uint32_t mode, apfloat_halves x, apfloat_halves y, apfloat_answer *answer);
 uint32_t apfloat_mul(uint32_t format, uint32_t mode, apfloat_halves x, apfloat_halves y, apfloat_answer *answer);
 uint32_t apfloat_div(uint32_t format, uint32_t mode, apfloat_halves x, apfloat_halves y, apfloat_answer *answer);
 
-/* x * y + z, rounded once. APFLOAT_QUAD, APFLOAT_X87 and APFLOAT_DOUBLE_PAIR do not have it. */
+/* x * y + z, rounded once. APFLOAT_DOUBLE_PAIR does not have it. */
 uint32_t apfloat_fma(uint32_t format, uint32_t mode, apfloat_halves x, apfloat_halves y, apfloat_halves z,
                      apfloat_answer *answer);
 

@@ -29,6 +29,9 @@ half('inf')
 >>> context.flags
 <Flags.DIV_BY_ZERO: 2>
 
+A format raises the flags of IEEE 754-2008 in every mode if it is written half.ieee, with tininess detected before
+rounding if it is written half.ieee.before; e4m3fn, e4m3fnuz and double_pair have no such choice.
+
 The operands of an operation have one format, which integers and floats take if they are exact in it:
 
 >>> half(1) + single(1)
@@ -44,6 +47,7 @@ ValueError: 0.1 is not a value of half
 import contextvars
 import ctypes
 import enum
+import functools
 import os
 import struct
 
@@ -146,6 +150,12 @@ def _whole(halves):
     return halves.high << 64 | halves.low
 
 
+# The bits of a code that name the format; those above choose its flags.
+_FORMAT_BITS, _IEEE_FLAGS, _TINY_BEFORE_ROUNDING = 0xff, 0x100, 0x200
+# The codes of the formats that have the choice.
+_WITH_IEEE_FLAGS = {1, 2, 3, 4, 5, 6, 9}
+
+
 class Format:
     """A format of values; calling it makes one.
 
@@ -158,9 +168,46 @@ class Format:
     def __init__(self, name, code, width, precision, exponent_bits):
         self.name, self.code, self.width = name, code, width
         self._precision, self._exponent_bits = precision, exponent_bits
+        self._has_integer_bit = code & _FORMAT_BITS == 9
 
     def __repr__(self):
         return self.name
+
+    @functools.lru_cache(maxsize=None)
+    def _with_flags(self, name, bits):
+        return Format(f'{self.name}.{name}', self.code | bits, self.width, self._precision, self._exponent_bits)
+
+    @property
+    def ieee(self):
+        """The format with the flags of IEEE 754-2008 (7.4, 7.5), tininess detected after rounding.
+
+        >>> with Context(mode=TOWARD_ZERO) as context:
+        ...     half.ieee(65504) + 65504
+        half.ieee('0x1.ffcp+15')
+        >>> context.flags == Flags.OVERFLOW | Flags.INEXACT
+        True
+        """
+        if self.code not in _WITH_IEEE_FLAGS:
+            raise ValueError(f'{self.name} has no choice of flags')
+        return self._with_flags('ieee', _IEEE_FLAGS)
+
+    @property
+    def before(self):
+        """Of a format with the flags of IEEE 754-2008: with tininess detected before rounding.
+
+        >>> below_one = half(1).next_down().next_down()
+        >>> for format in half.ieee, half.ieee.before:
+        ...     with Context() as context:
+        ...         format('0x1.004p-14') * format(below_one)
+        ...     bool(context.flags & Flags.UNDERFLOW)
+        half.ieee('0x1p-14')
+        False
+        half.ieee.before('0x1p-14')
+        True
+        """
+        if not self.code & _IEEE_FLAGS:
+            raise ValueError(f'{self.name}: ieee has to come first')
+        return self._with_flags('before', _TINY_BEFORE_ROUNDING)
 
     def from_bits(self, bits):
         """The value with these bits."""
@@ -263,12 +310,28 @@ class Value:
         return self._of_two('div', other, swapped=True)
 
     def fma(self, factor, addend):
-        """self * factor + addend, rounded once.
+        """self * factor + addend, rounded once. Pairs of doubles do not have it.
 
         >>> half.from_bits(0x3c01).fma(half.from_bits(0x3c01), half.from_bits(0xbc02))
         half('0x1p-20')
+        >>> above = quad(1).next_up()
+        >>> above * above, above.fma(above, -above * above)
+        (quad('0x1.0000000000000000000000000002p+0'), quad('0x1p-224'))
         """
         return self._rounded('fma', self, self._same_format(factor), self._same_format(addend))
+
+    def sqrt(self):
+        """The square root, rounded once; of a value below zero a NaN.
+
+        >>> double(2).sqrt(), quad(4).sqrt(), half('-0x0p0').sqrt()
+        (double('0x1.6a09e667f3bcdp+0'), quad('0x1p+1'), half('-0x0p+0'))
+        >>> with Context() as context:
+        ...     x87(-1).sqrt()
+        x87('nan')
+        >>> context.flags
+        <Flags.INVALID_OP: 1>
+        """
+        return self._rounded('sqrt', self)
 
     def remainder(self, divisor):
         """self less the divisor times the integer nearest to the quotient, a tie going to the even one: exact.
@@ -417,10 +480,10 @@ def _hexadecimal(value):
         return sign + '0x0p+0'
     answer = value._exact('ilogb', value)
     exponent = answer.number
-    stored = format._precision - (format is not x87)
+    stored = format._precision - (not format._has_integer_bit)
     digits = value.bits & (1 << stored) - 1
     biased = value.bits >> stored & (1 << format._exponent_bits) - 1
-    if format is not x87 and biased:
+    if biased and not format._has_integer_bit:
         digits |= 1 << stored
     fraction = digits << (format._precision - digits.bit_length()) & (1 << format._precision - 1) - 1
     places = -(-(format._precision - 1) // 4)

@@ -1,9 +1,9 @@
 /* A constant folder: reads lines FORMAT OP MODE OPERAND.., and prints the bits and the flags of each result.
  *
- * OP is add, sub, mul, div, rem or mod of two values, fma of three, or parse of a text. A value is its bits, 1 to 32
- * hexadecimal digits, with or without 0x before them. Words are separated by spaces and tabs. Any other line is refused
- * with -1, as is one of more than 4000 bytes; a line that the library refuses is refused with the library's code. Build it at the top of the repository, after
- * `rt lib` in crates/apfloat_c:
+ * OP is add, sub, mul, div, rem or mod of two values, fma of three, sqrt of one, or parse of a text. A value is its
+ * bits, 1 to 32 hexadecimal digits, with or without 0x before them. Words are separated by spaces and tabs. Any other
+ * line is refused with -1, as is one of more than 4000 bytes; a line that the library refuses is refused with the
+ * library's code. Build it at the top of the repository, after `rt lib` in crates/apfloat_c:
  *
  *   cc -std=c99 -Wall -Wextra -O2 -Iinclude examples/c/fold.c crates/apfloat_c/out/libapfloat_c.a -o fold
  *
@@ -45,6 +45,7 @@ static uint32_t fold(char *words[], size_t count, apfloat_answer *answer) {
     apfloat_halves x[3];
     for (size_t i = 3; i < count; i++)
         if (!read_bits(words[i], &x[i - 3])) return UINT32_MAX;
+    if (count == 4 && strcmp(op, "sqrt") == 0) return apfloat_sqrt(format, mode, x[0], answer);
     if (count == 6 && strcmp(op, "fma") == 0) return apfloat_fma(format, mode, x[0], x[1], x[2], answer);
     if (count != 5) return UINT32_MAX;
     if (strcmp(op, "add") == 0) return apfloat_add(format, mode, x[0], x[1], answer);

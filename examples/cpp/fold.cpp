@@ -98,6 +98,7 @@ std::optional<std::uint32_t> fold(const std::string &line, apfloat_answer &answe
         if (!bits) return std::nullopt;
         operands.push_back(*bits);
     }
+    if (operation == "sqrt" && operands.size() == 1) return apfloat_sqrt(format, mode, operands[0], &answer);
     if (operation == "fma" && operands.size() == 3)
         return apfloat_fma(format, mode, operands[0], operands[1], operands[2], &answer);
     const auto found = operations_on_two.find(operation);

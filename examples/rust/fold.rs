@@ -1,9 +1,9 @@
 //! A constant folder: reads lines FORMAT OP MODE OPERAND.., and prints the bits and the flags of each result.
 //!
-//! OP is add, sub, mul, div, rem or mod of two values, fma of three, or parse of a text. A value is its bits, 1 to 32
-//! hexadecimal digits, with or without 0x before them. Words are separated by spaces and tabs. Any other line is refused
-//! with -1, as is one of more than 4000 bytes; a line that the library refuses is refused with the library's code. Build it at the top of the repository, after
-//! `rt lib` in crates/apfloat_c:
+//! OP is add, sub, mul, div, rem or mod of two values, fma of three, sqrt of one, or parse of a text. A value is its
+//! bits, 1 to 32 hexadecimal digits, with or without 0x before them. Words are separated by spaces and tabs. Any other
+//! line is refused with -1, as is one of more than 4000 bytes; a line that the library refuses is refused with the
+//! library's code. Build it at the top of the repository, after `rt lib` in crates/apfloat_c:
 //!
 //! ```text
 //! rustc --edition 2021 -O examples/rust/fold.rs -L crates/apfloat_c/out -l static=apfloat_c -o fold_rs
@@ -45,6 +45,7 @@ unsafe extern "C" {
         z: Halves,
         answer: &mut Answer,
     ) -> u32;
+    safe fn apfloat_sqrt(format: u32, mode: u32, x: Halves, answer: &mut Answer) -> u32;
     fn apfloat_parse(
         format: u32,
         mode: u32,
@@ -103,6 +104,7 @@ fn fold(line: &[u8]) -> Result<Answer, i32> {
             ("div", &[y]) => apfloat_div(format, mode, x, y, &mut answer),
             ("rem", &[y]) => apfloat_rem(format, x, y, &mut answer),
             ("mod", &[y]) => apfloat_mod(format, x, y, &mut answer),
+            ("sqrt", &[]) => apfloat_sqrt(format, mode, x, &mut answer),
             ("fma", &[y, z]) => apfloat_fma(format, mode, x, y, z, &mut answer),
             _ => return Err(-1),
         }

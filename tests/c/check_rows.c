@@ -87,6 +87,8 @@ static const struct call {
              {"mul_r", "xy", 'b', make_mul, NULL},
              {"div_r", "xy", 'b', make_div, NULL},
              {"mul_add_r", "xyz", 'b', make_fma, NULL},
+             {"wide_mul_r", "xy", 'b', make_mul, NULL},
+             {"wide_mul_add_r", "xyz", 'b', make_fma, NULL},
              {"sqrt_r", "x", 'b', make_sqrt, NULL},
              {"ieee_rem", "xy", 'b', make_rem, NULL},
              {"c_fmod", "xy", 'b', make_mod, NULL},
@@ -229,6 +231,17 @@ static size_t call_named(const char *name) {
     return i;
 }
 
+/* The code of a format, with its rule of flags in the words after each +. */
+static uint32_t format_of(char *name) {
+    char *rule = strchr(name, '+');
+    if (rule) *rule++ = '\0';
+    uint32_t code = code_of(formats, COUNT(formats), name);
+    if (code == NO_CODE || !rule) return code;
+    if (strcmp(rule, "ieee") == 0) return code | APFLOAT_IEEE_FLAGS;
+    if (strcmp(rule, "ieee+before") == 0) return code | APFLOAT_IEEE_FLAGS | APFLOAT_TINY_BEFORE_ROUNDING;
+    return NO_CODE;
+}
+
 /* Whether a row agrees. One that no function of the library answers is passed over. */
 static bool check(char *columns[]) {
     size_t i = call_named(columns[CALL]);
@@ -237,9 +250,9 @@ static bool check(char *columns[]) {
     char *target = strchr(columns[FORMAT], '>');
     if (target) {
         *target++ = '\0';
-        a.to = code_of(formats, COUNT(formats), target);
+        a.to = format_of(target);
     }
-    a.format = code_of(formats, COUNT(formats), columns[FORMAT]);
+    a.format = format_of(columns[FORMAT]);
     if (a.format == NO_CODE || a.to == NO_CODE) return true;
     struct expected e;
     bool has_mode = strcmp(columns[MODE], "any") != 0;
@@ -266,8 +279,14 @@ static unsigned refusals(void) {
         {apfloat_add(0, APFLOAT_NEAREST_EVEN, one, one, &answer), APFLOAT_UNKNOWN_FORMAT},
         {apfloat_add(11, 5, one, one, &answer), APFLOAT_UNKNOWN_FORMAT},
         {apfloat_add(APFLOAT_DOUBLE, 5, one, one, &answer), APFLOAT_UNKNOWN_MODE},
-        {apfloat_mul(APFLOAT_QUAD, APFLOAT_UPWARD, one, one, &answer), APFLOAT_NO_SUCH_OPERATION},
-        {apfloat_fma(APFLOAT_X87, APFLOAT_UPWARD, one, one, one, &answer), APFLOAT_NO_SUCH_OPERATION},
+        {apfloat_add(APFLOAT_DOUBLE | APFLOAT_TINY_BEFORE_ROUNDING, APFLOAT_UPWARD, one, one, &answer),
+         APFLOAT_UNKNOWN_FORMAT},
+        {apfloat_add(APFLOAT_DOUBLE | APFLOAT_IEEE_FLAGS << 2, APFLOAT_UPWARD, one, one, &answer),
+         APFLOAT_UNKNOWN_FORMAT},
+        {apfloat_add(APFLOAT_E4M3FN | APFLOAT_IEEE_FLAGS, APFLOAT_UPWARD, one, one, &answer), APFLOAT_UNKNOWN_FORMAT},
+        {apfloat_add(APFLOAT_DOUBLE_PAIR | APFLOAT_IEEE_FLAGS, APFLOAT_UPWARD, one, one, &answer),
+         APFLOAT_UNKNOWN_FORMAT},
+        {apfloat_fma(APFLOAT_DOUBLE_PAIR, APFLOAT_UPWARD, one, one, one, &answer), APFLOAT_NO_SUCH_OPERATION},
         {apfloat_convert(APFLOAT_HALF, APFLOAT_UPWARD, APFLOAT_DOUBLE_PAIR, one, &answer), APFLOAT_NO_SUCH_OPERATION},
         {apfloat_convert(APFLOAT_HALF, APFLOAT_UPWARD, 0, one, &answer), APFLOAT_UNKNOWN_FORMAT},
         {apfloat_to_u128(APFLOAT_HALF, APFLOAT_UPWARD, one, 129, &answer), APFLOAT_WRONG_WIDTH},
