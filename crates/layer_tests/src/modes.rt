@@ -1,12 +1,17 @@
 //! Rounding modes.
 
+use crate::asserts::same;
 use apfloat_base::Round;
 
 #[test]
 fn swaps_directed_modes(rt: HostRuntime) {
-    assert_eq!(rt; -Round::TowardPositive, Round::TowardNegative);
-    assert_eq!(rt; -Round::TowardNegative, Round::TowardPositive);
-    assert_eq!(rt; -Round::TowardZero, Round::TowardZero);
-    assert_eq!(rt; -Round::NearestTiesToEven, Round::NearestTiesToEven);
-    assert_eq!(rt; -Round::NearestTiesToAway, Round::NearestTiesToAway);
+    for (mode, swapped) in [
+        (Round::TowardPositive, Round::TowardNegative),
+        (Round::TowardNegative, Round::TowardPositive),
+        (Round::TowardZero, Round::TowardZero),
+        (Round::NearestTiesToEven, Round::NearestTiesToEven),
+        (Round::NearestTiesToAway, Round::NearestTiesToAway),
+    ] {
+        same(&rt, -mode, swapped, mode);
+    }
 }

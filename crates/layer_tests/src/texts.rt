@@ -1,5 +1,6 @@
 //! Texts of values, read as binary16 values, which are unpacked.
 
+use crate::asserts::same;
 use crate::unpacked::HALF;
 use apfloat_base::{ParseError, Round, Status, StatusAnd};
 use apfloat_texts::read;
@@ -31,9 +32,12 @@ fn reads_the_one_meaning(rt: HostRuntime) {
     ];
     for (text, significand, exponent, status) in rows {
         let answer = read_up(text).expect(&rt, text);
-        assert_eq!(rt; answer.value.significand, significand, "of {text}");
-        assert_eq!(rt; answer.value.exponent, exponent, "of {text}");
-        assert_eq!(rt; answer.status, status, "of {text}");
+        let got = (
+            answer.value.significand,
+            answer.value.exponent,
+            answer.status,
+        );
+        same(&rt, got, (significand, exponent, status), text);
     }
 }
 
@@ -54,7 +58,7 @@ fn refuses_by_the_first_fault(rt: HostRuntime) {
     ];
     for (text, words) in rows {
         let refused = read_up(text).expect_err(&rt, text);
-        assert_eq!(rt; refused.0, words, "of {text}");
+        same(&rt, refused.0, words, text);
     }
 }
 
@@ -74,9 +78,12 @@ fn reads_endless_texts(rt: HostRuntime) -> Result<(), Fail> {
         }
         text.push_str(end)?;
         let answer = read_up(text.as_str()).expect(&rt, start);
-        assert_eq!(rt; answer.value.significand, significand, "of {start}..{end}");
-        assert_eq!(rt; answer.value.exponent, exponent, "of {start}..{end}");
-        assert_eq!(rt; answer.status, status, "of {start}..{end}");
+        let got = (
+            answer.value.significand,
+            answer.value.exponent,
+            answer.status,
+        );
+        same(&rt, got, (significand, exponent, status), (start, end));
     }
     Ok(())
 }

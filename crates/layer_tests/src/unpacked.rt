@@ -2,6 +2,7 @@
 
 ghost use Rattle.std.specs.Prelude.{◌^◌, ◌≤◌};
 
+use crate::asserts::same;
 use apfloat_base::sig::Loss;
 use apfloat_base::{NonfiniteBehavior, Round};
 use apfloat_unpacked::bits::{Widths, decode};
@@ -33,8 +34,12 @@ fn holds_denormals_normalized(rt: HostRuntime) {
     ];
     for (bits, significand, exponent) in rows {
         let x = decode(HALF, HALF_WIDTHS, bits);
-        assert_eq!(rt; x.significand, significand);
-        assert_eq!(rt; x.exponent, exponent);
+        same(
+            &rt,
+            (x.significand, x.exponent),
+            (significand, exponent),
+            bits,
+        );
     }
 }
 
@@ -56,7 +61,22 @@ fn rounded(significand: u128, loss: Loss) -> u128
 
 #[test]
 fn cuts_once(rt: HostRuntime) {
-    assert_eq!(rt; rounded(0x1002, Loss::ExactlyZero), 0x400);
-    assert_eq!(rt; rounded(0x1002, Loss::LessThanHalf), 0x401);
-    assert_eq!(rt; rounded(0x1006, Loss::ExactlyZero), 0x402);
+    same(
+        &rt,
+        rounded(0x1002, Loss::ExactlyZero),
+        0x400,
+        "a tie to even below",
+    );
+    same(
+        &rt,
+        rounded(0x1002, Loss::LessThanHalf),
+        0x401,
+        "above a tie",
+    );
+    same(
+        &rt,
+        rounded(0x1006, Loss::ExactlyZero),
+        0x402,
+        "a tie to even above",
+    );
 }
