@@ -1,2 +1,3 @@
 pub mod LittleEndian
 pub mod Places
+mod WidthBounds

@@ -1,26 +1,20 @@
 -- How many bytes a value takes.
-use Rattle.std.specs.Prelude.{ℕ}
+use Rattle.std.specs.Prelude.{ℕ, if◌then◌else◌}
+use Rattle.std.specs.Int.{div_ceil}
+use Rattle.rustc_apfloat.specs.Lawful.{Constants}
 use Rattle.dispatch.specs.declared.built_in.BuiltInFormat.{BuiltInFormat}
-use Rattle.dispatch.specs.declared.built_in.BuiltInFormat.TheVariants.{Half, Single, Double, Quad, BFloat, E5M2, E4M3FN, E4M3FNUZ, X87}
+use Rattle.dispatch.specs.BuiltIns.{constants_in}
 use Rattle.value_blocks.specs.declared.widths.Extended.{Extended}
 use Rattle.value_blocks.specs.declared.widths.Extended.TheVariants.{Packed, Padded}
 use Rattle.value_blocks.specs.declared.conversion.Conversion.{Conversion}
 
-abbrev pub extended_width : Extended → ℕ
-extended_width Packed = 10
-extended_width Padded = 16
+-- how many bytes a value of a format takes: those of its bits, but an extended format can be padded to sixteen
+abbrev pub width_with : Constants → Extended → ℕ
+width_with c Packed = div_ceil c.bits 8
+width_with c Padded = if c.explicit_integer_bit then 16 else div_ceil c.bits 8
 
--- how many bytes a value of the format takes
 abbrev pub width_of : BuiltInFormat → Extended → ℕ
-width_of Half extended = 2
-width_of Single extended = 4
-width_of Double extended = 8
-width_of Quad extended = 16
-width_of BFloat extended = 2
-width_of E5M2 extended = 1
-width_of E4M3FN extended = 1
-width_of E4M3FNUZ extended = 1
-width_of X87 extended = extended_width extended
+width_of format extended = width_with (constants_in format) extended
 
 abbrev pub source_width : Conversion → ℕ
 source_width conversion = width_of conversion.source conversion.extended

@@ -1,11 +1,13 @@
 //! How many bytes a value takes.
 
 ghost use Rattle.std.specs.Prelude.{◌≡◌, ◌≤◌};
-ghost use Rattle.value_blocks.specs.Widths.{width_of};
+ghost use Rattle.value_blocks.specs.Calls.{at_format};
+ghost use Rattle.value_blocks.specs.Widths.{width_of, width_with};
 
-use dispatch::BuiltInFormat;
+use dispatch::{BuiltInFormat, InFormat};
+use rustc_apfloat::ieee::Semantics;
 
-/// How many bytes a value of the x87 format takes.
+/// How many bytes a value of the x87 format takes, which is the one with an explicit integer bit.
 #[derive(Clone, Copy, Debug)]
 pub enum Extended {
     /// Ten, which is the size of its encoding.
@@ -30,18 +32,24 @@ pub fn width(format: BuiltInFormat, extended: Extended) -> usize
     ensures least { 1 ≤ result }
     ensures greatest { result ≤ 16 }
 {
-    match format {
-        BuiltInFormat::E5M2 => 1,
-        BuiltInFormat::E4M3FN => 1,
-        BuiltInFormat::E4M3FNUZ => 1,
-        BuiltInFormat::Half => 2,
-        BuiltInFormat::BFloat => 2,
-        BuiltInFormat::Single => 4,
-        BuiltInFormat::Double => 8,
-        BuiltInFormat::Quad => 16,
-        BuiltInFormat::X87 => match extended {
-            Extended::Packed => 10,
-            Extended::Padded => 16,
-        },
+    format.run(WidthCall { extended })
+}
+
+/// A call that tells how many bytes a value of its format takes.
+#[derive(Clone, Copy)]
+struct WidthCall {
+    extended: Extended,
+}
+
+impl InFormat for WidthCall {
+    type Output = usize;
+
+    ghost gives = { λ it kind width. at_format kind (λ c. width ≡ width_with c it.extended) };
+
+    fn in_format<S: Semantics>(self) -> usize {
+        match self.extended {
+            Extended::Padded if S::EXPLICIT_INTEGER_BIT => 16,
+            Extended::Packed | Extended::Padded => S::BITS.div_ceil(8),
+        }
     }
 }
