@@ -2,6 +2,7 @@
 
 ghost use Rattle.std.specs.Prelude.{◌<◌};
 
+use crate::asserts::{Bits, same};
 use custom_formats::SevenS;
 use rustc_apfloat::ieee::{DoubleS, HalfS, IeeeFloat, Semantics, SingleS, X87DoubleExtendedS};
 use rustc_apfloat::{Category, Float};
@@ -58,13 +59,13 @@ fn check<S: Semantics>(rt: &impl Abort, fields: Fields, bits: u128)
     requires fraction { fields.fraction_bits < 64 }
 {
     let x = S::from_bits(bits);
-    assert_eq!(rt; S::to_bits(x), bits);
-    assert_eq!(rt; x.category(), category_of(fields, bits), "{bits:x}");
+    same(rt, S::to_bits(x), bits, Bits(bits));
+    same(rt, x.category(), category_of(fields, bits), Bits(bits));
     let unsigned = fields.exponent_bits + fields.fraction_bits;
-    assert_eq!(rt; x.is_negative(), bits >= 1 << unsigned, "{bits:x}");
+    same(rt, x.is_negative(), bits >= 1 << unsigned, Bits(bits));
     for above in [0, 1 << (unsigned + 1), u128::MAX << (unsigned + 1)] {
-        let same: IeeeFloat<S> = Float::from_bits(bits | above);
-        assert_eq!(rt; same.to_bits(), bits);
+        let value: IeeeFloat<S> = Float::from_bits(bits | above);
+        same(rt, value.to_bits(), bits, (Bits(bits), Bits(above)));
     }
 }
 
@@ -123,5 +124,10 @@ fn edges_of_double(rt: HostRuntime) {
 #[test]
 fn number_without_its_integer_bit(rt: HostRuntime) {
     let x = X87DoubleExtendedS::from_bits(0x3fff4000000000000000);
-    assert_eq!(rt; X87DoubleExtendedS::to_bits(x), 0x7fff4000000000000000);
+    same(
+        &rt,
+        X87DoubleExtendedS::to_bits(x),
+        0x7fff4000000000000000,
+        "3fff4000000000000000",
+    );
 }

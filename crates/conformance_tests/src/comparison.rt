@@ -4,6 +4,7 @@ ghost use Rattle.std.specs.Prelude.{◌*◌, ◌^◌, ◌<◌, ◌≤◌, pos, n
 ghost use Rattle.rustc_apfloat.specs.FlaggedTypes.{format_of};
 ghost use Rattle.conformance.specs.Plain.{HasBounds};
 
+use crate::asserts::same;
 use crate::small::magnitude_bits;
 use crate::tables::MODES;
 use conformance::plain::{Answer, Bounds, deliver};
@@ -150,15 +151,11 @@ fn compare_parts<S: Flagged>(rt: &impl Abort, subject: Subject, amount: u128, pa
                 mode,
                 negative,
             );
-            assert_eq!(rt;
-                answer.value.to_bits(),
-                bits_of(subject, plain.value),
-                "{amount} {parts} {mode:?} {negative}"
-            );
-            assert_eq!(rt;
-                answer.status,
-                plain.status,
-                "{amount} {parts} {mode:?} {negative}"
+            same(
+                rt,
+                (answer.value.to_bits(), answer.status),
+                (bits_of(subject, plain.value), plain.status),
+                (amount, parts, mode, negative),
             );
         }
     }
@@ -257,12 +254,12 @@ fn whole_numbers(rt: HostRuntime) {
         for mode in MODES {
             let plain = deliver(HALF.bounds, mode, false, number << 24, 1);
             let answer = Half::from_u128_r(number, mode);
-            assert_eq!(rt;
-                answer.value.to_bits(),
-                bits_of(HALF, plain.value),
-                "{number} {mode:?}"
+            same(
+                &rt,
+                (answer.value.to_bits(), answer.status),
+                (bits_of(HALF, plain.value), plain.status),
+                (number, mode),
             );
-            assert_eq!(rt; answer.status, plain.status, "{number} {mode:?}");
         }
     }
 }

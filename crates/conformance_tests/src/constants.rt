@@ -2,6 +2,7 @@
 
 ghost use Rattle.std.specs.Prelude.{◌<◌};
 
+use crate::asserts::same;
 use custom_formats::{Least, LeastS, SevenS};
 use rustc_apfloat::ieee::{
     BFloat, Double, DoubleS, Float8E4M3FNS, Float8E4M3FNUZS, Float8E5M2, HalfS, IeeeFloat,
@@ -12,7 +13,7 @@ use rustc_apfloat::{Category, ExpInt, Float};
 use std::process::Abort;
 
 /// The bits of a format's named values.
-#[derive(Clone, Copy)]
+#[derive(Clone, Copy, PartialEq, Eq, Debug)]
 struct Named {
     smallest: u128,
     smallest_normalized: u128,
@@ -21,18 +22,23 @@ struct Named {
 }
 
 /// Asserts that the named values of a format have the given bits.
-fn check<S: Semantics>(rt: &impl Abort, named: Named)
+fn check<S: Semantics>(rt: &impl Abort, format: &str, named: Named)
     requires { S.PRECISION < S.BITS }
 {
-    assert_eq!(rt; IeeeFloat::<S>::zero().to_bits(), 0);
-    assert_eq!(rt; IeeeFloat::<S>::default().to_bits(), 0);
-    assert_eq!(rt; IeeeFloat::<S>::smallest().to_bits(), named.smallest);
-    assert_eq!(rt;
-        IeeeFloat::<S>::smallest_normalized().to_bits(),
-        named.smallest_normalized
+    same(rt, IeeeFloat::<S>::zero().to_bits(), 0, (format, "zero"));
+    same(
+        rt,
+        IeeeFloat::<S>::default().to_bits(),
+        0,
+        (format, "default"),
     );
-    assert_eq!(rt; IeeeFloat::<S>::largest().to_bits(), named.largest);
-    assert_eq!(rt; IeeeFloat::<S>::infinity().to_bits(), named.infinity);
+    let got = Named {
+        smallest: IeeeFloat::<S>::smallest().to_bits(),
+        smallest_normalized: IeeeFloat::<S>::smallest_normalized().to_bits(),
+        largest: IeeeFloat::<S>::largest().to_bits(),
+        infinity: IeeeFloat::<S>::infinity().to_bits(),
+    };
+    same(rt, got, named, format);
 }
 
 #[test]
@@ -43,54 +49,67 @@ fn named_values(rt: HostRuntime) {
         largest: 0x7bff,
         infinity: 0x7c00,
     };
-    check::<HalfS>(&rt, half);
+    check::<HalfS>(&rt, "half", half);
     let single = Named {
         smallest: 0x00000001,
         smallest_normalized: 0x00800000,
         largest: 0x7f7fffff,
         infinity: 0x7f800000,
     };
-    check::<SingleS>(&rt, single);
+    check::<SingleS>(&rt, "single", single);
     let double = Named {
         smallest: 0x0000000000000001,
         smallest_normalized: 0x0010000000000000,
         largest: 0x7fefffffffffffff,
         infinity: 0x7ff0000000000000,
     };
-    check::<DoubleS>(&rt, double);
+    check::<DoubleS>(&rt, "double", double);
     let seven = Named {
         smallest: 0x01,
         smallest_normalized: 0x08,
         largest: 0x37,
         infinity: 0x38,
     };
-    check::<SevenS>(&rt, seven);
+    check::<SevenS>(&rt, "seven", seven);
     let e4m3fn = Named {
         smallest: 0x01,
         smallest_normalized: 0x08,
         largest: 0x7e,
         infinity: 0x7f,
     };
-    check::<Float8E4M3FNS>(&rt, e4m3fn);
+    check::<Float8E4M3FNS>(&rt, "e4m3fn", e4m3fn);
     let e4m3fnuz = Named {
         smallest: 0x01,
         smallest_normalized: 0x08,
         largest: 0x7f,
         infinity: 0x80,
     };
-    check::<Float8E4M3FNUZS>(&rt, e4m3fnuz);
+    check::<Float8E4M3FNUZS>(&rt, "e4m3fnuz", e4m3fnuz);
 }
 
 /// For a type without bits, only the categories can be checked here.
 #[test]
 fn named_values_without_bits(rt: HostRuntime) {
-    assert_eq!(rt; Least::zero().category(), Category::Zero);
-    assert_eq!(rt; Least::default().category(), Category::Zero);
-    assert_eq!(rt; Least::smallest().category(), Category::Normal);
-    assert_eq!(rt; Least::smallest_normalized().category(), Category::Normal);
-    assert_eq!(rt; Least::largest().category(), Category::Normal);
-    assert_eq!(rt; Least::infinity().category(), Category::Infinity);
-    assert!(rt; !Least::default().is_negative());
+    for (value, category, name) in [
+        (Least::zero(), Category::Zero, "zero"),
+        (Least::default(), Category::Zero, "default"),
+        (Least::smallest(), Category::Normal, "smallest"),
+        (
+            Least::smallest_normalized(),
+            Category::Normal,
+            "smallest normalized",
+        ),
+        (Least::largest(), Category::Normal, "largest"),
+        (Least::infinity(), Category::Infinity, "infinity"),
+    ] {
+        same(&rt, value.category(), category, name);
+    }
+    same(
+        &rt,
+        Least::default().is_negative(),
+        false,
+        "sign of the default",
+    );
 }
 
 /// The constants of a format as the trait `Float` gives them.
@@ -105,11 +124,11 @@ fn constants<S: Semantics>() -> (usize, usize, ExpInt, ExpInt) {
 
 #[test]
 fn constants_of_types(rt: HostRuntime) {
-    assert_eq!(rt; constants::<HalfS>(), (16, 11, -14, 15));
-    assert_eq!(rt; constants::<SingleS>(), (32, 24, -126, 127));
-    assert_eq!(rt; constants::<DoubleS>(), (64, 53, -1022, 1023));
-    assert_eq!(rt; constants::<SevenS>(), (7, 4, -1, 4));
-    assert_eq!(rt; constants::<LeastS>(), (0, 3, -1, 3));
+    same(&rt, constants::<HalfS>(), (16, 11, -14, 15), "half");
+    same(&rt, constants::<SingleS>(), (32, 24, -126, 127), "single");
+    same(&rt, constants::<DoubleS>(), (64, 53, -1022, 1023), "double");
+    same(&rt, constants::<SevenS>(), (7, 4, -1, 4), "seven");
+    same(&rt, constants::<LeastS>(), (0, 3, -1, 3), "least");
 }
 
 /// The constants of a format that `Float` does not have.
@@ -143,8 +162,18 @@ fn rules_of<S: Semantics>() -> Rules {
 /// The wide formats of pairs differ only in the least exponent.
 #[test]
 fn constants_of_wide_formats(rt: HostRuntime) {
-    assert_eq!(rt; constants::<FallbackS>(), (0, 106, -969, 1023));
-    assert_eq!(rt; constants::<FallbackExtendedS>(), (0, 106, -1022, 1023));
+    same(
+        &rt,
+        constants::<FallbackS>(),
+        (0, 106, -969, 1023),
+        "fallback",
+    );
+    same(
+        &rt,
+        constants::<FallbackExtendedS>(),
+        (0, 106, -1022, 1023),
+        "extended fallback",
+    );
     let wide = Rules {
         exp_bits: 0,
         ieee_max_exp: 0,
@@ -156,26 +185,43 @@ fn constants_of_wide_formats(rt: HostRuntime) {
         explicit_integer_bit: false,
         tiny_before_rounding: false,
     };
-    assert_eq!(rt; rules_of::<FallbackS>(), wide);
-    assert_eq!(rt; rules_of::<FallbackExtendedS>(), wide);
+    same(&rt, rules_of::<FallbackS>(), wide, "fallback");
+    same(
+        &rt,
+        rules_of::<FallbackExtendedS>(),
+        wide,
+        "extended fallback",
+    );
 }
 
 #[test]
 fn constants_of_aliases(rt: HostRuntime) {
-    assert_eq!(rt; (Double::BITS, Double::PRECISION), (64, 53));
-    assert_eq!(rt; (Quad::BITS, Quad::PRECISION), (128, 113));
-    assert_eq!(rt; (BFloat::BITS, BFloat::PRECISION), (16, 8));
-    assert_eq!(rt; (Float8E5M2::BITS, Float8E5M2::PRECISION), (8, 3));
+    same(&rt, (Double::BITS, Double::PRECISION), (64, 53), "double");
+    same(&rt, (Quad::BITS, Quad::PRECISION), (128, 113), "quad");
+    same(&rt, (BFloat::BITS, BFloat::PRECISION), (16, 8), "bfloat");
+    same(
+        &rt,
+        (Float8E5M2::BITS, Float8E5M2::PRECISION),
+        (8, 3),
+        "e5m2",
+    );
 }
 
 /// The largest value of each.
 #[test]
 fn largest_of_aliases(rt: HostRuntime) {
-    assert_eq!(rt; Double::largest().to_bits(), 0x7fefffffffffffff);
-    assert_eq!(rt;
-        Quad::largest().to_bits(),
-        0x7ffeffffffffffffffffffffffffffff
+    same(
+        &rt,
+        Double::largest().to_bits(),
+        0x7fefffffffffffff,
+        "double",
     );
-    assert_eq!(rt; BFloat::largest().to_bits(), 0x7f7f);
-    assert_eq!(rt; Float8E5M2::largest().to_bits(), 0x7b);
+    same(
+        &rt,
+        Quad::largest().to_bits(),
+        0x7ffeffffffffffffffffffffffffffff,
+        "quad",
+    );
+    same(&rt, BFloat::largest().to_bits(), 0x7f7f, "bfloat");
+    same(&rt, Float8E5M2::largest().to_bits(), 0x7b, "e5m2");
 }

@@ -8,6 +8,7 @@ ghost use Rattle.rustc_apfloat.specs.Types.{format_of};
 ghost use Rattle.rustc_apfloat.specs.WholeNumbers.{IsFromUnsigned};
 ghost use Rattle.rustc_apfloat.proofs.LawTest.{lawful_from_test};
 
+use crate::asserts::same;
 use rustc_apfloat::ieee::{Half, IeeeFloat, NonfiniteBehavior, Semantics};
 use rustc_apfloat::{ExpInt, Flags, Float, Round, Status, StatusAnd, unpack};
 
@@ -88,8 +89,8 @@ fn nearest<S: Semantics>(number: u128) -> StatusAnd<IeeeFloat<S>>
 
 #[test]
 fn whole_numbers_in_binary16(rt: HostRuntime) {
-    assert_eq!(rt; bits_of(464), Status::OK.and(0x5f40));
-    assert_eq!(rt; bits_of(2049), Status::INEXACT.and(0x6800));
+    same(&rt, bits_of(464), Status::OK.and(0x5f40), 464);
+    same(&rt, bits_of(2049), Status::INEXACT.and(0x6800), 2049);
 }
 
 #[test]
@@ -97,36 +98,46 @@ fn sums_in_binary16(rt: HostRuntime) {
     let one = Half::from_bits(0x3c00);
     let third = Half::from_bits(0x3555);
     let answer = one + third;
-    assert_eq!(rt; answer.value.to_bits(), 0x3d55);
-    assert_eq!(rt; answer.status, Status::INEXACT);
+    same(&rt, answer.value.to_bits(), 0x3d55, "value");
+    same(&rt, answer.status, Status::INEXACT, "status");
     let above = one.add_r(third, Round::TowardPositive);
-    assert_eq!(rt; above.value.to_bits(), 0x3d56);
+    same(&rt, above.value.to_bits(), 0x3d56, "upward");
 }
 
 #[test]
 fn whole_numbers_in_a_format_of_a_users_own(rt: HostRuntime) {
     let nearest = Eight::from_u128(250);
-    assert_eq!(rt; nearest.value.to_bits(), 0x78);
-    assert_eq!(rt; nearest.status, Status::OVERFLOW.union(Status::INEXACT));
+    same(&rt, nearest.value.to_bits(), 0x78, "nearest");
+    same(
+        &rt,
+        nearest.status,
+        Status::OVERFLOW.union(Status::INEXACT),
+        "status of the nearest",
+    );
 
     let below = Eight::from_u128_r(250, Round::TowardZero);
-    assert_eq!(rt; below.value.to_bits(), 0x77);
-    assert_eq!(rt; below.status, Status::INEXACT);
+    same(&rt, below.value.to_bits(), 0x77, "toward zero");
+    same(&rt, below.status, Status::INEXACT, "status toward zero");
 }
 
 #[test]
 fn nearest_whole_numbers(rt: HostRuntime) {
     let answer = nearest::<EightS>(9);
-    assert_eq!(rt; answer.value.to_bits(), 0x51);
-    assert_eq!(rt; answer.status, Status::OK);
+    same(&rt, answer.value.to_bits(), 0x51, "value");
+    same(&rt, answer.status, Status::OK, "status");
 }
 
 #[test]
 fn statuses_of_two_answers(rt: HostRuntime) {
     let mut status;
     let above = unpack!(status =, Half::from_u128_r(2049, Round::TowardPositive));
-    assert_eq!(rt; status, Status::INEXACT);
+    same(&rt, status, Status::INEXACT, "of the first");
     let infinite = unpack!(status |=, above * Half::from_bits(0x7bff));
-    assert_eq!(rt; status, Status::OVERFLOW.union(Status::INEXACT));
+    same(
+        &rt,
+        status,
+        Status::OVERFLOW.union(Status::INEXACT),
+        "of both",
+    );
     assert!(rt; infinite.is_infinite());
 }

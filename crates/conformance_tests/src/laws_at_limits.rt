@@ -3,6 +3,7 @@
 
 ghost use Rattle.std.specs.Prelude.{◌<◌, ◌≤◌};
 
+use crate::asserts::same;
 use crate::tables::MODES;
 use conformance::laws::{
     near_difference, opposite_products, sums_in_order, there_and_back, through_bits, through_value,
@@ -82,10 +83,15 @@ fn check_difference<S: Semantics>(rt: &impl Abort, x: IeeeFloat<S>, y: IeeeFloat
     for mode in MODES {
         let difference = near_difference(x, y, mode);
         if are_near(x, y) {
-            assert_eq!(rt; difference.status, Status::OK, "{x:?} {y:?} {mode:?}");
+            same(
+                rt,
+                difference.status,
+                Status::OK,
+                (x, y, mode, "difference"),
+            );
             let sum = difference.value.add_r(y, mode);
-            assert_eq!(rt; sum.status, Status::OK, "{x:?} {y:?} {mode:?}");
-            assert!(rt; sum.value == x, "{x:?} {y:?} {mode:?}");
+            same(rt, sum.status, Status::OK, (x, y, mode, "sum"));
+            same(rt, sum.value == x, true, (x, y, mode, "value"));
         }
     }
 }
@@ -97,7 +103,7 @@ fn check_sums<S: Semantics>(rt: &impl Abort, x: IeeeFloat<S>, y: IeeeFloat<S>, z
     for mode in MODES {
         let (left, right) = sums_in_order(x, y, z, mode);
         if has_infinities && are_finite && x <= y {
-            assert!(rt; left <= right, "{x:?} {y:?} {z:?} {mode:?}");
+            same(rt, left <= right, true, (x, y, z, mode));
         }
     }
 }
@@ -109,11 +115,13 @@ fn check_product<S: Semantics>(rt: &impl Abort, x: IeeeFloat<S>, y: IeeeFloat<S>
     for mode in MODES {
         let (product, opposite) = opposite_products(x, y, mode);
         if x.is_finite_non_zero() && y.is_finite_non_zero() {
-            assert!(rt;
-                opposite.value.bitwise_eq(-product.value),
-                "{x:?} {y:?} {mode:?}"
+            let agrees = opposite.value.bitwise_eq(-product.value);
+            same(
+                rt,
+                (agrees, opposite.status),
+                (true, product.status),
+                (x, y, mode),
             );
-            assert_eq!(rt; opposite.status, product.status, "{x:?} {y:?} {mode:?}");
         }
     }
 }
@@ -124,11 +132,16 @@ fn check_conversions<S: Semantics>(rt: &impl Abort, x: IeeeFloat<S>) {
     for mode in MODES {
         let (from_vast, lost) = there_and_back::<S, VastS>(x, mode);
         if x.is_finite() {
-            assert!(rt; from_vast.bitwise_eq(x) && !lost, "{x:?} {mode:?}");
+            same(
+                rt,
+                (from_vast.bitwise_eq(x), lost),
+                (true, false),
+                (x, mode),
+            );
         }
         let (from_least, lost) = there_and_back::<S, LeastS>(x, mode);
         if x.is_finite() && !lost {
-            assert!(rt; from_least.bitwise_eq(x), "{x:?} {mode:?}");
+            same(rt, from_least.bitwise_eq(x), true, (x, mode));
         }
     }
 }
@@ -137,7 +150,7 @@ fn check_conversions<S: Semantics>(rt: &impl Abort, x: IeeeFloat<S>) {
 fn check_steps<S: Semantics>(rt: &impl Abort, x: IeeeFloat<S>) {
     let back = up_and_down(x);
     if S::NONFINITE_BEHAVIOR == NonfiniteBehavior::IEEE754 && x.is_finite_non_zero() {
-        assert!(rt; back.bitwise_eq(x), "{x:?}");
+        same(rt, back.bitwise_eq(x), true, x);
     }
 }
 
@@ -145,9 +158,9 @@ fn check_steps<S: Semantics>(rt: &impl Abort, x: IeeeFloat<S>) {
 fn check_bits<S: Semantics>(rt: &impl Abort, x: IeeeFloat<S>)
     requires { S.PRECISION < S.BITS }
 {
-    assert!(rt; through_bits(x).bitwise_eq(x), "{x:?}");
+    same(rt, through_bits(x).bitwise_eq(x), true, x);
     let bits = x.to_bits();
-    assert_eq!(rt; through_value::<S>(bits), bits, "{x:?}");
+    same(rt, through_value::<S>(bits), bits, x);
 }
 
 /// The laws on one, two and three values that hold in every format.

@@ -6,6 +6,8 @@
 #[cfg(test)]
 mod agreements;
 #[cfg(test)]
+mod asserts;
+#[cfg(test)]
 mod bits;
 #[cfg(test)]
 mod comparison;

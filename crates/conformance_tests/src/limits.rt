@@ -2,6 +2,7 @@
 
 ghost use Rattle.std.specs.Prelude.{◌<◌};
 
+use crate::asserts::same;
 use crate::tables::{EVEN, INEXACT, OK, OVERFLOW_INEXACT, ZERO};
 use custom_formats::{
     BroadS, DeepS, LeastFinite, LeastFiniteS, LeastS, PreciseS, Ten, TenS, VastS, WrittenBitS,
@@ -82,8 +83,8 @@ fn check_rows<S: Semantics>(rt: &impl Abort, rows: &[Row]) {
             Answer::Number(value) => IeeeFloat::<S>::from_u128(value).value,
             Answer::Past => IeeeFloat::<S>::infinity(),
         };
-        assert!(rt; got.value.bitwise_eq(value), "{number} {mode:?}");
-        assert_eq!(rt; got.status.bits(), *status, "{number} {mode:?}");
+        let got = (got.value.bitwise_eq(value), got.status.bits());
+        same(rt, got, (true, *status), (*number, *mode));
     }
 }
 
@@ -110,9 +111,14 @@ fn check_ends<S: Semantics>(rt: &impl Abort) {
 fn check_bits<S: Semantics>(rt: &impl Abort, one: u128, largest: u128, past: u128)
     requires { S.PRECISION < S.BITS }
 {
-    assert_eq!(rt; IeeeFloat::<S>::from_u128(1).value.to_bits(), one);
-    assert_eq!(rt; IeeeFloat::<S>::largest().to_bits(), largest);
-    assert_eq!(rt; IeeeFloat::<S>::infinity().to_bits(), past);
+    same(rt, IeeeFloat::<S>::from_u128(1).value.to_bits(), one, "1");
+    same(rt, IeeeFloat::<S>::largest().to_bits(), largest, "largest");
+    same(
+        rt,
+        IeeeFloat::<S>::infinity().to_bits(),
+        past,
+        "past the largest",
+    );
     assert!(rt; IeeeFloat::<S>::from_bits(largest).bitwise_eq(IeeeFloat::<S>::largest()));
 }
 
@@ -126,7 +132,12 @@ fn limits_without_bits(rt: HostRuntime) {
     check_ends::<DeepS>(&rt);
     check_ends::<PreciseS>(&rt);
     check_ends::<VastS>(&rt);
-    assert_eq!(rt; LeastFinite::infinity().category(), Category::NaN);
+    same(
+        &rt,
+        LeastFinite::infinity().category(),
+        Category::NaN,
+        "infinity",
+    );
 }
 
 #[test]
@@ -137,10 +148,8 @@ fn limits_with_bits(rt: HostRuntime) {
     check_ends::<BroadS>(&rt);
     check_ends::<WrittenBitS>(&rt);
     check_ends::<TenS>(&rt);
-    assert_eq!(rt;
-        Ten::smallest().cmp_abs_normal(Ten::smallest_normalized()),
-        Ordering::Less
-    );
+    let order = Ten::smallest().cmp_abs_normal(Ten::smallest_normalized());
+    same(&rt, order, Ordering::Less, "cmp_abs_normal");
     check_bits::<BroadS>(&rt, 0xfffff << 106, (0x1fffff << 106) - 1, 0x1fffff << 106);
     check_bits::<WrittenBitS>(&rt, 0x0f80, 0x1eff, 0x1f80);
     check_bits::<TenS>(&rt, 0x0f0, 0x1fe, 0x1ff);

@@ -3,6 +3,7 @@
 
 ghost use Rattle.std.specs.Prelude.{◌<◌, ◌≤◌};
 
+use crate::asserts::{Bits, same};
 use crate::small::{Expected, Small, answered, difference, product, quotient, sum};
 use crate::tables::{AWAY, DOWN, EVEN, UP, ZERO};
 use rustc_apfloat::ieee::{
@@ -22,7 +23,12 @@ fn check<S: Semantics>(
 )
     requires { S.PRECISION < S.BITS }
 {
-    assert_eq!(rt; answered(answer), expected, "{x:x} {operation} {y:x}");
+    same(
+        rt,
+        answered(answer),
+        expected,
+        (Bits(x), operation, Bits(y)),
+    );
 }
 
 /// The four operations on two bit patterns.
