@@ -4,32 +4,21 @@
     python3 evidence/fresh.py SEED COUNT [SUBJECT] > ROWS
 
 The program `check_vectors` checks them. The same words draw the same rows. Operands are random
-bits, values at the limits of a format, and values near others. SUBJECT is `mixed`, or one of the
-other modules of the folder `questions`: `products`, `roots`, `flags`, `decimals`.
+bits, values at the limits of a format, and values near others. SUBJECT is `mixed`, or another one
+of `questions/subjects.py`.
 """
 
-import random
 import sys
 
-from questions import decimals, flags, mixed, products, roots
+from questions.subjects import drawn
 from rows import answered
-
-_QUESTIONS = {
-    "mixed": mixed.question,
-    "products": products.question,
-    "roots": roots.question,
-    "flags": flags.question,
-    "decimals": decimals.question,
-}
 
 
 def main():
     """Draws questions and writes them with their answers."""
     seed, count, *subject = sys.argv[1:]
-    question = _QUESTIONS[subject[0] if subject else "mixed"]
-    choices = random.Random(int(seed))
-    for _ in range(int(count)):
-        print(answered(question(choices)))
+    for question in drawn(int(seed), int(count), subject[0] if subject else "mixed"):
+        print(answered(question))
 
 
 if __name__ == "__main__":

@@ -5,18 +5,22 @@
 
 Without FILE it reads the stored rows. Of each row it uses the question alone: the words of a
 command, or the call, the format, the mode and the operands; and, of what else a call returns,
-which of it the row states. Comments and empty lines stay where they are. With --by-subject they
-are left out, and the rows are put in order, each subject below a heading.
+which of it the row states. Below a heading that ends in words of `fresh.py`, for example
+`fresh.py 1 1000 flags.`, the questions are drawn anew, too. Comments and empty lines stay where
+they are. With --by-subject they are left out, and the rows are put in order, each subject below a
+heading; those that are drawn come last.
 
 If the model and the rows agree, what is written is the file that was read.
 """
 
 import argparse
+import re
 import sys
 from pathlib import Path
 
 from exact import calls, commands
 from exact.formats import FORMATS
+from questions.subjects import drawn
 
 STORED = Path(__file__).resolve().parent.parent / "crates" / "check_vectors" / "stdin"
 
@@ -56,6 +60,8 @@ _CALL_SUBJECTS = {
 }
 _OTHER_CALLS = "classes and signs"
 
+_DRAWN = re.compile(r"# .*: fresh\.py ([0-9]+) ([0-9]+) (\w+)\.")
+
 
 def main():
     """Reads the rows and writes them with new answers."""
@@ -64,11 +70,23 @@ def main():
     parser.add_argument("file", nargs="?", default=STORED, help="rows; without it the stored ones")
     arguments = parser.parse_args()
     lines = Path(arguments.file).read_text(encoding="utf-8").removesuffix("\n").split("\n")
-    lines = [line if is_skipped(line) else answered(line) for line in lines]
+    listed, headings = listed_and_drawn(lines)
+    listed = [line if is_skipped(line) else answered(line) for line in listed]
     if arguments.by_subject:
-        lines = by_subject(line for line in lines if not is_skipped(line))
+        listed = by_subject(line for line in listed if not is_skipped(line))
     sys.stdout.reconfigure(encoding="utf-8", newline="\n")
-    sys.stdout.writelines(line + "\n" for line in lines)
+    sys.stdout.writelines(line + "\n" for line in listed)
+    for heading in headings:
+        print(heading)
+        seed, count, subject = _DRAWN.fullmatch(heading).groups()
+        for question in drawn(int(seed), int(count), subject):
+            print(answered(question))
+
+
+def listed_and_drawn(lines):
+    """The lines above all drawn rows, and the headings of these."""
+    headings = [line for line in lines if _DRAWN.fullmatch(line)]
+    return lines[: lines.index(headings[0])] if headings else lines, headings
 
 
 def is_skipped(line):

@@ -1,0 +1,44 @@
+"""All subjects of questions, and so many questions of one of them, drawn from a seed."""
+
+import random
+from itertools import islice
+
+from questions import (
+    decimals,
+    flags,
+    hard_flags,
+    hard_products,
+    hard_roots,
+    hard_sums,
+    mixed,
+    products,
+    roots,
+)
+
+
+def each_drawn(question):
+    """Questions without end, each drawn alone."""
+
+    def questions(choices):
+        while True:
+            yield question(choices)
+
+    return questions
+
+
+SUBJECTS = {
+    "mixed": each_drawn(mixed.question),
+    "products": each_drawn(products.question),
+    "roots": each_drawn(roots.question),
+    "flags": each_drawn(flags.question),
+    "decimals": each_drawn(decimals.question),
+    "hard_roots": hard_roots.questions,
+    "hard_products": hard_products.questions,
+    "hard_sums": hard_sums.questions,
+    "hard_flags": hard_flags.questions,
+}
+
+
+def drawn(seed, count, subject):
+    """So many questions of a subject. The same words draw the same questions."""
+    return islice(SUBJECTS[subject](random.Random(seed)), count)
