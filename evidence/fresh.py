@@ -1,11 +1,11 @@
 #!/usr/bin/env python3
 """Writes new rows, which are not among the stored ones, with the answers of the model.
 
-    python3 evidence/fresh.py SEED COUNT [SUBJECT] > ROWS
+    python3 evidence/fresh.py SEED COUNT [SUBJECT [FORMAT]] > ROWS
 
 The program `check_vectors` checks them. The same words draw the same rows. Operands are random
 bits, values at the limits of a format, and values near others. SUBJECT is `mixed`, or another one
-of `questions/subjects.py`.
+of `questions/subjects.py`. FORMAT is for `products` and `roots`, which draw in several formats.
 """
 
 import sys
@@ -16,8 +16,8 @@ from rows import answered
 
 def main():
     """Draws questions and writes them with their answers."""
-    seed, count, *subject = sys.argv[1:]
-    for question in drawn(int(seed), int(count), subject[0] if subject else "mixed"):
+    seed, count, *words = sys.argv[1:]
+    for question in drawn(int(seed), int(count), *(words or ["mixed"])):
         print(answered(question))
 
 

@@ -13,9 +13,10 @@ _WEIGHTS = {
 }
 
 
-def question(choices):
-    """A product or a fused sum without its answer."""
-    (name,) = choices.choices(list(_WEIGHTS), list(_WEIGHTS.values()))
+def question(choices, name=None):
+    """A product or a fused sum without its answer, in a format or in any."""
+    if name is None:
+        (name,) = choices.choices(list(_WEIGHTS), list(_WEIGHTS.values()))
     operands = Operands(choices, FORMATS[name])
     call = choices.choice(["wide_mul_r", "wide_mul_add_r", "wide_mul_add_r"])
     data = list(factors(operands))

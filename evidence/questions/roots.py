@@ -15,9 +15,10 @@ _WEIGHTS = {
 }
 
 
-def question(choices):
-    """A square root without its answer."""
-    (name,) = choices.choices(list(_WEIGHTS), list(_WEIGHTS.values()))
+def question(choices, name=None):
+    """A square root without its answer, in a format or in any."""
+    if name is None:
+        (name,) = choices.choices(list(_WEIGHTS), list(_WEIGHTS.values()))
     operands = Operands(choices, FORMATS[name])
     if operands.form.writes_integer_bit and choices.random() < 0.1:
         word = random_bits(choices, operands.form)

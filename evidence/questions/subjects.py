@@ -19,9 +19,9 @@ from questions import (
 def each_drawn(question):
     """Questions without end, each drawn alone."""
 
-    def questions(choices):
+    def questions(choices, *name):
         while True:
-            yield question(choices)
+            yield question(choices, *name)
 
     return questions
 
@@ -39,6 +39,9 @@ SUBJECTS = {
 }
 
 
-def drawn(seed, count, subject):
-    """So many questions of a subject. The same words draw the same questions."""
-    return islice(SUBJECTS[subject](random.Random(seed)), count)
+def drawn(seed, count, subject, *name):
+    """So many questions of a subject, of the format of this name for products and roots.
+
+    The same words draw the same questions.
+    """
+    return islice(SUBJECTS[subject](random.Random(seed), *name), count)
