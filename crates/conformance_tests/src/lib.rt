@@ -16,6 +16,8 @@ mod constants;
 #[cfg(test)]
 mod example;
 #[cfg(test)]
+mod flags_at_ends;
+#[cfg(test)]
 mod fractions;
 #[cfg(test)]
 mod integral;
@@ -35,6 +37,8 @@ mod operators;
 mod pairs;
 #[cfg(test)]
 mod patterns;
+#[cfg(test)]
+mod roots;
 #[cfg(test)]
 mod small;
 #[cfg(test)]
