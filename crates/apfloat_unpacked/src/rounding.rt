@@ -498,8 +498,8 @@ fn round_cut(shape: Shape, cut: Cut, mode: Round, negative: bool) -> StatusAnd<U
     status.and(from_full_quanta(shape, negative, point.significand, point.place))
 }
 
-/// Delivers `significand * 2^exponent`, rounded once, where the significand has exactly `digits` digits. It is `deliver`
-/// with nothing lost, and faster where the count of digits is a constant.
+/// Delivers `significand * 2^exponent`, rounded once, where the significand has exactly `digits` digits. It is
+/// `deliver` with nothing lost, and faster where the count of digits is a constant.
 #[inline(always)]
 pub fn deliver_digits(
     shape: Shape,
