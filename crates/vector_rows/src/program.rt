@@ -41,32 +41,76 @@ pub fn run<R: Files + Clock + Input + AllocGlobal, W: Write, V: Write>(
 ) -> u8 {
     let words = match given {
         Ok(words) => words,
-        Err(error) => match error.kind() {
-            ErrorKind::OutOfMemory => return report("arguments", &Failure::Memory, err),
-            _ => return status_after(err.write_all(USAGE.as_bytes()), 2),
-        },
+        Err(error) => return refuse(error, err),
     };
-    let file = match words.as_slice() {
-        [] => None,
-        [word] => match word.as_str() {
-            "--help" | "-h" => {
-                return match out.write_all(HELP.as_bytes()) {
-                    Ok(()) => 0,
-                    Err(error) => report("help", &Failure::from(error), err),
-                };
-            }
-            "-" => None,
-            option if option.starts_with('-') => {
-                return status_after(err.write_all(USAGE.as_bytes()), 2);
-            }
-            name => Some(name),
-        },
-        [mark, name] if mark.as_str() == "--" => Some(name.as_str()),
-        _ => return status_after(err.write_all(USAGE.as_bytes()), 2),
-    };
-    let Some(name) = file else {
-        return check_reader(rt, "standard input", rt.reader(), out, err);
-    };
+    match job_of(words.as_slice()) {
+        Job::Input => check_reader(rt, "standard input", rt.reader(), out, err),
+        Job::File(name) => check_file(rt, name, out, err),
+        Job::Help => help(out, err),
+        Job::Unknown => usage(err),
+    }
+}
+
+/// What arguments ask for.
+enum Job<'a> {
+    /// To check the rows of standard input.
+    Input,
+    /// To check the rows of a file.
+    File(&'a str),
+    /// To write what the program is for.
+    Help,
+    /// Something that the program does not have.
+    Unknown,
+}
+
+/// What these arguments ask for.
+fn job_of(words: &[String]) -> Job<'_> {
+    match words {
+        [] => Job::Input,
+        [word] => job_of_word(word.as_str()),
+        [mark, name] if mark.as_str() == "--" => Job::File(name.as_str()),
+        _ => Job::Unknown,
+    }
+}
+
+/// What a single argument asks for.
+fn job_of_word(word: &str) -> Job<'_> {
+    match word {
+        "--help" | "-h" => Job::Help,
+        "-" => Job::Input,
+        option if option.starts_with('-') => Job::Unknown,
+        name => Job::File(name),
+    }
+}
+
+/// Reports arguments that could not be taken from the system. Returns the exit status.
+fn refuse<V: Write>(error: io::Error, err: &mut V) -> u8 {
+    match error.kind() {
+        ErrorKind::OutOfMemory => report("arguments", &Failure::Memory, err),
+        _ => usage(err),
+    }
+}
+
+/// Writes how the program is called. Returns the exit status for unknown arguments.
+fn usage<V: Write>(err: &mut V) -> u8 {
+    status_after(err.write_all(USAGE.as_bytes()), 2)
+}
+
+/// Writes what the program is for. Returns the exit status.
+fn help<W: Write, V: Write>(out: &mut W, err: &mut V) -> u8 {
+    match out.write_all(HELP.as_bytes()) {
+        Ok(()) => 0,
+        Err(error) => report("help", &Failure::from(error), err),
+    }
+}
+
+/// Checks the rows of a file. Returns the exit status.
+fn check_file<R: Files + Clock + AllocGlobal, W: Write, V: Write>(
+    rt: &R,
+    name: &str,
+    out: &mut W,
+    err: &mut V,
+) -> u8 {
     match fs::open(rt, name) {
         Ok(file) => check_reader(rt, name, file, out, err),
         Err(error) => report(name, &Failure::of_input("open", error), err),

@@ -53,16 +53,15 @@ pub enum Returned<F> {
     // A fraction, and its exponent.
     Fraction(F, ExpInt),
     // An integer, and whether it is exact.
-    Integer(StatusAnd<RowField>, RowField),
+    Integer(StatusAnd<ValueField>, ExtraField),
     // Something else without a status.
-    Field(RowField),
+    Field(ValueField),
     Refused(Text),
 }
 
-/// What is compared with one of the last three columns of a row.
+/// What is compared with the value of a row.
 #[derive(Clone, Copy)]
-pub enum RowField {
-    Nothing,
+pub enum ValueField {
     // The bits of a value, and how many there are.
     Bits(u128, usize),
     // A value of a format without bits: that of the row, or another one.
@@ -73,14 +72,26 @@ pub enum RowField {
     Truth(bool),
     Order(Option<Ordering>),
     Text(Text),
-    // In the column of flags; `Refused` is about a text.
+}
+
+/// What is compared with the flags of a row.
+#[derive(Clone, Copy)]
+pub enum StatusField {
+    Nothing,
     Flags(Status),
+    // Of a text.
     Refused,
-    // In the last column. A remainder takes that many steps, and at most that many.
+}
+
+/// What is compared with the last column of a row.
+#[derive(Clone, Copy)]
+pub enum ExtraField {
+    Nothing,
     IsSignaling(bool),
     IsExact(bool),
     LosesInfo(bool),
     Exponent(ExpInt),
+    // A remainder takes that many steps, and at most that many.
     Steps(u32, ExpInt),
 }
 
@@ -88,11 +99,11 @@ pub enum RowField {
 #[derive(Clone, Copy)]
 pub struct RowAnswer {
     /// The value.
-    pub value: RowField,
+    pub value: ValueField,
     /// The flags.
-    pub status: RowField,
+    pub status: StatusField,
     /// What else the call returns.
-    pub extra: RowField,
+    pub extra: ExtraField,
 }
 
 impl RowAnswer {
@@ -100,61 +111,66 @@ impl RowAnswer {
     pub fn of<F: Float + Debug>(returned: Returned<F>, row: CallRow<'_>) -> RowAnswer {
         match returned {
             Returned::Value(x) | Returned::Optional(Some(x)) => RowAnswer::told(field_of(x, row)),
-            Returned::Optional(None) => RowAnswer::told(RowField::Text(shown(None::<bool>))),
-            Returned::Rounded(StatusAnd { status, value }) => RowAnswer {
-                value: field_of(value, row),
-                status: RowField::Flags(status),
-                extra: RowField::IsSignaling(value.is_signaling()),
-            },
+            Returned::Optional(None) => RowAnswer::told(ValueField::Text(Text::of("None"))),
+            Returned::Rounded(answer) => rounded(answer, row),
             Returned::Fraction(x, exponent) => RowAnswer {
-                extra: RowField::Exponent(exponent),
-                ..RowAnswer::told(field_of(x, row))
+                value: field_of(x, row),
+                status: StatusField::Nothing,
+                extra: ExtraField::Exponent(exponent),
             },
-            Returned::Integer(StatusAnd { status, value }, extra) => RowAnswer {
-                value,
-                status: RowField::Flags(status),
+            Returned::Integer(answer, extra) => RowAnswer {
+                value: answer.value,
+                status: StatusField::Flags(answer.status),
                 extra,
             },
             Returned::Field(value) => RowAnswer::told(value),
             Returned::Refused(reason) => RowAnswer {
-                status: RowField::Refused,
-                ..RowAnswer::told(RowField::Text(reason))
+                value: ValueField::Text(reason),
+                status: StatusField::Refused,
+                extra: ExtraField::Nothing,
             },
         }
     }
 
     /// The columns for a result without a status.
-    pub fn told(value: RowField) -> RowAnswer {
+    pub fn told(value: ValueField) -> RowAnswer {
         RowAnswer {
             value,
-            status: RowField::Nothing,
-            extra: RowField::Nothing,
+            status: StatusField::Nothing,
+            extra: ExtraField::Nothing,
+        }
+    }
+
+    /// The same columns with another last one.
+    pub fn with(self, extra: ExtraField) -> RowAnswer {
+        RowAnswer {
+            value: self.value,
+            status: self.status,
+            extra,
         }
     }
 
     /// Whether a row has these columns; `-` in the last one agrees with anything.
     pub fn is_of<'a>(&self, row: CallRow<'a>) -> Result<bool, RowError<'a>> {
         let is_refusal = row.status == "ParseError";
-        let has_status = match self.status.is_named(row.status) {
-            _ if is_refusal => matches!(self.status, RowField::Refused),
-            named => named.ok_or(RowError::Word("no flags of the call", row.status))?,
+        let Some(has_status) = self.status.is_in_row(row.status) else {
+            return Err(RowError::Word("no flags of the call", row.status));
         };
-        let has_extra = match self.extra.is_named(row.extra) {
-            _ if row.extra == "-" => true,
-            named => named.ok_or(RowError::Word("nothing that the call answers", row.extra))?,
+        let Some(has_extra) = self.extra.is_in_row(row.extra) else {
+            return Err(RowError::Word("nothing that the call answers", row.extra));
         };
-        let has_value = match self.value.is_named(row.value) {
-            None if is_refusal => false,
-            named => named.ok_or(RowError::Word("no value of the call", row.value))?,
-        };
-        Ok(has_value && has_status && has_extra)
+        match self.value.is_named(row.value) {
+            Some(has_value) => Ok(has_value && has_status && has_extra),
+            None if is_refusal => Ok(false),
+            None => Err(RowError::Word("no value of the call", row.value)),
+        }
     }
 
     /// Writes the columns, the last one if the row has it.
     pub fn write<W: Write>(&self, row: CallRow<'_>, out: &mut W) -> io::Result<()> {
         self.value.write(row.value, out)?;
         out.write_all(b"\t")?;
-        self.status.write(row.status, out)?;
+        self.status.write(out)?;
         out.write_all(b"\t")?;
         if row.extra == "-" {
             return out.write_all(b"-");
@@ -163,17 +179,26 @@ impl RowAnswer {
     }
 }
 
+/// The columns for a value and a status.
+fn rounded<F: Float + Debug>(answer: StatusAnd<F>, row: CallRow<'_>) -> RowAnswer {
+    RowAnswer {
+        value: field_of(answer.value, row),
+        status: StatusField::Flags(answer.status),
+        extra: ExtraField::IsSignaling(answer.value.is_signaling()),
+    }
+}
+
 /// The field of a value: its canonical bits, if the format has bits.
-fn field_of<F: Float + Debug>(x: F, row: CallRow<'_>) -> RowField {
+fn field_of<F: Float + Debug>(x: F, row: CallRow<'_>) -> ValueField {
     if F::PRECISION < F::BITS {
-        return RowField::Bits(x.to_bits(), F::BITS);
+        return ValueField::Bits(x.to_bits(), F::BITS);
     }
     if is_quanta_of(x, row.value) {
-        return RowField::InRow;
+        return ValueField::InRow;
     }
     match text_of(x) {
-        Some(text) => RowField::Quanta(text),
-        None => RowField::Text(shown(x)),
+        Some(text) => ValueField::Quanta(text),
+        None => ValueField::Text(shown(x)),
     }
 }
 
@@ -184,73 +209,173 @@ pub fn shown<T: Debug + Copy>(x: T) -> Text {
     text
 }
 
-impl RowField {
-    /// What a word for this begins with.
-    fn label(&self) -> &'static str {
+impl ValueField {
+    /// Whether a word stands for this, or nothing if it cannot be compared with this.
+    fn is_named(&self, word: &str) -> Option<bool> {
         match self {
-            RowField::IsSignaling(_) => "is_signaling=",
-            RowField::IsExact(_) => "is_exact=",
-            RowField::LosesInfo(_) => "loses_info=",
-            RowField::Exponent(_) => "exponent=",
-            RowField::Steps(_, _) => "steps=",
-            _ => "",
+            ValueField::Bits(bits, width) => is_bits(*bits, *width, word),
+            ValueField::InRow => Some(true),
+            ValueField::Quanta(_) => is_other_quanta(word),
+            ValueField::Unsigned(number) => is_same(*number, number_of(word)),
+            ValueField::Signed(number) => is_signed(*number, word),
+            ValueField::Truth(holds) => is_truth(*holds, word),
+            ValueField::Order(order) => is_order(*order, word),
+            ValueField::Text(text) => Some(word.as_bytes() == text.as_bytes()),
         }
     }
 
-    /// Whether a word stands for this, or nothing if it cannot be compared with this.
-    fn is_named(&self, word: &str) -> Option<bool> {
-        let word = word.strip_prefix(self.label())?;
-        match *self {
-            RowField::Nothing => if word == "-" { Some(true) } else { None },
-            RowField::Bits(_, _) | RowField::Quanta(_) if word == "None" => Some(false),
-            RowField::Bits(bits, width) => Some(bits == bits_of(word, width)?),
-            RowField::InRow => Some(true),
-            RowField::Quanta(_) => parts_of(word).and(Some(false)),
-            RowField::Unsigned(number) => Some(number == number_of(word)?),
-            RowField::Signed(number) => Some(number == word.parse().ok()?),
-            RowField::Truth(holds)
-            | RowField::IsSignaling(holds)
-            | RowField::IsExact(holds)
-            | RowField::LosesInfo(holds) => Some(holds == word.parse().ok()?),
-            RowField::Order(order) => match word {
-                "None" | "Less" | "Equal" | "Greater" => Some(word == order_name(order)),
-                _ => None,
-            },
-            RowField::Text(text) => Some(word.as_bytes() == text.as_bytes()),
-            RowField::Refused if word == "-" => Some(false),
-            RowField::Refused => status_named(word).and(Some(false)),
-            RowField::Flags(status) => Some(status.bits() == status_named(word)?.bits()),
-            RowField::Exponent(exponent) => Some(exponent == word.parse().ok()?),
-            RowField::Steps(taken, bound) => are_steps(taken, bound, word),
+    /// Writes the word for this.
+    fn write<W: Write>(&self, in_row: &str, out: &mut W) -> io::Result<()> {
+        match self {
+            ValueField::Bits(bits, width) => write_bits(*bits, *width, out),
+            ValueField::InRow => out.write_all(in_row.as_bytes()),
+            ValueField::Unsigned(number) => write!(out, "{number}"),
+            ValueField::Signed(number) => write!(out, "{number}"),
+            ValueField::Truth(holds) => write!(out, "{holds}"),
+            ValueField::Order(order) => out.write_all(order_name(*order).as_bytes()),
+            ValueField::Quanta(text) | ValueField::Text(text) => out.write_all(text.as_bytes()),
+        }
+    }
+}
+
+/// Whether a word stands for these bits; an inverse that does not exist is `None`.
+fn is_bits(bits: u128, width: usize, word: &str) -> Option<bool> {
+    if word == "None" {
+        return Some(false);
+    }
+    is_same(bits, bits_of(word, width))
+}
+
+/// Whether a word stands for a count of quanta that is not that of the row.
+fn is_other_quanta(word: &str) -> Option<bool> {
+    if word == "None" || parts_of(word).is_some() {
+        Some(false)
+    } else {
+        None
+    }
+}
+
+/// Whether a stated number is this one.
+fn is_same(number: u128, stated: Option<u128>) -> Option<bool> {
+    match stated {
+        Some(stated) => Some(stated == number),
+        None => None,
+    }
+}
+
+/// Whether a word stands for this signed number.
+fn is_signed(number: i128, word: &str) -> Option<bool> {
+    match word.parse::<i128>() {
+        Ok(stated) => Some(stated == number),
+        Err(_) => None,
+    }
+}
+
+/// Whether a word stands for this truth value.
+fn is_truth(holds: bool, word: &str) -> Option<bool> {
+    match word {
+        "true" => Some(holds),
+        "false" => Some(!holds),
+        _ => None,
+    }
+}
+
+/// Whether a word stands for this order.
+fn is_order(order: Option<Ordering>, word: &str) -> Option<bool> {
+    match word {
+        "None" | "Less" | "Equal" | "Greater" => Some(word == order_name(order)),
+        _ => None,
+    }
+}
+
+/// Writes all hexadecimal digits of bits.
+fn write_bits<W: Write>(bits: u128, width: usize, out: &mut W) -> io::Result<()> {
+    let digits = width.div_ceil(4).max(1);
+    write!(out, "{bits:0digits$x}")
+}
+
+impl StatusField {
+    /// Whether the column of flags stands for this, or nothing if it cannot be compared with this.
+    fn is_in_row(&self, word: &str) -> Option<bool> {
+        let is_refused = matches!(self, StatusField::Refused);
+        if word == "ParseError" {
+            return Some(is_refused);
+        }
+        if word == "-" {
+            return match self {
+                StatusField::Nothing => Some(true),
+                StatusField::Refused => Some(false),
+                StatusField::Flags(_) => None,
+            };
+        }
+        match (self, status_named(word)) {
+            (StatusField::Nothing, _) | (_, None) => None,
+            (StatusField::Refused, Some(_)) => Some(false),
+            (StatusField::Flags(status), Some(stated)) => Some(status.bits() == stated.bits()),
+        }
+    }
+
+    /// Writes the word for this.
+    fn write<W: Write>(&self, out: &mut W) -> io::Result<()> {
+        match self {
+            StatusField::Nothing => out.write_all(b"-"),
+            StatusField::Refused => out.write_all(b"ParseError"),
+            StatusField::Flags(status) => write_status(*status, out),
+        }
+    }
+}
+
+impl ExtraField {
+    /// Whether the last column agrees with this, or nothing if it cannot be compared with this.
+    fn is_in_row(&self, word: &str) -> Option<bool> {
+        if word == "-" {
+            return Some(true);
+        }
+        let Some(word) = word.strip_prefix(self.label()) else {
+            return None;
+        };
+        match self {
+            ExtraField::Nothing => None,
+            ExtraField::IsSignaling(holds)
+            | ExtraField::IsExact(holds)
+            | ExtraField::LosesInfo(holds) => is_truth(*holds, word),
+            ExtraField::Exponent(exponent) => is_exponent(*exponent, word),
+            ExtraField::Steps(taken, bound) => are_steps(*taken, *bound, word),
+        }
+    }
+
+    /// What a word for this begins with.
+    fn label(&self) -> &'static str {
+        match self {
+            ExtraField::Nothing => "",
+            ExtraField::IsSignaling(_) => "is_signaling=",
+            ExtraField::IsExact(_) => "is_exact=",
+            ExtraField::LosesInfo(_) => "loses_info=",
+            ExtraField::Exponent(_) => "exponent=",
+            ExtraField::Steps(_, _) => "steps=",
         }
     }
 
     /// Writes the word for this, with as much as the row has.
     fn write<W: Write>(&self, in_row: &str, out: &mut W) -> io::Result<()> {
         out.write_all(self.label().as_bytes())?;
-        match *self {
-            RowField::Nothing => out.write_all(b"-"),
-            RowField::Bits(bits, width) => {
-                let digits = width.div_ceil(4).max(1);
-                write!(out, "{bits:0digits$x}")
-            }
-            RowField::InRow => out.write_all(in_row.as_bytes()),
-            RowField::Unsigned(number) => write!(out, "{number}"),
-            RowField::Signed(number) => write!(out, "{number}"),
-            RowField::Truth(holds)
-            | RowField::IsSignaling(holds)
-            | RowField::IsExact(holds)
-            | RowField::LosesInfo(holds) => write!(out, "{holds}"),
-            RowField::Order(order) => out.write_all(order_name(order).as_bytes()),
-            RowField::Quanta(text) | RowField::Text(text) => out.write_all(text.as_bytes()),
-            RowField::Refused => out.write_all(b"ParseError"),
-            RowField::Flags(status) => write_status(status, out),
-            RowField::Exponent(exponent) => write!(out, "{exponent}"),
-            RowField::Steps(taken, bound) if in_row.contains(' ') => {
-                write!(out, "{taken} bound={bound}")
-            }
-            RowField::Steps(taken, _) => write!(out, "{taken}"),
+        match self {
+            ExtraField::Nothing => out.write_all(b"-"),
+            ExtraField::IsSignaling(holds)
+            | ExtraField::IsExact(holds)
+            | ExtraField::LosesInfo(holds) => write!(out, "{holds}"),
+            ExtraField::Exponent(exponent) => write!(out, "{exponent}"),
+            ExtraField::Steps(taken, bound) => write_steps(*taken, *bound, in_row, out),
         }
+    }
+}
+
+/// Writes how many steps a remainder takes, and the bound if the row has it.
+fn write_steps<W: Write>(taken: u32, bound: ExpInt, in_row: &str, out: &mut W) -> io::Result<()> {
+    if in_row.contains(' ') {
+        write!(out, "{taken} bound={bound}")
+    } else {
+        write!(out, "{taken}")
     }
 }
 
@@ -264,14 +389,32 @@ fn order_name(order: Option<Ordering>) -> &'static str {
     }
 }
 
+/// Whether a word stands for this exponent.
+fn is_exponent(exponent: ExpInt, word: &str) -> Option<bool> {
+    match word.parse::<ExpInt>() {
+        Ok(stated) => Some(stated == exponent),
+        Err(_) => None,
+    }
+}
+
 /// Whether a remainder takes the stated number of steps, and no more than the stated bound, if there is one.
 fn are_steps(taken: u32, bound: ExpInt, stated: &str) -> Option<bool> {
     let Some((steps, stated)) = stated.split_once(" bound=") else {
-        return Some(taken == stated.parse().ok()?);
+        return is_count(taken, stated);
     };
-    let is_stated = bound == stated.parse().ok()?;
     let is_within = i64::from(taken) <= i64::from(bound);
-    Some(taken == steps.parse().ok()? && is_stated && is_within)
+    match (is_exponent(bound, stated), is_count(taken, steps)) {
+        (Some(is_bound), Some(is_taken)) => Some(is_taken && is_bound && is_within),
+        _ => None,
+    }
+}
+
+/// Whether a word stands for this count.
+fn is_count(count: u32, word: &str) -> Option<bool> {
+    match word.parse::<u32>() {
+        Ok(stated) => Some(stated == count),
+        Err(_) => None,
+    }
 }
 
 /// The status of this word: `OK`, or the names of flags, joined by bars in the order of their bits.
@@ -281,7 +424,9 @@ pub fn status_named(word: &str) -> Option<Status> {
         return Some(status);
     }
     for name in word.split('|') {
-        let flag = Status::from_name(name)?;
+        let Some(flag) = Status::from_name(name) else {
+            return None;
+        };
         if flag.bits() <= status.bits() {
             return None;
         }

@@ -5,20 +5,17 @@ ghost use Rattle.rustc_apfloat.specs.PairParts.{CanComparePairMagnitudes};
 
 use crate::call_row::CallRow;
 use crate::calls::RowRequest;
-use crate::calls::answer::{Returned, RowAnswer, RowField};
+use crate::calls::answer::{ExtraField, Returned, RowAnswer, ValueField};
 use crate::calls::call::{Call, ConversionCall, OneTypeCall};
-use crate::calls::of_type::{of_type, two_values, value_of};
+use crate::calls::of_type::{Answered, of_type, two_values, value_of};
 use crate::calls::row_format::{CallInFormat, RowFormat};
 use crate::failure::RowError;
-use rustc_apfloat::ieee::{Double, IeeeFloat, Semantics};
+use rustc_apfloat::ieee::{Double, Flagged, IeeeFloat};
 use rustc_apfloat::ppc::{DoubleDouble, FallbackS};
 use rustc_apfloat::{Category, FUSED_LIMIT, Float, FloatConvert, Round, StatusAnd};
 use std::cmp::Ordering;
 use std::fmt::Debug;
 use std::marker::PhantomData;
-
-/// What the call of a row returns, or what is wrong with the row.
-type Answered<'a> = Result<RowAnswer, RowError<'a>>;
 
 /// What the call of a row returns in its format.
 pub fn answered(request: RowRequest<'_>) -> Answered<'_> {
@@ -31,7 +28,8 @@ pub fn answered(request: RowRequest<'_>) -> Answered<'_> {
         None => (row.format, None),
     };
     match formats_named(source, target) {
-        Some((source, target)) => source.run(FromFormat { target, request }),
+        Some((format, None)) => format.run(InOneFormat(request)),
+        Some((source, Some(target))) => source.run_plain(FromFormat { target, request }),
         None => Err(RowError::Word("no format", row.format)),
     }
 }
@@ -45,25 +43,33 @@ fn formats_named(source: &str, target: Option<&str>) -> Option<(RowFormat, Optio
     Some((RowFormat::named(source)?, target))
 }
 
-/// A call in one format, or a conversion from it to another one.
+/// A call in one format.
+#[derive(Drop)]
+struct InOneFormat<'a>(RowRequest<'a>);
+
+impl<'a> CallInFormat for InOneFormat<'a> {
+    type Output = Answered<'a>;
+
+    fn made_in<S: Flagged>(self) -> Answered<'a> {
+        of_format::<S>(self.0)
+    }
+}
+
+/// A conversion from one format to another.
 #[derive(Drop)]
 struct FromFormat<'a> {
-    target: Option<RowFormat>,
+    target: RowFormat,
     request: RowRequest<'a>,
 }
 
 impl<'a> CallInFormat for FromFormat<'a> {
     type Output = Answered<'a>;
 
-    fn made_in<S: Semantics>(self) -> Answered<'a> {
-        let FromFormat { target, request } = self;
-        match target {
-            None => of_format::<S>(request),
-            Some(target) => target.run(ToFormat {
-                source: PhantomData::<S>,
-                request,
-            }),
-        }
+    fn made_in<S: Flagged>(self) -> Answered<'a> {
+        self.target.run(ToFormat {
+            source: PhantomData::<S>,
+            request: self.request,
+        })
     }
 }
 
@@ -74,16 +80,16 @@ struct ToFormat<'a, S> {
     request: RowRequest<'a>,
 }
 
-impl<'a, S: Semantics> CallInFormat for ToFormat<'a, S> {
+impl<'a, S: Flagged> CallInFormat for ToFormat<'a, S> {
     type Output = Answered<'a>;
 
-    fn made_in<T: Semantics>(self) -> Answered<'a> {
+    fn made_in<T: Flagged>(self) -> Answered<'a> {
         converted::<S, T>(self.request)
     }
 }
 
 /// What a call returns in a format.
-fn of_format<S: Semantics>(request: RowRequest<'_>) -> Answered<'_> {
+fn of_format<S: Flagged>(request: RowRequest<'_>) -> Answered<'_> {
     let RowRequest { row, call, round } = request;
     match call {
         Call::OfOneType(OneTypeCall::Sqrt) => square_root::<S>(row, None),
@@ -98,32 +104,58 @@ fn of_format<S: Semantics>(request: RowRequest<'_>) -> Answered<'_> {
     }
 }
 
+/// The value that an operand stands for.
+fn value_in<S: Flagged>(word: &str) -> Result<IeeeFloat<S>, RowError<'_>> {
+    value_of(word)
+}
+
+/// The columns for a value and its flags.
+fn rounded_in<S: Flagged>(answer: StatusAnd<IeeeFloat<S>>, row: CallRow<'_>) -> RowAnswer {
+    RowAnswer::of(Returned::Rounded(answer), row)
+}
+
+/// The values of two operands.
+fn two_in<S: Flagged>(row: CallRow<'_>) -> Result<(IeeeFloat<S>, IeeeFloat<S>), RowError<'_>> {
+    let (first, second) = row.cut_operand()?;
+    Ok((value_in(first)?, value_in(second)?))
+}
+
+/// The values of three operands.
+fn three_in<S: Flagged>(
+    row: CallRow<'_>,
+) -> Result<(IeeeFloat<S>, IeeeFloat<S>, IeeeFloat<S>), RowError<'_>> {
+    let (first, others) = row.cut_operand()?;
+    let Some((second, third)) = others.split_once(' ') else {
+        return Err(row.operand_error());
+    };
+    Ok((value_in(first)?, value_in(second)?, value_in(third)?))
+}
+
 /// A square root, in the mode if there is one.
-fn square_root<S: Semantics>(row: CallRow<'_>, mode: Option<Round>) -> Answered<'_> {
-    let x = value_of::<IeeeFloat<S>>(row.operands)?;
+fn square_root<S: Flagged>(row: CallRow<'_>, mode: Option<Round>) -> Answered<'_> {
+    let x = value_in::<S>(row.operands)?;
     let answer = match mode {
         None => x.sqrt(),
         Some(round) => x.sqrt_r(round),
     };
-    Ok(RowAnswer::of(Returned::Rounded(answer), row))
+    Ok(rounded_in(answer, row))
 }
 
 /// A product in a format of any precision.
-fn wide_product<S: Semantics>(row: CallRow<'_>, round: Round) -> Answered<'_> {
-    let (x, y) = two_values::<IeeeFloat<S>>(row)?;
-    Ok(RowAnswer::of(Returned::Rounded(x.wide_mul_r(y, round)), row))
+fn wide_product<S: Flagged>(row: CallRow<'_>, round: Round) -> Answered<'_> {
+    let (x, y) = two_in::<S>(row)?;
+    Ok(rounded_in(x.wide_mul_r(y, round), row))
 }
 
 /// A product plus a third value, rounded once, in a format of any precision.
-fn wide_fused_sum<S: Semantics>(row: CallRow<'_>, round: Round) -> Answered<'_> {
-    let (x, y, z) = three_values::<S>(row)?;
-    let answer = x.wide_mul_add_r(y, z, round);
-    Ok(RowAnswer::of(Returned::Rounded(answer), row))
+fn wide_fused_sum<S: Flagged>(row: CallRow<'_>, round: Round) -> Answered<'_> {
+    let (x, y, z) = three_in::<S>(row)?;
+    Ok(rounded_in(x.wide_mul_add_r(y, z, round), row))
 }
 
 /// A product plus a third value, rounded once, in the mode if there is one.
-fn fused_sum<S: Semantics>(row: CallRow<'_>, mode: Option<Round>) -> Answered<'_> {
-    let (x, y, z) = three_values::<S>(row)?;
+fn fused_sum<S: Flagged>(row: CallRow<'_>, mode: Option<Round>) -> Answered<'_> {
+    let (x, y, z) = three_in::<S>(row)?;
     if S::PRECISION > FUSED_LIMIT {
         return Err(row.support_error());
     }
@@ -131,58 +163,45 @@ fn fused_sum<S: Semantics>(row: CallRow<'_>, mode: Option<Round>) -> Answered<'_
         None => x.mul_add(y, z),
         Some(round) => x.mul_add_r(y, z, round),
     };
-    Ok(RowAnswer::of(Returned::Rounded(answer), row))
-}
-
-/// The values of three operands.
-fn three_values<S: Semantics>(
-    row: CallRow<'_>,
-) -> Result<(IeeeFloat<S>, IeeeFloat<S>, IeeeFloat<S>), RowError<'_>> {
-    let (first, others) = row.cut_operand()?;
-    let (second, third) = others.split_once(' ').ok_or(row.operand_error())?;
-    Ok((value_of(first)?, value_of(second)?, value_of(third)?))
+    Ok(rounded_in(answer, row))
 }
 
 /// A remainder, with the steps that it takes and how many they are at most.
-fn remainder_steps<S: Semantics>(row: CallRow<'_>) -> Answered<'_> {
-    let (x, y) = two_values::<IeeeFloat<S>>(row)?;
+fn remainder_steps<S: Flagged>(row: CallRow<'_>) -> Answered<'_> {
+    let (x, y) = two_in::<S>(row)?;
     let (answer, taken) = x.c_fmod_steps(y);
     let bound = x.ilogb().saturating_sub(y.ilogb()).saturating_add(1).max(0);
-    Ok(RowAnswer {
-        extra: RowField::Steps(taken, bound),
-        ..RowAnswer::of(Returned::Rounded(answer), row)
-    })
+    let columns = rounded_in(answer, row);
+    Ok(columns.with(ExtraField::Steps(taken, bound)))
 }
 
 /// The order of two magnitudes.
-fn order_of_magnitudes<S: Semantics>(row: CallRow<'_>) -> Answered<'_> {
-    let (x, y) = two_values::<IeeeFloat<S>>(row)?;
+fn order_of_magnitudes<S: Flagged>(row: CallRow<'_>) -> Answered<'_> {
+    let (x, y) = two_in::<S>(row)?;
     match (x.category(), y.category()) {
         (Category::Normal, Category::Normal) => {
             let order = x.cmp_abs_normal(y);
-            Ok(RowAnswer::told(RowField::Order(Some(order))))
+            Ok(RowAnswer::told(ValueField::Order(Some(order))))
         }
         _ => Err(row.support_error()),
     }
 }
 
 /// A value converted to another format, and whether that loses information.
-fn converted<S: Semantics, T: Semantics>(request: RowRequest<'_>) -> Answered<'_> {
+fn converted<S: Flagged, T: Flagged>(request: RowRequest<'_>) -> Answered<'_> {
     let RowRequest { row, call, round } = request;
-    let mut loses_info = false;
-    let answer: StatusAnd<IeeeFloat<T>> = match call {
-        Call::Conversion(ConversionCall::Convert) => {
-            value_of::<IeeeFloat<S>>(row.operands)?.convert(&mut loses_info)
-        }
-        Call::Conversion(ConversionCall::ConvertR) => {
-            value_of::<IeeeFloat<S>>(row.operands)?.convert_r(round, &mut loses_info)
-        }
+    let mode = match call {
+        Call::Conversion(ConversionCall::Convert) => None,
+        Call::Conversion(ConversionCall::ConvertR) => Some(round),
         _ => return Err(row.support_error()),
     };
-    Ok(RowAnswer {
-        extra: RowField::LosesInfo(loses_info),
-        ..RowAnswer::of(Returned::Rounded(answer), row)
-    })
+    let x = value_in::<S>(row.operands)?;
+    let mut loses_info = false;
+    let answer: StatusAnd<IeeeFloat<T>> = match mode {
+        None => x.convert(&mut loses_info),
+        Some(round) => x.convert_r(round, &mut loses_info),
+    };
+    Ok(rounded_in(answer, row).with(ExtraField::LosesInfo(loses_info)))
 }
 
 /// A pair as a wide value, or a wide value as a pair.
@@ -222,7 +241,7 @@ fn order_of_pair_magnitudes(row: CallRow<'_>) -> Answered<'_> {
     if !can_compare_magnitudes(x, y) {
         return Err(row.support_error());
     }
-    Ok(RowAnswer::told(RowField::Order(Some(x.cmp_abs_normal(y)))))
+    Ok(RowAnswer::told(ValueField::Order(Some(x.cmp_abs_normal(y)))))
 }
 
 /// Whether the high parts are nonzero numbers, and the low parts too if the magnitudes of the high ones are equal.

@@ -27,91 +27,188 @@ pub enum Magnitude {
 
 /// The value that a word stands for.
 pub fn value_of<F: Float>(word: &str) -> Option<F> {
-    let (is_negative, magnitude) = parts_of(word)?;
-    let x = magnitude.value::<F>()?;
+    let Some((is_negative, magnitude)) = parts_of(word) else {
+        return None;
+    };
+    let Some(x) = magnitude.value::<F>() else {
+        return None;
+    };
     let x = if is_negative { -x } else { x };
     if is_quanta_of(x, word) { Some(x) } else { None }
 }
 
 /// Whether a word stands for this value.
 pub fn is_quanta_of<F: Float>(x: F, word: &str) -> bool {
-    let Some((is_negative, magnitude)) = parts_of(word) else {
-        return false;
-    };
-    x.is_negative() == is_negative && magnitude.is_of(x.abs()) == Some(true)
+    match parts_of(word) {
+        Some((is_negative, magnitude)) => {
+            x.is_negative() == is_negative && magnitude.is_of(x.abs())
+        }
+        None => false,
+    }
 }
 
 /// The sign and the magnitude of a word, if it has the form of a value.
 pub fn parts_of(word: &str) -> Option<(bool, Magnitude)> {
-    match word.strip_prefix('-') {
-        Some(magnitude) => Some((true, Magnitude::named(magnitude)?)),
-        None => Some((false, Magnitude::named(word.strip_prefix('+')?)?)),
+    if let Some(magnitude) = word.strip_prefix('-') {
+        return signed(true, Magnitude::named(magnitude));
+    }
+    match word.strip_prefix('+') {
+        Some(magnitude) => signed(false, Magnitude::named(magnitude)),
+        None => None,
+    }
+}
+
+/// A sign with a magnitude, if there is one.
+fn signed(is_negative: bool, magnitude: Option<Magnitude>) -> Option<(bool, Magnitude)> {
+    match magnitude {
+        Some(magnitude) => Some((is_negative, magnitude)),
+        None => None,
     }
 }
 
 /// The word for a value other than a NaN.
 pub fn text_of<F: Float>(x: F) -> Option<Text> {
     let sign = if x.is_negative() { "-" } else { "+" };
-    let mut text = Text::of("");
-    let written = match x.category() {
-        Category::NaN => return None,
-        Category::Infinity => write!(text, "{sign}inf"),
-        Category::Zero => write!(text, "{sign}0q"),
-        Category::Normal => {
-            let power = x.ilogb().checked_sub(F::MIN_EXP)?.max(0);
-            let exponent = exponent_of::<F>(power)?.checked_neg()?;
-            let number = x.abs().scalbn(exponent).to_u128(128).value;
-            let (number, power) = odd_count(number, power)?;
-            match short(number, power) {
-                Some(short) => write!(text, "{sign}{short}q"),
-                None => write!(text, "{sign}{number}*2^{power}q"),
-            }
-        }
+    match x.category() {
+        Category::NaN => None,
+        Category::Infinity => joined(sign, "inf"),
+        Category::Zero => joined(sign, "0q"),
+        Category::Normal => match count_of(x) {
+            Some((number, power)) => text_of_count(sign, number, power),
+            None => None,
+        },
+    }
+}
+
+/// A sign, and the rest of a word.
+fn joined(sign: &str, magnitude: &str) -> Option<Text> {
+    let mut text = Text::of(sign);
+    match text.write_str(magnitude) {
+        Ok(()) => Some(text),
+        Err(_) => None,
+    }
+}
+
+/// The word for a count of quanta.
+fn text_of_count(sign: &str, number: u128, power: ExpInt) -> Option<Text> {
+    let mut text = Text::of(sign);
+    let written = match short(number, power) {
+        Some(short) => write!(text, "{short}q"),
+        None => write!(text, "{number}*2^{power}q"),
     };
-    written.ok()?;
-    Some(text)
+    match written {
+        Ok(()) => Some(text),
+        Err(_) => None,
+    }
 }
 
 /// A count as one number, if it is below 2^63.
 fn short(number: u128, power: ExpInt) -> Option<i64> {
-    let factor = 2i64.checked_pow(u32::try_from(power).ok()?)?;
-    i64::try_from(number).ok()?.checked_mul(factor)
+    let Ok(number) = i64::try_from(number) else {
+        return None;
+    };
+    let Ok(power) = u32::try_from(power) else {
+        return None;
+    };
+    match 2i64.checked_pow(power) {
+        Some(factor) => number.checked_mul(factor),
+        None => None,
+    }
 }
 
-/// The exponent of `2^power` quanta.
-fn exponent_of<F: Float>(power: ExpInt) -> Option<ExpInt> {
-    let digits = ExpInt::try_from(F::PRECISION).ok()?;
-    let of_quantum = F::MIN_EXP.checked_sub(digits)?.checked_add(1)?;
-    of_quantum.checked_add(power)
+/// The count of quanta of a nonzero number.
+fn count_of<F: Float>(x: F) -> Option<(u128, ExpInt)> {
+    let power = x.ilogb().saturating_sub(F::MIN_EXP).max(0);
+    match exponent_to_count(F::PRECISION, F::MIN_EXP, power) {
+        Some(exponent) => odd_count(x.abs().scalbn(exponent).to_u128(128).value, power),
+        None => None,
+    }
+}
+
+/// The exponent of `2^power` quanta of a format with this precision and this least exponent.
+fn exponent_of(precision: usize, min_exp: ExpInt, power: ExpInt) -> Option<ExpInt> {
+    let Ok(digits) = ExpInt::try_from(precision) else {
+        return None;
+    };
+    match ExpInt::try_from(i64::from(min_exp) - i64::from(digits) + 1 + i64::from(power)) {
+        Ok(exponent) => Some(exponent),
+        Err(_) => None,
+    }
+}
+
+/// The exponent that makes 1 of `2^power` quanta of such a format.
+fn exponent_to_count(precision: usize, min_exp: ExpInt, power: ExpInt) -> Option<ExpInt> {
+    match exponent_of(precision, min_exp, power) {
+        Some(exponent) => exponent.checked_neg(),
+        None => None,
+    }
 }
 
 /// A nonzero integer times a power of two, with the integer odd.
 fn odd_count(number: u128, power: ExpInt) -> Option<(u128, ExpInt)> {
     let zeros = number.trailing_zeros();
-    let power = power.checked_add(ExpInt::try_from(zeros).ok()?)?;
-    Some((number.checked_shr(zeros)?, power))
+    let Ok(added) = ExpInt::try_from(zeros) else {
+        return None;
+    };
+    match (number.checked_shr(zeros), power.checked_add(added)) {
+        (Some(number), Some(power)) => Some((number, power)),
+        _ => None,
+    }
 }
 
 impl Magnitude {
     /// The magnitude of a word without its sign.
     fn named(word: &str) -> Option<Magnitude> {
         if word == "inf" {
-            Some(Magnitude::Infinity)
-        } else if let Some(digits) = word.strip_prefix("nan:") {
-            Some(Magnitude::Quiet(bits_of(digits, 128)?))
-        } else if let Some(digits) = word.strip_prefix("snan:") {
-            Some(Magnitude::Signaling(bits_of(digits, 128)?))
-        } else {
-            let count = word.strip_suffix('q')?;
-            let (number, power) = match count.split_once("*2^") {
-                None => (number_of(count)?, 0),
-                Some((factor, power)) => (number_of(factor)?, power.parse().ok()?),
-            };
-            if number == 0 {
-                return Some(Magnitude::Zero);
-            }
-            let (number, power) = odd_count(number, power)?;
-            Some(Magnitude::Count(number, power))
+            return Some(Magnitude::Infinity);
+        }
+        if let Some(digits) = word.strip_prefix("nan:") {
+            return Magnitude::quiet(bits_of(digits, 128));
+        }
+        if let Some(digits) = word.strip_prefix("snan:") {
+            return Magnitude::signaling(bits_of(digits, 128));
+        }
+        match word.strip_suffix('q') {
+            Some(count) => Magnitude::counted(count),
+            None => None,
+        }
+    }
+
+    /// The quiet NaN with a payload, if there is one.
+    fn quiet(payload: Option<u128>) -> Option<Magnitude> {
+        match payload {
+            Some(payload) => Some(Magnitude::Quiet(payload)),
+            None => None,
+        }
+    }
+
+    /// The signaling NaN with a payload, if there is one.
+    fn signaling(payload: Option<u128>) -> Option<Magnitude> {
+        match payload {
+            Some(payload) => Some(Magnitude::Signaling(payload)),
+            None => None,
+        }
+    }
+
+    /// The magnitude of a count of quanta.
+    fn counted(count: &str) -> Option<Magnitude> {
+        match count.split_once("*2^") {
+            None => Magnitude::of_count(number_of(count), Some(0)),
+            Some((factor, power)) => Magnitude::of_count(number_of(factor), exponent_named(power)),
+        }
+    }
+
+    /// The magnitude of a number times a power of two, if there are both.
+    fn of_count(number: Option<u128>, power: Option<ExpInt>) -> Option<Magnitude> {
+        let (Some(number), Some(power)) = (number, power) else {
+            return None;
+        };
+        if number == 0 {
+            return Some(Magnitude::Zero);
+        }
+        match odd_count(number, power) {
+            Some((number, power)) => Some(Magnitude::Count(number, power)),
+            None => None,
         }
     }
 
@@ -122,25 +219,44 @@ impl Magnitude {
             Magnitude::Quiet(payload) => Some(F::qnan(Some(payload))),
             Magnitude::Signaling(payload) => Some(F::snan(Some(payload))),
             Magnitude::Zero => Some(F::zero()),
-            Magnitude::Count(number, power) => {
-                Some(F::from_u128(number).value.scalbn(exponent_of::<F>(power)?))
-            }
+            Magnitude::Count(number, power) => counted(number, power),
         }
     }
 
     /// Whether a value with a positive sign has this magnitude.
-    fn is_of<F: Float>(self, x: F) -> Option<bool> {
+    fn is_of<F: Float>(self, x: F) -> bool {
         match self {
-            Magnitude::Infinity => Some(x.is_infinite()),
-            Magnitude::Quiet(payload) => Some(x.bitwise_eq(F::qnan(Some(payload)))),
-            Magnitude::Signaling(payload) => Some(x.bitwise_eq(F::snan(Some(payload)))),
-            Magnitude::Zero => Some(x.is_zero()),
-            Magnitude::Count(number, power) => {
-                let exponent = exponent_of::<F>(power)?.checked_neg()?;
-                let integer = x.scalbn(exponent).to_u128(128);
-                let is_exact = integer.status.is_empty() && integer.value == number;
-                Some(x.is_finite_non_zero() && is_exact)
-            }
+            Magnitude::Infinity => x.is_infinite(),
+            Magnitude::Quiet(payload) => x.bitwise_eq(F::qnan(Some(payload))),
+            Magnitude::Signaling(payload) => x.bitwise_eq(F::snan(Some(payload))),
+            Magnitude::Zero => x.is_zero(),
+            Magnitude::Count(number, power) => x.is_finite_non_zero()
+                && has_count(x, number, power),
         }
+    }
+}
+
+/// The value of a count of quanta, rounded.
+fn counted<F: Float>(number: u128, power: ExpInt) -> Option<F> {
+    match exponent_of(F::PRECISION, F::MIN_EXP, power) {
+        Some(exponent) => Some(F::from_u128(number).value.scalbn(exponent)),
+        None => None,
+    }
+}
+
+/// Whether a number is this count of quanta.
+fn has_count<F: Float>(x: F, number: u128, power: ExpInt) -> bool {
+    let Some(exponent) = exponent_to_count(F::PRECISION, F::MIN_EXP, power) else {
+        return false;
+    };
+    let integer = x.scalbn(exponent).to_u128(128);
+    integer.status.is_empty() && integer.value == number
+}
+
+/// The exponent that a word stands for.
+fn exponent_named(word: &str) -> Option<ExpInt> {
+    match word.parse() {
+        Ok(exponent) => Some(exponent),
+        Err(_) => None,
     }
 }

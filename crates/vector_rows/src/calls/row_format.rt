@@ -6,16 +6,16 @@ use custom_formats::{
     WrittenBitS,
 };
 use dispatch::{BuiltInFormat, BuiltInKind, InFormat};
-use rustc_apfloat::ieee::Semantics;
+use rustc_apfloat::ieee::{Flagged, IeeeFlags, Semantics, TinyBefore};
 use rustc_apfloat::ppc::{FallbackExtendedS, FallbackS};
 
-/// A call that can be made in every format, with bits or without.
+/// A call that can be made in every format, with bits or without, whatever flags its roundings raise.
 pub trait CallInFormat {
     /// What it returns.
     type Output;
 
     /// Makes the call in the format `S`.
-    fn made_in<S: Semantics>(self) -> Self::Output;
+    fn made_in<S: Flagged>(self) -> Self::Output;
 }
 
 /// A call that is made in a format with bits.
@@ -30,13 +30,43 @@ impl<C: CallInFormat> InFormat for WithBits<C> {
     }
 }
 
+/// A call that is made in a format with bits, whose roundings raise flags by a rule.
+#[derive(Drop)]
+struct ByRule<C> {
+    rule: FlagRule,
+    call: C,
+}
+
+impl<C: CallInFormat> InFormat for ByRule<C> {
+    type Output = C::Output;
+
+    fn in_format<S: Semantics>(self) -> C::Output {
+        match self.rule {
+            FlagRule::BuiltIn => self.call.made_in::<S>(),
+            FlagRule::Ieee => self.call.made_in::<IeeeFlags<S>>(),
+            FlagRule::IeeeBefore => self.call.made_in::<IeeeFlags<TinyBefore<S>>>(),
+        }
+    }
+}
+
 /// A format that rows can name.
 #[derive(Clone, Copy)]
 pub enum RowFormat {
-    /// A built-in format with bits.
-    BuiltIn(BuiltInFormat),
+    /// A built-in format with bits, and the rule of its flags.
+    BuiltIn(BuiltInFormat, FlagRule),
     /// One of the others.
     Other(OtherFormat),
+}
+
+/// The rule by which roundings raise OVERFLOW and UNDERFLOW.
+#[derive(Clone, Copy)]
+pub enum FlagRule {
+    /// That of the built-in formats.
+    BuiltIn,
+    /// That of IEEE 754-2008, with tininess detected after rounding.
+    Ieee,
+    /// That of IEEE 754-2008, with tininess detected before rounding.
+    IeeeBefore,
 }
 
 /// A format that is not built in, or has no bits.
@@ -77,14 +107,34 @@ impl RowFormat {
         if let Some(format) = found(OTHER_FORMATS, word) {
             return Some(RowFormat::Other(format));
         }
-        let format = BuiltInKind::named(word)?.format()?;
-        Some(RowFormat::BuiltIn(format))
+        let (name, rule) = match word.split_once('+') {
+            None => (word, FlagRule::BuiltIn),
+            Some((name, "ieee")) => (name, FlagRule::Ieee),
+            Some((name, "ieee+before")) => (name, FlagRule::IeeeBefore),
+            Some(_) => return None,
+        };
+        let format = BuiltInKind::named(name)?.format()?;
+        match (format, rule) {
+            (_, FlagRule::BuiltIn) => {}
+            // Only formats with infinities have the flags of IEEE 754.
+            (BuiltInFormat::E4M3FN | BuiltInFormat::E4M3FNUZ, _) => return None,
+            _ => {}
+        }
+        Some(RowFormat::BuiltIn(format, rule))
+    }
+
+    /// Makes a call that raises no flags in the format.
+    pub fn run_plain<C: CallInFormat + Drop>(self, call: C) -> C::Output {
+        match self {
+            RowFormat::BuiltIn(format, _) => format.run(WithBits(call)),
+            RowFormat::Other(format) => format.run(call),
+        }
     }
 
     /// Makes a call in the format.
     pub fn run<C: CallInFormat + Drop>(self, call: C) -> C::Output {
         match self {
-            RowFormat::BuiltIn(format) => format.run(WithBits(call)),
+            RowFormat::BuiltIn(format, rule) => format.run(ByRule { rule, call }),
             RowFormat::Other(format) => format.run(call),
         }
     }
