@@ -1,4 +1,5 @@
 pub mod Clamped
+pub mod Cutting
 pub mod DecimalPowers
 pub mod Quotients
 pub mod Readings

@@ -2,7 +2,7 @@
 //!
 //! `from_decimal` gives the value of a `Decimal`, rounded once, in any format whose exponents are within those of
 //! `Quad`. Below it are large whole numbers in words on the stack (`large`): multiples, sums, differences and
-//! comparisons of numbers of up to 13312 binary digits; their quotients (`quotient`), cut to 127 or 128 digits, with
+//! comparisons of numbers of up to 40960 binary digits; their quotients (`quotient`), cut to 127 or 128 digits, with
 //! what was cut off; and decimals as such quotients (`reading`).
 #![tactic(auto)]
 
