@@ -1,3 +1,5 @@
+pub mod DecimalTexts
 pub mod Decimals
+pub mod LeadingDigits
 pub mod Reach
 pub mod Words

@@ -10,5 +10,6 @@ mod decimal;
 mod large;
 mod quotient;
 mod reading;
+mod texts;
 
 pub use decimal::{Decimal, built_in_formats, from_decimal};
