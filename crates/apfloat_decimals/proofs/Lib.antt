@@ -2,7 +2,9 @@ pub mod Clamped
 pub mod CutNumbers
 pub mod Cutting
 pub mod DecimalPowers
+pub mod FarTexts
 pub mod LeadingNumbers
 pub mod Quotients
 pub mod Readings
+pub mod SpelledTexts
 pub mod Values

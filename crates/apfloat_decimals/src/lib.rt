@@ -13,3 +13,4 @@ mod reading;
 mod texts;
 
 pub use decimal::{Decimal, built_in_formats, from_decimal};
+pub use texts::read_decimal;

@@ -1,8 +1,8 @@
 //! The parts of a decimal text.
 
-ghost use Rattle.std.specs.Prelude.{◌≡◌, ℕ, ◌+◌, ◌*◌, ◌<◌, pos, ◌-ℤ◌, ℤ, drop, IsTrue, Some, None, MatchResult};
+ghost use Rattle.std.specs.Prelude.{◌≡◌, ℕ, ◌+◌, ◌*◌, ◌<◌, pos, ◌-ℤ◌, ℤ, drop, ◌++◌, not, ◌&&◌, IsTrue, Some, None, MatchResult};
 ghost use Rattle.apfloat_base.specs.rounding.Bounds.{IsWithin};
-ghost use Rattle.apfloat_base.specs.texts.Digits.{run, behind_run, is_decimal, number};
+ghost use Rattle.apfloat_base.specs.texts.Digits.{run, behind_run, is_decimal, is_empty, number};
 ghost use Rattle.apfloat_base.specs.texts.Specials.{mark_of, behind_mark};
 ghost use Rattle.apfloat_base.specs.texts.Faults.{begins_literal, exponent_fault};
 ghost use Rattle.apfloat_base.specs.texts.Literals.{exponent_number};
@@ -34,14 +34,26 @@ pub fn split_mark(text: &[u8]) -> (Mark, &[u8])
     }
 }
 
-/// Whether the text begins with the prefix of a hexadecimal number.
-pub fn begins_literal(body: &[u8]) -> bool
-    ensures { result ≡ begins_literal body.now }
+/// Whether the text is not empty and does not begin with the prefix of a hexadecimal number.
+pub fn is_plain(body: &[u8]) -> bool
+    ensures { result ≡ (not (is_empty body.now) && not (begins_literal body.now)) }
 {
     match body {
-        [b'0', b'x' | b'X', ..] => true,
-        _ => false,
+        [] => false,
+        [b'0', b'x' | b'X', ..] => false,
+        _ => true,
     }
+}
+
+/// Whether one of two texts is not empty.
+pub fn has_some(first: &[u8], second: &[u8]) -> bool
+    ensures { result ≡ not (is_empty (first.now ++ second.now)) }
+{
+    if first.is_empty() {
+        let none = second.is_empty();
+        return !none;
+    }
+    true
 }
 
 /// The digits at the start of a text, and what follows them.

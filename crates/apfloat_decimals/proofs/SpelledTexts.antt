@@ -1,0 +1,177 @@
+-- The number that a decimal text spells, by its parts, and the fault of a text that spells none.
+use Rattle.std.proofs.Common.{◌≡◌, ◌⊎◌, ℕ, ◌≤◌, Bool, true, false, not, ◌&&◌, cond, refl, sym, ap, ◌∙◌, subst, inl, inr, arith, List, [], ◌∷◌, ◌++◌, length, drop, codes, eqb, Option, Some, None, is_some, ℤ, pos, ◌-ℤ◌, ◌==◌}
+use Rattle.std.proofs.lemmas.Bool.{cases_Bool, ne_eqb, eqb-true, false≢true, not-false}
+use Rattle.std.proofs.lemmas.Option.{none-some}
+use Rattle.apfloat_base.specs.declared.kinds.Round.{Round}
+use Rattle.apfloat_base.specs.declared.parse_error.Fault.{Fault}
+use Rattle.apfloat_base.specs.declared.parse_error.Fault.TheVariants.{EmptyText, LoneMark, NoLiteral, SecondDot, WrongInSignificand, NoDigits, WrongInExponent, NoExponentDigits}
+use Rattle.apfloat_base.specs.formats.Format.{Format}
+use Rattle.apfloat_base.specs.formats.Datum.{Datum}
+use Rattle.apfloat_base.specs.texts.Digits.{every, begins, is_empty, run, behind_run, is_decimal, number}
+use Rattle.apfloat_base.specs.texts.Faults.{is_dot, begins_literal, exponent_fault, behind_prefix_fault, fault_of}
+use Rattle.apfloat_base.specs.texts.Literals.{exponent_number}
+use Rattle.apfloat_base.specs.texts.Specials.{behind_mark, special_of}
+use Rattle.apfloat_base.proofs.general.Choices.{left_none}
+use Rattle.apfloat_base.proofs.general.ListLaws.{append-every, split_run, run_passes, some_length}
+use Rattle.apfloat_decimals.specs.Decimals.{IsDecimalDelivery}
+use Rattle.apfloat_decimals.specs.DecimalTexts.{is_e, IsWrittenExponent, IsSpelled, fraction_in, behind_fraction, written_fault, fault_after, body_fault, decimal_fault_of}
+
+-- ---- the parts of a text
+
+-- what follows the first digits
+record IsSplit (rest : List ℕ) : Type 0 where
+  point : List ℕ
+  spelled : rest ≡ point ++ (fraction_in rest ++ behind_fraction rest)
+  is_point : (point ≡ codes ".") ⊎ ((point ≡ []) × (fraction_in rest ≡ []))
+  digits : every is_decimal (fraction_in rest) ≡ true
+
+split : (rest : List ℕ) → IsSplit rest
+split [] = record { point = []; spelled = refl; is_point = inr (refl, refl); digits = refl }
+split (c ∷ rest) = go (cases_Bool (is_dot c))
+  where
+    go : (is_dot c ≡ true) ⊎ (is_dot c ≡ false) → IsSplit (c ∷ rest)
+    go (inl e) =
+        record {
+          point = codes ".";
+          spelled = rw e (rw (eqb-true c 46 e) (ap (λ (t : List ℕ). 46 ∷ t) (split_run is_decimal rest)));
+          is_point = inl refl;
+          digits = rw e (run_passes is_decimal rest);
+        }
+    go (inr e) =
+        record { point = []; spelled = rw e refl; is_point = inr (refl, rw e refl); digits = rw e refl }
+
+-- the first digits of a text are digits
+pub first_digits : (body whole : List ℕ) → whole ≡ run is_decimal body → every is_decimal whole ≡ true
+first_digits body whole e = subst (λ (t : List ℕ). every is_decimal t ≡ true) (sym e) (run_passes is_decimal body)
+
+-- so are those after a dot
+pub fraction_digits : (rest fraction : List ℕ) → fraction ≡ fraction_in rest → every is_decimal fraction ≡ true
+fraction_digits rest fraction e =
+    let s = split rest in
+    subst (λ (t : List ℕ). every is_decimal t ≡ true) (sym e) s.digits
+
+-- an exponent without a fault is one
+written : (tail : List ℕ) → (not (is_empty tail) && not (begins is_e tail)) ≡ false → written_fault tail ≡ None
+    → IsWrittenExponent tail (exponent_number (drop 1 tail))
+written [] b d = refl
+written (letter ∷ exponent) b d =
+    let every_one =
+    left_none (not (every is_decimal (behind_mark exponent))) WrongInExponent
+    (cond (is_empty (behind_mark exponent)) (Some NoExponentDigits) None) d in
+    let some_one = left_none (is_empty (behind_mark exponent)) NoExponentDigits None every_one.1 in (
+      not-false (is_e letter) b,
+      not-false (every is_decimal (behind_mark exponent)) every_one.0,
+      some_length (behind_mark exponent) some_one.0,
+      refl,
+    )
+
+-- a text without a fault spells its digits times a power of ten
+pub body_spelled : (format : Format) (mode : Round) (negative : Bool) (body whole rest fraction tail : List ℕ)
+    (some : Bool) (value : Datum) (status : ℕ) → whole ≡ run is_decimal body → rest ≡ behind_run is_decimal body
+    → fraction ≡ fraction_in rest → tail ≡ behind_fraction rest → some ≡ not (is_empty (whole ++ fraction))
+    → fault_after some tail ≡ None
+    → IsDecimalDelivery format mode negative (number 10 (whole ++ fraction))
+    (exponent_number (drop 1 tail) -ℤ pos (length fraction)) value status
+    → IsSpelled format mode negative body value status
+body_spelled format mode negative body whole rest fraction tail some value status w r f t n h delivered =
+    let s = split rest in
+    let a = left_none (begins is_dot tail) SecondDot
+    (cond (not (is_empty tail) && not (begins is_e tail)) (Some WrongInSignificand)
+    (cond (not some) (Some NoDigits) (written_fault tail))) h in
+    let b = left_none (not (is_empty tail) && not (begins is_e tail)) WrongInSignificand
+    (cond (not some) (Some NoDigits) (written_fault tail)) a.1 in
+    let d = left_none (not some) NoDigits (written_fault tail) b.1 in
+    let some_digit : not (is_empty (whole ++ fraction)) ≡ true = sym n ∙ not-false some d.0 in
+    let rest_is : rest ≡ s.point ++ (fraction ++ tail) = rw (f, t) s.spelled in
+    let body_is : body ≡ whole ++ rest = rw (w, r) (split_run is_decimal body) in
+    record {
+      digits = number 10 (whole ++ fraction);
+      exponent = exponent_number (drop 1 tail) -ℤ pos (length fraction);
+      is_text = record {
+        whole = whole;
+        point = s.point;
+        fraction = fraction;
+        tail = tail;
+        written = exponent_number (drop 1 tail);
+        spelled = body_is ∙ ap (λ (x : List ℕ). whole ++ x) rest_is;
+        is_point = rw f s.is_point;
+        are_digits = append-every is_decimal whole fraction (first_digits body whole w)
+            (fraction_digits rest fraction f);
+        has_digits = some_length (whole ++ fraction) (empty_none (whole ++ fraction) some_digit);
+        is_written = written tail b.0 d.1;
+        digits_are = refl;
+        exponent_is = refl;
+      };
+      delivered = delivered;
+    }
+  where
+    empty_none : (xs : List ℕ) → not (is_empty xs) ≡ true → is_empty xs ≡ false
+    empty_none [] h = absurd (false≢true h)
+    empty_none (x ∷ xs) h = refl
+
+-- the fault of a text by its parts
+pub body_faulted : (body whole rest fraction tail : List ℕ) (some : Bool) (fault : Fault) → whole ≡ run is_decimal body
+    → rest ≡ behind_run is_decimal body → fraction ≡ fraction_in rest → tail ≡ behind_fraction rest
+    → some ≡ not (is_empty (whole ++ fraction)) → fault_after some tail ≡ Some fault → body_fault body ≡ Some fault
+body_faulted body whole rest fraction tail some fault w r f t n h =
+    let h' : fault_after (not (is_empty (whole ++ fraction))) tail ≡ Some fault =
+    subst (λ (b : Bool). fault_after b tail ≡ Some fault) n h in
+    let t' : tail ≡ behind_fraction (behind_run is_decimal body) = t ∙ ap behind_fraction r in
+    let f' : fraction ≡ fraction_in (behind_run is_decimal body) = f ∙ ap fraction_in r in
+    let d : whole ++ fraction ≡ run is_decimal body ++ fraction_in (behind_run is_decimal body) =
+    ap (λ (x : List ℕ). x ++ fraction) w ∙ ap (λ (x : List ℕ). run is_decimal body ++ x) f' in
+    subst (λ (x : List ℕ). fault_after (not (is_empty x)) (behind_fraction (behind_run is_decimal body)) ≡ Some fault) d
+    (subst (λ (x : List ℕ). fault_after (not (is_empty (whole ++ fraction))) x ≡ Some fault) t' h')
+
+-- ---- texts that are not empty
+
+empty_is : (xs : List ℕ) → is_empty xs ≡ (length xs == 0)
+empty_is [] = refl
+empty_is (c ∷ xs) = sym (ne_eqb (length (c ∷ xs)) 0 (λ e. omega (arith, e)))
+
+pub some_second : (first second : List ℕ) (none : Bool) → true ≡ (length first == 0) → none ≡ (length second == 0)
+    → not none ≡ not (is_empty (first ++ second))
+some_second [] second none h e = ap not (e ∙ sym (empty_is second))
+some_second (c ∷ first) second none h e = absurd (false≢true (empty_is (c ∷ first) ∙ sym h))
+
+pub some_first : (first second : List ℕ) → false ≡ (length first == 0) → true ≡ not (is_empty (first ++ second))
+some_first [] second h = absurd (false≢true (h ∙ sym (empty_is [])))
+some_first (c ∷ first) second h = refl
+
+-- ---- the fault of a text
+
+-- with nothing after the sign, or the prefix of a hexadecimal number, it is that of any text
+pub same_fault : (text : List ℕ)
+    → (not (is_empty (behind_mark text)) && not (begins_literal (behind_mark text))) ≡ false
+    → decimal_fault_of text ≡ fault_of text
+same_fault text h =
+    go (is_empty text) (is_empty (behind_mark text)) (is_some (special_of text)) (begins_literal (behind_mark text))
+    (behind_prefix_fault (drop 2 (behind_mark text))) (body_fault (behind_mark text)) h
+  where
+    go : (a b s l : Bool) (x y : Option Fault) → (not b && not l) ≡ false
+        → cond a (Some EmptyText) (cond b (Some LoneMark) (cond s None (cond l x y)))
+        ≡ cond a (Some EmptyText) (cond b (Some LoneMark) (cond s None (cond (not l) (Some NoLiteral) x)))
+    go true b s l x y h = refl
+    go false true s l x y h = refl
+    go false false true l x y h = refl
+    go false false false true x y h = refl
+    go false false false false x y h = absurd (false≢true (sym h))
+
+-- in another text that is refused, it is that of what follows the sign
+pub plain_fault : (text : List ℕ) (fault other : Fault)
+    → (not (is_empty (behind_mark text)) && not (begins_literal (behind_mark text))) ≡ true
+    → fault_of text ≡ Some other → body_fault (behind_mark text) ≡ Some fault
+    → decimal_fault_of text ≡ Some fault
+plain_fault [] fault other h first body = absurd (false≢true h)
+plain_fault (c ∷ text) fault other h first body =
+    go (is_empty (behind_mark (c ∷ text))) (is_some (special_of (c ∷ text)))
+    (begins_literal (behind_mark (c ∷ text)))
+    (behind_prefix_fault (drop 2 (behind_mark (c ∷ text)))) (body_fault (behind_mark (c ∷ text))) h first body
+  where
+    go : (b s l : Bool) (x y : Option Fault) → (not b && not l) ≡ true
+        → cond b (Some LoneMark) (cond s None (cond (not l) (Some NoLiteral) x)) ≡ Some other → y ≡ Some fault
+        → cond b (Some LoneMark) (cond s None (cond l x y)) ≡ Some fault
+    go true s l x y h first body = absurd (false≢true h)
+    go false true l x y h first body = absurd (none-some other first)
+    go false false true x y h first body = absurd (false≢true h)
+    go false false false x y h first body = body
