@@ -1,5 +1,5 @@
 -- The number that a decimal text spells, by its parts, and the fault of a text that spells none.
-use Rattle.std.proofs.Common.{◌≡◌, ◌⊎◌, ℕ, ◌≤◌, Bool, true, false, not, ◌&&◌, cond, refl, sym, ap, ◌∙◌, subst, inl, inr, arith, List, [], ◌∷◌, ◌++◌, length, drop, codes, eqb, Option, Some, None, is_some, ℤ, pos, ◌-ℤ◌, ◌==◌}
+use Rattle.std.proofs.Common.{◌≡◌, ◌⊎◌, ℕ, Bool, true, false, not, ◌&&◌, cond, refl, sym, ap, ◌∙◌, subst, inl, inr, arith, List, [], ◌∷◌, ◌++◌, length, drop, codes, Option, Some, None, is_some, pos, ◌-ℤ◌, ◌==◌}
 use Rattle.std.proofs.lemmas.Bool.{cases_Bool, ne_eqb, eqb-true, false≢true, not-false}
 use Rattle.std.proofs.lemmas.Option.{none-some}
 use Rattle.apfloat_base.specs.declared.kinds.Round.{Round}
@@ -8,7 +8,7 @@ use Rattle.apfloat_base.specs.declared.parse_error.Fault.TheVariants.{EmptyText,
 use Rattle.apfloat_base.specs.formats.Format.{Format}
 use Rattle.apfloat_base.specs.formats.Datum.{Datum}
 use Rattle.apfloat_base.specs.texts.Digits.{every, begins, is_empty, run, behind_run, is_decimal, number}
-use Rattle.apfloat_base.specs.texts.Faults.{is_dot, begins_literal, exponent_fault, behind_prefix_fault, fault_of}
+use Rattle.apfloat_base.specs.texts.Faults.{is_dot, begins_literal, behind_prefix_fault, fault_of}
 use Rattle.apfloat_base.specs.texts.Literals.{exponent_number}
 use Rattle.apfloat_base.specs.texts.Specials.{behind_mark, special_of}
 use Rattle.apfloat_base.proofs.general.Choices.{left_none}

@@ -1,5 +1,5 @@
 use Rattle.std.specs.Int.{w128}
-use Rattle.std.proofs.Common.{◌≡◌, ◌++◌, length, drop, pos, ◌-ℤ◌, to_z, of_z}
+use Rattle.std.proofs.Common.{◌++◌, length, drop, pos, ◌-ℤ◌}
 use Rattle.apfloat_base.specs.texts.Literals.{exponent_number}
 use Rattle.std.proofs.lemmas.Int.{to_z-of_z}
 use Rattle.apfloat_base.specs.rounding.Flags.{bits_of}

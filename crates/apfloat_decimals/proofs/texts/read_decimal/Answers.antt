@@ -1,4 +1,4 @@
-use Rattle.std.proofs.Common.{◌≡◌, sym}
+use Rattle.std.proofs.Common.{sym}
 use Rattle.apfloat_decimals.proofs.SpelledTexts.{plain_fault}
 use Rattle.apfloat_decimals.proofs.texts.read_decimal.Goals as goal
 

@@ -1,4 +1,4 @@
-use Rattle.std.proofs.Common.{◌≡◌, ◌∙◌, drop, false, sym, arith}
+use Rattle.std.proofs.Common.{◌≡◌, ◌∙◌, drop, false, sym}
 use Rattle.apfloat_base.specs.texts.Digits.{begins, is_decimal}
 use Rattle.apfloat_decimals.proofs.LeadingNumbers.{begins_next, begins_none, digits_until}
 use Rattle.apfloat_decimals.proofs.texts.parts.split_digits.Goals.{After-split_at, then-loop-count-test+else-is_decimal, else-loop-count-test}
