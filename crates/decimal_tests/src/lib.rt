@@ -4,4 +4,6 @@
 #![tactic(auto)]
 
 #[cfg(test)]
+mod texts;
+#[cfg(test)]
 mod values;
