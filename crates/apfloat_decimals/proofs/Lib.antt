@@ -4,7 +4,9 @@ pub mod Cutting
 pub mod DecimalPowers
 pub mod FarTexts
 pub mod LeadingNumbers
+pub mod NarrowCuts
 pub mod Quotients
 pub mod Readings
 pub mod SpelledTexts
 pub mod Values
+pub mod WrittenNumbers

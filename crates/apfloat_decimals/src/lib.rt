@@ -8,9 +8,11 @@
 
 mod decimal;
 mod large;
+mod narrow;
 mod quotient;
 mod reading;
 mod texts;
+mod writing;
 
 pub use decimal::{Decimal, built_in_formats, from_decimal};
 pub use texts::read_decimal;
