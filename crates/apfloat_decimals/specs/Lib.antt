@@ -3,5 +3,7 @@ pub mod DecimalTexts
 pub mod Decimals
 pub mod LeadingDigits
 pub mod Reach
+pub mod Shortest
+pub mod ShortestSearch
 pub mod Texts
 pub mod Words

@@ -3,7 +3,10 @@
 //! `from_decimal` gives the value of a `Decimal`, rounded once, in any format whose exponents are within those of
 //! `Quad`. Below it are large whole numbers in words on the stack (`large`): multiples, sums, differences and
 //! comparisons of numbers of up to 40960 binary digits; their quotients (`quotient`), cut to 127 or 128 digits, with
-//! what was cut off; and decimals as such quotients (`reading`).
+//! what was cut off; and decimals as such quotients (`reading`). `narrow` has the quotients that 128 bits serve.
+//!
+//! `read_decimal` reads a text of any length (`texts`), `shortest` finds the shortest decimal that reads back as a value
+//! (`search`), and `Display` of a `Decimal` writes it (`writing`).
 #![tactic(auto)]
 
 mod decimal;
@@ -11,8 +14,10 @@ mod large;
 mod narrow;
 mod quotient;
 mod reading;
+mod search;
 mod texts;
 mod writing;
 
 pub use decimal::{Decimal, built_in_formats, from_decimal};
+pub use search::{shortest, shortest_once};
 pub use texts::read_decimal;

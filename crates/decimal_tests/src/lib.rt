@@ -4,6 +4,8 @@
 #![tactic(auto)]
 
 #[cfg(test)]
+mod shortest;
+#[cfg(test)]
 mod texts;
 #[cfg(test)]
 mod values;
