@@ -5,8 +5,9 @@
  * codes are listed; on an error, *answer is unchanged.
  *
  * The library never allocates, keeps no state between calls, and calls no other functions but the compiler's own
- * division of 128-bit integers. So its functions may be called from any thread, and from a signal handler. Given valid pointers, they are defined for every value of every
- * argument: no code, bit pattern, width or text causes undefined behaviour.
+ * division of 128-bit integers. So its functions may be called from any thread, and from a signal handler. Given valid
+ * pointers, they are defined for every value of every argument: no code, bit pattern, width or text causes undefined
+ * behaviour.
  *
  * Pointers are not checked. The caller must ensure that:
  *
@@ -59,14 +60,14 @@ typedef struct apfloat_answer {
 #define APFLOAT_DOUBLE_PAIR UINT32_C(10) /* pairs of doubles, IBM's extended double */
 
 /* Joined to the code of a format by |, these choose by which rule its roundings raise APFLOAT_OVERFLOW and
- * APFLOAT_UNDERFLOW. No value depends on the rule. Without them, a result that a mode rounds to the largest value raises
- * no APFLOAT_OVERFLOW, and an inexact result raises APFLOAT_UNDERFLOW if it is below the smallest normal number once it
- * is rounded to the format. With the first, APFLOAT_OVERFLOW is raised wherever the result, rounded with an unbounded
- * exponent, is past the largest value (IEEE 754-2008 7.4), and APFLOAT_UNDERFLOW if an inexact result is below the
- * smallest normal number when it is rounded with an unbounded exponent, as x86 and RISC-V have it, or, with both, before
- * it is rounded, as Arm and POWER have it (7.5). APFLOAT_E4M3FN, APFLOAT_E4M3FNUZ and APFLOAT_DOUBLE_PAIR have no such
- * choice. Joined to their codes, or the second without the first, these make an unknown format. In a conversion, the
- * rule of `to` counts. */
+ * APFLOAT_UNDERFLOW. No value depends on the rule. Without them, a result that a mode rounds to the largest value
+ * raises no APFLOAT_OVERFLOW, and an inexact result raises APFLOAT_UNDERFLOW if it is below the smallest normal number
+ * once it is rounded to the format. With the first, APFLOAT_OVERFLOW is raised wherever the result, rounded with an
+ * unbounded exponent, is past the largest value (IEEE 754-2008 7.4), and APFLOAT_UNDERFLOW if an inexact result is
+ * below the smallest normal number when it is rounded with an unbounded exponent, as x86 and RISC-V have it, or, with
+ * both, before it is rounded, as Arm and POWER have it (7.5). APFLOAT_E4M3FN, APFLOAT_E4M3FNUZ and APFLOAT_DOUBLE_PAIR
+ * have no such choice. Joined to their codes, or the second without the first, these make an unknown format. In a
+ * conversion, the rule of `to` counts. */
 #define APFLOAT_IEEE_FLAGS UINT32_C(0x100)
 #define APFLOAT_TINY_BEFORE_ROUNDING UINT32_C(0x200)
 

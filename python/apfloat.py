@@ -53,7 +53,8 @@ import struct
 
 __all__ = [
     'Context', 'DOWNWARD', 'Flags', 'Format', 'NEAREST_AWAY', 'NEAREST_EVEN', 'Rounding', 'TOWARD_ZERO', 'UPWARD',
-    'Value', 'bfloat', 'context', 'double', 'double_pair', 'e4m3fn', 'e4m3fnuz', 'e5m2', 'half', 'quad', 'single', 'x87',
+    'Value', 'bfloat', 'context', 'double', 'double_pair', 'e4m3fn', 'e4m3fnuz', 'e5m2', 'half', 'quad', 'single',
+    'x87',
 ]
 
 

@@ -2,7 +2,8 @@
  * (docs/VECTORS.md), and compares each field of the answer: a field or an argument in the wrong place shows only in a
  * call from C. Rows that the library has no function or no code for are passed over.
  *
- * It prints each row that differs, and for each call that has rows how many agree. .ci/run compares this with tests/c/agreeing.
+ * It prints each row that differs, and for each call that has rows how many agree. .ci/run compares this with
+ * tests/c/agreeing.
  * By hand, at the top of the repository, after `rt lib` in crates/apfloat_c:
  *
  *   cc -std=c99 -Wall -Wextra -O2 -Iinclude tests/c/check_rows.c crates/apfloat_c/out/libapfloat_c.a -o check_rows

@@ -5,8 +5,8 @@
 //! comparisons of numbers of up to 40960 binary digits; their quotients (`quotient`), cut to 127 or 128 digits, with
 //! what was cut off; and decimals as such quotients (`reading`). `narrow` has the quotients that 128 bits serve.
 //!
-//! `read_decimal` reads a text of any length (`texts`), `shortest` finds the shortest decimal that reads back as a value
-//! (`search`), and `Display` of a `Decimal` writes it (`writing`).
+//! `read_decimal` reads a text of any length (`texts`), `shortest` finds the shortest decimal that reads back as a
+//! value (`search`), and `Display` of a `Decimal` writes it (`writing`).
 #![tactic(auto)]
 
 mod decimal;

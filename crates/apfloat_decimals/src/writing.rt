@@ -176,8 +176,8 @@ impl fmt::Display for Decimal {
     ghost output = { λ x. Some (decimal_text x) };
 
     /// Writes all digits, and a dot: without an exponent if that of the first digit is from -6 to 20, else in
-    /// scientific notation, as in `12.30`, `0.000001`, `1e-7` and `1.5e21`. A whole number ends in `.0`; a zero is `0.0`,
-    /// whatever its exponent. A width and a precision are ignored.
+    /// scientific notation, as in `12.30`, `0.000001`, `1e-7` and `1.5e21`. A whole number ends in `.0`; a zero is
+    /// `0.0`, whatever its exponent. A width and a precision are ignored.
     fn fmt<W: fmt::Write>(&self, f: &mut fmt::Formatter<W>) -> fmt::Result {
         let decimal = *self;
         write_signed(decimal.negative, decimal.digits, decimal.exponent, f)
