@@ -1,0 +1,16 @@
+use Rattle.std.proofs.Common.{rules, ◌≡◌, ◌*◌, ◌≤◌, ◌/◌, ℕ, arith, sym, subst}
+use Rattle.std.proofs.Math.Nat.{div-le_of_le-mul, mul-le-mul_right}
+use Rattle.value_blocks.specs.Widths.{source_width, target_width}
+use Rattle.convert_values.proofs.stream.convert_through.Goals as goal
+
+-- values of which a block has room in one format have it in the other one
+has_room : (read block source target buffer : ℕ) → read ≤ block * source → buffer ≡ block * target
+    → read / source * target ≤ buffer
+has_room read block source target buffer l is =
+    let few : read / source ≤ block = div-le_of_le-mul source (omega (arith, l)) in
+    subst (λ (x : ℕ). read / source * target ≤ x) (sym is) (mul-le-mul_right target few)
+
+-- src/stream.rt:73:21
+pub convert-block-requires : goal.convert-block-requires
+convert-block-requires g c =
+    has_room _ _ (source_width c.args.conversion) (target_width c.args.conversion) _ (search rules) c.loop.invariant
