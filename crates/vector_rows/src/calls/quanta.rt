@@ -130,9 +130,12 @@ fn exponent_of(precision: usize, min_exp: ExpInt, power: ExpInt) -> Option<ExpIn
     let Ok(digits) = ExpInt::try_from(precision) else {
         return None;
     };
-    match ExpInt::try_from(i64::from(min_exp) - i64::from(digits) + 1 + i64::from(power)) {
-        Ok(exponent) => Some(exponent),
-        Err(_) => None,
+    let Some(below) = min_exp.checked_sub(digits) else {
+        return None;
+    };
+    match below.checked_add(1) {
+        Some(of_quantum) => of_quantum.checked_add(power),
+        None => None,
     }
 }
 
