@@ -9,6 +9,8 @@ use std::process::ExitCode;
 use vector_rows::run;
 
 #[cfg(test)]
+mod other_files;
+#[cfg(test)]
 mod tests;
 
 fn main(rt: HostRuntime) -> ExitCode {

@@ -29,12 +29,12 @@ fn shows_what_differs(rt: HostRuntime) {
     expect(
         &rt,
         "half int even 464\t5f40 OK\n# a comment\n\nhalf int even 464\t5f41 OK\r\n\
-        half int odd 1\t3c00 OK\nhalf int even 1\trefused: odd"
+        quad mul even 0 0\t0 OK\nhalf int even 1\trefused: odd"
             .as_bytes(),
         (
             1,
             "line 4 differs: half int even 464\t5f41 OK\n  expected: 5f41 OK\n  given: 5f40 OK\n\
-            line 5 differs: half int odd 1\t3c00 OK\n  expected: 3c00 OK\n  given: refused: odd\n\
+            line 5 differs: quad mul even 0 0\t0 OK\n  expected: 0 OK\n  given: refused: mul\n\
             line 6 differs: half int even 1\trefused: odd\n  expected: refused: odd\n\
             \x20 given: 3c00 OK\n\
             1 rows agree, 3 differ, 0 malformed; 2 lines skipped\n",
@@ -159,7 +159,8 @@ fn tells_what_is_malformed(rt: HostRuntime) {
             "columns: 8, and a command has 2, a call 7",
         ),
         ("half int even 464\t5f40", "no reply: `5f40`"),
-        ("half int even 464\t5F40 OK", "no reply: `5F40 OK`"),
+        ("half int odd 464\t5f40 OK", "no mode: `odd`"),
+        ("halff int even 464\t5f40 OK", "no format: `halff`"),
         ("half int even 464\t5f40 FINE", "no reply: `5f40 FINE`"),
         ("cbrt\thalf\teven\t3c00\t3c00\tOK\t-", "no call: `cbrt`"),
         ("abs\tthird\t-\t3c00\t3c00\t-\t-", "no format: `third`"),
@@ -200,8 +201,8 @@ fn tells_what_is_malformed(rt: HostRuntime) {
             "no flags of the call: `OK`",
         ),
         (
-            "add_r\thalf\tany\t3c00 3c00\t4000\tINEXACT|OVERFLOW\t-",
-            "no flags of the call: `INEXACT|OVERFLOW`",
+            "add_r\thalf\tany\t3c00 3c00\t4000\tINEXACT|INEXACT\t-",
+            "no flags of the call: `INEXACT|INEXACT`",
         ),
         (
             "abs\thalf\t-\t3c00\t3c00\t-\texponent=1",
@@ -252,6 +253,22 @@ fn goes_on_behind_bytes_that_are_no_text(rt: HostRuntime) {
             "line 1 malformed: it is not UTF-8\nline 2 differs: half int even 464\t5f41 OK\n\
             \x20 expected: 5f41 OK\n  given: 5f40 OK\n\
             0 rows agree, 1 differ, 1 malformed; 0 lines skipped\n",
+            "",
+        ),
+    );
+}
+
+/// Numbers are compared, not digits; flags may come in any order, or be left unsaid.
+#[test]
+fn compares_what_rows_mean(rt: HostRuntime) {
+    expect(
+        &rt,
+        "\u{feff}half int even 464\t5F40 OK\nhalf add even 7bff 7bff\t07c00 INEXACT|OVERFLOW\n\
+        add_r\thalf\teven\t7bff 7bff\t7C00\tINEXACT|OVERFLOW\t-\nadd_r\thalf\tup\t3c00 1\t3c01\t-\t-\n"
+            .as_bytes(),
+        (
+            0,
+            "4 rows agree, 0 differ, 0 malformed; 0 lines skipped\n",
             "",
         ),
     );

@@ -13,11 +13,12 @@ use crate::calls::answer::RowAnswer;
 use crate::calls::call::Call;
 use crate::calls::formats::answered;
 use crate::failure::RowError;
-pub use answer::status_named;
+pub use answer::{StatusField, Text, ValueField, status_named};
 use dispatch::mode_named;
 use rustc_apfloat::Round;
 use std::io;
 use std::io::Write;
+pub use table::found;
 
 const MODES: [&str; 5] = ["even", "up", "down", "zero", "away"];
 
@@ -34,7 +35,7 @@ pub fn agrees(row: CallRow<'_>) -> Result<bool, RowError<'_>> {
 }
 
 /// What the call of a row returns.
-fn answer_of(row: CallRow<'_>) -> Result<RowAnswer, RowError<'_>> {
+pub fn answer_of(row: CallRow<'_>) -> Result<RowAnswer, RowError<'_>> {
     answered(RowRequest::of(row)?)
 }
 

@@ -4,11 +4,14 @@ use crate::call_row::row_of;
 use crate::calls::{agrees, write_answers};
 use crate::command_row::CommandRow;
 use crate::failure::{Failure, RowError};
+use crate::fpgen::Fpgen;
+use crate::summary::Summary;
+use crate::testfloat::TestFloat;
 use std::alloc::{Allocator, Global};
 use std::io::{BufRead, Write};
 use std::rt::Clock;
 use std::time::Instant;
-use std::{fmt, str};
+use std::{fmt, io, str};
 
 /// How many seconds pass before the first message on how far the check has come, and between two of them.
 const SECONDS: u64 = 3;
@@ -16,19 +19,75 @@ const SECONDS: u64 = 3;
 /// How many lines are read between two looks at the clock.
 const LINES: u64 = 1024;
 
+/// What some editors write before the first line of a file in UTF-8.
+const BYTE_ORDER_MARK: &[u8] = b"\xef\xbb\xbf";
+
 /// A check, and how far it has come.
 #[derive(Drop)]
 pub struct Check {
     alloc: Global,
     tally: Tally,
+    task: Task,
+    summary: Summary,
+}
+
+/// What a check has to do.
+#[derive(Clone, Copy)]
+pub struct Task {
+    /// What the lines are.
+    pub lines: Lines,
+    /// Whether only counts are written, by call and format.
+    pub is_summary: bool,
+    /// How many rows may differ before the check ends, if there is a limit.
+    pub first: Option<u64>,
+}
+
+impl Task {
+    /// To check rows to the end, and to write those that differ.
+    pub fn rows() -> Task {
+        Task {
+            lines: Lines::Rows,
+            is_summary: false,
+            first: None,
+        }
+    }
+}
+
+/// What the lines of an input are.
+#[derive(Clone, Copy)]
+pub enum Lines {
+    /// Rows.
+    Rows,
+    /// Lines of TestFloat for a function.
+    TestFloat(TestFloat),
+    /// Lines of FPgen.
+    Fpgen(Fpgen),
+}
+
+impl Lines {
+    /// The lines with an option of the program that writes such lines.
+    pub fn with(self, option: &str) -> Option<Lines> {
+        match self {
+            Lines::Rows => None,
+            Lines::TestFloat(function) => Some(Lines::TestFloat(function.with(option)?)),
+            Lines::Fpgen(fpgen) => Some(Lines::Fpgen(fpgen.with(option)?)),
+        }
+    }
 }
 
 impl Check {
-    /// A check of no lines yet.
+    /// A check of no rows yet.
     pub fn new(alloc: Global) -> Check {
+        Check::of(Task::rows(), alloc)
+    }
+
+    /// A check of no lines yet.
+    pub fn of(task: Task, alloc: Global) -> Check {
         Check {
             alloc,
             tally: Tally::default(),
+            task,
+            summary: Summary::new(alloc),
         }
     }
 
@@ -57,7 +116,17 @@ impl Check {
                 Ok(_) => {}
                 Err(error) => return Err(Failure::of_input("read", error)),
             }
-            self.take_line(without_end(line.as_slice()), out)?;
+            let text = without_end(line.as_slice());
+            if self.tally.lines() == 0 {
+                self.take_line(text.strip_prefix(BYTE_ORDER_MARK).unwrap_or(text), out)?;
+            } else {
+                self.take_line(text, out)?;
+            }
+            if let Some(first) = self.task.first
+                && self.tally.differing >= first
+            {
+                break;
+            }
             let lines = self.tally.lines();
             if lines % LINES == 0
                 && let Some(seconds) = seconds_since(start, clock)
@@ -80,12 +149,39 @@ impl Check {
             increment(&mut self.tally.skipped);
             return Ok(());
         }
+        match self.task.lines {
+            Lines::Rows => self.take_row(text, out),
+            Lines::TestFloat(function) => match function.agrees(text) {
+                Ok(agrees) => {
+                    if self.takes_difference(text, agrees, out)? {
+                        function.write_given(text, out)?;
+                    }
+                    Ok(())
+                }
+                Err(error) => self.take_error(error, out),
+            },
+            Lines::Fpgen(fpgen) => match fpgen.agrees(text) {
+                Ok(None) => Ok(increment(&mut self.tally.skipped)),
+                Ok(Some(agrees)) => {
+                    if self.takes_difference(text, agrees, out)? {
+                        fpgen.write_given(text, out)?;
+                    }
+                    Ok(())
+                }
+                Err(error) => self.take_error(error, out),
+            },
+        }
+    }
+
+    /// Checks a row.
+    fn take_row<W: Write>(&mut self, text: &str, out: &mut W) -> Result<(), Failure> {
         if let Some(row) = row_of(text) {
             return match agrees(row) {
-                Ok(true) => Ok(increment(&mut self.tally.agreeing)),
-                Ok(false) => {
-                    self.take_difference(text, out)?;
-                    Ok(write_answers(row, out)?)
+                Ok(agrees) => {
+                    if self.takes_difference(text, agrees, out)? {
+                        write_answers(row, out)?;
+                    }
+                    Ok(())
                 }
                 Err(error) => self.take_error(error, out),
             };
@@ -105,31 +201,56 @@ impl Check {
         text: &str,
         out: &mut W,
     ) -> Result<(), Failure> {
-        if !row.has_reply() {
-            return self.take_error(RowError::Word("no reply", row.reply), out);
+        if let Some(error) = row.fault() {
+            return self.take_error(error, out);
         }
-        match row.wrong_reply(self.alloc)? {
-            None => Ok(increment(&mut self.tally.agreeing)),
-            Some(given) => {
-                self.take_difference(text, out)?;
-                write!(out, "  expected: {}\n  given: ", row.reply)?;
-                Ok(out.write_all(given.as_slice())?)
-            }
+        let wrong = row.wrong_reply(self.alloc)?;
+        if self.takes_difference(text, wrong.is_none(), out)?
+            && let Some(given) = wrong
+        {
+            write!(out, "  expected: {}\n  given: ", row.reply)?;
+            out.write_all(given.as_slice())?;
         }
+        Ok(())
     }
 
-    /// Counts a row that differs, and writes it.
-    fn take_difference<W: Write>(&mut self, text: &str, out: &mut W) -> Result<(), Failure> {
-        increment(&mut self.tally.differing);
-        let number = self.tally.lines();
-        Ok(writeln!(out, "line {number} differs: {text}")?)
+    /// Counts a row, and writes it if it differs. Returns whether what is given has to be written too.
+    fn takes_difference<W: Write>(
+        &mut self,
+        text: &str,
+        agrees: bool,
+        out: &mut W,
+    ) -> Result<bool, Failure> {
+        if agrees {
+            increment(&mut self.tally.agreeing);
+        } else {
+            increment(&mut self.tally.differing);
+        }
+        if self.task.is_summary {
+            self.summary.count(text, agrees)?;
+            return Ok(false);
+        }
+        if !agrees {
+            let number = self.tally.lines();
+            writeln!(out, "line {number} differs: {text}")?;
+        }
+        Ok(!agrees)
     }
 
     /// Counts a malformed line, and writes what is wrong with it.
     fn take_error<W: Write>(&mut self, error: RowError<'_>, out: &mut W) -> Result<(), Failure> {
         increment(&mut self.tally.malformed);
+        if self.task.is_summary {
+            return Ok(());
+        }
         let number = self.tally.lines();
         Ok(writeln!(out, "line {number} malformed: {error}")?)
+    }
+
+    /// Writes the counts by call and format, if they are asked for, and how many lines there were of each kind.
+    pub fn write_counts<W: Write>(&self, out: &mut W) -> io::Result<()> {
+        self.summary.write(out)?;
+        writeln!(out, "{}", self.tally)
     }
 }
 

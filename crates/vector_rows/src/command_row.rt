@@ -1,9 +1,12 @@
 //! Rows of commands: each gets a reply as from the program `vectors`, which is compared with that of the row.
 
 use crate::calls::status_named;
-use commands::{agrees, run};
+use crate::failure::RowError;
+use commands::{agrees, bits_of, run};
+use dispatch::{BuiltInKind, mode_named};
+use rustc_apfloat::Flags;
 use std::alloc::{AllocError, Global};
-use std::io;
+use std::{io, str};
 
 /// A command and its reply.
 #[derive(Clone, Copy)]
@@ -15,12 +18,24 @@ pub struct CommandRow<'a> {
 }
 
 impl<'a> CommandRow<'a> {
-    /// Whether the second column has the form of a reply: a refusal, or bits and flags.
-    pub fn has_reply(self) -> bool {
-        match self.reply.split_once(' ') {
-            Some(("refused:", _)) => true,
-            Some((bits, flags)) => are_digits(bits) && status_named(flags).is_some(),
-            None => false,
+    /// What is wrong with the row, if its reply has no form of one, or a reply other than a refusal belongs to a format
+    /// or a mode that does not exist.
+    pub fn fault(self) -> Option<RowError<'a>> {
+        if let Some(("refused:", _)) = self.reply.split_once(' ') {
+            return None;
+        }
+        if result_of(self.reply).is_none() {
+            return Some(RowError::Word("no reply", self.reply));
+        }
+        let (format, words) = self.command.split_once(' ')?;
+        if BuiltInKind::named(format).is_none() {
+            return Some(RowError::Word("no format", format));
+        }
+        let (_, words) = words.split_once(' ')?;
+        let (mode, _) = words.split_once(' ')?;
+        match mode_named(mode) {
+            Some(_) => None,
+            None => Some(RowError::Word("no mode", mode)),
         }
     }
 
@@ -37,6 +52,9 @@ impl<'a> CommandRow<'a> {
             return Err(io::Error::from(io::ErrorKind::OutOfMemory));
         }
         let given = if line.is_empty() { refusal } else { line };
+        if has_result(given.as_slice(), self.reply) {
+            return Ok(None);
+        }
         // The reply is as expected after all, so there was not enough memory for it before.
         if given.as_slice().strip_suffix(b"\n") == Some(self.reply.as_bytes()) {
             return Err(io::Error::from(io::ErrorKind::OutOfMemory));
@@ -55,8 +73,16 @@ impl<'a> CommandRow<'a> {
     }
 }
 
-/// Whether a text is 1 to 32 hexadecimal digits in lower case.
-fn are_digits(bits: &str) -> bool {
-    let is_digit = |byte: &u8| matches!(*byte, b'0'..=b'9' | b'a'..=b'f');
-    !bits.is_empty() && bits.len() <= 32 && bits.as_bytes().iter().all(is_digit)
+/// Whether a line of output has the bits and the flags of a reply, however these are written.
+fn has_result(line: &[u8], reply: &str) -> bool {
+    match (str::from_utf8(line), result_of(reply)) {
+        (Ok(line), Some(expected)) => result_of(line.trim_end()) == Some(expected),
+        _ => false,
+    }
+}
+
+/// The bits and the flags of a reply that is no refusal.
+fn result_of(reply: &str) -> Option<(u128, u8)> {
+    let (bits, flags) = reply.split_once(' ')?;
+    Some((bits_of(bits, 128)?, status_named(flags)?.bits()))
 }

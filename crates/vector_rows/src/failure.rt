@@ -1,5 +1,6 @@
 //! What is wrong with a malformed line, and what ends a check before the end of its input.
 
+use std::alloc::AllocError;
 use std::{fmt, io};
 
 /// What ended a check.
@@ -41,6 +42,12 @@ impl From<io::Error> for Failure {
     }
 }
 
+impl From<AllocError> for Failure {
+    fn from(_: AllocError) -> Failure {
+        Failure::Memory
+    }
+}
+
 impl fmt::Display for Failure {
     fn fmt<W: fmt::Write>(&self, f: &mut fmt::Formatter<W>) -> fmt::Result {
         match self {
@@ -58,6 +65,8 @@ pub enum RowError<'a> {
     Encoding,
     /// It has this many columns.
     Columns(usize),
+    /// It has this many words, and not as many as the second number says.
+    Numbers(usize, usize),
     /// A column has no such thing as the first text says; the second is what it has.
     Word(&'a str, &'a str),
 }
@@ -68,6 +77,9 @@ impl fmt::Display for RowError<'_> {
             RowError::Encoding => f.write_str("it is not UTF-8"),
             RowError::Columns(count) => {
                 write!(f, "columns: {count}, and a command has 2, a call 7")
+            }
+            RowError::Numbers(count, wanted) => {
+                write!(f, "words: {count}, and a line has {wanted}")
             }
             RowError::Word(fault, word) => write!(f, "{fault}: `{word}`"),
         }

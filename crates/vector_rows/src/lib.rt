@@ -9,8 +9,14 @@ mod calls;
 mod check;
 mod command_row;
 mod failure;
+mod fpgen;
+mod given;
 mod program;
+mod summary;
+mod testfloat;
 
-pub use check::{Check, Tally};
+pub use check::{Check, Lines, Tally, Task};
 pub use failure::Failure;
-pub use program::{check_input, run};
+pub use fpgen::Fpgen;
+pub use program::{check_input, check_lines, run};
+pub use testfloat::TestFloat;

@@ -1,7 +1,9 @@
 //! What the program is asked to do, and how it ends.
 
-use crate::check::{Check, Tally};
+use crate::check::{Check, Lines, Task};
 use crate::failure::Failure;
+use crate::fpgen::Fpgen;
+use crate::testfloat::TestFloat;
 use std::io::{BufRead, BufReader, BufWriter, ErrorKind, Read, Write};
 use std::rt::{Clock, Files};
 use std::{fs, io};
@@ -9,6 +11,7 @@ use std::{fs, io};
 /// What the program is for, what it reads and writes, and what its exit status means.
 const HELP: &str = "\
 usage: check_vectors [FILE | --help]
+       check_vectors [--summary] [--first N] [--testfloat FUNCTION | --fpgen] [OPTION..] [FILE]
 
 Checks the rows of FILE, or of standard input if there is no FILE or it is `-`, against the library.
 A row is a line of columns separated by tabs: a command of the program vectors and its reply, or a call,
@@ -16,6 +19,13 @@ its format, its mode, its operands, its value, its flags and what else it return
 
     half int even 464<TAB>5f40 OK
     add_r<TAB>half<TAB>any<TAB>3c00 3c00<TAB>4000<TAB>OK<TAB>-
+
+With --testfloat the lines are those of testfloat_gen for the function and its options, which may be
+-rnear_even -rmax -rmin -rminMag -rnear_maxMag -tininessafter -tininessbefore -notexact -exact --any-nan;
+with --fpgen they are those of IBM's FPgen.
+
+With --summary only counts are written, by call and format; with --first N the check ends after N rows
+that differ.
 
 Empty lines and comments, which begin with #, are skipped. The program writes each row that differs and
 each malformed line with its number, and at the end how many lines of each kind there were.
@@ -30,7 +40,10 @@ Exit status, the first one that holds:
 ";
 
 /// What is printed for unknown arguments.
-const USAGE: &str = "usage: check_vectors [FILE | --help]\n";
+const USAGE: &str = "\
+usage: check_vectors [FILE | --help]
+       check_vectors [--summary] [--first N] [--testfloat FUNCTION | --fpgen] [OPTION..] [FILE]
+";
 
 /// Runs the program with the arguments from the system, without its own name. Returns the exit status.
 pub fn run<R: Files + Clock + Input + AllocGlobal, W: Write, V: Write>(
@@ -44,42 +57,77 @@ pub fn run<R: Files + Clock + Input + AllocGlobal, W: Write, V: Write>(
         Err(error) => return refuse(error, err),
     };
     match job_of(words.as_slice()) {
-        Job::Input => check_reader(rt, "standard input", rt.reader(), out, err),
-        Job::File(name) => check_file(rt, name, out, err),
-        Job::Help => help(out, err),
-        Job::Unknown => usage(err),
+        Some(Job::Check(task, None)) => {
+            check_reader(rt, "standard input", rt.reader(), task, out, err)
+        }
+        Some(Job::Check(task, Some(name))) => check_file(rt, name, task, out, err),
+        Some(Job::Help) => help(out, err),
+        None => usage(err),
     }
 }
 
-/// What arguments ask for.
+/// What the arguments ask for.
 enum Job<'a> {
-    /// To check the rows of standard input.
-    Input,
-    /// To check the rows of a file.
-    File(&'a str),
     /// To write what the program is for.
     Help,
-    /// Something that the program does not have.
-    Unknown,
+    /// To check the lines of a file or of standard input.
+    Check(Task, Option<&'a str>),
 }
 
-/// What these arguments ask for.
-fn job_of(words: &[String]) -> Job<'_> {
+/// What the arguments ask for, if they are known.
+fn job_of(words: &[String]) -> Option<Job<'_>> {
     match words {
-        [] => Job::Input,
-        [word] => job_of_word(word.as_str()),
-        [mark, name] if mark.as_str() == "--" => Job::File(name.as_str()),
-        _ => Job::Unknown,
+        [word] if matches!(word.as_str(), "--help" | "-h") => Some(Job::Help),
+        _ => {
+            let (task, left) = task_of(words)?;
+            Some(Job::Check(task, file_of(left)?))
+        }
     }
 }
 
-/// What a single argument asks for.
-fn job_of_word(word: &str) -> Job<'_> {
-    match word {
-        "--help" | "-h" => Job::Help,
-        "-" => Job::Input,
-        option if option.starts_with('-') => Job::Unknown,
-        name => Job::File(name),
+/// What the options before a file ask for, and the words after them.
+fn task_of(words: &[String]) -> Option<(Task, &[String])> {
+    let mut task = Task::rows();
+    let mut left = words;
+    while let [word, others @ ..] = left {
+        match (word.as_str(), others) {
+            ("--summary", _) => {
+                task.is_summary = true;
+                left = others;
+            }
+            ("--fpgen", _) => {
+                task.lines = Lines::Fpgen(Fpgen::new());
+                left = others;
+            }
+            ("--first", [count, others @ ..]) => {
+                task.first = Some(count.as_str().parse().ok()?);
+                left = others;
+            }
+            ("--testfloat", [name, others @ ..]) => {
+                task.lines = Lines::TestFloat(TestFloat::named(name.as_str())?);
+                left = others;
+            }
+            (option, _) => match task.lines.with(option) {
+                Some(lines) => {
+                    task.lines = lines;
+                    left = others;
+                }
+                None => return Some((task, left)),
+            },
+        }
+    }
+    Some((task, left))
+}
+
+/// The file that the last words name, or none for standard input.
+fn file_of(words: &[String]) -> Option<Option<&str>> {
+    match words {
+        [] => Some(None),
+        [word] if word.as_str() == "-" => Some(None),
+        [word] if word.as_str().starts_with('-') => None,
+        [word] => Some(Some(word.as_str())),
+        [mark, name] if mark.as_str() == "--" => Some(Some(name.as_str())),
+        _ => None,
     }
 }
 
@@ -104,15 +152,16 @@ fn help<W: Write, V: Write>(out: &mut W, err: &mut V) -> u8 {
     }
 }
 
-/// Checks the rows of a file. Returns the exit status.
+/// Checks the lines of a file. Returns the exit status.
 fn check_file<R: Files + Clock + AllocGlobal, W: Write, V: Write>(
     rt: &R,
     name: &str,
+    task: Task,
     out: &mut W,
     err: &mut V,
 ) -> u8 {
     match fs::open(rt, name) {
-        Ok(file) => check_reader(rt, name, file, out, err),
+        Ok(file) => check_reader(rt, name, file, task, out, err),
         Err(error) => report(name, &Failure::of_input("open", error), err),
     }
 }
@@ -122,16 +171,17 @@ fn check_reader<R: Clock + AllocGlobal, I: Read + Drop, W: Write, V: Write>(
     rt: &R,
     name: &str,
     reader: I,
+    task: Task,
     out: &mut W,
     err: &mut V,
 ) -> u8 {
     match BufReader::new(rt.alloc(), reader) {
-        Ok(mut input) => check_input(rt, name, &mut input, out, err),
+        Ok(mut input) => check_lines(rt, name, &mut input, task, out, err),
         Err(error) => report(name, &Failure::of_input("open", error), err),
     }
 }
 
-/// Checks the lines of an input of this name. Returns the exit status.
+/// Checks the rows of an input of this name. Returns the exit status.
 pub fn check_input<R: Clock + AllocGlobal, B: BufRead, W: Write, V: Write>(
     rt: &R,
     name: &str,
@@ -139,17 +189,29 @@ pub fn check_input<R: Clock + AllocGlobal, B: BufRead, W: Write, V: Write>(
     out: &mut W,
     err: &mut V,
 ) -> u8 {
+    check_lines(rt, name, input, Task::rows(), out, err)
+}
+
+/// Checks the lines of an input of this name. Returns the exit status.
+pub fn check_lines<R: Clock + AllocGlobal, B: BufRead, W: Write, V: Write>(
+    rt: &R,
+    name: &str,
+    input: &mut B,
+    task: Task,
+    out: &mut W,
+    err: &mut V,
+) -> u8 {
     let mut out = match BufWriter::new(rt.alloc(), out) {
         Ok(out) => out,
         Err(error) => return report(name, &Failure::from(error), err),
     };
-    let mut check = Check::new(rt.alloc());
+    let mut check = Check::of(task, rt.alloc());
     let ended = check.take(input, rt.alloc(), rt, &mut out, err);
     if let Err(Failure::Output(error)) = ended {
         return report(name, &Failure::Output(error), err);
     }
     // What was checked before a failure is counted too.
-    match (ended, write_tally(check.tally(), &mut out)) {
+    match (ended, write_counts(&check, &mut out)) {
         (_, Err(error)) => report(name, &Failure::from(error), err),
         (Err(failure), Ok(())) => report(name, &failure, err),
         (Ok(()), Ok(())) if check.tally().is_empty() => {
@@ -159,9 +221,9 @@ pub fn check_input<R: Clock + AllocGlobal, B: BufRead, W: Write, V: Write>(
     }
 }
 
-/// Writes how many rows agree, differ and are malformed, and how many lines were skipped.
-fn write_tally<W: Write>(tally: Tally, out: &mut W) -> io::Result<()> {
-    writeln!(out, "{tally}")?;
+/// Writes the counts of a check.
+fn write_counts<W: Write>(check: &Check, out: &mut W) -> io::Result<()> {
+    check.write_counts(out)?;
     out.flush()
 }
 

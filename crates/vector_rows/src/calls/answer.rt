@@ -8,7 +8,7 @@ use rustc_apfloat::{ExpInt, Flags, Float, Status, StatusAnd};
 use std::cmp::Ordering;
 use std::fmt::{Debug, Write as _};
 use std::io::Write;
-use std::{fmt, io};
+use std::{fmt, io, str};
 
 /// A text of at most 128 bytes: no type shows more by `Debug`, and no refusal is longer.
 #[derive(Clone, Copy)]
@@ -29,6 +29,11 @@ impl Text {
     /// The bytes of the text.
     pub fn as_bytes(&self) -> &[u8] {
         &self.bytes[..self.length.min(128)]
+    }
+
+    /// The text.
+    pub fn as_str(&self) -> &str {
+        str::from_utf8(self.as_bytes()).unwrap_or("")
     }
 }
 
@@ -305,7 +310,8 @@ impl StatusField {
             return match self {
                 StatusField::Nothing => Some(true),
                 StatusField::Refused => Some(false),
-                StatusField::Flags(_) => None,
+                // The row does not say them.
+                StatusField::Flags(_) => Some(true),
             };
         }
         match (self, status_named(word)) {
@@ -417,7 +423,7 @@ fn is_count(count: u32, word: &str) -> Option<bool> {
     }
 }
 
-/// The status of this word: `OK`, or the names of flags, joined by bars in the order of their bits.
+/// The status of this word: `OK`, or the names of flags, joined by bars.
 pub fn status_named(word: &str) -> Option<Status> {
     let mut status = Status::OK;
     if word == "OK" {
@@ -427,7 +433,7 @@ pub fn status_named(word: &str) -> Option<Status> {
         let Some(flag) = Status::from_name(name) else {
             return None;
         };
-        if flag.bits() <= status.bits() {
+        if status.contains(flag) {
             return None;
         }
         status = status.union(flag);

@@ -1,0 +1,103 @@
+//! How many rows of each call and format agree and differ.
+
+use std::alloc::{AllocError, Global};
+use std::io;
+use std::io::Write;
+
+/// The counts by call and format, in the order in which these first come.
+#[derive(Drop)]
+pub struct Summary {
+    alloc: Global,
+    groups: Vec<Group>,
+    // The group of the last row, where the next one is looked for first.
+    last: usize,
+}
+
+/// The rows of a call in a format.
+#[derive(Drop)]
+struct Group {
+    call: String,
+    format: String,
+    agreeing: u64,
+    differing: u64,
+}
+
+impl Summary {
+    /// No rows yet.
+    pub fn new(alloc: Global) -> Summary {
+        Summary {
+            alloc,
+            groups: Vec::new(alloc),
+            last: 0,
+        }
+    }
+
+    /// Counts a row.
+    pub fn count(&mut self, text: &str, is_agreeing: bool) -> Result<(), AllocError> {
+        let (call, format) = names_of(text);
+        let place = self.place_of(call, format);
+        if place == self.groups.len() {
+            self.groups.push(Group {
+                call: String::from_str(self.alloc, call)?,
+                format: String::from_str(self.alloc, format)?,
+                agreeing: 0,
+                differing: 0,
+            })?;
+        }
+        self.last = place;
+        if let Some(group) = self.groups.get_mut(place) {
+            if is_agreeing {
+                group.agreeing = group.agreeing.saturating_add(1);
+            } else {
+                group.differing = group.differing.saturating_add(1);
+            }
+        }
+        Ok(())
+    }
+
+    /// Where the group of a call and a format is, or how many groups there are.
+    fn place_of(&self, call: &str, format: &str) -> usize {
+        if let Some(group) = self.groups.get(self.last)
+            && group.is_of(call, format)
+        {
+            return self.last;
+        }
+        for place in 0..self.groups.len() {
+            if self.groups[place].is_of(call, format) {
+                return place;
+            }
+        }
+        self.groups.len()
+    }
+
+    /// Writes a line for each group.
+    pub fn write<W: Write>(&self, out: &mut W) -> io::Result<()> {
+        for group in self.groups.as_slice() {
+            let (call, format) = (group.call.as_str(), group.format.as_str());
+            let (agreeing, differing) = (group.agreeing, group.differing);
+            writeln!(
+                out,
+                "{call}\t{format}\t{agreeing} agree, {differing} differ"
+            )?;
+        }
+        Ok(())
+    }
+}
+
+impl Group {
+    /// Whether it is that of a call in a format.
+    fn is_of(&self, call: &str, format: &str) -> bool {
+        self.call.as_str() == call && self.format.as_str() == format
+    }
+}
+
+/// The call and the format of a row: its first two columns, or the second word of a command and the first.
+fn names_of(text: &str) -> (&str, &str) {
+    let (first, others) = text.split_once('\t').unwrap_or((text, ""));
+    if let Some((second, _)) = others.split_once('\t') {
+        return (first, second);
+    }
+    let (format, words) = first.split_once(' ').unwrap_or((first, ""));
+    let (call, _) = words.split_once(' ').unwrap_or((words, ""));
+    (call, format)
+}

@@ -1,0 +1,183 @@
+#!/usr/bin/env python3
+"""Writes lines as other programs have them in their files of tests, with the answers of the model.
+
+    python3 evidence/field_files.py testfloat FUNCTION SEED COUNT [OPTION ..]
+    python3 evidence/field_files.py fpgen SEED COUNT [-tininessbefore]
+
+The first is a function of Berkeley TestFloat, such as `f64_add`, with its options of rounding; the
+second are lines of IBM's FPgen, in its three binary formats. The same words draw the same lines.
+"""
+
+import random
+import sys
+
+from exact import calls
+
+FLOATS = {
+    "f16": ("half", 16, 10),
+    "f32": ("single", 32, 23),
+    "f64": ("double", 64, 52),
+    "extF80": ("x87", 80, 64),
+    "f128": ("quad", 128, 112),
+}
+INTEGERS = {"ui32": 32, "ui64": 64, "i32": 32, "i64": 64}
+OPERATIONS = {
+    "add": ("add_r", 2),
+    "sub": ("sub_r", 2),
+    "mul": ("wide_mul_r", 2),
+    "mulAdd": ("wide_mul_add_r", 3),
+    "div": ("div_r", 2),
+    "rem": ("ieee_rem", 2),
+    "sqrt": ("sqrt_r", 1),
+    "roundToInt": ("round_to_integral", 1),
+}
+MODES = {
+    "-rnear_even": "even",
+    "-rmax": "up",
+    "-rmin": "down",
+    "-rminMag": "zero",
+    "-rnear_maxMag": "away",
+}
+FLAGS = {"INEXACT": 1, "UNDERFLOW": 2, "OVERFLOW": 4, "DIV_BY_ZERO": 8, "INVALID_OP": 16}
+
+
+def value(choices, kind):
+    """The bits of a value: any, near 1, or at an end of the format."""
+    _, width, fraction = FLOATS[kind]
+    explicit = kind == "extF80"
+    ones = (1 << (width - 1 - fraction)) - 1
+    one = ones >> 1
+    near, far = one + choices.randint(-3, 3), one + choices.randint(0, fraction)
+    exponent = choices.choice([choices.randint(1, ones - 1), near, far, 0, ones - 1, 1])
+    bits = choices.getrandbits(fraction - explicit)
+    if choices.random() < 0.3:
+        bits &= -1 << choices.randint(fraction // 2, fraction - 2)
+    if choices.random() < 0.05:
+        exponent, bits = ones, choices.choice([0, 1 << (fraction - explicit - 1)])
+    if explicit and exponent > 0:
+        bits |= 1 << 63
+    return choices.getrandbits(1) << (width - 1) | exponent << fraction | bits
+
+
+def numbers(status):
+    """The flags of a status, as a number."""
+    return sum(FLAGS[name] for name in status.split("|") if name != "OK")
+
+
+def hexadecimal(bits, width):
+    """Bits of this width in upper-case digits."""
+    return f"{bits & ((1 << width) - 1):0{width // 4}X}"
+
+
+def answer(call, words, mode, operands):
+    """The value and the flags that the model has for a call."""
+    given = calls.answered(call, words, "-" if call == "ieee_rem" else mode, operands)
+    return given.value, numbers(given.flags)
+
+
+def testfloat(function, choices, options):
+    """A line of TestFloat for a function."""
+    mode = next((MODES[option] for option in options if option in MODES), "even")
+    suffix = "+ieee+before" if "-tininessbefore" in options else "+ieee"
+    source, to, target = function.partition("_to_")
+    if not to:
+        kind, _, operation = function.partition("_")
+        name, width, _ = FLOATS[kind]
+        call, count = OPERATIONS[operation]
+        operands = [hexadecimal(value(choices, kind), width) for _ in range(count)]
+        result, flags = answer(call, name + suffix, mode, " ".join(operands).lower())
+        if call == "round_to_integral" and "-exact" not in options:
+            flags &= ~1
+        return " ".join([*operands, hexadecimal(int(result, 16), width), f"{flags:02X}"])
+    if source in INTEGERS:
+        width = INTEGERS[source]
+        bits = choices.getrandbits(width) >> choices.randint(0, width - 1)
+        if choices.random() < 0.5:
+            bits = -bits % (1 << width)
+        signed = source.startswith("i")
+        number = bits - (1 << width) if signed and bits >> (width - 1) else bits
+        name, target_width, _ = FLOATS[target]
+        call = "from_i128_r" if signed else "from_u128_r"
+        result, flags = answer(call, name + suffix, mode, str(number))
+        return f"{hexadecimal(bits, width)} {hexadecimal(int(result, 16), target_width)} {flags:02X}"
+    name, width, _ = FLOATS[source]
+    operand = hexadecimal(value(choices, source), width)
+    if target in INTEGERS:
+        target_width = INTEGERS[target]
+        call = "to_i128_r" if target.startswith("i") else "to_u128_r"
+        result, flags = answer(call, name + suffix, mode, f"{operand.lower()} {target_width}")
+        if "-exact" not in options:
+            flags &= ~1
+        return f"{operand} {hexadecimal(int(result), target_width)} {flags:02X}"
+    target_name, target_width, _ = FLOATS[target]
+    call = "convert_r"
+    result, flags = answer(call, f"{name}{suffix}>{target_name}{suffix}", mode, operand.lower())
+    return f"{operand} {hexadecimal(int(result, 16), target_width)} {flags:02X}"
+
+
+FPGEN_FORMATS = {"b32": "f32", "b64": "f64", "b128": "f128"}
+FPGEN_OPERATIONS = {
+    "+": "add",
+    "-": "sub",
+    "*": "mul",
+    "*+": "mulAdd",
+    "/": "div",
+    "%": "rem",
+    "V": "sqrt",
+    "rfi": "roundToInt",
+}
+FPGEN_MODES = {"=0": "even", ">": "up", "<": "down", "0": "zero", "=^": "away"}
+FPGEN_FLAGS = {1: "x", 2: "u", 4: "o", 8: "z", 16: "i"}
+
+
+def fpgen_number(bits, kind):
+    """The text of a value of a format in lines of FPgen."""
+    _, width, fraction = FLOATS[kind]
+    ones = (1 << (width - 1 - fraction)) - 1
+    exponent = bits >> fraction & ones
+    low = bits & ((1 << fraction) - 1)
+    sign = "-" if bits >> (width - 1) else "+"
+    if exponent == ones:
+        return ("Q" if low >> (fraction - 1) else "S") if low else sign + "Inf"
+    if exponent == 0 and low == 0:
+        return sign + "Zero"
+    bias = ones >> 1
+    digits = f"{low:0{-(-fraction // 4)}X}"
+    return f"{sign}{int(exponent > 0)}.{digits}P{max(exponent, 1) - bias}"
+
+
+def fpgen(choices, options):
+    """A line of FPgen."""
+    name = choices.choice(sorted(FPGEN_FORMATS))
+    kind = FPGEN_FORMATS[name]
+    symbol = choices.choice(sorted(FPGEN_OPERATIONS))
+    rounding = choices.choice(sorted(FPGEN_MODES))
+    call, count = OPERATIONS[FPGEN_OPERATIONS[symbol]]
+    form, width, _ = FLOATS[kind]
+    suffix = "+ieee+before" if "-tininessbefore" in options else "+ieee"
+    operands = [value(choices, kind) for _ in range(count)]
+    words = " ".join(f"{bits:0{width // 4}x}" for bits in operands)
+    result, flags = answer(call, form + suffix, FPGEN_MODES[rounding], words)
+    texts = " ".join(fpgen_number(bits, kind) for bits in operands)
+    letters = "".join(letter for flag, letter in FPGEN_FLAGS.items() if flags & flag)
+    stated = fpgen_number(int(result, 16), kind)
+    return f"{name}{symbol} {rounding} {texts} -> {stated} {letters}".rstrip()
+
+
+def main():
+    """Draws lines and writes them."""
+    what, *others = sys.argv[1:]
+    if what == "testfloat":
+        function, seed, count, *options = others
+        choices = random.Random(f"{function} {seed}")
+        for _ in range(int(count)):
+            print(testfloat(function, choices, options))
+    else:
+        seed, count, *options = others
+        choices = random.Random(int(seed))
+        for _ in range(int(count)):
+            print(fpgen(choices, options))
+
+
+if __name__ == "__main__":
+    main()
