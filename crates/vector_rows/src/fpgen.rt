@@ -167,7 +167,11 @@ impl Fpgen {
         } else {
             test.format.word
         };
-        given(test.call, word, test.mode, test.operands.as_str())
+        if test.call == "ieee_rem" {
+            given(test.call, word, "-", test.operands.as_str())
+        } else {
+            given(test.call, word, test.mode, test.operands.as_str())
+        }
     }
 }
 
@@ -180,31 +184,44 @@ fn test_of(line: &str) -> Result<Option<Test>, RowError<'_>> {
     let (call, count) = found(&OPERATIONS, operation).ok_or(RowError::Word("no call", name))?;
     let (rounding, words) = left.split_once(' ').ok_or(error)?;
     let mode = found(&ROUNDINGS, rounding).ok_or(RowError::Word("no mode", rounding))?;
-    let (traps, operands) = words.split_once(' ').unwrap_or((words, ""));
+    let (traps, operands) = cut_word(words);
     if flags_of(traps).is_some() && !operands.is_empty() {
         return Ok(None);
     }
     if words.split(' ').count() != count {
         return Err(RowError::Word("no operands of the call", words));
     }
-    let (result, flags) = right.split_once(' ').unwrap_or((right, ""));
-    if result == "#" {
+    let Some(stated) = stated_in(right, format)? else {
         return Ok(None);
-    }
-    let stated = Columns {
-        result: bits_of_number(result, format).ok_or(RowError::Word("no result", result))?,
-        flags: flags_of(flags).ok_or(RowError::Word("no flags", flags))?,
     };
+    let operands = operands_of(words, format);
     Ok(Some(Test {
         format,
         call,
-        mode: if call == "ieee_rem" { "-" } else { mode },
-        operands: operands_of(words, format).ok_or(RowError::Word(
-            "no operands of the call",
-            words,
-        ))?,
+        mode,
+        operands: operands.ok_or(RowError::Word("no operands of the call", words))?,
         stated,
     }))
+}
+
+/// The result and the flags of a line, or nothing if there is no result since there is a trap.
+fn stated_in(right: &str, format: BinaryFormat) -> Result<Option<Columns>, RowError<'_>> {
+    let (result, flags) = cut_word(right);
+    if result == "#" {
+        return Ok(None);
+    }
+    Ok(Some(Columns {
+        result: bits_of_number(result, format).ok_or(RowError::Word("no result", result))?,
+        flags: flags_of(flags).ok_or(RowError::Word("no flags", flags))?,
+    }))
+}
+
+/// The first word of a text, and the text after its space.
+fn cut_word(text: &str) -> (&str, &str) {
+    match text.split_once(' ') {
+        Some(parts) => parts,
+        None => (text, ""),
+    }
 }
 
 /// The format with which the name of a test begins, and the operation after it.

@@ -89,7 +89,10 @@ fn job_of(words: &[String]) -> Option<Job<'_>> {
 fn task_of(words: &[String]) -> Option<(Task, &[String])> {
     let mut task = Task::rows();
     let mut left = words;
-    while let [word, others @ ..] = left {
+    for _ in 0..words.len() {
+        let [word, others @ ..] = left else {
+            return Some((task, left));
+        };
         match (word.as_str(), others) {
             ("--summary", _) => {
                 task.is_summary = true;
