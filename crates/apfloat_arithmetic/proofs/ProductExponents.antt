@@ -35,8 +35,8 @@ balanced_product precision scale min_exp x y r t l e = omega (arith, ints)
 
 -- also if it was moved up, and its exponent lowered as far
 balanced_raised : (precision scale moved : ℕ) (min_exp x y e r : ℤ) → 3 ≤ precision
-    → pos scale ≡ pos (precision - 1) -ℤ min_exp → e ≡ ((x +ℤ y) -ℤ pos (2 * (precision - 1))) → r ≡ e -ℤ pos moved
-    → up (x -ℤ min_exp) + up (y -ℤ min_exp) + down (r +ℤ pos scale)
+    → pos scale ≡ pos (precision - 1) -ℤ min_exp → e ≡ ((x +ℤ y) -ℤ pos (2 * (precision - 1)))
+    → r ≡ e -ℤ pos moved → up (x -ℤ min_exp) + up (y -ℤ min_exp) + down (r +ℤ pos scale)
     ≡ down (x -ℤ min_exp) + down (y -ℤ min_exp) + (scale + (moved + up (r +ℤ pos scale)))
 balanced_raised precision scale moved min_exp x y e r t l g h = omega (arith, ints)
 
@@ -63,8 +63,8 @@ product_is shape x y r m n p hx hy v e =
     (scale_is shape) e) ∙ ap (λ (z : ℕ). z * (2 ^ (format_at shape).scale * 2 ^ up unit)) (sym v)
 
 -- so does the product that was moved up, with the exponent that was lowered as far
-pub raised_product_is : (shape : Shape) (x y e r : ℤ) (m n p moved : ℕ) → IsNormalAt shape m x → IsNormalAt shape n y
-    → p ≡ m * n * 2 ^ moved
+pub raised_product_is : (shape : Shape) (x y e r : ℤ) (m n p moved : ℕ) → IsNormalAt shape m x
+    → IsNormalAt shape n y → p ≡ m * n * 2 ^ moved
     → e ≡ ((x +ℤ y) -ℤ pos (2 * (shape.precision - 1))) → r ≡ e -ℤ pos moved
     → quanta_at shape.min_exp m x * quanta_at shape.min_exp n y * 2 ^ down (r +ℤ pos (format_at shape).scale)
     ≡ p * (2 ^ (format_at shape).scale * 2 ^ up (r +ℤ pos (format_at shape).scale))

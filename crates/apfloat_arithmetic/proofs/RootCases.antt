@@ -13,15 +13,16 @@ some_root : (format : Format) (mode : Round) (negative : Bool) (n : ℕ) (value 
 some_root format mode b n value status p h = rw (ne_eqb n 0 (λ z. omega (arith, z, p))) h
 
 -- the root of a positive number is rounded
-pub positive_root : (format : Format) (mode : Round) (negative : Bool) (n : ℕ) (value : Datum) (status : ℕ) → 0 < n
-    → negative ≡ false → IsDeliveredRoot format mode (n * 2 ^ format.scale) value status
+pub positive_root : (format : Format) (mode : Round) (negative : Bool) (n : ℕ) (value : Datum) (status : ℕ)
+    → 0 < n → negative ≡ false → IsDeliveredRoot format mode (n * 2 ^ format.scale) value status
     → IsRoot format mode (finite negative n) value status
 positive_root format mode b n value status p e h =
     some_root format mode b n value status p
     (subst (λ (x : Bool). IsRootOfNumber format mode x n value status) (sym e) h)
 
 -- that of a negative number is invalid
-pub negative_root : (format : Format) (mode : Round) (negative : Bool) (n : ℕ) (value : Datum) (status : ℕ) → 0 < n
+pub negative_root : (format : Format) (mode : Round) (negative : Bool) (n : ℕ) (value : Datum) (status : ℕ)
+    → 0 < n
     → negative ≡ true → IsInvalid format value status → IsRoot format mode (finite negative n) value status
 negative_root format mode b n value status p e h =
     some_root format mode b n value status p

@@ -31,15 +31,16 @@ same_places n s a b x y e l =
 
 -- the places of a root add up alike on both sides
 balanced_root : (precision places scale odd : ℕ) (min_exp x half r : ℤ) → 3 ≤ precision
-    → pos scale ≡ pos (precision - 1) -ℤ min_exp → x ≡ (half +ℤ half) +ℤ pos odd → places ≡ precision - 1 + odd
-    → r ≡ half -ℤ pos (precision - 1)
+    → pos scale ≡ pos (precision - 1) -ℤ min_exp → x ≡ (half +ℤ half) +ℤ pos odd
+    → places ≡ precision - 1 + odd → r ≡ half -ℤ pos (precision - 1)
     → up (x -ℤ min_exp) + (scale + (down (r +ℤ pos scale) + down (r +ℤ pos scale)))
     ≡ (places + (up (r +ℤ pos scale) + up (r +ℤ pos scale))) + down (x -ℤ min_exp)
 balanced_root precision places scale odd min_exp x half r t l h p e = omega (arith, ints)
 
 -- the square of the root in quanta is the significand with its zeros, in squares of the root's unit
 pub root_is : (shape : Shape) (x half r : ℤ) (m places odd : ℕ) → IsNormalAt shape m x
-    → x ≡ (half +ℤ half) +ℤ pos odd → places ≡ shape.precision - 1 + odd → r ≡ half -ℤ pos (shape.precision - 1)
+    → x ≡ (half +ℤ half) +ℤ pos odd → places ≡ shape.precision - 1 + odd
+    → r ≡ half -ℤ pos (shape.precision - 1)
     → quanta_at shape.min_exp m x * 2 ^ (format_at shape).scale
     * (2 ^ down (r +ℤ pos (format_at shape).scale) * 2 ^ down (r +ℤ pos (format_at shape).scale))
     ≡ m * 2 ^ places

@@ -45,14 +45,15 @@ pub first_digits : (body whole : List ℕ) → whole ≡ run is_decimal body →
 first_digits body whole e = subst (λ (t : List ℕ). every is_decimal t ≡ true) (sym e) (run_passes is_decimal body)
 
 -- so are those after a dot
-pub fraction_digits : (rest fraction : List ℕ) → fraction ≡ fraction_in rest → every is_decimal fraction ≡ true
+pub fraction_digits : (rest fraction : List ℕ) → fraction ≡ fraction_in rest
+    → every is_decimal fraction ≡ true
 fraction_digits rest fraction e =
     let s = split rest in
     subst (λ (t : List ℕ). every is_decimal t ≡ true) (sym e) s.digits
 
 -- an exponent without a fault is one
-written : (tail : List ℕ) → (not (is_empty tail) && not (begins is_e tail)) ≡ false → written_fault tail ≡ None
-    → IsWrittenExponent tail (exponent_number (drop 1 tail))
+written : (tail : List ℕ) → (not (is_empty tail) && not (begins is_e tail)) ≡ false
+    → written_fault tail ≡ None → IsWrittenExponent tail (exponent_number (drop 1 tail))
 written [] b d = refl
 written (letter ∷ exponent) b d =
     let every_one =
@@ -67,7 +68,8 @@ written (letter ∷ exponent) b d =
 
 -- a text without a fault spells its digits times a power of ten
 pub body_spelled : (format : Format) (mode : Round) (negative : Bool) (body whole rest fraction tail : List ℕ)
-    (some : Bool) (value : Datum) (status : ℕ) → whole ≡ run is_decimal body → rest ≡ behind_run is_decimal body
+    (some : Bool) (value : Datum) (status : ℕ) → whole ≡ run is_decimal body
+    → rest ≡ behind_run is_decimal body
     → fraction ≡ fraction_in rest → tail ≡ behind_fraction rest → some ≡ not (is_empty (whole ++ fraction))
     → fault_after some tail ≡ None
     → IsDecimalDelivery format mode negative (number 10 (whole ++ fraction))
@@ -110,9 +112,11 @@ body_spelled format mode negative body whole rest fraction tail some value statu
     empty_none (x ∷ xs) h = refl
 
 -- the fault of a text by its parts
-pub body_faulted : (body whole rest fraction tail : List ℕ) (some : Bool) (fault : Fault) → whole ≡ run is_decimal body
+pub body_faulted : (body whole rest fraction tail : List ℕ) (some : Bool) (fault : Fault)
+    → whole ≡ run is_decimal body
     → rest ≡ behind_run is_decimal body → fraction ≡ fraction_in rest → tail ≡ behind_fraction rest
-    → some ≡ not (is_empty (whole ++ fraction)) → fault_after some tail ≡ Some fault → body_fault body ≡ Some fault
+    → some ≡ not (is_empty (whole ++ fraction)) → fault_after some tail ≡ Some fault
+    → body_fault body ≡ Some fault
 body_faulted body whole rest fraction tail some fault w r f t n h =
     let h' : fault_after (not (is_empty (whole ++ fraction))) tail ≡ Some fault =
     subst (λ (b : Bool). fault_after b tail ≡ Some fault) n h in
@@ -120,7 +124,8 @@ body_faulted body whole rest fraction tail some fault w r f t n h =
     let f' : fraction ≡ fraction_in (behind_run is_decimal body) = f ∙ ap fraction_in r in
     let d : whole ++ fraction ≡ run is_decimal body ++ fraction_in (behind_run is_decimal body) =
     ap (λ (x : List ℕ). x ++ fraction) w ∙ ap (λ (x : List ℕ). run is_decimal body ++ x) f' in
-    subst (λ (x : List ℕ). fault_after (not (is_empty x)) (behind_fraction (behind_run is_decimal body)) ≡ Some fault) d
+    subst (λ (x : List ℕ).
+    fault_after (not (is_empty x)) (behind_fraction (behind_run is_decimal body)) ≡ Some fault) d
     (subst (λ (x : List ℕ). fault_after (not (is_empty (whole ++ fraction))) x ≡ Some fault) t' h')
 
 -- ---- texts that are not empty
@@ -129,12 +134,13 @@ empty_is : (xs : List ℕ) → is_empty xs ≡ (length xs == 0)
 empty_is [] = refl
 empty_is (c ∷ xs) = sym (ne_eqb (length (c ∷ xs)) 0 (λ e. omega (arith, e)))
 
-pub some_second : (first second : List ℕ) (none : Bool) → true ≡ (length first == 0) → none ≡ (length second == 0)
-    → not none ≡ not (is_empty (first ++ second))
+pub some_second : (first second : List ℕ) (none : Bool) → true ≡ (length first == 0)
+    → none ≡ (length second == 0) → not none ≡ not (is_empty (first ++ second))
 some_second [] second none h e = ap not (e ∙ sym (empty_is second))
 some_second (c ∷ first) second none h e = absurd (false≢true (empty_is (c ∷ first) ∙ sym h))
 
-pub some_first : (first second : List ℕ) → false ≡ (length first == 0) → true ≡ not (is_empty (first ++ second))
+pub some_first : (first second : List ℕ) → false ≡ (length first == 0)
+    → true ≡ not (is_empty (first ++ second))
 some_first [] second h = absurd (false≢true (h ∙ sym (empty_is [])))
 some_first (c ∷ first) second h = refl
 

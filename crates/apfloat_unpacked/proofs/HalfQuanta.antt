@@ -59,7 +59,8 @@ off_last precision m c amount parts last mode negative p e n i =
     (cases_lt m last)
 
 -- the last significand before the half is kept at the lowest place
-at_lowest : (precision half m c amount parts : ℕ) (loss : Loss) → m < half → IsEnclosed precision half m c amount parts
+at_lowest : (precision half m c amount parts : ℕ) (loss : Loss) → m < half
+    → IsEnclosed precision half m c amount parts
     → StandsFor m loss amount (2 ^ c * parts) → StandsFor m loss amount parts
 at_lowest precision half m c amount parts loss l i h =
     ⊎_elim
@@ -84,8 +85,8 @@ pub record IsJustBelow (precision amount parts : ℕ) : Type 0 where
   pub from : (2 ^ precision - 1) * parts < 2 * amount
   pub to : 2 * amount < 2 ^ precision * parts
 
-pub last_by_more : (precision m c amount parts last : ℕ) (loss : Loss) → last ≡ 2 ^ (precision - 1) - 1 → m ≡ last
-    → loss ≡ MoreThanHalf → IsEnclosed precision (2 ^ (precision - 1)) m c amount parts
+pub last_by_more : (precision m c amount parts last : ℕ) (loss : Loss) → last ≡ 2 ^ (precision - 1) - 1
+    → m ≡ last → loss ≡ MoreThanHalf → IsEnclosed precision (2 ^ (precision - 1)) m c amount parts
     → StandsFor m loss amount (2 ^ c * parts) → IsJustBelow precision amount parts
 last_by_more precision m c amount parts last loss e d z i h =
     let w : 0 < 2 ^ (precision - 1) = pow_pos (precision - 1) in

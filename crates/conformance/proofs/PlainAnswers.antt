@@ -56,8 +56,8 @@ from_normal precision mode negative amount parts p h =
     rw (a, b) refl
 
 -- otherwise the pick of twice the magnitude decides
-pub by_pick : (precision : ℕ) (mode : Round) (negative : Bool) (amount parts pick : ℕ) → 0 < precision → 0 < parts
-    → IsPick precision mode negative (2 * amount) parts pick
+pub by_pick : (precision : ℕ) (mode : Round) (negative : Bool) (amount parts pick : ℕ) → 0 < precision
+    → 0 < parts → IsPick precision mode negative (2 * amount) parts pick
     → ltb pick (2 ^ precision) ≡ rounds_below_normal precision mode negative amount parts
 by_pick precision mode negative amount parts pick some p x =
     ap (λ (n : ℕ). ltb pick n) (sym (twice_half precision some))
@@ -105,8 +105,8 @@ if_stays false out kept = refl
 pub out_is : (format : Format) (bounds : Bounds) (mode : Round) (negative : Bool) (amount parts pick status : ℕ)
     (value : Datum) → HasBounds format bounds → IsPick bounds.precision mode negative amount parts pick
     → bounds.largest < pick → leads_out mode negative ≡ true
-    → value ≡ past_largest bounds.nonfinite (nan_base_of bounds.nonfinite bounds.precision) negative → status ≡ 20
-    → IsDelivered format mode negative amount parts value status
+    → value ≡ past_largest bounds.nonfinite (nan_base_of bounds.nonfinite bounds.precision) negative
+    → status ≡ 20 → IsDelivered format mode negative amount parts value status
 out_is format bounds mode negative amount parts pick status value h i l out v s =
     let p : IsPick format.precision mode negative amount parts pick =
     subst (λ (x : ℕ). IsPick x mode negative amount parts pick) (sym h.precision) i in

@@ -26,8 +26,8 @@ alone_number : (x : Datum) → pair_number (alone x) ≡ number x
 alone_number x = +ℤ_idr (number x)
 
 -- the bits of a double are those of a pair with low part +0
-pub alone_of_bits : (x : Datum) (bits : ℕ) → bits < 2 ^ 64 → datum_of double (layout_with double_constants) bits ≡ x
-    → pair_of bits ≡ alone x
+pub alone_of_bits : (x : Datum) (bits : ℕ) → bits < 2 ^ 64
+    → datum_of double (layout_with double_constants) bits ≡ x → pair_of bits ≡ alone x
 alone_of_bits x bits h e = rw (mod-eq_of_lt h, div-eq_of_lt h, e) refl
 
 -- a summand with low part +0 is a single double

@@ -16,7 +16,8 @@ use Rattle.apfloat_base.proofs.rounding.OutwardRoundings.{Encloses}
 use Rattle.apfloat_base.proofs.rounding.OutwardResults.{reading_encloses}
 use Rattle.conformance.specs.TwoReadings.{AreReadings}
 
-pub same_if_ok : (R : Round → Datum → ℕ → Type 0) → AgreesWhereOk R → (mode other : Round) (one two : StatusAnd Datum)
+pub same_if_ok : (R : Round → Datum → ℕ → Type 0) → AgreesWhereOk R
+    → (mode other : Round) (one two : StatusAnd Datum)
     → Gives (R mode) one → Gives (R other) two → AreSameIfOk one two
 same_if_ok R agrees mode other one two x y = λ e.
     agrees mode other one.value two.value (bits_of two.status) (subst (λ (s : ℕ). R mode one.value s) e x) y
@@ -60,5 +61,6 @@ pub reading_bounds : (format : Format) (mode other : Round) (text : List ℕ)
     → AreOutward mode other → AreReadings (AreBoundsUnlessNan IsOk) one two
 reading_bounds format mode other text one two x y o =
     readings_are format (AreBoundsUnlessNan IsOk) mode other text one two
-    (λ a b p q. bounds_if_outward IsOk (λ m. IsReading format m text) (reading_encloses format text) mode other a b p q
+    (λ a b p q.
+    bounds_if_outward IsOk (λ m. IsReading format m text) (reading_encloses format text) mode other a b p q
     o) x y

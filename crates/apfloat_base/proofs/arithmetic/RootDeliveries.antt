@@ -54,14 +54,16 @@ module _ (square amount parts : ℕ) (halves : AgreesWithRoot square 2 amount pa
       (cases_lt (n * parts) amount)
 
   -- the neighbours of the fraction are those of the root
-  pub below_root : (precision point : ℕ) → IsBelow precision point amount parts → IsBelowRoot precision point square
+  pub below_root : (precision point : ℕ) → IsBelow precision point amount parts
+      → IsBelowRoot precision point square
   below_root precision point b = record {
     on_grid = b.on_grid;
     not_above = not_above point b.not_above;
     greatest = λ other g l. b.greatest other g (at_most other l);
   }
 
-  pub above_root : (precision point : ℕ) → IsAbove precision point amount parts → IsAboveRoot precision point square
+  pub above_root : (precision point : ℕ) → IsAbove precision point amount parts
+      → IsAboveRoot precision point square
   above_root precision point b = record {
     on_grid = b.on_grid;
     not_below = not_below point b.not_below;
@@ -69,7 +71,8 @@ module _ (square amount parts : ℕ) (halves : AgreesWithRoot square 2 amount pa
   }
 
   -- the mode takes the same of two neighbours
-  pub takes_same : (mode : Round) (below above : ℕ) (odd : Bool) → below * parts ≤ amount → amount ≤ above * parts
+  pub takes_same : (mode : Round) (below above : ℕ) (odd : Bool) → below * parts ≤ amount
+      → amount ≤ above * parts
       → takes_above mode false (amount - below * parts) (above * parts - amount) odd
       ≡ takes_above mode false (4 * square) ((below + above) * (below + above)) odd
   takes_same mode below above odd l h =
@@ -130,7 +133,8 @@ module _ (square amount parts : ℕ) (halves : AgreesWithRoot square 2 amount pa
       le-leb amount (n * parts) (omega (arith, k)) ∙ sym (le-leb square (n * n) (omega arith)))
 
 -- a choice is asked for only where the tests before it leave it open
-where_open : (x y t u : Bool) → (x ≡ false → y ≡ true → t ≡ u) → (x || (y && not t)) ≡ (x || (y && not u))
+where_open : (x y t u : Bool) → (x ≡ false → y ≡ true → t ≡ u)
+    → (x || (y && not t)) ≡ (x || (y && not u))
 where_open true y t u h = refl
 where_open false false t u h = refl
 where_open false true t u h = ap (λ (b : Bool). not b) (h refl refl)

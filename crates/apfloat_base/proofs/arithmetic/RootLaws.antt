@@ -42,7 +42,8 @@ number_is_root format mode root value status d =
     root_delivered (root * root) root 1 (square_agrees root) format mode value status d
 
 -- and the other way round
-pub root_of_square : (format : Format) (mode : Round) (root : ℕ) (value : Datum) (status : ℕ) → 0 < format.precision
+pub root_of_square : (format : Format) (mode : Round) (root : ℕ) (value : Datum) (status : ℕ)
+    → 0 < format.precision
     → IsDeliveredRoot format mode (root * root) value status → IsDelivered format mode false root 1 value status
 root_of_square format mode root value status p d =
     let r = delivered_exists format mode false root 1 p (omega arith) in
@@ -132,7 +133,8 @@ both_nearest : (x y : ℕ) (odd : Bool) → (x ≡ y → ⊥)
     → takes_above NearestTiesToEven false x y odd ≡ takes_above NearestTiesToAway false x y odd
 both_nearest x y odd n =
     ⊎_elim
-    (λ (l : x < y). takes_less NearestTiesToEven false odd x y l ∙ sym (takes_less NearestTiesToAway false odd x y l))
+    (λ (l : x < y).
+    takes_less NearestTiesToEven false odd x y l ∙ sym (takes_less NearestTiesToAway false odd x y l))
     (λ (l : y ≤ x).
     let k : y < x = omega (arith, n) in
     takes_more NearestTiesToEven false odd x y k ∙ sym (takes_more NearestTiesToAway false odd x y k))
@@ -182,7 +184,8 @@ no_tie precision s k pick p l x = record {
 }
 
 -- sixteen times a number is not the square of an odd one
-odd_apart : (w half square : ℕ) → 0 < half → w ≡ 2 * half → 4 * (4 * square) ≡ (w - 1 + w) * (w - 1 + w) → ⊥
+odd_apart : (w half square : ℕ) → 0 < half → w ≡ 2 * half → 4 * (4 * square) ≡ (w - 1 + w) * (w - 1 + w)
+    → ⊥
 odd_apart w half square p d e =
     let v : ℕ = w - 1 + w in
     let a : v + 1 ≡ 4 * half = omega arith in

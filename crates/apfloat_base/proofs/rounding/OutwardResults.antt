@@ -44,8 +44,8 @@ one_bounds IsExact datum flags e n =
     }
 
 -- a result given outright, whatever the mode, is exact or a NaN
-answer_encloses : (IsExact : ℕ → Type 0) (datum : Datum) (flags : ℕ) → (is_nan datum ≡ false → IsExact flags)
-    → Encloses IsExact (λ mode. IsAnswer datum flags)
+answer_encloses : (IsExact : ℕ → Type 0) (datum : Datum) (flags : ℕ)
+    → (is_nan datum ≡ false → IsExact flags) → Encloses IsExact (λ mode. IsAnswer datum flags)
 answer_encloses IsExact datum flags e low high s t d g n m =
     let k : is_nan datum ≡ false = subst (λ (v : Datum). is_nan v ≡ false) d.value_is n in
     rw (d.value_is, g.value_is, d.status_is, g.status_is) (one_bounds IsExact datum flags (e k) k)

@@ -128,7 +128,8 @@ same_negative : (p q : ℕ) → signed true q ≡ signed true p → p ≡ q
 same_negative p q e = omega (arith, ints)
 
 -- positive neighbours
-positive_in_order : (kind : NonfiniteBehavior) (base : ℕ) (first second : Bool) (top p q : ℕ) → ltb top p ≡ first
+positive_in_order : (kind : NonfiniteBehavior) (base : ℕ) (first second : Bool) (top p q : ℕ)
+    → ltb top p ≡ first
     → ltb top q ≡ second → p ≤ q → is_nan (outer kind base second false q) ≡ false
     → InOrder (inner kind first false top p) (outer kind base second false q) (AreOne top p q)
 positive_in_order kind base first true top p q x y l h =
@@ -141,7 +142,8 @@ positive_in_order kind base false false top p q x y l h =
     (o.0, λ e. (same_positive p q (o.1 e), ltb-false top q y))
 
 -- negative neighbours
-negative_in_order : (kind : NonfiniteBehavior) (base : ℕ) (first second : Bool) (top p q : ℕ) → ltb top p ≡ first
+negative_in_order : (kind : NonfiniteBehavior) (base : ℕ) (first second : Bool) (top p q : ℕ)
+    → ltb top p ≡ first
     → ltb top q ≡ second → p ≤ q → is_nan (outer kind base second true q) ≡ false
     → InOrder (outer kind base second true q) (inner kind first true top p) (AreOne top p q)
 negative_in_order kind base first true top p q x y l h =
@@ -156,7 +158,8 @@ negative_in_order kind base false false top p q x y l h =
 -- a magnitude whose neighbours are equal and in range is delivered with status OK
 one_neighbour_ok : (format : Format) (mode : Round) (negative : Bool) (amount parts p q : ℕ) (value : Datum)
     (status : ℕ) → 0 < parts → IsBelow format.precision p amount parts → IsAbove format.precision q amount parts
-    → AreOne (largest format) p q → IsDelivered format mode negative amount parts value status → status ≡ ok_bits
+    → AreOne (largest format) p q → IsDelivered format mode negative amount parts value status
+    → status ≡ ok_bits
 one_neighbour_ok format mode negative amount parts p q v s h below above one d =
     let e : p * parts ≡ q * parts = ap (λ (x : ℕ). x * parts) one.0 in
     let l : p * parts ≤ amount = below.not_above in
@@ -166,8 +169,8 @@ one_neighbour_ok format mode negative amount parts p q v s h below above one d =
     (exact_delivered format mode negative q amount parts h above.on_grid one.1 is)).1
 
 -- one rounding downward and upward
-delivered_in_order : (format : Format) (negative : Bool) (amount parts : ℕ) (low high : Datum) (s t : ℕ) → 0 < parts
-    → IsDelivered format TowardNegative negative amount parts low s
+delivered_in_order : (format : Format) (negative : Bool) (amount parts : ℕ) (low high : Datum) (s t : ℕ)
+    → 0 < parts → IsDelivered format TowardNegative negative amount parts low s
     → IsDelivered format TowardPositive negative amount parts high t
     → is_nan low ≡ false → is_nan high ≡ false → InOrder low high (s ≡ ok_bits)
 delivered_in_order format false amount parts low high s t h d g n m =
@@ -216,7 +219,8 @@ Encloses IsExact R =
     → is_nan low ≡ false → is_nan high ≡ false → AreBounds IsExact low high s t
 
 -- if a status is OK, so is the other, and the values are equal
-equal_if_ok : (R : Round → Datum → ℕ → Type 0) (mode other : Round) (one two : Datum) (s t : ℕ) → AgreesWhereOk R
+equal_if_ok : (R : Round → Datum → ℕ → Type 0) (mode other : Round) (one two : Datum) (s t : ℕ)
+    → AgreesWhereOk R
     → R mode one s → R other two t → s ≡ ok_bits → (two ≡ one) × (t ≡ ok_bits)
 equal_if_ok R mode other one two s t agrees x y e =
     agrees mode other one two t (subst (λ (z : ℕ). R mode one z) e x) y

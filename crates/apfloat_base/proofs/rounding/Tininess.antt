@@ -70,7 +70,8 @@ taken mode negative last amount parts MoreThanHalf l h =
     let a = h.0 in let b = h.1 in takes_more mode negative true _ _ (omega (arith, a, b))
 
 -- the amount of a kept significand that is not the last one before the half is below the half by a quantum or more
-pub below_by_more : (precision half m c amount parts : ℕ) (mode : Round) (negative : Bool) → 0 < parts → m + 1 < half
+pub below_by_more : (precision half m c amount parts : ℕ) (mode : Round) (negative : Bool) → 0 < parts
+    → m + 1 < half
     → IsEnclosed precision half m c amount parts → rounds_below_normal precision mode negative amount parts ≡ true
 below_by_more precision half m c amount parts mode negative p l i =
     ⊎_elim
@@ -86,7 +87,8 @@ below_by_more precision half m c amount parts mode negative p l i =
 
 -- a kept significand of at least the half is not below
 pub not_below : (precision half m c amount parts : ℕ) (mode : Round) (negative : Bool) → 0 < parts → half ≤ m
-    → IsEnclosed precision half m c amount parts → rounds_below_normal precision mode negative amount parts ≡ false
+    → IsEnclosed precision half m c amount parts
+    → rounds_below_normal precision mode negative amount parts ≡ false
 not_below precision half m c amount parts mode negative p l i =
     let w : 1 ≤ 2 ^ c = pow_pos c in
     let a : m * 1 ≤ m * 2 ^ c = mul-le-mul_left m w in
@@ -110,8 +112,8 @@ at_most_half m MoreThanHalf amount parts p n h = absurd (n refl)
 
 -- so if the significand is the last one before the half, the amount is below
 pub below_by_half : (precision half m amount parts : ℕ) (mode : Round) (negative : Bool) (loss : Loss) → 0 < parts
-    → 2 ^ precision ≡ 2 * half → m + 1 ≡ half → (loss ≡ MoreThanHalf → ⊥) → StandsFor m loss amount parts
-    → rounds_below_normal precision mode negative amount parts ≡ true
+    → 2 ^ precision ≡ 2 * half → m + 1 ≡ half → (loss ≡ MoreThanHalf → ⊥)
+    → StandsFor m loss amount parts → rounds_below_normal precision mode negative amount parts ≡ true
 below_by_half precision half m amount parts mode negative loss p d e n h =
     let t : 2 * m + 1 ≡ 2 ^ precision - 1 = omega arith in
     let k : (2 * m + 1) * parts ≡ (2 ^ precision - 1) * parts = ap (λ (x : ℕ). x * parts) t in
@@ -147,8 +149,8 @@ next_on_grid precision p =
     record { significand = 2 ^ (precision - 1); place = 1; fits = omega arith; is = omega arith }
 
 -- the pick between the last number and the next one
-pick_between_both : (precision : ℕ) (mode : Round) (negative : Bool) (amount parts p : ℕ) (up : Bool) → 0 < precision
-    → (2 ^ precision - 1) * parts < amount → amount < 2 ^ precision * parts
+pick_between_both : (precision : ℕ) (mode : Round) (negative : Bool) (amount parts p : ℕ) (up : Bool)
+    → 0 < precision → (2 ^ precision - 1) * parts < amount → amount < 2 ^ precision * parts
     → IsPick precision mode negative amount parts p
     → takes_above mode negative (amount - (2 ^ precision - 1) * parts) ((2 ^ precision - 1 + 1) * parts - amount) true
     ≡ up → ltb p (2 ^ precision) ≡ not up

@@ -29,7 +29,8 @@ returns-then-given-ge0 c = λ amount parts p h x.
     let z : down c.args.given.unit ≡ 0 = omega (arith, ints) in
     let n : (c.args.given.loss ≡ ExactlyZero) ⊎ (2 ^ (c.args.shape.precision - 1) ≤ c.args.given.significand) =
     ⊎_elim (λ e. inl e)
-    (λ r. ⊎_elim (λ (l : (c.args.given.unit +ℤ pos 1) ≤ℤ pos 0). absurd (omega (arith, ints))) (λ f. inr f) r)
+    (λ r. ⊎_elim
+    (λ (l : (c.args.given.unit +ℤ pos 1) ≤ℤ pos 0). absurd (omega (arith, ints))) (λ f. inr f) r)
     c.requires.fine in
     absurd (not_just_below precision s loss amount parts (up unit) (down unit) (omega (arith, some)) p z n h
     (last_by_more precision c.args.kept.significand c.args.kept.place amount parts (c.integer_bit-last.result - 1)
