@@ -1,5 +1,5 @@
 -- The value and the status that are delivered for a pick.
-use Rattle.std.proofs.Common.{◌≡◌, ℕ, ◌+◌, ◌-◌, ◌*◌, ◌%◌, ◌^◌, ◌<◌, ◌≤◌, ◌⊎◌, Bool, true, false, cond, ltb, eqb, sym, refl, ap, ◌∙◌, subst, inl, inr, ⊎_elim, arith}
+use Rattle.std.proofs.Common.{◌≡◌, ℕ, ◌+◌, ◌*◌, ◌%◌, ◌^◌, ◌<◌, ◌≤◌, ◌⊎◌, Bool, true, false, cond, ltb, eqb, sym, refl, ap, ◌∙◌, subst, inl, inr, ⊎_elim, arith}
 use Rattle.std.proofs.Math.Nat.{mul-le-mul_right, mul-le-mul_left, mul-pos, mul_assoc}
 use Rattle.std.proofs.lemmas.Nat.{pow_pos}
 use Rattle.std.proofs.lemmas.Bool.{cases_lt, lt-ltb, le-ltb, eq-eqb, ne_eqb}
@@ -11,7 +11,7 @@ use Rattle.apfloat_base.specs.formats.Format.{Format, largest, greatest_signific
 use Rattle.apfloat_base.specs.formats.Datum.{Datum, finite}
 use Rattle.apfloat_base.specs.rounding.Standing.{StandsFor}
 use Rattle.apfloat_base.specs.rounding.Enclosure.{IsEnclosed, rounds_up}
-use Rattle.apfloat_base.specs.rounding.Rounding.{IsPick, IsDelivered, past_largest, signed_quanta, leads_out, raises_overflow, rounds_below_normal, is_tiny}
+use Rattle.apfloat_base.specs.rounding.Rounding.{IsPick, IsDelivered, past_largest, signed_quanta, leads_out, raises_overflow, is_tiny}
 use Rattle.apfloat_base.proofs.rounding.Picks.{kept, pick_is, pick_unique}
 use Rattle.apfloat_base.proofs.rounding.Losses.{stands_past, stands_to}
 use Rattle.apfloat_base.proofs.general.Choices.{off_both}
