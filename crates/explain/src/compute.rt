@@ -1,0 +1,268 @@
+//! Computes what is shown.
+//!
+//! The neighbours of an exact result are the results rounded downward and upward. Its place between them is found in a
+//! format of 125 digits, rounded downward: the middle of two neighbours is a value of that format, and the flag INEXACT
+//! tells whether something lies above.
+
+ghost use Rattle.std.specs.Prelude.{◌<◌};
+ghost use Rattle.explain.specs.Formats.{HasShortest};
+ghost use Rattle.rustc_apfloat.specs.Types.{format_of};
+ghost use Rattle.apfloat_decimals.specs.ShortestSearch.{IsWithinQuad};
+
+use crate::explanation::{Between, Explanation, Meaning, Place, Shown, Side, Widths};
+use crate::request::{Operation, Request};
+use apfloat_decimals::{read_decimal, shortest};
+use commands::bits_of;
+use custom_formats::Vast;
+use dispatch::InFormat;
+use rustc_apfloat::ieee::{IeeeFloat, Semantics};
+use rustc_apfloat::{Category, ExpInt, Flags, Float, FloatConvert, Round, Status, StatusAnd};
+
+/// A computation in a format that is chosen while the program runs.
+#[derive(Clone, Copy)]
+pub struct Computation<'a> {
+    /// What is to be explained.
+    pub request: Request<'a>,
+}
+
+impl<'a> InFormat for Computation<'a> {
+    type Output = Result<Explanation, &'a str>;
+
+    ghost can = { λ _ kind. HasShortest kind };
+
+    fn in_format<S: Semantics>(self) -> Result<Explanation, &'a str> {
+        explained::<S>(self.request)
+    }
+}
+
+/// The value of a word.
+#[derive_where(Clone, Copy)]
+struct Operand<S: Semantics> {
+    value: IeeeFloat<S>,
+    is_rounded: bool,
+}
+
+/// The computation in a format, or the word that is no value.
+fn explained<'a, S: Semantics>(request: Request<'a>) -> Result<Explanation, &'a str>
+    requires written { S.PRECISION < S.BITS }
+    requires within { IsWithinQuad (format_of S.Semantics) }
+{
+    match values_of::<S>(request.operands) {
+        Ok(operands) => Ok(explanation(
+            request.operation,
+            request.round,
+            operands[0],
+            operands[1],
+            operands[2],
+        )),
+        Err(word) => Err(word),
+    }
+}
+
+/// The values of the words.
+fn values_of<'a, S: Semantics>(words: &'a [String]) -> Result<[Operand<S>; 3], &'a str>
+    requires written { S.PRECISION < S.BITS }
+    requires within { IsWithinQuad (format_of S.Semantics) }
+{
+    let mut found = [Operand {
+        value: IeeeFloat::<S>::from_u128(0).value,
+        is_rounded: false,
+    }; 3];
+    for (place, word) in words.iter().enumerate() {
+        let word = word.as_str();
+        let Some(operand) = value_of::<S>(word) else {
+            return Err(word);
+        };
+        if place < 3 {
+            found[place] = operand;
+        }
+    }
+    Ok(found)
+}
+
+/// The value of a word, its bits or a number.
+fn value_of<S: Semantics>(word: &str) -> Option<Operand<S>>
+    requires written { S.PRECISION < S.BITS }
+    requires within { IsWithinQuad (format_of S.Semantics) }
+{
+    if let Some(bits) = bits_of(word, S::BITS) {
+        return Some(Operand {
+            value: S::from_bits(bits),
+            is_rounded: false,
+        });
+    }
+    match read_decimal::<S>(word, Round::NearestTiesToEven) {
+        Ok(answer) => Some(Operand {
+            value: answer.value,
+            is_rounded: answer.status.intersects(Status::INEXACT),
+        }),
+        Err(_) => None,
+    }
+}
+
+/// What is shown of a computation.
+fn explanation<S: Semantics>(
+    operation: Operation,
+    round: Round,
+    first: Operand<S>,
+    second: Operand<S>,
+    third: Operand<S>,
+) -> Explanation
+    requires written { S.PRECISION < S.BITS }
+    requires within { IsWithinQuad (format_of S.Semantics) }
+{
+    let (x, y, z) = (first.value, second.value, third.value);
+    let StatusAnd { value, status } = computed(operation, x, y, z, round);
+    let place = place(operation, x, y, z, value, status);
+    let a = shown(x, first.is_rounded);
+    let b = shown(y, second.is_rounded);
+    let c = shown(z, third.is_rounded);
+    Explanation {
+        widths: widths::<S>(),
+        operands: [a, b, c],
+        result: shown(value, false),
+        status,
+        place,
+    }
+}
+
+/// The widths of a format's fields.
+fn widths<S: Semantics>() -> Widths {
+    Widths {
+        bits: S::BITS as u32,
+        exponent: S::EXP_BITS as u32,
+        explicit_integer_bit: S::EXPLICIT_INTEGER_BIT,
+    }
+}
+
+/// An operation on values of a format.
+fn computed<S: Semantics>(
+    operation: Operation,
+    x: IeeeFloat<S>,
+    y: IeeeFloat<S>,
+    z: IeeeFloat<S>,
+    round: Round,
+) -> StatusAnd<IeeeFloat<S>> {
+    match operation {
+        Operation::Value => Status::OK.and(x),
+        Operation::OfTwo(arithmetic) => arithmetic.answer_in_format(x, y, round),
+        Operation::FusedSum => x.wide_mul_add_r(y, z, round),
+        Operation::SquareRoot => x.sqrt_r(round),
+    }
+}
+
+/// A value as it is shown.
+fn shown<S: Semantics>(x: IeeeFloat<S>, is_rounded: bool) -> Shown
+    requires written { S.PRECISION < S.BITS }
+    requires within { IsWithinQuad (format_of S.Semantics) }
+{
+    Shown {
+        bits: S::to_bits(x),
+        negative: x.is_negative(),
+        meaning: meaning(x),
+        decimal: shortest(x),
+        is_denormal: x.is_denormal(),
+        is_rounded,
+    }
+}
+
+/// What a value is.
+fn meaning<S: Semantics>(x: IeeeFloat<S>) -> Meaning {
+    match x.category() {
+        Category::Zero => Meaning::Zero,
+        Category::Normal => number(x),
+        Category::Infinity => Meaning::Infinity,
+        Category::NaN => {
+            if x.is_signaling() {
+                Meaning::SignalingNan
+            } else {
+                Meaning::QuietNan
+            }
+        }
+    }
+}
+
+/// A nonzero number as an odd number times a power of two.
+fn number<S: Semantics>(x: IeeeFloat<S>) -> Meaning {
+    let last = x.ilogb().saturating_sub(124);
+    let digits = widened(x.abs()).scalbn(0_i32.saturating_sub(last));
+    let whole = digits.to_u128(128).value;
+    let zeros = whole.trailing_zeros();
+    if zeros >= 128 {
+        return Meaning::Zero;
+    }
+    Meaning::Number(whole >> zeros, last.saturating_add(zeros as ExpInt))
+}
+
+/// A value in the format of 125 digits, which has every number of the format.
+fn widened<S: Semantics>(x: IeeeFloat<S>) -> Vast {
+    let mut loses_info = false;
+    let converted: StatusAnd<Vast> = x.convert_r(Round::NearestTiesToEven, &mut loses_info);
+    converted.value
+}
+
+/// Where the exact result of an operation is.
+fn place<S: Semantics>(
+    operation: Operation,
+    x: IeeeFloat<S>,
+    y: IeeeFloat<S>,
+    z: IeeeFloat<S>,
+    answer: IeeeFloat<S>,
+    status: Status,
+) -> Place
+    requires written { S.PRECISION < S.BITS }
+    requires within { IsWithinQuad (format_of S.Semantics) }
+{
+    let lower = computed(operation, x, y, z, Round::TowardNegative).value;
+    let upper = computed(operation, x, y, z, Round::TowardPositive).value;
+    if !status.intersects(Status::INEXACT) {
+        return if answer.is_finite() {
+            Place::Exact
+        } else {
+            Place::None
+        };
+    }
+    if !lower.is_finite() || !upper.is_finite() {
+        return Place::Beyond;
+    }
+    let exact = exact_place(operation, widened(x), widened(y), widened(z));
+    let way = way_between(widened(lower), widened(upper), exact);
+    Place::Between(Between {
+        lower: shown(lower, false),
+        upper: shown(upper, false),
+        parts: way.parts,
+        side: way.side,
+        takes_upper: answer.bitwise_eq(upper),
+    })
+}
+
+/// The exact result, rounded downward to 125 digits.
+fn exact_place(operation: Operation, x: Vast, y: Vast, z: Vast) -> StatusAnd<Vast> {
+    computed(operation, x, y, z, Round::TowardNegative)
+}
+
+/// A place on the way from one neighbour to the next.
+#[derive(Clone, Copy)]
+struct Way {
+    parts: u32,
+    side: Side,
+}
+
+/// The place of a number between two neighbours. The number is rounded downward, and inexact if it is greater.
+fn way_between(lower: Vast, upper: Vast, exact: StatusAnd<Vast>) -> Way {
+    let gap = (upper - lower).value;
+    let above = exact.value.sub_r(lower, Round::TowardNegative);
+    let is_cut = exact.status.union(above.status).intersects(Status::INEXACT);
+    let way = (above.value / gap).value;
+    let parts = way.scalbn(6).to_u128(7).value as u32;
+    let half = Vast::from_u128(1).value.scalbn(-1);
+    let is_at_half = way.bitwise_eq(half);
+    let side = if is_at_half && !is_cut {
+        Side::Middle
+    } else if is_at_half || way > half {
+        Side::Upper
+    } else {
+        Side::Lower
+    };
+    Way { parts, side }
+}

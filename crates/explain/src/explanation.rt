@@ -1,0 +1,101 @@
+//! What is known of a computation, whatever its format.
+
+use apfloat_decimals::Decimal;
+use rustc_apfloat::{ExpInt, Status};
+
+/// The widths of the fields of an encoding.
+#[derive(Clone, Copy, Debug)]
+pub struct Widths {
+    /// All bits.
+    pub bits: u32,
+    /// The bits of the biased exponent.
+    pub exponent: u32,
+    /// Whether the integer bit is among the bits.
+    pub explicit_integer_bit: bool,
+}
+
+/// What a value is.
+#[derive(Clone, Copy, Debug)]
+pub enum Meaning {
+    /// A zero.
+    Zero,
+    /// A nonzero number, `significand * 2^exponent`, whose significand is odd.
+    Number(u128, ExpInt),
+    /// An infinity.
+    Infinity,
+    /// A quiet NaN.
+    QuietNan,
+    /// A signaling NaN.
+    SignalingNan,
+}
+
+/// A value as it is shown.
+#[derive(Clone, Copy, Debug)]
+pub struct Shown {
+    /// Its bits.
+    pub bits: u128,
+    /// Whether its sign is negative.
+    pub negative: bool,
+    /// What it is.
+    pub meaning: Meaning,
+    /// Its shortest decimal, if it is a number.
+    pub decimal: Option<Decimal>,
+    /// Whether it is denormal.
+    pub is_denormal: bool,
+    /// Whether it is the value nearest to the text that was given, and not equal to it.
+    pub is_rounded: bool,
+}
+
+/// How a place between two neighbours compares with the middle.
+#[derive(Clone, Copy, Debug, PartialEq, Eq)]
+pub enum Side {
+    /// Nearer to the lower one.
+    Lower,
+    /// As near to both.
+    Middle,
+    /// Nearer to the upper one.
+    Upper,
+}
+
+/// A place between two neighbours.
+#[derive(Clone, Copy, Debug)]
+pub struct Between {
+    /// The neighbour below.
+    pub lower: Shown,
+    /// The neighbour above.
+    pub upper: Shown,
+    /// How many of the 64 parts of the way from the lower to the upper one lie below.
+    pub parts: u32,
+    /// How it compares with the middle.
+    pub side: Side,
+    /// Whether the upper one is the result.
+    pub takes_upper: bool,
+}
+
+/// Where an exact result is.
+#[derive(Clone, Copy, Debug)]
+pub enum Place {
+    /// Nowhere: nothing was computed, or no number from numbers.
+    None,
+    /// It is a value of the format.
+    Exact,
+    /// Between two neighbours.
+    Between(Between),
+    /// Beyond the largest value.
+    Beyond,
+}
+
+/// A computation.
+#[derive(Clone, Copy, Debug)]
+pub struct Explanation {
+    /// The widths of the format's fields.
+    pub widths: Widths,
+    /// The operands, the last one repeated if there are fewer than three.
+    pub operands: [Shown; 3],
+    /// The result.
+    pub result: Shown,
+    /// Its flags.
+    pub status: Status,
+    /// Where the exact result is.
+    pub place: Place,
+}

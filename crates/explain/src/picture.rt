@@ -1,0 +1,283 @@
+//! Writes an explanation, in lines of at most 80 columns.
+
+use crate::explanation::{Between, Explanation, Meaning, Place, Shown, Side, Widths};
+use crate::request::{Operation, Request};
+use apfloat_decimals::Decimal;
+use dispatch::Arithmetic;
+use rustc_apfloat::{Flags, Round, Status};
+use std::io;
+use std::io::Write;
+
+/// How many columns the drawn way from one neighbour to the next has, without its first one.
+const WAY: u32 = 64;
+
+/// Writes an explanation.
+pub fn write_explanation<W: Write>(
+    request: Request,
+    explanation: &Explanation,
+    in_colour: bool,
+    out: &mut W,
+) -> io::Result<()> {
+    let widths = explanation.widths;
+    if let Operation::Value = request.operation {
+        return write_shown(widths, request.format_word, &explanation.operands[0], out);
+    }
+    let (format, operation) = (request.format_word, name_of(request.operation));
+    writeln!(out, "{format} {operation}, {}\n", rule_of(request.round))?;
+    write_operands(widths, request.operation.operand_count(), explanation, out)?;
+    write_place(widths, request.round, &explanation.place, in_colour, out)?;
+    write_shown(widths, "result", &explanation.result, out)?;
+    write_flags(explanation.status, in_colour, out)
+}
+
+/// Writes the operands.
+fn write_operands<W: Write>(
+    widths: Widths,
+    count: usize,
+    explanation: &Explanation,
+    out: &mut W,
+) -> io::Result<()> {
+    write_shown(widths, "A", &explanation.operands[0], out)?;
+    if count > 1 {
+        write_shown(widths, "B", &explanation.operands[1], out)?;
+    }
+    if count > 2 {
+        write_shown(widths, "C", &explanation.operands[2], out)?;
+    }
+    writeln!(out)
+}
+
+/// The name of an operation.
+fn name_of(operation: Operation) -> &'static str {
+    match operation {
+        Operation::Value => "value",
+        Operation::OfTwo(Arithmetic::Sum) => "sum A + B",
+        Operation::OfTwo(Arithmetic::Difference) => "difference A - B",
+        Operation::OfTwo(Arithmetic::Product) => "product A * B",
+        Operation::OfTwo(Arithmetic::Quotient) => "quotient A / B",
+        Operation::OfTwo(Arithmetic::NearestRemainder) => "remainder of A by B (nearest)",
+        Operation::OfTwo(Arithmetic::TruncatedRemainder) => "remainder of A by B (cut)",
+        Operation::FusedSum => "fused sum A * B + C",
+        Operation::SquareRoot => "square root of A",
+    }
+}
+
+/// What a rounding mode says.
+fn rule_of(round: Round) -> &'static str {
+    match round {
+        Round::NearestTiesToEven => "to nearest, ties to even",
+        Round::TowardPositive => "toward positive",
+        Round::TowardNegative => "toward negative",
+        Round::TowardZero => "toward zero",
+        Round::NearestTiesToAway => "to nearest, ties away from zero",
+    }
+}
+
+/// Writes a value: its bits and its shortest decimal, its fields, and what it is exactly.
+fn write_shown<W: Write>(widths: Widths, name: &str, shown: &Shown, out: &mut W) -> io::Result<()> {
+    write_head(widths, name, shown, out)?;
+    write!(out, "        ")?;
+    write_fields(widths, shown.bits, out)?;
+    write!(out, "\n        ")?;
+    write_meaning(shown, out)?;
+    if shown.is_rounded {
+        write!(out, "\n        the nearest value to what was given")?;
+    }
+    writeln!(out)
+}
+
+/// Writes the bits of a value and its shortest decimal, which those of 128 bits leave no room for in one line.
+fn write_head<W: Write>(widths: Widths, name: &str, shown: &Shown, out: &mut W) -> io::Result<()> {
+    write!(out, "{name:<8}")?;
+    write_digits(shown.bits, widths.bits / 4, 4, out)?;
+    out.write_all(if widths.bits > 80 {
+        b"\n        "
+    } else {
+        b" = "
+    })?;
+    write_decimal(shown, out)?;
+    writeln!(out)
+}
+
+/// Writes the shortest decimal of a number, or the word for what is none.
+fn write_decimal<W: Write>(shown: &Shown, out: &mut W) -> io::Result<()> {
+    match shown.decimal {
+        Some(decimal) => write!(out, "{decimal}"),
+        None => write!(out, "{}{}", sign_of(shown), word_of(shown.meaning)),
+    }
+}
+
+/// The sign, where it is negative.
+fn sign_of(shown: &Shown) -> &'static str {
+    if shown.negative { "-" } else { "" }
+}
+
+/// The word for what is no number.
+fn word_of(meaning: Meaning) -> &'static str {
+    match meaning {
+        Meaning::Infinity => "infinity",
+        Meaning::SignalingNan => "signaling NaN",
+        _ => "NaN",
+    }
+}
+
+/// Writes digits of a base of 2 or 16, all of them.
+fn write_digits<W: Write>(number: u128, count: u32, width: u32, out: &mut W) -> io::Result<()> {
+    for place in 0..count {
+        let below = (count - 1 - place).saturating_mul(width);
+        let digit = number.checked_shr(below).unwrap_or(0) % (1 << width.min(4));
+        write!(out, "{digit:x}")?;
+    }
+    Ok(())
+}
+
+/// Writes the fields of an encoding: the sign and the biased exponent in binary digits, and the digits of the
+/// significand, in hexadecimal if they are more than 52.
+fn write_fields<W: Write>(widths: Widths, bits: u128, out: &mut W) -> io::Result<()> {
+    let rest = widths
+        .bits
+        .saturating_sub(1)
+        .saturating_sub(widths.exponent);
+    write_digits(
+        bits.checked_shr(widths.bits.saturating_sub(1)).unwrap_or(0),
+        1,
+        1,
+        out,
+    )?;
+    write!(out, " ")?;
+    write_digits(bits.checked_shr(rest).unwrap_or(0), widths.exponent, 1, out)?;
+    write!(out, " ")?;
+    if rest <= 52 {
+        write_digits(bits, rest, 1, out)
+    } else {
+        write_digits(bits, rest / 4, 4, out)
+    }
+}
+
+/// Writes what a value is exactly.
+fn write_meaning<W: Write>(shown: &Shown, out: &mut W) -> io::Result<()> {
+    let sign = sign_of(shown);
+    match shown.meaning {
+        Meaning::Zero => write!(out, "{sign}0"),
+        Meaning::Number(significand, exponent) => {
+            let kind = if shown.is_denormal { ", denormal" } else { "" };
+            write!(out, "{sign}{significand} * 2^{exponent}{kind}")
+        }
+        Meaning::Infinity => write!(out, "{sign}infinity"),
+        Meaning::QuietNan => write!(out, "not a number"),
+        Meaning::SignalingNan => write!(out, "not a number, which raises INVALID_OP"),
+    }
+}
+
+/// Writes where the exact result is.
+fn write_place<W: Write>(
+    widths: Widths,
+    round: Round,
+    place: &Place,
+    in_colour: bool,
+    out: &mut W,
+) -> io::Result<()> {
+    match place {
+        Place::None => Ok(()),
+        Place::Exact => writeln!(out, "The exact result is a value of the format.\n"),
+        Place::Beyond => writeln!(out, "The exact result is beyond the largest value.\n"),
+        Place::Between(between) => {
+            writeln!(out, "The exact result lies between two neighbours:\n")?;
+            write_way(widths, between, in_colour, out)?;
+            write_pick(round, between, out)
+        }
+    }
+}
+
+/// Draws the way from one neighbour to the next.
+fn write_way<W: Write>(
+    widths: Widths,
+    between: &Between,
+    in_colour: bool,
+    out: &mut W,
+) -> io::Result<()> {
+    let (start, end) = if in_colour {
+        ("\x1b[1;32m", "\x1b[0m")
+    } else {
+        ("", "")
+    };
+    let parts = between.parts.min(WAY) as usize;
+    write_head(widths, "lower", &between.lower, out)?;
+    writeln!(
+        out,
+        "        |---------------|---------------|---------------|---------------|"
+    )?;
+    writeln!(out, "        {:parts$}{start}^{end}", "")?;
+    write_head(widths, "upper", &between.upper, out)?;
+    writeln!(out)
+}
+
+/// Writes which neighbour is the result, and why.
+fn write_pick<W: Write>(round: Round, between: &Between, out: &mut W) -> io::Result<()> {
+    let place = match between.side {
+        Side::Lower => "below the middle",
+        Side::Middle => "exactly in the middle",
+        Side::Upper => "above the middle",
+    };
+    let taken = if between.takes_upper {
+        "upper"
+    } else {
+        "lower"
+    };
+    let reason = reason_of(round, between.side);
+    writeln!(out, "It is {place}.\n{reason} the {taken} one.\n")
+}
+
+/// Why a neighbour is taken.
+fn reason_of(round: Round, side: Side) -> &'static str {
+    match (round, side) {
+        (Round::NearestTiesToEven, Side::Middle) => "Of two as near, the even one is taken,",
+        (Round::NearestTiesToAway, Side::Middle) =>
+            "Of two as near, the greater magnitude is taken,",
+        (Round::NearestTiesToEven | Round::NearestTiesToAway, _) => "The nearer one is taken,",
+        (Round::TowardPositive, _) => "The mode takes the upper neighbour,",
+        (Round::TowardNegative, _) => "The mode takes the lower neighbour,",
+        (Round::TowardZero, _) => "The mode takes the neighbour nearer to zero,",
+    }
+}
+
+/// Writes the flags, each with the clause of IEEE 754-2008 that it is from.
+fn write_flags<W: Write>(status: Status, in_colour: bool, out: &mut W) -> io::Result<()> {
+    if status.is_empty() {
+        return writeln!(out, "flags   none");
+    }
+    let mut label: &[u8] = b"flags   ";
+    for flag in Status::flags() {
+        if status.intersects(*flag.value()) {
+            out.write_all(label)?;
+            write_flag(flag.name(), *flag.value(), in_colour, out)?;
+            label = b"        ";
+        }
+    }
+    Ok(())
+}
+
+/// Writes the name of a flag and its clause.
+fn write_flag<W: Write>(name: &str, flag: Status, in_colour: bool, out: &mut W) -> io::Result<()> {
+    let (start, end) = if in_colour {
+        ("\x1b[1;33m", "\x1b[0m")
+    } else {
+        ("", "")
+    };
+    writeln!(out, "{start}{name}{end}: {}", clause_of(flag))
+}
+
+/// What a flag says.
+fn clause_of(flag: Status) -> &'static str {
+    if flag.intersects(Status::INVALID_OP) {
+        "no number results, or an operand is a signaling NaN (7.2)"
+    } else if flag.intersects(Status::DIV_BY_ZERO) {
+        "a nonzero number divided by zero (7.3)"
+    } else if flag.intersects(Status::OVERFLOW) {
+        "rounded, the result is past the largest value (7.4)"
+    } else if flag.intersects(Status::UNDERFLOW) {
+        "inexact, and below the smallest normal number (7.5)"
+    } else {
+        "the result is not the exact one (7.6)"
+    }
+}

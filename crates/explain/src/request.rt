@@ -1,0 +1,138 @@
+//! The words of a command line, as what is to be explained.
+
+use dispatch::{Arithmetic, BuiltInFormat, BuiltInKind, mode_named};
+use rustc_apfloat::Round;
+
+/// How the program is called.
+pub const USAGE: &str = "\
+usage: explain FORMAT OP MODE A [B [C]]
+       explain FORMAT A
+       explain --help
+
+Shows how an operation of the format FORMAT computes its result, or what the
+value A is.
+
+FORMAT   half single double quad bfloat e5m2 e4m3fn e4m3fnuz x87
+OP       add sub mul div rem mod   of A and B
+         fma                       A times B plus C
+         sqrt                      of A
+MODE     even    to the nearest value, a tie to the even one
+         up      toward positive
+         down    toward negative
+         zero    toward zero
+         away    to the nearest value, a tie away from zero
+A, B, C  a value as its bits, in hexadecimal digits, with or without 0x; or as
+         a number: 0.1, -1e-7, 0x1.8p-1, inf, nan (the number 10 is 10.0)
+
+    explain half add even 3c01 1000
+    explain double add even 0.1 0.2
+    explain half 3c00
+";
+
+/// What is computed.
+#[derive(Clone, Copy, Debug)]
+pub enum Operation {
+    /// Nothing: a value is shown.
+    Value,
+    /// An operation on two values.
+    OfTwo(Arithmetic),
+    /// The product of two values plus a third.
+    FusedSum,
+    /// The square root of a value.
+    SquareRoot,
+}
+
+impl Operation {
+    /// The operation of this name.
+    pub fn named(word: &str) -> Option<Operation> {
+        match word {
+            "add" => Some(Operation::OfTwo(Arithmetic::Sum)),
+            "sub" => Some(Operation::OfTwo(Arithmetic::Difference)),
+            "mul" => Some(Operation::OfTwo(Arithmetic::Product)),
+            "div" => Some(Operation::OfTwo(Arithmetic::Quotient)),
+            "rem" => Some(Operation::OfTwo(Arithmetic::NearestRemainder)),
+            "mod" => Some(Operation::OfTwo(Arithmetic::TruncatedRemainder)),
+            "fma" => Some(Operation::FusedSum),
+            "sqrt" => Some(Operation::SquareRoot),
+            _ => None,
+        }
+    }
+
+    /// How many operands it has.
+    pub fn operand_count(self) -> usize {
+        match self {
+            Operation::Value | Operation::SquareRoot => 1,
+            Operation::OfTwo(_) => 2,
+            Operation::FusedSum => 3,
+        }
+    }
+}
+
+/// What is to be explained.
+#[derive(Clone, Copy)]
+pub struct Request<'a> {
+    /// The word of the format.
+    pub format_word: &'a str,
+    /// The format.
+    pub format: BuiltInFormat,
+    /// The operation.
+    pub operation: Operation,
+    /// The rounding mode.
+    pub round: Round,
+    /// The words of the operands.
+    pub operands: &'a [String],
+}
+
+/// Why there is nothing to explain.
+#[derive(Clone, Copy, Debug)]
+pub enum Fault<'a> {
+    /// The words are too few or too many.
+    Count,
+    /// No format has this name.
+    Format(&'a str),
+    /// No operation has this name.
+    Operation(&'a str),
+    /// No mode has this name.
+    Mode(&'a str),
+    /// This is no value of the format.
+    Value(&'a str),
+}
+
+impl<'a> Request<'a> {
+    /// What these words ask for.
+    pub fn named(words: &'a [String]) -> Result<Request<'a>, Fault<'a>> {
+        if words.len() < 2 || words.len() == 3 {
+            return Err(Fault::Count);
+        }
+        let format_word = words[0].as_str();
+        let Some(BuiltInKind::OfFormat(format)) = BuiltInKind::named(format_word) else {
+            return Err(Fault::Format(format_word));
+        };
+        if words.len() == 2 {
+            return Ok(Request {
+                format_word,
+                format,
+                operation: Operation::Value,
+                round: Round::NearestTiesToEven,
+                operands: &words[1..],
+            });
+        }
+        let Some(operation) = Operation::named(words[1].as_str()) else {
+            return Err(Fault::Operation(words[1].as_str()));
+        };
+        let Some(round) = mode_named(words[2].as_str()) else {
+            return Err(Fault::Mode(words[2].as_str()));
+        };
+        let operands = &words[3..];
+        if operands.len() != operation.operand_count() {
+            return Err(Fault::Count);
+        }
+        Ok(Request {
+            format_word,
+            format,
+            operation,
+            round,
+            operands,
+        })
+    }
+}

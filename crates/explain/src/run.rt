@@ -1,0 +1,88 @@
+//! Runs the program.
+
+use crate::compute::Computation;
+use crate::picture::write_explanation;
+use crate::request::{Fault, Request, USAGE};
+use std::io;
+use std::io::{ErrorKind, Write};
+
+const FAILED: u8 = 1;
+
+const OTHER_WORDS: u8 = 2;
+
+const NO_MEMORY: u8 = 3;
+
+/// Runs the program with the arguments from the system, and returns its exit status.
+pub fn run<W: Write, V: Write>(
+    given: io::Result<Vec<String>>,
+    in_colour: bool,
+    out: &mut W,
+    err: &mut V,
+) -> u8 {
+    match given {
+        Ok(words) => answer(words.as_slice(), in_colour, out, err).unwrap_or(FAILED),
+        Err(error) => refuse_words(error, err).unwrap_or(FAILED),
+    }
+}
+
+/// The exit status, or the error of a write.
+fn answer<W: Write, V: Write>(
+    words: &[String],
+    in_colour: bool,
+    out: &mut W,
+    err: &mut V,
+) -> io::Result<u8> {
+    if let [word] = words {
+        if word.as_str() == "--help" {
+            out.write_all(USAGE.as_bytes())?;
+            return Ok(0);
+        }
+    }
+    let request = match Request::named(words) {
+        Ok(request) => request,
+        Err(fault) => return refuse(fault, err),
+    };
+    let computation = Computation { request };
+    match request.format.run(computation) {
+        Ok(explanation) => {
+            write_explanation(request, &explanation, in_colour, out)?;
+            Ok(0)
+        }
+        Err(word) => refuse(Fault::Value(word), err),
+    }
+}
+
+/// Reports why there is nothing to explain.
+fn refuse<V: Write>(fault: Fault, err: &mut V) -> io::Result<u8> {
+    match fault {
+        Fault::Count => err.write_all(USAGE.as_bytes())?,
+        Fault::Format(word) => writeln!(
+            err,
+            "explain: no format '{word}' (half single double quad bfloat e5m2 e4m3fn e4m3fnuz x87)"
+        )?,
+        Fault::Operation(word) => writeln!(
+            err,
+            "explain: no operation '{word}' (add sub mul div rem mod fma sqrt)"
+        )?,
+        Fault::Mode(word) => writeln!(err, "explain: no mode '{word}' (even up down zero away)")?,
+        Fault::Value(word) => writeln!(
+            err,
+            "explain: no value '{word}' of the format (hexadecimal bits, or a number such as 0.1)"
+        )?,
+    }
+    Ok(OTHER_WORDS)
+}
+
+/// Reports why there are no arguments.
+fn refuse_words<V: Write>(error: io::Error, err: &mut V) -> io::Result<u8> {
+    match error.kind() {
+        ErrorKind::OutOfMemory => {
+            writeln!(err, "explain: no memory for the words")?;
+            Ok(NO_MEMORY)
+        }
+        _ => {
+            err.write_all(USAGE.as_bytes())?;
+            Ok(OTHER_WORDS)
+        }
+    }
+}

@@ -1,0 +1,217 @@
+#!/usr/bin/env python3
+"""Explains computations, as the program `explain` does: one command on each line of standard input.
+
+    python3 evidence/explanations.py < tests/explanations/commands
+"""
+
+import sys
+from fractions import Fraction
+from math import isqrt
+
+from exact import arithmetic, bits, decimals, remainders, roots, status
+from exact.data import Finite, Infinite, is_signaling
+from exact.formats import PROGRAM_FORMATS
+from exact.rounding import Mode
+
+FORMATS = {format.name: format for format in PROGRAM_FORMATS}
+OPERATIONS = {
+    "add": ("sum A + B", arithmetic.add),
+    "sub": ("difference A - B", arithmetic.subtract),
+    "mul": ("product A * B", arithmetic.multiply),
+    "div": ("quotient A / B", arithmetic.divide),
+    "rem": ("remainder of A by B (nearest)", None),
+    "mod": ("remainder of A by B (cut)", None),
+    "fma": ("fused sum A * B + C", arithmetic.multiply_add),
+    "sqrt": ("square root of A", roots.square_root),
+}
+RULES = {
+    Mode.EVEN: "to nearest, ties to even",
+    Mode.UP: "toward positive",
+    Mode.DOWN: "toward negative",
+    Mode.ZERO: "toward zero",
+    Mode.AWAY: "to nearest, ties away from zero",
+}
+REASONS = {
+    Mode.EVEN: "The nearer one is taken,",
+    Mode.UP: "The mode takes the upper neighbour,",
+    Mode.DOWN: "The mode takes the lower neighbour,",
+    Mode.ZERO: "The mode takes the neighbour nearer to zero,",
+    Mode.AWAY: "The nearer one is taken,",
+}
+TIES = {
+    Mode.EVEN: "Of two as near, the even one is taken,",
+    Mode.AWAY: "Of two as near, the greater magnitude is taken,",
+}
+CLAUSES = {
+    status.INVALID_OP: "INVALID_OP: no number results, or an operand is a signaling NaN (7.2)",
+    status.DIV_BY_ZERO: "DIV_BY_ZERO: a nonzero number divided by zero (7.3)",
+    status.OVERFLOW: "OVERFLOW: rounded, the result is past the largest value (7.4)",
+    status.UNDERFLOW: "UNDERFLOW: inexact, and below the smallest normal number (7.5)",
+    status.INEXACT: "INEXACT: the result is not the exact one (7.6)",
+}
+LINE = "        |---------------|---------------|---------------|---------------|"
+
+
+def main():
+    """Explains each line."""
+    for line in sys.stdin:
+        print("\n".join(explained(line.split())))
+
+
+def explained(words):
+    """The lines of a command's explanation."""
+    format = FORMATS[words[0]]
+    if len(words) == 2:
+        return shown(format, words[0], operand(format, words[1]))
+    name, operation = OPERATIONS[words[1]]
+    mode = Mode(words[2])
+    operands = [operand(format, word) for word in words[3:]]
+    data = [x for x, _ in operands]
+    lines = [f"{words[0]} {name}, {RULES[mode]}", ""]
+    for label, given in zip("ABC", operands):
+        lines += shown(format, label, given)
+    value, flags = computed(format, words[1], operation, data, mode)
+    lines += ["", *placed(format, words[1], operation, data, mode, value, flags)]
+    lines += shown(format, "result", (value, False))
+    raised = [text for flag, text in CLAUSES.items() if flags & flag] or ["none"]
+    return lines + [("flags   " if i == 0 else "        ") + text for i, text in enumerate(raised)]
+
+
+def computed(format, word, operation, data, mode):
+    """The value and the flags of an operation."""
+    if word == "rem":
+        return remainders.nearest_remainder(format, *data)
+    if word == "mod":
+        return remainders.truncated_remainder(format, *data)
+    return operation(format, *data, mode)
+
+
+def operand(format, word):
+    """The value of a word, and whether it was rounded."""
+    digits = word.removeprefix("0x")
+    if all(c in "0123456789abcdefABCDEF" for c in digits) and int(digits, 16) < 1 << format.bits:
+        return bits.decoded(format, int(digits, 16)), False
+    value, flags = decimals.read(format, word, Mode.EVEN)
+    return value, bool(flags & status.INEXACT)
+
+
+def shown(format, label, given):
+    """The lines of a value."""
+    x, is_rounded = given
+    lines = [
+        *headed(format, label, x),
+        f"        {fields(format, bits.encoded(format, x))}",
+        f"        {meaning(format, x)}",
+    ]
+    return lines + ["        the nearest value to what was given"] * is_rounded
+
+
+def headed(format, label, x):
+    """The bits and the shortest decimal, in two lines if there are 128 bits."""
+    head = f"{label:<8}{bits.encoded(format, x):0{format.bits // 4}x}"
+    if format.bits > 80:
+        return [head, f"        {short(format, x)}"]
+    return [f"{head} = {short(format, x)}"]
+
+
+def short(format, x):
+    """The shortest decimal, or the word for what is no number."""
+    sign = "-" if x.negative else ""
+    if isinstance(x, Infinite):
+        return f"{sign}infinity"
+    if not isinstance(x, Finite):
+        return sign + ("signaling NaN" if is_signaling(format, x) else "NaN")
+    return sign + plain(*decimals.shortest(format, x))
+
+
+def plain(digits, exponent):
+    """A decimal without an exponent if that of its first digit is from -6 to 20."""
+    if digits == 0:
+        return "0.0"
+    text = str(digits)
+    first = exponent + len(text) - 1
+    if not -6 <= first <= 20:
+        return text[0] + ("." + text[1:] if len(text) > 1 else "") + f"e{first}"
+    if exponent >= 0:
+        return text + "0" * exponent + ".0"
+    text = text.zfill(1 - exponent)
+    return f"{text[:exponent]}.{text[exponent:]}"
+
+
+def fields(format, written):
+    """The sign, the biased exponent and the rest."""
+    rest = format.bits - 1 - format.exponent_bits
+    sign, field = written >> format.bits - 1, written >> rest & (1 << format.exponent_bits) - 1
+    last = written & (1 << rest) - 1
+    tail = f"{last:0{rest}b}" if rest <= 52 else f"{last:0{rest // 4}x}"
+    return f"{sign} {field:0{format.exponent_bits}b} {tail}"
+
+
+def meaning(format, x):
+    """What a value is exactly."""
+    sign = "-" if x.negative else ""
+    if isinstance(x, Infinite):
+        return f"{sign}infinity"
+    if not isinstance(x, Finite):
+        signals = ", which raises INVALID_OP" if is_signaling(format, x) else ""
+        return f"not a number{signals}"
+    if x.quanta == 0:
+        return f"{sign}0"
+    zeros = (x.quanta & -x.quanta).bit_length() - 1
+    denormal = ", denormal" if x.quanta < format.smallest_normalized else ""
+    return f"{sign}{x.quanta >> zeros} * 2^{zeros - format.scale}{denormal}"
+
+
+def placed(format, word, operation, data, mode, value, flags):
+    """The lines that say where the exact result is."""
+    if not flags & status.INEXACT:
+        exact = "The exact result is a value of the format."
+        return [exact, ""] if isinstance(value, Finite) else []
+    lower, _ = computed(format, word, operation, data, Mode.DOWN)
+    upper, _ = computed(format, word, operation, data, Mode.UP)
+    if not (isinstance(lower, Finite) and isinstance(upper, Finite)):
+        return ["The exact result is beyond the largest value.", ""]
+    gap = upper.signed_quanta - lower.signed_quanta
+    low, high = exactly(format, word, data)
+    parts = 64 * (low - lower.signed_quanta) // gap
+    middle = lower.signed_quanta + Fraction(gap, 2)
+    if low == high == middle:
+        side, reason = "exactly in the middle", TIES.get(mode, REASONS[mode])
+    else:
+        side, reason = ("above" if low >= middle else "below") + " the middle", REASONS[mode]
+    taken = "upper" if value == upper else "lower"
+    return [
+        "The exact result lies between two neighbours:",
+        "",
+        *headed(format, "lower", lower),
+        LINE,
+        f"{' ' * (8 + parts)}^",
+        *headed(format, "upper", upper),
+        "",
+        f"It is {side}.",
+        f"{reason} the {taken} one.",
+        "",
+    ]
+
+
+def exactly(format, word, data):
+    """The exact result in quanta, as two bounds that no neighbour or part of a way separates."""
+    scale = 1 << format.scale
+    x, *others = (Fraction(x.signed_quanta) for x in data)
+    if word == "sqrt":
+        finer = 2 * format.precision + 16
+        root = isqrt(int(x) * scale << 2 * finer)
+        low = Fraction(root, 1 << finer)
+        return low, low if low * low == x * scale else Fraction(root + 1, 1 << finer)
+    result = {
+        "add": lambda y: x + y,
+        "sub": lambda y: x - y,
+        "mul": lambda y: x * y / scale,
+        "div": lambda y: x / y * scale,
+        "fma": lambda y, z: x * y / scale + z,
+    }[word](*others)
+    return result, result
+
+
+if __name__ == "__main__":
+    main()
