@@ -12,6 +12,7 @@ import random
 import sys
 
 from exact import calls
+from exact.status import NAMES
 
 FLOATS = {
     "f16": ("half", 16, 10),
@@ -38,7 +39,8 @@ MODES = {
     "-rminMag": "zero",
     "-rnear_maxMag": "away",
 }
-FLAGS = {"INEXACT": 1, "UNDERFLOW": 2, "OVERFLOW": 4, "DIV_BY_ZERO": 8, "INVALID_OP": 16}
+# TestFloat has the flags in the reverse order.
+FLAGS = {name: 1 << place for place, name in enumerate(reversed(NAMES))}
 
 
 def value(choices, kind):

@@ -240,6 +240,20 @@ class Format:
         return Value(self, _whole(answer.bits))
 
 
+def _operators(name):
+    """An operator on values, and its reflected form, for a left operand that is not a value."""
+
+    def rounded(left, right):
+        other = left._same_format(right)
+        return NotImplemented if other is None else left._rounded(name, left, other)
+
+    def reflected(right, left):
+        other = right._same_format(left)
+        return NotImplemented if other is None else right._rounded(name, other, right)
+
+    return rounded, reflected
+
+
 class Value:
     """A value of a format: its bits. Operations round once, in the mode of the context.
 
@@ -280,35 +294,10 @@ class Value:
     def _exact(self, name, *operands):
         return _call(name, ctypes.c_uint32(self.format.code), *[_halves(operand.bits) for operand in operands])
 
-    def _of_two(self, name, other, swapped=False):
-        other = self._same_format(other)
-        if other is None:
-            return NotImplemented
-        return self._rounded(name, other, self) if swapped else self._rounded(name, self, other)
-
-    def __add__(self, other):
-        return self._of_two('add', other)
-
-    def __radd__(self, other):
-        return self._of_two('add', other, swapped=True)
-
-    def __sub__(self, other):
-        return self._of_two('sub', other)
-
-    def __rsub__(self, other):
-        return self._of_two('sub', other, swapped=True)
-
-    def __mul__(self, other):
-        return self._of_two('mul', other)
-
-    def __rmul__(self, other):
-        return self._of_two('mul', other, swapped=True)
-
-    def __truediv__(self, other):
-        return self._of_two('div', other)
-
-    def __rtruediv__(self, other):
-        return self._of_two('div', other, swapped=True)
+    __add__, __radd__ = _operators('add')
+    __sub__, __rsub__ = _operators('sub')
+    __mul__, __rmul__ = _operators('mul')
+    __truediv__, __rtruediv__ = _operators('div')
 
     def fma(self, factor, addend):
         """self * factor + addend, rounded once. Pairs of doubles do not have it.

@@ -51,6 +51,10 @@ typedef struct {
     int64_t integer;
 } Question;
 
+static const Format *format_of_result(const Question *q) {
+    return &FORMATS[q->call == CONVERT ? q->target : q->format];
+}
+
 // The bits of a value, or an integer, and what was raised.
 typedef struct {
     Bits bits;
@@ -150,63 +154,46 @@ static Bits without_integer_bit(Bits x) {
 // nothing in between.
 #define SSE(NAME, X, ...)                                                                                              \
     __asm__ volatile("ldmxcsr %[control]\n\t" NAME "\n\tstmxcsr %[control]" : X, [control] "+m"(control) : __VA_ARGS__)
-#define ON_FLOATS(SUFFIX)                                                                                              \
-    switch (q->call) {                                                                                                 \
-    case ADD: SSE("adds" SUFFIX " %[y], %[x]", [x] "+x"(x), [y] "x"(y)); break;                                        \
-    case SUBTRACT: SSE("subs" SUFFIX " %[y], %[x]", [x] "+x"(x), [y] "x"(y)); break;                                   \
-    case MULTIPLY: SSE("muls" SUFFIX " %[y], %[x]", [x] "+x"(x), [y] "x"(y)); break;                                   \
-    case DIVIDE: SSE("divs" SUFFIX " %[y], %[x]", [x] "+x"(x), [y] "x"(y)); break;                                     \
-    case ROOT: SSE("sqrts" SUFFIX " %[x], %[x]", [x] "+x"(x), "m"(y)); break;                                          \
-    case FUSE: SSE("vfmadd213s" SUFFIX " %[z], %[y], %[x]", [x] "+x"(x), [y] "x"(y), [z] "x"(z)); break;               \
-    case INTEGRAL: SSE("rounds" SUFFIX " $4, %[x], %[x]", [x] "+x"(x), "m"(y)); break;                                 \
-    case FROM_INTEGER: SSE("cvtsi2s" SUFFIX "q %[i], %[x]", [x] "+x"(x), [i] "r"(q->integer)); break;                  \
-    case TO_INTEGER:                                                                                                   \
-        if (q->width == 64) {                                                                                          \
-            SSE("cvts" SUFFIX "2siq %[x], %[i]", [i] "=r"(answer.integer), [x] "x"(x));                                \
-        } else {                                                                                                       \
-            int32_t narrow;                                                                                            \
-            SSE("cvts" SUFFIX "2sil %[x], %[i]", [i] "=r"(narrow), [x] "x"(x));                                        \
-            answer.integer = narrow;                                                                                   \
-        }                                                                                                              \
-    }
 
 enum { MASKED = 0x1f80 };
 
-static Answer in_single(const Question *q) {
-    uint32_t bits[] = {(uint32_t)q->operands[0], (uint32_t)q->operands[1], (uint32_t)q->operands[2]};
-    float operands[3];
-    memcpy(operands, bits, sizeof operands);
-    float x = operands[0], y = operands[1], z = operands[2];
-    unsigned control = MASKED | q->mode << 13;
-    Answer answer = {0};
-    if (q->call == CONVERT) {
-        SSE("vcvtps2ph $4, %[x], %[x]", [x] "+x"(x), "m"(y));
-    } else {
-        ON_FLOATS("s")
+// Defines a function that computes in one format. SUFFIX ends the names of its instructions; SHORTEN is the one that
+// converts to fewer digits, with its first operand.
+#define COMPUTES_BY_SSE(FUNCTION, BITS, FLOAT, SUFFIX, SHORTEN)                                                        \
+    static Answer FUNCTION(const Question *q) {                                                                        \
+        BITS bits[] = {(BITS)q->operands[0], (BITS)q->operands[1], (BITS)q->operands[2]};                              \
+        FLOAT operands[3];                                                                                             \
+        memcpy(operands, bits, sizeof operands);                                                                       \
+        FLOAT x = operands[0], y = operands[1], z = operands[2];                                                       \
+        unsigned control = MASKED | q->mode << 13;                                                                     \
+        Answer answer = {0};                                                                                           \
+        switch (q->call) {                                                                                             \
+        case ADD: SSE("adds" SUFFIX " %[y], %[x]", [x] "+x"(x), [y] "x"(y)); break;                                    \
+        case SUBTRACT: SSE("subs" SUFFIX " %[y], %[x]", [x] "+x"(x), [y] "x"(y)); break;                               \
+        case MULTIPLY: SSE("muls" SUFFIX " %[y], %[x]", [x] "+x"(x), [y] "x"(y)); break;                               \
+        case DIVIDE: SSE("divs" SUFFIX " %[y], %[x]", [x] "+x"(x), [y] "x"(y)); break;                                 \
+        case ROOT: SSE("sqrts" SUFFIX " %[x], %[x]", [x] "+x"(x), "m"(y)); break;                                      \
+        case FUSE: SSE("vfmadd213s" SUFFIX " %[z], %[y], %[x]", [x] "+x"(x), [y] "x"(y), [z] "x"(z)); break;           \
+        case INTEGRAL: SSE("rounds" SUFFIX " $4, %[x], %[x]", [x] "+x"(x), "m"(y)); break;                             \
+        case CONVERT: SSE(SHORTEN " %[x], %[x]", [x] "+x"(x), "m"(y)); break;                                          \
+        case FROM_INTEGER: SSE("cvtsi2s" SUFFIX "q %[i], %[x]", [x] "+x"(x), [i] "r"(q->integer)); break;              \
+        case TO_INTEGER:                                                                                               \
+            if (q->width == 64) {                                                                                      \
+                SSE("cvts" SUFFIX "2siq %[x], %[i]", [i] "=r"(answer.integer), [x] "x"(x));                            \
+            } else {                                                                                                   \
+                int32_t narrow;                                                                                        \
+                SSE("cvts" SUFFIX "2sil %[x], %[i]", [i] "=r"(narrow), [x] "x"(x));                                    \
+                answer.integer = narrow;                                                                               \
+            }                                                                                                          \
+        }                                                                                                              \
+        memcpy(bits, &x, sizeof x);                                                                                    \
+        answer.bits = bits[0] & (one_at(format_of_result(q)->bits) - 1);                                               \
+        answer.flags = control;                                                                                        \
+        return answer;                                                                                                 \
     }
-    memcpy(bits, &x, sizeof x);
-    answer.bits = q->call == CONVERT ? bits[0] & 0xffff : bits[0];
-    answer.flags = control;
-    return answer;
-}
 
-static Answer in_double(const Question *q) {
-    uint64_t bits[] = {(uint64_t)q->operands[0], (uint64_t)q->operands[1], (uint64_t)q->operands[2]};
-    double operands[3];
-    memcpy(operands, bits, sizeof operands);
-    double x = operands[0], y = operands[1], z = operands[2];
-    unsigned control = MASKED | q->mode << 13;
-    Answer answer = {0};
-    if (q->call == CONVERT) {
-        SSE("cvtsd2ss %[x], %[x]", [x] "+x"(x), "m"(y));
-    } else {
-        ON_FLOATS("d")
-    }
-    memcpy(bits, &x, sizeof x);
-    answer.bits = q->call == CONVERT ? (uint32_t)bits[0] : bits[0];
-    answer.flags = control;
-    return answer;
-}
+COMPUTES_BY_SSE(in_single, uint32_t, float, "s", "vcvtps2ph $4,")
+COMPUTES_BY_SSE(in_double, uint64_t, double, "d", "cvtsd2ss")
 
 // Instructions of x87 on values in memory, in the same way. The precision is that of 64 digits.
 #define FPU(STEPS)                                                                                                     \
@@ -367,7 +354,7 @@ static void settle(const Question *q, Answer *answer) {
         answer->integer = negative ? -greatest - 1 : greatest;
     }
     int is_x87 = q->format == X87 && q->call != CONVERT;
-    const Format *f = &FORMATS[q->call == CONVERT ? q->target : q->format];
+    const Format *f = format_of_result(q);
     Bits compact = is_x87 ? without_integer_bit(answer->bits) : answer->bits;
     if (!is_nan(f, compact)) return;
     compact = infinity_of(f) | one_at(f->trailing - 1);
@@ -406,7 +393,7 @@ static void print_row(const Question *q, const Answer *answer) {
     }
     if (q->call == FROM_INTEGER) printf("%lld", (long long)q->integer);
     if (q->call == TO_INTEGER) printf(" %d\t%lld", q->width, (long long)answer->integer);
-    else putchar('\t'), print_bits(q->call == CONVERT ? &FORMATS[q->target] : f, answer->bits);
+    else putchar('\t'), print_bits(format_of_result(q), answer->bits);
     printf("\t%s\t-\n", names(answer->flags));
 }
 
