@@ -1,5 +1,5 @@
 #!/usr/bin/env python3
-"""Writes lines as other programs have them in their files of tests, with the answers of the model.
+"""Writes lines in the form of other programs' test files, with the results of the model.
 
     python3 evidence/field_files.py testfloat FUNCTION SEED COUNT [OPTION ..]
     python3 evidence/field_files.py fpgen SEED COUNT [-tininessbefore]

@@ -1,5 +1,5 @@
 #!/usr/bin/env python3
-"""Writes new rows, which are not among the stored ones, with the answers of the model.
+"""Writes new rows, which are not among the stored ones, with the results of the model.
 
     python3 evidence/fresh.py SEED COUNT [SUBJECT [FORMAT]] > ROWS
 

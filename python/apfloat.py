@@ -3,7 +3,7 @@
 The arithmetic is that of the library for C, whose functions are proved. The shared library is libapfloat.so beside this
 file, or the file that the environment variable APFLOAT_LIBRARY names; packaging/install builds it.
 
-A format makes values of texts, of integers, of Python's floats and of values of other formats:
+A format makes values from texts, integers, Python's floats and values of other formats:
 
 >>> x = half('0x1.8p0')
 >>> x
@@ -15,7 +15,7 @@ half('0x1p+11')
 >>> double(0.1).bits == 0x3fb999999999999a
 True
 
-Each operation rounds once, in the mode of the context, and joins its flags to those of the context:
+Each operation rounds once, in the mode of the context, and adds its flags to those of the context:
 
 >>> with Context(mode=UPWARD) as context:
 ...     third = single(1) / 3
@@ -32,7 +32,7 @@ half('inf')
 A format raises the flags of IEEE 754-2008 in every mode if it is written half.ieee, with tininess detected before
 rounding if it is written half.ieee.before; e4m3fn, e4m3fnuz and double_pair have no such choice.
 
-The operands of an operation have one format, which integers and floats take if they are exact in it:
+Both operands have the same format; integers and floats are converted to it if that is exact:
 
 >>> half(1) + single(1)
 Traceback (most recent call last):
@@ -138,7 +138,7 @@ def _halves(bits):
 
 
 def _call(name, *arguments):
-    """The answer of a function of the library; its flags join those of the context."""
+    """The answer of a function of the library; its flags are added to those of the context."""
     answer = _Answer()
     code = getattr(_functions, 'apfloat_' + name)(*arguments, ctypes.byref(answer))
     if code:

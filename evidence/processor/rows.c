@@ -20,7 +20,7 @@ typedef unsigned __int128 Bits;
 typedef struct {
     const char *name;
     int bits;
-    int trailing; // digits behind the integer bit
+    int trailing; // digits after the integer bit
     int field_bits;
 } Format;
 

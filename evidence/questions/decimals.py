@@ -24,7 +24,7 @@ def question(choices):
 
 
 def magnitude(operands):
-    """The quanta of a number, near 1 where the exponents are many."""
+    """The quanta of a number, near 1 in a format of many exponents."""
     if operands.span < _LARGEST_SPAN:
         return operands.magnitude()
     return operands.near_one(operands.significand(operands.form.precision))
@@ -49,7 +49,7 @@ def text(operands):
 
 
 def stretched(operands):
-    """A small integer with many zeros, and the exponent that takes them back."""
+    """A small integer with many zeros, and the exponent that makes up for them."""
     zeros = "0" * operands.choices.randint(100, 7000)
     digits = operands.choices.randint(1, 9999)
     if operands.sign():
@@ -72,7 +72,7 @@ def near_midpoint(operands):
 
 
 def changed(operands, digits, exponent):
-    """A decimal as it is, cut after some digits, or more or less by one unit of a place below."""
+    """A decimal unchanged, cut after some digits, or changed by one unit of a lower place."""
     choices = operands.choices
     draw = choices.random()
     if draw < 0.4:

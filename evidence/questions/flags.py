@@ -91,7 +91,7 @@ def fused_sum(operands):
 
 
 def conversion(operands):
-    """A conversion from a format with more digits, as far as there is one."""
+    """A conversion from a format with more digits, if there is one."""
     form = operands.form
     source = {"half": "single", "single": "double", "double": "x87", "x87": "quad"}.get(
         form.name.split("+")[0]

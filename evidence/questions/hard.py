@@ -1,4 +1,4 @@
-"""What the hard cases of all calls share: which case is asked in which format and mode.
+"""What the hard cases of all calls share: which cases are tried in which formats and modes.
 
 A case draws the operands of a call. They are data, or words for bits of x87 that encode no datum
 as its processors write it.

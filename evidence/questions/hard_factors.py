@@ -45,7 +45,7 @@ def significands_of(operands, amount):
 
 
 def ending_in(operands, last_digits):
-    """Significands of all digits whose product, cut to as many digits, leaves these, nearly.
+    """Significands of all digits whose product, cut to as many digits, loses nearly these.
 
     `last_digits` says which these are, of the count of digits that are cut.
     """
