@@ -52,9 +52,9 @@ import os
 import struct
 
 __all__ = [
-    'Context', 'DOWNWARD', 'Flags', 'Format', 'NEAREST_AWAY', 'NEAREST_EVEN', 'Rounding', 'TOWARD_ZERO', 'UPWARD',
-    'Value', 'bfloat', 'context', 'double', 'double_pair', 'e4m3fn', 'e4m3fnuz', 'e5m2', 'half', 'quad', 'single',
-    'x87',
+    'Context', 'DOWNWARD', 'Flags', 'Format', 'NEAREST_AWAY', 'NEAREST_EVEN', 'Refused', 'Rounding', 'TOWARD_ZERO',
+    'UPWARD', 'Value', 'bfloat', 'context', 'double', 'double_pair', 'e4m3fn', 'e4m3fnuz', 'e5m2', 'half', 'quad',
+    'single', 'x87',
 ]
 
 
@@ -125,6 +125,20 @@ _REFUSALS = {
 }
 
 
+class Refused(ValueError):
+    """The library refused a call, with the error code `code` of apfloat.h.
+
+    >>> half('one')
+    Traceback (most recent call last):
+    ...
+    apfloat.Refused: the text has no meaning
+    """
+
+    def __init__(self, code):
+        super().__init__(_REFUSALS.get(code, f'code {code}'))
+        self.code = code
+
+
 def _library():
     beside = os.path.join(os.path.dirname(os.path.abspath(__file__)), 'libapfloat.so')
     return ctypes.CDLL(os.environ.get('APFLOAT_LIBRARY', beside))
@@ -142,7 +156,7 @@ def _call(name, *arguments):
     answer = _Answer()
     code = getattr(_functions, 'apfloat_' + name)(*arguments, ctypes.byref(answer))
     if code:
-        raise ValueError(_REFUSALS.get(code, f'code {code}'))
+        raise Refused(code)
     context().flags |= Flags(answer.status)
     return answer
 
