@@ -8,6 +8,7 @@ pub mod FarTexts
 pub mod LeadingNumbers
 pub mod NarrowCuts
 pub mod OneShortest
+pub mod ParsedNumbers
 pub mod PickedFractions
 pub mod Quotients
 pub mod Readings
@@ -16,5 +17,6 @@ pub mod ShortestFound
 pub mod ShortestSearch
 pub mod ShortestSteps
 pub mod SpelledTexts
+pub mod TextParts
 pub mod Values
 pub mod WrittenNumbers

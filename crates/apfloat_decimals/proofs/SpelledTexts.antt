@@ -14,7 +14,7 @@ use Rattle.apfloat_base.specs.texts.Specials.{behind_mark, special_of}
 use Rattle.apfloat_base.proofs.general.Choices.{left_none}
 use Rattle.apfloat_base.proofs.general.ListLaws.{append-every, split_run, run_passes, some_length}
 use Rattle.apfloat_decimals.specs.Decimals.{IsDecimalDelivery}
-use Rattle.apfloat_decimals.specs.DecimalTexts.{is_e, IsWrittenExponent, IsSpelled, fraction_in, behind_fraction, written_fault, fault_after, body_fault, decimal_fault_of}
+use Rattle.apfloat_decimals.specs.DecimalTexts.{is_e, IsWrittenExponent, IsDecimalText, IsSpelled, fraction_in, behind_fraction, written_fault, fault_after, body_fault, decimal_fault_of}
 
 -- ---- the parts of a text
 
@@ -67,15 +67,12 @@ written (letter ∷ exponent) b d =
     )
 
 -- a text without a fault spells its digits times a power of ten
-pub body_spelled : (format : Format) (mode : Round) (negative : Bool) (body whole rest fraction tail : List ℕ)
-    (some : Bool) (value : Datum) (status : ℕ) → whole ≡ run is_decimal body
+pub body_text : (body whole rest fraction tail : List ℕ) (some : Bool) → whole ≡ run is_decimal body
     → rest ≡ behind_run is_decimal body
     → fraction ≡ fraction_in rest → tail ≡ behind_fraction rest → some ≡ not (is_empty (whole ++ fraction))
     → fault_after some tail ≡ None
-    → IsDecimalDelivery format mode negative (number 10 (whole ++ fraction))
-    (exponent_number (drop 1 tail) -ℤ pos (length fraction)) value status
-    → IsSpelled format mode negative body value status
-body_spelled format mode negative body whole rest fraction tail some value status w r f t n h delivered =
+    → IsDecimalText body (number 10 (whole ++ fraction)) (exponent_number (drop 1 tail) -ℤ pos (length fraction))
+body_text body whole rest fraction tail some w r f t n h =
     let s = split rest in
     let a = left_none (begins is_dot tail) SecondDot
     (cond (not (is_empty tail) && not (begins is_e tail)) (Some WrongInSignificand)
@@ -87,29 +84,41 @@ body_spelled format mode negative body whole rest fraction tail some value statu
     let rest_is : rest ≡ s.point ++ (fraction ++ tail) = rw (f, t) s.spelled in
     let body_is : body ≡ whole ++ rest = rw (w, r) (split_run is_decimal body) in
     record {
-      digits = number 10 (whole ++ fraction);
-      exponent = exponent_number (drop 1 tail) -ℤ pos (length fraction);
-      is_text = record {
-        whole = whole;
-        point = s.point;
-        fraction = fraction;
-        tail = tail;
-        written = exponent_number (drop 1 tail);
-        spelled = body_is ∙ ap (λ (x : List ℕ). whole ++ x) rest_is;
-        is_point = rw f s.is_point;
-        are_digits = append-every is_decimal whole fraction (first_digits body whole w)
-            (fraction_digits rest fraction f);
-        has_digits = some_length (whole ++ fraction) (empty_none (whole ++ fraction) some_digit);
-        is_written = written tail b.0 d.1;
-        digits_are = refl;
-        exponent_is = refl;
-      };
-      delivered = delivered;
+      whole = whole;
+      point = s.point;
+      fraction = fraction;
+      tail = tail;
+      written = exponent_number (drop 1 tail);
+      spelled = body_is ∙ ap (λ (x : List ℕ). whole ++ x) rest_is;
+      is_point = rw f s.is_point;
+      are_digits = append-every is_decimal whole fraction (first_digits body whole w)
+          (fraction_digits rest fraction f);
+      has_digits = some_length (whole ++ fraction) (empty_none (whole ++ fraction) some_digit);
+      is_written = written tail b.0 d.1;
+      digits_are = refl;
+      exponent_is = refl;
     }
   where
     empty_none : (xs : List ℕ) → not (is_empty xs) ≡ true → is_empty xs ≡ false
     empty_none [] h = absurd (false≢true h)
     empty_none (x ∷ xs) h = refl
+
+-- and its value is that number, rounded once
+pub body_spelled : (format : Format) (mode : Round) (negative : Bool) (body whole rest fraction tail : List ℕ)
+    (some : Bool) (value : Datum) (status : ℕ) → whole ≡ run is_decimal body
+    → rest ≡ behind_run is_decimal body
+    → fraction ≡ fraction_in rest → tail ≡ behind_fraction rest → some ≡ not (is_empty (whole ++ fraction))
+    → fault_after some tail ≡ None
+    → IsDecimalDelivery format mode negative (number 10 (whole ++ fraction))
+    (exponent_number (drop 1 tail) -ℤ pos (length fraction)) value status
+    → IsSpelled format mode negative body value status
+body_spelled format mode negative body whole rest fraction tail some value status w r f t n h delivered =
+    record {
+      digits = number 10 (whole ++ fraction);
+      exponent = exponent_number (drop 1 tail) -ℤ pos (length fraction);
+      is_text = body_text body whole rest fraction tail some w r f t n h;
+      delivered = delivered;
+    }
 
 -- the fault of a text by its parts
 pub body_faulted : (body whole rest fraction tail : List ℕ) (some : Bool) (fault : Fault)

@@ -2,7 +2,9 @@ pub mod Cuts
 pub mod DecimalTexts
 pub mod Decimals
 pub mod LeadingDigits
+pub mod Parsing
 pub mod Reach
+pub mod ReadBack
 pub mod Shortest
 pub mod ShortestSearch
 pub mod Texts

@@ -12,6 +12,7 @@
 mod decimal;
 mod large;
 mod narrow;
+mod parsing;
 mod quotient;
 mod reading;
 mod search;
@@ -19,5 +20,6 @@ mod texts;
 mod writing;
 
 pub use decimal::{Decimal, built_in_formats, from_decimal};
+pub use parsing::DecimalError;
 pub use search::{shortest, shortest_once};
 pub use texts::read_decimal;

@@ -1,0 +1,121 @@
+//! A decimal from its text.
+
+ghost use Rattle.std.specs.Prelude.{◌≡◌, ◌⊎◌, ℕ, ℤ, pos, neg_ℤ, ◌-ℤ◌, ◌≤ℤ◌, ◌≤◌, ◌^◌, ◌++◌, List, length, Bool, IsTrue, MatchOption, Result};
+ghost use Rattle.apfloat_base.specs.rounding.Bounds.{IsWithin};
+ghost use Rattle.apfloat_base.specs.texts.Digits.{every, is_decimal, number};
+ghost use Rattle.apfloat_texts.specs.Saturation.{IsNear, count_bound, far_bound};
+ghost use Rattle.apfloat_decimals.specs.declared.decimal.Decimal.{Decimal};
+ghost use Rattle.apfloat_decimals.specs.declared.parsing.DecimalError.{DecimalError};
+ghost use Rattle.apfloat_decimals.specs.LeadingDigits.{number_from};
+ghost use Rattle.apfloat_decimals.specs.Parsing.{IsParsed, IsParsedBody, IsPast32Bits};
+
+use crate::decimal::Decimal;
+use crate::texts::parts::{exponent_in, has_some, split_digits, split_fraction, split_mark};
+use apfloat_base::parse_error::Fault;
+use apfloat_base::{ExpInt, ParseError};
+use std::str::FromStr;
+
+/// Why a text gives no `Decimal`.
+#[derive(Clone, Copy, PartialEq, Eq, Debug)]
+pub enum DecimalError {
+    /// The text is no decimal; with the words for its first fault from the left.
+    NoDecimal(ParseError),
+    /// The digits on both sides of the dot, as one whole number, are 2^128 or more.
+    TooManyDigits,
+    /// The exponent of the last digit is below -2^31 or at least 2^31.
+    ExponentOutOfRange,
+}
+
+/// The whole number with the digits of `number` followed by these, if it fits.
+fn followed_by(number: u128, digits: &[u8]) -> Option<u128>
+    requires { IsTrue (every is_decimal digits.now) }
+    ensures { MatchOption result (2 ^ 128 ≤ number_from number digits.now)
+        (λ n. n ≡ number_from number digits.now) }
+{
+    let mut all = number;
+    for i in 0..digits.len() {
+        let digit = u128::from(digits[i] - b'0');
+        let Some(tenfold) = all.checked_mul(10) else {
+            return None;
+        };
+        let Some(next) = tenfold.checked_add(digit) else {
+            return None;
+        };
+        all = next;
+    }
+    Some(all)
+}
+
+/// The whole number that two texts of digits spell, the first before the second, if it fits.
+fn digits_of(whole: &[u8], fraction: &[u8]) -> Option<u128>
+    requires whole { IsTrue (every is_decimal whole.now) }
+    requires fraction { IsTrue (every is_decimal fraction.now) }
+    ensures { MatchOption result (2 ^ 128 ≤ number 10 (whole.now ++ fraction.now))
+        (λ n. n ≡ number 10 (whole.now ++ fraction.now)) }
+{
+    match followed_by(0, whole) {
+        Some(first) => followed_by(first, fraction),
+        None => None,
+    }
+}
+
+/// The exponent of the last digit of a number with `places` digits after its dot, if it fits.
+fn unit_of(exponent: i128, places: usize) -> Option<ExpInt>
+    requires { IsWithin count_bound exponent }
+    ensures { (exact : ℤ) → IsNear far_bound exact exponent → MatchOption result
+        (IsPast32Bits (exact -ℤ pos places)) (λ unit. unit ≡ exact -ℤ pos places) }
+{
+    let unit = exponent - places as i128;
+    if unit < -0x8000_0000 || unit > 0x7fff_ffff {
+        None
+    } else {
+        Some(unit as ExpInt)
+    }
+}
+
+/// The decimal that a text without a sign spells.
+fn read_body(negative: bool, body: &[u8]) -> Result<Decimal, DecimalError>
+    ensures { IsParsedBody negative body.now result }
+{
+    let (whole, rest) = split_digits(body);
+    let (fraction, tail) = split_fraction(rest);
+    let exponent = match exponent_in(tail, has_some(whole, fraction)) {
+        Ok(exponent) => exponent,
+        Err(fault) => return Err(DecimalError::NoDecimal(fault.refusal())),
+    };
+    let Some(digits) = digits_of(whole, fraction) else {
+        return Err(DecimalError::TooManyDigits);
+    };
+    let Some(unit) = unit_of(exponent, fraction.len()) else {
+        return Err(DecimalError::ExponentOutOfRange);
+    };
+    Ok(Decimal {
+        negative,
+        digits,
+        exponent: unit,
+    })
+}
+
+impl FromStr for Decimal {
+    type Err = DecimalError;
+
+    ghost from_str_gives = { IsParsed };
+
+    /// The decimal that a text spells, with the text's digits and exponent: `12.30` has the digits 1230 and the
+    /// exponent -2.
+    ///
+    /// A decimal text is an optional sign, decimal digits with at most one dot, and optionally `e` or `E` and an
+    /// exponent with an optional sign. Infinities, NaNs and hexadecimal numbers are no decimals. A number is refused if
+    /// its digits are 2^128 or more as a whole number, for which zeros at the start do not count and those at the end
+    /// do, or if the exponent of its last digit does not fit in 32 bits, even if the number is zero.
+    fn from_str(s: &str) -> Result<Self, DecimalError> {
+        let (mark, body) = split_mark(s.as_bytes());
+        if s.is_empty() {
+            Err(DecimalError::NoDecimal(Fault::EmptyText.refusal()))
+        } else if body.is_empty() {
+            Err(DecimalError::NoDecimal(Fault::LoneMark.refusal()))
+        } else {
+            read_body(mark.is_minus(), body)
+        }
+    }
+}
