@@ -18,5 +18,7 @@ pub mod ShortestSearch
 pub mod ShortestSteps
 pub mod SpelledTexts
 pub mod TextParts
+pub mod TextReadings
 pub mod Values
 pub mod WrittenNumbers
+pub mod WrittenTexts

@@ -1,17 +1,17 @@
 -- A decimal text has one division into its parts, so it spells one number and has no fault.
 use Rattle.std.proofs.Common.{◌≡◌, ◌⊎◌, ℕ, ◌+◌, ◌≤◌, ◌<◌, Bool, true, false, not, ◌&&◌, ◌||◌, cond, refl, sym, ap, ◌∙◌, subst, inl, inr, ⊎_elim, arith, List, [], ◌∷◌, ◌++◌, length, take, drop, codes, Option, Some, None, is_some, ℤ, pos, ◌-ℤ◌, ◌==◌, eqb, leb}
-use Rattle.std.proofs.lemmas.Bool.{cases_Bool, ne_eqb, eqb-true, false≢true, leb-true, le-leb, and_parts, or_parts, or_cases, not-false}
+use Rattle.std.proofs.lemmas.Bool.{cases_Bool, ne_eqb, eqb-true, false≢true, leb-true, le-leb, and_parts, and_left, or_from, or_cases, cond-false}
 use Rattle.std.proofs.lemmas.Option.{none-some}
 use Rattle.apfloat_base.specs.declared.marks.Mark.{Mark}
 use Rattle.apfloat_base.specs.declared.marks.Mark.TheVariants.{Unmarked, Plus, Minus}
 use Rattle.apfloat_base.specs.declared.parse_error.Fault.{Fault}
 use Rattle.apfloat_base.specs.declared.parse_error.Fault.TheVariants.{NoLiteral, WrongInSignificand}
-use Rattle.apfloat_base.specs.texts.Digits.{every, begins, is_empty, run, behind_run, is_decimal, number}
+use Rattle.apfloat_base.specs.texts.Digits.{same, every, begins, is_empty, run, behind_run, is_decimal, number}
 use Rattle.apfloat_base.specs.texts.Faults.{is_dot, begins_literal, fault_of, exponent_fault}
 use Rattle.apfloat_base.specs.texts.Literals.{exponent_number}
-use Rattle.apfloat_base.specs.texts.Specials.{Meaning, mark_of, behind_mark, special_of, special_meaning}
+use Rattle.apfloat_base.specs.texts.Specials.{Meaning, infinity, mark_of, behind_mark, is_minus, is_infinity, is_s, is_nan_name, with_payload, payload_of, named_nan, nan_meaning, special_of, special_meaning}
 use Rattle.apfloat_base.proofs.general.ListLaws.{every-append, run_through, behind_run_through, not_empty}
-use Rattle.apfloat_decimals.specs.DecimalTexts.{is_e, IsWrittenExponent, IsDecimalText, fraction_in, behind_fraction, written_fault, fault_after, all_digits, body_fault}
+use Rattle.apfloat_decimals.specs.DecimalTexts.{is_e, IsWrittenExponent, IsDecimalText, fraction_in, behind_fraction, written_fault, fault_after, all_digits, body_fault, decimal_fault_of}
 
 -- ---- the exponent
 
@@ -33,7 +33,11 @@ letter_no_digit c h =
 
 tail_of : (tail : List ℕ) (written : ℤ) → IsWrittenExponent tail written → IsTail tail written
 tail_of [] written h = record {
-  no_digit = refl; no_dot = refl; begins_e = refl; faultless = refl; number_is = h;
+  no_digit = refl;
+  no_dot = refl;
+  begins_e = refl;
+  faultless = refl;
+  number_is = h;
 }
 tail_of (letter ∷ exponent) written h =
     let kind = letter_no_digit letter h.0 in
@@ -140,20 +144,50 @@ literal_faulty (c ∷ d ∷ rest) h f =
     faulty : (x : ℕ) → c ≡ 48 → d ≡ x → body_fault (48 ∷ x ∷ rest) ≡ Some WrongInSignificand → ⊥
     faulty x e k w = none-some WrongInSignificand (sym (rw (e, k) at f) ∙ w)
 
+no_literal : (body : List ℕ) → body_fault body ≡ None → begins_literal body ≡ false
+no_literal body f =
+    ⊎_elim (λ (h : begins_literal body ≡ true). absurd (literal_faulty body h f))
+    (λ (h : begins_literal body ≡ false). h) (cases_Bool (begins_literal body))
+
+-- texts with other first characters differ
+differs : (c k : ℕ) (rest word : List ℕ) → c ≤ 57 → 57 < k → same (c ∷ rest) (k ∷ word) ≡ false
+differs c k rest word low high = and_left (eqb c k) (same rest word) (ne_eqb c k (λ e. omega arith))
+
 -- no special begins with a dot or a digit
+no_infinity : (mark : Mark) (c : ℕ) (rest : List ℕ) → c ≤ 57 → is_infinity mark (c ∷ rest) ≡ false
+no_infinity Unmarked c rest l =
+    or_from (same (c ∷ rest) (codes "inf")) (same (c ∷ rest) (codes "INFINITY"))
+    (differs c 105 rest (codes "nf") l (omega arith)) (differs c 73 rest (codes "NFINITY") l (omega arith))
+no_infinity Plus c rest l = differs c 73 rest (codes "nf") l (omega arith)
+no_infinity Minus c rest l =
+    or_from (same (c ∷ rest) (codes "Inf") || same (c ∷ rest) (codes "inf")) (same (c ∷ rest) (codes "INFINITY"))
+    (or_from (same (c ∷ rest) (codes "Inf")) (same (c ∷ rest) (codes "inf"))
+    (differs c 73 rest (codes "nf") l (omega arith)) (differs c 105 rest (codes "nf") l (omega arith)))
+    (differs c 73 rest (codes "NFINITY") l (omega arith))
+
+no_named_nan : (negative : Bool) (c : ℕ) (rest : List ℕ) → c ≤ 57 → named_nan negative false (c ∷ rest) ≡ None
+no_named_nan negative c rest l =
+    cond-false (is_nan_name (take 3 (c ∷ rest))) (with_payload negative false (payload_of (drop 3 (c ∷ rest)))) None
+    (or_from (same (c ∷ take 2 rest) (codes "nan")) (same (c ∷ take 2 rest) (codes "NaN"))
+    (differs c 110 (take 2 rest) (codes "an") l (omega arith)) (differs c 78 (take 2 rest) (codes "aN") l (omega arith)))
+
+no_signaling : (c : ℕ) → c ≤ 57 → is_s c ≡ false
+no_signaling c l = or_from (eqb c 115) (eqb c 83) (ne_eqb c 115 (λ e. omega arith)) (ne_eqb c 83 (λ e. omega arith))
+
+no_nan : (mark : Mark) (c : ℕ) (rest : List ℕ) → c ≤ 57 → nan_meaning mark (c ∷ rest) ≡ None
+no_nan Unmarked c rest l =
+    cond-false (is_s c) (named_nan false true rest) (named_nan false false (c ∷ rest)) (no_signaling c l)
+    ∙ no_named_nan false c rest l
+no_nan Plus c rest l = refl
+no_nan Minus c rest l =
+    cond-false (is_s c) (named_nan true true rest) (named_nan true false (c ∷ rest)) (no_signaling c l)
+    ∙ no_named_nan true c rest l
+
 no_special : (mark : Mark) (c : ℕ) (rest : List ℕ) → c ≤ 57 → special_meaning mark (c ∷ rest) ≡ None
 no_special mark c rest l =
-    go mark (ne_eqb c 105 (λ e. omega arith)) (ne_eqb c 73 (λ e. omega arith)) (ne_eqb c 110 (λ e. omega arith))
-    (ne_eqb c 78 (λ e. omega arith)) (ne_eqb c 115 (λ e. omega arith)) (ne_eqb c 83 (λ e. omega arith))
-  where
-    go : (mark : Mark) → eqb c 105 ≡ false → eqb c 73 ≡ false → eqb c 110 ≡ false → eqb c 78 ≡ false
-        → eqb c 115 ≡ false → eqb c 83 ≡ false → special_meaning mark (c ∷ rest) ≡ None
-    go Unmarked small_i capital_i small_n capital_n small_s capital_s =
-        rw (small_i, capital_i, small_n, capital_n, small_s, capital_s) refl
-    go Plus small_i capital_i small_n capital_n small_s capital_s =
-        rw (small_i, capital_i, small_n, capital_n, small_s, capital_s) refl
-    go Minus small_i capital_i small_n capital_n small_s capital_s =
-        rw (small_i, capital_i, small_n, capital_n, small_s, capital_s) refl
+    cond-false (is_infinity mark (c ∷ rest)) (Some (infinity (is_minus mark))) (nan_meaning mark (c ∷ rest))
+    (no_infinity mark c rest l)
+    ∙ no_nan mark c rest l
 
 -- a decimal text begins with a dot or a digit
 no_special_text : (mark : Mark) (body whole point fraction tail : List ℕ)
@@ -182,7 +216,18 @@ no_other_meaning (c ∷ text) digits exponent x =
     no_special_text (mark_of (c ∷ text)) body x.whole x.point x.fraction x.tail x.spelled x.is_point x.are_digits
     x.has_digits in
     let special : is_some (special_of (c ∷ text)) ≡ false = ap is_some none in
-    let literal : begins_literal body ≡ false =
-    ⊎_elim (λ (h : begins_literal body ≡ true). absurd (literal_faulty body h only.faultless))
-    (λ (h : begins_literal body ≡ false). h) (cases_Bool (begins_literal body)) in
+    let literal = no_literal body only.faultless in
     rw (only.some, special, literal) refl
+
+-- nor has it a fault
+pub no_fault_of : (text : List ℕ) (digits : ℕ) (exponent : ℤ) → IsDecimalText (behind_mark text) digits exponent
+    → decimal_fault_of text ≡ None
+no_fault_of [] digits exponent x = absurd (false≢true (sym (only_text [] digits exponent x).some))
+no_fault_of (c ∷ text) digits exponent x =
+    let only = only_text (behind_mark (c ∷ text)) digits exponent x in
+    rw (only.some, no_literal (behind_mark (c ∷ text)) only.faultless, only.faultless)
+    (cond_same (is_some (special_of (c ∷ text))) None)
+  where
+    cond_same : (b : Bool) (o : Option Fault) → cond b o o ≡ o
+    cond_same true o = refl
+    cond_same false o = refl

@@ -66,11 +66,14 @@ number_of_decimal n few = decimal_by_steps_wide (λ (m : ℕ) (ds : List ℕ). I
 after : (n : ℕ) (digits : List ℕ) → number_from n digits ≡ n * 10 ^ length digits + number_from 0 digits
 after n [] = omega arith
 after n (c ∷ digits) =
-    let long = after (n * 10 + digit_value c) digits in
-    let short = after (0 * 10 + digit_value c) digits in
     let e : 10 ^ (length digits + 1) ≡ 10 ^ length digits * 10 = pow-add 10 (length digits) 1 in
     let e' : 10 ^ length (c ∷ digits) ≡ 10 ^ length digits * 10 = rw add-one at e in
-    omega (arith, long, short, e')
+    after (n * 10 + digit_value c) digits
+    ∙ rw e' (grown n (digit_value c) (10 ^ length digits) (number_from 0 digits) (number_from (0 * 10 + digit_value c) digits)
+    (after (0 * 10 + digit_value c) digits))
+  where
+    grown : (n d p r s : ℕ) → s ≡ (0 * 10 + d) * p + r → (n * 10 + d) * p + r ≡ n * (p * 10) + s
+    grown n d p r s e = omega arith
 
 zeros_number : (count : ℕ) (digits : List ℕ) → number_from 0 (replicate count 48 ++ digits) ≡ number_from 0 digits
 zeros_number zero digits = refl
@@ -80,7 +83,7 @@ zeros_digits : (count : ℕ) → every is_decimal (replicate count 48) ≡ true
 zeros_digits zero = refl
 zeros_digits (suc count) = zeros_digits count
 
-zeros_length : (count : ℕ) → length (replicate count 48) ≡ count
+zeros_length : (count : ℕ) → length {A = ℕ} (replicate count 48) ≡ count
 zeros_length zero = refl
 zeros_length (suc count) = ap suc (zeros_length count)
 
@@ -95,8 +98,8 @@ padded_number places n some below few =
     let zeros = places - length (decimal n) in
     let short : length (decimal n) ≤ places = length-decimal-le_wide places n some below few in
     let long = zeros_length zeros in
-    let all : length (padded places n) ≡ length (replicate zeros 48) + length (decimal n) =
-    length-append (replicate zeros 48) (decimal n) in
+    let all : length {A = ℕ} (padded places n) ≡ length {A = ℕ} (replicate zeros 48) + length {A = ℕ} (decimal n) =
+    length-append {A = ℕ} (replicate zeros 48) (decimal n) in
     record {
       are_digits = append-every is_decimal (replicate zeros 48) (decimal n) (zeros_digits zeros) x.are_digits;
       length_is = omega arith;
@@ -243,13 +246,18 @@ plain_whole n e few plain whole =
     (and_parts (leb (down e) (up e + length (decimal n) + 5)) (leb (up e + length (decimal n)) (down e + 21)) plain).1 in
     let small : n * 10 ^ (up e + 1) < 2 ^ 128 = times_ten_small n (up e) few (omega arith) in
     let text = pointed (n * 10 ^ (up e + 1)) 1 in
-    rw append_none text at (begun_dotted (n * 10 ^ (up e + 1)) 1 [] (pos 0) (neg_ℤ (pos 1)) small (omega arith) refl refl)
+    let none = append_none text in
+    rw none at (begun_dotted (n * 10 ^ (up e + 1)) 1 [] (pos 0) (neg_ℤ (pos 1)) small (omega arith) refl refl)
+
+negative_is : (e : ℤ) → 0 < down e → pos 0 -ℤ pos (down e) ≡ e
+negative_is (pos m) h = absurd (omega (arith, h))
+negative_is (negsuc m) h = omega (arith, ints)
 
 plain_fraction : (n : ℕ) (e : ℤ) → n < 2 ^ 128 → eqb (down e) 0 ≡ false → IsMagnitude (pointed n (down e)) n e
 plain_fraction n e few some =
     let places : 0 < down e = below (down e) (eqb-false (down e) 0 some) in
-    rw append_none (pointed n (down e)) at
-    (begun_dotted n (down e) [] (pos 0) e few places refl (omega (arith, ints, places)))
+    let none = append_none (pointed n (down e)) in
+    rw none at (begun_dotted n (down e) [] (pos 0) e few places refl (negative_is e places))
   where
     below : (m : ℕ) → (m ≡ 0 → ⊥) → 0 < m
     below zero h = absurd (h refl)
@@ -280,3 +288,76 @@ scientific n e few low high =
         below : (m : ℕ) → (m ≡ 0 → ⊥) → 0 < m
         below zero h = absurd (h refl)
         below (suc m) h = omega arith
+
+-- ---- the text of a decimal
+
+magnitude_spelled : (x : Decimal) → IsStoredDecimal x
+    → IsMagnitude (magnitude_text x.digits x.exponent) (written x).digits (written x).exponent
+magnitude_spelled x stored =
+    ⊎_elim (λ (zero : eqb x.digits 0 ≡ true). rw zero (zero_text x.exponent))
+    (λ (some : eqb x.digits 0 ≡ false).
+    ⊎_elim
+    (λ (plain : is_plain x.digits x.exponent ≡ true).
+    ⊎_elim
+    (λ (whole : eqb (down x.exponent) 0 ≡ true).
+    rw (some, plain, whole) (plain_whole x.digits x.exponent stored.digits plain whole))
+    (λ (fraction : eqb (down x.exponent) 0 ≡ false).
+    rw (some, plain, fraction) (plain_fraction x.digits x.exponent stored.digits fraction))
+    (cases_Bool (eqb (down x.exponent) 0)))
+    (λ (long : is_plain x.digits x.exponent ≡ false).
+    rw (some, long) (scientific x.digits x.exponent stored.digits stored.exponent_low stored.exponent_high))
+    (cases_Bool (is_plain x.digits x.exponent)))
+    (cases_Bool (eqb x.digits 0))
+
+signed_spelled : (negative : Bool) (text : List ℕ) (digits : ℕ) (exponent : ℤ) → IsMagnitude text digits exponent
+    → Spells (sign_text negative ++ text) negative digits exponent
+signed_spelled true text digits exponent x = record { sign = refl; is_text = x.is_text }
+signed_spelled false text digits exponent x = record { sign = rw x.no_mark refl; is_text = rw x.no_sign x.is_text }
+
+pub text_spelled : (x : Decimal) → IsStoredDecimal x
+    → Spells (decimal_text x) x.negative (written x).digits (written x).exponent
+text_spelled x stored =
+    signed_spelled x.negative (magnitude_text x.digits x.exponent) (written x).digits (written x).exponent
+    (magnitude_spelled x stored)
+
+-- it is the same number
+pub written_same : (x : Decimal) → IsSameNumber (written x).digits (written x).exponent x.digits x.exponent
+written_same x =
+    ⊎_elim
+    (λ (zero : eqb x.digits 0 ≡ true). let none = eqb-true x.digits 0 zero in rw zero (rw none (omega arith)))
+    (λ (some : eqb x.digits 0 ≡ false).
+    ⊎_elim
+    (λ (whole : is_written_whole x.digits x.exponent ≡ true).
+    let level = eqb-true (down x.exponent) 0
+    (and_parts (is_plain x.digits x.exponent) (eqb (down x.exponent) 0) whole).1 in
+    let ten : 10 ^ (up x.exponent + 1) ≡ 10 ^ up x.exponent * 10 = pow-add 10 (up x.exponent) 1 in
+    rw (some, whole) (same x.digits (10 ^ up x.exponent) (10 ^ (up x.exponent + 1)) (10 ^ down x.exponent) ten
+    (ap (λ (n : ℕ). 10 ^ n) level)))
+    (λ (other : is_written_whole x.digits x.exponent ≡ false). rw (some, other) refl)
+    (cases_Bool (is_written_whole x.digits x.exponent)))
+    (cases_Bool (eqb x.digits 0))
+  where
+    same : (n high more low : ℕ) → more ≡ high * 10 → low ≡ 1 → n * more * 1 * low ≡ n * high * 10
+    same n high more low e one = rw (e, one) (omega arith)
+
+-- and it fits
+pub written_stored : (x : Decimal) → IsStoredDecimal x → IsStoredDecimal (written x)
+written_stored x stored =
+    ⊎_elim
+    (λ (zero : eqb x.digits 0 ≡ true).
+    rw zero (record { digits = omega arith; exponent_low = omega (arith, ints); exponent_high = omega (arith, ints) }))
+    (λ (some : eqb x.digits 0 ≡ false).
+    ⊎_elim
+    (λ (whole : is_written_whole x.digits x.exponent ≡ true).
+    let p = and_parts (is_plain x.digits x.exponent) (eqb (down x.exponent) 0) whole in
+    let level = eqb-true (down x.exponent) 0 p.1 in
+    let high = leb-true (up x.exponent + length (decimal x.digits)) (down x.exponent + 21)
+    (and_parts (leb (down x.exponent) (up x.exponent + length (decimal x.digits) + 5))
+    (leb (up x.exponent + length (decimal x.digits)) (down x.exponent + 21)) p.0).1 in
+    let small : x.digits * 10 ^ (up x.exponent + 1) < 2 ^ 128 =
+    times_ten_small x.digits (up x.exponent) stored.digits (omega arith) in
+    rw (some, whole)
+    (record { digits = small; exponent_low = omega (arith, ints); exponent_high = omega (arith, ints) }))
+    (λ (other : is_written_whole x.digits x.exponent ≡ false). rw (some, other) stored)
+    (cases_Bool (is_written_whole x.digits x.exponent)))
+    (cases_Bool (eqb x.digits 0))

@@ -20,6 +20,6 @@ mod texts;
 mod writing;
 
 pub use decimal::{Decimal, built_in_formats, from_decimal};
-pub use parsing::DecimalError;
+pub use parsing::{DecimalError, decimal_text_once, written_text};
 pub use search::{shortest, shortest_once};
 pub use texts::read_decimal;

@@ -1,13 +1,23 @@
 //! A decimal from its text.
 
-ghost use Rattle.std.specs.Prelude.{◌≡◌, ◌⊎◌, ℕ, ℤ, pos, neg_ℤ, ◌-ℤ◌, ◌≤ℤ◌, ◌≤◌, ◌^◌, ◌++◌, List, length, Bool, IsTrue, MatchOption, Result};
+ghost use Rattle.std.specs.Prelude.{◌≡◌, ℕ, ℤ, pos, ◌-ℤ◌, ◌≤◌, ◌^◌, ◌++◌, List, Bool, IsTrue, MatchOption, Result, IsOkAnd};
+ghost use Rattle.apfloat_base.specs.declared.kinds.Round.{Round};
+ghost use Rattle.apfloat_base.specs.declared.parse_error.ParseError.{ParseError};
+ghost use Rattle.apfloat_base.specs.declared.status.StatusAnd.{StatusAnd};
+ghost use Rattle.apfloat_base.specs.formats.Datum.{Datum};
+ghost use Rattle.apfloat_base.specs.formats.Format.{Format};
 ghost use Rattle.apfloat_base.specs.rounding.Bounds.{IsWithin};
+ghost use Rattle.apfloat_base.specs.rounding.Flags.{Gives};
 ghost use Rattle.apfloat_base.specs.texts.Digits.{every, is_decimal, number};
 ghost use Rattle.apfloat_texts.specs.Saturation.{IsNear, count_bound, far_bound};
 ghost use Rattle.apfloat_decimals.specs.declared.decimal.Decimal.{Decimal};
-ghost use Rattle.apfloat_decimals.specs.declared.parsing.DecimalError.{DecimalError};
+ghost use Rattle.apfloat_decimals.specs.Decimals.{IsDecimalDelivery};
+ghost use Rattle.apfloat_decimals.specs.DecimalTexts.{IsDecimalText, IsDecimalRead, body_fault};
 ghost use Rattle.apfloat_decimals.specs.LeadingDigits.{number_from};
-ghost use Rattle.apfloat_decimals.specs.Parsing.{IsParsed, IsParsedBody, IsPast32Bits};
+ghost use Rattle.apfloat_decimals.specs.Parsing.{Spells, IsParsed, IsParsedBody, IsPast32Bits};
+ghost use Rattle.apfloat_decimals.specs.ReadBack.{IsStoredDecimal, written};
+ghost use Rattle.apfloat_decimals.specs.Shortest.{IsSameNumber};
+ghost use Rattle.apfloat_decimals.specs.Texts.{decimal_text};
 
 use crate::decimal::Decimal;
 use crate::texts::parts::{exponent_in, has_some, split_digits, split_fraction, split_mark};
@@ -119,3 +129,29 @@ impl FromStr for Decimal {
         }
     }
 }
+
+/// A decimal text spells one number and has no fault, and `read_decimal` reads it as that number.
+pub fn decimal_text_once()
+    ensures once { (body : List ℕ) (digits other : ℕ) (exponent place : ℤ)
+        → IsDecimalText body digits exponent → IsDecimalText body other place
+        → (digits ≡ other) × (exponent ≡ place) }
+    ensures faultless { (body : List ℕ) (digits : ℕ) (exponent : ℤ)
+        → IsDecimalText body digits exponent → body_fault body ≡ None }
+    ensures read { (format : Format) (mode : Round) (text : List ℕ)
+        (answer : Result (StatusAnd Datum) ParseError) (negative : Bool) (digits : ℕ)
+        (exponent : ℤ) → Spells text negative digits exponent
+        → IsDecimalRead format mode text answer
+        → IsOkAnd answer (Gives (IsDecimalDelivery format mode negative digits exponent)) }
+{}
+
+/// The text that `Display` writes of a decimal is a decimal text with its sign and of the same number.
+///
+/// It spells the same digits and exponent, unless the decimal is a zero or written as a whole number without an
+/// exponent: those get a zero after their dot, so their exponent is -1.
+pub fn written_text()
+    ensures spells { (x : Decimal) → IsStoredDecimal x
+        → Spells (decimal_text x) x.negative (written x).digits (written x).exponent }
+    ensures number { (x : Decimal)
+        → IsSameNumber (written x).digits (written x).exponent x.digits x.exponent }
+    ensures fits { (x : Decimal) → IsStoredDecimal x → IsStoredDecimal (written x) }
+{}

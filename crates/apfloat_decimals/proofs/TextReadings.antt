@@ -1,0 +1,48 @@
+-- What is read of a decimal text is its number.
+use Rattle.std.proofs.Common.{◌≡◌, ◌⊎◌, ℕ, Bool, refl, sym, ◌∙◌, subst, inl, inr, List, Result, Ok, Err, Some, None, ℤ}
+use Rattle.std.proofs.lemmas.Option.{none-some}
+use Rattle.std.specs.Result.{IsOkAnd}
+use Rattle.apfloat_base.specs.declared.kinds.Round.{Round}
+use Rattle.apfloat_base.specs.declared.parse_error.Fault.{Fault}
+use Rattle.apfloat_base.specs.declared.parse_error.Fault.TheVariants.{NoLiteral}
+use Rattle.apfloat_base.specs.declared.parse_error.ParseError.{ParseError}
+use Rattle.apfloat_base.specs.declared.status.StatusAnd.{StatusAnd}
+use Rattle.apfloat_base.specs.formats.Datum.{Datum}
+use Rattle.apfloat_base.specs.formats.Format.{Format}
+use Rattle.apfloat_base.specs.rounding.Flags.{Gives, bits_of}
+use Rattle.apfloat_base.specs.texts.Readings.{IsReading}
+use Rattle.apfloat_base.specs.texts.Specials.{mark_of, behind_mark, is_minus}
+use Rattle.apfloat_base.proofs.texts.OneMeaning.{meaning_no_fault}
+use Rattle.apfloat_decimals.specs.Decimals.{IsDecimalDelivery}
+use Rattle.apfloat_decimals.specs.DecimalTexts.{IsDecimalText, IsDecimalRead, IsDecimalReading, IsSpelled, decimal_fault_of}
+use Rattle.apfloat_decimals.specs.Parsing.{Spells}
+use Rattle.apfloat_decimals.proofs.TextParts.{only_text, no_other_meaning, no_fault_of}
+
+-- a text spells one number
+pub text_once : (body : List ℕ) (digits other : ℕ) (exponent place : ℤ) → IsDecimalText body digits exponent
+    → IsDecimalText body other place → (digits ≡ other) × (exponent ≡ place)
+text_once body digits other exponent place x y =
+    let one = only_text body digits exponent x in
+    let two = only_text body other place y in
+    (one.digits_are ∙ sym two.digits_are, one.exponent_is ∙ sym two.exponent_is)
+
+-- a reading of the text is that of its number
+reading_is : (format : Format) (mode : Round) (text : List ℕ) (negative : Bool) (digits : ℕ) (exponent : ℤ)
+    (value : Datum) (status : ℕ) → Spells text negative digits exponent
+    → IsDecimalReading format mode text value status
+    → IsDecimalDelivery format mode negative digits exponent value status
+reading_is format mode text negative digits exponent value status x (inl r) =
+    let same = text_once (behind_mark text) r.digits digits r.exponent exponent r.is_text x.is_text in
+    rw (x.sign, sym same.0, sym same.1) r.delivered
+reading_is format mode text negative digits exponent value status x (inr r) =
+    absurd (none-some NoLiteral
+    (sym (meaning_no_fault text r.meaning r.means) ∙ no_other_meaning text digits exponent x.is_text))
+
+pub text_read : (format : Format) (mode : Round) (text : List ℕ) (answer : Result (StatusAnd Datum) ParseError)
+    (negative : Bool) (digits : ℕ) (exponent : ℤ) → Spells text negative digits exponent
+    → IsDecimalRead format mode text answer
+    → IsOkAnd answer (Gives (IsDecimalDelivery format mode negative digits exponent))
+text_read format mode text (Ok answer) negative digits exponent x r =
+    reading_is format mode text negative digits exponent answer.value (bits_of answer.status) x r
+text_read format mode text (Err error) negative digits exponent x r =
+    none-some r.fault (sym (no_fault_of text digits exponent x.is_text) ∙ r.is_first)
