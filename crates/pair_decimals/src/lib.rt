@@ -1,0 +1,33 @@
+//! Decimal texts as pairs of doubles.
+//!
+//! A crate of its own, since decimals know no pairs, and pairs no decimals.
+#![tactic(auto)]
+
+ghost use Rattle.apfloat_pair_theory.specs.Pairs.{IsSplit};
+ghost use Rattle.pair_decimals.specs.PairReadings.{IsPairDecimalRead};
+
+use apfloat_base::{ParseError, Round, StatusAnd};
+use apfloat_decimals::read_decimal;
+use apfloat_ieee::IeeeFloat;
+use apfloat_pairs::{DoubleDouble, FallbackS};
+
+/// The pair of a text: the value that `apfloat_decimals::read_decimal` reads in the wide format of 106 binary digits,
+/// rounded once and split into the nearest double and the rest, with the flags of that reading; or its error.
+///
+/// The pair need not be the one nearest to the number: its parts can be more than 53 digits apart, as in
+/// `1 + 2^-1000`, which no value of the wide format is.
+pub fn read_decimal_pair(text: &str, round: Round) -> Result<StatusAnd<DoubleDouble>, ParseError>
+    ensures { IsPairDecimalRead round text.now result }
+{
+    match read_decimal::<FallbackS>(text, round) {
+        Ok(answer) => Ok(answer.status.and(pair_of_wide(answer.value))),
+        Err(error) => Err(error),
+    }
+}
+
+/// A value of the wide format as a pair.
+fn pair_of_wide(x: IeeeFloat<FallbackS>) -> DoubleDouble
+    ensures { IsSplit x result }
+{
+    DoubleDouble::from(x)
+}
