@@ -2,3 +2,4 @@ pub mod AsciiTexts
 pub mod ExponentWords
 pub mod WrittenAnswers
 pub mod ExportsOnce
+pub mod Lines

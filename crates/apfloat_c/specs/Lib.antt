@@ -1,2 +1,3 @@
 pub mod KnownCalls
 pub mod Answers
+pub mod Decimals

@@ -9,7 +9,9 @@ mod ascii;
 mod by_code;
 mod codes;
 mod data;
+mod decimals;
 mod exported_call;
 mod exports;
+mod line;
 #[cfg(test)]
 mod tests;

@@ -1,0 +1,150 @@
+-- Lines of text: digits one by one, and how long texts are.
+use Rattle.std.proofs.Common.{◌≡◌, ℕ, zero, suc, eqb, leb, FitsSigned, w32, ◌+◌, ◌-◌, ◌*◌, ◌/◌, ◌%◌, ◌^◌, ◌<◌, ◌≤◌, List, [], ◌∷◌, ◌++◌, length, refl, sym, ap, ◌∙◌, replicate, arith, ⊎_elim, lit<, lit≤, false, true, Bool, if◌then◌else◌, codes}
+use Rattle.std.specs.Prelude.{ℤ, pos, negsuc, ◌+ℤ◌}
+use Rattle.std.proofs.lemmas.Int.{ints}
+use Rattle.apfloat_base.specs.arithmetic.Exact.{up, down}
+use lib.Signed.{mag}
+use Rattle.std.proofs.Math.Nat.{div-eq_of_lt, div-lt_iff_lt-mul, mod-le, mod-lt, pow-le-pow_right}
+use Rattle.std.proofs.lemmas.Bool.{and_parts, cases_lt, eqb-false, eqb-true, false≢true, leb-true}
+use Rattle.std.proofs.lemmas.Nat.{pow-add}
+use Rattle.std.proofs.lemmas.Fmt.{decimal_step_wide, decimal_digit, length-decimal-le_wide, length_signed_le}
+use Rattle.std.proofs.lemmas.List.{append_assoc, length-append, length-replicate}
+use Rattle.std.specs.Fmt.{decimal, signed_decimal}
+use Rattle.apfloat_decimals.proofs.Values.{power_pos}
+use Rattle.apfloat_decimals.proofs.WrittenNumbers.{few_digits, shorter, single, ten_great, times_ten_small}
+use Rattle.apfloat_decimals.specs.Texts.{is_plain, padded, pointed, some_pointed, scientific_text, plain_text, magnitude_text, sign_text}
+
+-- ---- digits one by one
+
+-- the last digit of a number is added after the others
+pub last_digit : (text : List ℕ) (n : ℕ) → 10 ≤ n → n < 2 ^ 128
+    → (text ++ decimal (n / 10)) ++ ((48 + n % 10) ∷ []) ≡ text ++ decimal n
+last_digit text n some few =
+    append_assoc text (decimal (n / 10)) ((48 + n % 10) ∷ [])
+    ∙ ap (λ (x : List ℕ). text ++ x) (sym (decimal_step_wide n some (omega arith)))
+
+-- and there is room for it
+pub room_for_last : (text : List ℕ) (n : ℕ) → 10 ≤ n → n < 2 ^ 128 → length text + length (decimal n) ≤ 64
+    → length (text ++ decimal (n / 10)) < 64
+room_for_last text n some few room =
+    let less = shorter n some few in
+    let both = length-append text (decimal (n / 10)) in
+    omega (arith, less, both, room)
+
+pub only_digit : (text : List ℕ) (n : ℕ) → n < 10 → text ++ ((48 + n % 10) ∷ []) ≡ text ++ decimal n
+only_digit text n few =
+    let same : 48 + n % 10 ≡ 48 + n = omega arith in
+    ap (λ (d : ℕ). text ++ (d ∷ [])) same ∙ ap (λ (x : List ℕ). text ++ x) (sym (decimal_digit n few))
+
+-- ---- how long texts are
+
+-- the whole part of a number in units of 10 ^ places
+pub whole_length : (n places : ℕ) → n < 2 ^ 128 → places ≤ 39 → length (decimal (n / 10 ^ places)) ≤ 40 - places
+whole_length n places few within =
+    let split : 10 ^ (40 - places + places) ≡ 10 ^ (40 - places) * 10 ^ places = pow-add 10 (40 - places) places in
+    let all : 10 ^ (40 - places + places) ≡ 10 ^ 40 =
+    ap (λ (x : ℕ). 10 ^ x) (let e : 40 - places + places ≡ 40 = omega arith in e) in
+    let less : n < 10 ^ (40 - places) * 10 ^ places = omega (arith, split, all) in
+    let below : n / 10 ^ places < 10 ^ (40 - places) = (div-lt_iff_lt-mul (power_pos 10 places (lit< tt))).1 less in
+    let few_places : 40 - places ≤ 64 = omega arith in
+    let most : 10 ^ (40 - places) ≤ 10 ^ 64 = pow-le-pow_right (lit< tt) few_places in
+    length-decimal-le_wide (40 - places) (n / 10 ^ places) (omega arith) below (omega (arith, below, most))
+
+-- the rest of it, with zeros
+pub padded_length : (n places : ℕ) → n < 2 ^ 128 → 0 < places → length (padded places (n % 10 ^ places)) ≡ places
+padded_length n places few some =
+    let below : n % 10 ^ places < 10 ^ places = mod-lt n (power_pos 10 places (lit< tt)) in
+    let rest : n % 10 ^ places ≤ n = mod-le n (10 ^ places) in
+    let digits = length-decimal-le_wide places (n % 10 ^ places) some below (omega arith) in
+    let zeros_are = length-replicate {A = ℕ} (places - length (decimal (n % 10 ^ places))) 48 in
+    length-append (replicate (places - length (decimal (n % 10 ^ places))) 48) (decimal (n % 10 ^ places))
+    ∙ omega (arith, zeros_are, digits)
+
+-- all of it, with a dot
+pub pointed_length : (n places : ℕ) → n < 2 ^ 128 → 0 < places → places ≤ 44 → length (pointed n places) ≤ 46
+pointed_length n places few some within =
+    let rest = padded_length n places few some in
+    let dotted = length-append (codes ".") (padded places (n % 10 ^ places)) in
+    let both = length-append (decimal (n / 10 ^ places)) (codes "." ++ padded places (n % 10 ^ places)) in
+    ⊎_elim
+    (λ (small : places < 39). let whole = whole_length n places few (omega arith) in omega (arith, rest, dotted, both, whole))
+    (λ (great : 39 ≤ places).
+    let less = ten_great n places few (omega arith) in
+    let zero_is = div-eq_of_lt less in
+    let none = single (n / 10 ^ places) (omega (arith, zero_is)) in
+    omega (arith, rest, dotted, both, none))
+    (cases_lt places 39)
+
+-- without its dot if there are no places after it
+some_pointed_from : (n places : ℕ) (none : Bool) → n < 2 ^ 128 → places ≤ 38 → eqb places 0 ≡ none
+    → length (if none then decimal n else pointed n places) ≤ 46
+some_pointed_from n places true few within e = let all = few_digits n few in omega (arith, all)
+some_pointed_from n places false few within e =
+    let some = eqb-false places 0 e in
+    pointed_length n places few (omega arith) (omega arith)
+
+pub some_pointed_length : (n places : ℕ) → n < 2 ^ 128 → places ≤ 38 → length (some_pointed n places) ≤ 46
+some_pointed_length n places few within = some_pointed_from n places (eqb places 0) few within refl
+
+mag_below : (z : ℤ) (k : ℕ) → up z < down z + k → down z < up z + k → mag z < k
+mag_below (pos n) k low high = omega arith
+mag_below (negsuc n) k low high = omega arith
+
+-- with the exponent of its first digit
+pub scientific_length : (n : ℕ) (e : ℤ) → n < 2 ^ 128 → FitsSigned w32 e → length (scientific_text n e) ≤ 58
+scientific_length n e few fits =
+    let digits = few_digits n few in
+    let pointed_is = some_pointed_length n (length (decimal n) - 1) few (omega (arith, digits)) in
+    let first = e +ℤ pos (length (decimal n) - 1) in
+    let small : mag first < 2 ^ 33 =
+    mag_below first (2 ^ 33) (omega (arith, ints, fits, digits)) (omega (arith, ints, fits, digits)) in
+    let exponent : length (signed_decimal first) ≤ 11 =
+    length_signed_le 10 first (omega (arith, small)) (omega (arith, small)) in
+    let tail = length-append (codes "e") (signed_decimal first) in
+    let both = length-append (some_pointed n (length (decimal n) - 1)) (codes "e" ++ signed_decimal first) in
+    omega (arith, pointed_is, exponent, tail, both)
+
+-- without an exponent
+plain_parts : (n : ℕ) (e : ℤ) → is_plain n e ≡ true
+    → (down e ≤ up e + length (decimal n) + 5) × (up e + length (decimal n) ≤ down e + 21)
+plain_parts n e plain =
+    let both = and_parts (leb (down e) (up e + length (decimal n) + 5)) (leb (up e + length (decimal n)) (down e + 21))
+    plain in
+    (leb-true _ _ both.0, leb-true _ _ both.1)
+
+plain_from : (n : ℕ) (e : ℤ) (whole : Bool) → n < 2 ^ 128 → is_plain n e ≡ true → eqb (down e) 0 ≡ whole
+    → length (if whole then pointed (n * 10 ^ (up e + 1)) 1 else pointed n (down e)) ≤ 46
+plain_from n e true few plain is_whole =
+    let above = (plain_parts n e plain).1 in
+    let whole = eqb-true (down e) 0 is_whole in
+    let below : up e + length (decimal n) ≤ 21 = omega (arith, whole, above) in
+    pointed_length (n * 10 ^ (up e + 1)) 1 (times_ten_small n (up e) few below) (lit< tt) (lit≤ tt)
+plain_from n (pos k) false few plain is_whole = absurd (false≢true (sym is_whole))
+plain_from n (negsuc k) false few plain is_whole =
+    let digits = few_digits n few in
+    let below = (plain_parts n (negsuc k) plain).0 in
+    pointed_length n (suc k) few (omega arith) (omega (arith, below, digits))
+
+pub plain_length : (n : ℕ) (e : ℤ) → n < 2 ^ 128 → is_plain n e ≡ true → length (plain_text n e) ≤ 46
+plain_length n e few plain = plain_from n e (eqb (down e) 0) few plain refl
+
+magnitude_from : (n : ℕ) (e : ℤ) (none plain : Bool) → n < 2 ^ 128 → FitsSigned w32 e → is_plain n e ≡ plain
+    → length (if none then codes "0.0" else (if plain then plain_text n e else scientific_text n e)) ≤ 58
+magnitude_from n e true plain few fits is = lit≤ tt
+magnitude_from n e false true few fits is = let l = plain_length n e few is in omega (arith, l)
+magnitude_from n e false false few fits is = scientific_length n e few fits
+
+pub magnitude_length : (n : ℕ) (e : ℤ) → n < 2 ^ 128 → FitsSigned w32 e → length (magnitude_text n e) ≤ 58
+magnitude_length n e few fits = magnitude_from n e (eqb n 0) (is_plain n e) few fits refl
+
+pub sign_length : (negative : Bool) → length (sign_text negative) ≤ 1
+sign_length true = lit≤ tt
+sign_length false = lit≤ tt
+
+pub signed_length : (negative : Bool) (n : ℕ) (e : ℤ) → n < 2 ^ 128 → FitsSigned w32 e
+    → length (sign_text negative ++ magnitude_text n e) < 64
+signed_length negative n e few fits =
+    let sign = sign_length negative in
+    let magnitude = magnitude_length n e few fits in
+    let both = length-append (sign_text negative) (magnitude_text n e) in
+    omega (arith, sign, magnitude, both)

@@ -1,0 +1,115 @@
+-- Decimals: texts as values, and the texts of values.
+use Rattle.std.specs.Prelude.{⊤, ◌≡◌, ◌⊎◌, ℕ, ◌-◌, ◌<◌, Bool, IsTrue, List, ◌++◌, codes, length, replicate, Option, Some, None, is_some, ok_or, Result, Ok, Err}
+use Rattle.std.specs.Char.{is_ascii}
+use Rattle.rustc_apfloat.specs.declared.Round.{Round}
+use Rattle.rustc_apfloat.specs.Datum.{Datum, finite, infinite, nan}
+use Rattle.rustc_apfloat.specs.Digits.{every}
+use Rattle.rustc_apfloat.specs.Flags.{Gives}
+use Rattle.rustc_apfloat.specs.Format.{Format}
+use Rattle.rustc_apfloat.specs.Lawful.{Constants, format_with}
+use Rattle.apfloat_decimals.specs.declared.decimal.Decimal.{Decimal}
+use Rattle.apfloat_decimals.specs.DecimalTexts.{IsDecimalReading, decimal_fault_of}
+use Rattle.apfloat_decimals.specs.ShortestSearch.{IsShortestOf, IsWithinQuad}
+use Rattle.apfloat_decimals.specs.Texts.{decimal_text, sign_text}
+use Rattle.pair_decimals.specs.PairReadings.{IsPairDecimalReading}
+use Rattle.dispatch.specs.declared.BuiltInFormat.{BuiltInFormat}
+use Rattle.dispatch.specs.declared.BuiltInKind.{BuiltInKind}
+use Rattle.dispatch.specs.declared.BuiltInKind.TheVariants.{OfFormat as OfBuiltIn, Pairs as PairsOfDoubles}
+use Rattle.dispatch.specs.declared.FlaggedFormat.{FlaggedFormat}
+use Rattle.dispatch.specs.declared.FlaggedFormat.TheVariants.{BuiltIn, AfterRounding, BeforeRounding}
+use Rattle.dispatch.specs.declared.FlaggedKind.{FlaggedKind}
+use Rattle.dispatch.specs.declared.FlaggedKind.TheVariants.{OfFormat, Pairs}
+use Rattle.dispatch.specs.BuiltIns.{constants_in, kind_of}
+use Rattle.dispatch.specs.FlaggedKinds.{format_of_ieee}
+use Rattle.dispatch.specs.Relations.{in_format, in_pairs}
+use Rattle.dispatch.specs.ValueKinds.{Kind, of_format, of_pairs, value_of}
+use Rattle.apfloat_c.specs.declared.data.Answer.{Answer}
+use Rattle.apfloat_c.specs.declared.decimals.DecimalText.{DecimalText}
+use Rattle.apfloat_c.specs.Answers.{IsValue}
+use Rattle.apfloat_c.specs.KnownCalls.{◌>>=◌, answered, no_such_operation, refused_text, unknown_format, unknown_mode}
+
+-- a format has at most the digits of binary128, and its exponents
+abbrev pub HasDecimals : Kind → Type 0
+HasDecimals (of_format c) = IsWithinQuad (format_with c)
+HasDecimals of_pairs = ⊤
+
+-- ---- reading
+
+-- the value of the text with its flags
+abbrev pub IsDecimalAnswer : Kind → Round → List ℕ → Answer → Type 0
+IsDecimalAnswer (of_format c) mode text answer =
+    IsValue (in_format c) (λ given. Gives (IsDecimalReading (format_with c) mode text) given) answer
+IsDecimalAnswer of_pairs mode text answer =
+    IsValue in_pairs (λ given. Gives (IsPairDecimalReading mode text) given) answer
+
+-- an answer to ASCII bytes, and none only where a byte is above 127 or the text has a fault
+abbrev pub IsDecimalOutcome : Kind → Round → List ℕ → Option Answer → Type 0
+IsDecimalOutcome kind mode text (Some answer) = IsTrue (every is_ascii text) × IsDecimalAnswer kind mode text answer
+IsDecimalOutcome kind mode text None = IsTrue (every is_ascii text) → IsTrue (is_some (decimal_fault_of text))
+
+-- the kinds in which decimals are read: those with the flags of the built-in formats
+abbrev pub decimal_kind : FlaggedKind → Option BuiltInKind
+decimal_kind (OfFormat (BuiltIn format)) = Some (OfBuiltIn format)
+decimal_kind (OfFormat (AfterRounding format)) = None
+decimal_kind (OfFormat (BeforeRounding format)) = None
+decimal_kind Pairs = Some PairsOfDoubles
+
+pub record KnownReading : Type 0 where
+  pub kind : BuiltInKind
+  pub mode : Round
+
+-- The faults in their order: the format, the mode, and a format in which no decimals are read.
+abbrev pub known_reading : Option FlaggedKind → Option Round → Result KnownReading ℕ
+known_reading format mode =
+    ok_or format unknown_format >>= λ known. ok_or mode unknown_mode >>= λ rounding.
+    ok_or (decimal_kind known) no_such_operation >>= λ kind. Ok (record { kind = kind; mode = rounding })
+
+-- the code 0 and the answer, or the code of the error and what was there before
+abbrev pub IsReadInto : Kind → Round → List ℕ → Answer → Answer → ℕ → Type 0
+IsReadInto kind mode text old new code =
+    ((code ≡ answered) × IsDecimalOutcome kind mode text (Some new))
+    ⊎ ((code ≡ refused_text) × (new ≡ old) × IsDecimalOutcome kind mode text None)
+
+abbrev pub IsParsed : Result KnownReading ℕ → List ℕ → Answer → Answer → ℕ → Type 0
+IsParsed (Err error) text old new code = (code ≡ error) × (new ≡ old)
+IsParsed (Ok known) text old new code = IsReadInto (kind_of known.kind) known.mode text old new code
+
+-- ---- writing
+
+-- that of the shortest decimal; an infinity is `inf` or `-inf`, and each NaN `nan`
+abbrev pub IsValueText : Format → Datum → List ℕ → Type 0
+IsValueText f (finite negative quanta) text =
+    (decimal : Decimal) × (IsShortestOf f negative quanta decimal × (text ≡ decimal_text decimal))
+IsValueText f (infinite negative) text = text ≡ sign_text negative ++ codes "inf"
+IsValueText f (nan negative significand) text = text ≡ codes "nan"
+
+-- a text of less than 64 bytes, and zeros
+pub record IsText (written : List ℕ) (text : DecimalText) : Type 0 where
+  pub fits : length written < 64
+  pub bytes_are : text.bytes ≡ written ++ replicate (64 - length written) 0
+  pub length_is : text.length ≡ length written
+
+pub record IsTextOfBits (c : Constants) (bits : ℕ) (text : DecimalText) : Type 0 where
+  pub written : List ℕ
+  pub is_text_of : IsValueText (format_with c) (value_of c bits) written
+  pub is_written : IsText written text
+
+abbrev pub IsKindText : Kind → ℕ → DecimalText → Type 0
+IsKindText (of_format c) bits text = IsTextOfBits c bits text
+IsKindText of_pairs bits text = ⊥
+
+-- the format with the flags of the built-in ones, which has the same values
+abbrev pub format_without_flags : FlaggedFormat → BuiltInFormat
+format_without_flags (BuiltIn format) = format
+format_without_flags (AfterRounding format) = format_of_ieee format
+format_without_flags (BeforeRounding format) = format_of_ieee format
+
+abbrev pub text_format : Option FlaggedKind → Result BuiltInFormat ℕ
+text_format None = Err unknown_format
+text_format (Some Pairs) = Err no_such_operation
+text_format (Some (OfFormat format)) = Ok (format_without_flags format)
+
+-- the code 0 and the text, or the code of the error and what was there before
+abbrev pub IsShortestWritten : Result BuiltInFormat ℕ → ℕ → DecimalText → DecimalText → ℕ → Type 0
+IsShortestWritten (Err error) bits old new code = (code ≡ error) × (new ≡ old)
+IsShortestWritten (Ok format) bits old new code = (code ≡ answered) × IsTextOfBits (constants_in format) bits new

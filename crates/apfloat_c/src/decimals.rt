@@ -1,0 +1,237 @@
+//! Decimal texts as values, and the text of a value's shortest decimal, for C programs.
+
+ghost use Rattle.std.specs.Prelude.{◌≡◌, ◌<◌, ◌++◌, codes, length, pos, if◌then◌else◌};
+ghost use Rattle.rustc_apfloat.specs.Types.{constants_of, format_of};
+ghost use Rattle.apfloat_decimals.specs.ShortestSearch.{IsWithinQuad};
+ghost use Rattle.apfloat_decimals.specs.Texts.{sign_text};
+ghost use Rattle.dispatch.specs.FlaggedKinds.{flagged_kind_coded, format_of_ieee};
+ghost use Rattle.dispatch.specs.Modes.{mode_coded};
+ghost use Rattle.dispatch.specs.Relations.{in_format, in_pairs};
+ghost use Rattle.apfloat_c.specs.Answers.{IsWritten, whole};
+ghost use Rattle.apfloat_c.specs.Decimals.{HasDecimals, IsDecimalOutcome, IsKindText, IsParsed, IsShortestWritten, IsText, IsValueText, decimal_kind, format_without_flags, known_reading, text_format};
+
+use crate::ascii::text_of;
+use crate::codes::{ANSWERED, NO_SUCH_OPERATION, REFUSED_TEXT, UNKNOWN_FORMAT, UNKNOWN_MODE};
+use crate::data::{Answer, Halves};
+use crate::line::{CAPACITY, Line, line_of};
+use apfloat_decimals::{read_decimal, shortest};
+use dispatch::{
+    BuiltInFormat, BuiltInKind, FlaggedFormat, FlaggedKind, IeeeFormat, InFormat, InKind,
+    mode_coded,
+};
+use pair_decimals::read_decimal_pair;
+use rustc_apfloat::ieee::{IeeeFloat, Semantics};
+use rustc_apfloat::ppc::DoubleDouble;
+use rustc_apfloat::{Float, Round, StatusAnd};
+
+/// A text of less than 64 bytes, with zeros after it.
+#[repr(C)]
+#[derive(Clone, Copy)]
+pub struct DecimalText {
+    /// The text and the zeros.
+    pub bytes: [u8; CAPACITY],
+    /// How many bytes the text has.
+    pub length: u32,
+}
+
+const _: () = prove!(size_of::<DecimalText>() == 68);
+
+const _: () = prove!(align_of::<DecimalText>() == 4);
+
+/// The value of a text, a decimal number or what `apfloat_parse` reads, rounded once. A text with a byte above 127 is
+/// refused, and so is a format with the flags of IEEE 754-2008.
+#[unsafe(no_mangle)]
+pub extern "C" fn apfloat_parse_decimal(
+    format: u32,
+    mode: u32,
+    text: &[u8],
+    answer: &mut Answer,
+) -> u32
+    ensures { IsParsed (known_reading (flagged_kind_coded format) (mode_coded mode)) text.now
+        answer.old answer.new result }
+{
+    let Some(kind) = FlaggedKind::coded(format) else {
+        return UNKNOWN_FORMAT;
+    };
+    let Some(round) = mode_coded(mode) else {
+        return UNKNOWN_MODE;
+    };
+    let Some(kind) = decimal_kind(kind) else {
+        return NO_SUCH_OPERATION;
+    };
+    match kind.run(DecimalReading { round, text }) {
+        Some(read) => {
+            *answer = read;
+            ANSWERED
+        }
+        None => REFUSED_TEXT,
+    }
+}
+
+/// The text of the shortest decimal that gives the value when it is rounded to nearest, ties to even. That of an
+/// infinity is `inf` or `-inf`, and that of each NaN `nan`. Pairs of doubles do not have it.
+#[unsafe(no_mangle)]
+pub extern "C" fn apfloat_shortest(format: u32, x: Halves, text: &mut DecimalText) -> u32
+    ensures { IsShortestWritten (text_format (flagged_kind_coded format)) (whole x)
+        text.old text.new result }
+{
+    match FlaggedKind::coded(format) {
+        None => UNKNOWN_FORMAT,
+        Some(FlaggedKind::Pairs) => NO_SUCH_OPERATION,
+        Some(FlaggedKind::OfFormat(format)) => {
+            *text = format_without_flags(format).run(Writing { bits: x.number() });
+            ANSWERED
+        }
+    }
+}
+
+/// The kind of values in which decimals are read: one with the flags of the built-in formats.
+fn decimal_kind(kind: FlaggedKind) -> Option<BuiltInKind>
+    ensures { result ≡ decimal_kind kind }
+{
+    match kind {
+        FlaggedKind::OfFormat(FlaggedFormat::BuiltIn(format)) => {
+            Some(BuiltInKind::OfFormat(format))
+        }
+        FlaggedKind::OfFormat(_) => None,
+        FlaggedKind::Pairs => Some(BuiltInKind::Pairs),
+    }
+}
+
+/// The format with the flags of the built-in ones, which has the same values.
+fn format_without_flags(format: FlaggedFormat) -> BuiltInFormat
+    ensures { result ≡ format_without_flags format }
+{
+    match format {
+        FlaggedFormat::BuiltIn(format) => format,
+        FlaggedFormat::AfterRounding(format) => built_in(format),
+        FlaggedFormat::BeforeRounding(format) => built_in(format),
+    }
+}
+
+/// A format of IEEE 754 among the built-in ones.
+fn built_in(format: IeeeFormat) -> BuiltInFormat
+    ensures { result ≡ format_of_ieee format }
+{
+    match format {
+        IeeeFormat::Half => BuiltInFormat::Half,
+        IeeeFormat::Single => BuiltInFormat::Single,
+        IeeeFormat::Double => BuiltInFormat::Double,
+        IeeeFormat::Quad => BuiltInFormat::Quad,
+        IeeeFormat::BFloat => BuiltInFormat::BFloat,
+        IeeeFormat::E5M2 => BuiltInFormat::E5M2,
+        IeeeFormat::X87 => BuiltInFormat::X87,
+    }
+}
+
+/// A text to be read.
+#[derive(Clone, Copy)]
+struct DecimalReading<'a> {
+    round: Round,
+    text: &'a [u8],
+}
+
+impl InFormat for DecimalReading<'_> {
+    type Output = Option<Answer>;
+
+    ghost can = { λ _ kind. HasDecimals kind };
+
+    ghost gives = { λ it kind answer. IsDecimalOutcome kind it.round it.text.now answer };
+
+    fn in_format<S: Semantics>(self) -> Option<Answer> {
+        let Some(text) = text_of(self.text) else {
+            return None;
+        };
+        match read_decimal::<S>(text, self.round) {
+            Ok(read) => Some(in_bits(read)),
+            Err(_) => None,
+        }
+    }
+}
+
+impl InKind for DecimalReading<'_> {
+    fn in_pairs(self) -> Option<Answer> {
+        let Some(text) = text_of(self.text) else {
+            return None;
+        };
+        match read_decimal_pair(text, self.round) {
+            Ok(read) => Some(pair_in_bits(read)),
+            Err(_) => None,
+        }
+    }
+}
+
+/// A value of a format with its flags.
+fn in_bits<S: Semantics>(read: StatusAnd<IeeeFloat<S>>) -> Answer
+    requires { S.PRECISION < S.BITS }
+    ensures { IsWritten (in_format (constants_of S.Semantics)) read (pos 0) result }
+{
+    Answer::of(read.value.to_bits(), read.status, 0)
+}
+
+/// A pair with its flags.
+fn pair_in_bits(read: StatusAnd<DoubleDouble>) -> Answer
+    ensures { IsWritten in_pairs read (pos 0) result }
+{
+    Answer::of(read.value.to_bits(), read.status, 0)
+}
+
+/// A value whose text is to be written.
+#[derive(Clone, Copy)]
+struct Writing {
+    bits: u128,
+}
+
+impl InFormat for Writing {
+    type Output = DecimalText;
+
+    ghost can = { λ _ kind. HasDecimals kind };
+
+    ghost gives = { λ it kind text. IsKindText kind it.bits text };
+
+    fn in_format<S: Semantics>(self) -> DecimalText {
+        text_in(value_line(IeeeFloat::<S>::from_bits(self.bits)))
+    }
+}
+
+/// The text of a value.
+fn value_line<S: Semantics>(x: IeeeFloat<S>) -> Line
+    requires { IsWithinQuad (format_of S.Semantics) }
+    ensures text { IsValueText (format_of S.Semantics) x result }
+    ensures room { length result < 64 }
+{
+    match shortest(x) {
+        Some(decimal) => line_of(decimal),
+        None => special_line(x.is_nan(), x.is_negative()),
+    }
+}
+
+/// The text of a NaN or an infinity.
+fn special_line(is_nan: bool, negative: bool) -> Line
+    ensures text { result ≡ (if is_nan then codes "nan" else sign_text negative ++ codes "inf") }
+    ensures room { length result < 64 }
+{
+    let mut line = Line::new();
+    if is_nan {
+        line.push(b'n');
+        line.push(b'a');
+        line.push(b'n');
+    } else {
+        line.push_sign(negative);
+        line.push(b'i');
+        line.push(b'n');
+        line.push(b'f');
+    }
+    line
+}
+
+/// A line as C has it.
+fn text_in(line: Line) -> DecimalText
+    requires { length line < 64 }
+    ensures { IsText line result }
+{
+    DecimalText {
+        bytes: line.bytes(),
+        length: line.length() as u32,
+    }
+}
