@@ -298,6 +298,15 @@ static unsigned refusals(void) {
     return count;
 }
 
+/* 1 + 1, with each field of the answer written. */
+static bool adds_ones(void) {
+    const apfloat_halves one = {UINT64_C(0x3ff0000000000000), 0};
+    apfloat_answer answer = before;
+    uint32_t code = apfloat_add(APFLOAT_DOUBLE, APFLOAT_NEAREST_EVEN, one, one, &answer);
+    return code == APFLOAT_ANSWERED && answer.bits.low == UINT64_C(0x4000000000000000) && answer.bits.high == 0 &&
+           answer.status == 0 && answer.number == 0;
+}
+
 int main(void) {
     static char line[4096], copy[4096];
     while (fgets(line, sizeof line, stdin)) {
@@ -315,5 +324,6 @@ int main(void) {
     for (size_t i = 0; i < COUNT(calls); i++)
         if (agreeing[i]) printf("%s: %u rows agree\n", calls[i].name, agreeing[i]);
     printf("%u errors agree\n", refusals());
+    printf("1 + 1 %s\n", adds_ones() ? "agrees" : "differs");
     return 0;
 }

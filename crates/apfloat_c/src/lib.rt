@@ -13,5 +13,3 @@ mod decimals;
 mod exported_call;
 mod exports;
 mod line;
-#[cfg(test)]
-mod tests;
