@@ -2,6 +2,7 @@
 
 ghost use Rattle.std.specs.Prelude.{◌*◌, ◌^◌, ◌<◌, ◌≤◌};
 
+use crate::asserts::same;
 use apfloat_base::sig::{
     divide, divide_by_words, divide_short, divide_short_by_words, moved_rest, short_moved_rest,
 };
@@ -21,14 +22,17 @@ fn agree(dividend: u128, divisor: u128, places: u32) -> bool
 #[test]
 fn words_and_single_digits_agree(rt: HostRuntime) {
     for places in 0..127 {
-        assert!(rt; agree(1, 1, places));
-        assert!(rt; agree(5, 3, places));
-        assert!(rt; agree((1 << 113) - 1, 1 << 112, places));
-        assert!(rt; agree(1 << 112, (1 << 113) - 1, places));
-        assert!(rt; agree((1 << 125) - 2, (1 << 125) - 1, places));
-        assert!(rt; agree((1 << 125) - 1, (1 << 124) + 1, places));
         let dividend = 0x1234_5678_9abc_def0_0fed_cba9_8765;
-        assert!(rt; agree(dividend, 0x1f0f_0000_ffff_0000_0000_1234_0001, places));
+        let agreeing = [
+            agree(1, 1, places),
+            agree(5, 3, places),
+            agree((1 << 113) - 1, 1 << 112, places),
+            agree(1 << 112, (1 << 113) - 1, places),
+            agree((1 << 125) - 2, (1 << 125) - 1, places),
+            agree((1 << 125) - 1, (1 << 124) + 1, places),
+            agree(dividend, 0x1f0f_0000_ffff_0000_0000_1234_0001, places),
+        ];
+        same(&rt, agreeing, [true; 7], places);
     }
 }
 
@@ -125,20 +129,26 @@ fn words_and_single_digits_agree_on_made_operands(rt: HostRuntime) {
     for round in 0..1000u32 {
         let first = next_word(word);
         word = next_word(first);
-        assert!(rt; words_agree(first, word, round % 400));
-        assert!(rt; short_words_agree(first >> (round % 60), word >> (round % 60)));
+        let agreeing = [
+            words_agree(first, word, round % 400),
+            short_words_agree(first >> (round % 60), word >> (round % 60)),
+        ];
+        same(&rt, agreeing, [true; 2], round);
     }
 }
 
 #[test]
 fn short_words_and_single_digits_agree(rt: HostRuntime) {
     for places in 0..63 {
-        assert!(rt; short_agree(1, 1, places));
-        assert!(rt; short_agree(5, 3, places));
-        assert!(rt; short_agree((1 << 53) - 1, 1 << 52, places));
-        assert!(rt; short_agree(1 << 52, (1 << 53) - 1, places));
-        assert!(rt; short_agree((1 << 62) - 2, (1 << 62) - 1, places));
-        assert!(rt; short_agree((1 << 62) - 1, (1 << 61) + 1, places));
+        let agreeing = [
+            short_agree(1, 1, places),
+            short_agree(5, 3, places),
+            short_agree((1 << 53) - 1, 1 << 52, places),
+            short_agree(1 << 52, (1 << 53) - 1, places),
+            short_agree((1 << 62) - 2, (1 << 62) - 1, places),
+            short_agree((1 << 62) - 1, (1 << 61) + 1, places),
+        ];
+        same(&rt, agreeing, [true; 6], places);
     }
 }
 
@@ -152,21 +162,27 @@ fn far_rests_agree(places: u32) -> bool {
 
 #[test]
 fn far_rests_and_doubled_rests_agree(rt: HostRuntime) {
-    assert!(rt; far_rests_agree(1500));
-    assert!(rt; far_rests_agree(1501));
-    assert!(rt; far_rests_agree(2048));
-    assert!(rt; far_rests_agree(5000));
+    let agreeing = [
+        far_rests_agree(1500),
+        far_rests_agree(1501),
+        far_rests_agree(2048),
+        far_rests_agree(5000),
+    ];
+    same(&rt, agreeing, [true; 4], "far");
 }
 
 #[test]
 fn rests_and_doubled_rests_agree(rt: HostRuntime) {
     for places in 0..200 {
-        assert!(rt; rests_agree(1, 1, places));
-        assert!(rt; rests_agree(5, 3, places));
-        assert!(rt; rests_agree((1 << 53) - 1, 1 << 52, places));
-        assert!(rt; rests_agree((1 << 62) - 1, (1 << 61) + 1, places));
-        assert!(rt; rests_agree((1 << 113) - 1, 1 << 112, places));
-        assert!(rt; rests_agree((1 << 125) - 2, (1 << 125) - 1, places));
-        assert!(rt; rests_agree((1 << 125) - 1, (1 << 124) + 1, places));
+        let agreeing = [
+            rests_agree(1, 1, places),
+            rests_agree(5, 3, places),
+            rests_agree((1 << 53) - 1, 1 << 52, places),
+            rests_agree((1 << 62) - 1, (1 << 61) + 1, places),
+            rests_agree((1 << 113) - 1, 1 << 112, places),
+            rests_agree((1 << 125) - 2, (1 << 125) - 1, places),
+            rests_agree((1 << 125) - 1, (1 << 124) + 1, places),
+        ];
+        same(&rt, agreeing, [true; 7], places);
     }
 }

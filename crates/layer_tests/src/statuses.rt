@@ -11,103 +11,93 @@ fn overflowed() -> Status {
 
 #[test]
 fn makes_sets_of_bits(rt: HostRuntime) {
-    same(&rt, Status::empty().bits(), 0x00, "empty");
-    same(&rt, Status::all().bits(), 0x1f, "all");
-    same(
-        &rt,
-        Status::from_bits(0x14),
-        Some(overflowed()),
-        "from_bits of flags",
-    );
-    same(&rt, Status::from_bits(0x34), None, "from_bits of more");
-    same(
-        &rt,
+    let got = [
+        Status::empty().bits(),
+        Status::all().bits(),
         Status::from_bits_truncate(0x34).bits(),
-        0x14,
-        "from_bits_truncate",
-    );
-    same(
-        &rt,
         Status::from_bits_retain(0x34).bits(),
-        0x34,
-        "from_bits_retain",
-    );
+    ];
+    same(&rt, got, [0x00, 0x1f, 0x14, 0x34], "sets");
+    let got = [Status::from_bits(0x14), Status::from_bits(0x34)];
+    same(&rt, got, [Some(overflowed()), None], "from_bits");
 }
 
 #[test]
 fn asks_sets(rt: HostRuntime) {
-    assert!(rt; Status::OK.is_empty());
-    assert!(rt; !overflowed().is_empty());
-    assert!(rt; Status::all().is_all());
-    assert!(rt; !overflowed().is_all());
-    assert!(rt; overflowed().contains(Status::INEXACT));
-    assert!(rt; !overflowed().contains(Status::UNDERFLOW.union(Status::INEXACT)));
-    assert!(rt; overflowed().intersects(Status::UNDERFLOW.union(Status::INEXACT)));
-    assert!(rt; !overflowed().intersects(Status::UNDERFLOW));
+    let overflowed = overflowed();
+    let underflowed = Status::UNDERFLOW.union(Status::INEXACT);
+    let got = [
+        (Status::OK.is_empty(), overflowed.is_empty()),
+        (Status::all().is_all(), overflowed.is_all()),
+        (
+            overflowed.contains(Status::INEXACT),
+            overflowed.contains(underflowed),
+        ),
+        (
+            overflowed.intersects(underflowed),
+            overflowed.intersects(Status::UNDERFLOW),
+        ),
+    ];
+    same(&rt, got, [(true, false); 4], "questions");
 }
 
 #[test]
 fn combines_sets(rt: HostRuntime) {
+    let overflowed = overflowed();
     let underflowed = Status::UNDERFLOW.union(Status::INEXACT);
-    same(&rt, overflowed().bits(), 0x14, "union");
-    same(
-        &rt,
-        overflowed().intersection(underflowed).bits(),
-        0x10,
-        "intersection",
-    );
-    same(
-        &rt,
-        overflowed().difference(underflowed).bits(),
-        0x04,
-        "difference",
-    );
-    same(
-        &rt,
-        overflowed().symmetric_difference(underflowed).bits(),
-        0x0c,
-        "symmetric_difference",
-    );
-    same(&rt, overflowed().complement().bits(), 0x0b, "complement");
+    let got = [
+        overflowed.bits(),
+        overflowed.intersection(underflowed).bits(),
+        overflowed.difference(underflowed).bits(),
+        overflowed.symmetric_difference(underflowed).bits(),
+        overflowed.complement().bits(),
+    ];
+    same(&rt, got, [0x14, 0x10, 0x04, 0x0c, 0x0b], "sets");
 }
 
 #[test]
 fn changes_sets(rt: HostRuntime) {
     let mut status = overflowed();
     status.insert(Status::UNDERFLOW);
-    same(&rt, status.bits(), 0x1c, "insert");
+    let inserted = status.bits();
     status.remove(Status::INEXACT);
-    same(&rt, status.bits(), 0x0c, "remove");
+    let removed = status.bits();
     status.toggle(overflowed());
-    same(&rt, status.bits(), 0x18, "toggle");
+    let toggled = status.bits();
     status.set(Status::INVALID_OP, true);
-    same(&rt, status.bits(), 0x19, "set");
+    let set = status.bits();
     status.set(Status::UNDERFLOW, false);
-    same(&rt, status.bits(), 0x11, "set to false");
+    let got = [inserted, removed, toggled, set, status.bits()];
+    same(&rt, got, [0x1c, 0x0c, 0x18, 0x19, 0x11], "changes");
 }
 
 #[test]
 fn combines_by_operators(rt: HostRuntime) {
+    let overflowed = overflowed();
     let underflowed = Status::UNDERFLOW | Status::INEXACT;
-    same(&rt, underflowed.bits(), 0x18, "| of flags");
-    same(&rt, (overflowed() | underflowed).bits(), 0x1c, "|");
-    same(&rt, (overflowed() & underflowed).bits(), 0x10, "&");
-    same(&rt, (overflowed() ^ underflowed).bits(), 0x0c, "^");
-    same(&rt, (overflowed() - underflowed).bits(), 0x04, "-");
-    same(&rt, (!overflowed()).bits(), 0x0b, "!");
+    let got = [
+        underflowed.bits(),
+        (overflowed | underflowed).bits(),
+        (overflowed & underflowed).bits(),
+        (overflowed ^ underflowed).bits(),
+        (overflowed - underflowed).bits(),
+        (!overflowed).bits(),
+    ];
+    same(&rt, got, [0x18, 0x1c, 0x10, 0x0c, 0x04, 0x0b], "operators");
 }
 
 #[test]
 fn changes_by_operators(rt: HostRuntime) {
     let mut status = overflowed();
     status |= Status::UNDERFLOW;
-    same(&rt, status.bits(), 0x1c, "|=");
+    let joined = status.bits();
     status &= Status::UNDERFLOW | Status::INEXACT | Status::INVALID_OP;
-    same(&rt, status.bits(), 0x18, "&=");
+    let common = status.bits();
     status ^= Status::INEXACT | Status::INVALID_OP;
-    same(&rt, status.bits(), 0x09, "^=");
+    let in_one = status.bits();
     status -= Status::UNDERFLOW | Status::DIV_BY_ZERO;
-    same(&rt, status.bits(), 0x01, "-=");
+    let got = [joined, common, in_one, status.bits()];
+    same(&rt, got, [0x1c, 0x18, 0x09, 0x01], "operators");
 }
 
 /// A larger value does not outweigh a smaller status.
@@ -115,69 +105,53 @@ fn changes_by_operators(rt: HostRuntime) {
 fn orders_by_status_first(rt: HostRuntime) {
     let exact = Status::OK.and(7u8);
     let inexact = Status::INEXACT.and(3u8);
-    same(
-        &rt,
+    let got = [
         exact.cmp(&inexact),
-        Ordering::Less,
-        "exact and inexact",
-    );
-    same(
-        &rt,
         inexact.cmp(&exact),
-        Ordering::Greater,
-        "inexact and exact",
-    );
-    same(
-        &rt,
-        exact.partial_cmp(&inexact),
-        Some(Ordering::Less),
-        "partial_cmp",
-    );
-    same(
-        &rt,
         exact.cmp(&Status::OK.and(8)),
-        Ordering::Less,
-        "7 and 8",
-    );
-    same(
-        &rt,
         exact.cmp(&Status::OK.and(7)),
+    ];
+    let expected = [
+        Ordering::Less,
+        Ordering::Greater,
+        Ordering::Less,
         Ordering::Equal,
-        "7 and 7",
+    ];
+    same(&rt, got, expected, "cmp");
+    let got = (
+        exact.partial_cmp(&inexact),
+        exact < inexact,
+        inexact > exact,
     );
-    assert!(rt; exact < inexact);
-    assert!(rt; inexact > exact);
+    same(&rt, got, (Some(Ordering::Less), true, true), "partial_cmp");
 }
 
 #[test]
 fn orders_statuses_by_bits(rt: HostRuntime) {
-    same(
-        &rt,
+    let got = [
         Status::INEXACT.cmp(&overflowed()),
-        Ordering::Less,
-        "overflowed",
-    );
-    same(
-        &rt,
         Status::INEXACT.cmp(&Status::UNDERFLOW),
-        Ordering::Greater,
-        "underflow",
-    );
+    ];
+    same(&rt, got, [Ordering::Less, Ordering::Greater], "cmp");
 }
 
 #[test]
 fn keeps_statuses_with_values(rt: HostRuntime) {
     let answer = Status::INEXACT.and(7).map(|value: u8| value / 2);
-    same(&rt, (answer.status.bits(), answer.value), (0x10, 3), "map");
-    same(&rt, Status::OK.and(7).unwrap(), 7, "unwrap");
+    let got = (
+        answer.status.bits(),
+        answer.value,
+        Status::OK.and(7).unwrap(),
+    );
+    same(&rt, got, (0x10, 3, 7), "map and unwrap");
 }
 
 #[test]
 fn unpacks_answers(rt: HostRuntime) {
     let mut status;
     let first: u8 = unpack!(status =, Status::INEXACT.and(1));
-    same(&rt, status.bits(), 0x10, "first");
+    let of_first = status.bits();
     let second: u8 = unpack!(status |=, Status::OVERFLOW.and(2));
-    same(&rt, status.bits(), 0x14, "second");
-    same(&rt, (first, second), (1, 2), "values");
+    let got = [first, of_first, second, status.bits()];
+    same(&rt, got, [1, 0x10, 2, 0x14], "values and statuses");
 }

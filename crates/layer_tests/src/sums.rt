@@ -3,15 +3,20 @@
 ghost use Rattle.std.specs.Prelude.{◌^◌, ◌<◌};
 ghost use Rattle.apfloat_base.specs.rounding.Bounds.{IsWithin, exponent_bound};
 
+use crate::asserts::same;
 use apfloat_base::ExpInt;
 use apfloat_base::sig::{Loss, Term, Total, add_terms};
 
-/// Whether a total has these parts.
-fn is(total: Total, negative: bool, exponent: ExpInt, significand: u128, loss: Loss) -> bool {
-    total.negative == negative
-        && total.exponent == exponent
-        && total.significand == significand
-        && total.loss == loss
+/// The sign, the exponent, the significand and the loss of a total.
+type Parts = (bool, ExpInt, u128, Loss);
+
+fn parts(total: Total) -> Parts {
+    (
+        total.negative,
+        total.exponent,
+        total.significand,
+        total.loss,
+    )
 }
 
 /// The difference of two significands with these exponents.
@@ -37,8 +42,6 @@ fn less(x_exponent: ExpInt, x: u128, y_exponent: ExpInt, y: u128) -> Total
 
 #[test]
 fn like_exponents(rt: HostRuntime) {
-    assert!(rt; is(less(1, 0x10, 1, 0x5), false, 1, 0xb, Loss::ExactlyZero));
-    assert!(rt; is(less(-2, 0x20, -2, 0x20), false, -2, 0, Loss::ExactlyZero));
     let total = add_terms(
         Term {
             negative: true,
@@ -51,65 +54,57 @@ fn like_exponents(rt: HostRuntime) {
             significand: 0x30,
         },
     );
-    assert!(rt; is(total, false, 3, 0x10, Loss::ExactlyZero));
+    let got = [
+        parts(less(1, 0x10, 1, 0x5)),
+        parts(less(-2, 0x20, -2, 0x20)),
+        parts(total),
+    ];
+    let expected = [
+        (false, 1, 0xb, Loss::ExactlyZero),
+        (false, -2, 0, Loss::ExactlyZero),
+        (false, 3, 0x10, Loss::ExactlyZero),
+    ];
+    same(&rt, got, expected, "totals");
 }
 
 #[test]
 fn less_the_lower(rt: HostRuntime) {
-    assert!(rt; is(less(7, 0x100, 3, 0x100), false, 6, 0x1e0, Loss::ExactlyZero));
-    assert!(rt;
-        is(
-            less(7, 0x100, 3, 0x101),
-            false,
-            6,
-            0x1df,
-            Loss::MoreThanHalf
-        )
-    );
-    assert!(rt; is(less(7, 0x100, 3, 0x1000), false, 6, 0, Loss::ExactlyZero));
-    assert!(rt; is(less(7, 0x100, 3, 0x1001), true, 6, 0, Loss::LessThanHalf));
-    assert!(rt;
-        is(
-            less(7, 0x100, 3, 0x10000),
-            true,
-            6,
-            0x1e00,
-            Loss::ExactlyZero
-        )
-    );
-    assert!(rt;
-        is(
-            less(7, 0x100, 3, 0x10001),
-            true,
-            6,
-            0x1e00,
-            Loss::LessThanHalf
-        )
-    );
+    let got = [
+        parts(less(7, 0x100, 3, 0x100)),
+        parts(less(7, 0x100, 3, 0x101)),
+        parts(less(7, 0x100, 3, 0x1000)),
+        parts(less(7, 0x100, 3, 0x1001)),
+        parts(less(7, 0x100, 3, 0x10000)),
+        parts(less(7, 0x100, 3, 0x10001)),
+    ];
+    let expected = [
+        (false, 6, 0x1e0, Loss::ExactlyZero),
+        (false, 6, 0x1df, Loss::MoreThanHalf),
+        (false, 6, 0, Loss::ExactlyZero),
+        (true, 6, 0, Loss::LessThanHalf),
+        (true, 6, 0x1e00, Loss::ExactlyZero),
+        (true, 6, 0x1e00, Loss::LessThanHalf),
+    ];
+    same(&rt, got, expected, "totals");
 }
 
 #[test]
 fn less_the_higher(rt: HostRuntime) {
-    assert!(rt; is(less(3, 0x100, 7, 0x100), true, 6, 0x1e0, Loss::ExactlyZero));
-    assert!(rt; is(less(3, 0x101, 7, 0x100), true, 6, 0x1df, Loss::MoreThanHalf));
-    assert!(rt; is(less(3, 0x1000, 7, 0x100), false, 6, 0, Loss::ExactlyZero));
-    assert!(rt; is(less(3, 0x1001, 7, 0x100), false, 6, 0, Loss::LessThanHalf));
-    assert!(rt;
-        is(
-            less(3, 0x10000, 7, 0x100),
-            false,
-            6,
-            0x1e00,
-            Loss::ExactlyZero
-        )
-    );
-    assert!(rt;
-        is(
-            less(3, 0x10001, 7, 0x100),
-            false,
-            6,
-            0x1e00,
-            Loss::LessThanHalf
-        )
-    );
+    let got = [
+        parts(less(3, 0x100, 7, 0x100)),
+        parts(less(3, 0x101, 7, 0x100)),
+        parts(less(3, 0x1000, 7, 0x100)),
+        parts(less(3, 0x1001, 7, 0x100)),
+        parts(less(3, 0x10000, 7, 0x100)),
+        parts(less(3, 0x10001, 7, 0x100)),
+    ];
+    let expected = [
+        (true, 6, 0x1e0, Loss::ExactlyZero),
+        (true, 6, 0x1df, Loss::MoreThanHalf),
+        (false, 6, 0, Loss::ExactlyZero),
+        (false, 6, 0, Loss::LessThanHalf),
+        (false, 6, 0x1e00, Loss::ExactlyZero),
+        (false, 6, 0x1e00, Loss::LessThanHalf),
+    ];
+    same(&rt, got, expected, "totals");
 }

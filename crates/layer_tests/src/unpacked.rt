@@ -61,22 +61,11 @@ fn rounded(significand: u128, loss: Loss) -> u128
 
 #[test]
 fn cuts_once(rt: HostRuntime) {
-    same(
-        &rt,
+    // A tie to even below, above a tie, and a tie to even above.
+    let got = [
         rounded(0x1002, Loss::ExactlyZero),
-        0x400,
-        "a tie to even below",
-    );
-    same(
-        &rt,
         rounded(0x1002, Loss::LessThanHalf),
-        0x401,
-        "above a tie",
-    );
-    same(
-        &rt,
         rounded(0x1006, Loss::ExactlyZero),
-        0x402,
-        "a tie to even above",
-    );
+    ];
+    same(&rt, got, [0x400, 0x401, 0x402], "rounded");
 }
