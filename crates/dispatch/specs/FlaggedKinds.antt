@@ -37,6 +37,12 @@ flagged_constants (BuiltIn format) = constants_in format
 flagged_constants (AfterRounding format) = after_rounding format
 flagged_constants (BeforeRounding format) = before_rounding format
 
+-- the format, whatever its rule of flags
+abbrev pub format_without_rule : FlaggedFormat → BuiltInFormat
+format_without_rule (BuiltIn format) = format
+format_without_rule (AfterRounding format) = format_of_ieee format
+format_without_rule (BeforeRounding format) = format_of_ieee format
+
 abbrev pub flagged_kind_of : FlaggedKind → Kind
 flagged_kind_of (OfFormat format) = of_format (flagged_constants format)
 flagged_kind_of Pairs = of_pairs

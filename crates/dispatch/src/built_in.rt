@@ -4,6 +4,7 @@ ghost use Rattle.std.specs.Prelude.{◌≡◌, Some};
 ghost use Rattle.dispatch.specs.ValueKinds.{of_format};
 ghost use Rattle.dispatch.specs.BuiltIns.{constants_in, format_in, kind_coded, kind_named, kind_of};
 
+use crate::flagged::WritesInFormat;
 use crate::in_kind::{InFormat, InKind};
 use rustc_apfloat::ieee::{
     BFloatS, DoubleS, Float8E4M3FNS, Float8E4M3FNUZS, Float8E5M2S, HalfS, QuadS, SingleS,
@@ -38,6 +39,15 @@ macro_rules! run_in {
     (($format:expr, $call:expr) $($name:ident $semantics:ident $word:literal $code:literal,)*) => {
         match $format {
             $(BuiltInFormat::$name => $call.in_format::<$semantics>(),)*
+        }
+    };
+}
+
+macro_rules! write_in {
+    (($format:expr, $call:expr, $bytes:expr)
+        $($name:ident $semantics:ident $word:literal $code:literal,)*) => {
+        match $format {
+            $(BuiltInFormat::$name => $call.write_in_format::<$semantics>($bytes),)*
         }
     };
 }
@@ -114,6 +124,14 @@ impl BuiltInFormat {
         ensures { C.gives call (of_format (constants_in self)) result }
     {
         each_format!(run_in(self, call))
+    }
+
+    /// Makes a call that writes, in the format.
+    pub fn write<C: WritesInFormat>(self, call: C, bytes: &mut [u8]) -> C::Output
+        requires { C.can call (of_format (constants_in self)) bytes.old }
+        ensures { C.gives call (of_format (constants_in self)) bytes.old bytes.new result }
+    {
+        each_format!(write_in(self, call, bytes))
     }
 }
 

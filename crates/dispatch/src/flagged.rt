@@ -1,9 +1,9 @@
 //! The built-in kinds of values, each with a rule by which its calls raise OVERFLOW and UNDERFLOW.
 
-ghost use Rattle.std.specs.Prelude.{⊤, ◌≡◌, ◌<◌};
+ghost use Rattle.std.specs.Prelude.{⊤, ℕ, ◌≡◌, ◌<◌, List};
 ghost use Rattle.rustc_apfloat.specs.FlaggedTypes.{constants_of};
 ghost use Rattle.dispatch.specs.ValueKinds.{Kind, of_format, of_pairs};
-ghost use Rattle.dispatch.specs.FlaggedKinds.{after_rounding, before_rounding, built_in, flagged_constants, flagged_kind_coded, flagged_kind_of, ieee_format_in};
+ghost use Rattle.dispatch.specs.FlaggedKinds.{after_rounding, before_rounding, built_in, flagged_constants, flagged_kind_coded, flagged_kind_of, format_of_ieee, format_without_rule, ieee_format_in};
 
 use crate::built_in::{BuiltInFormat, BuiltInKind};
 use crate::in_kind::{InFormat, InKind};
@@ -48,6 +48,34 @@ macro_rules! run_before_rounding {
     };
 }
 
+macro_rules! write_after_rounding {
+    (($format:expr, $call:expr, $bytes:expr) $($name:ident $semantics:ident,)*) => {
+        match $format {
+            $(IeeeFormat::$name => $call.write_in_format::<IeeeFlags<$semantics>>($bytes),)*
+        }
+    };
+}
+
+macro_rules! write_before_rounding {
+    (($format:expr, $call:expr, $bytes:expr) $($name:ident $semantics:ident,)*) => {
+        match $format {
+            $(
+                IeeeFormat::$name => {
+                    $call.write_in_format::<IeeeFlags<TinyBefore<$semantics>>>($bytes)
+                }
+            )*
+        }
+    };
+}
+
+macro_rules! built_in_format {
+    (($format:expr) $($name:ident $semantics:ident,)*) => {
+        match $format {
+            $(IeeeFormat::$name => BuiltInFormat::$name,)*
+        }
+    };
+}
+
 macro_rules! ieee_format {
     (($kind:expr) $($name:ident $semantics:ident,)*) => {
         match $kind {
@@ -76,6 +104,24 @@ pub trait InFlaggedKind: InFlaggedFormat {
     /// Makes the call in pairs of doubles.
     fn in_pairs(self) -> Self::Output
         ensures { Self.gives self of_pairs result };
+}
+
+/// A call that can be made in each format that has bits, with either rule of flags, and that writes bytes lent to it.
+pub trait WritesInFormat {
+    /// What it returns.
+    type Output;
+
+    // In which kinds of values, and to which bytes, it may be made: by default to any in each.
+    ghost can: { Self → Kind → List ℕ → Type 0 } = { λ _ _ _. ⊤ };
+
+    // What it returns in values of a kind, and what becomes of the bytes: by default anything.
+    ghost gives: { Self → Kind → List ℕ → List ℕ → Self.Output → Type 0 } = { λ _ _ _ _ _. ⊤ };
+
+    /// Makes the call in the format `S`.
+    fn write_in_format<S: Flagged>(self, bytes: &mut [u8]) -> Self::Output
+        requires written { S.PRECISION < S.BITS }
+        requires can { can self (of_format (constants_of S.Flagged)) bytes.old }
+        ensures { gives self (of_format (constants_of S.Flagged)) bytes.old bytes.new result };
 }
 
 /// The built-in formats with the infinities and NaNs of IEEE 754, whose calls can raise its flags.
@@ -159,7 +205,55 @@ impl IeeeFormat {
     }
 }
 
+impl IeeeFormat {
+    /// The format with the flags of the built-in formats.
+    fn built_in(self) -> BuiltInFormat
+        ensures { result ≡ format_of_ieee self }
+    {
+        each_ieee_format!(built_in_format(self))
+    }
+
+    /// Makes a call that writes, with the flags of IEEE 754-2008, tininess detected after rounding.
+    fn write_after_rounding<C: WritesInFormat>(self, call: C, bytes: &mut [u8]) -> C::Output
+        requires { C.can call (of_format (after_rounding self)) bytes.old }
+        ensures { C.gives call (of_format (after_rounding self)) bytes.old bytes.new result }
+    {
+        each_ieee_format!(write_after_rounding(self, call, bytes))
+    }
+
+    /// Makes a call that writes, with the flags of IEEE 754-2008, tininess detected before rounding.
+    fn write_before_rounding<C: WritesInFormat>(self, call: C, bytes: &mut [u8]) -> C::Output
+        requires { C.can call (of_format (before_rounding self)) bytes.old }
+        ensures { C.gives call (of_format (before_rounding self)) bytes.old bytes.new result }
+    {
+        each_ieee_format!(write_before_rounding(self, call, bytes))
+    }
+}
+
 impl FlaggedFormat {
+    /// The format with the flags of the built-in formats.
+    pub fn built_in(self) -> BuiltInFormat
+        ensures { result ≡ format_without_rule self }
+    {
+        match self {
+            FlaggedFormat::BuiltIn(format) => format,
+            FlaggedFormat::AfterRounding(format) => format.built_in(),
+            FlaggedFormat::BeforeRounding(format) => format.built_in(),
+        }
+    }
+
+    /// Makes a call that writes, in the format.
+    pub fn write<C: WritesInFormat>(self, call: C, bytes: &mut [u8]) -> C::Output
+        requires { C.can call (of_format (flagged_constants self)) bytes.old }
+        ensures { C.gives call (of_format (flagged_constants self)) bytes.old bytes.new result }
+    {
+        match self {
+            FlaggedFormat::BuiltIn(format) => format.write(call, bytes),
+            FlaggedFormat::AfterRounding(format) => format.write_after_rounding(call, bytes),
+            FlaggedFormat::BeforeRounding(format) => format.write_before_rounding(call, bytes),
+        }
+    }
+
     /// Makes a call in the format.
     #[inline(always)]
     pub fn run<C: InFlaggedFormat>(self, call: C) -> C::Output

@@ -1,12 +1,12 @@
 use Rattle.std.proofs.Common.{◌≡◌, ◌*◌, length, ◌∙◌}
-use Rattle.rustc_apfloat.specs.Types.{constants_of}
-use Rattle.value_blocks.specs.Values.{IsConvertedValue}
+use Rattle.rustc_apfloat.specs.FlaggedTypes.{constants_of}
+use Rattle.value_blocks.specs.Values.{IsConvertedBy}
 use Rattle.value_blocks.proofs.Places.{block_none, block_more, place_size}
-use Rattle.value_blocks.proofs.blocks.convert_block.Goals as goal
+use Rattle.value_blocks.proofs.blocks.convert_block_by.Goals as goal
 
 pub loop-index-init : goal.loop-index-init
 loop-index-init g c =
-    block_none (IsConvertedValue (constants_of g.S.Semantics) (constants_of g.T.Semantics) c.args.round)
+    block_none (IsConvertedBy c.args.overflow (constants_of g.S.Flagged) (constants_of g.T.Flagged) c.args.round)
     c.args.widths.source c.args.widths.target c.args.input.now c.args.output.now
 
 pub loop-index-preserved : goal.loop-index-preserved
@@ -18,7 +18,7 @@ loop-index-preserved g c =
     ∙ place_size c.args.widths.target c.loop-index.index c.args.count c.loop-index.output c.loop-index-test.true
     size in
     rw c.count.ensures
-    (block_more (IsConvertedValue (constants_of g.S.Semantics) (constants_of g.T.Semantics) c.args.round)
+    (block_more (IsConvertedBy c.args.overflow (constants_of g.S.Flagged) (constants_of g.T.Flagged) c.args.round)
     c.args.widths.source c.args.widths.target
     c.loop-index.index c.args.count c.args.input.now c.loop-index.output c.convert_value.new.output
     c.loop-index.counts c.convert_value.result c.loop-index-test.true size width c.convert_value.ensures
