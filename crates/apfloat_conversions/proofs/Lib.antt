@@ -1,5 +1,5 @@
 mod StoredExponents
-mod Wholes
+pub mod Wholes
 mod Limits
 mod Nexts
 mod NumberFractions

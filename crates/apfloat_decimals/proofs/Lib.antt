@@ -1,10 +1,12 @@
 pub mod Clamped
+pub mod CutDecimals
 pub mod CutNumbers
 pub mod Cutting
 pub mod DecimalPlaces
 pub mod DecimalPowers
 pub mod EnoughDigits
 pub mod FarTexts
+pub mod FoundDigits
 pub mod LeadingNumbers
 pub mod NarrowCuts
 pub mod OneShortest
@@ -12,6 +14,7 @@ pub mod ParsedNumbers
 pub mod PickedFractions
 pub mod Quotients
 pub mod Readings
+pub mod RoundedDecimals
 pub mod RoundedOrder
 pub mod ShortestFound
 pub mod ShortestSearch

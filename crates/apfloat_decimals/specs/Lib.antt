@@ -1,3 +1,4 @@
+pub mod CutDecimals
 pub mod Cuts
 pub mod DecimalTexts
 pub mod Decimals
@@ -5,6 +6,7 @@ pub mod LeadingDigits
 pub mod Parsing
 pub mod Reach
 pub mod ReadBack
+pub mod RoundedDecimals
 pub mod Shortest
 pub mod ShortestSearch
 pub mod Texts

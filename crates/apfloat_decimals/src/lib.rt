@@ -11,15 +11,18 @@
 
 mod decimal;
 mod large;
+mod leading_digits;
 mod narrow;
 mod parsing;
 mod quotient;
 mod reading;
+mod rounding;
 mod search;
 mod texts;
 mod writing;
 
 pub use decimal::{Decimal, built_in_formats, from_decimal};
 pub use parsing::{DecimalError, decimal_text_once, written_text};
+pub use rounding::rounded;
 pub use search::{shortest, shortest_once};
 pub use texts::read_decimal;

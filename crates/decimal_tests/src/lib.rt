@@ -4,6 +4,8 @@
 #![tactic(auto)]
 
 #[cfg(test)]
+mod rounded;
+#[cfg(test)]
 mod shortest;
 #[cfg(test)]
 mod texts;
