@@ -1,7 +1,7 @@
 #!/usr/bin/env python3
 """Converts a stream of values from format to format, as the program `convert_values` does.
 
-    python3 evidence/streams.py FROM TO MODE < FILE > OTHER
+    python3 evidence/streams.py [--saturate] FROM TO MODE < FILE > OTHER
 
 A value is its bits, the lowest byte first; those of x87 take 10 bytes. An unfinished value at the
 end is ignored.
@@ -10,7 +10,7 @@ end is ignored.
 import sys
 
 from exact.bits import decoded, encoded
-from exact.conversions import convert
+from exact.conversions import convert, convert_saturating
 from exact.formats import PROGRAM_FORMATS
 from exact.rounding import Mode
 
@@ -19,13 +19,16 @@ _FORMATS = {known.name: known for known in PROGRAM_FORMATS}
 
 def main():
     """Converts standard input to standard output."""
-    source, target = (_FORMATS[word] for word in sys.argv[1:3])
-    mode = Mode(sys.argv[3])
+    saturates = sys.argv[1] == "--saturate"
+    *formats, mode = sys.argv[2 if saturates else 1:]
+    source, target = (_FORMATS[word] for word in formats)
+    mode = Mode(mode)
+    conversion = convert_saturating if saturates else convert
     values = sys.stdin.buffer.read()
     size = source.bits // 8
     for place in range(0, len(values) - size + 1, size):
         x = decoded(source, int.from_bytes(values[place:place + size], "little"))
-        y = convert(source, target, x, mode)[0]
+        y = conversion(source, target, x, mode)[0]
         sys.stdout.buffer.write(encoded(target, y).to_bytes(target.bits // 8, "little"))
 
 

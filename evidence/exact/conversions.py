@@ -1,6 +1,6 @@
 """Conversions from format to format."""
 
-from exact.data import Infinite, infinity, is_nan, is_signaling, number, qnan, quieted
+from exact.data import Finite, Infinite, infinity, is_nan, is_signaling, number, qnan, quieted
 from exact.exponents import delivered_power
 from exact.status import INEXACT, INVALID_OP, OK
 
@@ -19,6 +19,14 @@ def convert(source, target, x, mode):
         target, mode, x.negative, x.quanta, target.scale - source.scale
     )
     return value, status, status != OK
+
+
+def convert_saturating(source, target, x, mode):
+    """The same, except that a number that overflows gives the largest number of its sign."""
+    value, status, loses = convert(source, target, x, mode)
+    if isinstance(x, Finite) and not isinstance(value, Finite):
+        value = number(target, x.negative, target.largest)
+    return value, status, loses
 
 
 def converted_nan(source, target, x):

@@ -1,3 +1,4 @@
 pub mod LittleEndian
+pub mod ConversionsBy
 pub mod Places
-mod WidthBounds
+pub mod WidthBounds

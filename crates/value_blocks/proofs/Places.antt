@@ -13,13 +13,13 @@ use borrow.Rule.Slice.PartMut.{put_mid}
 use Rattle.value_blocks.specs.declared.counts.Outcome.{Outcome}
 use Rattle.value_blocks.specs.declared.counts.Counts.{Counts}
 use Rattle.value_blocks.specs.Outcomes.{counts_of, with_outcome, one_if, raised, became_nan}
-use Rattle.value_blocks.specs.Blocks.{IsBlock, value_at}
+use Rattle.value_blocks.specs.Blocks.{AreInPlaces, IsBlock, value_at}
 use Rattle.apfloat_base.proofs.general.ListLaws.{get_left, get_last}
 
 -- ---- counts
 
 -- one more outcome adds one to a count where it passes the test
-count_push : (test : Outcome → Bool) (outcomes : List Outcome) (outcome : Outcome)
+pub count_push : {O : Type 0} (test : O → Bool) (outcomes : List O) (outcome : O)
     → count_by test (outcomes ++ outcome ∷ []) ≡ count_by test outcomes + one_if (test outcome)
 count_push test outcomes outcome =
     sum_by-append (λ x. if test x then 1 else 0) outcomes (outcome ∷ [])
@@ -79,34 +79,73 @@ latest width index bytes new within size =
 -- ---- what is said of an index
 
 -- the values before stay as they are
-kept_of : (Holds : List ℕ → List ℕ → Outcome → Type 0) (source old new : List ℕ) (outcomes more : List Outcome)
+kept_of : {O : Type 0} (Holds : ℕ → List ℕ → O → Type 0) (old new : List ℕ) (outcomes more : List O)
     (k : ℕ) → k < length outcomes → new ≡ old
-    → IfSome (slice_get outcomes k) (λ o. Holds source old o)
-    → IfSome (slice_get (outcomes ++ more) k) (λ o. Holds source new o)
-kept_of Holds source old new outcomes more k within same said =
-    let At : List ℕ → Type 0 = λ bytes. IfSome (slice_get outcomes k) (λ o. Holds source bytes o) in
-    let Of : Option Outcome → Type 0 = λ found. IfSome found (λ o. Holds source new o) in
+    → IfSome (slice_get outcomes k) (λ o. Holds k old o)
+    → IfSome (slice_get (outcomes ++ more) k) (λ o. Holds k new o)
+kept_of {O} Holds old new outcomes more k within same said =
+    let At : List ℕ → Type 0 = λ bytes. IfSome (slice_get outcomes k) (λ o. Holds k bytes o) in
+    let Of : Option O → Type 0 = λ found. IfSome found (λ o. Holds k new o) in
     subst Of (sym (get_left outcomes more k within)) (subst At (sym same) said)
 
 -- the last value is the one that was converted
-last_of : (Holds : List ℕ → List ℕ → Outcome → Type 0) (source new now : List ℕ) (outcomes : List Outcome)
-    (outcome : Outcome) (index : ℕ) → length outcomes ≡ index
-    → now ≡ new → Holds source new outcome
-    → IfSome (slice_get (outcomes ++ outcome ∷ []) index) (λ o. Holds source now o)
-last_of Holds source new now outcomes outcome index size same here =
-    let At : List ℕ → Type 0 = λ bytes. Holds source bytes outcome in
-    let Of : Option Outcome → Type 0 = λ found. IfSome found (λ o. Holds source now o) in
+last_of : {O : Type 0} (Holds : ℕ → List ℕ → O → Type 0) (new now : List ℕ) (outcomes : List O)
+    (outcome : O) (index : ℕ) → length outcomes ≡ index
+    → now ≡ new → Holds index new outcome
+    → IfSome (slice_get (outcomes ++ outcome ∷ []) index) (λ o. Holds index now o)
+last_of {O} Holds new now outcomes outcome index size same here =
+    let At : List ℕ → Type 0 = λ bytes. Holds index bytes outcome in
+    let Of : Option O → Type 0 = λ found. IfSome found (λ o. Holds index now o) in
     let found : slice_get (outcomes ++ outcome ∷ []) index ≡ Some outcome =
     ap (slice_get (outcomes ++ outcome ∷ [])) (sym size) ∙ get_last outcomes outcome in
     subst Of (sym found) (subst At (sym same) here)
 
 -- there is no outcome after the last
-none_of : (Holds : List ℕ → List ℕ → Outcome → Type 0) (source now : List ℕ) (outcomes : List Outcome) (k : ℕ)
+none_of : {O : Type 0} (Holds : ℕ → List ℕ → O → Type 0) (now : List ℕ) (outcomes : List O) (k : ℕ)
     → length outcomes ≤ k
-    → IfSome (slice_get outcomes k) (λ o. Holds source now o)
-none_of Holds source now outcomes k past =
-    let Of : Option Outcome → Type 0 = λ found. IfSome found (λ o. Holds source now o) in
+    → IfSome (slice_get outcomes k) (λ o. Holds k now o)
+none_of {O} Holds now outcomes k past =
+    let Of : Option O → Type 0 = λ found. IfSome found (λ o. Holds k now o) in
     subst Of (sym (slice_get_past outcomes k past)) tt
+
+-- ---- values in their places
+
+-- before the first there is nothing to show
+pub places_none : {O : Type 0} (Holds : ℕ → List ℕ → O → Type 0) (width : ℕ) (bytes : List ℕ)
+    → AreInPlaces Holds width 0 bytes []
+places_none Holds width bytes = record { size = refl; each = λ index. tt }
+
+-- one more value is written to its place
+pub places_more : {O : Type 0} (Holds : ℕ → List ℕ → O → Type 0) (width index count : ℕ)
+    (bytes new : List ℕ) (outcomes : List O) (outcome : O)
+    → index < count → length bytes ≡ count * width → length new ≡ width
+    → Holds index new outcome
+    → AreInPlaces Holds width index bytes outcomes
+    → AreInPlaces Holds width (index + 1)
+    (put_mid (index * width) (index * width + width - index * width) bytes new) (outcomes ++ outcome ∷ [])
+places_more {O} Holds width index count bytes new outcomes outcome before all size here so_far =
+    let room = place_below index count width before in
+    let within : index * width ≤ length bytes = omega arith in
+    let written : List ℕ = put_mid (index * width) (index * width + width - index * width) bytes new in
+    let Says : ℕ → Type 0 = λ k. IfSome (slice_get (outcomes ++ outcome ∷ []) k)
+    (λ o. Holds k
+    (value_at width k (put_mid (index * width) (index * width + width - index * width) bytes new)) o) in
+    let at_end : Says index =
+    last_of Holds new (value_at width index written) outcomes outcome index so_far.size
+    (latest width index bytes new within size) here in
+    let before_it : (k : ℕ) → k < index → Says k = λ k h.
+    kept_of Holds (value_at width k bytes) (value_at width k written) outcomes
+    (outcome ∷ []) k (omega arith)
+    (earlier width k index bytes new h within) (so_far.each k) in
+    let longer : length (outcomes ++ outcome ∷ []) ≡ index + 1 =
+    length_push outcomes outcome ∙ ap (λ n. n + 1) so_far.size in
+    record {
+      size = longer;
+      each = λ k. ⊎_elim {C = Says k} (before_it k)
+          (λ h. ⊎_elim {C = Says k} (λ e. subst Says (sym e) at_end)
+          (λ past. none_of Holds _ (outcomes ++ outcome ∷ []) k (omega arith)) (cases_eq k index))
+          (cases_lt k index);
+    }
 
 -- ---- blocks
 
@@ -125,30 +164,13 @@ pub block_more : (Holds : List ℕ → List ℕ → Outcome → Type 0) (source 
     → IsBlock Holds source target (index + 1) input
     (put_mid (index * target) (index * target + target - index * target) output new) (with_outcome counts outcome)
 block_more Holds source target index count input output new counts outcome before size width here so_far =
-    let room = place_below index count target before in
-    let within : index * target ≤ length output = omega arith in
-    let written : List ℕ = put_mid (index * target) (index * target + target - index * target) output new in
-    let outcomes : List Outcome = so_far.outcomes ++ outcome ∷ [] in
-    let Says : ℕ → Type 0 = λ k. IfSome (slice_get (so_far.outcomes ++ outcome ∷ []) k)
-    (λ o. Holds (value_at source k input)
-    (value_at target k (put_mid (index * target) (index * target + target - index * target) output new)) o) in
-    let at_end : Says index =
-    last_of Holds (value_at source index input) new (value_at target index written) so_far.outcomes outcome index
-    so_far.size
-    (latest target index output new within width) here in
-    let before_it : (k : ℕ) → k < index → Says k = λ k h.
-    kept_of Holds (value_at source k input) (value_at target k output) (value_at target k written) so_far.outcomes
-    (outcome ∷ []) k (omega arith)
-    (earlier target k index output new h within) (so_far.each k) in
-    let longer : length (so_far.outcomes ++ outcome ∷ []) ≡ index + 1 =
-    length_push so_far.outcomes outcome ∙ ap (λ n. n + 1) so_far.size in
+    let places = places_more (λ k bytes o. Holds (value_at source k input) bytes o) target index count output new
+    so_far.outcomes outcome before size width here
+    (record { size = so_far.size; each = so_far.each }) in
     record {
       outcomes = so_far.outcomes ++ outcome ∷ [];
-      size = longer;
-      each = λ k. ⊎_elim {C = Says k} (before_it k)
-          (λ h. ⊎_elim {C = Says k} (λ e. subst Says (sym e) at_end)
-          (λ past. none_of Holds _ _ (so_far.outcomes ++ outcome ∷ []) k (omega arith)) (cases_eq k index))
-          (cases_lt k index);
+      size = places.size;
+      each = places.each;
       counted = ap (λ c. with_outcome c outcome) so_far.counted ∙ counts_push so_far.outcomes outcome;
     }
 

@@ -8,6 +8,13 @@ use Rattle.value_blocks.specs.Outcomes.{counts_of}
 abbrev pub value_at : ℕ → ℕ → List ℕ → List ℕ
 value_at width index bytes = slice_range bytes (index * width) (index * width + width)
 
+-- for each place of a value, the relation between its index, the bytes there and its outcome holds
+pub record AreInPlaces {Outcomes : Type 0} (Holds : ℕ → List ℕ → Outcomes → Type 0) (width count : ℕ)
+    (bytes : List ℕ) (outcomes : List Outcomes) : Type 0 where
+  pub size : length outcomes ≡ count
+  pub each : (index : ℕ)
+      → IfSome (slice_get outcomes index) (λ outcome. Holds index (value_at width index bytes) outcome)
+
 -- the relation between input bytes, output bytes and outcome holds for each value, in its place
 pub record IsBlock (Holds : List ℕ → List ℕ → Outcome → Type 0) (source target count : ℕ) (input output : List ℕ)
     (counts : Counts) : Type 0 where

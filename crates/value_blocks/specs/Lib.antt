@@ -1,5 +1,6 @@
 pub mod Bytes
 pub mod Outcomes
+pub mod Saturation
 pub mod Values
 pub mod Blocks
 pub mod Widths

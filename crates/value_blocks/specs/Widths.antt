@@ -4,9 +4,12 @@ use Rattle.std.specs.Int.{div_ceil}
 use Rattle.rustc_apfloat.specs.Lawful.{Constants}
 use Rattle.dispatch.specs.declared.built_in.BuiltInFormat.{BuiltInFormat}
 use Rattle.dispatch.specs.BuiltIns.{constants_in}
+use Rattle.dispatch.specs.FlaggedKinds.{format_without_rule}
 use Rattle.value_blocks.specs.declared.widths.Extended.{Extended}
 use Rattle.value_blocks.specs.declared.widths.Extended.TheVariants.{Packed, Padded}
+use Rattle.value_blocks.specs.declared.widths.Widths.{Widths}
 use Rattle.value_blocks.specs.declared.conversion.Conversion.{Conversion}
+use Rattle.value_blocks.specs.declared.array.ArrayConversion.{ArrayConversion}
 
 -- how many bytes a value of a format takes: those of its bits, but an extended format can be padded to sixteen
 abbrev pub width_with : Constants → Extended → ℕ
@@ -21,3 +24,11 @@ source_width conversion = width_of conversion.source conversion.extended
 
 abbrev pub target_width : Conversion → ℕ
 target_width conversion = width_of conversion.target conversion.extended
+
+-- arrays are packed
+abbrev pub array_widths : ArrayConversion → Widths
+array_widths conversion =
+    record {
+      source = width_of conversion.source Packed;
+      target = width_of (format_without_rule conversion.target) Packed;
+    }

@@ -5,12 +5,13 @@ ghost use Rattle.rustc_apfloat.specs.Types.{constants_of};
 ghost use Rattle.dispatch.specs.BuiltIns.{constants_in};
 ghost use Rattle.value_blocks.specs.Calls.{at_format};
 ghost use Rattle.value_blocks.specs.Widths.{source_width, target_width};
-ghost use Rattle.value_blocks.specs.Values.{IsConvertedValue};
+ghost use Rattle.value_blocks.specs.Values.{IsConvertedBy};
 ghost use Rattle.value_blocks.specs.Blocks.{IsBlock};
 
-use crate::blocks::convert_block;
+use crate::blocks::convert_block_by;
 use crate::conversion::Conversion;
 use crate::counts::Counts;
+use crate::saturation::Overflow;
 use crate::widths::Widths;
 use dispatch::InFormat;
 use rustc_apfloat::Round;
@@ -22,6 +23,8 @@ use std::marker::PhantomData;
 pub struct BlockCall<'a> {
     /// The conversion.
     pub conversion: Conversion,
+    /// What an overflow gives.
+    pub overflow: Overflow,
     /// How many values the block has.
     pub count: usize,
     /// Their bytes.
@@ -56,7 +59,7 @@ impl<'a> InFormat for BlockCall<'a> {
     ghost gives = { λ it kind answer.
         (length answer.output.items ≡ length it.output.items)
         × at_format kind (λ c. let d = constants_in it.conversion.target in
-        IsBlock (IsConvertedValue c d it.conversion.round) (source_width it.conversion)
+        IsBlock (IsConvertedBy it.overflow c d it.conversion.round) (source_width it.conversion)
         (target_width it.conversion) it.count it.input.now
         (take (it.count * target_width it.conversion) answer.output.items) answer.counts) };
 
@@ -80,7 +83,7 @@ impl<'a, S: Semantics> InFormat for BlockCallFrom<'a, S> {
     ghost gives = { λ it kind answer.
         (length answer.output.items ≡ length it.call.output.items)
         × at_format kind (λ d. let c = constants_of S.Semantics in
-        IsBlock (IsConvertedValue c d it.call.conversion.round) (source_width it.call.conversion)
+        IsBlock (IsConvertedBy it.call.overflow c d it.call.conversion.round) (source_width it.call.conversion)
         (target_width it.call.conversion) it.call.count it.call.input.now
         (take (it.call.count * target_width it.call.conversion) answer.output.items)
         answer.counts) };
@@ -88,19 +91,22 @@ impl<'a, S: Semantics> InFormat for BlockCallFrom<'a, S> {
     fn in_format<T: Semantics>(self) -> BlockAnswer {
         let BlockCall {
             conversion,
+            overflow,
             count,
             input,
             mut output,
         } = self.call;
         let widths = conversion.widths();
         let round = conversion.round;
-        let counts = convert_front::<S, T>(round, widths, count, input, output.as_mut_slice());
+        let front = output.as_mut_slice();
+        let counts = convert_front::<S, T>(overflow, round, widths, count, input, front);
         BlockAnswer { counts, output }
     }
 }
 
 /// Converts a block to the front of a buffer.
 fn convert_front<S: Semantics, T: Semantics>(
+    overflow: Overflow,
     round: Round,
     widths: Widths,
     count: usize,
@@ -114,9 +120,9 @@ fn convert_front<S: Semantics, T: Semantics>(
     requires input { length input.now ≡ count * widths.source }
     requires room { count * widths.target ≤ length buffer.old }
     ensures { let c = constants_of S.Semantics in let d = constants_of T.Semantics in
-        IsBlock (IsConvertedValue c d round) widths.source widths.target count
+        IsBlock (IsConvertedBy overflow c d round) widths.source widths.target count
         input.now (take (count * widths.target) buffer.new) result }
 {
     let front = &mut buffer[..count * widths.target];
-    convert_block::<S, T>(round, widths, count, input, front)
+    convert_block_by::<S, T>(overflow, round, widths, count, input, front)
 }

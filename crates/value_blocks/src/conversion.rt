@@ -4,11 +4,12 @@ ghost use Rattle.std.specs.Prelude.{◌≡◌, ◌+◌, ◌*◌, ◌/◌, ◌≤
 ghost use Rattle.dispatch.specs.BuiltIns.{constants_in};
 ghost use Rattle.value_blocks.specs.Words.{conversion_named, format_named};
 ghost use Rattle.value_blocks.specs.Widths.{source_width, target_width};
-ghost use Rattle.value_blocks.specs.Values.{IsConvertedValue};
+ghost use Rattle.value_blocks.specs.Values.{IsConvertedBy, IsConvertedValue};
 ghost use Rattle.value_blocks.specs.Blocks.{IsBlock};
 
 use crate::block_call::BlockCall;
 use crate::counts::Counts;
+use crate::saturation::Overflow;
 use crate::widths::{Extended, Widths, width};
 use dispatch::{BuiltInFormat, BuiltInKind, mode_named};
 use rustc_apfloat::Round;
@@ -69,11 +70,30 @@ impl Conversion {
             (target_width self) count (take (count * source_width self) read.now)
             (take result.written result.buffer.items) result.counts }
     {
+        self.convert_by(Overflow::Rounded, read, written)
+    }
+
+    /// The same, with what an overflow gives.
+    pub fn convert_by(self, overflow: Overflow, read: &[u8], written: Vec<u8>) -> ConvertedBlock
+        requires { (length read.now / source_width self) * target_width self
+            ≤ length written.items }
+        ensures parts { let count = length read.now / source_width self in
+            (result.written ≡ count * target_width self)
+            × (result.left_over + count * source_width self ≡ length read.now) }
+        ensures room { length result.buffer.items ≡ length written.items }
+        ensures within { result.written ≤ length result.buffer.items }
+        ensures block { let count = length read.now / source_width self in
+            let c = constants_in self.source in let d = constants_in self.target in
+            IsBlock (IsConvertedBy overflow c d self.round) (source_width self)
+            (target_width self) count (take (count * source_width self) read.now)
+            (take result.written result.buffer.items) result.counts }
+    {
         let widths = self.widths();
         let count = read.len() / widths.source;
         let whole = count * widths.source;
         let call = BlockCall {
             conversion: self,
+            overflow,
             count,
             input: &read[..whole],
             output: written,

@@ -1,15 +1,20 @@
 //! Blocks of values in consecutive bytes, converted from any built-in format to any other.
 #![tactic(auto)]
 
+mod array;
 mod block_call;
 mod blocks;
 mod bytes;
 mod conversion;
 mod counts;
 mod one_value;
+mod saturation;
 mod widths;
 
-pub use blocks::convert_block;
+pub use array::ArrayConversion;
+pub use blocks::{convert_block, convert_block_by};
+pub use bytes::{number_of, write_number};
 pub use conversion::{Conversion, ConvertedBlock};
 pub use counts::{Counts, Outcome};
-pub use widths::{Extended, Widths};
+pub use saturation::{Overflow, convert_by};
+pub use widths::{Extended, Widths, width};

@@ -1,17 +1,19 @@
 //! One value.
 
 ghost use Rattle.std.specs.Prelude.{◌≡◌, ◌*◌, ◌<◌, ◌≤◌, length};
-ghost use Rattle.rustc_apfloat.specs.Types.{constants_of};
-ghost use Rattle.value_blocks.specs.Values.{IsConvertedValue};
+ghost use Rattle.rustc_apfloat.specs.FlaggedTypes.{constants_of};
+ghost use Rattle.value_blocks.specs.Values.{IsConvertedBy};
 
 use crate::bytes::{number_of, write_number};
 use crate::counts::Outcome;
-use rustc_apfloat::ieee::{IeeeFloat, Semantics};
-use rustc_apfloat::{Float, FloatConvert, Round, StatusAnd};
+use crate::saturation::{Overflow, convert_by};
+use rustc_apfloat::ieee::{Flagged, IeeeFloat};
+use rustc_apfloat::{Float, Round, StatusAnd};
 
 /// Converts the value of these bytes, lowest first, to the bytes of its value in the format `T`.
 #[inline]
-pub fn convert_value<S: Semantics, T: Semantics>(
+pub fn convert_value<S: Flagged, T: Flagged>(
+    overflow: Overflow,
     round: Round,
     input: &[u8],
     output: &mut [u8],
@@ -20,15 +22,13 @@ pub fn convert_value<S: Semantics, T: Semantics>(
     requires written { T.PRECISION < T.BITS }
     requires input { length input.now ≤ 16 }
     requires output { T.BITS ≤ 8 * length output.old }
-    ensures { IsConvertedValue (constants_of S.Semantics) (constants_of T.Semantics) round
+    ensures { IsConvertedBy overflow (constants_of S.Flagged) (constants_of T.Flagged) round
         input.now output.new result }
 {
     let mut loses_info = false;
-    let answer: StatusAnd<IeeeFloat<T>> = S::from_bits(number_of(input)).convert_r(
-        round,
-        &mut loses_info,
-    );
-    write_number(T::to_bits(answer.value), output);
+    let x = IeeeFloat::<S>::from_bits(number_of(input));
+    let answer: StatusAnd<IeeeFloat<T>> = convert_by(overflow, round, x, &mut loses_info);
+    write_number(answer.value.to_bits(), output);
     Outcome {
         status: answer.status,
         is_nan: answer.value.is_nan(),

@@ -1,4 +1,3 @@
-use Rattle.std.proofs.Common.{◌∙◌}
 use Rattle.value_blocks.proofs.WidthBounds.{width_room}
 use Rattle.value_blocks.proofs.widths.width.Goals as goal
 
