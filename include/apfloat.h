@@ -5,7 +5,7 @@
  * codes are listed; on an error, *answer is unchanged.
  *
  * The library never allocates, keeps no state between calls, and calls no other functions but the compiler's own
- * division of 128-bit integers. So its functions may be called from any thread, and from a signal handler. Given valid
+ * division of 128-bit integers, and memcpy and memset, which compilers ask for everywhere. So its functions may be called from any thread, and from a signal handler. Given valid
  * pointers, they are defined for every value of every argument: no code, bit pattern, width or text causes undefined
  * behaviour.
  *

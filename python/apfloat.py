@@ -3,16 +3,17 @@
 The arithmetic is that of the library for C, whose functions are proved. The shared library is libapfloat.so beside this
 file, or the file that the environment variable APFLOAT_LIBRARY names; packaging/install builds it.
 
-A format makes values from texts, integers, Python's floats and values of other formats:
+A format makes values from texts, integers, Python's floats and values of other formats. A value is shown as the
+shortest decimal that its format reads as it:
 
->>> x = half('0x1.8p0')
+>>> x = half('1.5')
 >>> x
-half('0x1.8p+0')
->>> x + 1
-half('0x1.4p+1')
->>> half(2049)
-half('0x1p+11')
->>> double(0.1).bits == 0x3fb999999999999a
+half('1.5')
+>>> x + 1, x.hex(), half('0x1.8p0') == x
+(half('2.5'), '0x1.8p+0', True)
+>>> half(2049), half(0.1), quad('0.1'), quad(0.1)
+(half('2048.0'), half('0.1'), quad('0.1'), quad('0.1000000000000000055511151231257827'))
+>>> double(0.1).bits == double('1e-1').bits == 0x3fb999999999999a
 True
 
 Each operation rounds once, in the mode of the context, and adds its flags to those of the context:
@@ -20,7 +21,7 @@ Each operation rounds once, in the mode of the context, and adds its flags to th
 >>> with Context(mode=UPWARD) as context:
 ...     third = single(1) / 3
 >>> third
-single('0x1.555556p-2')
+single('0.33333334')
 >>> context.flags
 <Flags.INEXACT: 16>
 >>> with Context() as context:
@@ -30,7 +31,8 @@ half('inf')
 <Flags.DIV_BY_ZERO: 2>
 
 A format raises the flags of IEEE 754-2008 in every mode if it is written half.ieee, with tininess detected before
-rounding if it is written half.ieee.before; e4m3fn, e4m3fnuz and double_pair have no such choice.
+rounding if it is written half.ieee.before; e4m3fn, e4m3fnuz and double_pair have no such choice. Formats with these
+flags read no decimals, only hexadecimal texts.
 
 Both operands have the same format; integers and floats are converted to it if that is exact:
 
@@ -46,9 +48,12 @@ ValueError: 0.1 is not a value of half
 
 import contextvars
 import ctypes
+import decimal
 import enum
+import fractions
 import functools
 import os
+import re
 import struct
 
 __all__ = [
@@ -87,7 +92,7 @@ class Context:
 
     >>> with Context(mode=TOWARD_ZERO):
     ...     half(65504) + half(65504)
-    half('0x1.ffcp+15')
+    half('65500.0')
     """
 
     def __init__(self, mode=NEAREST_EVEN):
@@ -116,6 +121,10 @@ class _Halves(ctypes.Structure):
 
 class _Answer(ctypes.Structure):
     _fields_ = [('bits', _Halves), ('status', ctypes.c_uint32), ('number', ctypes.c_int32)]
+
+
+class _Text(ctypes.Structure):
+    _fields_ = [('bytes', ctypes.c_char * 64), ('length', ctypes.c_uint32)]
 
 
 _REFUSALS = {
@@ -177,7 +186,7 @@ class Format:
     >>> half(1).bits
     15360
     >>> half.from_bits(0x3c01)
-    half('0x1.004p+0')
+    half('1.001')
     """
 
     def __init__(self, name, code, width, precision, exponent_bits):
@@ -198,7 +207,7 @@ class Format:
 
         >>> with Context(mode=TOWARD_ZERO) as context:
         ...     half.ieee(65504) + 65504
-        half.ieee('0x1.ffcp+15')
+        half.ieee('65500.0')
         >>> context.flags == Flags.OVERFLOW | Flags.INEXACT
         True
         """
@@ -215,9 +224,9 @@ class Format:
         ...     with Context() as context:
         ...         format('0x1.004p-14') * format(below_one)
         ...     bool(context.flags & Flags.UNDERFLOW)
-        half.ieee('0x1p-14')
+        half.ieee('0.00006104')
         False
-        half.ieee.before('0x1p-14')
+        half.ieee.before('0.00006104')
         True
         """
         if not self.code & _IEEE_FLAGS:
@@ -230,6 +239,20 @@ class Format:
             raise ValueError(f'{self.name} has {self.width} bits')
         return Value(self, bits)
 
+    def fromhex(self, text):
+        """The value of a hexadecimal text, an infinity or a NaN, rounded once, like float.fromhex.
+
+        >>> single.fromhex('0x1.8p-1'), single.fromhex('-inf')
+        (single('0.75'), single('-inf'))
+        """
+        return self._read('parse', text)
+
+    def _read(self, name, text):
+        text = text.strip().encode()
+        answer = _call(name, ctypes.c_uint32(self.code), ctypes.c_uint32(context().mode), text,
+                       ctypes.c_size_t(len(text)))
+        return Value(self, _whole(answer.bits))
+
     def __call__(self, of):
         """The value of a text, an integer, a float or a value, rounded once in the mode of the context."""
         mode = context().mode
@@ -239,13 +262,12 @@ class Format:
             answer = _call('convert', ctypes.c_uint32(of.format.code), ctypes.c_uint32(mode),
                            ctypes.c_uint32(self.code), _halves(of.bits))
         elif isinstance(of, str):
-            text = of.strip().encode()
-            answer = _call('parse', ctypes.c_uint32(self.code), ctypes.c_uint32(mode), text, ctypes.c_size_t(len(text)))
+            return self._read('parse' if self.code & _IEEE_FLAGS else 'parse_decimal', of)
         elif isinstance(of, int):
             if -1 << 127 <= of < 1 << 127:
                 answer = _call('from_i128', ctypes.c_uint32(self.code), ctypes.c_uint32(mode), _halves(of))
             else:
-                return self(hex(of) + 'p0')
+                return self.fromhex(hex(of) + 'p0')
         elif isinstance(of, float):
             of = double.from_bits(struct.unpack('<Q', struct.pack('<d', of))[0])
             return self(of) if self is not double_pair else self.from_bits(of.bits)
@@ -271,9 +293,9 @@ def _operators(name):
 class Value:
     """A value of a format: its bits. Operations round once, in the mode of the context.
 
-    >>> x = double('0x1p-1074')
+    >>> x = double('5e-324')
     >>> x / 2, x * 2 == x + x, -x < x
-    (double('0x0p+0'), True, True)
+    (double('0.0'), True, True)
     >>> double('nan') == double('nan')
     False
     """
@@ -317,10 +339,10 @@ class Value:
         """self * factor + addend, rounded once. Pairs of doubles do not have it.
 
         >>> half.from_bits(0x3c01).fma(half.from_bits(0x3c01), half.from_bits(0xbc02))
-        half('0x1p-20')
+        half('9.5e-7')
         >>> above = quad(1).next_up()
-        >>> above * above, above.fma(above, -above * above)
-        (quad('0x1.0000000000000000000000000002p+0'), quad('0x1p-224'))
+        >>> above * above, above.fma(above, -above * above).hex()
+        (quad('1.0000000000000000000000000000000004'), '0x1p-224')
         """
         return self._rounded('fma', self, self._same_format(factor), self._same_format(addend))
 
@@ -328,7 +350,7 @@ class Value:
         """The square root, rounded once; of a value below zero a NaN.
 
         >>> double(2).sqrt(), quad(4).sqrt(), half('-0x0p0').sqrt()
-        (double('0x1.6a09e667f3bcdp+0'), quad('0x1p+1'), half('-0x0p+0'))
+        (double('1.4142135623730951'), quad('2.0'), half('-0.0'))
         >>> with Context() as context:
         ...     x87(-1).sqrt()
         x87('nan')
@@ -341,7 +363,7 @@ class Value:
         """self less the divisor times the integer nearest to the quotient, a tie going to the even one: exact.
 
         >>> double(5).remainder(3), double(5).fmod(3)
-        (double('-0x1p+0'), double('0x1p+1'))
+        (double('-1.0'), double('2.0'))
         """
         return Value(self.format, _whole(self._exact('rem', self, self._same_format(divisor)).bits))
 
@@ -353,7 +375,7 @@ class Value:
         """The least value above self.
 
         >>> half(1).next_up(), half(1).next_down()
-        (half('0x1.004p+0'), half('0x1.ffcp-1'))
+        (half('1.001'), half('0.9995'))
         """
         return Value(self.format, _whole(self._exact('next_up', self).bits))
 
@@ -365,7 +387,7 @@ class Value:
         """The integral value that the mode picks.
 
         >>> half('0x1.4p1').round_to_integral()
-        half('0x1p+1')
+        half('2.0')
         """
         return self._rounded('round_to_integral', self)
 
@@ -465,10 +487,62 @@ class Value:
             return double.from_bits(self.bits & (1 << 64) - 1).hex() + (' + ' + low.hex() if low else '')
         return _hexadecimal(self)
 
-    def __repr__(self):
-        return f'{self.format}({self.hex()!r})'
+    def as_integer_ratio(self):
+        """A number as a quotient of two integers in lowest terms.
 
-    __str__ = hex
+        >>> half('0.1').as_integer_ratio()
+        (819, 8192)
+        """
+        if self.is_nan or self.is_infinite:
+            raise ValueError(f'{self} is no number')
+        sign, whole, fraction, exponent = _HEXADECIMAL.fullmatch(self.hex()).groups()
+        digits = int(whole + (fraction or ''), 16)
+        exponent = int(exponent) - 4 * len(fraction or '')
+        ratio = fractions.Fraction(digits << exponent) if exponent > 0 else fractions.Fraction(digits, 1 << -exponent)
+        return (-ratio if sign else ratio).as_integer_ratio()
+
+    def __str__(self):
+        """The shortest decimal that the format reads as the value; of a pair of doubles, those of its parts.
+
+        >>> str(half('1e-7')), str(half('-inf')), str(half.from_bits(0x7e01))
+        ('1e-7', '-inf', 'nan')
+        >>> print(double_pair(1) / 3)
+        0.3333333333333333 + 1.8503717077085944e-17
+        """
+        if self.format is double_pair:
+            low = double.from_bits(self.bits >> 64)
+            return str(double.from_bits(self.bits & (1 << 64) - 1)) + (f' + {low}' if low else '')
+        text = _Text()
+        code = _functions.apfloat_shortest(ctypes.c_uint32(self.format.code), _halves(self.bits), ctypes.byref(text))
+        if code:
+            raise Refused(code)
+        return text.bytes.decode()
+
+    def __repr__(self):
+        """The format and the text that it reads as the value; a NaN has its sign and its payload.
+
+        >>> half.from_bits(0x7e01), single('1e10'), double('-0')
+        (half('nan(0x1)'), single('10000000000.0'), double('-0.0'))
+        """
+        return f'{self.format}({(self.hex() if self.is_nan else str(self))!r})'
+
+    def __format__(self, spec):
+        """The value as Python's decimal.Decimal formats it exactly, or as str does without a specification.
+
+        >>> f'{half("0.1"):.3e} {half("0.1"):.20f} {half("1.5")}'
+        '9.998e-2 0.09997558593750000000 1.5'
+        """
+        if not spec:
+            return str(self)
+        if self.is_nan or self.is_infinite:
+            return format(decimal.Decimal(str(self)), spec)
+        numerator, denominator = self.as_integer_ratio()
+        places = denominator.bit_length() - 1
+        sign = '-' if self.is_negative else ''
+        return format(decimal.Decimal(f'{sign}{abs(numerator) * 5**places}e-{places}'), spec)
+
+
+_HEXADECIMAL = re.compile('(-?)0x([01])(?:[.]([0-9a-f]+))?p([+-][0-9]+)')
 
 
 def _hexadecimal(value):

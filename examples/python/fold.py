@@ -69,7 +69,7 @@ def fold(line):
     format = FORMATS[format]
     with apfloat.Context(MODES.get(mode, apfloat.NEAREST_EVEN)) as context:
         if operation == 'parse':
-            result = format(*operands)
+            result = format.fromhex(*operands)
         else:
             result = OPERATIONS[operation](*[format.from_bits(bits & (1 << format.width) - 1) for bits in operands])
     raised = [flag.name for flag in apfloat.Flags if flag and flag in context.flags]

@@ -1,0 +1,130 @@
+#!/usr/bin/env python3
+"""Computes the rows of tests/c/decimals: decimals that the library for C reads and writes.
+
+    python3 evidence/decimal_rows.py > tests/c/decimals
+
+Texts and numbers are drawn from a fixed seed, and some are chosen.
+"""
+
+import random
+
+from exact import bits, decimals, status, texts
+from exact.data import Infinite, is_nan
+from exact.formats import FALLBACK, FORMATS, PROGRAM_FORMATS
+from exact.pairs import PairValues, split_result
+from exact.rounding import Mode
+from exact.values import VALUES
+from exact.words import word_of
+from questions.decimals import magnitude, text
+from questions.operands import Operands
+
+_SEED = 7
+_LONGEST = 600
+
+_KINDS = {**VALUES, "dd": PairValues()}
+
+_TEXTS = (
+    "0", "-0", "0.0", "-0e999999999999999999999", "00.", ".0", "1", "-1.5", "0.1", "1e-7", "+2.5E+3", "1e400", "-1e400",
+    "1e-400", "4.9406564584124654e-324", "2.4703282292062327208e-324", "2.4703282292062328e-324", "1.7976931348623159e308",
+    "179769313486231580793728971405301e276", "0.1e99999999999999999999", "1e-99999999999999999999", "65519.99", "65520",
+    "3.4028235677973366e38", "0x1.8p-1", "-0x.8p1", "inf", "-INFINITY", "+Inf", "nan", "-nan", "snan", "nan(0x7)",
+    "", "-", "+", ".", "e5", "1e", "1e+", "1.2.3", "1x", "0x", "0x1", "infinity", "Infinity", " 1", "1 ", "1_0", "1,5",
+    "--1", "1e5.5", "0x1.8p", "1p3", "1e-", "\x7f",
+)
+
+
+def main():
+    """Prints all rows."""
+    choices = random.Random(_SEED)
+    for literal in _TEXTS:
+        for name in ("half", "double", "quad", "e4m3fnuz", "dd"):
+            for mode in (Mode.EVEN, choices.choice(list(Mode))):
+                print(reading(name, mode, literal))
+    drawn = 0
+    while drawn < 1200:
+        known = choices.choice(PROGRAM_FORMATS)
+        literal = text(Operands(choices, known))
+        if len(literal) > _LONGEST:
+            continue
+        drawn += 1
+        name = "dd" if known.name == "double" and choices.random() < 0.4 else known.name
+        print(reading(name, choices.choice(list(Mode)), literal))
+    for known in PROGRAM_FORMATS:
+        for pattern in patterns(choices, known):
+            print(writing(choices, known, pattern))
+
+
+def reading(name, mode, literal):
+    """A row of a text that is read."""
+    try:
+        value, flags = value_of(name, literal, mode)
+    except texts.ParseError:
+        return f"read\t{name}\t{mode.value}\t{literal}\tParseError\t-"
+    return f"read\t{name}\t{mode.value}\t{literal}\t{word_of(_KINDS[name], value)}\t{status.names(flags)}"
+
+
+def value_of(name, literal, mode):
+    """The value of any text, and the flags."""
+    if name == "dd":
+        return split_result(read(FALLBACK, literal, mode))
+    return read(FORMATS[name], literal, mode)
+
+
+def read(known, literal, mode):
+    """The value of any text in a format, and the flags."""
+    if decimals.literal(literal) is None:
+        return texts.read(known, literal, mode)
+    return decimals.read(known, literal, mode)
+
+
+def patterns(choices, known):
+    """Bits of special values, of numbers at the ends of the range and of any number."""
+    width = known.bits
+    for pattern in range(3):
+        yield pattern
+        yield pattern | 1 << width - 1
+    for _ in range(8):
+        yield choices.getrandbits(width)
+    operands = Operands(choices, known)
+    for _ in range(40):
+        yield bits.encoded(known, operands.signed(magnitude(operands)))
+    for quanta in (known.largest, known.smallest_normalized, known.smallest_normalized - 1):
+        yield bits.encoded(known, operands.signed(quanta))
+    for special in (known.greatest_field << known.precision - 1, (1 << width) - 1):
+        yield special & (1 << width) - 1
+
+
+def writing(choices, known, pattern):
+    """A row of the shortest decimal of a value."""
+    rules = ("", "+ieee", "+ieee+before") if known.has_infinity else ("",)
+    x = bits.decoded(known, pattern)
+    digits = known.hexadecimal_digits
+    return f"shortest\t{known.name}{choices.choice(rules)}\t{pattern:0{digits}x}\t{shown(known, x)}"
+
+
+def shown(known, x):
+    """The text of a value."""
+    if is_nan(x):
+        return "nan"
+    sign = "-" if x.negative else ""
+    if isinstance(x, Infinite):
+        return f"{sign}inf"
+    return sign + spelled(*decimals.shortest(known, x))
+
+
+def spelled(digits, exponent):
+    """A decimal without an exponent if that of its first digit is from -6 to 20."""
+    word = str(digits)
+    first = exponent + len(word) - 1
+    if digits == 0:
+        return "0.0"
+    if not -6 <= first <= 20:
+        return f"{word[0]}{'.' * (len(word) > 1)}{word[1:]}e{first}"
+    if exponent >= 0:
+        return f"{word}{'0' * exponent}.0"
+    word = word.zfill(1 - exponent)
+    return f"{word[:exponent]}.{word[exponent:]}"
+
+
+if __name__ == "__main__":
+    main()
