@@ -102,10 +102,21 @@ static apfloat_halves read_by_peer(int format, const char *text) {
     return bits_of(&x, 16);
 }
 
-static int agrees(int format, int mode, const char *text) {
+// Whether the bits of a format are a zero or an infinity.
+static int is_limit(int format, apfloat_halves x) {
+    int bits = 8 * FORMAT[format].bytes;
+    uint64_t high = bits > 64 ? x.high << (128 - bits) << 1 : 0, low = bits > 64 ? x.low : x.low << (64 - bits) << 1;
+    uint64_t infinite_high = UINT64_C(0xfffe) << 48;
+    if (format == SINGLE) return low == 0 || low == UINT64_C(0xff) << 56;
+    if (format == X87) return (high == 0 && low == 0) || (high == infinite_high && low == UINT64_C(1) << 63);
+    return low == 0 && (high == 0 || high == infinite_high);
+}
+
+static int agrees(int format, int mode, const char *text, int *limit) {
     fesetround(MODES[mode].control);
     apfloat_halves peer = read_by_peer(format, text);
     fesetround(FE_TONEAREST);
+    *limit = is_limit(format, peer);
     apfloat_answer answer;
     uint32_t code =
         apfloat_parse_decimal(FORMAT[format].code, MODES[mode].code, (const uint8_t *)text, strlen(text), &answer);
@@ -118,7 +129,8 @@ int main(int argc, char **argv) {
     state = strtoull(argv[1], NULL, 10);
     long count = strtol(argv[2], NULL, 10);
     for (int format = 0; format < FORMATS; format++) {
-        long agree = 0, differ[4] = {0}, different = 0;
+        long agree = 0, differ[4] = {0}, different = 0, limits = 0;
+        int limit;
         for (long i = 0; i < count; i++) {
             char *body = text;
             if (word() % 2) *body++ = '-';
@@ -127,15 +139,16 @@ int main(int argc, char **argv) {
             else
                 near_number(format, body);
             int mode = word() % 2 ? 0 : 1 + below(3);
-            if (agrees(format, mode, text))
+            if (agrees(format, mode, text, &limit))
                 agree++;
             else {
                 differ[mode]++;
+                limits += limit;
                 if (different++ < MOST) printf("%s, mode %d: %.120s\n", FORMAT[format].name, mode, text);
             }
         }
-        printf("%s: %ld agree, %ld differ to nearest, %ld in other modes\n", FORMAT[format].name, agree, differ[0],
-               differ[1] + differ[2] + differ[3]);
+        printf("%s: %ld agree, %ld differ to nearest, %ld in other modes; of those that differ %ld gave 0 or infinity\n",
+               FORMAT[format].name, agree, differ[0], differ[1] + differ[2] + differ[3], limits);
     }
     return 0;
 }
