@@ -5,6 +5,8 @@ pub mod Cutting
 pub mod DecimalPlaces
 pub mod DecimalPowers
 pub mod EnoughDigits
+pub mod ExactDecimals
+pub mod ExactSignificands
 pub mod FarTexts
 pub mod FoundDigits
 pub mod LeadingNumbers
@@ -13,6 +15,7 @@ pub mod OneShortest
 pub mod ParsedNumbers
 pub mod PickedFractions
 pub mod Quotients
+pub mod ReadBacks
 pub mod Readings
 pub mod RoundedDecimals
 pub mod RoundedOrder

@@ -12,6 +12,7 @@ use Rattle.apfloat_base.specs.texts.Literals.{exponent_number}
 use Rattle.apfloat_base.specs.texts.Specials.{Meaning, infinity, mark_of, behind_mark, is_minus, is_infinity, is_s, is_nan_name, with_payload, payload_of, named_nan, nan_meaning, special_of, special_meaning}
 use Rattle.apfloat_base.proofs.general.ListLaws.{every-append, run_through, behind_run_through, not_empty}
 use Rattle.apfloat_decimals.specs.DecimalTexts.{is_e, IsWrittenExponent, IsDecimalText, fraction_in, behind_fraction, written_fault, fault_after, all_digits, body_fault, decimal_fault_of}
+use Rattle.apfloat_decimals.specs.Parsing.{plain_fault_of}
 
 -- ---- the exponent
 
@@ -231,3 +232,10 @@ no_fault_of (c ∷ text) digits exponent x =
     cond_same : (b : Bool) (o : Option Fault) → cond b o o ≡ o
     cond_same true o = refl
     cond_same false o = refl
+
+pub no_plain_fault : (text : List ℕ) (digits : ℕ) (exponent : ℤ) → IsDecimalText (behind_mark text) digits exponent
+    → plain_fault_of text ≡ None
+no_plain_fault [] digits exponent x = absurd (false≢true (sym (only_text [] digits exponent x).some))
+no_plain_fault (c ∷ text) digits exponent x =
+    let only = only_text (behind_mark (c ∷ text)) digits exponent x in
+    rw only.some only.faultless

@@ -2,6 +2,7 @@ pub mod CutDecimals
 pub mod Cuts
 pub mod DecimalTexts
 pub mod Decimals
+pub mod ExactDecimals
 pub mod LeadingDigits
 pub mod Parsing
 pub mod Reach

@@ -1,6 +1,6 @@
 //! A decimal from its text.
 
-ghost use Rattle.std.specs.Prelude.{◌≡◌, ℕ, ℤ, pos, ◌-ℤ◌, ◌≤◌, ◌^◌, ◌++◌, List, Bool, IsTrue, MatchOption, Result, IsOkAnd};
+ghost use Rattle.std.specs.Prelude.{◌≡◌, ℕ, ℤ, pos, ◌-ℤ◌, ◌≤◌, ◌^◌, ◌++◌, List, Bool, IsTrue, MatchOption, Result, Ok, IsOkAnd};
 ghost use Rattle.apfloat_base.specs.declared.kinds.Round.{Round};
 ghost use Rattle.apfloat_base.specs.declared.parse_error.ParseError.{ParseError};
 ghost use Rattle.apfloat_base.specs.declared.status.StatusAnd.{StatusAnd};
@@ -130,7 +130,7 @@ impl FromStr for Decimal {
     }
 }
 
-/// A decimal text spells one number and has no fault, and `read_decimal` reads it as that number.
+/// A decimal text spells one number and has no fault, and `read_decimal` and `FromStr` read it as that number.
 pub fn decimal_text_once()
     ensures once { (body : List ℕ) (digits other : ℕ) (exponent place : ℤ)
         → IsDecimalText body digits exponent → IsDecimalText body other place
@@ -142,6 +142,9 @@ pub fn decimal_text_once()
         (exponent : ℤ) → Spells text negative digits exponent
         → IsDecimalRead format mode text answer
         → IsOkAnd answer (Gives (IsDecimalDelivery format mode negative digits exponent)) }
+    ensures parsed { (text : List ℕ) (x : Decimal) (answer : Result Decimal DecimalError)
+        → IsStoredDecimal x → Spells text x.negative x.digits x.exponent → IsParsed text answer
+        → answer ≡ Ok x }
 {}
 
 /// The text that `Display` writes of a decimal is a decimal text with its sign and of the same number.

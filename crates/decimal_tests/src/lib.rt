@@ -4,6 +4,8 @@
 #![tactic(auto)]
 
 #[cfg(test)]
+mod decimals;
+#[cfg(test)]
 mod rounded;
 #[cfg(test)]
 mod shortest;

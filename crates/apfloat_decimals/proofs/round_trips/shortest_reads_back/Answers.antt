@@ -1,0 +1,5 @@
+use Rattle.apfloat_decimals.proofs.ReadBacks.{read_back}
+use Rattle.apfloat_decimals.proofs.round_trips.shortest_reads_back.Goals as goal
+
+pub returns : goal.returns
+returns c = read_back
