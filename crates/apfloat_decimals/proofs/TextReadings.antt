@@ -1,21 +1,19 @@
 -- What is read of a decimal text is its number.
-use Rattle.std.proofs.Common.{◌≡◌, ◌⊎◌, ℕ, Bool, refl, sym, ◌∙◌, subst, inl, inr, List, Result, Ok, Err, Some, None, ℤ, pos, neg_ℤ, ◌≤ℤ◌, ◌+◌, ◌^◌, ap, ⊎_elim, arith}
+use Rattle.std.proofs.Common.{◌≡◌, ℕ, Bool, sym, ◌∙◌, inl, inr, List, Result, Ok, Err, ℤ, pos, neg_ℤ, ◌≤ℤ◌, ◌+◌, ◌^◌, ap, ⊎_elim, arith}
 use Rattle.std.proofs.lemmas.Int.{ints}
 use Rattle.std.proofs.lemmas.Option.{none-some}
 use Rattle.std.specs.Result.{IsOkAnd}
 use Rattle.apfloat_base.specs.declared.kinds.Round.{Round}
-use Rattle.apfloat_base.specs.declared.parse_error.Fault.{Fault}
 use Rattle.apfloat_base.specs.declared.parse_error.Fault.TheVariants.{NoLiteral}
 use Rattle.apfloat_base.specs.declared.parse_error.ParseError.{ParseError}
 use Rattle.apfloat_base.specs.declared.status.StatusAnd.{StatusAnd}
 use Rattle.apfloat_base.specs.formats.Datum.{Datum}
 use Rattle.apfloat_base.specs.formats.Format.{Format}
 use Rattle.apfloat_base.specs.rounding.Flags.{Gives, bits_of}
-use Rattle.apfloat_base.specs.texts.Readings.{IsReading}
-use Rattle.apfloat_base.specs.texts.Specials.{mark_of, behind_mark, is_minus}
+use Rattle.apfloat_base.specs.texts.Specials.{behind_mark}
 use Rattle.apfloat_base.proofs.texts.OneMeaning.{meaning_no_fault}
 use Rattle.apfloat_decimals.specs.Decimals.{IsDecimalDelivery}
-use Rattle.apfloat_decimals.specs.DecimalTexts.{IsDecimalText, IsDecimalRead, IsDecimalReading, IsSpelled, decimal_fault_of}
+use Rattle.apfloat_decimals.specs.DecimalTexts.{IsDecimalText, IsDecimalRead, IsDecimalReading}
 use Rattle.apfloat_decimals.specs.Parsing.{Spells, IsParsed}
 use Rattle.apfloat_decimals.specs.ReadBack.{IsStoredDecimal}
 use Rattle.apfloat_decimals.specs.declared.decimal.Decimal.{Decimal}

@@ -1,5 +1,5 @@
 -- A text that is read as a decimal (IEEE 754-2008 5.12.2).
-use Rattle.std.specs.Prelude.{◌≡◌, ◌⊎◌, ℕ, ◌+◌, ◌^◌, ◌<◌, ◌≤◌, ℤ, pos, neg_ℤ, ◌≤ℤ◌, Bool, List, if◌then◌else◌, Option, Some, None, Result, Ok, Err}
+use Rattle.std.specs.Prelude.{◌≡◌, ◌⊎◌, ℕ, ◌+◌, ◌^◌, ◌<◌, ◌≤◌, ℤ, pos, neg_ℤ, ◌≤ℤ◌, Bool, List, if◌then◌else◌, Option, Some, Result, Ok, Err}
 use Rattle.apfloat_base.specs.declared.parse_error.Fault.{Fault}
 use Rattle.apfloat_base.specs.declared.parse_error.Fault.TheVariants.{EmptyText, LoneMark}
 use Rattle.apfloat_base.specs.texts.Digits.{is_empty}

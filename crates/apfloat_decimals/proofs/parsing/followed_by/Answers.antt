@@ -1,4 +1,4 @@
-use Rattle.std.proofs.Common.{◌≡◌, ℕ, List, take, ap, sym, ◌∙◌, arith}
+use Rattle.std.proofs.Common.{◌≡◌, ℕ, List, take, ap, ◌∙◌, arith}
 use Rattle.std.proofs.lemmas.List.{take_all}
 use Rattle.apfloat_decimals.specs.LeadingDigits.{number_from}
 use Rattle.apfloat_decimals.proofs.ParsedNumbers.{digit_next, number_past}

@@ -1,5 +1,5 @@
 use Rattle.std.specs.Int.{w32, w128}
-use Rattle.std.proofs.Common.{◌≡◌, ◌++◌, length, drop, ℤ, pos, ◌-ℤ◌, refl, sym, arith, to_z, of_z, FitsSigned, rules}
+use Rattle.std.proofs.Common.{◌++◌, length, drop, pos, ◌-ℤ◌, refl, arith, to_z, of_z, FitsSigned, rules}
 use Rattle.std.proofs.lemmas.Int.{to_z-of_z}
 use Rattle.apfloat_base.specs.texts.Digits.{number}
 use Rattle.apfloat_base.specs.texts.Literals.{exponent_number}
