@@ -5,3 +5,4 @@ pub mod Summands
 pub mod Readings
 pub mod Nearby
 pub mod TwoModes
+pub mod DecimalRoundTrips

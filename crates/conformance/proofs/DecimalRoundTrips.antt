@@ -1,0 +1,32 @@
+-- Values that are read back from decimals, by what the contracts say of decimals.
+use Rattle.std.proofs.Common.{◌≡◌, Bool, true, false, refl, ⊎_elim, eqb, Result, Ok, Err, None}
+use Rattle.std.proofs.lemmas.Bool.{cases_Bool}
+use Rattle.std.specs.Result.{IsOkAnd}
+use Rattle.apfloat_base.specs.formats.Datum.{Datum, finite, infinite, nan}
+use Rattle.apfloat_base.specs.formats.Format.{Format}
+use Rattle.apfloat_base.specs.order.Classes.{is_finite}
+use Rattle.apfloat_decimals.specs.declared.decimal.Decimal.{Decimal}
+use Rattle.apfloat_decimals.specs.ReadBack.{is_written_whole, written}
+use Rattle.apfloat_decimals.specs.ShortestSearch.{GivesShortest}
+
+-- a value without a shortest decimal is not finite
+pub none_finite : (f : Format) (x : Datum) → GivesShortest f x None → is_finite x ≡ false
+none_finite f (finite b n) h = absurd h
+none_finite f (infinite b) h = refl
+none_finite f (nan b s) h = refl
+
+-- the text of a decimal has its sign
+pub written_sign : (x : Decimal) → (written x).negative ≡ x.negative
+written_sign x =
+    ⊎_elim (λ (zero : eqb x.digits 0 ≡ true). rw zero refl)
+    (λ (some : eqb x.digits 0 ≡ false).
+    ⊎_elim (λ (whole : is_written_whole x.digits x.exponent ≡ true). rw (some, whole) refl)
+    (λ (other : is_written_whole x.digits x.exponent ≡ false). rw (some, other) refl)
+    (cases_Bool (is_written_whole x.digits x.exponent)))
+    (cases_Bool (eqb x.digits 0))
+
+-- what holds of a result holds of it under a weaker fact
+pub ok_and : {T E : Type 0} (result : Result T E) (P Q : T → Type 0) → ((answer : T) → P answer → Q answer)
+    → IsOkAnd result P → IsOkAnd result Q
+ok_and (Ok answer) P Q f h = f answer h
+ok_and (Err error) P Q f h = h
