@@ -10,7 +10,7 @@ use crate::flagged::Flagged;
 use crate::ieee_float::{IeeeFloat, shape_of};
 use apfloat_arithmetic::wide_fused::wide_multiply_add;
 use apfloat_arithmetic::wide_products::wide_multiply;
-use apfloat_base::{Round, StatusAnd};
+use apfloat_base::{FUSED_LIMIT, Round, StatusAnd};
 
 impl<S: Flagged> IeeeFloat<S> {
     /// The product with `rhs`, rounded once (IEEE 754-2008 5.4.1, multiplication), in a format of any precision.
@@ -39,6 +39,9 @@ impl<S: Flagged> IeeeFloat<S> {
     pub fn wide_mul_add_r(self, multiplicand: Self, addend: Self, round: Round) -> StatusAnd<Self>
         ensures { Gives (IsFusedSum (format_of S.Flagged) round self multiplicand addend) result }
     {
+        if S::PRECISION <= FUSED_LIMIT {
+            return self.mul_add_r(multiplicand, addend, round);
+        }
         IeeeFloat::answered(wide_multiply_add(
             shape_of::<S>(),
             self.unpacked(),
