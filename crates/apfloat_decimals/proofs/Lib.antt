@@ -11,9 +11,11 @@ pub mod FarTexts
 pub mod FoundDigits
 pub mod LeadingNumbers
 pub mod NarrowCuts
+pub mod OneRounded
 pub mod OneShortest
 pub mod ParsedNumbers
 pub mod PickedFractions
+pub mod QuickSearch
 pub mod Quotients
 pub mod ReadBacks
 pub mod Readings

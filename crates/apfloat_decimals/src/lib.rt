@@ -6,7 +6,8 @@
 //! what was cut off; and decimals as such quotients (`reading`). `narrow` has the quotients that 128 bits serve.
 //!
 //! `read_decimal` reads a text of any length (`texts`), `shortest` finds the shortest decimal that reads back as a
-//! value (`search`), and `Display` of a `Decimal` writes it (`writing`). `FromStr` of a `Decimal` reads its text
+//! value (`search`, `quick_search`), `rounded` gives a value to a count of digits (`rounding`), both by its first digits
+//! (`leading_digits`), and `Display` of a `Decimal` writes it (`writing`). `FromStr` of a `Decimal` reads its text
 //! (`parsing`), and `exact` finds the decimal that equals a value (`exact_decimal`). `round_trips` has what holds of
 //! values that are read back.
 #![tactic(auto)]
@@ -17,6 +18,7 @@ mod large;
 mod leading_digits;
 mod narrow;
 mod parsing;
+mod quick_search;
 mod quotient;
 mod reading;
 mod round_trips;
@@ -29,6 +31,6 @@ pub use decimal::{Decimal, built_in_formats, from_decimal};
 pub use exact_decimal::{exact, exact_once};
 pub use parsing::{DecimalError, decimal_text_once, written_text};
 pub use round_trips::shortest_reads_back;
-pub use rounding::rounded;
+pub use rounding::{rounded, rounded_once};
 pub use search::{shortest, shortest_once};
 pub use texts::read_decimal;
