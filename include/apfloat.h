@@ -5,9 +5,9 @@
  * codes are listed; on an error, *answer is unchanged.
  *
  * The library never allocates, keeps no state between calls, and calls no other functions but the compiler's own
- * division of 128-bit integers, and memcpy and memset, which compilers ask for everywhere. So its functions may be called from any thread, and from a signal handler. Given valid
- * pointers, they are defined for every value of every argument: no code, bit pattern, width or text causes undefined
- * behaviour.
+ * division of 128-bit integers, and memcpy and memset, which compilers ask for everywhere. So its functions may be
+ * called from any thread, and from a signal handler. Given valid pointers, they are defined for every value of every
+ * argument: no code, bit pattern, width or text causes undefined behaviour.
  *
  * Pointers are not checked. The caller must ensure that:
  *
@@ -171,10 +171,10 @@ uint32_t apfloat_classify(uint32_t format, apfloat_halves x, apfloat_answer *ans
  * apfloat_parse_decimal. */
 uint32_t apfloat_parse(uint32_t format, uint32_t mode, const uint8_t *text, size_t length, apfloat_answer *answer);
 
-/* The same, and of a decimal number such as -0.1 or 1e-7 the value that it spells, rounded once, whatever its length and
- * its exponent: digits with at most one dot, after an optional sign, and an exponent after e or E if there is one, with
- * an optional sign (IEEE 754-2008 5.12.2). A pair of doubles is the value of 106 binary digits, split into two doubles.
- * Formats with APFLOAT_IEEE_FLAGS do not have it. */
+/* The same, and of a decimal number such as -0.1 or 1e-7 the value that it spells, rounded once, whatever its length
+ * and its exponent: digits with at most one dot, after an optional sign, and an exponent after e or E if there is one,
+ * with an optional sign (IEEE 754-2008 5.12.2). A pair of doubles is the value of 106 binary digits, split into two
+ * doubles. Formats with APFLOAT_IEEE_FLAGS do not have it. */
 uint32_t apfloat_parse_decimal(uint32_t format, uint32_t mode, const uint8_t *text, size_t length,
                                apfloat_answer *answer);
 
@@ -184,11 +184,11 @@ typedef struct apfloat_text {
     uint32_t length;
 } apfloat_text;
 
-/* The text of the shortest decimal that gives x when it is rounded to nearest, ties to even; of as many digits the
- * nearest to x, and of two as near the even one. It is written as in 12.5, 0.000001, 1e-7 and 1.5e21: with an exponent
- * unless that of the first digit is from -6 to 20, and otherwise with at least one digit on each side of the dot. A zero
- * is 0.0 or -0.0, an infinity inf or -inf, and every NaN nan. APFLOAT_DOUBLE_PAIR does not have it. On an error, *text
- * is unchanged; the rules for `answer` hold for `text` too. */
+/* The text of the shortest decimal that gives x when it is rounded to nearest, ties to even: of those with as few
+ * digits, the nearest to x, and of two as near, the even one. It is written as in 12.5, 0.000001, 1e-7 and 1.5e21: with
+ * an exponent unless that of the first digit is from -6 to 20, and otherwise with at least one digit on each side of
+ * the dot. A zero is 0.0 or -0.0, an infinity inf or -inf, and every NaN nan. APFLOAT_DOUBLE_PAIR does not have it. On
+ * an error, *text is unchanged; the rules for `answer` hold for `text` too. */
 uint32_t apfloat_shortest(uint32_t format, apfloat_halves x, apfloat_text *text);
 
 #ifdef __cplusplus

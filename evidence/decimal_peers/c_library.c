@@ -1,14 +1,14 @@
-// Compares how the library for C reads decimals with strtof and strtold of the C library and strtoflt128 of libquadmath:
-// c_library SEED COUNT
+// Compares how the library for C reads decimals with strtof and strtold of the C library, and with strtoflt128 of
+// libquadmath: c_library SEED COUNT
 //
 //     (cd crates/apfloat_c && rt lib)
 //     cc -O2 -Iinclude evidence/decimal_peers/c_library.c crates/apfloat_c/out/libapfloat_c.a -lquadmath -lm -o PEERS
 //     ./PEERS 1 1000000
 //
 // For each of single, x87 and quad it draws COUNT texts: any digits with any exponent, values written with a few digits
-// too many or too few, and numbers halfway between two values or next to that. Half of them are read to nearest, and the
-// others in one of the three other modes. It prints the texts whose values differ, at most 20 a format, and how many
-// agree. Flags are not compared. It needs x86-64, where long double is the format of the x87.
+// too many or too few, and numbers halfway between two values or next to that. Half of them are read to nearest, and
+// the others in one of the three other modes. It prints the texts whose values differ, at most 20 a format, and how
+// many agree. Flags are not compared. It needs x86-64, where long double is the format of the x87.
 #include "apfloat.h"
 
 #include <fenv.h>
@@ -147,7 +147,7 @@ int main(int argc, char **argv) {
                 if (different++ < MOST) printf("%s, mode %d: %.120s\n", FORMAT[format].name, mode, text);
             }
         }
-        printf("%s: %ld agree, %ld differ to nearest, %ld in other modes; of those that differ %ld gave 0 or infinity\n",
+        printf("%s: %ld agree, %ld differ to nearest, %ld in other modes; for %ld of these it gives 0 or infinity\n",
                FORMAT[format].name, agree, differ[0], differ[1] + differ[2] + differ[3], limits);
     }
     return 0;

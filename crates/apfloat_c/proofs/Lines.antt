@@ -39,7 +39,8 @@ only_digit text n few =
 -- ---- how long texts are
 
 -- the whole part of a number in units of 10 ^ places
-pub whole_length : (n places : ℕ) → n < 2 ^ 128 → places ≤ 39 → length (decimal (n / 10 ^ places)) ≤ 40 - places
+pub whole_length : (n places : ℕ) → n < 2 ^ 128 → places ≤ 39
+    → length (decimal (n / 10 ^ places)) ≤ 40 - places
 whole_length n places few within =
     let split : 10 ^ (40 - places + places) ≡ 10 ^ (40 - places) * 10 ^ places = pow-add 10 (40 - places) places in
     let all : 10 ^ (40 - places + places) ≡ 10 ^ 40 =
@@ -51,7 +52,8 @@ whole_length n places few within =
     length-decimal-le_wide (40 - places) (n / 10 ^ places) (omega arith) below (omega (arith, below, most))
 
 -- the rest of it, with zeros
-pub padded_length : (n places : ℕ) → n < 2 ^ 128 → 0 < places → length (padded places (n % 10 ^ places)) ≡ places
+pub padded_length : (n places : ℕ) → n < 2 ^ 128 → 0 < places
+    → length (padded places (n % 10 ^ places)) ≡ places
 padded_length n places few some =
     let below : n % 10 ^ places < 10 ^ places = mod-lt n (power_pos 10 places (lit< tt)) in
     let rest : n % 10 ^ places ≤ n = mod-le n (10 ^ places) in
@@ -61,13 +63,16 @@ padded_length n places few some =
     ∙ omega (arith, zeros_are, digits)
 
 -- all of it, with a dot
-pub pointed_length : (n places : ℕ) → n < 2 ^ 128 → 0 < places → places ≤ 44 → length (pointed n places) ≤ 46
+pub pointed_length : (n places : ℕ) → n < 2 ^ 128 → 0 < places → places ≤ 44
+    → length (pointed n places) ≤ 46
 pointed_length n places few some within =
     let rest = padded_length n places few some in
     let dotted = length-append (codes ".") (padded places (n % 10 ^ places)) in
     let both = length-append (decimal (n / 10 ^ places)) (codes "." ++ padded places (n % 10 ^ places)) in
     ⊎_elim
-    (λ (small : places < 39). let whole = whole_length n places few (omega arith) in omega (arith, rest, dotted, both, whole))
+    (λ (small : places < 39).
+    let whole = whole_length n places few (omega arith) in
+    omega (arith, rest, dotted, both, whole))
     (λ (great : 39 ≤ places).
     let less = ten_great n places few (omega arith) in
     let zero_is = div-eq_of_lt less in
