@@ -3,3 +3,4 @@ pub mod ExponentWords
 pub mod WrittenAnswers
 pub mod ExportsOnce
 pub mod Lines
+pub mod TextsOnce

@@ -1,0 +1,71 @@
+-- The text of a value is determined by its bits: one code, and one text.
+use Rattle.std.proofs.Common.{◌≡◌, ℕ, zero, suc, ◌-◌, ◌<◌, Bool, List, ◌++◌, length, replicate, Err, Ok, Result, refl, sym, ap, ◌∙◌, arith}
+use Rattle.rustc_apfloat.specs.Datum.{Datum, finite, infinite, nan}
+use Rattle.rustc_apfloat.specs.Format.{Format}
+use Rattle.rustc_apfloat.specs.Lawful.{format_with}
+use Rattle.apfloat_decimals.specs.declared.decimal.Decimal.{Decimal}
+use Rattle.apfloat_decimals.specs.ShortestSearch.{IsShortestOf}
+use Rattle.apfloat_decimals.specs.Texts.{decimal_text}
+use Rattle.apfloat_decimals.proofs.OneShortest.{one_shortest}
+use Rattle.dispatch.specs.declared.BuiltInFormat.{BuiltInFormat}
+use Rattle.dispatch.specs.BuiltIns.{constants_in, known_format}
+use Rattle.dispatch.specs.ValueKinds.{value_of}
+use Rattle.apfloat_c.specs.declared.decimals.DecimalText.{DecimalText}
+use Rattle.apfloat_c.specs.Decimals.{IsShortestWritten, IsText, IsValueText}
+
+-- decimals with the same parts are one
+decimal_of_parts : (first second : Decimal) → first.negative ≡ second.negative → first.digits ≡ second.digits
+    → first.exponent ≡ second.exponent → first ≡ second
+decimal_of_parts a b negative digits exponent =
+    ap (λ (x : Bool). record { negative = x; digits = a.digits; exponent = a.exponent }) negative
+    ∙ ap (λ (n : ℕ). record { negative = b.negative; digits = n; exponent = a.exponent }) digits
+    ∙ ap (λ (e : _). record { negative = b.negative; digits = b.digits; exponent = e }) exponent
+
+-- a number has one shortest decimal
+one_decimal : (f : Format) (negative : Bool) (quanta : ℕ) (first second : Decimal) → 0 < f.precision
+    → IsShortestOf f negative quanta first → IsShortestOf f negative quanta second → first ≡ second
+one_decimal f negative zero a b some x y =
+    decimal_of_parts a b (x.sign ∙ sym y.sign) ((x.zero refl).0 ∙ sym (y.zero refl).0)
+    ((x.zero refl).1 ∙ sym (y.zero refl).1)
+one_decimal f negative (suc n) a b some x y =
+    let positive : 0 < suc n = omega arith in
+    let same = one_shortest f negative (suc n) a.digits b.digits a.exponent b.exponent some positive (x.some positive)
+    (y.some positive) in
+    decimal_of_parts a b (x.sign ∙ sym y.sign) same.0 same.1
+
+-- a value has one text
+one_text : (f : Format) (x : Datum) (first second : List ℕ) → 0 < f.precision
+    → IsValueText f x first → IsValueText f x second → first ≡ second
+one_text f (finite negative quanta) a b some x y =
+    x.1.1 ∙ ap (λ (d : Decimal). decimal_text d) (one_decimal f negative quanta x.0 y.0 some x.1.0 y.1.0) ∙ sym y.1.1
+one_text f (infinite negative) a b some x y = x ∙ sym y
+one_text f (nan negative significand) a b some x y = x ∙ sym y
+
+-- and a text fills the struct in one way
+one_struct : (written other : List ℕ) (first second : DecimalText) → written ≡ other
+    → IsText written first → IsText other second → first ≡ second
+one_struct written other a b same x y =
+    let filled = λ (text : List ℕ). text ++ replicate (64 - length text) 0 in
+    ap (λ (bytes : List ℕ). record { bytes = bytes; length = a.length })
+    (x.bytes_are ∙ ap filled same ∙ sym y.bytes_are)
+    ∙ ap (λ (n : ℕ). record { bytes = b.bytes; length = n })
+    (x.length_is ∙ ap (λ (text : List ℕ). length text) same ∙ sym y.length_is)
+
+-- a format of a built-in name has some digits
+some_precision : (format : BuiltInFormat) → 0 < (format_with (constants_in format)).precision
+some_precision format =
+    let law = (known_format format).lawful in
+    omega (arith, law.parameters.precision_low)
+
+-- two texts for the same arguments are one
+pub text_once : (format : Result BuiltInFormat ℕ) (bits : ℕ) (old first second : DecimalText) (code other : ℕ)
+    → IsShortestWritten format bits old first code → IsShortestWritten format bits old second other
+    → (code ≡ other) × (first ≡ second)
+text_once (Err error) bits old a b code other x y = (x.0 ∙ sym y.0, x.1 ∙ sym y.1)
+text_once (Ok format) bits old a b code other x y =
+    let f = format_with (constants_in format) in (
+      x.0 ∙ sym y.0,
+      one_struct x.1.written y.1.written a b
+          (one_text f (value_of (constants_in format) bits) x.1.written y.1.written (some_precision format)
+          x.1.is_text_of y.1.is_text_of) x.1.is_written y.1.is_written,
+    )
