@@ -21,6 +21,7 @@ pub mod ReadBacks
 pub mod Readings
 pub mod RoundedDecimals
 pub mod RoundedOrder
+pub mod ShortNumbers
 pub mod ShortestFound
 pub mod ShortestSearch
 pub mod ShortestSteps

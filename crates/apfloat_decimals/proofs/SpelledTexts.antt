@@ -172,6 +172,24 @@ same_fault text h =
     go false false false true x y h = refl
     go false false false false x y h = absurd (false≢true (sym h))
 
+-- otherwise the first fault is that of any text
+pub other_fault : (text : List ℕ) (fault : Fault)
+    → (not (is_empty (behind_mark text)) && not (begins_literal (behind_mark text))) ≡ false
+    → fault_of text ≡ Some fault → decimal_fault_of text ≡ Some fault
+other_fault [] fault h first = first
+other_fault (c ∷ text) fault h first =
+    go (is_empty (behind_mark (c ∷ text))) (is_some (special_of (c ∷ text)))
+    (begins_literal (behind_mark (c ∷ text)))
+    (behind_prefix_fault (drop 2 (behind_mark (c ∷ text)))) (body_fault (behind_mark (c ∷ text))) h first
+  where
+    go : (b s l : Bool) (x y : Option Fault) → (not b && not l) ≡ false
+        → cond b (Some LoneMark) (cond s None (cond (not l) (Some NoLiteral) x)) ≡ Some fault
+        → cond b (Some LoneMark) (cond s None (cond l x y)) ≡ Some fault
+    go true s l x y h first = first
+    go false true l x y h first = first
+    go false false true x y h first = first
+    go false false false x y h first = absurd (false≢true (sym h))
+
 -- in another text that is refused, it is that of what follows the sign
 pub plain_fault : (text : List ℕ) (fault other : Fault)
     → (not (is_empty (behind_mark text)) && not (begins_literal (behind_mark text))) ≡ true

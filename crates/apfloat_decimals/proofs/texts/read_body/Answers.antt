@@ -1,20 +1,19 @@
 use Rattle.std.specs.Int.{w128}
-use Rattle.std.proofs.Common.{◌++◌, length, drop, pos, ◌-ℤ◌}
+use Rattle.std.proofs.Common.{length, drop, pos, ◌-ℤ◌}
 use Rattle.apfloat_base.specs.texts.Literals.{exponent_number}
 use Rattle.std.proofs.lemmas.Int.{to_z-of_z}
 use Rattle.apfloat_base.specs.rounding.Flags.{bits_of}
-use Rattle.apfloat_base.specs.texts.Digits.{number}
 use Rattle.apfloat_ieee.specs.Types.{format_of}
 use Rattle.apfloat_texts.proofs.FaultsRead.{exponent_fits}
 use Rattle.apfloat_texts.proofs.Scanning.{refused_by}
 use Rattle.apfloat_decimals.proofs.SpelledTexts.{first_digits, fraction_digits, body_spelled, body_faulted}
 use Rattle.apfloat_decimals.proofs.texts.read_body.Goals as goal
 
-pub leading_of-requires-clause-whole : goal.leading_of-requires-clause-whole
-leading_of-requires-clause-whole g c = first_digits c.args.body.now _ c.split_digits.ensures.digits
+pub value_of-requires-clause-whole : goal.value_of-requires-clause-whole
+value_of-requires-clause-whole g c = first_digits c.args.body.now _ c.split_digits.ensures.digits
 
-pub leading_of-requires-clause-fraction : goal.leading_of-requires-clause-fraction
-leading_of-requires-clause-fraction g c =
+pub value_of-requires-clause-fraction : goal.value_of-requires-clause-fraction
+value_of-requires-clause-fraction g c =
     fraction_digits c.split_digits.result.1.now _ c.split_fraction.ensures.digits
 
 pub returns-in_err-exponent : goal.returns-in_err-exponent
@@ -34,9 +33,8 @@ returns g c =
     let exponent = to_z-of_z w128 c.in_ok-exponent.exponent (exponent_fits c.in_ok-exponent.exponent e.1) in
     let unit = to_z-of_z w128 c.unit_of-unit.result (record { sfits = c.unit_of-unit.type_inv }) in
     body_spelled (format_of g.S.Semantics) c.args.round c.args.negative c.args.body.now whole
-    c.split_digits.result.1.now fraction tail c.has_some.result c.delivered.result.value
-    (bits_of c.delivered.result.status) c.split_digits.ensures.digits c.split_digits.ensures.behind
+    c.split_digits.result.1.now fraction tail c.has_some.result c.value_of.result.value
+    (bits_of c.value_of.result.status) c.split_digits.ensures.digits c.split_digits.ensures.behind
     c.split_fraction.ensures.digits c.split_fraction.ensures.behind c.has_some.ensures e.2
-    (c.delivered.ensures (number 10 (whole ++ fraction)) (exponent_number (drop 1 tail) -ℤ pos (length fraction))
-    c.leading_of.ensures.leading
+    (c.value_of.ensures (exponent_number (drop 1 tail) -ℤ pos (length fraction))
     (rw unit (c.unit_of-unit.ensures.near (exponent_number (drop 1 tail)) (rw exponent e.0))))

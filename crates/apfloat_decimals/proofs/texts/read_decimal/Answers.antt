@@ -1,15 +1,26 @@
 use Rattle.std.proofs.Common.{sym}
-use Rattle.apfloat_decimals.proofs.SpelledTexts.{plain_fault}
+use Rattle.apfloat_decimals.proofs.SpelledTexts.{other_fault, plain_fault}
 use Rattle.apfloat_decimals.proofs.texts.read_decimal.Goals as goal
 
-pub returns-in-Err-read_body : goal.returns-in-Err-read_body
-returns-in-Err-read_body g c =
-    let refused = c.in-Err.ensures in
+pub returns-then-not-is_plain : goal.returns-then-not-is_plain
+returns-then-not-is_plain g c =
+    let refused = c.in-Err-from_str_r.ensures in
     let behind = rw c.as_bytes.ensures.value at c.split_mark-mark.ensures.behind in
     let plain = rw behind at c.if-not-is_plain.ensures in
-    let body = rw behind at c.in-Err-read_body.ensures in
     record {
-      fault = c.in-Err-read_body.fault;
-      is_first = plain_fault c.args.text.now c.in-Err-read_body.fault refused.fault (sym plain) refused.is_first body;
+      fault = refused.fault;
+      is_first = other_fault c.args.text.now refused.fault (sym plain) refused.is_first;
+      says = refused.says;
+    }
+
+pub returns-else-not-is_plain : goal.returns-else-not-is_plain
+returns-else-not-is_plain g c =
+    let refused = c.in-Err-from_str_r.ensures in
+    let behind = rw c.as_bytes.ensures.value at c.split_mark-mark.ensures.behind in
+    let plain = rw behind at c.if-not-is_plain.ensures in
+    let body = rw behind at c.in-Err.ensures in
+    record {
+      fault = c.in-Err.fault;
+      is_first = plain_fault c.args.text.now c.in-Err.fault refused.fault (sym plain) refused.is_first body;
       says = c.refusal.ensures;
     }
