@@ -1,5 +1,5 @@
 -- Values that are read back from decimals, by what the contracts say of decimals.
-use Rattle.std.proofs.Common.{◌≡◌, Bool, true, false, refl, ⊎_elim, eqb, Result, Ok, Err, None}
+use Rattle.std.proofs.Common.{◌≡◌, true, false, refl, ⊎_elim, eqb, Result, Ok, Err, None}
 use Rattle.std.proofs.lemmas.Bool.{cases_Bool}
 use Rattle.std.specs.Result.{IsOkAnd}
 use Rattle.apfloat_base.specs.formats.Datum.{Datum, finite, infinite, nan}

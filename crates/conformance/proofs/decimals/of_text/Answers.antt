@@ -1,4 +1,4 @@
-use Rattle.std.proofs.Common.{◌≡◌, List, ℕ, ap, sym, subst, arith}
+use Rattle.std.proofs.Common.{arith}
 use Rattle.std.proofs.lemmas.Int.{ints}
 use Rattle.apfloat_decimals.specs.Parsing.{Spells}
 use Rattle.apfloat_decimals.specs.ReadBack.{IsStoredDecimal, written}
