@@ -59,10 +59,10 @@ fn check<S: Semantics>(rt: &impl Abort, fields: Fields, bits: u128)
     requires fraction { fields.fraction_bits < 64 }
 {
     let x = S::from_bits(bits);
-    same(rt, S::to_bits(x), bits, Bits(bits));
-    same(rt, x.category(), category_of(fields, bits), Bits(bits));
     let unsigned = fields.exponent_bits + fields.fraction_bits;
-    same(rt, x.is_negative(), bits >= 1 << unsigned, Bits(bits));
+    let got = (S::to_bits(x), x.category(), x.is_negative());
+    let expected = (bits, category_of(fields, bits), bits >= 1 << unsigned);
+    same(rt, got, expected, Bits(bits));
     for above in [0, 1 << (unsigned + 1), u128::MAX << (unsigned + 1)] {
         let value: IeeeFloat<S> = Float::from_bits(bits | above);
         same(rt, value.to_bits(), bits, (Bits(bits), Bits(above)));

@@ -13,7 +13,7 @@ use rustc_apfloat::{Category, ExpInt, Float};
 use std::process::Abort;
 
 /// The bits of a format's named values.
-#[derive(Clone, Copy, PartialEq, Eq, Debug)]
+#[derive(Clone, Copy)]
 struct Named {
     smallest: u128,
     smallest_normalized: u128,
@@ -25,20 +25,23 @@ struct Named {
 fn check<S: Semantics>(rt: &impl Abort, format: &str, named: Named)
     requires { S.PRECISION < S.BITS }
 {
-    same(rt, IeeeFloat::<S>::zero().to_bits(), 0, (format, "zero"));
-    same(
-        rt,
+    let got = [
+        IeeeFloat::<S>::zero().to_bits(),
         IeeeFloat::<S>::default().to_bits(),
+        IeeeFloat::<S>::smallest().to_bits(),
+        IeeeFloat::<S>::smallest_normalized().to_bits(),
+        IeeeFloat::<S>::largest().to_bits(),
+        IeeeFloat::<S>::infinity().to_bits(),
+    ];
+    let expected = [
         0,
-        (format, "default"),
-    );
-    let got = Named {
-        smallest: IeeeFloat::<S>::smallest().to_bits(),
-        smallest_normalized: IeeeFloat::<S>::smallest_normalized().to_bits(),
-        largest: IeeeFloat::<S>::largest().to_bits(),
-        infinity: IeeeFloat::<S>::infinity().to_bits(),
-    };
-    same(rt, got, named, format);
+        0,
+        named.smallest,
+        named.smallest_normalized,
+        named.largest,
+        named.infinity,
+    ];
+    same(rt, got, expected, format);
 }
 
 #[test]
@@ -90,26 +93,25 @@ fn named_values(rt: HostRuntime) {
 /// For a type without bits, only the categories can be checked here.
 #[test]
 fn named_values_without_bits(rt: HostRuntime) {
-    for (value, category, name) in [
-        (Least::zero(), Category::Zero, "zero"),
-        (Least::default(), Category::Zero, "default"),
-        (Least::smallest(), Category::Normal, "smallest"),
-        (
-            Least::smallest_normalized(),
-            Category::Normal,
-            "smallest normalized",
-        ),
-        (Least::largest(), Category::Normal, "largest"),
-        (Least::infinity(), Category::Infinity, "infinity"),
-    ] {
-        same(&rt, value.category(), category, name);
-    }
-    same(
-        &rt,
-        Least::default().is_negative(),
-        false,
-        "sign of the default",
-    );
+    let default = Least::default();
+    let got = [
+        Least::zero().category(),
+        default.category(),
+        Least::smallest().category(),
+        Least::smallest_normalized().category(),
+        Least::largest().category(),
+        Least::infinity().category(),
+    ];
+    let expected = [
+        Category::Zero,
+        Category::Zero,
+        Category::Normal,
+        Category::Normal,
+        Category::Normal,
+        Category::Infinity,
+    ];
+    same(&rt, got, expected, "categories");
+    same(&rt, default.is_negative(), false, "sign of the default");
 }
 
 /// The constants of a format as the trait `Float` gives them.
@@ -124,104 +126,84 @@ fn constants<S: Semantics>() -> (usize, usize, ExpInt, ExpInt) {
 
 #[test]
 fn constants_of_types(rt: HostRuntime) {
-    same(&rt, constants::<HalfS>(), (16, 11, -14, 15), "half");
-    same(&rt, constants::<SingleS>(), (32, 24, -126, 127), "single");
-    same(&rt, constants::<DoubleS>(), (64, 53, -1022, 1023), "double");
-    same(&rt, constants::<SevenS>(), (7, 4, -1, 4), "seven");
-    same(&rt, constants::<LeastS>(), (0, 3, -1, 3), "least");
+    let got = [
+        constants::<HalfS>(),
+        constants::<SingleS>(),
+        constants::<DoubleS>(),
+        constants::<SevenS>(),
+        constants::<LeastS>(),
+    ];
+    let expected = [
+        (16, 11, -14, 15),
+        (32, 24, -126, 127),
+        (64, 53, -1022, 1023),
+        (7, 4, -1, 4),
+        (0, 3, -1, 3),
+    ];
+    same(&rt, got, expected, "half, single, double, seven, least");
 }
 
-/// The constants of a format that `Float` does not have.
-#[derive(Clone, Copy, PartialEq, Eq, Debug)]
-struct Rules {
-    exp_bits: usize,
-    ieee_max_exp: ExpInt,
-    ieee_min_exp: ExpInt,
-    nonfinite: NonfiniteBehavior,
-    nan_base: u128,
-    nan_payloads: u128,
-    quiet_nan: u128,
-    explicit_integer_bit: bool,
-    tiny_before_rounding: bool,
-}
+/// The constants of a format that `Float` does not have: the bits of the exponent, the greatest and the least exponent
+/// of IEEE 754, the kind of values past the largest, the significands of NaNs (what all have, where payloads are, and
+/// that of the quiet one), and whether it writes the integer bit and decides tininess before rounding.
+type Rules = (usize, [ExpInt; 2], NonfiniteBehavior, [u128; 3], [bool; 2]);
 
 fn rules_of<S: Semantics>() -> Rules {
-    Rules {
-        exp_bits: S::EXP_BITS,
-        ieee_max_exp: S::IEEE_MAX_EXP,
-        ieee_min_exp: S::IEEE_MIN_EXP,
-        nonfinite: S::NONFINITE_BEHAVIOR,
-        nan_base: S::NAN_SIGNIFICAND_BASE,
-        nan_payloads: S::NAN_PAYLOAD_MASK,
-        quiet_nan: S::QNAN_SIGNIFICAND,
-        explicit_integer_bit: S::EXPLICIT_INTEGER_BIT,
-        tiny_before_rounding: S::TINY_BEFORE_ROUNDING,
-    }
+    (
+        S::EXP_BITS,
+        [S::IEEE_MAX_EXP, S::IEEE_MIN_EXP],
+        S::NONFINITE_BEHAVIOR,
+        [
+            S::NAN_SIGNIFICAND_BASE,
+            S::NAN_PAYLOAD_MASK,
+            S::QNAN_SIGNIFICAND,
+        ],
+        [S::EXPLICIT_INTEGER_BIT, S::TINY_BEFORE_ROUNDING],
+    )
 }
 
 /// The wide formats of pairs differ only in the least exponent.
 #[test]
 fn constants_of_wide_formats(rt: HostRuntime) {
-    same(
-        &rt,
-        constants::<FallbackS>(),
-        (0, 106, -969, 1023),
-        "fallback",
-    );
-    same(
-        &rt,
-        constants::<FallbackExtendedS>(),
-        (0, 106, -1022, 1023),
-        "extended fallback",
-    );
-    let wide = Rules {
-        exp_bits: 0,
-        ieee_max_exp: 0,
-        ieee_min_exp: 0,
-        nonfinite: NonfiniteBehavior::IEEE754,
-        nan_base: 0,
-        nan_payloads: 0x1ffffffffffffffffffffffffff,
-        quiet_nan: 0x100000000000000000000000000,
-        explicit_integer_bit: false,
-        tiny_before_rounding: false,
-    };
-    same(&rt, rules_of::<FallbackS>(), wide, "fallback");
-    same(
-        &rt,
-        rules_of::<FallbackExtendedS>(),
-        wide,
-        "extended fallback",
-    );
+    let got = [constants::<FallbackS>(), constants::<FallbackExtendedS>()];
+    let expected = [(0, 106, -969, 1023), (0, 106, -1022, 1023)];
+    same(&rt, got, expected, "fallback, extended fallback");
+    let nans = [
+        0,
+        0x1ffffffffffffffffffffffffff,
+        0x100000000000000000000000000,
+    ];
+    let wide = (0, [0, 0], NonfiniteBehavior::IEEE754, nans, [false, false]);
+    let got = [rules_of::<FallbackS>(), rules_of::<FallbackExtendedS>()];
+    same(&rt, got, [wide, wide], "fallback, extended fallback");
 }
 
 #[test]
 fn constants_of_aliases(rt: HostRuntime) {
-    same(&rt, (Double::BITS, Double::PRECISION), (64, 53), "double");
-    same(&rt, (Quad::BITS, Quad::PRECISION), (128, 113), "quad");
-    same(&rt, (BFloat::BITS, BFloat::PRECISION), (16, 8), "bfloat");
-    same(
-        &rt,
+    let got = [
+        (Double::BITS, Double::PRECISION),
+        (Quad::BITS, Quad::PRECISION),
+        (BFloat::BITS, BFloat::PRECISION),
         (Float8E5M2::BITS, Float8E5M2::PRECISION),
-        (8, 3),
-        "e5m2",
-    );
+    ];
+    let expected = [(64, 53), (128, 113), (16, 8), (8, 3)];
+    same(&rt, got, expected, "double, quad, bfloat, e5m2");
 }
 
 /// The largest value of each.
 #[test]
 fn largest_of_aliases(rt: HostRuntime) {
-    same(
-        &rt,
+    let got = [
         Double::largest().to_bits(),
-        0x7fefffffffffffff,
-        "double",
-    );
-    same(
-        &rt,
         Quad::largest().to_bits(),
+        BFloat::largest().to_bits(),
+        Float8E5M2::largest().to_bits(),
+    ];
+    let expected = [
+        0x7fefffffffffffff,
         0x7ffeffffffffffffffffffffffffffff,
-        "quad",
-    );
-    same(&rt, BFloat::largest().to_bits(), 0x7f7f, "bfloat");
-    same(&rt, Float8E5M2::largest().to_bits(), 0x7b, "e5m2");
+        0x7f7f,
+        0x7b,
+    ];
+    same(&rt, got, expected, "double, quad, bfloat, e5m2");
 }

@@ -89,8 +89,9 @@ fn nearest<S: Semantics>(number: u128) -> StatusAnd<IeeeFloat<S>>
 
 #[test]
 fn whole_numbers_in_binary16(rt: HostRuntime) {
-    same(&rt, bits_of(464), Status::OK.and(0x5f40), 464);
-    same(&rt, bits_of(2049), Status::INEXACT.and(0x6800), 2049);
+    let got = [bits_of(464), bits_of(2049)];
+    let expected = [Status::OK.and(0x5f40), Status::INEXACT.and(0x6800)];
+    same(&rt, got, expected, "464 and 2049");
 }
 
 #[test]
@@ -98,46 +99,52 @@ fn sums_in_binary16(rt: HostRuntime) {
     let one = Half::from_bits(0x3c00);
     let third = Half::from_bits(0x3555);
     let answer = one + third;
-    same(&rt, answer.value.to_bits(), 0x3d55, "value");
-    same(&rt, answer.status, Status::INEXACT, "status");
     let above = one.add_r(third, Round::TowardPositive);
-    same(&rt, above.value.to_bits(), 0x3d56, "upward");
+    let got = (answer.value.to_bits(), answer.status, above.value.to_bits());
+    same(
+        &rt,
+        got,
+        (0x3d55, Status::INEXACT, 0x3d56),
+        "nearest, upward",
+    );
 }
 
 #[test]
 fn whole_numbers_in_a_format_of_a_users_own(rt: HostRuntime) {
     let nearest = Eight::from_u128(250);
-    same(&rt, nearest.value.to_bits(), 0x78, "nearest");
-    same(
-        &rt,
-        nearest.status,
-        Status::OVERFLOW.union(Status::INEXACT),
-        "status of the nearest",
-    );
-
     let below = Eight::from_u128_r(250, Round::TowardZero);
-    same(&rt, below.value.to_bits(), 0x77, "toward zero");
-    same(&rt, below.status, Status::INEXACT, "status toward zero");
+    let got = [
+        (nearest.value.to_bits(), nearest.status),
+        (below.value.to_bits(), below.status),
+    ];
+    let overflow = Status::OVERFLOW.union(Status::INEXACT);
+    let expected = [(0x78, overflow), (0x77, Status::INEXACT)];
+    same(&rt, got, expected, "nearest, toward zero");
 }
 
 #[test]
 fn nearest_whole_numbers(rt: HostRuntime) {
     let answer = nearest::<EightS>(9);
-    same(&rt, answer.value.to_bits(), 0x51, "value");
-    same(&rt, answer.status, Status::OK, "status");
+    same(
+        &rt,
+        (answer.value.to_bits(), answer.status),
+        (0x51, Status::OK),
+        9,
+    );
 }
 
 #[test]
 fn statuses_of_two_answers(rt: HostRuntime) {
     let mut status;
     let above = unpack!(status =, Half::from_u128_r(2049, Round::TowardPositive));
-    same(&rt, status, Status::INEXACT, "of the first");
+    let of_first = status;
     let infinite = unpack!(status |=, above * Half::from_bits(0x7bff));
+    let got = (of_first, status, infinite.is_infinite());
+    let of_both = Status::OVERFLOW.union(Status::INEXACT);
     same(
         &rt,
-        status,
-        Status::OVERFLOW.union(Status::INEXACT),
-        "of both",
+        got,
+        (Status::INEXACT, of_both, true),
+        "of the first, of both",
     );
-    assert!(rt; infinite.is_infinite());
 }

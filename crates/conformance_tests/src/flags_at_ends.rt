@@ -4,6 +4,7 @@
 
 ghost use Rattle.std.specs.Prelude.{◌^◌, ◌<◌, ◌≤◌};
 
+use crate::asserts::{Bits, same};
 use crate::small::{
     Class, Expected, Operand, Small, bits_of, decoded, layout_of, product, quotient, sum,
 };
@@ -88,7 +89,7 @@ fn check<S: Flagged>(
         bits: answer.value.to_bits(),
         status: answer.status.bits(),
     };
-    assert_eq!(rt; answer, expected, "{x:x} {operation} {y:x}");
+    same(rt, answer, expected, (Bits(x), operation, Bits(y)));
 }
 
 /// The sum, the product and the quotient of two bit patterns. Results of infinities and NaNs are not rounded, and have

@@ -3,6 +3,7 @@
 
 ghost use Rattle.std.specs.Prelude.{◌^◌, ◌<◌};
 
+use crate::asserts::{Bits, same};
 use crate::small::{
     Class, Small, decoded, layout_of, magnitude_bits, patterns_of, quieted, sign_bit,
 };
@@ -14,7 +15,7 @@ use rustc_apfloat::{ExpInt, Float, IEK_INF, IEK_NAN, IEK_ZERO, Round};
 use std::process::Abort;
 
 /// The bits of a fraction, and its exponent.
-#[derive(Clone, Copy, Debug, PartialEq, Eq)]
+#[derive(Clone, Copy)]
 struct Fraction {
     bits: u128,
     exponent: ExpInt,
@@ -69,14 +70,15 @@ fn check<S: Semantics>(rt: &impl Abort, format: Small, mode: Round, bits: u128)
     let x: IeeeFloat<S> = S::from_bits(bits);
     let mut exponent = 0;
     let fraction = x.frexp_r(&mut exponent, mode);
-    let got = Fraction {
-        bits: fraction.to_bits(),
-        exponent,
-    };
-    assert_eq!(rt; got, expected(format, bits), "{bits:x} {mode:?}");
-    assert_eq!(rt; x.ilogb(), logarithm(format, bits, exponent), "{bits:x}");
     let whole = fraction.scalbn_r(exponent, mode);
-    assert_eq!(rt; whole.to_bits(), quieted(format, bits), "{bits:x} {mode:?}");
+    let got = ([fraction.to_bits(), whole.to_bits()], [exponent, x.ilogb()]);
+    let fraction = expected(format, bits);
+    let logarithm = logarithm(format, bits, exponent);
+    let expected = (
+        [fraction.bits, quieted(format, bits)],
+        [fraction.exponent, logarithm],
+    );
+    same(rt, got, expected, (Bits(bits), mode));
 }
 
 /// Every bit pattern of a format, in each mode.

@@ -3,6 +3,7 @@
 
 ghost use Rattle.std.specs.Prelude.{◌<◌};
 
+use crate::asserts::{Bits, same};
 use crate::small::{Small, answered, integral, patterns_of};
 use crate::tables::MODES;
 use rustc_apfloat::Float;
@@ -18,7 +19,7 @@ fn check_all<S: Semantics>(rt: &impl Abort, format: Small)
         let x = S::from_bits(bits);
         for mode in MODES {
             let answer = answered(x.round_to_integral(mode));
-            assert_eq!(rt; answer, integral(format, mode, bits), "{bits:x} {mode:?}");
+            same(rt, answer, integral(format, mode, bits), (Bits(bits), mode));
         }
     }
 }

@@ -18,55 +18,68 @@ use rustc_apfloat::ieee::{IeeeFloat, NonfiniteBehavior, Semantics};
 use rustc_apfloat::{Float, Status};
 use std::process::Abort;
 
-/// A value at a limit of a format, or next to one.
+/// A value at a limit of a format.
 #[derive(Clone, Copy)]
 enum Limit {
     Zero,
-    Quantum,
-    TwoQuanta,
-    LargestDenormal,
+    Smallest,
     SmallestNormalized,
-    AboveSmallestNormalized,
     One,
-    BelowLargest,
     Largest,
     Infinity,
     QuietNan,
     SignalingNan,
 }
 
-const LIMITS: [Limit; 12] = [
-    Limit::Zero,
-    Limit::Quantum,
-    Limit::TwoQuanta,
-    Limit::LargestDenormal,
-    Limit::SmallestNormalized,
-    Limit::AboveSmallestNormalized,
-    Limit::One,
-    Limit::BelowLargest,
-    Limit::Largest,
-    Limit::Infinity,
-    Limit::QuietNan,
-    Limit::SignalingNan,
+/// Whether a value is a limit, or the next one above or below.
+#[derive(Clone, Copy)]
+enum Side {
+    At,
+    Above,
+    Below,
+}
+
+/// A value at a limit, or next to one.
+type Place = (Limit, Side);
+
+const PLACES: [Place; 12] = [
+    (Limit::Zero, Side::At),
+    (Limit::Smallest, Side::At),
+    (Limit::Smallest, Side::Above),
+    (Limit::SmallestNormalized, Side::Below),
+    (Limit::SmallestNormalized, Side::At),
+    (Limit::SmallestNormalized, Side::Above),
+    (Limit::One, Side::At),
+    (Limit::Largest, Side::Below),
+    (Limit::Largest, Side::At),
+    (Limit::Infinity, Side::At),
+    (Limit::QuietNan, Side::At),
+    (Limit::SignalingNan, Side::At),
 ];
 
 const SIGNS: [bool; 2] = [false, true];
 
-/// The value of a limit with this sign.
-fn value_at<S: Semantics>(limit: Limit, negative: bool) -> IeeeFloat<S> {
-    let x = match limit {
-        Limit::Zero => IeeeFloat::<S>::zero(),
-        Limit::Quantum => IeeeFloat::smallest(),
-        Limit::TwoQuanta => IeeeFloat::smallest().next_up().value,
-        Limit::LargestDenormal => IeeeFloat::smallest_normalized().next_down().value,
+/// The positive value of a limit.
+fn limit_of<S: Semantics>(limit: Limit) -> IeeeFloat<S> {
+    match limit {
+        Limit::Zero => IeeeFloat::zero(),
+        Limit::Smallest => IeeeFloat::smallest(),
         Limit::SmallestNormalized => IeeeFloat::smallest_normalized(),
-        Limit::AboveSmallestNormalized => IeeeFloat::smallest_normalized().next_up().value,
         Limit::One => IeeeFloat::from_u128(1).value,
-        Limit::BelowLargest => IeeeFloat::largest().next_down().value,
         Limit::Largest => IeeeFloat::largest(),
         Limit::Infinity => IeeeFloat::infinity(),
         Limit::QuietNan => IeeeFloat::nan(),
         Limit::SignalingNan => IeeeFloat::snan(None),
+    }
+}
+
+/// The value of a place with this sign.
+fn value_at<S: Semantics>((limit, side): Place, negative: bool) -> IeeeFloat<S> {
+    let x = limit_of::<S>(limit);
+    let x = match side {
+        Side::At => x,
+        Side::Above => x.next_up().value,
+        Side::Below => x.next_down().value,
     };
     if negative { -x } else { x }
 }
@@ -165,7 +178,7 @@ fn check_bits<S: Semantics>(rt: &impl Abort, x: IeeeFloat<S>)
 
 /// The laws on one, two and three values that hold in every format.
 fn check_laws<S: Semantics>(rt: &impl Abort) {
-    for left in LIMITS {
+    for left in PLACES {
         for left_sign in SIGNS {
             let x = value_at::<S>(left, left_sign);
             check_steps(rt, x);
@@ -177,11 +190,11 @@ fn check_laws<S: Semantics>(rt: &impl Abort) {
 
 /// The laws on two and three values, with `x` as the first.
 fn check_laws_beside<S: Semantics>(rt: &impl Abort, x: IeeeFloat<S>) {
-    for right in LIMITS {
+    for right in PLACES {
         for right_sign in SIGNS {
             let y = value_at::<S>(right, right_sign);
             check_difference(rt, x, y);
-            for third in LIMITS {
+            for third in PLACES {
                 check_sums(rt, x, y, value_at::<S>(third, false));
                 check_sums(rt, x, y, value_at::<S>(third, true));
             }
@@ -193,8 +206,8 @@ fn check_laws_beside<S: Semantics>(rt: &impl Abort, x: IeeeFloat<S>) {
 fn check_products<S: Semantics>(rt: &impl Abort)
     requires { S.PRECISION ≤ 64 }
 {
-    for left in LIMITS {
-        for right in LIMITS {
+    for left in PLACES {
+        for right in PLACES {
             for negative in SIGNS {
                 let x = value_at::<S>(left, negative);
                 check_product(rt, x, value_at::<S>(right, false));
@@ -208,9 +221,9 @@ fn check_products<S: Semantics>(rt: &impl Abort)
 fn check_values_and_bits<S: Semantics>(rt: &impl Abort)
     requires { S.PRECISION < S.BITS }
 {
-    for limit in LIMITS {
+    for place in PLACES {
         for negative in SIGNS {
-            check_bits(rt, value_at::<S>(limit, negative));
+            check_bits(rt, value_at::<S>(place, negative));
         }
     }
 }

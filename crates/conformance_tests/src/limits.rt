@@ -90,36 +90,34 @@ fn check_rows<S: Semantics>(rt: &impl Abort, rows: &[Row]) {
 
 /// The order of the ends of a format, and its minima and maxima.
 fn check_ends<S: Semantics>(rt: &impl Abort) {
-    assert!(rt; IeeeFloat::<S>::zero() < IeeeFloat::<S>::smallest());
-    assert!(rt; IeeeFloat::<S>::smallest() < IeeeFloat::<S>::smallest_normalized());
-    assert!(rt; IeeeFloat::<S>::smallest_normalized() < IeeeFloat::<S>::largest());
-    assert!(rt;
-        IeeeFloat::<S>::smallest()
-            .min(IeeeFloat::<S>::largest())
-            .bitwise_eq(IeeeFloat::<S>::smallest())
-    );
-    assert!(rt;
-        IeeeFloat::<S>::smallest()
-            .maximum(IeeeFloat::<S>::largest())
-            .bitwise_eq(IeeeFloat::<S>::largest())
-    );
-    assert!(rt; IeeeFloat::<S>::smallest().is_denormal());
-    assert!(rt; IeeeFloat::<S>::smallest_normalized().is_normal());
+    let smallest = IeeeFloat::<S>::smallest();
+    let normalized = IeeeFloat::<S>::smallest_normalized();
+    let largest = IeeeFloat::<S>::largest();
+    let holds = [
+        IeeeFloat::<S>::zero() < smallest,
+        smallest < normalized,
+        normalized < largest,
+        smallest.min(largest).bitwise_eq(smallest),
+        smallest.maximum(largest).bitwise_eq(largest),
+        smallest.is_denormal(),
+        normalized.is_normal(),
+    ];
+    same(rt, holds, [true; 7], "ends");
 }
 
 /// The bits of 1, of the largest value and of the value past it.
 fn check_bits<S: Semantics>(rt: &impl Abort, one: u128, largest: u128, past: u128)
     requires { S.PRECISION < S.BITS }
 {
-    same(rt, IeeeFloat::<S>::from_u128(1).value.to_bits(), one, "1");
-    same(rt, IeeeFloat::<S>::largest().to_bits(), largest, "largest");
-    same(
-        rt,
+    let greatest = IeeeFloat::<S>::largest();
+    let got = [
+        IeeeFloat::<S>::from_u128(1).value.to_bits(),
+        greatest.to_bits(),
         IeeeFloat::<S>::infinity().to_bits(),
-        past,
-        "past the largest",
-    );
-    assert!(rt; IeeeFloat::<S>::from_bits(largest).bitwise_eq(IeeeFloat::<S>::largest()));
+    ];
+    same(rt, got, [one, largest, past], "bits");
+    let is_read_back = IeeeFloat::<S>::from_bits(largest).bitwise_eq(greatest);
+    same(rt, is_read_back, true, "largest");
 }
 
 #[test]

@@ -2,6 +2,7 @@
 
 ghost use Rattle.std.specs.Prelude.{◌<◌};
 
+use crate::asserts::same;
 use crate::tables::{AWAY, DOWN, EVEN, INEXACT, OK, OVERFLOW_INEXACT, UNDERFLOW_INEXACT, UP, ZERO};
 use rustc_apfloat::ieee::{Half, HalfS, Semantics};
 use rustc_apfloat::{Flags, Float, Round};
@@ -45,6 +46,14 @@ static ROWS: [Row; 22] = [
     ("0x1p+", "0", 99, "1", EVEN, 0x4000, OK),
 ];
 
+/// The bits of a text's value and the bits of the status, or the words of the refusal.
+fn read(text: &str, mode: Round) -> Result<(u128, u8), &'static str> {
+    match Half::from_str_r(text, mode) {
+        Ok(answer) => Ok((HalfS::to_bits(answer.value), answer.status.bits())),
+        Err(error) => Err(error.0),
+    }
+}
+
 #[test]
 fn long_texts(rt: HostRuntime) -> Result<(), Fail> {
     for (front, digit, count, back, mode, value, flags) in &ROWS {
@@ -53,13 +62,12 @@ fn long_texts(rt: HostRuntime) -> Result<(), Fail> {
             text.push_str(*digit)?;
         }
         text.push_str(*back)?;
-        match Half::from_str_r(text.as_str(), *mode) {
-            Ok(answer) => {
-                assert_eq!(rt; HalfS::to_bits(answer.value), *value, "{front}..{back}");
-                assert_eq!(rt; answer.status.bits(), *flags, "{front}..{back}");
-            }
-            Err(error) => assert_eq!(rt; error.0, "", "{front}..{back}"),
-        }
+        same(
+            &rt,
+            read(text.as_str(), *mode),
+            Ok((*value, *flags)),
+            (*front, *back),
+        );
     }
     Ok(())
 }

@@ -3,6 +3,7 @@
 
 ghost use Rattle.std.specs.Prelude.{◌<◌};
 
+use crate::asserts::{Bits, same};
 use crate::small::{
     Class, Expected, Layout, Small, answered, decoded, exactly, is_nan, layout_of, past_bits,
     patterns_of, signals,
@@ -61,11 +62,11 @@ fn check_all<S: Semantics>(rt: &impl Abort, format: Small)
     for pattern in 0..patterns_of(format) {
         let bits = u128::from(pattern);
         let x = S::from_bits(bits);
-        assert_eq!(rt; answered(x.next_up()), step(format, bits, true), "{bits:x}");
-        assert_eq!(rt;
-            answered(x.next_down()),
-            step(format, bits, false),
-            "{bits:x}"
+        same(
+            rt,
+            (answered(x.next_up()), answered(x.next_down())),
+            (step(format, bits, true), step(format, bits, false)),
+            Bits(bits),
         );
     }
 }
@@ -79,7 +80,7 @@ fn check_back<S: Semantics>(rt: &impl Abort, format: Small)
         let bits = u128::from(pattern);
         let x = S::from_bits(bits);
         if x.is_finite_non_zero() {
-            assert_eq!(rt; up_and_down(x).to_bits(), bits, "{bits:x}");
+            same(rt, up_and_down(x).to_bits(), bits, Bits(bits));
         }
     }
 }

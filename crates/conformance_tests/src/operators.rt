@@ -2,6 +2,7 @@
 
 ghost use Rattle.std.specs.Prelude.{◌<◌, ◌≤◌};
 
+use crate::asserts::{Bits, same};
 use crate::tables::{DIV_BY_ZERO, INEXACT, INVALID_OP, OK, OVERFLOW_INEXACT, UNDERFLOW_INEXACT};
 use rustc_apfloat::ieee::{
     DoubleS, Float8E4M3FN, Float8E4M3FNS, Float8E4M3FNUZ, Half, HalfS, IeeeFloat, Semantics,
@@ -65,21 +66,16 @@ fn operators(rt: HostRuntime) {
         let x = HalfS::from_bits(*left);
         let y = HalfS::from_bits(*right);
         let answer = answer_of(*operator, x, y);
-        assert_eq!(rt;
-            answer.value.to_bits(),
-            *value,
-            "{operator:?} {left:x} {right:x}"
-        );
-        assert_eq!(rt;
-            answer.status.bits(),
-            *flags,
-            "{operator:?} {left:x} {right:x}"
-        );
         let changed = assigned(*operator, x, y);
-        assert_eq!(rt;
-            changed.to_bits(),
-            *value,
-            "{operator:?} {left:x} {right:x}"
+        same(
+            &rt,
+            (
+                answer.value.to_bits(),
+                answer.status.bits(),
+                changed.to_bits(),
+            ),
+            (*value, *flags, *value),
+            (*operator, Bits(*left), Bits(*right)),
         );
     }
 }
@@ -121,8 +117,8 @@ fn check_fused<S: Semantics>(rt: &impl Abort, rows: &[Fused])
 {
     for (x, y, z, value, flags) in rows {
         let answer = S::from_bits(*x).mul_add(S::from_bits(*y), S::from_bits(*z));
-        assert_eq!(rt; answer.value.to_bits(), *value, "{x:x} {y:x} {z:x}");
-        assert_eq!(rt; answer.status.bits(), *flags, "{x:x} {y:x} {z:x}");
+        let got = (answer.value.to_bits(), answer.status.bits());
+        same(rt, got, (*value, *flags), (Bits(*x), Bits(*y), Bits(*z)));
     }
 }
 
@@ -145,51 +141,67 @@ fn converted<S: Semantics, T: Semantics>(bits: u128) -> (u128, u8, bool)
 
 #[test]
 fn conversions(rt: HostRuntime) {
-    assert_eq!(rt;
+    let got = [
         converted::<SingleS, HalfS>(0x7fa00000),
-        (0x7f00, INVALID_OP, false)
-    );
-    assert_eq!(rt;
         converted::<SingleS, Float8E4M3FNS>(0x7f800000),
-        (0x7f, INEXACT, true)
-    );
-    assert_eq!(rt;
         converted::<Float8E4M3FNS, HalfS>(0x7f),
-        (0x7f80, OK, false)
-    );
-    assert_eq!(rt;
         converted::<X87DoubleExtendedS, DoubleS>(0x7fffa000000000000000),
-        (0x7ffc000000000000, INVALID_OP, true)
-    );
+    ];
+    let expected = [
+        (0x7f00, INVALID_OP, false),
+        (0x7f, INEXACT, true),
+        (0x7f80, OK, false),
+        (0x7ffc000000000000, INVALID_OP, true),
+    ];
+    same(&rt, got, expected, "conversions");
 }
 
 #[test]
 fn powers_of_two(rt: HostRuntime) {
     let least = HalfS::from_bits(0x0001);
-    assert_eq!(rt; least.scalbn(ExpInt::MAX).to_bits(), 0x7c00);
-    assert_eq!(rt; HalfS::from_bits(0x0003).scalbn(-1).to_bits(), 0x0002);
     let mut exponent = 0;
-    assert_eq!(rt; least.frexp(&mut exponent).to_bits(), 0x3800);
-    assert_eq!(rt; exponent, -23);
+    let got = [
+        least.scalbn(ExpInt::MAX).to_bits(),
+        HalfS::from_bits(0x0003).scalbn(-1).to_bits(),
+        least.frexp(&mut exponent).to_bits(),
+    ];
+    same(
+        &rt,
+        (got, exponent),
+        ([0x7c00, 0x0002, 0x3800], -23),
+        "powers",
+    );
 }
 
 #[test]
 fn whole_numbers_out(rt: HostRuntime) {
     let largest = SingleS::from_bits(0x7f7fffff).to_u128(128);
-    assert_eq!(rt; largest.value, 340282346638528859811704183484516925440);
-    assert_eq!(rt; largest.status.bits(), OK);
     let two = SingleS::from_bits(0x40000000).to_u128(1);
-    assert_eq!(rt; two.value, 1);
-    assert_eq!(rt; two.status.bits(), INVALID_OP);
+    same(
+        &rt,
+        [
+            (largest.value, largest.status.bits()),
+            (two.value, two.status.bits()),
+        ],
+        [
+            (340282346638528859811704183484516925440, OK),
+            (1, INVALID_OP),
+        ],
+        "the largest and 2",
+    );
 }
 
 #[test]
 fn quiet_nans(rt: HostRuntime) {
-    assert_eq!(rt; Half::nan().to_bits(), 0x7e00);
-    assert_eq!(rt; Single::nan().to_bits(), 0x7fc00000);
-    assert_eq!(rt; Float8E4M3FN::nan().to_bits(), 0x7f);
-    assert_eq!(rt; Float8E4M3FNUZ::nan().to_bits(), 0x80);
-    assert_eq!(rt; X87DoubleExtended::nan().to_bits(), 0x7fffc000000000000000);
+    let got = [
+        Half::nan().to_bits(),
+        Single::nan().to_bits(),
+        Float8E4M3FN::nan().to_bits(),
+        Float8E4M3FNUZ::nan().to_bits(),
+        X87DoubleExtended::nan().to_bits(),
+    ];
+    let expected = [0x7e00, 0x7fc00000, 0x7f, 0x80, 0x7fffc000000000000000];
+    same(&rt, got, expected, "NaNs");
 }
 
 /// The bits of a text's value, or the words of the refusal.
@@ -204,14 +216,21 @@ fn parsed<S: Semantics>(text: &str) -> Result<u128, &'static str>
 
 #[test]
 fn parsed_texts(rt: HostRuntime) {
-    assert_eq!(rt; parsed::<HalfS>("0x1.8p-1"), Ok(0x3a00));
-    assert_eq!(rt; parsed::<HalfS>("0x1.ffep+15"), Ok(0x7c00));
-    assert_eq!(rt; parsed::<SingleS>("nan(0x2a)"), Ok(0x7fc0002a));
-    assert_eq!(rt;
+    let got = [
+        parsed::<HalfS>("0x1.8p-1"),
+        parsed::<HalfS>("0x1.ffep+15"),
+        parsed::<SingleS>("nan(0x2a)"),
         parsed::<HalfS>("0x1"),
-        Err("Hex strings require an exponent")
-    );
-    assert_eq!(rt; parsed::<SingleS>(""), Err("Invalid string length"));
+        parsed::<SingleS>(""),
+    ];
+    let expected = [
+        Ok(0x3a00),
+        Ok(0x7c00),
+        Ok(0x7fc0002a),
+        Err("Hex strings require an exponent"),
+        Err("Invalid string length"),
+    ];
+    same(&rt, got, expected, "texts");
 }
 
 /// Neither status has the flags of the other, and the last has none.
@@ -219,15 +238,20 @@ fn parsed_texts(rt: HostRuntime) {
 fn joins_statuses(rt: HostRuntime) {
     let mut status;
     let first: u8 = unpack!(status =, Status::INVALID_OP.union(Status::UNDERFLOW).and(1));
-    assert_eq!(rt; status.bits(), 0x09);
+    let of_first = status.bits();
     let second: u8 = unpack!(status |=, Status::OVERFLOW.union(Status::INEXACT).and(2));
-    assert_eq!(rt; status.bits(), 0x1d);
+    let of_two = status.bits();
     let third: u8 = unpack!(status |=, Status::OK.and(3));
-    assert_eq!(rt; status.bits(), 0x1d);
-    assert_eq!(rt; (first, second, third), (1, 2, 3));
+    let of_three = status.bits();
     let fourth: u8 = unpack!(status =, Status::DIV_BY_ZERO.and(4));
-    assert_eq!(rt; status.bits(), 0x02);
-    assert_eq!(rt; fourth, 4);
+    let of_fourth = status.bits();
+    same(
+        &rt,
+        [of_first, of_two, of_three, of_fourth],
+        [0x09, 0x1d, 0x1d, 0x02],
+        "statuses",
+    );
+    same(&rt, [first, second, third, fourth], [1, 2, 3, 4], "values");
 }
 
 /// The two statuses share a flag and each has one of its own, so no two operators give the same result.
@@ -235,19 +259,28 @@ fn joins_statuses(rt: HostRuntime) {
 fn operators_of_statuses(rt: HostRuntime) {
     let left = Status::INVALID_OP | Status::INEXACT;
     let right = Status::INEXACT | Status::OVERFLOW;
-    assert_eq!(rt; (left.bits(), right.bits()), (0x11, 0x14));
-    assert_eq!(rt; (left | right).bits(), 0x15);
-    assert_eq!(rt; (left & right).bits(), 0x10);
-    assert_eq!(rt; (left ^ right).bits(), 0x05);
-    assert_eq!(rt; (left - right).bits(), 0x01);
-    assert_eq!(rt; (!left).bits(), 0x0e);
+    same(&rt, [left.bits(), right.bits()], [0x11, 0x14], "operands");
+    let got = [
+        (left | right).bits(),
+        (left & right).bits(),
+        (left ^ right).bits(),
+        (left - right).bits(),
+        (!left).bits(),
+    ];
+    same(&rt, got, [0x15, 0x10, 0x05, 0x01, 0x0e], "operators");
     let mut status = left;
     status |= right;
-    assert_eq!(rt; status.bits(), 0x15);
+    let joined = status.bits();
     status &= right;
-    assert_eq!(rt; status.bits(), 0x14);
+    let common = status.bits();
     status ^= left;
-    assert_eq!(rt; status.bits(), 0x05);
+    let in_one = status.bits();
     status -= right;
-    assert_eq!(rt; status.bits(), 0x01);
+    let rest = status.bits();
+    same(
+        &rt,
+        [joined, common, in_one, rest],
+        [0x15, 0x14, 0x05, 0x01],
+        "assigned",
+    );
 }

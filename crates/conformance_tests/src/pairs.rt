@@ -1,5 +1,6 @@
 //! Sums of doubles as pairs.
 
+use crate::asserts::same;
 use conformance::pairs::{exact_sum, sum_of_three};
 use rustc_apfloat::Float;
 use rustc_apfloat::ieee::Double;
@@ -10,14 +11,21 @@ fn exact_sums(rt: HostRuntime) {
         Double::from_bits(0x3fb9_9999_9999_999a),
         Double::from_bits(0x3fc9_9999_9999_999a),
     );
-    assert_eq!(rt; third.to_bits(), 0xbc80_0000_0000_0000_3fd3_3333_3333_3334);
+    same(
+        &rt,
+        third.to_bits(),
+        0xbc80_0000_0000_0000_3fd3_3333_3333_3334,
+        "third",
+    );
     let farthest = exact_sum(
         Double::from_bits(0x3ff0_0000_0000_0000),
         Double::from_bits(0x0000_0000_0000_0001),
     );
-    assert_eq!(rt;
+    same(
+        &rt,
         farthest.to_bits(),
-        0x0000_0000_0000_0001_3ff0_0000_0000_0000
+        0x0000_0000_0000_0001_3ff0_0000_0000_0000,
+        "farthest",
     );
 }
 
@@ -28,14 +36,21 @@ fn sums_of_three(rt: HostRuntime) {
         Double::from_bits(0x3c30_0000_0000_0000),
         Double::from_bits(0x3910_0000_0000_0000),
     );
-    assert_eq!(rt; exact.to_bits(), 0x3c30_0000_0000_0004_3ff0_0000_0000_0000);
+    same(
+        &rt,
+        exact.to_bits(),
+        0x3c30_0000_0000_0004_3ff0_0000_0000_0000,
+        "exact",
+    );
     let rounded = sum_of_three(
         Double::from_bits(0x3fd5_5555_5555_5555),
         Double::from_bits(0x3c85_5555_5555_5555),
         Double::from_bits(0x3b75_5555_5555_5555),
     );
-    assert_eq!(rt;
+    same(
+        &rt,
         rounded.to_bits(),
-        0xbc75_5540_0000_0001_3fd5_5555_5555_5556
+        0xbc75_5540_0000_0001_3fd5_5555_5555_5556,
+        "rounded",
     );
 }

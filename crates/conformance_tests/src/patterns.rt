@@ -2,6 +2,7 @@
 
 ghost use Rattle.std.specs.Prelude.{◌<◌};
 
+use crate::asserts::{Bits, same};
 use rustc_apfloat::Float;
 use rustc_apfloat::ieee::{BFloatS, Float8E4M3FNS, Float8E4M3FNUZS, Float8E5M2S, HalfS, Semantics};
 use std::process::Abort;
@@ -13,8 +14,9 @@ fn check_bits<S: Semantics>(rt: &impl Abort, patterns: u64)
     for pattern in 0..patterns {
         let bits = u128::from(pattern);
         let x = S::from_bits(bits);
-        assert_eq!(rt; S::to_bits(x), bits, "{bits:x}");
-        assert!(rt; S::from_bits(S::to_bits(x)).bitwise_eq(x), "{bits:x}");
+        let written = S::to_bits(x);
+        let is_read_back = S::from_bits(written).bitwise_eq(x);
+        same(rt, (written, is_read_back), (bits, true), Bits(bits));
     }
 }
 
@@ -23,8 +25,8 @@ fn check_sign<S: Semantics>(rt: &impl Abort, bits: u128, turned: u128)
     requires { S.PRECISION < S.BITS }
 {
     let negated = -S::from_bits(bits);
-    assert_eq!(rt; S::to_bits(negated), turned, "{bits:x}");
-    assert_eq!(rt; S::to_bits(-negated), bits, "{bits:x}");
+    let got = (S::to_bits(negated), S::to_bits(-negated));
+    same(rt, got, (turned, bits), Bits(bits));
 }
 
 /// Every bit pattern of a format, with its sign changed.

@@ -3,6 +3,7 @@
 
 ghost use Rattle.std.specs.Prelude.{◌^◌, ◌<◌};
 
+use crate::asserts::{Bits, same};
 use crate::small::{
     Class, Expected, Small, answered, bits_of, decoded, kept, layout_of, patterns_of,
 };
@@ -72,7 +73,7 @@ fn check_all<S: Semantics>(rt: &impl Abort, format: Small)
         let x = S::from_bits(bits);
         for mode in MODES {
             let answer = answered(x.sqrt_r(mode));
-            assert_eq!(rt; answer, root(format, mode, bits), "{bits:x} {mode:?}");
+            same(rt, answer, root(format, mode, bits), (Bits(bits), mode));
         }
     }
 }

@@ -8,7 +8,7 @@ use conformance::plain::{Answer, Bounds, deliver, whole};
 use rustc_apfloat::ieee::{IeeeFloat, NonfiniteBehavior, Semantics};
 use rustc_apfloat::{Flags, Float, Round, StatusAnd};
 
-#[derive(Clone, Copy, Debug)]
+#[derive(Clone, Copy)]
 pub enum Small {
     Half,
     Float8E5M2,
@@ -110,7 +110,7 @@ pub fn patterns_of(format: Small) -> u64 {
     }
 }
 
-#[derive(Clone, Copy, Debug)]
+#[derive(Clone, Copy)]
 pub enum Class {
     Number,
     Infinity,
@@ -118,7 +118,7 @@ pub enum Class {
 }
 
 /// What a bit pattern means; `quanta` is 0 unless it is a number.
-#[derive(Clone, Copy, Debug)]
+#[derive(Clone, Copy)]
 pub struct Operand {
     pub class: Class,
     pub negative: bool,

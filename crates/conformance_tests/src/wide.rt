@@ -1,5 +1,6 @@
 //! Products and fused sums of more digits than one word has. The expected bits were computed with exact fractions.
 
+use crate::asserts::{Bits, same};
 use crate::tables::{INEXACT, OK, UNDERFLOW_INEXACT};
 use custom_formats::PreciseS;
 use rustc_apfloat::ieee::{IeeeFloat, Quad};
@@ -8,14 +9,14 @@ use std::process::Abort;
 
 fn check_product(rt: &impl Abort, left: u128, right: u128, bits: u128, flags: u8) {
     let product = Quad::from_bits(left).wide_mul(Quad::from_bits(right));
-    assert_eq!(rt; product.value.to_bits(), bits, "{left:x} * {right:x}");
-    assert_eq!(rt; product.status.bits(), flags, "{left:x} * {right:x}");
+    let got = (product.value.to_bits(), product.status.bits());
+    same(rt, got, (bits, flags), (Bits(left), Bits(right)));
 }
 
 fn check_fused_sum(rt: &impl Abort, x: u128, y: u128, z: u128, bits: u128, flags: u8) {
     let sum = Quad::from_bits(x).wide_mul_add(Quad::from_bits(y), Quad::from_bits(z));
-    assert_eq!(rt; sum.value.to_bits(), bits, "{x:x} * {y:x} + {z:x}");
-    assert_eq!(rt; sum.status.bits(), flags, "{x:x} * {y:x} + {z:x}");
+    let got = (sum.value.to_bits(), sum.status.bits());
+    same(rt, got, (bits, flags), (Bits(x), Bits(y), Bits(z)));
 }
 
 #[test]
@@ -82,6 +83,6 @@ fn fused_sum_below_the_denormals_of_125_digits(rt: HostRuntime) {
     let three = quantum.wide_mul(IeeeFloat::from_u128(3).value).value;
     let half = (IeeeFloat::from_u128(1).value / IeeeFloat::from_u128(2).value).value;
     let sum = five.wide_mul_add(-half, three);
-    assert_eq!(rt; sum.status.bits(), UNDERFLOW_INEXACT);
-    assert!(rt; sum.value.is_zero());
+    let got = (sum.status.bits(), sum.value.is_zero());
+    same(&rt, got, (UNDERFLOW_INEXACT, true), "half a quantum");
 }

@@ -2,6 +2,7 @@
 
 ghost use Rattle.std.specs.Prelude.{◌<◌, ◌≤◌};
 
+use crate::asserts::{Bits, same};
 use crate::small::{
     Class, Expected, Operand, Small, answered, decoded, exactly, is_nan, kept, layout_of,
     patterns_of, quieted,
@@ -29,12 +30,19 @@ fn check<S: Semantics, W: Semantics>(rt: &impl Abort, patterns: u64, quiet: u128
         };
         let mut loses_info = true;
         let wide: StatusAnd<IeeeFloat<W>> = x.convert_r(EVEN, &mut loses_info);
-        assert_eq!(rt; wide.status.bits(), flags, "{bits:x}");
-        assert!(rt; !loses_info, "{bits:x}");
+        same(
+            rt,
+            (wide.status.bits(), loses_info),
+            (flags, false),
+            Bits(bits),
+        );
         let narrow: StatusAnd<IeeeFloat<S>> = wide.value.convert_r(EVEN, &mut loses_info);
-        assert_eq!(rt; narrow.value.to_bits(), back, "{bits:x}");
-        assert_eq!(rt; narrow.status.bits(), OK, "{bits:x}");
-        assert!(rt; !loses_info, "{bits:x}");
+        same(
+            rt,
+            (answered(narrow), loses_info),
+            (exactly(back), false),
+            Bits(bits),
+        );
     }
 }
 
@@ -159,15 +167,19 @@ fn check_small<S: Semantics, W: Semantics>(rt: &impl Abort, format: Small, wide:
             let there: StatusAnd<IeeeFloat<W>> = x.convert_r(mode, &mut loses_info);
             let wide_value = there.value;
             let expected = widened(format, wide, bits);
-            assert_eq!(rt; answered(there), expected, "{bits:x} {mode:?}");
-            assert!(rt; !loses_info, "{bits:x} {mode:?}");
+            same(
+                rt,
+                (answered(there), loses_info),
+                (expected, false),
+                (Bits(bits), mode),
+            );
             let back: StatusAnd<IeeeFloat<S>> = wide_value.convert_r(mode, &mut loses_info);
-            let expected = exactly(quieted(format, bits));
-            assert_eq!(rt; answered(back), expected, "{bits:x} {mode:?}");
-            assert_eq!(rt;
-                loses_info,
-                loses_payload(format, bits),
-                "{bits:x} {mode:?}"
+            let expected = (exactly(quieted(format, bits)), loses_payload(format, bits));
+            same(
+                rt,
+                (answered(back), loses_info),
+                expected,
+                (Bits(bits), mode),
             );
         }
     }

@@ -1,5 +1,6 @@
 //! Products and fused sums of the widest formats that have them.
 
+use crate::asserts::same;
 use conformance::widest::{square, square_and_itself};
 use rustc_apfloat::ieee::IeeeFloat;
 use rustc_apfloat::{Float, Round, Status};
@@ -8,10 +9,11 @@ use rustc_apfloat::{Float, Round, Status};
 fn products_of_64_digits(rt: HostRuntime) {
     let x = IeeeFloat::from_u128((1 << 40) + 1).value;
     let above = square(x, Round::TowardPositive);
-    assert_eq!(rt; above.status, Status::INEXACT);
-    assert_eq!(rt;
-        above.value.to_u128(128).value,
-        (1 << 80) + (1 << 41) + (1 << 17)
+    same(
+        &rt,
+        (above.status, above.value.to_u128(128).value),
+        (Status::INEXACT, (1 << 80) + (1 << 41) + (1 << 17)),
+        "2^40 + 1",
     );
 }
 
@@ -19,6 +21,10 @@ fn products_of_64_digits(rt: HostRuntime) {
 fn fused_sums_of_63_digits(rt: HostRuntime) {
     let x = IeeeFloat::from_u128((1 << 40) + 1).value;
     let nearest = square_and_itself(x, Round::NearestTiesToEven);
-    assert_eq!(rt; nearest.status, Status::INEXACT);
-    assert_eq!(rt; nearest.value.to_u128(128).value, (1 << 80) + (3 << 40));
+    same(
+        &rt,
+        (nearest.status, nearest.value.to_u128(128).value),
+        (Status::INEXACT, (1 << 80) + (3 << 40)),
+        "2^40 + 1",
+    );
 }
