@@ -170,7 +170,8 @@ no_named_nan : (negative : Bool) (c : ℕ) (rest : List ℕ) → c ≤ 57 → na
 no_named_nan negative c rest l =
     cond-false (is_nan_name (take 3 (c ∷ rest))) (with_payload negative false (payload_of (drop 3 (c ∷ rest)))) None
     (or_from (same (c ∷ take 2 rest) (codes "nan")) (same (c ∷ take 2 rest) (codes "NaN"))
-    (differs c 110 (take 2 rest) (codes "an") l (omega arith)) (differs c 78 (take 2 rest) (codes "aN") l (omega arith)))
+    (differs c 110 (take 2 rest) (codes "an") l (omega arith))
+    (differs c 78 (take 2 rest) (codes "aN") l (omega arith)))
 
 no_signaling : (c : ℕ) → c ≤ 57 → is_s c ≡ false
 no_signaling c l = or_from (eqb c 115) (eqb c 83) (ne_eqb c 115 (λ e. omega arith)) (ne_eqb c 83 (λ e. omega arith))

@@ -30,7 +30,8 @@ record IsNumber (n : ℕ) (digits : List ℕ) : Type 0 where
   number_is : number 10 digits ≡ n
 
 digit_is : (d : ℕ) → d < 10 → is_decimal (48 + d) ≡ true
-digit_is d l = and_from (leb 48 (48 + d)) (leb (48 + d) 57) (le-leb 48 (48 + d) (omega arith)) (le-leb (48 + d) 57 (omega arith))
+digit_is d l =
+    and_from (leb 48 (48 + d)) (leb (48 + d) 57) (le-leb 48 (48 + d) (omega arith)) (le-leb (48 + d) 57 (omega arith))
 
 digit_number : (n d : ℕ) → d < 10 → number_from n ((48 + d) ∷ []) ≡ n * 10 + d
 digit_number n d l =
@@ -49,7 +50,8 @@ more_digits : (n : ℕ) (digits : List ℕ) → 10 ≤ n → IsNumber (n / 10) d
 more_digits n digits l x =
     let d : n % 10 < 10 = omega arith in
     record {
-      are_digits = append-every is_decimal digits ((48 + n % 10) ∷ []) x.are_digits (single_digit (n % 10) d).are_digits;
+      are_digits = append-every is_decimal digits ((48 + n % 10) ∷ []) x.are_digits
+          (single_digit (n % 10) d).are_digits;
       some = let e = length_more digits (48 + n % 10) in omega arith;
       number_is = number_joined digits ((48 + n % 10) ∷ []) 0
           ∙ digit_number (number_from 0 digits) (n % 10) d
@@ -68,7 +70,8 @@ after n (c ∷ digits) =
     let e : 10 ^ (length digits + 1) ≡ 10 ^ length digits * 10 = pow-add 10 (length digits) 1 in
     let e' : 10 ^ length (c ∷ digits) ≡ 10 ^ length digits * 10 = rw add-one at e in
     after (n * 10 + digit_value c) digits
-    ∙ rw e' (grown n (digit_value c) (10 ^ length digits) (number_from 0 digits) (number_from (0 * 10 + digit_value c) digits)
+    ∙ rw e' (grown n (digit_value c) (10 ^ length digits) (number_from 0 digits)
+    (number_from (0 * 10 + digit_value c) digits)
     (after (0 * 10 + digit_value c) digits))
   where
     grown : (n d p r s : ℕ) → s ≡ (0 * 10 + d) * p + r → (n * 10 + d) * p + r ≡ n * (p * 10) + s
@@ -242,7 +245,8 @@ plain_whole : (n : ℕ) (e : ℤ) → n < 2 ^ 128 → is_plain n e ≡ true → 
 plain_whole n e few plain whole =
     let none : down e ≡ 0 = eqb-true (down e) 0 whole in
     let high = leb-true (up e + length (decimal n)) (down e + 21)
-    (and_parts (leb (down e) (up e + length (decimal n) + 5)) (leb (up e + length (decimal n)) (down e + 21)) plain).1 in
+    (and_parts (leb (down e) (up e + length (decimal n) + 5)) (leb (up e + length (decimal n)) (down e + 21))
+    plain).1 in
     let small : n * 10 ^ (up e + 1) < 2 ^ 128 = times_ten_small n (up e) few (omega arith) in
     let text = pointed (n * 10 ^ (up e + 1)) 1 in
     let none = append_none text in
@@ -281,7 +285,8 @@ scientific n e few low high =
         rw none (begun n n e (101 ∷ signed_decimal first) (decimal n ++ (101 ∷ signed_decimal first)) few refl
         (rw (sym unit) (undotted n (101 ∷ signed_decimal first) first few written)))
     go (inr some) first written same =
-        let places : 0 < length (decimal n) - 1 = below (length (decimal n) - 1) (eqb-false (length (decimal n) - 1) 0 some) in
+        let places : 0 < length (decimal n) - 1 =
+        below (length (decimal n) - 1) (eqb-false (length (decimal n) - 1) 0 some) in
         rw some (begun_dotted n (length (decimal n) - 1) (101 ∷ signed_decimal first) first e few places written same)
       where
         below : (m : ℕ) → (m ≡ 0 → ⊥) → 0 < m

@@ -23,4 +23,5 @@ returns g c =
     ok_and c.read_decimal.result _ (λ answer. answer.value ≡ c.args.x)
     (λ answer delivered.
     c.shortest_reads_back.ensures f c.args.x d (written d).digits (written d).exponent answer.value
-    (bits_of answer.status) (omega (arith, g.S.Semantics.lawful.parameters.precision_low)) c.category.ensures.member c.requires.shortest (facts.number d) delivered) read
+    (bits_of answer.status) (omega (arith, g.S.Semantics.lawful.parameters.precision_low))
+    c.category.ensures.member c.requires.shortest (facts.number d) delivered) read
