@@ -4,7 +4,8 @@
     python3 evidence/checksums.py | diff - crates/bench/stdout
 
 A line has a kind of values, an operation, a set of operands, and a checksum of 1024 results in
-each mode, or one checksum if the operation has no mode.
+each mode, or one checksum if the operation has no mode. Below a heading are the operations that
+the Rust crate does not have.
 """
 
 from multiprocessing import Pool
@@ -29,25 +30,41 @@ ARITHMETIC = {
     "rem": lambda kind, mode, x, y, z: kind.nearest_remainder(x, y),
     "mod": lambda kind, mode, x, y, z: kind.truncated_remainder(x, y),
 }
+FURTHER = {
+    "sqrt": lambda kind, mode, x, y, z: kind.square_root(kind.absolute(x), mode),
+    "wide_mul": lambda kind, mode, x, y, z: kind.multiply(x, y, mode),
+    "wide_fma": lambda kind, mode, x, y, z: kind.multiply_add(x, y, z, mode),
+}
+CALCULATIONS = ARITHMETIC | FURTHER
+FURTHER_HEADING = (
+    "Square roots of magnitudes, and products and fused sums in formats of any precision:"
+)
 CONVERSIONS = {"conv:half": HALF, "conv:single": SINGLE, "conv:double": DOUBLE}
 OPERATIONS = (*ARITHMETIC, *CONVERSIONS, "toint", "int", "parse", "bits")
+ONLY_OF_FORMATS = (*CONVERSIONS, "wide_mul", "wide_fma")
 WITHOUT_MODE = ("rem", "mod", "toint", "bits")
 SETS = ("normal", "denormal")
 
 
 def main():
     """Prints all lines; each is computed by a process of its own."""
-    kinds = [*(known.name for known in PROGRAM_FORMATS), PAIRS.name]
+    with Pool() as pool:
+        print_lines(pool, OPERATIONS)
+        print(FURTHER_HEADING, flush=True)
+        print_lines(pool, FURTHER)
+
+
+def print_lines(pool, operations):
+    """Prints the lines of some operations, in each kind of values that has them."""
     tasks = [
         (kind, operation, operands)
-        for kind in kinds
-        for operation in OPERATIONS
+        for kind in (*(known.name for known in PROGRAM_FORMATS), PAIRS.name)
+        for operation in operations
         for operands in SETS
         if has_operation(kind, operation)
     ]
-    with Pool() as pool:
-        for line in pool.imap(line_of, tasks):
-            print(line, flush=True)
+    for line in pool.imap(line_of, tasks):
+        print(line, flush=True)
 
 
 def kind_named(name):
@@ -61,7 +78,7 @@ def has_operation(name, operation):
         return kind_named(name).multiplies
     if operation == "fma":
         return kind_named(name).multiplies_and_adds
-    return operation not in CONVERSIONS or name != PAIRS.name
+    return operation not in ONLY_OF_FORMATS or name != PAIRS.name
 
 
 def line_of(task):
@@ -94,7 +111,7 @@ def results(name, operation, operands, mode):
                 value, flags, _ = convert(kind.format, target, x, mode)
                 yield written(VALUES[target.name], (value, flags))
             else:
-                yield written(kind, ARITHMETIC[operation](kind, mode, x, y, z))
+                yield written(kind, CALCULATIONS[operation](kind, mode, x, y, z))
 
 
 def written(kind, result):

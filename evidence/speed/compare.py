@@ -1,12 +1,14 @@
 #!/usr/bin/env python3
-"""Times the library, the Rust crate and LLVM on the same operands, and prints tables.
+"""Times the library, the Rust crate, LLVM and others on the same operands, and prints tables.
 
     python3 evidence/speed/compare.py --crate FILE.rlib [--llvm LLVM_CONFIG] [--rounds N]
+    python3 evidence/speed/compare.py --roots [--rounds N]
 
 The library is the program `bench`, which `rt run` builds in crates/bench. FILE.rlib is the Rust
 crate as rustc or cargo built it, with the libraries that it needs next to it or in `deps`.
-LLVM_CONFIG is the program `llvm-config` of LLVM 14. Each cell has the fastest of N rounds; a
-round runs the library, and then the others cell by cell.
+LLVM_CONFIG is the program `llvm-config` of LLVM 14. With --roots, square roots, and products and
+fused sums in formats of any precision, are timed against MPFR and the libraries of GCC. Each cell
+has the fastest of N rounds; a round runs the library, and then the others cell by cell.
 """
 
 import argparse
@@ -32,6 +34,7 @@ def main():
     parser.add_argument("--library", default=ROOT / "crates" / "bench" / "out" / "bench")
     parser.add_argument("--crate", type=Path, help="the Rust crate, as an rlib")
     parser.add_argument("--llvm", help="llvm-config of LLVM 14")
+    parser.add_argument("--roots", action="store_true", help="against MPFR and the libraries of GCC")
     parser.add_argument("--rounds", type=int, default=8)
     arguments = parser.parse_args()
     with tempfile.TemporaryDirectory() as folder:
@@ -66,6 +69,14 @@ def built(arguments, folder):
              HERE / "llvm_bench.cpp", *options[1], *options[2]],
             check=True,
         )
+    if arguments.roots:
+        peers = {"MPFR": ["-lmpfr", "-lgmp"], "GCC": ["-DQUADMATH", "-lquadmath"]}
+        for name, options in peers.items():
+            others[name] = folder / name
+            subprocess.run(
+                ["gcc", "-O2", "-o", others[name], HERE / "peers_bench.c", *options, "-lm"],
+                check=True,
+            )
     return others
 
 
@@ -81,9 +92,10 @@ def measured(arguments, others, folder):
             for name, program in others.items():
                 run = subprocess.run([program, *cell[:2], file], capture_output=True, text=True)
                 if run.returncode == 0:
-                    time, checksum = run.stdout.split()
+                    time, *checksum = run.stdout.split()
                     keep_least(times, name, cell, float(time))
-                    sums.setdefault(name, {})[cell] = checksum
+                    if checksum:
+                        sums.setdefault(name, {})[cell] = checksum[0]
     return times, sums
 
 

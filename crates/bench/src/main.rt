@@ -24,6 +24,7 @@ mod operation;
 mod pairs;
 mod report;
 mod task;
+mod wide_numbers;
 
 use crate::growth::print_growth;
 use crate::report::{print_checksums, print_times};

@@ -7,6 +7,7 @@ use crate::measure::{Measured, Rounds, for_each, in_rounds};
 use crate::operands::{Source, drawn_bits, drawn_integers, drawn_texts};
 use crate::operation::Operation;
 use crate::task::{Task, room};
+use crate::wide_numbers::wide_arithmetic;
 use rustc_apfloat::ieee::{DoubleS, HalfS, IeeeFloat, Semantics, SingleS};
 use rustc_apfloat::{Float, FloatConvert, Round, Status, StatusAnd};
 use std::alloc::{AllocError, Global};
@@ -15,7 +16,7 @@ use std::rt::Clock;
 use std::time::Instant;
 
 /// The operands of a call.
-type Operands<S> = [IeeeFloat<S>; 3];
+pub type Operands<S> = [IeeeFloat<S>; 3];
 
 /// The measurements of an operation in a format, or `None` if the format does not have it.
 pub fn measured_in<S: Semantics>(
@@ -34,6 +35,9 @@ pub fn measured_in<S: Semantics>(
         Operation::FromInteger => integers_in::<S>(rt, task)?,
         Operation::Reading => readings::<S>(rt, task)?,
         Operation::Bits => bits_both_ways::<S>(rt, task)?,
+        Operation::SquareRoot | Operation::WideProduct | Operation::WideFusedSum => {
+            wide_arithmetic::<S>(rt, task)?
+        }
         _ => arithmetic::<S>(rt, task)?,
     };
     Ok(Some(known))
@@ -178,7 +182,7 @@ fn read_and_write<S: Semantics>(operands: &[[u128; 3]], answers: &mut [StatusAnd
 }
 
 /// The values of drawn operands.
-fn values<S: Semantics>(alloc: Global, task: Task) -> Result<Vec<Operands<S>>, AllocError>
+pub fn values<S: Semantics>(alloc: Global, task: Task) -> Result<Vec<Operands<S>>, AllocError>
     requires { S.PRECISION < S.BITS }
 {
     let source = Source::Number(Encoding::of::<S>());

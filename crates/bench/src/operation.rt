@@ -31,9 +31,15 @@ pub enum Operation {
     Reading,
     /// From bits to a value, and back.
     Bits,
+    /// The square root of a magnitude.
+    SquareRoot,
+    /// The product of two numbers in a format of any precision.
+    WideProduct,
+    /// The product of two numbers plus a third one in a format of any precision.
+    WideFusedSum,
 }
 
-/// All operations that are measured.
+/// The operations that the Rust crate has too.
 pub static OPERATIONS: [Operation; 14] = [
     Operation::Sum,
     Operation::Difference,
@@ -49,6 +55,13 @@ pub static OPERATIONS: [Operation; 14] = [
     Operation::FromInteger,
     Operation::Reading,
     Operation::Bits,
+];
+
+/// The operations that it does not have.
+pub static FURTHER_OPERATIONS: [Operation; 3] = [
+    Operation::SquareRoot,
+    Operation::WideProduct,
+    Operation::WideFusedSum,
 ];
 
 impl Operation {
@@ -69,6 +82,9 @@ impl Operation {
             Operation::FromInteger => "int",
             Operation::Reading => "parse",
             Operation::Bits => "bits",
+            Operation::SquareRoot => "sqrt",
+            Operation::WideProduct => "wide_mul",
+            Operation::WideFusedSum => "wide_fma",
         }
     }
 

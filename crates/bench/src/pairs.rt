@@ -20,6 +20,7 @@ type Operands = [DoubleDouble; 3];
 pub fn measured_pairs(rt: &(impl Clock + AllocGlobal), task: Task) -> io::Result<Option<Measured>> {
     let known = match task.operation {
         Operation::FusedSum => return Ok(None),
+        Operation::WideProduct | Operation::WideFusedSum => return Ok(None),
         Operation::ToHalf | Operation::ToSingle | Operation::ToDouble => return Ok(None),
         Operation::ToInteger => integers_out(rt, task)?,
         Operation::FromInteger => integers_in(rt, task)?,
@@ -50,6 +51,7 @@ fn calculate(task: Task, operands: &[Operands], answers: &mut [StatusAnd<DoubleD
         Operation::Quotient => for_each!(operands, answers, x => x[0].div_r(x[1], mode)),
         Operation::NearestRemainder => for_each!(operands, answers, x => x[0].ieee_rem(x[1])),
         Operation::TruncatedRemainder => for_each!(operands, answers, x => x[0].c_fmod(x[1])),
+        Operation::SquareRoot => for_each!(operands, answers, x => x[0].abs().sqrt_r(mode)),
         _ => {}
     }
 }

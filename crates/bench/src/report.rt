@@ -3,7 +3,7 @@
 use crate::kind::measured;
 use crate::nanoseconds::Nanoseconds;
 use crate::operand_set::OperandSet;
-use crate::operation::{OPERATIONS, Operation};
+use crate::operation::{FURTHER_OPERATIONS, OPERATIONS, Operation};
 use crate::task::Task;
 use dispatch::{BUILT_IN_KINDS, BuiltInKind};
 use rustc_apfloat::Round;
@@ -23,17 +23,33 @@ const TABLE_HEAD: &str =
     "| | add | sub | mul | div | fma | rem | mod | conv:half | conv:single | conv:double | toint | int | parse | bits |\n\
     |---|---|---|---|---|---|---|---|---|---|---|---|---|---|---|";
 
+const FURTHER_HEADING: &str =
+    "Square roots of magnitudes, and products and fused sums in formats of any precision:";
+
+const FURTHER_TABLE_HEAD: &str = "| | sqrt | wide_mul | wide_fma |\n|---|---|---|---|";
+
 /// Prints the checksums of all operations in all types.
 pub fn print_checksums(rt: &(impl Clock + Print + AllocGlobal)) -> io::Result<()> {
+    print_sums(rt, &OPERATIONS)?;
+    println!(rt; "{FURTHER_HEADING}")?;
+    print_sums(rt, &FURTHER_OPERATIONS)
+}
+
+/// Prints the checksums of some operations in all types.
+fn print_sums(rt: &(impl Clock + Print + AllocGlobal), operations: &[Operation]) -> io::Result<()> {
     for kind in BUILT_IN_KINDS.iter() {
-        print_lines(rt, *kind)?;
+        print_lines(rt, *kind, operations)?;
     }
     Ok(())
 }
 
 /// Prints the lines of a type.
-fn print_lines(rt: &(impl Clock + Print + AllocGlobal), kind: BuiltInKind) -> io::Result<()> {
-    for operation in OPERATIONS.iter() {
+fn print_lines(
+    rt: &(impl Clock + Print + AllocGlobal),
+    kind: BuiltInKind,
+    operations: &[Operation],
+) -> io::Result<()> {
+    for operation in operations.iter() {
         print_line(rt, kind, *operation, OperandSet::Normal)?;
         print_line(rt, kind, *operation, OperandSet::Denormal)?;
     }
@@ -84,16 +100,34 @@ fn sums_of(
 
 /// Prints the time of each operation in each type, in nanoseconds.
 pub fn print_times(rt: &(impl Clock + Print + AllocGlobal)) -> io::Result<()> {
-    print_table(rt, OperandSet::Normal)?;
-    print_table(rt, OperandSet::Denormal)
+    print_table(rt, OperandSet::Normal, TABLE_HEAD, &OPERATIONS)?;
+    print_table(rt, OperandSet::Denormal, TABLE_HEAD, &OPERATIONS)?;
+    println!(rt; "{FURTHER_HEADING}\n")?;
+    print_table(
+        rt,
+        OperandSet::Normal,
+        FURTHER_TABLE_HEAD,
+        &FURTHER_OPERATIONS,
+    )?;
+    print_table(
+        rt,
+        OperandSet::Denormal,
+        FURTHER_TABLE_HEAD,
+        &FURTHER_OPERATIONS,
+    )
 }
 
-/// Prints the table of times for a set of operands.
-fn print_table(rt: &(impl Clock + Print + AllocGlobal), set: OperandSet) -> io::Result<()> {
+/// Prints the table of times of some operations for a set of operands.
+fn print_table(
+    rt: &(impl Clock + Print + AllocGlobal),
+    set: OperandSet,
+    head: &str,
+    operations: &[Operation],
+) -> io::Result<()> {
     println!(rt; "Set {}, nanoseconds\n", set.name())?;
-    println!(rt; "{TABLE_HEAD}")?;
+    println!(rt; "{head}")?;
     for kind in BUILT_IN_KINDS.iter() {
-        print_row(rt, *kind, set)?;
+        print_row(rt, *kind, set, operations)?;
     }
     println!(rt; "")
 }
@@ -103,9 +137,10 @@ fn print_row(
     rt: &(impl Clock + Print + AllocGlobal),
     kind: BuiltInKind,
     set: OperandSet,
+    operations: &[Operation],
 ) -> io::Result<()> {
     print!(rt; "| {} |", kind.word())?;
-    for operation in OPERATIONS.iter() {
+    for operation in operations.iter() {
         print_time(rt, kind, *operation, set)?;
     }
     println!(rt; "")
