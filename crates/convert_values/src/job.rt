@@ -1,10 +1,10 @@
 //! The words of a command line, as a job for the program.
 
-use value_blocks::{Conversion, Extended};
+use value_blocks::{Conversion, Extended, Overflow};
 
 /// How the program is called.
 pub const USAGE: &str = "\
-usage: convert_values [--x87-bytes=10|16] FROM TO MODE
+usage: convert_values [--saturate] [--x87-bytes=10|16] FROM TO MODE
        convert_values --help
 
 Reads little-endian values of the format FROM from standard input, and writes
@@ -17,6 +17,8 @@ MODE      even    to the nearest value, a tie to the even one
           zero    toward zero
           away    to the nearest value, a tie away from zero
 
+--saturate      a number past the largest value of TO gives the largest value of
+                its sign, with the same flags as without the option
 --x87-bytes=10  a value of the format x87 lies in 10 bytes, as without the option
 --x87-bytes=16  in 16 bytes, of which the last 6 are not read, and written as 0
 
@@ -33,22 +35,31 @@ where a read or a write failed.
 pub enum Job {
     /// Tell how it is called.
     Help,
-    /// Convert its stream.
-    Convert(Conversion),
+    /// Convert its stream, with what an overflow gives.
+    Convert(Conversion, Overflow),
 }
 
 impl Job {
     /// The job that the words of a command line name, without the program's own name.
     pub fn named(words: &[String]) -> Option<Job> {
         match words {
-            [word] => match word.as_str() {
-                "--help" => Some(Job::Help),
-                _ => None,
-            },
-            [source, target, mode] => Job::conversion(Extended::Packed, source, target, mode),
+            [word] if word.as_str() == "--help" => Some(Job::Help),
+            [option, words @ ..] if option.as_str() == "--saturate" => {
+                Job::converting(Overflow::Saturated, words)
+            }
+            _ => Job::converting(Overflow::Rounded, words),
+        }
+    }
+
+    /// The job that converts, with what an overflow gives.
+    fn converting(overflow: Overflow, words: &[String]) -> Option<Job> {
+        match words {
+            [source, target, mode] => {
+                Job::conversion(overflow, Extended::Packed, source, target, mode)
+            }
             [option, source, target, mode] => {
                 let extended = extended_named(option.as_str())?;
-                Job::conversion(extended, source, target, mode)
+                Job::conversion(overflow, extended, source, target, mode)
             }
             _ => None,
         }
@@ -56,6 +67,7 @@ impl Job {
 
     /// The conversion of these words.
     fn conversion(
+        overflow: Overflow,
         extended: Extended,
         source: &String,
         target: &String,
@@ -63,7 +75,7 @@ impl Job {
     ) -> Option<Job> {
         let (source, target) = (source.as_str(), target.as_str());
         let conversion = Conversion::named(extended, source, target, mode.as_str())?;
-        Some(Job::Convert(conversion))
+        Some(Job::Convert(conversion, overflow))
     }
 }
 

@@ -52,8 +52,8 @@ fn answer<R: Read, W: Write, V: Write>(
             output.flush()?;
             Ok(0)
         }
-        Some(Job::Convert(conversion)) => {
-            match convert_stream(alloc, conversion, input, output) {
+        Some(Job::Convert(conversion, overflow)) => {
+            match convert_stream(alloc, conversion, overflow, input, output) {
                 Ok(summary) => tell(summary, err),
                 Err(failure) => tell_failure(failure, err),
             }

@@ -6,7 +6,7 @@ ghost use Rattle.value_blocks.specs.Widths.{source_width, target_width};
 use std::alloc::{AllocError, Global};
 use std::io;
 use std::io::{ErrorKind, Read, Write};
-use value_blocks::{Conversion, Counts};
+use value_blocks::{Conversion, Counts, Overflow};
 
 /// How many values a block has at most.
 const BLOCK: usize = 1 << 14;
@@ -43,18 +43,27 @@ impl From<AllocError> for Failure {
 pub fn convert_stream<R: Read, W: Write>(
     alloc: Global,
     conversion: Conversion,
+    overflow: Overflow,
     input: &mut R,
     output: &mut W,
 ) -> Result<Summary, Failure> {
     let widths = conversion.widths();
     let mut read = vec![in alloc; 0u8; BLOCK * widths.source]?;
     let buffer = vec![in alloc; 0u8; BLOCK * widths.target]?;
-    convert_through(conversion, read.as_mut_slice(), buffer, input, output)
+    convert_through(
+        conversion,
+        overflow,
+        read.as_mut_slice(),
+        buffer,
+        input,
+        output,
+    )
 }
 
 /// The same, through buffers with room for a block.
 fn convert_through<R: Read, W: Write>(
     conversion: Conversion,
+    overflow: Overflow,
     read: &mut [u8],
     buffer: Vec<u8>,
     input: &mut R,
@@ -70,7 +79,7 @@ fn convert_through<R: Read, W: Write>(
             Ok(filled) => filled,
             Err(error) => return Err(Failure::Reading(error)),
         };
-        let block = conversion.convert(&read[..filled], buffer);
+        let block = conversion.convert_by(overflow, &read[..filled], buffer);
         counts.add(block.counts);
         if let Err(error) = output.write_all(&block.buffer[..block.written]) {
             return Err(Failure::Writing(error));

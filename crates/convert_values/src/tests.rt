@@ -101,6 +101,23 @@ fn converts_whole_values_before_the_end(rt: HostRuntime) -> Result<(), Fail> {
     Ok(())
 }
 
+/// 1, 1000, -1000, both infinities and a signaling NaN.
+const BEYOND: &[u8] =
+    b"\x00\x00\x80\x3f\x00\x00\x7a\x44\x00\x00\x7a\xc4\x00\x00\x80\x7f\x00\x00\x80\xff\x01\x00\x80\x7f";
+
+#[test]
+fn saturates_overflows_alone(rt: HostRuntime) -> Result<(), Fail> {
+    let line = "--saturate single e4m3fn even";
+    let (output, err, status) = answer_to(rt.alloc(), line, BEYOND)?;
+    assert_eq!(rt; output.as_slice(), b"\x38\x7e\xfe\x7f\xff\x7f".as_slice());
+    assert_eq!(rt;
+        err.as_slice(),
+        b"values 6, inexact 4, underflow 0, overflow 2, invalid 1, NaNs 3\n".as_slice()
+    );
+    assert_eq!(rt; status, 0);
+    Ok(())
+}
+
 #[test]
 fn reads_no_padding_and_writes_zeros(rt: HostRuntime) -> Result<(), Fail> {
     let three = b"\x00\x00\x00\x00\x00\x00\x00\xc0\x00\x40\x01\x02\x03\x04\x05\x06";
@@ -126,6 +143,8 @@ fn refuses_other_words(rt: HostRuntime) -> Result<(), Fail> {
         "--x87-bytes=12 single x87 even",
         "single e4m3fn even even",
         "single e4m3fn even even even",
+        "--saturate single e4m3fn",
+        "--x87-bytes=10 --saturate single e4m3fn even",
     ] {
         let (output, err, status) = answer_to(rt.alloc(), line, SINGLES)?;
         assert!(rt; output.is_empty());

@@ -11,6 +11,6 @@ has_room read block source target buffer l is =
     subst (λ (x : ℕ). read / source * target ≤ x) (sym is) (mul-le-mul_right target few)
 
 -- src/stream.rt:73:21
-pub convert-block-requires : goal.convert-block-requires
-convert-block-requires g c =
+pub convert_by-block-requires : goal.convert_by-block-requires
+convert_by-block-requires g c =
     has_room _ _ (source_width c.args.conversion) (target_width c.args.conversion) _ (search rules) c.loop.invariant
