@@ -16,6 +16,9 @@
  * - `text` is not null, not even if `length` is 0 (any address will do then, such as (const uint8_t *)""). It points to
  *   `length` bytes of one object, hence at most PTRDIFF_MAX, and nothing writes to them during the call. It needs no
  *   alignment and no terminating zero, since no byte after the last one is read.
+ * - arrays of values are as `text` is: not null even if they are empty, and not written to during the call. So is
+ *   `results`, but only the call itself reads or writes it, and it overlaps no other argument. Arrays of operands may
+ *   overlap each other.
  * - `answer` and `text` do not overlap. Values and integers are passed by value, so an answer may overwrite an operand:
  *   apfloat_add(f, m, a.bits, b, &a) is fine.
  *
@@ -92,6 +95,7 @@ typedef struct apfloat_answer {
 #define APFLOAT_NO_SUCH_OPERATION UINT32_C(3) /* the format does not have the operation */
 #define APFLOAT_WRONG_WIDTH UINT32_C(4)       /* of an integer */
 #define APFLOAT_REFUSED_TEXT UINT32_C(5)      /* the text has no meaning */
+#define APFLOAT_WRONG_LENGTH UINT32_C(6)      /* of an array */
 
 /* Operations on two values, rounded once: x + y, x - y, x * y, x / y. */
 uint32_t apfloat_add(uint32_t format, uint32_t mode, apfloat_halves x, apfloat_halves y, apfloat_answer *answer);
@@ -190,6 +194,54 @@ typedef struct apfloat_text {
  * the dot. A zero is 0.0 or -0.0, an infinity inf or -inf, and every NaN nan. APFLOAT_DOUBLE_PAIR does not have it. On
  * an error, *text is unchanged; the rules for `answer` hold for `text` too. */
 uint32_t apfloat_shortest(uint32_t format, apfloat_halves x, apfloat_text *text);
+
+/* ---- arrays
+ *
+ * An array is the bytes of its values, one after another, each with its lowest byte first. A value takes the bytes of
+ * its bits: 1 in the formats of 8 bits, 2 in APFLOAT_HALF and APFLOAT_BFLOAT, 4 in APFLOAT_SINGLE, 8 in APFLOAT_DOUBLE,
+ * 10 in APFLOAT_X87, and 16 in APFLOAT_QUAD. A value of APFLOAT_DOUBLE_PAIR takes the 8 bytes of its high double and
+ * then the 8 of its low one. Lengths are in bytes. The bytes of `results` after the last result are unchanged. */
+
+/* The result of a call on arrays: of how many values, how many raised each flag, and how many results are NaNs. */
+typedef struct apfloat_array_answer {
+    uint64_t values;
+    uint64_t inexact;
+    uint64_t underflow;
+    uint64_t overflow;
+    uint64_t div_by_zero;
+    uint64_t invalid_op;
+    uint64_t nans;
+    uint32_t status;   /* the sum of the flags that any value raised */
+    uint32_t reserved; /* 0 */
+} apfloat_array_answer;
+
+/* Joined to the mode of apfloat_convert_array by |: a number that is past the largest value of `to` once it is rounded
+ * gives the largest value of its sign, with the same flags as without this. Infinities are converted as without it, in
+ * a format without infinities to a NaN. In the modes of all other functions it makes an unknown mode. */
+#define APFLOAT_SATURATE UINT32_C(0x100)
+
+/* Each value of `format` in the format `to`, rounded once. APFLOAT_WRONG_LENGTH says that `values` ends inside a value,
+ * or that `results` is too short. */
+uint32_t apfloat_convert_array(uint32_t format, uint32_t mode, uint32_t to, const uint8_t *values,
+                               size_t values_length, uint8_t *results, size_t results_length,
+                               apfloat_array_answer *answer);
+
+/* An operation on each element of xs, or on the elements of xs and ys, or of xs, ys and zs, as the function of its name
+ * does it. APFLOAT_REM and APFLOAT_MOD do not depend on the mode, but it has to be known. Arrays of operands that the
+ * operation does not take have length 0, the others the length of xs. APFLOAT_WRONG_LENGTH says that they do not, that
+ * xs ends inside a value, or that `results` is shorter than xs, and APFLOAT_NO_SUCH_OPERATION that the code of the
+ * operation is unknown, or that the format does not have it. */
+#define APFLOAT_ADD UINT32_C(1)
+#define APFLOAT_SUB UINT32_C(2)
+#define APFLOAT_MUL UINT32_C(3)
+#define APFLOAT_DIV UINT32_C(4)
+#define APFLOAT_REM UINT32_C(5)
+#define APFLOAT_MOD UINT32_C(6)
+#define APFLOAT_FMA UINT32_C(7)
+#define APFLOAT_SQRT UINT32_C(8)
+uint32_t apfloat_map_array(uint32_t format, uint32_t mode, uint32_t operation, const uint8_t *xs, size_t xs_length,
+                           const uint8_t *ys, size_t ys_length, const uint8_t *zs, size_t zs_length,
+                           uint8_t *results, size_t results_length, apfloat_array_answer *answer);
 
 #ifdef __cplusplus
 }

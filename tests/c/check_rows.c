@@ -225,6 +225,150 @@ static bool agrees(const struct call *call, const struct arguments *a, const str
     return is_as_expected(e, code, &answer);
 }
 
+/* ---- arrays */
+
+enum { ELEMENTS = 3, MOST_BYTES = 16 };
+
+/* The operations on arrays that are calls of rows. */
+static const struct code operations[] = {{"add_r", APFLOAT_ADD},       {"sub_r", APFLOAT_SUB},
+                                         {"wide_mul_r", APFLOAT_MUL},  {"div_r", APFLOAT_DIV},
+                                         {"ieee_rem", APFLOAT_REM},    {"c_fmod", APFLOAT_MOD},
+                                         {"wide_mul_add_r", APFLOAT_FMA}, {"sqrt_r", APFLOAT_SQRT}};
+
+/* How many bytes a value takes in an array. */
+static size_t bytes_of(uint32_t format) {
+    static const size_t bytes[] = {0, 2, 4, 8, 16, 2, 1, 1, 1, 10, 16};
+    return bytes[format & 0xff];
+}
+
+/* Puts a value at an index of an array. */
+static void put(uint8_t *array, size_t width, size_t index, apfloat_halves x) {
+    for (size_t i = 0; i < width; i++)
+        array[index * width + i] = (uint8_t)((i < 8 ? x.low : x.high) >> i % 8 * 8);
+}
+
+/* Counts one more answer. */
+static void count_answer(apfloat_array_answer *counts, uint32_t format, const apfloat_answer *answer) {
+    apfloat_answer class;
+    apfloat_classify(format, answer->bits, &class);
+    counts->values++;
+    counts->inexact += (answer->status & APFLOAT_INEXACT) != 0;
+    counts->underflow += (answer->status & APFLOAT_UNDERFLOW) != 0;
+    counts->overflow += (answer->status & APFLOAT_OVERFLOW) != 0;
+    counts->div_by_zero += (answer->status & APFLOAT_DIV_BY_ZERO) != 0;
+    counts->invalid_op += (answer->status & APFLOAT_INVALID_OP) != 0;
+    counts->nans += class.number <= APFLOAT_QUIET_NAN;
+    counts->status |= answer->status;
+}
+
+/* Whether a call on arrays, whose elements are those of the row before, of this row and of both mixed, agrees with the
+ * call on single values. Rows that no call on arrays has are passed over. */
+static bool agrees_in_arrays(const struct call *call, const struct arguments *a) {
+    static struct arguments last;
+    static uint8_t xs[ELEMENTS * MOST_BYTES], ys[sizeof xs], zs[sizeof xs];
+    static uint8_t results[sizeof xs + 1], wanted[sizeof results];
+    uint32_t operation = code_of(operations, COUNT(operations), call->name);
+    bool converts = call->make == make_convert;
+    if (operation == NO_CODE && !converts) return true;
+    struct arguments elements[ELEMENTS] = {*a, *a, *a};
+    if (last.format == a->format) {
+        elements[0].x = elements[2].y = last.x;
+        elements[0].y = last.y;
+        elements[0].z = elements[2].z = last.z;
+    }
+    last = *a;
+    uint32_t to = converts ? a->to : a->format;
+    size_t width = bytes_of(a->format), result_width = bytes_of(to), size = ELEMENTS * width;
+    apfloat_array_answer counts = {0}, answer;
+    memset(wanted, 0xa5, sizeof wanted);
+    memset(results, 0xa5, sizeof results);
+    memset(&answer, 0xa5, sizeof answer);
+    for (size_t i = 0; i < ELEMENTS; i++) {
+        apfloat_answer single;
+        if (call->make(&elements[i], &single) != APFLOAT_ANSWERED) return false;
+        put(xs, width, i, elements[i].x);
+        put(ys, width, i, elements[i].y);
+        put(zs, width, i, elements[i].z);
+        put(wanted, result_width, i, single.bits);
+        count_answer(&counts, to, &single);
+    }
+    size_t operands = strlen(call->operands);
+    uint32_t mode = a->mode == NO_CODE ? APFLOAT_NEAREST_EVEN : a->mode;
+    uint32_t code = converts ? apfloat_convert_array(a->format, mode, to, xs, size, results, sizeof results, &answer)
+                             : apfloat_map_array(a->format, mode, operation, xs, size, ys, operands > 1 ? size : 0, zs,
+                                                 operands > 2 ? size : 0, results, sizeof results, &answer);
+    return code == APFLOAT_ANSWERED && memcmp(results, wanted, sizeof results) == 0 &&
+           memcmp(&answer, &counts, sizeof answer) == 0;
+}
+
+/* 1, 1000, -1000, both infinities, a signaling NaN, 448, 464, and the largest value of binary32, each in binary32, and
+ * their conversions that saturate, to nearest, as evidence/streams.py computes them. */
+static const uint32_t beyond[] = {0x3f800000, 0x447a0000, 0xc47a0000, 0x7f800000, 0xff800000,
+                                  0x7f800001, 0x43e00000, 0x43e80000, 0x7f7fffff};
+static const struct saturation {
+    uint32_t to;
+    uint8_t results[COUNT(beyond)];
+    apfloat_array_answer answer;
+} saturations[] = {
+    {APFLOAT_E4M3FN, {0x38, 0x7e, 0xfe, 0x7f, 0xff, 0x7f, 0x7e, 0x7e, 0x7e}, {9, 6, 0, 3, 0, 1, 3, 0x15, 0}},
+    {APFLOAT_E4M3FNUZ, {0x40, 0x7f, 0xff, 0x80, 0x80, 0x80, 0x7f, 0x7f, 0x7f}, {9, 7, 0, 5, 0, 1, 3, 0x15, 0}},
+    {APFLOAT_E5M2, {0x3c, 0x64, 0xe4, 0x7c, 0xfc, 0x7e, 0x5f, 0x5f, 0x7b}, {9, 4, 0, 1, 0, 1, 1, 0x15, 0}}};
+
+/* How many of these conversions agree. */
+static unsigned saturated(void) {
+    unsigned count = 0;
+    uint8_t values[sizeof beyond], results[COUNT(beyond)];
+    for (size_t i = 0; i < COUNT(beyond); i++) put(values, 4, i, (apfloat_halves){beyond[i], 0});
+    for (size_t i = 0; i < COUNT(saturations); i++) {
+        const struct saturation *s = &saturations[i];
+        apfloat_array_answer answer;
+        uint32_t code = apfloat_convert_array(APFLOAT_SINGLE, APFLOAT_NEAREST_EVEN | APFLOAT_SATURATE, s->to, values,
+                                              sizeof values, results, sizeof results, &answer);
+        if (code == APFLOAT_ANSWERED && memcmp(results, s->results, sizeof results) == 0 &&
+            memcmp(&answer, &s->answer, sizeof answer) == 0) count++;
+    }
+    return count;
+}
+
+/* The errors of calls on arrays, each of which leaves the results and the answer as they were. */
+static unsigned array_refusals(void) {
+    static const uint8_t bytes[16] = {0};
+    uint8_t results[16] = {1, 2, 3}, unchanged[sizeof results];
+    apfloat_array_answer answer, untouched;
+    memcpy(unchanged, results, sizeof results);
+    memset(&answer, 0xa5, sizeof answer);
+    untouched = answer;
+#define CONVERT(format, mode, to, given, room) \
+    apfloat_convert_array(format, mode, to, bytes, given, results, room, &answer)
+#define MAP(format, mode, operation, first, second, third, room) \
+    apfloat_map_array(format, mode, operation, bytes, first, bytes, second, bytes, third, results, room, &answer)
+    const uint32_t codes[][2] = {
+        {CONVERT(0, 0, 1, 2, 2), APFLOAT_UNKNOWN_FORMAT},
+        {CONVERT(1, 5, 1, 2, 2), APFLOAT_UNKNOWN_MODE},
+        {CONVERT(1, APFLOAT_SATURATE << 1, 1, 2, 2), APFLOAT_UNKNOWN_MODE},
+        {CONVERT(1, 0, 0, 2, 2), APFLOAT_UNKNOWN_FORMAT},
+        {CONVERT(APFLOAT_DOUBLE_PAIR, 0, 1, 16, 16), APFLOAT_NO_SUCH_OPERATION},
+        {CONVERT(1, 0, APFLOAT_DOUBLE_PAIR, 2, 16), APFLOAT_NO_SUCH_OPERATION},
+        {CONVERT(1, 0, 1, 3, 16), APFLOAT_WRONG_LENGTH},
+        {CONVERT(1, 0, 2, 4, 7), APFLOAT_WRONG_LENGTH},
+        {MAP(0, 0, APFLOAT_ADD, 2, 2, 0, 2), APFLOAT_UNKNOWN_FORMAT},
+        {MAP(1, APFLOAT_SATURATE, APFLOAT_ADD, 2, 2, 0, 2), APFLOAT_UNKNOWN_MODE},
+        {MAP(1, 0, 0, 2, 2, 0, 2), APFLOAT_NO_SUCH_OPERATION},
+        {MAP(1, 0, 9, 2, 2, 0, 2), APFLOAT_NO_SUCH_OPERATION},
+        {MAP(APFLOAT_DOUBLE_PAIR, 0, APFLOAT_FMA, 16, 16, 16, 16), APFLOAT_NO_SUCH_OPERATION},
+        {MAP(1, 0, APFLOAT_ADD, 3, 3, 0, 16), APFLOAT_WRONG_LENGTH},
+        {MAP(1, 0, APFLOAT_ADD, 4, 2, 0, 16), APFLOAT_WRONG_LENGTH},
+        {MAP(1, 0, APFLOAT_ADD, 4, 4, 4, 16), APFLOAT_WRONG_LENGTH},
+        {MAP(1, 0, APFLOAT_SQRT, 4, 4, 0, 16), APFLOAT_WRONG_LENGTH},
+        {MAP(1, 0, APFLOAT_FMA, 4, 4, 0, 16), APFLOAT_WRONG_LENGTH},
+        {MAP(1, 0, APFLOAT_FMA, 4, 4, 4, 2), APFLOAT_WRONG_LENGTH}};
+    unsigned count = 0;
+    for (size_t i = 0; i < COUNT(codes); i++)
+        if (codes[i][0] == codes[i][1] && memcmp(results, unchanged, sizeof results) == 0 &&
+            memcmp(&answer, &untouched, sizeof answer) == 0) count++;
+    return count;
+}
+
 /* The index of a call, or COUNT(calls). */
 static size_t call_named(const char *name) {
     size_t i = 0;
@@ -262,11 +406,11 @@ static bool check(char *columns[]) {
     if (!read_expected(columns, &calls[i], &e) || !read_operands(columns[OPERANDS], calls[i].operands, &a))
         return false;
     if (has_mode) {
-        if (!agrees(&calls[i], &a, &e)) return false;
+        if (!agrees(&calls[i], &a, &e) || !agrees_in_arrays(&calls[i], &a)) return false;
     } else
         for (size_t m = 0; m < COUNT(modes); m++) {
             a.mode = modes[m].code;
-            if (!agrees(&calls[i], &a, &e)) return false;
+            if (!agrees(&calls[i], &a, &e) || !agrees_in_arrays(&calls[i], &a)) return false;
         }
     agreeing[i]++;
     return true;
@@ -325,5 +469,7 @@ int main(void) {
         if (agreeing[i]) printf("%s: %u rows agree\n", calls[i].name, agreeing[i]);
     printf("%u errors agree\n", refusals());
     printf("1 + 1 %s\n", adds_ones() ? "agrees" : "differs");
+    printf("%u errors of arrays agree\n", array_refusals());
+    printf("%u conversions that saturate agree\n", saturated());
     return 0;
 }

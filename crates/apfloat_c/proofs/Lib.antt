@@ -4,3 +4,5 @@ pub mod WrittenAnswers
 pub mod ExportsOnce
 pub mod Lines
 pub mod TextsOnce
+pub mod ArrayCalls
+pub mod ElementCalls

@@ -1,3 +1,5 @@
 pub mod KnownCalls
 pub mod Answers
+pub mod ArrayCalls
+pub mod Arrays
 pub mod Decimals

@@ -5,11 +5,16 @@
 #![tactic(auto)]
 
 mod answers;
+mod array_calls;
+mod array_data;
+mod arrays;
 mod ascii;
 mod by_code;
 mod codes;
 mod data;
 mod decimals;
+mod elements;
 mod exported_call;
 mod exports;
 mod line;
+mod maps;

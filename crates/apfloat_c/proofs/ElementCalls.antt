@@ -1,0 +1,57 @@
+-- One more element of an operation on arrays.
+use Rattle.std.proofs.Common.{◌≡◌, ℕ, ◌+◌, ◌-◌, ◌*◌, ◌<◌, List, [], ◌∷◌, ◌++◌, length, sym, subst, ap, ◌∙◌}
+use Rattle.std.specs.Prelude.{slice_range, count_by}
+use Rattle.std.proofs.Math.Path.{subst₃}
+use Rattle.std.proofs.lemmas.List.{length_push}
+use borrow.Rule.Slice.PartMut.{put_mid}
+use Rattle.value_blocks.specs.Bytes.{number_of}
+use Rattle.value_blocks.proofs.Places.{count_push, places_more}
+use Rattle.apfloat_c.specs.declared.array_calls.MapCall.{MapCall}
+use Rattle.apfloat_c.specs.declared.array_data.Element.{Element}
+use Rattle.apfloat_c.specs.declared.array_data.ElementCounts.{ElementCounts}
+use Rattle.apfloat_c.specs.ArrayCalls.{bytes_in}
+use Rattle.apfloat_c.specs.Arrays.{AreElements, IsElement, IsElementAt, became_nan, counts_of, raised, with_element}
+
+-- one more element is counted
+counts_push : (elements : List Element) (element : Element)
+    → with_element (counts_of elements) element ≡ counts_of (elements ++ element ∷ [])
+counts_push elements element =
+    let values : length (elements ++ element ∷ []) ≡ length elements + 1 = length_push elements element in
+    let inexact = count_push (raised 16) elements element in
+    let underflow = count_push (raised 8) elements element in
+    let overflow = count_push (raised 4) elements element in
+    let divided = count_push (raised 2) elements element in
+    let invalid = count_push (raised 1) elements element in
+    let nans = count_push became_nan elements element in
+    cc
+
+-- and made in its place
+pub elements_more : (map : MapCall) (xs ys zs : List ℕ) (width index count : ℕ) (x y z : ℕ) (bytes new : List ℕ)
+    (counted : ElementCounts) (element : Element)
+    → width ≡ bytes_in map.kind → index < count → length bytes ≡ count * bytes_in map.kind → length new ≡ width
+    → x ≡ number_of (slice_range xs (index * width) (index * width + width))
+    → y ≡ number_of (slice_range ys (index * width) (index * width + width))
+    → z ≡ number_of (slice_range zs (index * width) (index * width + width))
+    → IsElement map x y z new element
+    → AreElements map xs ys zs index bytes counted
+    → AreElements map xs ys zs (index + 1)
+    (put_mid (index * width) (index * width + width - index * width) bytes new) (with_element counted element)
+elements_more map xs ys zs width index count x y z bytes new counted element is before size long x_is y_is z_is made
+    so_far =
+    let At : ℕ → Type 0 = λ (w : ℕ). IsElement map (number_of (slice_range xs (index * w) (index * w + w)))
+    (number_of (slice_range ys (index * w) (index * w + w))) (number_of (slice_range zs (index * w) (index * w + w)))
+    new element in
+    let here : IsElementAt map xs ys zs index new element = subst At is
+    (subst₃ (λ (x : ℕ) (y : ℕ) (z : ℕ). IsElement map x y z new element) x_is y_is z_is made) in
+    let whole_width : length new ≡ bytes_in map.kind = long ∙ is in
+    let places = places_more (IsElementAt map xs ys zs) (bytes_in map.kind) index count bytes new so_far.elements
+    element before size whole_width here so_far.places in
+    let Done : ℕ → Type 0 = λ (w : ℕ). AreElements map xs ys zs (index + 1)
+    (put_mid (index * w) (index * w + w - index * w) bytes new) (with_element counted element) in
+    subst Done (sym is)
+    (record {
+      elements = so_far.elements ++ element ∷ [];
+      places = places;
+      counted_are = ap (λ (c : ElementCounts). with_element c element) so_far.counted_are
+          ∙ counts_push so_far.elements element;
+    })

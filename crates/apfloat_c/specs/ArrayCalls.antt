@@ -1,0 +1,109 @@
+-- What a call on arrays asks for, or its error.
+use Rattle.std.specs.Prelude.{ℕ, ◌/◌, ◌%◌, ◌==◌, nat_le, Bool, true, false, ◌&&◌, if◌then◌else◌, Option, Some, None, ok_or, option_and_then, Result, Ok, Err}
+use Rattle.rustc_apfloat.specs.declared.Round.{Round}
+use Rattle.dispatch.specs.declared.Arithmetic.TheVariants.{Sum, Difference, Product, Quotient, NearestRemainder, TruncatedRemainder}
+use Rattle.dispatch.specs.declared.FlaggedFormat.{FlaggedFormat}
+use Rattle.dispatch.specs.declared.FlaggedKind.{FlaggedKind}
+use Rattle.dispatch.specs.declared.FlaggedKind.TheVariants.{OfFormat, Pairs}
+use Rattle.dispatch.specs.FlaggedKinds.{format_without_rule}
+use Rattle.dispatch.specs.Modes.{mode_coded}
+use Rattle.value_blocks.specs.declared.ArrayConversion.{ArrayConversion}
+use Rattle.value_blocks.specs.declared.Overflow.{Overflow}
+use Rattle.value_blocks.specs.declared.Overflow.TheVariants.{Rounded, Saturated}
+use Rattle.value_blocks.specs.declared.Extended.TheVariants.{Packed}
+use Rattle.value_blocks.specs.Widths.{array_widths, width_of}
+use Rattle.apfloat_c.specs.declared.array_calls.ConversionMode.{ConversionMode}
+use Rattle.apfloat_c.specs.declared.array_calls.ElementOperation.{ElementOperation}
+use Rattle.apfloat_c.specs.declared.array_calls.ElementOperation.TheVariants.{OfTwo, FusedSum, SquareRoot}
+use Rattle.apfloat_c.specs.declared.array_calls.MapCall.{MapCall}
+use Rattle.apfloat_c.specs.KnownCalls.{◌>>=◌, no_such_operation, unknown_format, unknown_mode}
+
+abbrev pub wrong_length : ℕ
+wrong_length = 6
+
+-- whole values of the first width, and room for as many of the second
+abbrev pub lengths_fit : ℕ → ℕ → ℕ → ℕ → Bool
+lengths_fit source target given room = (given % source == 0) && nat_le (given / source) (room / target)
+
+abbrev pub if_fitting : {A : Type 0} → Bool → A → Result A ℕ
+if_fitting fits call = if fits then Ok call else Err wrong_length
+
+-- ---- conversions
+
+-- the code of a rounding mode; the bit above its eight lowest ones asks for saturation
+abbrev pub with_overflow : ℕ → Round → Option ConversionMode
+with_overflow bits round =
+    if bits == 0 then Some (record { round = round; overflow = Rounded })
+    else if bits == 1 then Some (record { round = round; overflow = Saturated })
+    else None
+
+abbrev pub conversion_mode_coded : ℕ → Option ConversionMode
+conversion_mode_coded code = option_and_then (with_overflow (code / 256)) (mode_coded (code % 256))
+
+-- pairs of doubles are not converted
+abbrev pub formats_of : FlaggedKind → FlaggedKind → ConversionMode → Result ArrayConversion ℕ
+formats_of (OfFormat source) (OfFormat target) mode =
+    Ok (record { source = format_without_rule source; target = target; round = mode.round; overflow = mode.overflow })
+formats_of source target mode = Err no_such_operation
+
+abbrev pub fitting : ℕ → ℕ → ArrayConversion → Result ArrayConversion ℕ
+fitting given room conversion =
+    if_fitting (lengths_fit (array_widths conversion).source (array_widths conversion).target given room) conversion
+
+-- The faults in their order: the format, the mode, the format converted to, that there is no conversion, the lengths.
+abbrev pub known_array_conversion : Option FlaggedKind → Option ConversionMode → Option FlaggedKind → ℕ → ℕ
+    → Result ArrayConversion ℕ
+known_array_conversion source mode target given room =
+    ok_or source unknown_format >>= λ from. ok_or mode unknown_mode >>= λ rounding.
+    ok_or target unknown_format >>= λ to.
+    formats_of from to rounding >>= fitting given room
+
+-- ---- operations
+
+abbrev pub operation_coded : ℕ → Option ElementOperation
+operation_coded code =
+    if code == 1 then Some (OfTwo Sum)
+    else if code == 2 then Some (OfTwo Difference)
+    else if code == 3 then Some (OfTwo Product)
+    else if code == 4 then Some (OfTwo Quotient)
+    else if code == 5 then Some (OfTwo NearestRemainder)
+    else if code == 6 then Some (OfTwo TruncatedRemainder)
+    else if code == 7 then Some FusedSum
+    else if code == 8 then Some SquareRoot
+    else None
+
+abbrev pub operands_of : ElementOperation → ℕ
+operands_of (OfTwo arithmetic) = 2
+operands_of FusedSum = 3
+operands_of SquareRoot = 1
+
+-- pairs of doubles have no fused sum
+abbrev pub has_element_operation : FlaggedKind → ElementOperation → Bool
+has_element_operation Pairs FusedSum = false
+has_element_operation kind operation = true
+
+-- how many bytes an element takes
+abbrev pub bytes_in : FlaggedKind → ℕ
+bytes_in (OfFormat format) = width_of (format_without_rule format) Packed
+bytes_in Pairs = 16
+
+-- the length of an array of further operands: that of the first one, or 0 if there are none
+abbrev pub operand_length : Bool → ℕ → ℕ
+operand_length taken first = if taken then first else 0
+
+abbrev pub operands_fit : ℕ → ℕ × ℕ × ℕ → Bool
+operands_fit operands lengths =
+    (lengths.1 == operand_length (nat_le 2 operands) lengths.0)
+    && (lengths.2 == operand_length (nat_le 3 operands) lengths.0)
+
+-- The faults in their order: the format, the mode, the operation, that the kind does not have it, the lengths.
+abbrev pub known_map : Option FlaggedKind → Option Round → Option ElementOperation → ℕ × ℕ × ℕ → ℕ
+    → Result MapCall ℕ
+known_map kind mode operation lengths room =
+    ok_or kind unknown_format >>= λ known. ok_or mode unknown_mode >>= λ rounding.
+    ok_or operation no_such_operation >>= λ made.
+    (if has_element_operation known made then
+    if_fitting (lengths_fit (bytes_in known) (bytes_in known) lengths.0 room
+    && operands_fit (operands_of made) lengths)
+    (record { kind = known; round = rounding; operation = made })
+    else Err no_such_operation)

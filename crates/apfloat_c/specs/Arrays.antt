@@ -1,0 +1,158 @@
+-- What calls on arrays leave.
+use Rattle.std.specs.Prelude.{◌≡◌, ℕ, ◌+◌, ◌-◌, ◌*◌, ◌/◌, ◌^◌, ◌<◌, ◌==◌, bit_and, Bool, true, false, not, if◌then◌else◌, List, length, take, drop, count_by, Result, Ok, Err}
+use Rattle.rustc_apfloat.specs.Classes.{is_nan, is_nan_category}
+use Rattle.rustc_apfloat.specs.Pairs.{pair_category, pair_of}
+use Rattle.rustc_apfloat.specs.declared.Round.{Round}
+use Rattle.dispatch.specs.BuiltIns.{constants_in}
+use Rattle.dispatch.specs.FlaggedKinds.{flagged_constants, flagged_kind_of}
+use Rattle.dispatch.specs.ValueKinds.{Kind, of_format, of_pairs, value_of}
+use Rattle.value_blocks.specs.declared.ArrayConversion.{ArrayConversion}
+use Rattle.value_blocks.specs.declared.Counts.{Counts}
+use Rattle.value_blocks.specs.Blocks.{AreInPlaces, IsBlock, value_at}
+use Rattle.value_blocks.specs.Bytes.{number_of}
+use Rattle.value_blocks.specs.Outcomes.{HaveRoom, one_if}
+use Rattle.value_blocks.specs.Values.{IsConvertedBy}
+use Rattle.value_blocks.specs.Widths.{array_widths}
+use Rattle.apfloat_c.specs.declared.data.Answer.{Answer}
+use Rattle.apfloat_c.specs.declared.array_data.ArrayAnswer.{ArrayAnswer}
+use Rattle.apfloat_c.specs.declared.array_data.Element.{Element}
+use Rattle.apfloat_c.specs.declared.array_data.ElementCounts.{ElementCounts}
+use Rattle.apfloat_c.specs.declared.array_calls.ElementOperation.{ElementOperation}
+use Rattle.apfloat_c.specs.declared.array_calls.ElementOperation.TheVariants.{OfTwo, FusedSum, SquareRoot}
+use Rattle.apfloat_c.specs.declared.array_calls.MapCall.{MapCall}
+use Rattle.apfloat_c.specs.declared.exported_call.ExportedCall.{ExportedCall}
+use Rattle.apfloat_c.specs.declared.exported_call.ExportedCall.TheVariants.{OfTwo as CallOfTwo, FusedSum as CallFusedSum, SquareRoot as CallSquareRoot}
+use Rattle.apfloat_c.specs.KnownCalls.{answered}
+use Rattle.apfloat_c.specs.Answers.{IsKindAnswer, whole}
+use Rattle.apfloat_c.specs.ArrayCalls.{bytes_in}
+
+-- ---- counts
+
+-- whether an element raised this flag
+abbrev pub raised : ℕ → Element → Bool
+raised flag element = not (bit_and element.status flag == 0)
+
+abbrev pub became_nan : Element → Bool
+became_nan element = element.is_nan
+
+abbrev pub counts_of : List Element → ElementCounts
+counts_of elements =
+    record {
+      counts = record {
+        values = length elements;
+        inexact = count_by (raised 16) elements;
+        underflow = count_by (raised 8) elements;
+        overflow = count_by (raised 4) elements;
+        invalid = count_by (raised 1) elements;
+        nans = count_by became_nan elements;
+      };
+      div_by_zero = count_by (raised 2) elements;
+    }
+
+-- the counts with one more
+abbrev pub with_element : ElementCounts → Element → ElementCounts
+with_element counted element =
+    record {
+      counts = record {
+        values = counted.counts.values + 1;
+        inexact = counted.counts.inexact + one_if (raised 16 element);
+        underflow = counted.counts.underflow + one_if (raised 8 element);
+        overflow = counted.counts.overflow + one_if (raised 4 element);
+        invalid = counted.counts.invalid + one_if (raised 1 element);
+        nans = counted.counts.nans + one_if (became_nan element);
+      };
+      div_by_zero = counted.div_by_zero + one_if (raised 2 element);
+    }
+
+-- each count can grow by 1
+pub record HaveRoomFor (counted : ElementCounts) : Type 0 where
+  pub counts : HaveRoom counted.counts
+  pub div_by_zero : counted.div_by_zero < 2 ^ 64 - 1
+
+-- the flag, if it was raised
+abbrev pub flag_if : ℕ → ℕ → ℕ
+flag_if flag count = if count == 0 then 0 else flag
+
+abbrev pub answer_with : ElementCounts → ArrayAnswer
+answer_with counted =
+    record {
+      values = counted.counts.values;
+      inexact = counted.counts.inexact;
+      underflow = counted.counts.underflow;
+      overflow = counted.counts.overflow;
+      div_by_zero = counted.div_by_zero;
+      invalid_op = counted.counts.invalid;
+      nans = counted.counts.nans;
+      status = flag_if 16 counted.counts.inexact + flag_if 8 counted.counts.underflow
+          + flag_if 4 counted.counts.overflow + flag_if 2 counted.div_by_zero + flag_if 1 counted.counts.invalid;
+      reserved = 0;
+    }
+
+-- ---- conversions
+
+-- each value is converted in its place, and the bytes after the last are as before
+pub record AreConverted (conversion : ArrayConversion) (count : ℕ) (given old new : List ℕ)
+    (answer : ArrayAnswer) : Type 0 where
+  pub counts : Counts
+  pub block : IsBlock
+      (IsConvertedBy conversion.overflow (constants_in conversion.source) (flagged_constants conversion.target)
+      conversion.round)
+      (array_widths conversion).source (array_widths conversion).target count given
+      (take (count * (array_widths conversion).target) new) counts
+  pub kept : drop (count * (array_widths conversion).target) new ≡ drop (count * (array_widths conversion).target) old
+  pub answer_is : answer ≡ answer_with (record { counts = counts; div_by_zero = 0 })
+
+-- the code 0 and the conversions, or the code of the error and what was there before
+abbrev pub IsConvertedArray : Result ArrayConversion ℕ → List ℕ → List ℕ → List ℕ → ArrayAnswer → ArrayAnswer → ℕ
+    → Type 0
+IsConvertedArray (Err error) given old new before after code = (code ≡ error) × (new ≡ old) × (after ≡ before)
+IsConvertedArray (Ok conversion) given old new before after code =
+    (code ≡ answered)
+    × AreConverted conversion (length given / (array_widths conversion).source) given old new after
+
+-- ---- operations
+
+-- the call on single values that is made with these operands
+abbrev pub call_of : ElementOperation → ℕ → ℕ → ℕ → ExportedCall
+call_of (OfTwo arithmetic) x y z = CallOfTwo arithmetic x y
+call_of FusedSum x y z = CallFusedSum x y z
+call_of SquareRoot x y z = CallSquareRoot x
+
+-- whether the bits of a kind are those of a NaN
+abbrev pub is_nan_in : Kind → ℕ → Bool
+is_nan_in (of_format c) bits = is_nan (value_of c bits)
+is_nan_in of_pairs bits = is_nan_category (pair_category (pair_of bits))
+
+-- the element's bytes are the bits of an answer of that call, and its outcome is the answer's
+pub record IsElement (map : MapCall) (x y z : ℕ) (bytes : List ℕ) (element : Element) : Type 0 where
+  pub answer : Answer
+  pub is_answer : IsKindAnswer (flagged_kind_of map.kind) map.round (call_of map.operation x y z) answer
+  pub bits_are : number_of bytes ≡ whole answer.bits
+  pub status_is : element.status ≡ answer.status
+  pub nan_is : element.is_nan ≡ is_nan_in (flagged_kind_of map.kind) (whole answer.bits)
+
+-- the operands of an index; an operand that the operation does not take has no bytes
+abbrev pub IsElementAt : MapCall → List ℕ → List ℕ → List ℕ → ℕ → List ℕ → Element → Type 0
+IsElementAt map xs ys zs index bytes element =
+    IsElement map (number_of (value_at (bytes_in map.kind) index xs)) (number_of (value_at (bytes_in map.kind) index ys))
+    (number_of (value_at (bytes_in map.kind) index zs)) bytes element
+
+-- the operation is made at each index, with these counts of outcomes
+pub record AreElements (map : MapCall) (xs ys zs : List ℕ) (count : ℕ) (bytes : List ℕ)
+    (counted : ElementCounts) : Type 0 where
+  pub elements : List Element
+  pub places : AreInPlaces (IsElementAt map xs ys zs) (bytes_in map.kind) count bytes elements
+  pub counted_are : counted ≡ counts_of elements
+
+-- the operation is made at each index, and the bytes after the last result are as before
+pub record AreMapped (map : MapCall) (count : ℕ) (xs ys zs old new : List ℕ) (answer : ArrayAnswer) : Type 0 where
+  pub counted : ElementCounts
+  pub are_elements : AreElements map xs ys zs count (take (count * bytes_in map.kind) new) counted
+  pub kept : drop (count * bytes_in map.kind) new ≡ drop (count * bytes_in map.kind) old
+  pub answer_is : answer ≡ answer_with counted
+
+abbrev pub IsMappedArray : Result MapCall ℕ → List ℕ → List ℕ → List ℕ → List ℕ → List ℕ → ArrayAnswer → ArrayAnswer
+    → ℕ → Type 0
+IsMappedArray (Err error) xs ys zs old new before after code = (code ≡ error) × (new ≡ old) × (after ≡ before)
+IsMappedArray (Ok map) xs ys zs old new before after code =
+    (code ≡ answered) × AreMapped map (length xs / bytes_in map.kind) xs ys zs old new after

@@ -1,0 +1,198 @@
+//! What is asked of arrays, or the first error.
+
+ghost use Rattle.std.specs.Prelude.{◌≡◌, ◌≤◌};
+ghost use Rattle.dispatch.specs.Modes.{mode_coded};
+ghost use Rattle.apfloat_c.specs.ArrayCalls.{bytes_in, conversion_mode_coded, has_element_operation, known_array_conversion, known_map, lengths_fit, operands_fit, operands_of, operation_coded};
+
+use crate::codes::{NO_SUCH_OPERATION, UNKNOWN_FORMAT, UNKNOWN_MODE, WRONG_LENGTH};
+use dispatch::{Arithmetic, FlaggedFormat, FlaggedKind, mode_coded};
+use rustc_apfloat::Round;
+use value_blocks::{ArrayConversion, Extended, Overflow, width};
+
+/// A rounding mode, and what an overflow gives.
+#[derive(Clone, Copy)]
+pub struct ConversionMode {
+    /// The rounding mode.
+    pub round: Round,
+    /// What an overflow gives.
+    pub overflow: Overflow,
+}
+
+/// An operation on elements of arrays.
+#[derive(Clone, Copy)]
+pub enum ElementOperation {
+    /// On two.
+    OfTwo(Arithmetic),
+    /// The product of two plus a third, rounded once.
+    FusedSum,
+    /// The square root of one.
+    SquareRoot,
+}
+
+/// An operation on arrays.
+#[derive(Clone, Copy)]
+pub struct MapCall {
+    /// The kind of their elements.
+    pub kind: FlaggedKind,
+    /// The rounding mode.
+    pub round: Round,
+    /// What is done with each element.
+    pub operation: ElementOperation,
+}
+
+/// The mode of this code: that of a rounding mode, and the bit above its eight lowest asks for saturation.
+pub fn conversion_mode_coded(code: u32) -> Option<ConversionMode>
+    ensures { result ≡ conversion_mode_coded code }
+{
+    let round = mode_coded(code % 256)?;
+    match code / 256 {
+        0 => Some(ConversionMode {
+            round,
+            overflow: Overflow::Rounded,
+        }),
+        1 => Some(ConversionMode {
+            round,
+            overflow: Overflow::Saturated,
+        }),
+        _ => None,
+    }
+}
+
+/// The operation of this code.
+pub fn operation_coded(code: u32) -> Option<ElementOperation>
+    ensures { result ≡ operation_coded code }
+{
+    match code {
+        1 => Some(ElementOperation::OfTwo(Arithmetic::Sum)),
+        2 => Some(ElementOperation::OfTwo(Arithmetic::Difference)),
+        3 => Some(ElementOperation::OfTwo(Arithmetic::Product)),
+        4 => Some(ElementOperation::OfTwo(Arithmetic::Quotient)),
+        5 => Some(ElementOperation::OfTwo(Arithmetic::NearestRemainder)),
+        6 => Some(ElementOperation::OfTwo(Arithmetic::TruncatedRemainder)),
+        7 => Some(ElementOperation::FusedSum),
+        8 => Some(ElementOperation::SquareRoot),
+        _ => None,
+    }
+}
+
+/// How many bytes a value of the kind takes.
+pub fn bytes_in(kind: FlaggedKind) -> usize
+    ensures is { result ≡ bytes_in kind }
+    ensures least { 1 ≤ result }
+    ensures greatest { result ≤ 16 }
+{
+    match kind {
+        FlaggedKind::OfFormat(format) => width(format.built_in(), Extended::Packed),
+        FlaggedKind::Pairs => 16,
+    }
+}
+
+/// The conversion that these codes ask for, of arrays of these lengths.
+pub fn known_array_conversion(
+    source: Option<FlaggedKind>,
+    mode: Option<ConversionMode>,
+    target: Option<FlaggedKind>,
+    given: usize,
+    room: usize,
+) -> Result<ArrayConversion, u32>
+    ensures { result ≡ known_array_conversion source mode target given room }
+{
+    let Some(source) = source else {
+        return Err(UNKNOWN_FORMAT);
+    };
+    let Some(ConversionMode { round, overflow }) = mode else {
+        return Err(UNKNOWN_MODE);
+    };
+    let Some(target) = target else {
+        return Err(UNKNOWN_FORMAT);
+    };
+    let (FlaggedKind::OfFormat(source), FlaggedKind::OfFormat(target)) = (source, target) else {
+        return Err(NO_SUCH_OPERATION);
+    };
+    let source = source.built_in();
+    let conversion = ArrayConversion {
+        source,
+        target,
+        round,
+        overflow,
+    };
+    let widths = conversion.widths();
+    if lengths_fit(widths.source, widths.target, given, room) {
+        Ok(conversion)
+    } else {
+        Err(WRONG_LENGTH)
+    }
+}
+
+/// The operation that these codes ask for, on arrays of these lengths.
+pub fn known_map(
+    kind: Option<FlaggedKind>,
+    mode: Option<Round>,
+    operation: Option<ElementOperation>,
+    lengths: (usize, usize, usize),
+    room: usize,
+) -> Result<MapCall, u32>
+    ensures { result ≡ known_map kind mode operation lengths room }
+{
+    let Some(kind) = kind else {
+        return Err(UNKNOWN_FORMAT);
+    };
+    let Some(round) = mode else {
+        return Err(UNKNOWN_MODE);
+    };
+    let Some(operation) = operation else {
+        return Err(NO_SUCH_OPERATION);
+    };
+    if !has_operation(kind, operation) {
+        return Err(NO_SUCH_OPERATION);
+    }
+    let width = bytes_in(kind);
+    let fits = lengths_fit(width, width, lengths.0, room);
+    if fits && operands_fit(operands_of(operation), lengths) {
+        Ok(MapCall {
+            kind,
+            round,
+            operation,
+        })
+    } else {
+        Err(WRONG_LENGTH)
+    }
+}
+
+/// Whether the bytes given are those of whole values, and there is room for as many of the other width.
+fn lengths_fit(source: usize, target: usize, given: usize, room: usize) -> bool
+    requires { (1 ≤ source) × (1 ≤ target) }
+    ensures { result ≡ lengths_fit source target given room }
+{
+    given % source == 0 && given / source <= room / target
+}
+
+/// Whether there are as many bytes of each operand taken, and none of the others.
+fn operands_fit(operands: usize, lengths: (usize, usize, usize)) -> bool
+    ensures { result ≡ operands_fit operands lengths }
+{
+    let (first, second, third) = lengths;
+    second == (if operands >= 2 { first } else { 0 })
+        && third == (if operands >= 3 { first } else { 0 })
+}
+
+/// Whether the kind has the operation.
+fn has_operation(kind: FlaggedKind, operation: ElementOperation) -> bool
+    ensures { result ≡ has_element_operation kind operation }
+{
+    match (kind, operation) {
+        (FlaggedKind::Pairs, ElementOperation::FusedSum) => false,
+        _ => true,
+    }
+}
+
+/// How many operands it takes.
+fn operands_of(operation: ElementOperation) -> usize
+    ensures { result ≡ operands_of operation }
+{
+    match operation {
+        ElementOperation::OfTwo(_) => 2,
+        ElementOperation::FusedSum => 3,
+        ElementOperation::SquareRoot => 1,
+    }
+}

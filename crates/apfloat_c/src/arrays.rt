@@ -1,0 +1,66 @@
+//! The export that converts arrays, declared for C programs in `include/apfloat.h`.
+
+ghost use Rattle.std.specs.Prelude.{length};
+ghost use Rattle.dispatch.specs.FlaggedKinds.{flagged_kind_coded};
+ghost use Rattle.apfloat_c.specs.ArrayCalls.{conversion_mode_coded, known_array_conversion};
+ghost use Rattle.apfloat_c.specs.Arrays.{IsConvertedArray};
+
+use crate::array_calls::{ConversionMode, conversion_mode_coded, known_array_conversion};
+use crate::array_data::{ArrayAnswer, ElementCounts};
+use crate::codes::ANSWERED;
+use dispatch::FlaggedKind;
+
+/// Converts each value of an array.
+#[unsafe(no_mangle)]
+pub extern "C" fn apfloat_convert_array(
+    format: u32,
+    mode: u32,
+    to: u32,
+    values: &[u8],
+    results: &mut [u8],
+    answer: &mut ArrayAnswer,
+) -> u32
+    ensures { let known = known_array_conversion (flagged_kind_coded format)
+        (conversion_mode_coded mode) (flagged_kind_coded to) (length values.now)
+        (length results.old) in
+        IsConvertedArray known values.now results.old results.new answer.old answer.new result }
+{
+    convert_array(
+        FlaggedKind::coded(format),
+        conversion_mode_coded(mode),
+        FlaggedKind::coded(to),
+        values,
+        results,
+        answer,
+    )
+}
+
+/// The same, by the codes' meanings.
+fn convert_array(
+    source: Option<FlaggedKind>,
+    mode: Option<ConversionMode>,
+    target: Option<FlaggedKind>,
+    values: &[u8],
+    results: &mut [u8],
+    answer: &mut ArrayAnswer,
+) -> u32
+    ensures { let known = known_array_conversion source mode target (length values.now)
+        (length results.old) in
+        IsConvertedArray known values.now results.old results.new answer.old answer.new result }
+{
+    let known = known_array_conversion(source, mode, target, values.len(), results.len());
+    match known {
+        Err(error) => error,
+        Ok(conversion) => {
+            let widths = conversion.widths();
+            let count = values.len() / widths.source;
+            let front = &mut results[..count * widths.target];
+            let counts = conversion.convert(count, values, front);
+            *answer = ArrayAnswer::of(ElementCounts {
+                counts,
+                div_by_zero: 0,
+            });
+            ANSWERED
+        }
+    }
+}

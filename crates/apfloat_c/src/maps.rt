@@ -1,0 +1,52 @@
+//! The export that makes operations on arrays, declared for C programs in `include/apfloat.h`.
+
+ghost use Rattle.std.specs.Prelude.{ℕ, length};
+ghost use Rattle.dispatch.specs.FlaggedKinds.{flagged_kind_coded};
+ghost use Rattle.dispatch.specs.Modes.{mode_coded};
+ghost use Rattle.apfloat_c.specs.ArrayCalls.{known_map, operation_coded};
+ghost use Rattle.apfloat_c.specs.Arrays.{IsMappedArray};
+
+use crate::array_calls::{bytes_in, known_map, operation_coded};
+use crate::array_data::ArrayAnswer;
+use crate::codes::ANSWERED;
+use crate::elements::CodedMap;
+use dispatch::{FlaggedKind, mode_coded};
+
+/// Makes an operation on each element of an array, or on the elements of two or three arrays.
+#[unsafe(no_mangle)]
+pub extern "C" fn apfloat_map_array(
+    format: u32,
+    mode: u32,
+    operation: u32,
+    xs: &[u8],
+    ys: &[u8],
+    zs: &[u8],
+    results: &mut [u8],
+    answer: &mut ArrayAnswer,
+) -> u32
+    ensures { let lengths : ℕ × ℕ × ℕ = (length xs.now, length ys.now, length zs.now) in
+        let known = known_map (flagged_kind_coded format) (mode_coded mode)
+        (operation_coded operation) lengths (length results.old) in
+        IsMappedArray known xs.now ys.now zs.now results.old results.new answer.old answer.new
+        result }
+{
+    let known = known_map(
+        FlaggedKind::coded(format),
+        mode_coded(mode),
+        operation_coded(operation),
+        (xs.len(), ys.len(), zs.len()),
+        results.len(),
+    );
+    match known {
+        Err(error) => error,
+        Ok(map) => {
+            let width = bytes_in(map.kind);
+            let count = xs.len() / width;
+            let front = &mut results[..count * width];
+            let coded = CodedMap { map, format, mode };
+            let counted = coded.over(xs, ys, zs, count, front);
+            *answer = ArrayAnswer::of(counted);
+            ANSWERED
+        }
+    }
+}
