@@ -30,12 +30,24 @@ pub fn row_of(line: &str) -> Option<CallRow<'_>>
         (λ row. line.now ≡ row.call.now ++ 9 ∷ row.format.now ++ 9 ∷ row.mode.now ++ 9
         ∷ row.operands.now ++ 9 ∷ row.value.now ++ 9 ∷ row.status.now ++ 9 ∷ row.extra.now) }
 {
-    let (call, others) = cut_column(line)?;
-    let (format, others) = cut_column(others)?;
-    let (mode, others) = cut_column(others)?;
-    let (operands, others) = cut_column(others)?;
-    let (value, others) = cut_column(others)?;
-    let (status, extra) = cut_column(others)?;
+    let Some((call, others)) = cut_column(line) else {
+        return None;
+    };
+    let Some((format, others)) = cut_column(others) else {
+        return None;
+    };
+    let Some((mode, others)) = cut_column(others) else {
+        return None;
+    };
+    let Some((operands, others)) = cut_column(others) else {
+        return None;
+    };
+    let Some((value, others)) = cut_column(others) else {
+        return None;
+    };
+    let Some((status, extra)) = cut_column(others) else {
+        return None;
+    };
     if extra.contains('\t') {
         return None;
     }
@@ -58,14 +70,27 @@ fn cut_column(text: &str) -> Option<(&str, &str)>
 }
 
 impl<'a> CallRow<'a> {
+    /// The row in a mode.
+    pub fn in_mode(self, mode: &'a str) -> CallRow<'a> {
+        CallRow { mode, ..self }
+    }
+
     /// The first operand, and the others.
     pub fn cut_operand(self) -> Result<(&'a str, &'a str), RowError<'a>> {
-        self.operands.split_once(' ').ok_or(self.operand_error())
+        match self.operands.split_once(' ') {
+            Some(parts) => Ok(parts),
+            None => Err(self.operand_error()),
+        }
     }
 
     /// The error for operands that the call does not take.
     pub fn operand_error(self) -> RowError<'a> {
         RowError::Word("no operands of the call", self.operands)
+    }
+
+    /// The error for a format that does not exist.
+    pub fn format_error(self) -> RowError<'a> {
+        RowError::Word("no format", self.format)
     }
 
     /// The error for a call that the format does not have.

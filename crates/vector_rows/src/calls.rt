@@ -13,30 +13,44 @@ use crate::calls::answer::RowAnswer;
 use crate::calls::call::Call;
 use crate::calls::formats::answered;
 use crate::failure::RowError;
-pub use answer::{StatusField, Text, ValueField, status_named};
+pub use answer::{StatusField, Text, ValueField, shown, status_named};
 use dispatch::mode_named;
 use rustc_apfloat::Round;
 use std::io;
 use std::io::Write;
 pub use table::found;
 
-const MODES: [&str; 5] = ["even", "up", "down", "zero", "away"];
+static MODES: &[&str] = &["even", "up", "down", "zero", "away"];
 
 /// Whether a row agrees, in each mode that it names.
 pub fn agrees(row: CallRow<'_>) -> Result<bool, RowError<'_>> {
     if row.mode != "any" || !takes_mode(row.call) {
-        return answer_of(row)?.is_of(row);
+        return agrees_in_mode(row);
     }
     let mut all_agree = true;
     for mode in MODES {
-        all_agree &= answer_of(CallRow { mode, ..row })?.is_of(row)?;
+        match agrees_in_mode(row.in_mode(mode)) {
+            Ok(agrees) => all_agree &= agrees,
+            Err(error) => return Err(error),
+        }
     }
     Ok(all_agree)
 }
 
+/// Whether a row agrees in its mode.
+fn agrees_in_mode(row: CallRow<'_>) -> Result<bool, RowError<'_>> {
+    match answer_of(row) {
+        Ok(answer) => answer.is_of(row),
+        Err(error) => Err(error),
+    }
+}
+
 /// What the call of a row returns.
 pub fn answer_of(row: CallRow<'_>) -> Result<RowAnswer, RowError<'_>> {
-    answered(RowRequest::of(row)?)
+    match RowRequest::of(row) {
+        Ok(request) => answered(request),
+        Err(error) => Err(error),
+    }
 }
 
 /// Writes what a row expects, and what the call returns in each mode of the row in which that differs.
@@ -47,7 +61,7 @@ pub fn write_answers<W: Write>(row: CallRow<'_>, out: &mut W) -> io::Result<()> 
         return write_given(row, "", out);
     }
     for mode in MODES {
-        write_given(CallRow { mode, ..row }, mode, out)?;
+        write_given(row.in_mode(mode), mode, out)?;
     }
     Ok(())
 }
@@ -80,14 +94,25 @@ pub struct RowRequest<'a> {
 impl<'a> RowRequest<'a> {
     /// What a row asks for, if there is such a call and it takes the mode.
     pub fn of(row: CallRow<'a>) -> Result<RowRequest<'a>, RowError<'a>> {
-        let call = Call::named(row.call).ok_or(RowError::Word("no call", row.call))?;
-        let round = match row.mode {
-            mode if takes_mode(row.call) => mode_named(mode),
-            "-" => Some(Round::NearestTiesToEven),
-            _ => None,
+        let Some(call) = Call::named(row.call) else {
+            return Err(RowError::Word("no call", row.call));
         };
-        let round = round.ok_or(RowError::Word("no mode of the call", row.mode))?;
-        Ok(RowRequest { row, call, round })
+        match mode_of(row) {
+            Some(round) => Ok(RowRequest { row, call, round }),
+            None => Err(RowError::Word("no mode of the call", row.mode)),
+        }
+    }
+}
+
+/// The mode of a row, if it is one that its call takes. A call without one gets any.
+fn mode_of(row: CallRow<'_>) -> Option<Round> {
+    if takes_mode(row.call) {
+        return mode_named(row.mode);
+    }
+    if row.mode == "-" {
+        Some(Round::NearestTiesToEven)
+    } else {
+        None
     }
 }
 

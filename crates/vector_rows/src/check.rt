@@ -1,6 +1,6 @@
 //! Checks the lines of an input, one at a time, counts them, and reports how far it has come.
 
-use crate::call_row::row_of;
+use crate::call_row::{CallRow, row_of};
 use crate::calls::{agrees, write_answers};
 use crate::command_row::CommandRow;
 use crate::failure::{Failure, RowError};
@@ -151,46 +151,76 @@ impl Check {
         }
         match self.task.lines {
             Lines::Rows => self.take_row(text, out),
-            Lines::TestFloat(function) => match function.agrees(text) {
-                Ok(agrees) => {
-                    if self.takes_difference(text, agrees, out)? {
-                        function.write_given(text, out)?;
-                    }
-                    Ok(())
+            Lines::TestFloat(function) => self.take_testfloat(function, text, out),
+            Lines::Fpgen(fpgen) => self.take_fpgen(fpgen, text, out),
+        }
+    }
+
+    /// Checks a line of TestFloat.
+    fn take_testfloat<W: Write>(
+        &mut self,
+        function: TestFloat,
+        text: &str,
+        out: &mut W,
+    ) -> Result<(), Failure> {
+        match function.agrees(text) {
+            Ok(agrees) => {
+                if self.takes_difference(text, agrees, out)? {
+                    function.write_given(text, out)?;
                 }
-                Err(error) => self.take_error(error, out),
-            },
-            Lines::Fpgen(fpgen) => match fpgen.agrees(text) {
-                Ok(None) => Ok(increment(&mut self.tally.skipped)),
-                Ok(Some(agrees)) => {
-                    if self.takes_difference(text, agrees, out)? {
-                        fpgen.write_given(text, out)?;
-                    }
-                    Ok(())
+                Ok(())
+            }
+            Err(error) => self.take_error(error, out),
+        }
+    }
+
+    /// Checks a line of FPgen.
+    fn take_fpgen<W: Write>(
+        &mut self,
+        fpgen: Fpgen,
+        text: &str,
+        out: &mut W,
+    ) -> Result<(), Failure> {
+        match fpgen.agrees(text) {
+            Ok(Some(agrees)) => {
+                if self.takes_difference(text, agrees, out)? {
+                    fpgen.write_given(text, out)?;
                 }
-                Err(error) => self.take_error(error, out),
-            },
+                Ok(())
+            }
+            Ok(None) => Ok(increment(&mut self.tally.skipped)),
+            Err(error) => self.take_error(error, out),
         }
     }
 
     /// Checks a row.
     fn take_row<W: Write>(&mut self, text: &str, out: &mut W) -> Result<(), Failure> {
         if let Some(row) = row_of(text) {
-            return match agrees(row) {
-                Ok(agrees) => {
-                    if self.takes_difference(text, agrees, out)? {
-                        write_answers(row, out)?;
-                    }
-                    Ok(())
-                }
-                Err(error) => self.take_error(error, out),
-            };
+            return self.take_call(row, text, out);
         }
         match text.split_once('\t') {
             Some((command, reply)) if !reply.contains('\t') => {
                 self.take_command(CommandRow { command, reply }, text, out)
             }
             _ => self.take_error(RowError::Columns(text.split('\t').count()), out),
+        }
+    }
+
+    /// Checks a call.
+    fn take_call<W: Write>(
+        &mut self,
+        row: CallRow<'_>,
+        text: &str,
+        out: &mut W,
+    ) -> Result<(), Failure> {
+        match agrees(row) {
+            Ok(agrees) => {
+                if self.takes_difference(text, agrees, out)? {
+                    write_answers(row, out)?;
+                }
+                Ok(())
+            }
+            Err(error) => self.take_error(error, out),
         }
     }
 

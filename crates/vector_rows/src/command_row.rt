@@ -21,21 +21,18 @@ impl<'a> CommandRow<'a> {
     /// What is wrong with the row, if its reply has no form of one, or a reply other than a refusal belongs to a format
     /// or a mode that does not exist.
     pub fn fault(self) -> Option<RowError<'a>> {
-        if let Some(("refused:", _)) = self.reply.split_once(' ') {
+        if self.reply.starts_with("refused: ") {
             return None;
         }
         if result_of(self.reply).is_none() {
             return Some(RowError::Word("no reply", self.reply));
         }
-        let (format, words) = self.command.split_once(' ')?;
-        if BuiltInKind::named(format).is_none() {
-            return Some(RowError::Word("no format", format));
-        }
-        let (_, words) = words.split_once(' ')?;
-        let (mode, _) = words.split_once(' ')?;
-        match mode_named(mode) {
-            Some(_) => None,
-            None => Some(RowError::Word("no mode", mode)),
+        match self.command.split_once(' ') {
+            Some((format, _)) if BuiltInKind::named(format).is_none() => {
+                Some(RowError::Word("no format", format))
+            }
+            Some((_, words)) => mode_fault(words),
+            None => None,
         }
     }
 
@@ -45,13 +42,7 @@ impl<'a> CommandRow<'a> {
         if agrees(alloc, words.as_slice(), self.reply) {
             return Ok(None);
         }
-        let mut line = Vec::new(alloc);
-        let mut refusal = Vec::new(alloc);
-        // A write to memory fails only if there is not enough of it.
-        if run(words.as_slice(), &mut line, &mut refusal) == 1 {
-            return Err(io::Error::from(io::ErrorKind::OutOfMemory));
-        }
-        let given = if line.is_empty() { refusal } else { line };
+        let given = reply_to(alloc, words.as_slice())?;
         if has_result(given.as_slice(), self.reply) {
             return Ok(None);
         }
@@ -73,6 +64,28 @@ impl<'a> CommandRow<'a> {
     }
 }
 
+/// The reply to a command, with the end of its line.
+fn reply_to(alloc: Global, words: &[String]) -> io::Result<Vec<u8>> {
+    let mut line = Vec::new(alloc);
+    let mut refusal = Vec::new(alloc);
+    // A write to memory fails only if there is not enough of it.
+    if run(words, &mut line, &mut refusal) == 1 {
+        return Err(io::Error::from(io::ErrorKind::OutOfMemory));
+    }
+    Ok(if line.is_empty() { refusal } else { line })
+}
+
+/// What is wrong with the mode, the second of the words of a command after its format, if there are more.
+fn mode_fault(words: &str) -> Option<RowError<'_>> {
+    let Some((_, words)) = words.split_once(' ') else {
+        return None;
+    };
+    match words.split_once(' ') {
+        Some((mode, _)) if mode_named(mode).is_none() => Some(RowError::Word("no mode", mode)),
+        _ => None,
+    }
+}
+
 /// Whether a line of output has the bits and the flags of a reply, however these are written.
 fn has_result(line: &[u8], reply: &str) -> bool {
     match (str::from_utf8(line), result_of(reply)) {
@@ -83,6 +96,11 @@ fn has_result(line: &[u8], reply: &str) -> bool {
 
 /// The bits and the flags of a reply that is no refusal.
 fn result_of(reply: &str) -> Option<(u128, u8)> {
-    let (bits, flags) = reply.split_once(' ')?;
-    Some((bits_of(bits, 128)?, status_named(flags)?.bits()))
+    let Some((bits, flags)) = reply.split_once(' ') else {
+        return None;
+    };
+    match (bits_of(bits, 128), status_named(flags)) {
+        (Some(bits), Some(status)) => Some((bits, status.bits())),
+        _ => None,
+    }
 }

@@ -29,7 +29,7 @@ struct BinaryFormat {
 }
 
 /// The formats by the beginning of a line.
-const FORMATS: [(&str, BinaryFormat); 3] = [
+static FORMATS: &[(&str, BinaryFormat)] = &[
     (
         "b128",
         BinaryFormat {
@@ -66,7 +66,7 @@ const FORMATS: [(&str, BinaryFormat); 3] = [
 ];
 
 /// The operations: the call, and how many operands it has.
-const OPERATIONS: [(&str, (&str, usize)); 8] = [
+static OPERATIONS: &[(&str, (&str, usize))] = &[
     ("+", ("add_r", 2)),
     ("-", ("sub_r", 2)),
     ("*", ("wide_mul_r", 2)),
@@ -78,7 +78,7 @@ const OPERATIONS: [(&str, (&str, usize)); 8] = [
 ];
 
 /// The rounding modes.
-const ROUNDINGS: [(&str, &str); 5] = [
+static ROUNDINGS: &[(&str, &str)] = &[
     ("=0", "even"),
     (">", "up"),
     ("<", "down"),
@@ -124,22 +124,15 @@ impl Fpgen {
 
     /// Whether what the library returns agrees with a line, or nothing if the line says what a trap gets.
     pub fn agrees(self, line: &str) -> Result<Option<bool>, RowError<'_>> {
-        let Some(test) = test_of(line)? else {
-            return Ok(None);
+        let test = match test_of(line) {
+            Ok(Some(test)) => test,
+            Ok(None) => return Ok(None),
+            Err(error) => return Err(error),
         };
-        let given = self
-            .given(test)
-            .ok_or(RowError::Word("no such call here", line))?;
-        let BinaryFormat {
-            width,
-            infinity,
-            ..
-        } = test.format;
-        let are_nans = is_nan(given.result, width, infinity)
-            && is_nan(test.stated.result, width, infinity);
-        Ok(Some(
-            given.flags == test.stated.flags && (given.result == test.stated.result || are_nans),
-        ))
+        match self.given(test) {
+            Some(given) => Ok(Some(test.agrees(given))),
+            None => Err(RowError::Word("no such call here", line)),
+        }
     }
 
     /// Writes the bits and the flags that the library returns for a line.
@@ -151,13 +144,8 @@ impl Fpgen {
             return Ok(());
         };
         let digits = test.format.width / 4;
-        write!(out, "  given: {result:0digits$x} ")?;
-        for (letter, flag) in [("x", 1), ("u", 2), ("o", 4), ("z", 8), ("i", 16)] {
-            if flags & flag != 0 {
-                out.write_all(letter.as_bytes())?;
-            }
-        }
-        out.write_all(b"\n")
+        let letters = letters_of(flags);
+        writeln!(out, "  given: {result:0digits$x} {}", letters.as_str())
     }
 
     /// What the library returns.
@@ -167,60 +155,129 @@ impl Fpgen {
         } else {
             test.format.word
         };
-        if test.call == "ieee_rem" {
-            given(test.call, word, "-", test.operands.as_str())
+        let mode = if test.call == "ieee_rem" {
+            "-"
         } else {
-            given(test.call, word, test.mode, test.operands.as_str())
-        }
+            test.mode
+        };
+        given(test.call, word, mode, test.operands.as_str())
+    }
+}
+
+impl Test {
+    /// Whether the result and the flags are those stated; any NaN agrees with any other.
+    fn agrees(self, given: Columns) -> bool {
+        given.flags == self.stated.flags
+            && (given.result == self.stated.result
+                || (self.is_nan(given.result) && self.is_nan(self.stated.result)))
+    }
+
+    /// Whether bits are those of a NaN.
+    fn is_nan(self, bits: u128) -> bool {
+        is_nan(bits, self.format.width, self.format.infinity)
     }
 }
 
 /// What a line says, or nothing if it says what a trap gets.
 fn test_of(line: &str) -> Result<Option<Test>, RowError<'_>> {
-    let error = RowError::Word("no line of FPgen", line);
-    let (left, right) = line.split_once(" -> ").ok_or(error)?;
-    let (name, left) = left.split_once(' ').ok_or(error)?;
-    let (format, operation) = format_of(name).ok_or(RowError::Word("no format", name))?;
-    let (call, count) = found(&OPERATIONS, operation).ok_or(RowError::Word("no call", name))?;
-    let (rounding, words) = left.split_once(' ').ok_or(error)?;
-    let mode = found(&ROUNDINGS, rounding).ok_or(RowError::Word("no mode", rounding))?;
-    let (traps, operands) = cut_word(words);
-    if flags_of(traps).is_some() && !operands.is_empty() {
-        return Ok(None);
-    }
-    if words.split(' ').count() != count {
-        return Err(RowError::Word("no operands of the call", words));
-    }
-    let Some(stated) = stated_in(right, format)? else {
-        return Ok(None);
+    let Some((name, left, right)) = cut_line(line) else {
+        return Err(RowError::Word("no line of FPgen", line));
     };
-    let operands = operands_of(words, format);
-    Ok(Some(Test {
-        format,
-        call,
-        mode,
-        operands: operands.ok_or(RowError::Word("no operands of the call", words))?,
-        stated,
-    }))
+    let operation = match operation_named(name) {
+        Ok(operation) => operation,
+        Err(error) => return Err(error),
+    };
+    let Some((rounding, words)) = left.split_once(' ') else {
+        return Err(RowError::Word("no line of FPgen", line));
+    };
+    match found(ROUNDINGS, rounding) {
+        None => Err(RowError::Word("no mode", rounding)),
+        Some(_) if has_traps(words) => Ok(None),
+        Some(mode) => operation.test(mode, words, right),
+    }
+}
+
+/// The first word of a line, the text from there to the arrow, and the text after the arrow.
+fn cut_line(line: &str) -> Option<(&str, &str, &str)> {
+    let Some((left, right)) = line.split_once(" -> ") else {
+        return None;
+    };
+    match left.split_once(' ') {
+        Some((name, left)) => Some((name, left, right)),
+        None => None,
+    }
+}
+
+/// Whether operands come after the letters of exceptions that trap.
+fn has_traps(words: &str) -> bool {
+    match words.split_once(' ') {
+        Some((letters, operands)) => flags_of(letters).is_some() && !operands.is_empty(),
+        None => false,
+    }
+}
+
+/// An operation in a format.
+#[derive(Clone, Copy)]
+struct Operation {
+    format: BinaryFormat,
+    call: &'static str,
+    operand_count: usize,
+}
+
+/// The operation of this name, which begins with its format.
+fn operation_named(name: &str) -> Result<Operation, RowError<'_>> {
+    let Some((format, operation)) = format_of(name) else {
+        return Err(RowError::Word("no format", name));
+    };
+    match found(OPERATIONS, operation) {
+        Some((call, operand_count)) => Ok(Operation {
+            format,
+            call,
+            operand_count,
+        }),
+        None => Err(RowError::Word("no call", name)),
+    }
+}
+
+impl Operation {
+    /// What the rest of a line says of the operation, or nothing if it says what a trap gets.
+    fn test<'a>(
+        self,
+        mode: &'static str,
+        words: &'a str,
+        right: &'a str,
+    ) -> Result<Option<Test>, RowError<'a>> {
+        if words.split(' ').count() != self.operand_count {
+            return Err(RowError::Word("no operands of the call", words));
+        }
+        let stated = match stated_in(right, self.format) {
+            Ok(Some(stated)) => stated,
+            Ok(None) => return Ok(None),
+            Err(error) => return Err(error),
+        };
+        match operands_of(words, self.format) {
+            Some(operands) => Ok(Some(Test {
+                format: self.format,
+                call: self.call,
+                mode,
+                operands,
+                stated,
+            })),
+            None => Err(RowError::Word("no operands of the call", words)),
+        }
+    }
 }
 
 /// The result and the flags of a line, or nothing if there is no result since there is a trap.
 fn stated_in(right: &str, format: BinaryFormat) -> Result<Option<Columns>, RowError<'_>> {
-    let (result, flags) = cut_word(right);
+    let (result, flags) = right.split_once(' ').unwrap_or((right, ""));
     if result == "#" {
         return Ok(None);
     }
-    Ok(Some(Columns {
-        result: bits_of_number(result, format).ok_or(RowError::Word("no result", result))?,
-        flags: flags_of(flags).ok_or(RowError::Word("no flags", flags))?,
-    }))
-}
-
-/// The first word of a text, and the text after its space.
-fn cut_word(text: &str) -> (&str, &str) {
-    match text.split_once(' ') {
-        Some(parts) => parts,
-        None => (text, ""),
+    match (bits_of_word(result, format), flags_of(flags)) {
+        (None, _) => Err(RowError::Word("no result", result)),
+        (_, None) => Err(RowError::Word("no flags", flags)),
+        (Some(result), Some(flags)) => Ok(Some(Columns { result, flags })),
     }
 }
 
@@ -228,7 +285,7 @@ fn cut_word(text: &str) -> (&str, &str) {
 fn format_of(name: &str) -> Option<(BinaryFormat, &str)> {
     for (word, format) in FORMATS {
         if let Some(operation) = name.strip_prefix(word) {
-            return Some((format, operation));
+            return Some((*format, operation));
         }
     }
     None
@@ -238,48 +295,87 @@ fn format_of(name: &str) -> Option<(BinaryFormat, &str)> {
 fn operands_of(words: &str, format: BinaryFormat) -> Option<Text> {
     let mut text = Text::of("");
     for word in words.split(' ') {
+        let Some(bits) = bits_of_word(word, format) else {
+            return None;
+        };
         if !text.as_bytes().is_empty() {
             text.write_str(" ").ok()?;
         }
-        write!(text, "{:x}", bits_of_number(word, format)?).ok()?;
+        write!(text, "{bits:x}").ok()?;
     }
     Some(text)
 }
 
 /// The bits of a number, an infinity or a NaN: `+1.800000P-3`, `-0.000001P-126`, `+Zero`, `-Inf`, `Q`, `S`.
-fn bits_of_number(word: &str, format: BinaryFormat) -> Option<u128> {
-    let unit = mask(format.fraction).wrapping_add(1);
+fn bits_of_word(word: &str, format: BinaryFormat) -> Option<u128> {
     match word {
-        "Q" => return Some(format.infinity | (unit >> 1)),
+        "Q" => return Some(format.infinity | (unit_of(format) >> 1)),
         "S" => return Some(format.infinity | 1),
         _ => {}
     }
-    let (sign, magnitude) = match word.strip_prefix('-') {
-        Some(magnitude) => (mask(format.width) ^ (mask(format.width) >> 1), magnitude),
-        None => (0, word.strip_prefix('+')?),
-    };
-    let magnitude = match magnitude {
-        "Zero" => 0,
-        "Inf" => format.infinity,
-        number => {
-            let (digits, exponent) = number.split_once('P')?;
-            let (whole, fraction) = digits.split_once('.')?;
-            let fraction = bits_of(fraction, format.fraction)?;
-            let exponent = exponent.parse::<i32>().ok()?;
-            match whole {
-                "0" => fraction,
-                "1" => {
-                    let biased = u32::try_from(exponent.checked_add(format.bias)?).ok()?;
-                    u128::from(biased).checked_mul(unit)? | fraction
-                }
-                _ => return None,
-            }
-        }
-    };
-    Some(sign | magnitude)
+    if let Some(magnitude) = word.strip_prefix('-') {
+        return negated(bits_of_magnitude(magnitude, format), format);
+    }
+    match word.strip_prefix('+') {
+        Some(magnitude) => bits_of_magnitude(magnitude, format),
+        None => None,
+    }
 }
 
-/// The flags of letters: inexact, underflow, overflow, division by zero, invalid operation.
+/// How far apart the bits of the powers of two are.
+fn unit_of(format: BinaryFormat) -> u128 {
+    mask(format.fraction).wrapping_add(1)
+}
+
+/// Bits with the bit of the sign, if there are some.
+fn negated(bits: Option<u128>, format: BinaryFormat) -> Option<u128> {
+    match bits {
+        Some(bits) => Some(bits | (mask(format.width) ^ (mask(format.width) >> 1))),
+        None => None,
+    }
+}
+
+/// The bits of a word without its sign.
+fn bits_of_magnitude(word: &str, format: BinaryFormat) -> Option<u128> {
+    match word {
+        "Zero" => return Some(0),
+        "Inf" => return Some(format.infinity),
+        _ => {}
+    }
+    let Some((digits, exponent)) = word.split_once('P') else {
+        return None;
+    };
+    let Ok(exponent) = exponent.parse::<i32>() else {
+        return None;
+    };
+    let Some((whole, fraction)) = digits.split_once('.') else {
+        return None;
+    };
+    match (whole, bits_of(fraction, format.fraction)) {
+        ("0", fraction) => fraction,
+        ("1", Some(fraction)) => bits_of_normal(fraction, exponent, format),
+        _ => None,
+    }
+}
+
+/// The bits of a number that is not denormal.
+fn bits_of_normal(fraction: u128, exponent: i32, format: BinaryFormat) -> Option<u128> {
+    let Some(biased) = exponent.checked_add(format.bias) else {
+        return None;
+    };
+    let Ok(biased) = u32::try_from(biased) else {
+        return None;
+    };
+    match u128::from(biased).checked_mul(unit_of(format)) {
+        Some(bits) => Some(bits | fraction),
+        None => None,
+    }
+}
+
+/// The letters of the flags: inexact, underflow, overflow, division by zero, invalid operation.
+static LETTERS: &[(&str, u128)] = &[("x", 1), ("u", 2), ("o", 4), ("z", 8), ("i", 16)];
+
+/// The flags of letters.
 fn flags_of(letters: &str) -> Option<u128> {
     let mut flags = 0;
     for letter in letters.as_bytes() {
@@ -293,4 +389,15 @@ fn flags_of(letters: &str) -> Option<u128> {
         };
     }
     Some(flags)
+}
+
+/// The letters of flags.
+fn letters_of(flags: u128) -> Text {
+    let mut text = Text::of("");
+    for (letter, flag) in LETTERS {
+        if flags & *flag != 0 {
+            let _ = text.write_str(letter);
+        }
+    }
+    text
 }

@@ -78,10 +78,18 @@ enum Job<'a> {
 fn job_of(words: &[String]) -> Option<Job<'_>> {
     match words {
         [word] if matches!(word.as_str(), "--help" | "-h") => Some(Job::Help),
-        _ => {
-            let (task, left) = task_of(words)?;
-            Some(Job::Check(task, file_of(left)?))
-        }
+        _ => match task_of(words) {
+            Some((task, left)) => check_of(task, file_of(left)),
+            None => None,
+        },
+    }
+}
+
+/// A check of a file, if there is one.
+fn check_of(task: Task, file: Option<Option<&str>>) -> Option<Job<'_>> {
+    match file {
+        Some(file) => Some(Job::Check(task, file)),
+        None => None,
     }
 }
 
@@ -90,36 +98,72 @@ fn task_of(words: &[String]) -> Option<(Task, &[String])> {
     let mut task = Task::rows();
     let mut left = words;
     for _ in 0..words.len() {
-        let [word, others @ ..] = left else {
-            return Some((task, left));
-        };
-        match (word.as_str(), others) {
-            ("--summary", _) => {
-                task.is_summary = true;
+        match next_option(task, left) {
+            NextOption::Known(changed, others) => {
+                task = changed;
                 left = others;
             }
-            ("--fpgen", _) => {
-                task.lines = Lines::Fpgen(Fpgen::new());
-                left = others;
-            }
-            ("--first", [count, others @ ..]) => {
-                task.first = Some(count.as_str().parse().ok()?);
-                left = others;
-            }
-            ("--testfloat", [name, others @ ..]) => {
-                task.lines = Lines::TestFloat(TestFloat::named(name.as_str())?);
-                left = others;
-            }
-            (option, _) => match task.lines.with(option) {
-                Some(lines) => {
-                    task.lines = lines;
-                    left = others;
-                }
-                None => return Some((task, left)),
-            },
+            NextOption::Unknown => return None,
+            NextOption::End => break,
         }
     }
     Some((task, left))
+}
+
+/// What comes next among the words.
+enum NextOption<'a> {
+    /// An option: the task with it, and the words after it.
+    Known(Task, &'a [String]),
+    /// An option with a count or a function that is none.
+    Unknown,
+    /// No option.
+    End,
+}
+
+/// What the next option adds to a task.
+fn next_option(task: Task, words: &[String]) -> NextOption<'_> {
+    match words {
+        [] => NextOption::End,
+        [word, others @ ..] if word.as_str() == "--summary" => {
+            let is_summary = true;
+            NextOption::Known(Task { is_summary, ..task }, others)
+        }
+        [word, count, others @ ..] if word.as_str() == "--first" => {
+            match count.as_str().parse::<u64>() {
+                Ok(count) => {
+                    let first = Some(count);
+                    NextOption::Known(Task { first, ..task }, others)
+                }
+                Err(_) => NextOption::Unknown,
+            }
+        }
+        _ => option_on_lines(task, words),
+    }
+}
+
+/// What the next option adds to a task if it says what the lines are, or is one of the program that writes them.
+fn option_on_lines(task: Task, words: &[String]) -> NextOption<'_> {
+    match words {
+        [word, others @ ..] if word.as_str() == "--fpgen" => {
+            with_lines(task, Lines::Fpgen(Fpgen::new()), others)
+        }
+        [word, name, others @ ..] if word.as_str() == "--testfloat" => {
+            match TestFloat::named(name.as_str()) {
+                Some(function) => with_lines(task, Lines::TestFloat(function), others),
+                None => NextOption::Unknown,
+            }
+        }
+        [word, others @ ..] => match task.lines.with(word.as_str()) {
+            Some(lines) => with_lines(task, lines, others),
+            None => NextOption::End,
+        },
+        [] => NextOption::End,
+    }
+}
+
+/// The task on other lines.
+fn with_lines(task: Task, lines: Lines, others: &[String]) -> NextOption<'_> {
+    NextOption::Known(Task { lines, ..task }, others)
 }
 
 /// The file that the last words name, or none for standard input.

@@ -37,20 +37,11 @@ impl Summary {
         let (call, format) = names_of(text);
         let place = self.place_of(call, format);
         if place == self.groups.len() {
-            self.groups.push(Group {
-                call: String::from_str(self.alloc, call)?,
-                format: String::from_str(self.alloc, format)?,
-                agreeing: 0,
-                differing: 0,
-            })?;
+            self.groups.push(Group::new(self.alloc, call, format)?)?;
         }
         self.last = place;
         if let Some(group) = self.groups.get_mut(place) {
-            if is_agreeing {
-                group.agreeing = group.agreeing.saturating_add(1);
-            } else {
-                group.differing = group.differing.saturating_add(1);
-            }
+            group.count(is_agreeing);
         }
         Ok(())
     }
@@ -85,6 +76,25 @@ impl Summary {
 }
 
 impl Group {
+    /// No rows yet of a call in a format.
+    fn new(alloc: Global, call: &str, format: &str) -> Result<Group, AllocError> {
+        Ok(Group {
+            call: String::from_str(alloc, call)?,
+            format: String::from_str(alloc, format)?,
+            agreeing: 0,
+            differing: 0,
+        })
+    }
+
+    /// Counts a row.
+    fn count(&mut self, is_agreeing: bool) {
+        if is_agreeing {
+            self.agreeing = self.agreeing.saturating_add(1);
+        } else {
+            self.differing = self.differing.saturating_add(1);
+        }
+    }
+
     /// Whether it is that of a call in a format.
     fn is_of(&self, call: &str, format: &str) -> bool {
         self.call.as_str() == call && self.format.as_str() == format

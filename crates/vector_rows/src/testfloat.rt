@@ -3,7 +3,7 @@
 //!
 //! Flags are those that processors raise, so the formats are those of IEEE 754-2008 with its rules of flags.
 
-use crate::calls::{Text, found};
+use crate::calls::{Text, found, shown};
 use crate::failure::RowError;
 use crate::given::{Columns, given, is_nan, mask};
 use commands::bits_of;
@@ -23,7 +23,7 @@ enum Kind {
 }
 
 /// The kinds by their words in the names of functions.
-const KINDS: [(&str, Kind); 9] = [
+static KINDS: &[(&str, Kind)] = &[
     ("f16", Kind::Float("half", 16, 0x7c00)),
     ("f32", Kind::Float("single", 32, 0x7f80_0000)),
     ("f64", Kind::Float("double", 64, 0x7ff0_0000_0000_0000)),
@@ -37,7 +37,7 @@ const KINDS: [(&str, Kind); 9] = [
 
 /// The operations on values of one format by their words in the names of functions: the call, and how many operands
 /// it has.
-const OPERATIONS: [(&str, (&str, usize)); 8] = [
+static OPERATIONS: &[(&str, (&str, usize))] = &[
     ("add", ("add_r", 2)),
     ("sub", ("sub_r", 2)),
     ("mul", ("wide_mul_r", 2)),
@@ -49,7 +49,7 @@ const OPERATIONS: [(&str, (&str, usize)); 8] = [
 ];
 
 /// The options of rounding, with their modes.
-const ROUNDINGS: [(&str, &str); 5] = [
+static ROUNDINGS: &[(&str, &str)] = &[
     ("-rnear_even", "even"),
     ("-rmax", "up"),
     ("-rmin", "down"),
@@ -74,28 +74,29 @@ impl TestFloat {
     /// The function of this name. It rounds to the nearest, ties to even, and finds results tiny after rounding;
     /// integral values and integers do not raise the inexact flag, and each bit of a NaN matters.
     pub fn named(name: &str) -> Option<TestFloat> {
-        let (call, operand, operand_count, result) = match name.split_once("_to_") {
-            Some((source, target)) => {
-                let (operand, result) = (found(&KINDS, source)?, found(&KINDS, target)?);
-                (conversion(operand, result)?, operand, 1, result)
+        if let Some((source, target)) = name.split_once("_to_") {
+            return conversion(found(KINDS, source), found(KINDS, target));
+        }
+        match name.split_once('_') {
+            Some((format, operation)) => {
+                operation_on(found(KINDS, format), found(OPERATIONS, operation))
             }
-            None => {
-                let (word, operation) = name.split_once('_')?;
-                let kind = found(&KINDS, word)?;
-                let (call, count) = found(&OPERATIONS, operation)?;
-                (call, kind, count, kind)
-            }
-        };
-        Some(TestFloat {
+            None => None,
+        }
+    }
+
+    /// The function that makes a call of so many operands of a kind.
+    fn of(call: &'static str, operand: Kind, operand_count: usize, given: Kind) -> TestFloat {
+        TestFloat {
             call,
             mode: if call == "ieee_rem" { "-" } else { "even" },
             operand,
             operand_count,
-            result,
+            result: given,
             tiny_before_rounding: false,
             is_exact: false,
             any_nan: false,
-        })
+        }
     }
 
     /// The function with an option of TestFloat, or `--any-nan`.
@@ -107,127 +108,172 @@ impl TestFloat {
             "-exact" => changed.is_exact = true,
             "-notexact" => changed.is_exact = false,
             "--any-nan" => changed.any_nan = true,
-            _ => {
-                let mode = found(&ROUNDINGS, option)?;
-                if changed.mode != "-" {
-                    changed.mode = mode;
-                }
-            }
+            _ => return self.rounded(found(ROUNDINGS, option)),
         }
         Some(changed)
     }
 
+    /// The function in a mode, if there is one. A remainder has none.
+    fn rounded(self, mode: Option<&'static str>) -> Option<TestFloat> {
+        let mode = match (self.mode, mode) {
+            (_, None) => return None,
+            ("-", _) => "-",
+            (_, Some(mode)) => mode,
+        };
+        Some(TestFloat { mode, ..self })
+    }
+
     /// Whether what the library returns agrees with a line.
     pub fn agrees(self, line: &str) -> Result<bool, RowError<'_>> {
-        let (operands, stated) = self.cut(line)?;
-        let given = self.given(operands)?;
-        let differing = given.flags ^ stated.flags;
-        let flags_agree = differing == 0 || (differing == 1 && self.may_be_inexact());
-        Ok(flags_agree && self.results_agree(given, stated))
+        let (operands, stated) = match self.cut(line) {
+            Ok(parts) => parts,
+            Err(error) => return Err(error),
+        };
+        match self.given(operands) {
+            Ok(given) => Ok(self.flags_agree(given, stated) && self.results_agree(given, stated)),
+            Err(error) => Err(error),
+        }
     }
 
     /// Writes the result and the flags that the library returns for a line.
     pub fn write_given<W: Write>(self, line: &str, out: &mut W) -> io::Result<()> {
-        let Ok(given) = self
-            .cut(line)
-            .and_then(|(operands, _)| self.given(operands))
-        else {
+        let Ok((operands, _)) = self.cut(line) else {
+            return Ok(());
+        };
+        let Ok(Columns { result, flags }) = self.given(operands) else {
             return Ok(());
         };
         let digits = width_of(self.result).div_ceil(4);
-        let Columns { result, flags } = given;
         writeln!(out, "  given: {result:0digits$X} {flags:02X}")
     }
 
-    /// Whether the inexact flag is not compared.
-    fn may_be_inexact(self) -> bool {
-        !self.is_exact && matches!(self.call, "round_to_integral" | "to_u128_r" | "to_i128_r")
+    /// Whether the flags are the same, or differ only in the inexact one, and that is not compared.
+    fn flags_agree(self, given: Columns, stated: Columns) -> bool {
+        match given.flags ^ stated.flags {
+            0 => true,
+            1 => !self.is_exact && self.is_integral(),
+            _ => false,
+        }
+    }
+
+    /// Whether the result is an integral value or an integer.
+    fn is_integral(self) -> bool {
+        match self.result {
+            Kind::Float(_, _, _) => self.call == "round_to_integral",
+            Kind::Unsigned(_) | Kind::Signed(_) => true,
+        }
     }
 
     /// Whether two results are the same, or need not be. An invalid conversion to an integer has a result of its own
     /// on each processor, and TestFloat does not compare it either.
     fn results_agree(self, given: Columns, stated: Columns) -> bool {
+        if given.result == stated.result {
+            return true;
+        }
         match self.result {
             Kind::Float(_, width, infinity) => {
-                let are_nans = is_nan(given.result, width, infinity)
-                    && is_nan(stated.result, width, infinity);
-                given.result == stated.result || (self.any_nan && are_nans)
+                self.any_nan
+                    && is_nan(given.result, width, infinity)
+                    && is_nan(stated.result, width, infinity)
             }
-            _ => given.result == stated.result || stated.flags & 16 != 0,
+            Kind::Unsigned(_) | Kind::Signed(_) => stated.flags & 16 != 0,
         }
     }
 
     /// The operands of a line, and its result and flags.
     fn cut<'a>(self, line: &'a str) -> Result<(&'a str, Columns), RowError<'a>> {
-        let error = RowError::Numbers(
-            line.split(' ').count(),
-            self.operand_count.saturating_add(2),
-        );
-        let (others, flags) = line.rsplit_once(' ').ok_or(error)?;
-        let (operands, result) = others.rsplit_once(' ').ok_or(error)?;
-        if operands.split(' ').count() != self.operand_count {
-            return Err(error);
-        }
-        let columns = Columns {
-            result: bits_of(result, width_of(self.result)).ok_or(RowError::Word(
-                "no result",
-                result,
-            ))?,
-            flags: bits_of(flags, 5).ok_or(RowError::Word("no flags", flags))?,
+        let count = line.split(' ').count();
+        let wanted = self.operand_count.saturating_add(2);
+        let Some((operands, result, flags)) = last_two_words(line) else {
+            return Err(RowError::Numbers(count, wanted));
         };
-        Ok((operands, columns))
+        if count != wanted {
+            return Err(RowError::Numbers(count, wanted));
+        }
+        match self.stated(result, flags) {
+            Ok(stated) => Ok((operands, stated)),
+            Err(error) => Err(error),
+        }
+    }
+
+    /// The result and the flags that two words stand for.
+    fn stated<'a>(self, value: &'a str, flags: &'a str) -> Result<Columns, RowError<'a>> {
+        match (bits_of(value, width_of(self.result)), bits_of(flags, 5)) {
+            (None, _) => Err(RowError::Word("no result", value)),
+            (_, None) => Err(RowError::Word("no flags", flags)),
+            (Some(result), Some(flags)) => Ok(Columns { result, flags }),
+        }
     }
 
     /// What the library returns for operands.
     fn given<'a>(self, operands: &'a str) -> Result<Columns, RowError<'a>> {
-        let error = RowError::Word("no operands of the function", operands);
-        let (format, words) = (self.format(), self.words(operands).ok_or(error)?);
-        let columns = given(self.call, format.as_str(), self.mode, words.as_str()).ok_or(error)?;
-        Ok(Columns {
-            result: columns.result & mask(width_of(self.result)),
-            ..columns
-        })
+        match self.computed(operands) {
+            Some(Columns { result, flags }) => Ok(Columns {
+                result: result & mask(width_of(self.result)),
+                flags,
+            }),
+            None => Err(RowError::Word("no operands of the function", operands)),
+        }
+    }
+
+    /// What the call of a row returns for operands, if they are some.
+    fn computed(self, operands: &str) -> Option<Columns> {
+        match self.words(operands) {
+            Some(words) => given(self.call, self.format().as_str(), self.mode, words.as_str()),
+            None => None,
+        }
     }
 
     /// The format of the row, or both formats of a conversion. The flags of a conversion are those of its target.
     fn format(self) -> Text {
-        let suffix = if self.tiny_before_rounding {
+        let rule = if self.tiny_before_rounding {
             "+ieee+before"
         } else {
             "+ieee"
         };
-        let mut text = Text::of("");
-        let _ = match (self.operand, self.result) {
+        match (self.operand, self.result) {
             (Kind::Float(source, _, _), Kind::Float(target, _, _)) if self.call == "convert_r" => {
-                write!(text, "{source}>{target}{suffix}")
+                Text::of_parts(&[source, ">", target, rule])
             }
             (Kind::Float(word, _, _), _) | (_, Kind::Float(word, _, _)) => {
-                write!(text, "{word}{suffix}")
+                Text::of_parts(&[word, rule])
             }
-            _ => Ok(()),
-        };
-        text
+            _ => Text::of(""),
+        }
     }
 
     /// The operands as a row has them: integers in decimal digits, and the width of an integer as a result.
     fn words(self, operands: &str) -> Option<Text> {
-        let mut text = Text::of("");
         match (self.operand, self.result) {
-            (Kind::Unsigned(width), _) => write!(text, "{}", bits_of(operands, width)?).ok()?,
-            (Kind::Signed(width), _) => {
-                write!(text, "{}", signed(bits_of(operands, width)?, width)?).ok()?
-            }
-            (_, Kind::Unsigned(width) | Kind::Signed(width)) => {
-                write!(text, "{operands} {width}").ok()?
-            }
-            _ => text.write_str(operands).ok()?,
+            (Kind::Unsigned(width), _) => decimal(bits_of(operands, width)),
+            (Kind::Signed(width), _) => signed_decimal(bits_of(operands, width), width),
+            (_, Kind::Unsigned(width) | Kind::Signed(width)) => with_width(operands, width),
+            _ => Text::whole(operands),
         }
-        Some(text)
+    }
+}
+
+/// The function that converts one kind to another, if there are both.
+fn conversion(source: Option<Kind>, target: Option<Kind>) -> Option<TestFloat> {
+    let (Some(source), Some(target)) = (source, target) else {
+        return None;
+    };
+    match call_between(source, target) {
+        Some(call) => Some(TestFloat::of(call, source, 1, target)),
+        None => None,
+    }
+}
+
+/// The function of a call and its count of operands, all of one kind, if there are both.
+fn operation_on(kind: Option<Kind>, operation: Option<(&'static str, usize)>) -> Option<TestFloat> {
+    match (kind, operation) {
+        (Some(kind), Some((call, count))) => Some(TestFloat::of(call, kind, count, kind)),
+        _ => None,
     }
 }
 
 /// The call that converts one kind to another.
-fn conversion(source: Kind, target: Kind) -> Option<&'static str> {
+fn call_between(source: Kind, target: Kind) -> Option<&'static str> {
     match (source, target) {
         (Kind::Float(_, _, _), Kind::Float(_, _, _)) => Some("convert_r"),
         (Kind::Float(_, _, _), Kind::Unsigned(_)) => Some("to_u128_r"),
@@ -245,12 +291,56 @@ fn width_of(kind: Kind) -> usize {
     }
 }
 
+/// The text before the last two words of a line, and these words.
+fn last_two_words(line: &str) -> Option<(&str, &str, &str)> {
+    let Some((others, last)) = line.rsplit_once(' ') else {
+        return None;
+    };
+    match others.rsplit_once(' ') {
+        Some((others, last_but_one)) => Some((others, last_but_one, last)),
+        None => None,
+    }
+}
+
+/// An integer in decimal digits, if there is one.
+fn decimal(number: Option<u128>) -> Option<Text> {
+    match number {
+        Some(number) => Some(shown(number)),
+        None => None,
+    }
+}
+
+/// The integer that bits of this width stand for in two's complement, in decimal digits, if there are some.
+fn signed_decimal(bits: Option<u128>, width: usize) -> Option<Text> {
+    let Some(bits) = bits else {
+        return None;
+    };
+    match signed(bits, width) {
+        Some(number) => Some(shown(number)),
+        None => None,
+    }
+}
+
+/// A text, a space and a width.
+fn with_width(text: &str, width: usize) -> Option<Text> {
+    let mut joined = Text::of("");
+    match write!(joined, "{text} {width}") {
+        Ok(()) => Some(joined),
+        Err(_) => None,
+    }
+}
+
 /// The integer that bits of this width stand for in two's complement.
 fn signed(bits: u128, width: usize) -> Option<i128> {
     let mask = mask(width);
     if bits <= mask >> 1 {
-        return i128::try_from(bits).ok();
+        return match i128::try_from(bits) {
+            Ok(number) => Some(number),
+            Err(_) => None,
+        };
     }
-    let below = i128::try_from(mask.wrapping_sub(bits)).ok()?;
-    0_i128.checked_sub(below)?.checked_sub(1)
+    match i128::try_from(mask.wrapping_sub(bits)) {
+        Ok(below) => Some(!below),
+        Err(_) => None,
+    }
 }

@@ -26,6 +26,24 @@ impl Text {
         copy
     }
 
+    /// A copy of a text, if it has room.
+    pub fn whole(text: &str) -> Option<Text> {
+        let mut copy = Text::of("");
+        match copy.write_str(text) {
+            Ok(()) => Some(copy),
+            Err(_) => None,
+        }
+    }
+
+    /// Copies of texts, one after the other, which have room together.
+    pub fn of_parts(parts: &[&str]) -> Text {
+        let mut text = Text::of("");
+        for part in parts {
+            let _ = text.write_str(part);
+        }
+        text
+    }
+
     /// The bytes of the text.
     pub fn as_bytes(&self) -> &[u8] {
         &self.bytes[..self.length.min(128)]

@@ -10,7 +10,8 @@ use crate::calls::call::{Call, ConversionCall, OneTypeCall};
 use crate::calls::of_type::{Answered, of_type, two_values, value_of};
 use crate::calls::row_format::{CallInFormat, RowFormat};
 use crate::failure::RowError;
-use rustc_apfloat::ieee::{Double, Flagged, IeeeFloat};
+use dispatch::InFormat;
+use rustc_apfloat::ieee::{Double, Flagged, IeeeFloat, Semantics};
 use rustc_apfloat::ppc::{DoubleDouble, FallbackS};
 use rustc_apfloat::{Category, FUSED_LIMIT, Float, FloatConvert, Round, StatusAnd};
 use std::cmp::Ordering;
@@ -19,28 +20,37 @@ use std::marker::PhantomData;
 
 /// What the call of a row returns in its format.
 pub fn answered(request: RowRequest<'_>) -> Answered<'_> {
-    let row = request.row;
-    let (source, target) = match row.format.split_once('>') {
-        Some(("dd", "fallback")) => return from::<DoubleDouble, IeeeFloat<FallbackS>>(request),
-        Some(("fallback", "dd")) => return from::<IeeeFloat<FallbackS>, DoubleDouble>(request),
-        Some((source, target)) => (source, Some(target)),
-        None if row.format == "dd" => return of_pairs(request),
-        None => (row.format, None),
-    };
-    match formats_named(source, target) {
-        Some((format, None)) => format.run(InOneFormat(request)),
-        Some((source, Some(target))) => source.run_plain(FromFormat { target, request }),
-        None => Err(RowError::Word("no format", row.format)),
+    let format = request.row.format;
+    match format.split_once('>') {
+        None if format == "dd" => of_pairs(request),
+        None => in_one_format(request),
+        Some(("dd", "fallback")) => from::<DoubleDouble, IeeeFloat<FallbackS>>(request),
+        Some(("fallback", "dd")) => from::<IeeeFloat<FallbackS>, DoubleDouble>(request),
+        Some((source, target)) => between_formats(source, target, request),
     }
 }
 
-/// The format of the first word, and that of the second if there is one.
-fn formats_named(source: &str, target: Option<&str>) -> Option<(RowFormat, Option<RowFormat>)> {
-    let target = match target {
-        Some(word) => Some(RowFormat::named(word)?),
-        None => None,
-    };
-    Some((RowFormat::named(source)?, target))
+/// What a call returns in the format of a row.
+fn in_one_format(request: RowRequest<'_>) -> Answered<'_> {
+    match RowFormat::named(request.row.format) {
+        Some(format) => format.run(InOneFormat(request)),
+        None => Err(request.row.format_error()),
+    }
+}
+
+/// What a call returns in two formats of a row. Each pair of formats takes code of its own, so only values of built-in
+/// formats are converted with the flags of IEEE 754.
+fn between_formats<'a>(source: &str, target: &str, request: RowRequest<'a>) -> Answered<'a> {
+    match (RowFormat::named(source), RowFormat::named(target)) {
+        (Some(RowFormat::BuiltIn(source, _)), Some(target)) => {
+            source.run(FromBuiltIn { target, request })
+        }
+        (Some(RowFormat::Other(source)), Some(target)) if target.is_plain() => {
+            source.run(FromOther { target, request })
+        }
+        (Some(_), Some(_)) => Err(request.row.support_error()),
+        _ => Err(request.row.format_error()),
+    }
 }
 
 /// A call in one format.
@@ -55,18 +65,36 @@ impl<'a> CallInFormat for InOneFormat<'a> {
     }
 }
 
-/// A conversion from one format to another.
+/// A conversion from a built-in format.
 #[derive(Drop)]
-struct FromFormat<'a> {
+struct FromBuiltIn<'a> {
     target: RowFormat,
     request: RowRequest<'a>,
 }
 
-impl<'a> CallInFormat for FromFormat<'a> {
+impl<'a> InFormat for FromBuiltIn<'a> {
+    type Output = Answered<'a>;
+
+    fn in_format<S: Semantics>(self) -> Answered<'a> {
+        self.target.run(ToFormat {
+            source: PhantomData::<S>,
+            request: self.request,
+        })
+    }
+}
+
+/// A conversion from another format, to one with the flags of the built-in formats.
+#[derive(Drop)]
+struct FromOther<'a> {
+    target: RowFormat,
+    request: RowRequest<'a>,
+}
+
+impl<'a> CallInFormat for FromOther<'a> {
     type Output = Answered<'a>;
 
     fn made_in<S: Flagged>(self) -> Answered<'a> {
-        self.target.run(ToFormat {
+        self.target.run_plain(ToFormat {
             source: PhantomData::<S>,
             request: self.request,
         })

@@ -5,8 +5,8 @@ use custom_formats::{
     BroadS, DeepS, HalfTinyBeforeS, LeastFiniteS, LeastS, PreciseS, SevenS, TenS, VastS,
     WrittenBitS,
 };
-use dispatch::{BuiltInFormat, BuiltInKind, InFormat};
-use rustc_apfloat::ieee::{Flagged, IeeeFlags, Semantics, TinyBefore};
+use dispatch::{BuiltInFormat, BuiltInKind, FlaggedFormat, IeeeFormat, InFlaggedFormat, InFormat};
+use rustc_apfloat::ieee::{Flagged, Semantics};
 use rustc_apfloat::ppc::{FallbackExtendedS, FallbackS};
 
 /// A call that can be made in every format, with bits or without, whatever flags its roundings raise.
@@ -30,43 +30,21 @@ impl<C: CallInFormat> InFormat for WithBits<C> {
     }
 }
 
-/// A call that is made in a format with bits, whose roundings raise flags by a rule.
-#[derive(Drop)]
-struct ByRule<C> {
-    rule: FlagRule,
-    call: C,
-}
-
-impl<C: CallInFormat> InFormat for ByRule<C> {
+impl<C: CallInFormat> InFlaggedFormat for WithBits<C> {
     type Output = C::Output;
 
-    fn in_format<S: Semantics>(self) -> C::Output {
-        match self.rule {
-            FlagRule::BuiltIn => self.call.made_in::<S>(),
-            FlagRule::Ieee => self.call.made_in::<IeeeFlags<S>>(),
-            FlagRule::IeeeBefore => self.call.made_in::<IeeeFlags<TinyBefore<S>>>(),
-        }
+    fn in_flagged_format<S: Flagged>(self) -> C::Output {
+        self.0.made_in::<S>()
     }
 }
 
 /// A format that rows can name.
 #[derive(Clone, Copy)]
 pub enum RowFormat {
-    /// A built-in format with bits, and the rule of its flags.
-    BuiltIn(BuiltInFormat, FlagRule),
+    /// A built-in format with bits, and the same with its rule of flags.
+    BuiltIn(BuiltInFormat, FlaggedFormat),
     /// One of the others.
     Other(OtherFormat),
-}
-
-/// The rule by which roundings raise OVERFLOW and UNDERFLOW.
-#[derive(Clone, Copy)]
-pub enum FlagRule {
-    /// That of the built-in formats.
-    BuiltIn,
-    /// That of IEEE 754-2008, with tininess detected after rounding.
-    Ieee,
-    /// That of IEEE 754-2008, with tininess detected before rounding.
-    IeeeBefore,
 }
 
 /// A format that is not built in, or has no bits.
@@ -104,26 +82,21 @@ static OTHER_FORMATS: &[(&str, OtherFormat)] = &[
 impl RowFormat {
     /// The format of this word.
     pub fn named(word: &str) -> Option<RowFormat> {
-        if let Some(format) = found(OTHER_FORMATS, word) {
-            return Some(RowFormat::Other(format));
+        match found(OTHER_FORMATS, word) {
+            Some(format) => Some(RowFormat::Other(format)),
+            None => built_in_named(word),
         }
-        let (name, rule) = match word.split_once('+') {
-            None => (word, FlagRule::BuiltIn),
-            Some((name, "ieee")) => (name, FlagRule::Ieee),
-            Some((name, "ieee+before")) => (name, FlagRule::IeeeBefore),
-            Some(_) => return None,
-        };
-        let format = BuiltInKind::named(name)?.format()?;
-        match (format, rule) {
-            (_, FlagRule::BuiltIn) => {}
-            // Only formats with infinities have the flags of IEEE 754.
-            (BuiltInFormat::E4M3FN | BuiltInFormat::E4M3FNUZ, _) => return None,
-            _ => {}
-        }
-        Some(RowFormat::BuiltIn(format, rule))
     }
 
-    /// Makes a call that raises no flags in the format.
+    /// Whether roundings raise the flags of the built-in formats.
+    pub fn is_plain(self) -> bool {
+        match self {
+            RowFormat::BuiltIn(_, FlaggedFormat::BuiltIn(_)) | RowFormat::Other(_) => true,
+            RowFormat::BuiltIn(_, _) => false,
+        }
+    }
+
+    /// Makes a call in the format with the flags of the built-in formats.
     pub fn run_plain<C: CallInFormat + Drop>(self, call: C) -> C::Output {
         match self {
             RowFormat::BuiltIn(format, _) => format.run(WithBits(call)),
@@ -134,15 +107,52 @@ impl RowFormat {
     /// Makes a call in the format.
     pub fn run<C: CallInFormat + Drop>(self, call: C) -> C::Output {
         match self {
-            RowFormat::BuiltIn(format, rule) => format.run(ByRule { rule, call }),
+            RowFormat::BuiltIn(_, format) => format.run(WithBits(call)),
             RowFormat::Other(format) => format.run(call),
         }
     }
 }
 
+/// The built-in format of this word, with the rule of flags after a `+`.
+fn built_in_named(word: &str) -> Option<RowFormat> {
+    let (name, rule) = word.split_once('+').unwrap_or((word, ""));
+    let Some(kind) = BuiltInKind::named(name) else {
+        return None;
+    };
+    let Some(format) = kind.format() else {
+        return None;
+    };
+    match (rule, ieee_format(format)) {
+        ("", _) if name == word => {
+            Some(RowFormat::BuiltIn(format, FlaggedFormat::BuiltIn(format)))
+        }
+        ("ieee", Some(ieee)) => {
+            Some(RowFormat::BuiltIn(format, FlaggedFormat::AfterRounding(ieee)))
+        }
+        ("ieee+before", Some(ieee)) => {
+            Some(RowFormat::BuiltIn(format, FlaggedFormat::BeforeRounding(ieee)))
+        }
+        _ => None,
+    }
+}
+
+/// The same format with the flags of IEEE 754, if it has infinities.
+fn ieee_format(format: BuiltInFormat) -> Option<IeeeFormat> {
+    match format {
+        BuiltInFormat::Half => Some(IeeeFormat::Half),
+        BuiltInFormat::Single => Some(IeeeFormat::Single),
+        BuiltInFormat::Double => Some(IeeeFormat::Double),
+        BuiltInFormat::Quad => Some(IeeeFormat::Quad),
+        BuiltInFormat::BFloat => Some(IeeeFormat::BFloat),
+        BuiltInFormat::E5M2 => Some(IeeeFormat::E5M2),
+        BuiltInFormat::X87 => Some(IeeeFormat::X87),
+        BuiltInFormat::E4M3FN | BuiltInFormat::E4M3FNUZ => None,
+    }
+}
+
 impl OtherFormat {
     /// Makes a call in the format.
-    fn run<C: CallInFormat + Drop>(self, call: C) -> C::Output {
+    pub fn run<C: CallInFormat + Drop>(self, call: C) -> C::Output {
         match self {
             OtherFormat::Fallback => call.made_in::<FallbackS>(),
             OtherFormat::FallbackExtended => call.made_in::<FallbackExtendedS>(),
