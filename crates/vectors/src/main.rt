@@ -10,6 +10,8 @@ use commands::{run_given, words_of_system};
 use std::process::ExitCode;
 
 #[cfg(test)]
+mod asserts;
+#[cfg(test)]
 mod tests;
 
 /// Runs the program and returns its exit status.

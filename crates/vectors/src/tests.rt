@@ -1,5 +1,6 @@
 //! Runs of the program on writers that a test reads, or that fail.
 
+use crate::asserts::same;
 use commands::{Reply, command, run, run_given, write_line};
 use rustc_apfloat::{Flags, Status};
 use std::alloc::{AllocError, Global};
@@ -17,77 +18,71 @@ fn words_of(alloc: Global, command: &str) -> Result<Vec<String>, AllocError> {
     Ok(words)
 }
 
-/// What is written to a writer for it, as a line, if anything.
-fn line_of(alloc: Global, text: &str) -> Result<String, AllocError> {
-    if text.is_empty() {
-        return Ok(String::new(alloc));
-    }
-    format!(in alloc; "{text}\n")
-}
-
-/// Asserts that running a command writes its reply to the right writer only, and returns its status.
-fn expect_reply<R: Abort + AllocGlobal>(rt: &R, command: &str, reply: &str) -> Result<(), Fail> {
+/// Asserts that running a command writes this line to the right writer only, and returns the status of an answer or of
+/// a refusal.
+fn expect_reply<R: Abort + AllocGlobal>(rt: &R, command: &str, line: &str) -> Result<(), Fail> {
     let words = words_of(rt.alloc(), command)?;
     let mut out = Vec::new(rt.alloc());
     let mut err = Vec::new(rt.alloc());
     let status = run(words.as_slice(), &mut out, &mut err);
-    let (wanted, on_out, on_err) = if reply.starts_with("refused: ") {
-        (2, "", reply)
+
+    let expected = if line.starts_with("refused: ") {
+        (2, b"".as_slice(), line.as_bytes())
     } else {
-        (0, reply, "")
+        (0, line.as_bytes(), b"".as_slice())
     };
-    assert_eq!(rt; status, wanted, "{command}");
-    assert_eq!(rt;
-        out.as_slice(),
-        line_of(rt.alloc(), on_out)?.as_bytes(),
-        "{command}"
-    );
-    assert_eq!(rt;
-        err.as_slice(),
-        line_of(rt.alloc(), on_err)?.as_bytes(),
-        "{command}"
-    );
+    let got = (status, out.as_slice(), err.as_slice());
+    same(rt, got, expected, command);
     Ok(())
+}
+
+/// The bits, the count of digits and the bits of the status, or the refused word.
+fn reply_to(words: &[String]) -> Result<(u128, usize, u8), &str> {
+    match command(words) {
+        Reply::Line(bits, digits, status) => Ok((bits, digits, status.bits())),
+        Reply::Refused(word) => Err(word),
+    }
 }
 
 #[test]
 fn replies_with_bits_digits_and_flags(rt: HostRuntime) -> Result<(), Fail> {
-    let words = words_of(rt.alloc(), "half int even 65520")?;
-    match command(words.as_slice()) {
-        Reply::Line(bits, digits, status) => {
-            assert_eq!(rt; (bits, digits), (0x7c00, 4));
-            assert_eq!(rt; status.bits(), 0b10100);
-        }
-        Reply::Refused(word) => assert_eq!(rt; word, ""),
-    }
-    let words = words_of(rt.alloc(), "half int odd 1")?;
-    assert!(rt; matches!(command(words.as_slice()), Reply::Refused("odd")));
+    let past = words_of(rt.alloc(), "half int even 65520")?;
+    let odd = words_of(rt.alloc(), "half int odd 1")?;
+    same(
+        &rt,
+        reply_to(past.as_slice()),
+        Ok((0x7c00, 4, 0b10100)),
+        "past",
+    );
+    same(&rt, reply_to(odd.as_slice()), Err("odd"), "odd");
     Ok(())
 }
 
-/// A low part is the upper half of the digits.
+/// Commands and what is written to a writer for them. A low part is the upper half of the digits.
+static PAIRS: [(&str, &str); 5] = [
+    (
+        "dd add even 3ff0000000000000 3c90000000000000",
+        "3c900000000000003ff0000000000000 INEXACT\n",
+    ),
+    (
+        "dd add even 3ca00000000000003ff0000000000000 3c80000000000000bfefffffffffffff",
+        "00000000000000003cb2000000000000 OK\n",
+    ),
+    (
+        "dd mul even 3ff0000000000001 3ff0000000000001",
+        "39700000000000003ff0000000000002 INEXACT\n",
+    ),
+    (
+        "dd div even 3ff0000000000000 4008000000000000",
+        "3c755555555555563fd5555555555555 INEXACT\n",
+    ),
+    ("dd fma even 0 0 0", "refused: fma\n"),
+];
+
 #[test]
 fn replies_with_pairs_of_doubles(rt: HostRuntime) -> Result<(), Fail> {
-    for (command, reply) in [
-        (
-            "dd add even 3ff0000000000000 3c90000000000000",
-            "3c900000000000003ff0000000000000 INEXACT",
-        ),
-        (
-            "dd add even 3ca00000000000003ff0000000000000 3c80000000000000bfefffffffffffff",
-            "00000000000000003cb2000000000000 OK",
-        ),
-        (
-            "dd mul even 3ff0000000000001 3ff0000000000001",
-            "39700000000000003ff0000000000002 INEXACT",
-        ),
-        (
-            "dd div even 3ff0000000000000 4008000000000000",
-            "3c755555555555563fd5555555555555 INEXACT",
-        ),
-        ("dd fma even 0 0 0", "refused: fma"),
-    ] {
-        expect_reply(&rt, command, reply)?;
+    for (command, line) in &PAIRS {
+        expect_reply(&rt, *command, *line)?;
     }
     Ok(())
 }
@@ -99,9 +94,9 @@ fn reads_long_operands(rt: HostRuntime) -> Result<(), Fail> {
     for _ in 0..5000 {
         command.push_str("0")?;
     }
-    expect_reply(&rt, command.as_str(), "0000 OK")?;
+    expect_reply(&rt, command.as_str(), "0000 OK\n")?;
     command.push_str("464")?;
-    expect_reply(&rt, command.as_str(), "5f40 OK")?;
+    expect_reply(&rt, command.as_str(), "5f40 OK\n")?;
     Ok(())
 }
 
@@ -173,26 +168,39 @@ fn expect_calls<R: Abort + AllocGlobal>(
     let mut out = Counting::new(rt.alloc());
     let mut err = Counting::new(rt.alloc());
     run_given(given_for(rt.alloc(), command)?, &mut out, &mut err);
-    assert_eq!(rt; (out.calls, err.calls), (out_calls, err_calls));
-    assert_eq!(rt; out.taken.as_slice(), on_out.as_bytes());
-    assert_eq!(rt; err.taken.as_slice(), on_err.as_bytes());
+    let got = (
+        out.calls,
+        out.taken.as_slice(),
+        err.calls,
+        err.taken.as_slice(),
+    );
+    let expected = (out_calls, on_out.as_bytes(), err_calls, on_err.as_bytes());
+    same(rt, got, expected, command);
     Ok(())
 }
 
+/// Commands, and how often and what they write to each writer.
+static CALLS: [(&str, (usize, &str), (usize, &str)); 5] = [
+    ("half int even 464", (1, "5f40 OK\n"), (0, "")),
+    (
+        "half int even 65520",
+        (1, "7c00 OVERFLOW|INEXACT\n"),
+        (0, ""),
+    ),
+    (
+        "quad div even 00010000000000000000000000000000 40008000000000000000000000000000",
+        (1, "00005555555555555555555555555555 UNDERFLOW|INEXACT\n"),
+        (0, ""),
+    ),
+    ("half int odd 1", (0, ""), (1, "refused: odd\n")),
+    ("", (0, ""), (1, "refused: memory\n")),
+];
+
 #[test]
 fn writes_a_reply_by_one_call(rt: HostRuntime) -> Result<(), Fail> {
-    for (command, line) in [
-        ("half int even 464", "5f40 OK\n"),
-        ("half int even 65520", "7c00 OVERFLOW|INEXACT\n"),
-        (
-            "quad div even 00010000000000000000000000000000 40008000000000000000000000000000",
-            "00005555555555555555555555555555 UNDERFLOW|INEXACT\n",
-        ),
-    ] {
-        expect_calls(&rt, command, (1, line), (0, ""))?;
+    for (command, on_out, on_err) in &CALLS {
+        expect_calls(&rt, *command, *on_out, *on_err)?;
     }
-    expect_calls(&rt, "half int odd 1", (0, ""), (1, "refused: odd\n"))?;
-    expect_calls(&rt, "", (0, ""), (1, "refused: memory\n"))?;
     Ok(())
 }
 
@@ -212,10 +220,13 @@ fn writes_a_long_refusal_whole(rt: HostRuntime) -> Result<(), Fail> {
 fn has_room_for_the_longest_line(rt: HostRuntime) -> Result<(), Fail> {
     let mut out = Counting::new(rt.alloc());
     write_line(u128::MAX, 32, Status::all(), &mut out)?;
-    assert_eq!(rt; out.calls, 1);
-    assert_eq!(rt;
-        out.taken.as_slice(),
-        b"ffffffffffffffffffffffffffffffff INVALID_OP|DIV_BY_ZERO|OVERFLOW|UNDERFLOW|INEXACT\n".as_slice()
+    let line =
+        b"ffffffffffffffffffffffffffffffff INVALID_OP|DIV_BY_ZERO|OVERFLOW|UNDERFLOW|INEXACT\n";
+    same(
+        &rt,
+        (out.calls, out.taken.as_slice()),
+        (1, line.as_slice()),
+        "all flags",
     );
     Ok(())
 }
@@ -242,26 +253,31 @@ fn expect_first_bytes<R: Abort + AllocGlobal>(
     let answered = run_given(given, &mut out, &mut err);
     let is_written = on_out.len() <= out_room && on_err.len() <= err_room;
     let wanted = if is_written { status } else { 1 };
-    assert_eq!(rt; answered, wanted, "{command} {out_room} {err_room}");
-    let first_on_out = &on_out.as_bytes()[..on_out.len().min(out_room)];
-    assert_eq!(rt; out.taken.as_slice(), first_on_out, "{command}");
-    let first_on_err = &on_err.as_bytes()[..on_err.len().min(err_room)];
-    assert_eq!(rt; err.taken.as_slice(), first_on_err, "{command}");
+    let got = (answered, out.taken.as_slice(), err.taken.as_slice());
+    let expected = (
+        wanted,
+        &on_out.as_bytes()[..on_out.len().min(out_room)],
+        &on_err.as_bytes()[..on_err.len().min(err_room)],
+    );
+    same(rt, got, expected, (command, out_room, err_room));
     Ok(())
 }
+
+/// Commands, the status and what is written to each writer.
+static WRITTEN: [(&str, (u8, &str, &str)); 3] = [
+    ("half int even 65520", (0, "7c00 OVERFLOW|INEXACT\n", "")),
+    ("half int odd 1", (2, "", "refused: odd\n")),
+    ("", (3, "", "refused: memory\n")),
+];
 
 /// A writer that is not used may have no room at all.
 #[test]
 fn answers_1_exactly_where_a_write_fails(rt: HostRuntime) -> Result<(), Fail> {
-    for (command, wanted) in [
-        ("half int even 65520", (0, "7c00 OVERFLOW|INEXACT\n", "")),
-        ("half int odd 1", (2, "", "refused: odd\n")),
-        ("", (3, "", "refused: memory\n")),
-    ] {
+    for (command, wanted) in &WRITTEN {
         for room in 0..30 {
-            expect_first_bytes(&rt, command, wanted, (room, 0))?;
-            expect_first_bytes(&rt, command, wanted, (0, room))?;
-            expect_first_bytes(&rt, command, wanted, (room, room))?;
+            for rooms in [(room, 0), (0, room), (room, room)] {
+                expect_first_bytes(&rt, *command, *wanted, rooms)?;
+            }
         }
     }
     Ok(())
@@ -276,9 +292,13 @@ fn answers_what_the_system_gives(rt: HostRuntime) -> Result<(), Fail> {
         let mut out = Vec::new(rt.alloc());
         let mut err = Vec::new(rt.alloc());
         let answered = run_given(Err(io::Error::from(kind)), &mut out, &mut err);
-        assert_eq!(rt; answered, status);
-        assert!(rt; out.is_empty());
-        assert_eq!(rt; err.as_slice(), on_err.as_bytes());
+        let got = (answered, out.as_slice(), err.as_slice());
+        same(
+            &rt,
+            got,
+            (status, b"".as_slice(), on_err.as_bytes()),
+            on_err,
+        );
     }
     Ok(())
 }
