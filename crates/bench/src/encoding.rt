@@ -6,7 +6,7 @@ use apfloat_base::NonfiniteBehavior;
 use rustc_apfloat::ieee::Semantics;
 
 /// How a format with bits encodes numbers.
-#[derive(Clone, Copy, Debug)]
+#[derive(Clone, Copy)]
 pub struct Encoding {
     bits: usize,
     precision: i32,

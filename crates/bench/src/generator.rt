@@ -1,7 +1,7 @@
 //! Pseudorandom integers, the same in each run.
 
 /// The state of Marsaglia's 64-bit generator `xorshift64`, which is never 0.
-#[derive(Clone, Copy, Debug)]
+#[derive(Clone, Copy)]
 pub struct Generator {
     state: u64,
 }

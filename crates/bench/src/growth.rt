@@ -5,19 +5,18 @@ ghost use Rattle.std.specs.Prelude.{◌<◌};
 use crate::encoding::Encoding;
 use crate::generator::Generator;
 use crate::kind::measured;
-use crate::measure::{Rounds, for_each, in_rounds};
+use crate::measure::{Calls, for_each, measured_calls};
 use crate::nanoseconds::Nanoseconds;
-use crate::numbers::read;
+use crate::numbers::Reads;
 use crate::operand_set::OperandSet;
 use crate::operation::Operation;
-use crate::task::{Task, room};
+use crate::task::Task;
 use dispatch::{BuiltInFormat, BuiltInKind};
 use rustc_apfloat::ieee::{Double, DoubleS, IeeeFloat, QuadS, Semantics, X87DoubleExtendedS};
 use rustc_apfloat::{Float, Round, StatusAnd};
 use std::alloc::{AllocError, Global};
 use std::io;
 use std::rt::Clock;
-use std::time::Instant;
 
 /// Prints the time of reading a text by its length, of a remainder by the difference of exponents, and of a quotient by
 /// its digits.
@@ -45,12 +44,9 @@ fn time_of_reading(rt: &(impl Clock + AllocGlobal), digits: u64) -> io::Result<N
     texts
         .push(long_text(rt.alloc(), digits)?)
         .map_err(AllocError::from)?;
-    let operands = texts.as_slice();
-    let mut room = room(rt.alloc(), 1, Double::zero())?;
-    let answers = room.as_mut_slice();
-    let mode = Round::NearestTiesToEven;
-    let times = in_rounds!(rt, 300, read::<DoubleS>(mode, operands, answers));
-    Ok(Nanoseconds::of_each(times.with_answers(answers)))
+    let calls = Reads(Round::NearestTiesToEven);
+    let known = measured_calls(rt, 300, calls, texts.as_slice(), Double::zero())?;
+    Ok(Nanoseconds::of_each(known))
 }
 
 /// A text with `digits` digits after the point, a multiple of 8.
@@ -106,22 +102,21 @@ fn time_of_remainder<S: Semantics>(
     requires { S.PRECISION < S.BITS }
 {
     let drawn = apart::<S>(rt.alloc(), difference)?;
-    let operands = drawn.as_slice();
-    let mut room = room(rt.alloc(), operands.len(), IeeeFloat::<S>::zero())?;
-    let answers = room.as_mut_slice();
-    let times = in_rounds!(rt, 300, divide(operation, operands, answers));
-    Ok(Nanoseconds::of_each(times.with_answers(answers)))
+    let blank = IeeeFloat::<S>::zero();
+    let known = measured_calls(rt, 300, Remainders(operation), drawn.as_slice(), blank)?;
+    Ok(Nanoseconds::of_each(known))
 }
 
 /// Computes the remainder of each pair of operands.
-fn divide<S: Semantics>(
-    operation: Operation,
-    operands: &[[IeeeFloat<S>; 2]],
-    answers: &mut [StatusAnd<IeeeFloat<S>>],
-) {
-    match operation {
-        Operation::TruncatedRemainder => for_each!(operands, answers, x => x[0].c_fmod(x[1])),
-        _ => for_each!(operands, answers, x => x[0].ieee_rem(x[1])),
+#[derive(Clone, Copy)]
+struct Remainders(Operation);
+
+impl<S: Semantics> Calls<[IeeeFloat<S>; 2], IeeeFloat<S>> for Remainders {
+    fn make(self, operands: &[[IeeeFloat<S>; 2]], answers: &mut [StatusAnd<IeeeFloat<S>>]) {
+        match self.0 {
+            Operation::TruncatedRemainder => for_each!(operands, answers, x => x[0].c_fmod(x[1])),
+            _ => for_each!(operands, answers, x => x[0].ieee_rem(x[1])),
+        }
     }
 }
 

@@ -56,7 +56,7 @@ fn answer(rt: &(impl Env + Clock + Print + Eprint + AllocGlobal)) -> io::Result<
 }
 
 /// What is printed.
-#[derive(Clone, Copy, Debug)]
+#[derive(Clone, Copy)]
 enum Subject {
     Checksums,
     Times,

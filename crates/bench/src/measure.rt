@@ -1,11 +1,14 @@
 //! Times of rounds, and the measurements of an operation.
 
 use crate::checksum::{Written, checksum_of};
+use crate::task::room;
 use rustc_apfloat::StatusAnd;
-use std::time::Duration;
+use std::io;
+use std::rt::Clock;
+use std::time::{Duration, Instant};
 
 /// What was measured of calls for many operands.
-#[derive(Clone, Copy, Debug)]
+#[derive(Clone, Copy)]
 pub struct Measured {
     /// The checksum of the results.
     pub checksum: u64,
@@ -16,15 +19,15 @@ pub struct Measured {
 }
 
 /// The times of rounds.
-#[derive(Clone, Copy, Debug)]
-pub struct Rounds {
+#[derive(Clone, Copy)]
+struct Rounds {
     least: Duration,
     spent: Duration,
 }
 
 impl Rounds {
     /// No rounds yet.
-    pub fn new() -> Self {
+    fn new() -> Self {
         Rounds {
             least: Duration::MAX,
             spent: Duration::ZERO,
@@ -32,18 +35,18 @@ impl Rounds {
     }
 
     /// Adds the time of a round.
-    pub fn take(&mut self, round: Duration) {
+    fn take(&mut self, round: Duration) {
         self.least = self.least.min(round);
         self.spent = self.spent.saturating_add(round);
     }
 
     /// Whether the rounds took a fifth of a second.
-    pub fn are_enough(self) -> bool {
+    fn are_enough(self) -> bool {
         self.spent > Duration::from_millis(200)
     }
 
     /// The measurements, with the results of the last round.
-    pub fn with_answers<T: Written>(self, answers: &[StatusAnd<T>]) -> Measured {
+    fn with_answers<T: Written>(self, answers: &[StatusAnd<T>]) -> Measured {
         Measured {
             checksum: checksum_of(answers),
             time: self.least,
@@ -52,21 +55,33 @@ impl Rounds {
     }
 }
 
-// Makes one round that is not timed, and then timed rounds until they are enough, up to a limit.
-macro_rules! in_rounds {
-    ($rt:ident, $rounds:expr, $round:expr) => {{
-        let mut times = Rounds::new();
-        $round;
-        for _ in 0..$rounds {
-            let start = Instant::now($rt)?;
-            $round;
-            times.take(start.elapsed($rt)?);
-            if times.are_enough() {
-                break;
-            }
+/// What is done with operands of type `X`, with results of type `T`.
+pub trait Calls<X, T>: Copy {
+    /// Makes a call for each operand.
+    fn make(self, operands: &[X], answers: &mut [StatusAnd<T>]);
+}
+
+/// Measures calls: one round that is not timed, and then timed rounds until they are enough, at most `rounds`.
+pub fn measured_calls<X, T: Written, C: Calls<X, T>>(
+    rt: &(impl Clock + AllocGlobal),
+    rounds: u32,
+    calls: C,
+    operands: &[X],
+    blank: T,
+) -> io::Result<Measured> {
+    let mut room = room(rt.alloc(), operands.len(), blank)?;
+    let answers = room.as_mut_slice();
+    calls.make(operands, answers);
+    let mut times = Rounds::new();
+    for _ in 0..rounds {
+        let start = Instant::now(rt)?;
+        calls.make(operands, answers);
+        times.take(start.elapsed(rt)?);
+        if times.are_enough() {
+            break;
         }
-        times
-    }};
+    }
+    Ok(times.with_answers(answers))
 }
 
 // Makes a call for each operand, from memory to memory.
@@ -82,4 +97,3 @@ macro_rules! for_each {
 }
 
 pub(crate) use for_each;
-pub(crate) use in_rounds;

@@ -5,7 +5,7 @@ use std::fmt;
 use std::time::Duration;
 
 /// A time in hundredths of a nanosecond.
-#[derive(Clone, Copy, Debug)]
+#[derive(Clone, Copy)]
 pub struct Nanoseconds {
     hundredths: u64,
 }

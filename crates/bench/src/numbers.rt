@@ -3,17 +3,17 @@
 ghost use Rattle.std.specs.Prelude.{◌<◌};
 
 use crate::encoding::Encoding;
-use crate::measure::{Measured, Rounds, for_each, in_rounds};
+use crate::measure::{Calls, Measured, for_each, measured_calls};
 use crate::operands::{Source, drawn_bits, drawn_integers, drawn_texts};
 use crate::operation::Operation;
-use crate::task::{Task, room};
+use crate::task::Task;
 use crate::wide_numbers::wide_arithmetic;
 use rustc_apfloat::ieee::{DoubleS, HalfS, IeeeFloat, Semantics, SingleS};
 use rustc_apfloat::{Float, FloatConvert, Round, Status, StatusAnd};
 use std::alloc::{AllocError, Global};
 use std::io;
+use std::marker::PhantomData;
 use std::rt::Clock;
-use std::time::Instant;
 
 /// The operands of a call.
 pub type Operands<S> = [IeeeFloat<S>; 3];
@@ -48,33 +48,31 @@ fn arithmetic<S: Semantics>(rt: &(impl Clock + AllocGlobal), task: Task) -> io::
     requires { S.PRECISION < S.BITS }
 {
     let drawn = values::<S>(rt.alloc(), task)?;
-    let operands = drawn.as_slice();
-    let mut room = room(rt.alloc(), operands.len(), IeeeFloat::<S>::zero())?;
-    let answers = room.as_mut_slice();
-    let times = in_rounds!(rt, task.rounds, calculate(task, operands, answers));
-    Ok(times.with_answers(answers))
+    let blank = IeeeFloat::<S>::zero();
+    measured_calls(rt, task.rounds, Calculates(task), drawn.as_slice(), blank)
 }
 
-/// Computes the operation for all operands.
-fn calculate<S: Semantics>(
-    task: Task,
-    operands: &[Operands<S>],
-    answers: &mut [StatusAnd<IeeeFloat<S>>],
-) {
-    let mode = task.mode;
-    match task.operation {
-        Operation::Sum => for_each!(operands, answers, x => x[0].add_r(x[1], mode)),
-        Operation::Difference => for_each!(operands, answers, x => x[0].sub_r(x[1], mode)),
-        Operation::Product if S::PRECISION <= 64 => {
-            for_each!(operands, answers, x => x[0].mul_r(x[1], mode))
+/// Computes an operation.
+#[derive(Clone, Copy)]
+struct Calculates(Task);
+
+impl<S: Semantics> Calls<Operands<S>, IeeeFloat<S>> for Calculates {
+    fn make(self, operands: &[Operands<S>], answers: &mut [StatusAnd<IeeeFloat<S>>]) {
+        let mode = self.0.mode;
+        match self.0.operation {
+            Operation::Sum => for_each!(operands, answers, x => x[0].add_r(x[1], mode)),
+            Operation::Difference => for_each!(operands, answers, x => x[0].sub_r(x[1], mode)),
+            Operation::Product if S::PRECISION <= 64 => {
+                for_each!(operands, answers, x => x[0].mul_r(x[1], mode))
+            }
+            Operation::Quotient => for_each!(operands, answers, x => x[0].div_r(x[1], mode)),
+            Operation::FusedSum if S::PRECISION <= 63 => {
+                for_each!(operands, answers, x => x[0].mul_add_r(x[1], x[2], mode))
+            }
+            Operation::NearestRemainder => for_each!(operands, answers, x => x[0].ieee_rem(x[1])),
+            Operation::TruncatedRemainder => for_each!(operands, answers, x => x[0].c_fmod(x[1])),
+            _ => {}
         }
-        Operation::Quotient => for_each!(operands, answers, x => x[0].div_r(x[1], mode)),
-        Operation::FusedSum if S::PRECISION <= 63 => {
-            for_each!(operands, answers, x => x[0].mul_add_r(x[1], x[2], mode))
-        }
-        Operation::NearestRemainder => for_each!(operands, answers, x => x[0].ieee_rem(x[1])),
-        Operation::TruncatedRemainder => for_each!(operands, answers, x => x[0].c_fmod(x[1])),
-        _ => {}
     }
 }
 
@@ -86,20 +84,26 @@ fn conversions<S: Semantics, T: Semantics>(
     requires { S.PRECISION < S.BITS }
 {
     let drawn = values::<S>(rt.alloc(), task)?;
-    let operands = drawn.as_slice();
-    let mut room = room(rt.alloc(), operands.len(), IeeeFloat::<T>::zero())?;
-    let answers = room.as_mut_slice();
-    let times = in_rounds!(rt, task.rounds, convert(task.mode, operands, answers));
-    Ok(times.with_answers(answers))
+    let blank = IeeeFloat::<T>::zero();
+    measured_calls(
+        rt,
+        task.rounds,
+        Converts(task.mode),
+        drawn.as_slice(),
+        blank,
+    )
 }
 
-fn convert<S: Semantics, T: Semantics>(
-    mode: Round,
-    operands: &[Operands<S>],
-    answers: &mut [StatusAnd<IeeeFloat<T>>],
-) {
-    let mut loses_info = false;
-    for_each!(operands, answers, x => x[0].convert_r(mode, &mut loses_info));
+/// Converts to another format.
+#[derive(Clone, Copy)]
+struct Converts(Round);
+
+impl<S: Semantics, T: Semantics> Calls<Operands<S>, IeeeFloat<T>> for Converts {
+    fn make(self, operands: &[Operands<S>], answers: &mut [StatusAnd<IeeeFloat<T>>]) {
+        let mode = self.0;
+        let mut loses_info = false;
+        for_each!(operands, answers, x => x[0].convert_r(mode, &mut loses_info));
+    }
 }
 
 /// Measures the conversion to integers.
@@ -108,56 +112,64 @@ fn integers_out<S: Semantics>(rt: &(impl Clock + AllocGlobal), task: Task) -> io
 {
     let set = task.set.for_integers();
     let drawn = values::<S>(rt.alloc(), Task { set, ..task })?;
-    let operands = drawn.as_slice();
-    let mut room = room(rt.alloc(), operands.len(), 0i128)?;
-    let answers = room.as_mut_slice();
-    let times = in_rounds!(rt, task.rounds, to_integers(operands, answers));
-    Ok(times.with_answers(answers))
+    measured_calls(rt, task.rounds, ToIntegers, drawn.as_slice(), 0i128)
 }
 
-/// Converts all operands to 64-bit integers.
-fn to_integers<S: Semantics>(operands: &[Operands<S>], answers: &mut [StatusAnd<i128>]) {
-    let mut is_exact = false;
-    for_each!(operands, answers, x => x[0].to_i128_r(64, Round::TowardZero, &mut is_exact));
+/// Converts to 64-bit integers.
+#[derive(Clone, Copy)]
+struct ToIntegers;
+
+impl<S: Semantics> Calls<Operands<S>, i128> for ToIntegers {
+    fn make(self, operands: &[Operands<S>], answers: &mut [StatusAnd<i128>]) {
+        let mut is_exact = false;
+        for_each!(operands, answers, x => x[0].to_i128_r(64, Round::TowardZero, &mut is_exact));
+    }
 }
 
 /// Measures the conversion from integers.
 fn integers_in<S: Semantics>(rt: &(impl Clock + AllocGlobal), task: Task) -> io::Result<Measured> {
     let drawn = drawn_integers(rt.alloc())?;
-    let operands = drawn.as_slice();
-    let mut room = room(rt.alloc(), operands.len(), IeeeFloat::<S>::zero())?;
-    let answers = room.as_mut_slice();
-    let times = in_rounds!(rt, task.rounds, from_integers(task.mode, operands, answers));
-    Ok(times.with_answers(answers))
+    let blank = IeeeFloat::<S>::zero();
+    measured_calls(
+        rt,
+        task.rounds,
+        FromIntegers(task.mode),
+        drawn.as_slice(),
+        blank,
+    )
 }
 
-fn from_integers<S: Semantics>(
-    mode: Round,
-    operands: &[u128],
-    answers: &mut [StatusAnd<IeeeFloat<S>>],
-) {
-    for_each!(operands, answers, x => IeeeFloat::from_u128_r(x, mode));
+/// Converts from integers.
+#[derive(Clone, Copy)]
+struct FromIntegers(Round);
+
+impl<S: Semantics> Calls<u128, IeeeFloat<S>> for FromIntegers {
+    fn make(self, operands: &[u128], answers: &mut [StatusAnd<IeeeFloat<S>>]) {
+        let mode = self.0;
+        for_each!(operands, answers, x => IeeeFloat::from_u128_r(x, mode));
+    }
 }
 
 /// Measures the reading of texts.
 fn readings<S: Semantics>(rt: &(impl Clock + AllocGlobal), task: Task) -> io::Result<Measured> {
-    let encoding = Encoding::of::<S>();
-    let drawn = drawn_texts(rt.alloc(), encoding, task.set)?;
-    let operands = drawn.as_slice();
-    let mut room = room(rt.alloc(), operands.len(), IeeeFloat::<S>::zero())?;
-    let answers = room.as_mut_slice();
-    let times = in_rounds!(rt, task.rounds, read(task.mode, operands, answers));
-    Ok(times.with_answers(answers))
+    let drawn = drawn_texts(rt.alloc(), Encoding::of::<S>(), task.set)?;
+    let blank = IeeeFloat::<S>::zero();
+    measured_calls(rt, task.rounds, Reads(task.mode), drawn.as_slice(), blank)
 }
 
-/// Reads each text; a refused one gives 0 with `INVALID_OP`.
-pub fn read<S: Semantics>(mode: Round, texts: &[String], answers: &mut [StatusAnd<IeeeFloat<S>>]) {
-    for i in 0..texts.len() {
-        if i < answers.len() {
-            answers[i] = match IeeeFloat::from_str_r(texts[i].as_str(), mode) {
-                Ok(answer) => answer,
-                Err(_) => Status::INVALID_OP.and(IeeeFloat::zero()),
-            };
+/// Reads texts; a refused one gives 0 with `INVALID_OP`.
+#[derive(Clone, Copy)]
+pub struct Reads(pub Round);
+
+impl<S: Semantics> Calls<String, IeeeFloat<S>> for Reads {
+    fn make(self, texts: &[String], answers: &mut [StatusAnd<IeeeFloat<S>>]) {
+        for i in 0..texts.len() {
+            if i < answers.len() {
+                answers[i] = match IeeeFloat::from_str_r(texts[i].as_str(), self.0) {
+                    Ok(answer) => answer,
+                    Err(_) => Status::INVALID_OP.and(IeeeFloat::zero()),
+                };
+            }
         }
     }
 }
@@ -168,17 +180,20 @@ fn bits_both_ways<S: Semantics>(rt: &(impl Clock + AllocGlobal), task: Task) -> 
 {
     let source = Source::Number(Encoding::of::<S>());
     let drawn = drawn_bits(rt.alloc(), source, task.set)?;
-    let operands = drawn.as_slice();
-    let mut room = room(rt.alloc(), operands.len(), 0u128)?;
-    let answers = room.as_mut_slice();
-    let times = in_rounds!(rt, task.rounds, read_and_write::<S>(operands, answers));
-    Ok(times.with_answers(answers))
+    let calls = ReadsAndWrites::<S>(PhantomData);
+    measured_calls(rt, task.rounds, calls, drawn.as_slice(), 0u128)
 }
 
-fn read_and_write<S: Semantics>(operands: &[[u128; 3]], answers: &mut [StatusAnd<u128>])
-    requires { S.PRECISION < S.BITS }
-{
-    for_each!(operands, answers, x => Status::OK.and(IeeeFloat::<S>::from_bits(x[0]).to_bits()));
+/// Reads bits of a format and writes them.
+#[derive(Clone, Copy)]
+struct ReadsAndWrites<S>(PhantomData<S>);
+
+impl<S: Semantics> Calls<[u128; 3], u128> for ReadsAndWrites<S> {
+    fn make(self, operands: &[[u128; 3]], answers: &mut [StatusAnd<u128>]) {
+        if S::PRECISION < S::BITS {
+            for_each!(operands, answers, x => Status::OK.and(IeeeFloat::<S>::from_bits(x[0]).to_bits()));
+        }
+    }
 }
 
 /// The values of drawn operands.

@@ -1,7 +1,7 @@
 //! Sets of operands.
 
 /// Which numbers are drawn.
-#[derive(Clone, Copy, PartialEq, Eq, Debug)]
+#[derive(Clone, Copy)]
 pub enum OperandSet {
     /// Normal ones with exponents near 0.
     Normal,

@@ -10,7 +10,7 @@ use std::fmt::Write;
 const COUNT: usize = 1024;
 
 /// What operands are drawn from.
-#[derive(Clone, Copy, Debug)]
+#[derive(Clone, Copy)]
 pub enum Source {
     /// The bits of a number.
     Number(Encoding),
@@ -88,7 +88,7 @@ fn drawn_text(
     for _ in 0..count {
         text.push_str(DIGITS[(generator.word() % 16) as usize])?;
     }
-    let is_small = set == OperandSet::Denormal && head >> 8 & 1 == 0;
+    let is_small = matches!(set, OperandSet::Denormal) && head >> 8 & 1 == 0;
     let exponent = encoding.exponent_of_text(is_small, generator);
     write!(text, "p{exponent}")?;
     Ok(text)

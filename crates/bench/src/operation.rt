@@ -1,7 +1,7 @@
 //! The operations that are measured.
 
 /// An operation.
-#[derive(Clone, Copy, PartialEq, Eq, Debug)]
+#[derive(Clone, Copy)]
 pub enum Operation {
     /// The sum of two numbers.
     Sum,

@@ -6,7 +6,7 @@ use rustc_apfloat::{Round, Status, StatusAnd};
 use std::alloc::{AllocError, Global};
 
 /// An operation on drawn operands.
-#[derive(Clone, Copy, Debug)]
+#[derive(Clone, Copy)]
 pub struct Task {
     /// The operation.
     pub operation: Operation,

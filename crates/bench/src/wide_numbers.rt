@@ -2,16 +2,15 @@
 
 ghost use Rattle.std.specs.Prelude.{◌<◌};
 
-use crate::measure::{Measured, Rounds, for_each, in_rounds};
+use crate::measure::{Calls, Measured, for_each, measured_calls};
 use crate::numbers::{Operands, values};
 use crate::operation::Operation;
-use crate::task::{Task, room};
+use crate::task::Task;
 use rustc_apfloat::ieee::{IeeeFloat, Semantics};
 use rustc_apfloat::{Float, StatusAnd};
 use std::alloc::{AllocError, Global};
 use std::io;
 use std::rt::Clock;
-use std::time::Instant;
 
 /// Measures one of these operations.
 pub fn wide_arithmetic<S: Semantics>(
@@ -21,11 +20,14 @@ pub fn wide_arithmetic<S: Semantics>(
     requires { S.PRECISION < S.BITS }
 {
     let drawn = operands_of::<S>(rt.alloc(), task)?;
-    let operands = drawn.as_slice();
-    let mut room = room(rt.alloc(), operands.len(), IeeeFloat::<S>::zero())?;
-    let answers = room.as_mut_slice();
-    let times = in_rounds!(rt, task.rounds, calculate(task, operands, answers));
-    Ok(times.with_answers(answers))
+    let blank = IeeeFloat::<S>::zero();
+    measured_calls(
+        rt,
+        task.rounds,
+        CalculatesWide(task),
+        drawn.as_slice(),
+        blank,
+    )
 }
 
 /// The drawn operands; of a root, their magnitudes.
@@ -41,19 +43,22 @@ fn operands_of<S: Semantics>(alloc: Global, task: Task) -> Result<Vec<Operands<S
     Ok(drawn)
 }
 
-/// Computes the operation for all operands.
-fn calculate<S: Semantics>(
-    task: Task,
-    operands: &[Operands<S>],
-    answers: &mut [StatusAnd<IeeeFloat<S>>],
-) {
-    let mode = task.mode;
-    match task.operation {
-        Operation::SquareRoot => for_each!(operands, answers, x => x[0].sqrt_r(mode)),
-        Operation::WideProduct => for_each!(operands, answers, x => x[0].wide_mul_r(x[1], mode)),
-        Operation::WideFusedSum => {
-            for_each!(operands, answers, x => x[0].wide_mul_add_r(x[1], x[2], mode))
+/// Computes an operation.
+#[derive(Clone, Copy)]
+struct CalculatesWide(Task);
+
+impl<S: Semantics> Calls<Operands<S>, IeeeFloat<S>> for CalculatesWide {
+    fn make(self, operands: &[Operands<S>], answers: &mut [StatusAnd<IeeeFloat<S>>]) {
+        let mode = self.0.mode;
+        match self.0.operation {
+            Operation::SquareRoot => for_each!(operands, answers, x => x[0].sqrt_r(mode)),
+            Operation::WideProduct => {
+                for_each!(operands, answers, x => x[0].wide_mul_r(x[1], mode))
+            }
+            Operation::WideFusedSum => {
+                for_each!(operands, answers, x => x[0].wide_mul_add_r(x[1], x[2], mode))
+            }
+            _ => {}
         }
-        _ => {}
     }
 }
