@@ -6,10 +6,10 @@
 //! what was cut off; and decimals as such quotients (`reading`). `narrow` has the quotients that 128 bits serve.
 //!
 //! `read_decimal` reads a text of any length (`texts`), `shortest` finds the shortest decimal that reads back as a
-//! value (`search`, `quick_search`), `rounded` gives a value to a count of digits (`rounding`), both by its first digits
-//! (`leading_digits`), and `Display` of a `Decimal` writes it (`writing`). `FromStr` of a `Decimal` reads its text
-//! (`parsing`), and `exact` finds the decimal that equals a value (`exact_decimal`). `round_trips` has what holds of
-//! values that are read back.
+//! value (`search`, `quick_search`), `rounded` gives a value to a count of digits (`rounding`), both by its first
+//! digits (`leading_digits`), and `Display` of a `Decimal` writes it (`writing`). `FromStr` of a `Decimal` reads its
+//! text (`parsing`), and `exact` finds the decimal that equals a value (`exact_decimal`). `round_trips` has what holds
+//! of values that are read back.
 #![tactic(auto)]
 
 mod decimal;
