@@ -34,6 +34,11 @@ A format raises the flags of IEEE 754-2008 in every mode if it is written half.i
 rounding if it is written half.ieee.before; e4m3fn, e4m3fnuz and double_pair have no such choice. Formats with these
 flags read no decimals, only hexadecimal texts.
 
+An array has values of one format, for numpy too where it is there:
+
+>>> single.array([0.5, 3]).to(half) + 1
+half.array(['1.5', '4.0'])
+
 Both operands have the same format; integers and floats are converted to it if that is exact:
 
 >>> half(1) + single(1)
@@ -57,8 +62,8 @@ import re
 import struct
 
 __all__ = [
-    'Context', 'DOWNWARD', 'Flags', 'Format', 'NEAREST_AWAY', 'NEAREST_EVEN', 'Refused', 'Rounding', 'TOWARD_ZERO',
-    'UPWARD', 'Value', 'bfloat', 'context', 'double', 'double_pair', 'e4m3fn', 'e4m3fnuz', 'e5m2', 'half', 'quad',
+    'Array', 'Context', 'DOWNWARD', 'Flags', 'Format', 'NEAREST_AWAY', 'NEAREST_EVEN', 'Refused', 'Rounding',
+    'TOWARD_ZERO', 'UPWARD', 'Value', 'bfloat', 'context', 'double', 'double_pair', 'e4m3fn', 'e4m3fnuz', 'e5m2', 'half', 'quad',
     'single', 'x87',
 ]
 
@@ -127,10 +132,20 @@ class _Text(ctypes.Structure):
     _fields_ = [('bytes', ctypes.c_char * 64), ('length', ctypes.c_uint32)]
 
 
+# What a call on arrays counts.
+_COUNTED = ('values', 'inexact', 'underflow', 'overflow', 'div_by_zero', 'invalid_op', 'nans')
+
+
+class _ArrayAnswer(ctypes.Structure):
+    _fields_ = [(name, ctypes.c_uint64) for name in _COUNTED] + [
+        ('status', ctypes.c_uint32), ('reserved', ctypes.c_uint32)]
+
+
 _REFUSALS = {
     3: 'the format does not have the operation',
     4: 'no integer has this width',
     5: 'the text has no meaning',
+    6: 'the arrays have different lengths',
 }
 
 
@@ -274,6 +289,33 @@ class Format:
         else:
             return NotImplemented
         return Value(self, _whole(answer.bits))
+
+
+    @property
+    def _bytes(self):
+        return -(-self.width // 8)
+
+    def array(self, of):
+        """An array of what the format makes of each item; or of a buffer, the bytes of its values, one after another.
+
+        >>> half.array([1, 0.5, '0.1']), half.array(bytes([0x00, 0x3c]))
+        (half.array(['1.0', '0.5', '0.1']), half.array(['1.0']))
+
+        A numpy array is taken as it is if its elements are of the format: float16, float32 and float64 are `half`,
+        `single` and `double`, and integers without a sign are the bits of other formats of 8 or 16 bits.
+        """
+        if hasattr(of, '__array_interface__'):
+            expected = _ELEMENTS.get(self.code & _FORMAT_BITS)
+            if expected is None or of.dtype.newbyteorder('<').str[1:] != expected:
+                raise TypeError(f'elements of {of.dtype} are no values of {self}')
+            return Array(self, of.astype('<' + expected, copy=False).tobytes())
+        if isinstance(of, (bytes, bytearray, memoryview)):
+            return Array(self, bytes(of))
+        return Array(self, b''.join(self(each).bits.to_bytes(self._bytes, 'little') for each in of))
+
+
+# The numpy elements that values of a format are, by its code: numbers, or their bits.
+_ELEMENTS = {1: 'f2', 2: 'f4', 3: 'f8', 5: 'u2', 6: 'u1', 7: 'u1', 8: 'u1'}
 
 
 def _operators(name):
@@ -540,6 +582,136 @@ class Value:
         places = denominator.bit_length() - 1
         sign = '-' if self.is_negative else ''
         return format(decimal.Decimal(f'{sign}{abs(numerator) * 5**places}e-{places}'), spec)
+
+
+def _array_operators(code):
+    """An operator on arrays, and its reflected form, for a left operand that is no array."""
+
+    def mapped(left, right):
+        other = left._same_length(right)
+        return NotImplemented if other is None else left._mapped(code, left, other)
+
+    def reflected(right, left):
+        other = right._same_length(left)
+        return NotImplemented if other is None else right._mapped(code, other, right)
+
+    return mapped, reflected
+
+
+class Array:
+    """Values of one format, in consecutive bytes. An operation makes a new array, of the results of its elements.
+
+    Each element is rounded once, in the mode of the context, and its flags are added to those of the context. `counts`
+    says how many values raised each flag, and how many results are NaNs. An operand that is no array stands for an
+    array of it alone.
+
+    >>> xs = single.array([1, 2, 3])
+    >>> thirds = xs / 3
+    >>> thirds, thirds.counts['inexact'], thirds[0] == single(1) / 3
+    (single.array(['0.33333334', '0.6666667', '1.0']), 2, True)
+    >>> xs.fma(xs, -1).sqrt()
+    single.array(['0.0', '1.7320508', '2.828427'])
+    """
+
+    __slots__ = ('format', '_data', 'counts')
+
+    # Operators of numpy leave these arrays to this class.
+    __array_ufunc__ = None
+
+    def __init__(self, format, data, counts=None):
+        if len(data) % format._bytes:
+            raise ValueError(f'{len(data)} bytes are no array of {format}, whose values take {format._bytes}')
+        self.format, self._data, self.counts = format, data, counts
+
+    def __len__(self):
+        return len(self._data) // self.format._bytes
+
+    def __getitem__(self, index):
+        if isinstance(index, slice):
+            return Array(self.format, b''.join(self._item(at) for at in range(*index.indices(len(self)))))
+        return Value(self.format, int.from_bytes(self._item(range(len(self))[index]), 'little'))
+
+    def _item(self, at):
+        width = self.format._bytes
+        return self._data[at * width:(at + 1) * width]
+
+    def __bytes__(self):
+        """The bytes of the values, the lowest byte of each first."""
+        return self._data
+
+    def __array__(self, dtype=None):
+        """The elements for numpy: numbers in `half`, `single` and `double`, otherwise bits, or bytes of a value."""
+        import numpy
+        elements = _ELEMENTS.get(self.format.code & _FORMAT_BITS, f'V{self.format._bytes}')
+        made = numpy.frombuffer(self._data, '<' + elements if elements[0] != 'V' else elements)
+        return made if dtype is None else made.astype(dtype)
+
+    def __repr__(self):
+        return f'{self.format}.array({[str(value) for value in self]})'
+
+    def _same_length(self, other):
+        if isinstance(other, Array):
+            if other.format is not self.format:
+                raise TypeError(f'{self.format} and {other.format}: convert one of them')
+            return other
+        value = Value(self.format, 0)._same_format(other)
+        if value is None:
+            return None
+        return Array(self.format, value.bits.to_bytes(self.format._bytes, 'little') * len(self))
+
+    def _mapped(self, code, *operands):
+        operands = [operand._data for operand in operands] + [b''] * (3 - len(operands))
+        words = [word for data in operands for word in (data, ctypes.c_size_t(len(data)))]
+        return _array_call('map_array', self.format, ctypes.c_uint32(context().mode), ctypes.c_uint32(code), *words,
+                           of=self.format, count=len(self))
+
+    __add__, __radd__ = _array_operators(1)
+    __sub__, __rsub__ = _array_operators(2)
+    __mul__, __rmul__ = _array_operators(3)
+    __truediv__, __rtruediv__ = _array_operators(4)
+
+    def remainder(self, divisor):
+        """The remainder of the quotient rounded to nearest (IEEE 754-2008 5.3.1)."""
+        return self._mapped(5, self, self._same_length(divisor))
+
+    def fmod(self, divisor):
+        """The remainder of the quotient rounded toward zero, like math.fmod."""
+        return self._mapped(6, self, self._same_length(divisor))
+
+    def fma(self, factor, addend):
+        """self * factor + addend, rounded once."""
+        return self._mapped(7, self, self._same_length(factor), self._same_length(addend))
+
+    def sqrt(self):
+        """The square root (IEEE 754-2008 5.4.1)."""
+        return self._mapped(8, self)
+
+    def to(self, format, saturate=False):
+        """The values in another format. With `saturate`, a number that overflows gives the largest one of its sign.
+
+        >>> xs = single.array([1, 1000, -1000])
+        >>> xs.to(e4m3fn), xs.to(e4m3fn, saturate=True)
+        (e4m3fn.array(['1.0', 'nan', 'nan']), e4m3fn.array(['1.0', '448.0', '-448.0']))
+        >>> xs.to(e4m3fn, saturate=True).counts['overflow']
+        2
+        """
+        mode = context().mode | (_SATURATE if saturate else 0)
+        return _array_call('convert_array', self.format, ctypes.c_uint32(mode), ctypes.c_uint32(format.code),
+                           self._data, ctypes.c_size_t(len(self._data)), of=format, count=len(self))
+
+
+_SATURATE = 0x100
+
+
+def _array_call(name, format, *arguments, of, count):
+    answer = _ArrayAnswer()
+    room = ctypes.create_string_buffer(max(count * of._bytes, 1))
+    code = getattr(_functions, 'apfloat_' + name)(ctypes.c_uint32(format.code), *arguments, room,
+                                                  ctypes.c_size_t(count * of._bytes), ctypes.byref(answer))
+    if code:
+        raise Refused(code)
+    context().flags |= Flags(answer.status)
+    return Array(of, room.raw[:count * of._bytes], {name: getattr(answer, name) for name in _COUNTED})
 
 
 _HEXADECIMAL = re.compile('(-?)0x([01])(?:[.]([0-9a-f]+))?p([+-][0-9]+)')
