@@ -13,6 +13,7 @@ mod run;
 mod stream;
 #[cfg(test)]
 mod tests;
+mod wrong_word;
 
 use crate::run::run;
 use commands::words_of_system;

@@ -5,6 +5,7 @@ ghost use Rattle.convert_values.specs.Statuses.{failure_status, summary_status};
 
 use crate::job::{Job, USAGE};
 use crate::stream::{Failure, Summary, convert_stream};
+use crate::wrong_word::{WrongWord, wrong_word};
 use std::alloc::Global;
 use std::io;
 use std::io::{ErrorKind, Read, Write};
@@ -45,6 +46,7 @@ fn answer<R: Read, W: Write, V: Write>(
     match Job::named(words) {
         None => {
             err.write_all(USAGE.as_bytes())?;
+            tell_wrong_word(words, err)?;
             Ok(OTHER_WORDS)
         }
         Some(Job::Help) => {
@@ -58,6 +60,16 @@ fn answer<R: Read, W: Write, V: Write>(
                 Err(failure) => tell_failure(failure, err),
             }
         }
+    }
+}
+
+/// Names the word that is wrong, if one is.
+fn tell_wrong_word<V: Write>(words: &[String], err: &mut V) -> io::Result<()> {
+    match wrong_word(words) {
+        Some(WrongWord { wanted, word }) => {
+            writeln!(err, "convert_values: no such {wanted}: `{word}`")
+        }
+        None => Ok(()),
     }
 }
 

@@ -161,6 +161,33 @@ fn refuses_other_words(rt: HostRuntime) -> Result<(), Fail> {
     Ok(())
 }
 
+/// Lines with a word that is wrong, and the last line that is written for each.
+static WRONG_WORDS: &[(&str, &[u8])] = &[
+    (
+        "single halff even",
+        b"convert_values: no such format: `halff`\n",
+    ),
+    ("dd single even", b"convert_values: no such format: `dd`\n"),
+    (
+        "single half nearest",
+        b"convert_values: no such mode: `nearest`\n",
+    ),
+    (
+        "--clamp single half even",
+        b"convert_values: no such option: `--clamp`\n",
+    ),
+];
+
+#[test]
+fn names_the_wrong_word(rt: HostRuntime) -> Result<(), Fail> {
+    for (line, told) in WRONG_WORDS {
+        let (_, err, status) = answer_to(rt.alloc(), line, SINGLES)?;
+        let is_told = status == 2 && err.as_slice().ends_with(told);
+        assert!(rt; is_told, "{line}");
+    }
+    Ok(())
+}
+
 #[test]
 fn reads_a_few_bytes_at_a_time(rt: HostRuntime) -> Result<(), Fail> {
     let mut input = Trickle {
