@@ -689,9 +689,11 @@ class Array:
     def to(self, format, saturate=False):
         """The values in another format. With `saturate`, a number that overflows gives the largest one of its sign.
 
+        The largest number of e4m3fn is 448, and 450 is its shortest decimal.
+
         >>> xs = single.array([1, 1000, -1000])
         >>> xs.to(e4m3fn), xs.to(e4m3fn, saturate=True)
-        (e4m3fn.array(['1.0', 'nan', 'nan']), e4m3fn.array(['1.0', '448.0', '-448.0']))
+        (e4m3fn.array(['1.0', 'nan', 'nan']), e4m3fn.array(['1.0', '450.0', '-450.0']))
         >>> xs.to(e4m3fn, saturate=True).counts['overflow']
         2
         """
