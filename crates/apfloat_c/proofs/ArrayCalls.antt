@@ -1,5 +1,5 @@
 -- What a call on arrays that is made knows of its arguments, and what it leaves.
-use Rattle.std.proofs.Common.{◌≡◌, ℕ, ◌+◌, ◌*◌, ◌/◌, ◌%◌, ◌<◌, ◌≤◌, ◌⊎◌, Bool, true, false, List, ◌++◌, length, take, drop, Option, Some, None, Result, Ok, Err, refl, sym, ◌∙◌, subst, ap, inl, inr, arith}
+use Rattle.std.proofs.Common.{◌≡◌, ℕ, ◌+◌, ◌*◌, ◌/◌, ◌%◌, ◌≤◌, ◌⊎◌, Bool, true, false, List, ◌++◌, length, drop, Option, Some, None, Result, Ok, Err, refl, sym, ◌∙◌, subst, inl, inr, arith}
 use Rattle.std.specs.Prelude.{◌&&◌, ◌==◌, if◌then◌else◌}
 use Rattle.std.proofs.Math.Nat.{mul-le-mul_right}
 use Rattle.std.proofs.lemmas.Bool.{and_parts, eqb-true, leb-true}
@@ -181,7 +181,8 @@ pub mapped_array : (known : Result MapCall ℕ) (map : MapCall) (xs ys zs old ne
 mapped_array known map xs ys zs old new before after is mapped =
     subst (λ (k : Result MapCall ℕ). IsMappedArray k xs ys zs old new before after 0) (sym is) (refl, mapped)
 
-pub refused_conversion : (known : Result ArrayConversion ℕ) (error : ℕ) (given old : List ℕ) (answer : ArrayAnswer)
+pub refused_conversion : (known : Result ArrayConversion ℕ) (error : ℕ) (given old : List ℕ)
+    (answer : ArrayAnswer)
     → known ≡ Err error → IsConvertedArray known given old old answer answer error
 refused_conversion known error given old answer is =
     subst (λ (k : Result ArrayConversion ℕ). IsConvertedArray k given old old answer answer error) (sym is)
@@ -203,7 +204,8 @@ pub conversion_left : (known : Result ArrayConversion ℕ) (conversion : ArrayCo
     conversion.round)
     (array_widths conversion).source (array_widths conversion).target (length given / widths.source) given front counts
     → after ≡ answer_with (record { counts = counts; div_by_zero = 0 })
-    → IsConvertedArray known given old (front ++ drop (length given / widths.source * widths.target) old) before after 0
+    → IsConvertedArray known given old (front ++ drop (length given / widths.source * widths.target) old) before
+    after 0
 conversion_left known conversion widths given old front counts before after widths_are known_is size block after_is =
     let Left : Widths → Type 0 = λ (w : Widths). length front ≡ length given / w.source * w.target
     → IsBlock
@@ -211,7 +213,8 @@ conversion_left known conversion widths given old front counts before after widt
     conversion.round)
     (array_widths conversion).source (array_widths conversion).target (length given / w.source) given front counts
     → IsConvertedArray known given old (front ++ drop (length given / w.source * w.target) old) before after 0 in
-    let at_widths : Left (array_widths conversion) = λ long made. converted_array known conversion given old _ before after
+    let at_widths : Left (array_widths conversion) =
+    λ long made. converted_array known conversion given old _ before after
     known_is
     (subst (λ (a : ArrayAnswer). AreConverted conversion (length given / (array_widths conversion).source) given old
     (front ++ drop (length given / (array_widths conversion).source * (array_widths conversion).target) old) a)

@@ -1,6 +1,6 @@
 -- One more element of an operation on arrays.
 use Rattle.std.proofs.Common.{◌≡◌, ℕ, ◌+◌, ◌-◌, ◌*◌, ◌<◌, List, [], ◌∷◌, ◌++◌, length, sym, subst, ap, ◌∙◌}
-use Rattle.std.specs.Prelude.{slice_range, count_by}
+use Rattle.std.specs.Prelude.{slice_range}
 use Rattle.std.proofs.Math.Path.{subst₃}
 use Rattle.std.proofs.lemmas.List.{length_push}
 use borrow.Rule.Slice.PartMut.{put_mid}
@@ -28,7 +28,8 @@ counts_push elements element =
 -- and made in its place
 pub elements_more : (map : MapCall) (xs ys zs : List ℕ) (width index count : ℕ) (x y z : ℕ) (bytes new : List ℕ)
     (counted : ElementCounts) (element : Element)
-    → width ≡ bytes_in map.kind → index < count → length bytes ≡ count * bytes_in map.kind → length new ≡ width
+    → width ≡ bytes_in map.kind → index < count → length bytes ≡ count * bytes_in map.kind
+    → length new ≡ width
     → x ≡ number_of (slice_range xs (index * width) (index * width + width))
     → y ≡ number_of (slice_range ys (index * width) (index * width + width))
     → z ≡ number_of (slice_range zs (index * width) (index * width + width))

@@ -19,7 +19,8 @@ past_all constants law =
     let scale : pos (constants.precision - 1) -ℤ constants.min_exp
     ≡ pos (unsigned_abs (pos (constants.precision - 1) -ℤ constants.min_exp)) =
     omega (arith, ints, p.precision_low, p.min_exp_high) in
-    let span : constants.max_exp -ℤ constants.min_exp ≡ pos (unsigned_abs (constants.max_exp -ℤ constants.min_exp)) =
+    let span : constants.max_exp -ℤ constants.min_exp
+    ≡ pos (unsigned_abs (constants.max_exp -ℤ constants.min_exp)) =
     omega (arith, ints, p.precision_low, p.min_exp_high, p.max_exp_low) in
     omega (arith, ints, p.precision_high, p.min_exp_low, p.max_exp_high, scale, span)
 
@@ -27,7 +28,8 @@ past_all constants law =
 number_fits : (constants : Constants) → IsLawful constants
     → (negative : Bool) (n : ℕ) (none : Bool) (value : Datum) (e : ℤ)
     → eqb n 0 ≡ none → n ≤ largest (format_with constants)
-    → MatchBool none ((value ≡ finite negative n) × (e ≡ pos 0)) (IsFraction (format_with constants) negative n value e)
+    → MatchBool none ((value ≡ finite negative n) × (e ≡ pos 0))
+    (IsFraction (format_with constants) negative n value e)
     → FitsSigned w32 e
 number_fits constants law b n true value e test within h =
     subst (λ (z : ℤ). FitsSigned w32 z) (sym h.1) (fits_signed_from_abs w32 (pos 0) (lit< tt))

@@ -291,13 +291,15 @@ high_once a b a_fits b_fits same =
     (cases_lt a.high b.high)
 
 -- and then one lower half
-low_once : (first second : Halves) → first.high ≡ second.high → whole first ≡ whole second → first.low ≡ second.low
+low_once : (first second : Halves) → first.high ≡ second.high → whole first ≡ whole second
+    → first.low ≡ second.low
 low_once a b high same = omega arith
 
 -- two numbers of two halves are equal where both halves are
 halves_of : (first second : Halves) → first.low ≡ second.low → first.high ≡ second.high → first ≡ second
 halves_of a b low high =
-    ap (λ (n : ℕ). record { low = n; high = a.high }) low ∙ ap (λ (n : ℕ). record { low = b.low; high = n }) high
+    ap (λ (n : ℕ). record { low = n; high = a.high }) low
+    ∙ ap (λ (n : ℕ). record { low = b.low; high = n }) high
 
 -- so the halves are the same
 halves_once : (first second : Halves) → first.low < 2 ^ 64 → second.low < 2 ^ 64 → whole first ≡ whole second

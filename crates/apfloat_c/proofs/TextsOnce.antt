@@ -37,7 +37,8 @@ one_decimal f negative (suc n) a b some x y =
 one_text : (f : Format) (x : Datum) (first second : List ℕ) → 0 < f.precision
     → IsValueText f x first → IsValueText f x second → first ≡ second
 one_text f (finite negative quanta) a b some x y =
-    x.1.1 ∙ ap (λ (d : Decimal). decimal_text d) (one_decimal f negative quanta x.0 y.0 some x.1.0 y.1.0) ∙ sym y.1.1
+    x.1.1 ∙ ap (λ (d : Decimal). decimal_text d) (one_decimal f negative quanta x.0 y.0 some x.1.0 y.1.0)
+    ∙ sym y.1.1
 one_text f (infinite negative) a b some x y = x ∙ sym y
 one_text f (nan negative significand) a b some x y = x ∙ sym y
 

@@ -103,8 +103,8 @@ pub record AreConverted (conversion : ArrayConversion) (count : ℕ) (given old 
   pub answer_is : answer ≡ answer_with (record { counts = counts; div_by_zero = 0 })
 
 -- the code 0 and the conversions, or the code of the error and what was there before
-abbrev pub IsConvertedArray : Result ArrayConversion ℕ → List ℕ → List ℕ → List ℕ → ArrayAnswer → ArrayAnswer → ℕ
-    → Type 0
+abbrev pub IsConvertedArray : Result ArrayConversion ℕ → List ℕ → List ℕ → List ℕ → ArrayAnswer
+    → ArrayAnswer → ℕ → Type 0
 IsConvertedArray (Err error) given old new before after code = (code ≡ error) × (new ≡ old) × (after ≡ before)
 IsConvertedArray (Ok conversion) given old new before after code =
     (code ≡ answered)
@@ -134,7 +134,8 @@ pub record IsElement (map : MapCall) (x y z : ℕ) (bytes : List ℕ) (element :
 -- the operands of an index; an operand that the operation does not take has no bytes
 abbrev pub IsElementAt : MapCall → List ℕ → List ℕ → List ℕ → ℕ → List ℕ → Element → Type 0
 IsElementAt map xs ys zs index bytes element =
-    IsElement map (number_of (value_at (bytes_in map.kind) index xs)) (number_of (value_at (bytes_in map.kind) index ys))
+    IsElement map (number_of (value_at (bytes_in map.kind) index xs))
+    (number_of (value_at (bytes_in map.kind) index ys))
     (number_of (value_at (bytes_in map.kind) index zs)) bytes element
 
 -- the operation is made at each index, with these counts of outcomes
@@ -151,8 +152,8 @@ pub record AreMapped (map : MapCall) (count : ℕ) (xs ys zs old new : List ℕ)
   pub kept : drop (count * bytes_in map.kind) new ≡ drop (count * bytes_in map.kind) old
   pub answer_is : answer ≡ answer_with counted
 
-abbrev pub IsMappedArray : Result MapCall ℕ → List ℕ → List ℕ → List ℕ → List ℕ → List ℕ → ArrayAnswer → ArrayAnswer
-    → ℕ → Type 0
+abbrev pub IsMappedArray : Result MapCall ℕ → List ℕ → List ℕ → List ℕ → List ℕ → List ℕ
+    → ArrayAnswer → ArrayAnswer → ℕ → Type 0
 IsMappedArray (Err error) xs ys zs old new before after code = (code ≡ error) × (new ≡ old) × (after ≡ before)
 IsMappedArray (Ok map) xs ys zs old new before after code =
     (code ≡ answered) × AreMapped map (length xs / bytes_in map.kind) xs ys zs old new after

@@ -57,7 +57,8 @@ record IsParted (body whole fraction tail : List ℕ) : Type 0 where
   fraction_is : fraction_in (behind_run is_decimal body) ≡ fraction
   tail_is : behind_fraction (behind_run is_decimal body) ≡ tail
 
-parted_at_dot : (whole fraction tail : List ℕ) → every is_decimal whole ≡ true → every is_decimal fraction ≡ true
+parted_at_dot : (whole fraction tail : List ℕ) → every is_decimal whole ≡ true
+    → every is_decimal fraction ≡ true
     → begins is_decimal tail ≡ false → IsParted (whole ++ (46 ∷ (fraction ++ tail))) whole fraction tail
 parted_at_dot whole fraction tail w f t =
     let rest : behind_run is_decimal (whole ++ (46 ∷ (fraction ++ tail))) ≡ 46 ∷ (fraction ++ tail) =
@@ -166,7 +167,8 @@ no_infinity Minus c rest l =
     (differs c 73 rest (codes "nf") l (omega arith)) (differs c 105 rest (codes "nf") l (omega arith)))
     (differs c 73 rest (codes "NFINITY") l (omega arith))
 
-no_named_nan : (negative : Bool) (c : ℕ) (rest : List ℕ) → c ≤ 57 → named_nan negative false (c ∷ rest) ≡ None
+no_named_nan : (negative : Bool) (c : ℕ) (rest : List ℕ) → c ≤ 57
+    → named_nan negative false (c ∷ rest) ≡ None
 no_named_nan negative c rest l =
     cond-false (is_nan_name (take 3 (c ∷ rest))) (with_payload negative false (payload_of (drop 3 (c ∷ rest)))) None
     (or_from (same (c ∷ take 2 rest) (codes "nan")) (same (c ∷ take 2 rest) (codes "NaN"))
@@ -193,7 +195,8 @@ no_special mark c rest l =
 
 -- a decimal text begins with a dot or a digit
 no_special_text : (mark : Mark) (body whole point fraction tail : List ℕ)
-    → body ≡ whole ++ (point ++ (fraction ++ tail)) → (point ≡ codes ".") ⊎ ((point ≡ []) × (fraction ≡ []))
+    → body ≡ whole ++ (point ++ (fraction ++ tail))
+    → (point ≡ codes ".") ⊎ ((point ≡ []) × (fraction ≡ []))
     → every is_decimal (whole ++ fraction) ≡ true → 1 ≤ length (whole ++ fraction)
     → special_meaning mark body ≡ None
 no_special_text mark body (c ∷ whole) point fraction tail e p h l =
@@ -207,8 +210,8 @@ no_special_text mark body [] point fraction tail e (inr none) h l =
     absurd (omega (arith, l, z))
 
 -- a decimal text has no other meaning
-pub no_other_meaning : (text : List ℕ) (digits : ℕ) (exponent : ℤ) → IsDecimalText (behind_mark text) digits exponent
-    → fault_of text ≡ Some NoLiteral
+pub no_other_meaning : (text : List ℕ) (digits : ℕ) (exponent : ℤ)
+    → IsDecimalText (behind_mark text) digits exponent → fault_of text ≡ Some NoLiteral
 no_other_meaning [] digits exponent x =
     absurd (false≢true (sym (only_text [] digits exponent x).some))
 no_other_meaning (c ∷ text) digits exponent x =
@@ -234,8 +237,8 @@ no_fault_of (c ∷ text) digits exponent x =
     cond_same true o = refl
     cond_same false o = refl
 
-pub no_plain_fault : (text : List ℕ) (digits : ℕ) (exponent : ℤ) → IsDecimalText (behind_mark text) digits exponent
-    → plain_fault_of text ≡ None
+pub no_plain_fault : (text : List ℕ) (digits : ℕ) (exponent : ℤ)
+    → IsDecimalText (behind_mark text) digits exponent → plain_fault_of text ≡ None
 no_plain_fault [] digits exponent x = absurd (false≢true (sym (only_text [] digits exponent x).some))
 no_plain_fault (c ∷ text) digits exponent x =
     let only = only_text (behind_mark (c ∷ text)) digits exponent x in

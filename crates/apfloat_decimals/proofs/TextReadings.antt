@@ -55,7 +55,8 @@ text_read format mode text (Err error) negative digits exponent x r =
 make : Bool → ℕ → ℤ → Decimal
 make negative digits exponent = record { negative = negative; digits = digits; exponent = exponent }
 
-same_decimal : (x y : Decimal) → x.negative ≡ y.negative → x.digits ≡ y.digits → x.exponent ≡ y.exponent → x ≡ y
+same_decimal : (x y : Decimal) → x.negative ≡ y.negative → x.digits ≡ y.digits → x.exponent ≡ y.exponent
+    → x ≡ y
 unfolding make
 same_decimal x y n d e =
     ap (λ (b : Bool). make b x.digits x.exponent) n ∙ ap (λ (k : ℕ). make y.negative k x.exponent) d

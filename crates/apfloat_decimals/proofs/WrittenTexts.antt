@@ -61,7 +61,8 @@ more_digits n digits l x =
 
 -- the digits that are written of a number
 number_of_decimal : (n : ℕ) → n < 10 ^ 64 → IsNumber n (decimal n)
-number_of_decimal n few = decimal_by_steps_wide (λ (m : ℕ) (ds : List ℕ). IsNumber m ds) single_digit more_digits n few
+number_of_decimal n few =
+    decimal_by_steps_wide (λ (m : ℕ) (ds : List ℕ). IsNumber m ds) single_digit more_digits n few
 
 -- zeros and digits after a number
 after : (n : ℕ) (digits : List ℕ) → number_from n digits ≡ n * 10 ^ length digits + number_from 0 digits
@@ -77,7 +78,8 @@ after n (c ∷ digits) =
     grown : (n d p r s : ℕ) → s ≡ (0 * 10 + d) * p + r → (n * 10 + d) * p + r ≡ n * (p * 10) + s
     grown n d p r s e = omega arith
 
-zeros_number : (count : ℕ) (digits : List ℕ) → number_from 0 (replicate count 48 ++ digits) ≡ number_from 0 digits
+zeros_number : (count : ℕ) (digits : List ℕ)
+    → number_from 0 (replicate count 48 ++ digits) ≡ number_from 0 digits
 zeros_number zero digits = refl
 zeros_number (suc count) digits = zeros_number count digits
 
@@ -94,13 +96,15 @@ record IsPadded (places n : ℕ) (digits : List ℕ) : Type 0 where
   length_is : length digits ≡ places
   number_is : number 10 digits ≡ n
 
-padded_number : (places n : ℕ) → 0 < places → n < 10 ^ places → n < 10 ^ 64 → IsPadded places n (padded places n)
+padded_number : (places n : ℕ) → 0 < places → n < 10 ^ places → n < 10 ^ 64
+    → IsPadded places n (padded places n)
 padded_number places n some below few =
     let x = number_of_decimal n few in
     let zeros = places - length (decimal n) in
     let short : length (decimal n) ≤ places = length-decimal-le_wide places n some below few in
     let long = zeros_length zeros in
-    let all : length {A = ℕ} (padded places n) ≡ length {A = ℕ} (replicate zeros 48) + length {A = ℕ} (decimal n) =
+    let all : length {A = ℕ} (padded places n)
+    ≡ length {A = ℕ} (replicate zeros 48) + length {A = ℕ} (decimal n) =
     length-append {A = ℕ} (replicate zeros 48) (decimal n) in
     record {
       are_digits = append-every is_decimal (replicate zeros 48) (decimal n) (zeros_digits zeros) x.are_digits;
@@ -143,7 +147,8 @@ exponent_written (negsuc m) low high =
 -- ---- numbers with a dot
 
 -- digits on both sides of a dot
-dotted : (n places : ℕ) (tail : List ℕ) (written : ℤ) → n < 2 ^ 128 → 0 < places → IsWrittenExponent tail written
+dotted : (n places : ℕ) (tail : List ℕ) (written : ℤ) → n < 2 ^ 128 → 0 < places
+    → IsWrittenExponent tail written
     → IsDecimalText (pointed n places ++ tail) n (written -ℤ pos places)
 dotted n places tail written few some exponent =
     let unit : 0 < 10 ^ places = power_pos 10 places (lit< tt) in
@@ -202,8 +207,8 @@ record IsMagnitude (text : List ℕ) (digits : ℕ) (exponent : ℤ) : Type 0 wh
   no_sign : behind_mark text ≡ text
 
 -- a text that begins with the digits of a number
-begun : (m n : ℕ) (e : ℤ) (rest text : List ℕ) → m < 2 ^ 128 → text ≡ decimal m ++ rest → IsDecimalText text n e
-    → IsMagnitude text n e
+begun : (m n : ℕ) (e : ℤ) (rest text : List ℕ) → m < 2 ^ 128 → text ≡ decimal m ++ rest
+    → IsDecimalText text n e → IsMagnitude text n e
 begun m n e rest text few same x =
     let first = number_of_decimal m (omega arith) in
     let mark = unmarked (decimal m) rest first.are_digits first.some in
@@ -215,7 +220,8 @@ begun_dotted : (n places : ℕ) (tail : List ℕ) (written e : ℤ) → n < 2 ^ 
 begun_dotted n places tail written e few some exponent same =
     let unit : 0 < 10 ^ places = power_pos 10 places (lit< tt) in
     let front : n / 10 ^ places ≤ n = omega arith in
-    begun (n / 10 ^ places) n e (46 ∷ padded places (n % 10 ^ places) ++ tail) (pointed n places ++ tail) (omega arith)
+    begun (n / 10 ^ places) n e (46 ∷ padded places (n % 10 ^ places) ++ tail) (pointed n places ++ tail)
+    (omega arith)
     (append_assoc (decimal (n / 10 ^ places)) (46 ∷ padded places (n % 10 ^ places)) tail)
     (rw (sym same) (dotted n places tail written few some exponent))
 
@@ -256,7 +262,8 @@ negative_is : (e : ℤ) → 0 < down e → pos 0 -ℤ pos (down e) ≡ e
 negative_is (pos m) h = absurd (omega (arith, h))
 negative_is (negsuc m) h = omega (arith, ints)
 
-plain_fraction : (n : ℕ) (e : ℤ) → n < 2 ^ 128 → eqb (down e) 0 ≡ false → IsMagnitude (pointed n (down e)) n e
+plain_fraction : (n : ℕ) (e : ℤ) → n < 2 ^ 128 → eqb (down e) 0 ≡ false
+    → IsMagnitude (pointed n (down e)) n e
 plain_fraction n e few some =
     let places : 0 < down e = below (down e) (eqb-false (down e) 0 some) in
     let none = append_none (pointed n (down e)) in
@@ -313,7 +320,8 @@ magnitude_spelled x stored =
     (cases_Bool (is_plain x.digits x.exponent)))
     (cases_Bool (eqb x.digits 0))
 
-signed_spelled : (negative : Bool) (text : List ℕ) (digits : ℕ) (exponent : ℤ) → IsMagnitude text digits exponent
+signed_spelled : (negative : Bool) (text : List ℕ) (digits : ℕ) (exponent : ℤ)
+    → IsMagnitude text digits exponent
     → Spells (sign_text negative ++ text) negative digits exponent
 signed_spelled true text digits exponent x = record { sign = refl; is_text = x.is_text }
 signed_spelled false text digits exponent x = record { sign = rw x.no_mark refl; is_text = rw x.no_sign x.is_text }

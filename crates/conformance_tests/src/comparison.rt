@@ -170,9 +170,9 @@ fn compare_about(rt: &impl Abort, center: u128, step: u128)
     let first = center - 250 * step;
     for k in 0..501u64 {
         let eighths = first + u128::from(k) * step;
-        compare::<HalfS>(rt, HALF, eighths - 1);
-        compare::<HalfS>(rt, HALF, eighths);
-        compare::<HalfS>(rt, HALF, eighths + 1);
+        for more in 0..3u64 {
+            compare::<HalfS>(rt, HALF, eighths - 1 + u128::from(more));
+        }
     }
 }
 

@@ -13,7 +13,6 @@ use rustc_apfloat::{Category, ExpInt, Float};
 use std::process::Abort;
 
 /// The bits of a format's named values.
-#[derive(Clone, Copy)]
 struct Named {
     smallest: u128,
     smallest_normalized: u128,
@@ -22,7 +21,7 @@ struct Named {
 }
 
 /// Asserts that the named values of a format have the given bits.
-fn check<S: Semantics>(rt: &impl Abort, format: &str, named: Named)
+fn check<S: Semantics>(rt: &impl Abort, format: &str, named: &Named)
     requires { S.PRECISION < S.BITS }
 {
     let got = [
@@ -44,50 +43,56 @@ fn check<S: Semantics>(rt: &impl Abort, format: &str, named: Named)
     same(rt, got, expected, format);
 }
 
+static HALF: Named = Named {
+    smallest: 0x0001,
+    smallest_normalized: 0x0400,
+    largest: 0x7bff,
+    infinity: 0x7c00,
+};
+
+static SINGLE: Named = Named {
+    smallest: 0x00000001,
+    smallest_normalized: 0x00800000,
+    largest: 0x7f7fffff,
+    infinity: 0x7f800000,
+};
+
+static DOUBLE: Named = Named {
+    smallest: 0x0000000000000001,
+    smallest_normalized: 0x0010000000000000,
+    largest: 0x7fefffffffffffff,
+    infinity: 0x7ff0000000000000,
+};
+
+static SEVEN: Named = Named {
+    smallest: 0x01,
+    smallest_normalized: 0x08,
+    largest: 0x37,
+    infinity: 0x38,
+};
+
+static E4M3FN: Named = Named {
+    smallest: 0x01,
+    smallest_normalized: 0x08,
+    largest: 0x7e,
+    infinity: 0x7f,
+};
+
+static E4M3FNUZ: Named = Named {
+    smallest: 0x01,
+    smallest_normalized: 0x08,
+    largest: 0x7f,
+    infinity: 0x80,
+};
+
 #[test]
 fn named_values(rt: HostRuntime) {
-    let half = Named {
-        smallest: 0x0001,
-        smallest_normalized: 0x0400,
-        largest: 0x7bff,
-        infinity: 0x7c00,
-    };
-    check::<HalfS>(&rt, "half", half);
-    let single = Named {
-        smallest: 0x00000001,
-        smallest_normalized: 0x00800000,
-        largest: 0x7f7fffff,
-        infinity: 0x7f800000,
-    };
-    check::<SingleS>(&rt, "single", single);
-    let double = Named {
-        smallest: 0x0000000000000001,
-        smallest_normalized: 0x0010000000000000,
-        largest: 0x7fefffffffffffff,
-        infinity: 0x7ff0000000000000,
-    };
-    check::<DoubleS>(&rt, "double", double);
-    let seven = Named {
-        smallest: 0x01,
-        smallest_normalized: 0x08,
-        largest: 0x37,
-        infinity: 0x38,
-    };
-    check::<SevenS>(&rt, "seven", seven);
-    let e4m3fn = Named {
-        smallest: 0x01,
-        smallest_normalized: 0x08,
-        largest: 0x7e,
-        infinity: 0x7f,
-    };
-    check::<Float8E4M3FNS>(&rt, "e4m3fn", e4m3fn);
-    let e4m3fnuz = Named {
-        smallest: 0x01,
-        smallest_normalized: 0x08,
-        largest: 0x7f,
-        infinity: 0x80,
-    };
-    check::<Float8E4M3FNUZS>(&rt, "e4m3fnuz", e4m3fnuz);
+    check::<HalfS>(&rt, "half", &HALF);
+    check::<SingleS>(&rt, "single", &SINGLE);
+    check::<DoubleS>(&rt, "double", &DOUBLE);
+    check::<SevenS>(&rt, "seven", &SEVEN);
+    check::<Float8E4M3FNS>(&rt, "e4m3fn", &E4M3FN);
+    check::<Float8E4M3FNUZS>(&rt, "e4m3fnuz", &E4M3FNUZ);
 }
 
 /// For a type without bits, only the categories can be checked here.
@@ -110,8 +115,8 @@ fn named_values_without_bits(rt: HostRuntime) {
         Category::Normal,
         Category::Infinity,
     ];
-    same(&rt, got, expected, "categories");
-    same(&rt, default.is_negative(), false, "sign of the default");
+    let got = (got, default.is_negative());
+    same(&rt, got, (expected, false), "categories, sign");
 }
 
 /// The constants of a format as the trait `Float` gives them.

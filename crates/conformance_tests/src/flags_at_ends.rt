@@ -74,22 +74,14 @@ fn rounded_quotient(tininess: Tininess, mode: Round, x: Operand, y: Operand) -> 
     rounded(tininess, mode, negative, x.quanta * one, y.quanta)
 }
 
-/// Asserts that value and status are the expected ones.
-fn check<S: Flagged>(
-    rt: &impl Abort,
-    answer: StatusAnd<IeeeFloat<S>>,
-    expected: Expected,
-    operation: &str,
-    x: u128,
-    y: u128,
-)
+/// The bits and the status of a result of the library.
+fn written<S: Flagged>(answer: StatusAnd<IeeeFloat<S>>) -> Expected
     requires { S.PRECISION < S.BITS }
 {
-    let answer = Expected {
+    Expected {
         bits: answer.value.to_bits(),
         status: answer.status.bits(),
-    };
-    same(rt, answer, expected, (Bits(x), operation, Bits(y)));
+    }
 }
 
 /// The sum, the product and the quotient of two bit patterns. Results of infinities and NaNs are not rounded, and have
@@ -100,23 +92,26 @@ fn check_pair<S: Flagged>(rt: &impl Abort, tininess: Tininess, mode: Round, x: u
 {
     let left = decoded(Small::Half, x);
     let right = decoded(Small::Half, y);
-    let (plain_sum, plain_product, plain_quotient) = match left.class {
-        Class::Number if right.quanta > 0 => (
+    let expected = match left.class {
+        Class::Number if right.quanta > 0 => [
             rounded_sum(tininess, mode, left, right),
             rounded_product(tininess, mode, left, right),
             rounded_quotient(tininess, mode, left, right),
-        ),
-        _ => (
+        ],
+        _ => [
             sum(Small::Half, mode, x, y),
             product(Small::Half, mode, x, y),
             quotient(Small::Half, mode, x, y),
-        ),
+        ],
     };
     let left = IeeeFloat::<S>::from_bits(x);
     let right = IeeeFloat::<S>::from_bits(y);
-    check(rt, left.add_r(right, mode), plain_sum, "+", x, y);
-    check(rt, left.mul_r(right, mode), plain_product, "*", x, y);
-    check(rt, left.div_r(right, mode), plain_quotient, "/", x, y);
+    let got = [
+        written(left.add_r(right, mode)),
+        written(left.mul_r(right, mode)),
+        written(left.div_r(right, mode)),
+    ];
+    same(rt, got, expected, (Bits(x), mode, Bits(y)));
 }
 
 /// All bit patterns with each of 32 neighbouring ones. The modes take turns.

@@ -42,7 +42,7 @@ enum Side {
 /// A value at a limit, or next to one.
 type Place = (Limit, Side);
 
-const PLACES: [Place; 12] = [
+static PLACES: [Place; 12] = [
     (Limit::Zero, Side::At),
     (Limit::Smallest, Side::At),
     (Limit::Smallest, Side::Above),
@@ -57,7 +57,7 @@ const PLACES: [Place; 12] = [
     (Limit::SignalingNan, Side::At),
 ];
 
-const SIGNS: [bool; 2] = [false, true];
+static SIGNS: [bool; 2] = [false, true];
 
 /// The positive value of a limit.
 fn limit_of<S: Semantics>(limit: Limit) -> IeeeFloat<S> {
@@ -96,15 +96,9 @@ fn check_difference<S: Semantics>(rt: &impl Abort, x: IeeeFloat<S>, y: IeeeFloat
     for mode in MODES {
         let difference = near_difference(x, y, mode);
         if are_near(x, y) {
-            same(
-                rt,
-                difference.status,
-                Status::OK,
-                (x, y, mode, "difference"),
-            );
             let sum = difference.value.add_r(y, mode);
-            same(rt, sum.status, Status::OK, (x, y, mode, "sum"));
-            same(rt, sum.value == x, true, (x, y, mode, "value"));
+            let got = (difference.status, sum.status, sum.value == x);
+            same(rt, got, (Status::OK, Status::OK, true), (x, y, mode));
         }
     }
 }
@@ -171,9 +165,9 @@ fn check_steps<S: Semantics>(rt: &impl Abort, x: IeeeFloat<S>) {
 fn check_bits<S: Semantics>(rt: &impl Abort, x: IeeeFloat<S>)
     requires { S.PRECISION < S.BITS }
 {
-    same(rt, through_bits(x).bitwise_eq(x), true, x);
     let bits = x.to_bits();
-    same(rt, through_value::<S>(bits), bits, x);
+    let got = (through_bits(x).bitwise_eq(x), through_value::<S>(bits));
+    same(rt, got, (true, bits), x);
 }
 
 /// The laws on one, two and three values that hold in every format.

@@ -110,14 +110,14 @@ fn check_bits<S: Semantics>(rt: &impl Abort, one: u128, largest: u128, past: u12
     requires { S.PRECISION < S.BITS }
 {
     let greatest = IeeeFloat::<S>::largest();
-    let got = [
+    let bits = [
         IeeeFloat::<S>::from_u128(1).value.to_bits(),
         greatest.to_bits(),
         IeeeFloat::<S>::infinity().to_bits(),
     ];
-    same(rt, got, [one, largest, past], "bits");
     let is_read_back = IeeeFloat::<S>::from_bits(largest).bitwise_eq(greatest);
-    same(rt, is_read_back, true, "largest");
+    let got = (bits, is_read_back);
+    same(rt, got, ([one, largest, past], true), "1, largest, past");
 }
 
 #[test]

@@ -4,72 +4,32 @@
 ghost use Rattle.std.specs.Prelude.{◌<◌, ◌≤◌};
 
 use crate::asserts::{Bits, same};
-use crate::small::{Expected, Small, answered, difference, product, quotient, sum};
+use crate::small::{Small, answered, difference, product, quotient, sum};
 use crate::tables::{AWAY, DOWN, EVEN, UP, ZERO};
-use rustc_apfloat::ieee::{
-    Float8E4M3FNS, Float8E4M3FNUZS, Float8E5M2S, HalfS, IeeeFloat, Semantics,
-};
-use rustc_apfloat::{Float, Round, StatusAnd};
+use rustc_apfloat::ieee::{Float8E4M3FNS, Float8E4M3FNUZS, Float8E5M2S, HalfS, Semantics};
+use rustc_apfloat::{Float, Round};
 use std::process::Abort;
 
-/// Asserts that value and status are the expected ones.
-fn check<S: Semantics>(
-    rt: &impl Abort,
-    answer: StatusAnd<IeeeFloat<S>>,
-    expected: Expected,
-    operation: &str,
-    x: u128,
-    y: u128,
-)
-    requires { S.PRECISION < S.BITS }
-{
-    same(
-        rt,
-        answered(answer),
-        expected,
-        (Bits(x), operation, Bits(y)),
-    );
-}
-
-/// The four operations on two bit patterns.
+/// The four operations on two bit patterns: value and status are the expected ones.
 fn check_pair<S: Semantics>(rt: &impl Abort, format: Small, mode: Round, x: u128, y: u128)
     requires written { S.PRECISION < S.BITS }
     requires multiplied { S.PRECISION ≤ 64 }
 {
     let left = S::from_bits(x);
     let right = S::from_bits(y);
-    check(
-        rt,
-        left.add_r(right, mode),
+    let got = [
+        answered(left.add_r(right, mode)),
+        answered(left.sub_r(right, mode)),
+        answered(left.mul_r(right, mode)),
+        answered(left.div_r(right, mode)),
+    ];
+    let expected = [
         sum(format, mode, x, y),
-        "+",
-        x,
-        y,
-    );
-    check(
-        rt,
-        left.sub_r(right, mode),
         difference(format, mode, x, y),
-        "-",
-        x,
-        y,
-    );
-    check(
-        rt,
-        left.mul_r(right, mode),
         product(format, mode, x, y),
-        "*",
-        x,
-        y,
-    );
-    check(
-        rt,
-        left.div_r(right, mode),
         quotient(format, mode, x, y),
-        "/",
-        x,
-        y,
-    );
+    ];
+    same(rt, got, expected, (Bits(x), mode, Bits(y)));
 }
 
 /// All pairs of 8-bit patterns.

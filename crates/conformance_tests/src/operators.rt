@@ -245,13 +245,10 @@ fn joins_statuses(rt: HostRuntime) {
     let of_three = status.bits();
     let fourth: u8 = unpack!(status =, Status::DIV_BY_ZERO.and(4));
     let of_fourth = status.bits();
-    same(
-        &rt,
-        [of_first, of_two, of_three, of_fourth],
-        [0x09, 0x1d, 0x1d, 0x02],
-        "statuses",
-    );
-    same(&rt, [first, second, third, fourth], [1, 2, 3, 4], "values");
+    let statuses = [of_first, of_two, of_three, of_fourth];
+    let got = (statuses, [first, second, third, fourth]);
+    let expected = ([0x09, 0x1d, 0x1d, 0x02], [1, 2, 3, 4]);
+    same(&rt, got, expected, "statuses, values");
 }
 
 /// The two statuses share a flag and each has one of its own, so no two operators give the same result.
@@ -259,15 +256,14 @@ fn joins_statuses(rt: HostRuntime) {
 fn operators_of_statuses(rt: HostRuntime) {
     let left = Status::INVALID_OP | Status::INEXACT;
     let right = Status::INEXACT | Status::OVERFLOW;
-    same(&rt, [left.bits(), right.bits()], [0x11, 0x14], "operands");
-    let got = [
+    let operands = [left.bits(), right.bits()];
+    let results = [
         (left | right).bits(),
         (left & right).bits(),
         (left ^ right).bits(),
         (left - right).bits(),
         (!left).bits(),
     ];
-    same(&rt, got, [0x15, 0x10, 0x05, 0x01, 0x0e], "operators");
     let mut status = left;
     status |= right;
     let joined = status.bits();
@@ -277,10 +273,8 @@ fn operators_of_statuses(rt: HostRuntime) {
     let in_one = status.bits();
     status -= right;
     let rest = status.bits();
-    same(
-        &rt,
-        [joined, common, in_one, rest],
-        [0x15, 0x14, 0x05, 0x01],
-        "assigned",
-    );
+    let got = (operands, results, [joined, common, in_one, rest]);
+    let results = [0x15, 0x10, 0x05, 0x01, 0x0e];
+    let expected = ([0x11, 0x14], results, [0x15, 0x14, 0x05, 0x01]);
+    same(&rt, got, expected, "operands, results, assigned");
 }

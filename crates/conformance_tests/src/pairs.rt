@@ -11,22 +11,16 @@ fn exact_sums(rt: HostRuntime) {
         Double::from_bits(0x3fb9_9999_9999_999a),
         Double::from_bits(0x3fc9_9999_9999_999a),
     );
-    same(
-        &rt,
-        third.to_bits(),
-        0xbc80_0000_0000_0000_3fd3_3333_3333_3334,
-        "third",
-    );
     let farthest = exact_sum(
         Double::from_bits(0x3ff0_0000_0000_0000),
         Double::from_bits(0x0000_0000_0000_0001),
     );
-    same(
-        &rt,
-        farthest.to_bits(),
+    let expected = [
+        0xbc80_0000_0000_0000_3fd3_3333_3333_3334,
         0x0000_0000_0000_0001_3ff0_0000_0000_0000,
-        "farthest",
-    );
+    ];
+    let got = [third.to_bits(), farthest.to_bits()];
+    same(&rt, got, expected, "third, farthest");
 }
 
 #[test]
@@ -36,21 +30,15 @@ fn sums_of_three(rt: HostRuntime) {
         Double::from_bits(0x3c30_0000_0000_0000),
         Double::from_bits(0x3910_0000_0000_0000),
     );
-    same(
-        &rt,
-        exact.to_bits(),
-        0x3c30_0000_0000_0004_3ff0_0000_0000_0000,
-        "exact",
-    );
     let rounded = sum_of_three(
         Double::from_bits(0x3fd5_5555_5555_5555),
         Double::from_bits(0x3c85_5555_5555_5555),
         Double::from_bits(0x3b75_5555_5555_5555),
     );
-    same(
-        &rt,
-        rounded.to_bits(),
+    let expected = [
+        0x3c30_0000_0000_0004_3ff0_0000_0000_0000,
         0xbc75_5540_0000_0001_3fd5_5555_5555_5556,
-        "rounded",
-    );
+    ];
+    let got = [exact.to_bits(), rounded.to_bits()];
+    same(&rt, got, expected, "exact, rounded");
 }

@@ -18,7 +18,7 @@ pub const DOWN: Round = Round::TowardNegative;
 pub const ZERO: Round = Round::TowardZero;
 
 /// All modes.
-pub const MODES: [Round; 5] = [EVEN, UP, DOWN, ZERO, AWAY];
+pub static MODES: [Round; 5] = [EVEN, UP, DOWN, ZERO, AWAY];
 
 /// The bits of a status without flags.
 pub const OK: u8 = 0x00;

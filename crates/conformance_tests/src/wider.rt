@@ -28,21 +28,16 @@ fn check<S: Semantics, W: Semantics>(rt: &impl Abort, patterns: u64, quiet: u128
         } else {
             (bits, OK)
         };
-        let mut loses_info = true;
-        let wide: StatusAnd<IeeeFloat<W>> = x.convert_r(EVEN, &mut loses_info);
-        same(
-            rt,
-            (wide.status.bits(), loses_info),
-            (flags, false),
-            Bits(bits),
+        let mut there_loses = true;
+        let wide: StatusAnd<IeeeFloat<W>> = x.convert_r(EVEN, &mut there_loses);
+        let mut back_loses = true;
+        let narrow: StatusAnd<IeeeFloat<S>> = wide.value.convert_r(EVEN, &mut back_loses);
+        let got = (
+            wide.status.bits(),
+            answered(narrow),
+            [there_loses, back_loses],
         );
-        let narrow: StatusAnd<IeeeFloat<S>> = wide.value.convert_r(EVEN, &mut loses_info);
-        same(
-            rt,
-            (answered(narrow), loses_info),
-            (exactly(back), false),
-            Bits(bits),
-        );
+        same(rt, got, (flags, exactly(back), [false; 2]), Bits(bits));
     }
 }
 
@@ -162,23 +157,18 @@ fn check_small<S: Semantics, W: Semantics>(rt: &impl Abort, format: Small, wide:
     for pattern in 0..patterns_of(format) {
         let bits = u128::from(pattern);
         for mode in MODES {
-            let mut loses_info = true;
             let x = S::from_bits(bits);
-            let there: StatusAnd<IeeeFloat<W>> = x.convert_r(mode, &mut loses_info);
+            let mut there_loses = true;
+            let there: StatusAnd<IeeeFloat<W>> = x.convert_r(mode, &mut there_loses);
             let wide_value = there.value;
-            let expected = widened(format, wide, bits);
+            let mut back_loses = true;
+            let back: StatusAnd<IeeeFloat<S>> = wide_value.convert_r(mode, &mut back_loses);
+            let answers = [answered(there), answered(back)];
+            let expected = [widened(format, wide, bits), exactly(quieted(format, bits))];
             same(
                 rt,
-                (answered(there), loses_info),
-                (expected, false),
-                (Bits(bits), mode),
-            );
-            let back: StatusAnd<IeeeFloat<S>> = wide_value.convert_r(mode, &mut loses_info);
-            let expected = (exactly(quieted(format, bits)), loses_payload(format, bits));
-            same(
-                rt,
-                (answered(back), loses_info),
-                expected,
+                (answers, [there_loses, back_loses]),
+                (expected, [false, loses_payload(format, bits)]),
                 (Bits(bits), mode),
             );
         }

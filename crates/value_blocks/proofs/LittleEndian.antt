@@ -97,7 +97,8 @@ cut n power wider rest number scale so_far =
     omega arith
 
 -- one more byte is written after them
-pub write_more : (number rest place : ℕ) (bytes : List ℕ) → place < length bytes → IsWrittenUp number rest place bytes
+pub write_more : (number rest place : ℕ) (bytes : List ℕ) → place < length bytes
+    → IsWrittenUp number rest place bytes
     → IsWrittenUp number (rest / 256) (place + 1) (set bytes place (rest % 256))
 write_more number rest place bytes within so_far =
     let enough : place ≤ length bytes = omega arith in
@@ -120,8 +121,8 @@ none_left n power (suc rest) number told small =
     absurd (omega arith)
 
 -- all bytes are written, and are those of the number
-pub write_to_end : (number rest place : ℕ) (bytes : List ℕ) → place ≡ length bytes → number < 256 ^ length bytes
-    → IsWrittenUp number rest place bytes
+pub write_to_end : (number rest place : ℕ) (bytes : List ℕ) → place ≡ length bytes
+    → number < 256 ^ length bytes → IsWrittenUp number rest place bytes
     → number_of bytes ≡ number
 write_to_end number rest place bytes all small so_far =
     let short : length bytes ≤ place = omega arith in

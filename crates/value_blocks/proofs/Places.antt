@@ -177,9 +177,10 @@ block_more Holds source target index count input output new counts outcome befor
 -- the same block, its parts named otherwise
 pub block_named : (Holds : List ℕ → List ℕ → Outcome → Type 0) (source target count count' : ℕ)
     (input input' output output' : List ℕ) (counts : Counts)
-    → count ≡ count' → input ≡ input' → output ≡ output' → IsBlock Holds source target count input output counts
+    → count ≡ count' → input ≡ input' → output ≡ output'
+    → IsBlock Holds source target count input output counts
     → IsBlock Holds source target count' input' output' counts
 block_named Holds source target count count' input input' output output' counts same_count same_input same_output
     block =
-    subst₃ (λ (n : ℕ) (bytes : List ℕ) (new : List ℕ). IsBlock Holds source target n bytes new counts) same_count
-    same_input same_output block
+    subst₃ (λ (n : ℕ) (bytes : List ℕ) (new : List ℕ). IsBlock Holds source target n bytes new counts)
+    same_count same_input same_output block

@@ -16,8 +16,8 @@ pub record AreInPlaces {Outcomes : Type 0} (Holds : ℕ → List ℕ → Outcome
       → IfSome (slice_get outcomes index) (λ outcome. Holds index (value_at width index bytes) outcome)
 
 -- the relation between input bytes, output bytes and outcome holds for each value, in its place
-pub record IsBlock (Holds : List ℕ → List ℕ → Outcome → Type 0) (source target count : ℕ) (input output : List ℕ)
-    (counts : Counts) : Type 0 where
+pub record IsBlock (Holds : List ℕ → List ℕ → Outcome → Type 0) (source target count : ℕ)
+    (input output : List ℕ) (counts : Counts) : Type 0 where
   pub outcomes : List Outcome
   pub size : length outcomes ≡ count
   pub each : (index : ℕ)

@@ -34,6 +34,7 @@ pub record IsSaturatedValue (c d : Constants) (mode : Round) (input output : Lis
   pub is_encoded : IsEncodedBy (format_with d) (layout_with d) (number_of output) value
   pub nan_is : outcome.is_nan ≡ is_nan value
 
-abbrev pub IsConvertedBy : Overflow → Constants → Constants → Round → List ℕ → List ℕ → Outcome → Type 0
+abbrev pub IsConvertedBy : Overflow → Constants → Constants → Round → List ℕ → List ℕ → Outcome
+    → Type 0
 IsConvertedBy Rounded c d mode input output outcome = IsConvertedValue c d mode input output outcome
 IsConvertedBy Saturated c d mode input output outcome = IsSaturatedValue c d mode input output outcome

@@ -1,8 +1,7 @@
-use Rattle.std.proofs.Common.{◌≡◌, ◌*◌, ◌/◌, length, Ok, ap, sym, ◌∙◌, rules, ◌≤◌}
+use Rattle.std.proofs.Common.{◌*◌, ◌/◌, length, ap, sym, ◌∙◌, rules, ◌≤◌}
 use Rattle.std.proofs.lemmas.List.{length-take-le}
 use Rattle.value_blocks.specs.declared.Widths.{Widths}
-use Rattle.apfloat_c.specs.ArrayCalls.{known_array_conversion}
-use Rattle.apfloat_c.proofs.ArrayCalls.{AreRoomy, conversion_left, conversion_room}
+use Rattle.apfloat_c.proofs.ArrayCalls.{conversion_left, conversion_room}
 use Rattle.apfloat_c.proofs.arrays.convert_array.Goals as goal
 
 pub overflow_mul-front : goal.overflow_mul-front

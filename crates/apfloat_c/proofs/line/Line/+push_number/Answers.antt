@@ -26,7 +26,8 @@ pub returns : goal.returns
 returns t c =
     elim c.if-number-ge10.branch [
       | then-number-ge10 w ↦
-          c.push.ensures ∙ ap (λ (x : List ℕ). x ++ ((48 + c.args.number % 10) ∷ [])) (w.self-is ∙ w.push_number.ensures)
+          c.push.ensures
+          ∙ ap (λ (x : List ℕ). x ++ ((48 + c.args.number % 10) ∷ [])) (w.self-is ∙ w.push_number.ensures)
           ∙ last_digit c.args.self.now c.args.number w.if-number-ge10.true c.ranges.number.fits
       | else-number-ge10 w ↦
           c.push.ensures ∙ ap (λ (x : List ℕ). x ++ ((48 + c.args.number % 10) ∷ [])) w.self-is
