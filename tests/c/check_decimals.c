@@ -3,14 +3,17 @@
  *
  *   read      FORMAT  MODE  TEXT  BITS  FLAGS, or ParseError and the flags -
  *   shortest  FORMAT  BITS  TEXT
+ *   each      FORMAT  WIDTH  CHECKSUM of the shortest texts of all bits, and another of what they are read as
+ *   ties      FORMAT  TRAILING  PLACES  LAST  CHECKSUM of what is read at and next to all midpoints
  *
- * It prints each row that differs, and how many agree. By hand, at the top of the repository, after `rt lib` in
- * crates/apfloat_c:
+ * A TEXT that is read may be in a short form (short_forms.h). The program prints each row that differs, and how many
+ * agree. By hand, at the top of the repository, after `rt lib` in crates/apfloat_c:
  *
  *   cc -std=c99 -Wall -Wextra -O2 -Iinclude tests/c/check_decimals.c crates/apfloat_c/out/libapfloat_c.a -o check
  *   ./check < tests/c/decimals */
 #include "apfloat.h"
 #include "../../examples/c/names.h"
+#include "short_forms.h"
 
 #include <stdbool.h>
 #include <stdio.h>
@@ -54,10 +57,14 @@ static uint32_t flags_of(char *names) {
     return status;
 }
 
+static uint32_t parsed(uint32_t format, uint32_t mode, const char *text, apfloat_answer *answer) {
+    return apfloat_parse_decimal(format, mode, (const uint8_t *)text, strlen(text), answer);
+}
+
 static bool is_read(char *columns[]) {
     apfloat_answer answer = answer_before;
     uint32_t format = format_of(columns[1]), mode = code_of(modes, COUNT(modes), columns[2]);
-    uint32_t code = apfloat_parse_decimal(format, mode, (const uint8_t *)columns[3], strlen(columns[3]), &answer);
+    uint32_t code = parsed(format, mode, spelled_out(columns[3]), &answer);
     if (strcmp(columns[4], "ParseError") == 0)
         return code == APFLOAT_REFUSED_TEXT && memcmp(&answer, &answer_before, sizeof answer) == 0;
     apfloat_halves bits = bits_of(columns[4]);
@@ -72,6 +79,68 @@ static bool is_shortest(char *columns[]) {
     memcpy(expected.bytes, columns[3], expected.length);
     return apfloat_shortest(format_of(columns[1]), bits_of(columns[2]), &text) == APFLOAT_ANSWERED &&
            memcmp(&text, &expected, sizeof text) == 0;
+}
+
+/* A checksum with one word more. */
+static uint64_t summed(uint64_t total, uint64_t word) {
+    return (uint64_t)(((unsigned __int128)total * 31 + word) % ((UINT64_C(1) << 61) - 1));
+}
+
+/* A checksum with the flags and the bits that a text is read as in each mode. */
+static uint64_t summed_readings(uint64_t total, uint32_t format, const char *text) {
+    for (size_t i = 0; i < COUNT(modes); i++) {
+        apfloat_answer answer = answer_before;
+        parsed(format, modes[i].code, text, &answer);
+        total = summed(summed(total, answer.status), answer.bits.low);
+    }
+    return total;
+}
+
+/* Whether a text is read, to nearest, as these bits. */
+static bool is_read_as(uint32_t format, const char *text, uint64_t pattern) {
+    apfloat_answer answer = answer_before;
+    return parsed(format, APFLOAT_NEAREST_EVEN, text, &answer) == APFLOAT_ANSWERED && answer.bits.low == pattern &&
+           answer.bits.high == 0;
+}
+
+/* Every value of a format, which is written and then read as itself; a NaN is read as any NaN. */
+static bool is_each(char *columns[]) {
+    uint32_t format = format_of(columns[1]);
+    uint64_t texts = 0, readings = 0;
+    for (uint64_t pattern = 0; pattern >> strtoul(columns[2], NULL, 10) == 0; pattern++) {
+        apfloat_text text = text_before();
+        if (apfloat_shortest(format, (apfloat_halves){pattern, 0}, &text) != APFLOAT_ANSWERED) return false;
+        for (const char *byte = text.bytes; *byte; byte++) texts = summed(texts, (uint8_t)*byte);
+        texts = summed(texts, '\n');
+        readings = summed_readings(readings, format, text.bytes);
+        if (strcmp(text.bytes, "nan") != 0 && !is_read_as(format, text.bytes, pattern)) return false;
+    }
+    return texts == strtoull(columns[3], NULL, 16) && readings == strtoull(columns[4], NULL, 16);
+}
+
+/* The quanta of a magnitude, or, of the bits above the largest number, what its place would have. */
+static uint64_t quanta_of(uint64_t pattern, unsigned trailing) {
+    uint64_t field = pattern >> trailing, digits = pattern & ((UINT64_C(1) << trailing) - 1);
+    return field == 0 ? digits : (digits | UINT64_C(1) << trailing) << (field - 1);
+}
+
+/* The midpoint after each magnitude, with a minus sign after each odd one, and the decimals one unit of its last place
+ * away. */
+static bool is_ties(char *columns[]) {
+    static const char *const changes[] = {"-1", "", "+1"};
+    uint32_t format = format_of(columns[1]);
+    unsigned trailing = (unsigned)strtoul(columns[2], NULL, 10), places = (unsigned)strtoul(columns[3], NULL, 10);
+    uint64_t last = strtoull(columns[4], NULL, 16), total = 0;
+    for (uint64_t pattern = 0; pattern <= last; pattern++) {
+        uint64_t halves = quanta_of(pattern, trailing) + quanta_of(pattern + 1, trailing);
+        for (size_t i = 0; i < COUNT(changes); i++) {
+            char form[64];
+            snprintf(form, sizeof form, "%s{%llu*5^%u%s}e-%u", pattern % 2 ? "-" : "", (unsigned long long)halves,
+                     places, changes[i], places);
+            total = summed_readings(total, format, spelled_out(form));
+        }
+    }
+    return total == strtoull(columns[5], NULL, 16);
 }
 
 /* The errors that no row has, each of which leaves what was there before. */
@@ -97,9 +166,29 @@ static unsigned refusals(void) {
     return count;
 }
 
+/* The kinds of rows. */
+static struct {
+    const char *name;
+    size_t columns;
+    bool (*agrees)(char *columns[]);
+    unsigned count;
+} kinds[] = {{"read", 6, is_read, 0},
+             {"shortest", 4, is_shortest, 0},
+             {"each", 5, is_each, 0},
+             {"ties", 6, is_ties, 0}};
+
+/* Counts a row, if it agrees. */
+static bool is_counted(char *columns[], size_t count) {
+    for (size_t i = 0; i < COUNT(kinds); i++)
+        if (strcmp(columns[0], kinds[i].name) == 0 && count == kinds[i].columns && kinds[i].agrees(columns)) {
+            kinds[i].count++;
+            return true;
+        }
+    return false;
+}
+
 int main(void) {
     static char line[LINE], copy[LINE];
-    unsigned read = 0, shortest = 0;
     while (fgets(line, sizeof line, stdin)) {
         line[strcspn(line, "\n")] = '\0';
         strcpy(copy, line);
@@ -110,13 +199,9 @@ int main(void) {
             tab = strchr(rest, '\t');
             if (tab) *tab++ = '\0';
         }
-        if (count == 6 && strcmp(columns[0], "read") == 0 && is_read(columns))
-            read++;
-        else if (count == 4 && strcmp(columns[0], "shortest") == 0 && is_shortest(columns))
-            shortest++;
-        else
-            printf("differs: %s\n", line);
+        if (!is_counted(columns, count)) printf("differs: %s\n", line);
     }
-    printf("read: %u rows agree\nshortest: %u rows agree\n%u errors agree\n", read, shortest, refusals());
+    for (size_t i = 0; i < COUNT(kinds); i++) printf("%s: %u rows agree\n", kinds[i].name, kinds[i].count);
+    printf("%u errors agree\n", refusals());
     return 0;
 }
