@@ -9,6 +9,8 @@
 // result is tiny, as if exponents had no end. No operand is a NaN. IEEE 754 leaves open which NaN an invalid operation
 // returns, so any NaN is written as the positive one without payload; and what an invalid conversion to an integer
 // returns, so the nearest end of the range is written.
+#include "../drawing.h"
+
 #include <stdint.h>
 #include <stdio.h>
 #include <stdlib.h>
@@ -61,20 +63,6 @@ typedef struct {
     int64_t integer;
     unsigned flags;
 } Answer;
-
-// The generator splitmix64.
-static uint64_t state;
-
-static uint64_t word(void) {
-    uint64_t z = state += 0x9e3779b97f4a7c15;
-    z = (z ^ z >> 30) * 0xbf58476d1ce4e5b9;
-    z = (z ^ z >> 27) * 0x94d049bb133111eb;
-    return z ^ z >> 31;
-}
-
-static int64_t between(int64_t least, int64_t greatest) {
-    return least + (int64_t)(word() % (uint64_t)(greatest - least + 1));
-}
 
 static Bits one_at(int place) { return (Bits)1 << place; }
 static int greatest_field(const Format *f) { return (1 << f->field_bits) - 1; }

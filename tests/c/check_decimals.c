@@ -4,15 +4,16 @@
  *   read      FORMAT  MODE  TEXT  BITS  FLAGS, or ParseError and the flags -
  *   shortest  FORMAT  BITS  TEXT
  *   each      FORMAT  WIDTH  CHECKSUM of the shortest texts of all bits, and another of what they are read as
- *   ties      FORMAT  TRAILING  PLACES  LAST  CHECKSUM of what is read at and next to all midpoints
+ *   ties      FORMAT  TRAILING  PLACES  LAST  CHECKSUM of what is read at all midpoints and next to them
  *
+ * A significand has TRAILING bits, a midpoint as many decimal PLACES, and LAST is the bits of the largest number.
  * A TEXT that is read may be in a short form (short_forms.h). The program prints each row that differs, and how many
  * agree. By hand, at the top of the repository, after `rt lib` in crates/apfloat_c:
  *
  *   cc -std=c99 -Wall -Wextra -O2 -Iinclude tests/c/check_decimals.c crates/apfloat_c/out/libapfloat_c.a -o check
  *   ./check < tests/c/decimals */
 #include "apfloat.h"
-#include "../../examples/c/names.h"
+#include "rows.h"
 #include "short_forms.h"
 
 #include <stdbool.h>
@@ -23,8 +24,6 @@
 enum { COLUMNS = 6, LINE = 1 << 14 };
 
 /* Memory that no call left as it is. */
-static const apfloat_answer answer_before = {{UINT64_C(0x0123456789abcdef), UINT64_C(0xfedcba9876543210)}, 0x55aa, -77};
-
 static apfloat_text text_before(void) {
     apfloat_text text;
     memset(text.bytes, 'x', sizeof text.bytes);
@@ -32,52 +31,30 @@ static apfloat_text text_before(void) {
     return text;
 }
 
-/* The code of a format, with the flags of IEEE 754 after a +. */
-static uint32_t format_of(char *name) {
-    char *rule = strchr(name, '+');
-    if (rule) *rule++ = '\0';
-    uint32_t code = code_of(formats, COUNT(formats), name);
-    if (!rule) return code;
-    return code | APFLOAT_IEEE_FLAGS | (strcmp(rule, "ieee+before") == 0 ? APFLOAT_TINY_BEFORE_ROUNDING : 0);
-}
-
-/* Up to 32 hexadecimal digits. */
-static apfloat_halves bits_of(const char *word) {
-    size_t length = strlen(word), low = length < 16 ? length : 16;
-    char high[17] = "";
-    memcpy(high, word, length - low);
-    return (apfloat_halves){strtoull(word + length - low, NULL, 16), strtoull(high, NULL, 16)};
-}
-
-static uint32_t flags_of(char *names) {
-    uint32_t status = 0;
-    if (strcmp(names, "OK") == 0) return 0;
-    for (char *name = strtok(names, "|"); name; name = strtok(NULL, "|"))
-        status |= code_of(flags, COUNT(flags), name);
-    return status;
-}
-
 static uint32_t parsed(uint32_t format, uint32_t mode, const char *text, apfloat_answer *answer) {
     return apfloat_parse_decimal(format, mode, (const uint8_t *)text, strlen(text), answer);
 }
 
 static bool is_read(char *columns[]) {
-    apfloat_answer answer = answer_before;
+    apfloat_answer answer = before;
     uint32_t format = format_of(columns[1]), mode = code_of(modes, COUNT(modes), columns[2]);
     uint32_t code = parsed(format, mode, spelled_out(columns[3]), &answer);
     if (strcmp(columns[4], "ParseError") == 0)
-        return code == APFLOAT_REFUSED_TEXT && memcmp(&answer, &answer_before, sizeof answer) == 0;
-    apfloat_halves bits = bits_of(columns[4]);
-    return code == APFLOAT_ANSWERED && answer.bits.low == bits.low && answer.bits.high == bits.high &&
-           answer.status == flags_of(columns[5]) && answer.number == 0;
+        return code == APFLOAT_REFUSED_TEXT && memcmp(&answer, &before, sizeof answer) == 0;
+    apfloat_halves bits;
+    uint32_t status;
+    return read_integer(columns[4], 16, &bits) && read_flags(columns[5], &status) && code == APFLOAT_ANSWERED &&
+           answer.bits.low == bits.low && answer.bits.high == bits.high && answer.status == status &&
+           answer.number == 0;
 }
 
 static bool is_shortest(char *columns[]) {
     apfloat_text text = text_before(), expected;
+    apfloat_halves x;
     memset(&expected, 0, sizeof expected);
     expected.length = (uint32_t)strlen(columns[3]);
     memcpy(expected.bytes, columns[3], expected.length);
-    return apfloat_shortest(format_of(columns[1]), bits_of(columns[2]), &text) == APFLOAT_ANSWERED &&
+    return read_integer(columns[2], 16, &x) && apfloat_shortest(format_of(columns[1]), x, &text) == APFLOAT_ANSWERED &&
            memcmp(&text, &expected, sizeof text) == 0;
 }
 
@@ -89,7 +66,7 @@ static uint64_t summed(uint64_t total, uint64_t word) {
 /* A checksum with the flags and the bits that a text is read as in each mode. */
 static uint64_t summed_readings(uint64_t total, uint32_t format, const char *text) {
     for (size_t i = 0; i < COUNT(modes); i++) {
-        apfloat_answer answer = answer_before;
+        apfloat_answer answer = before;
         parsed(format, modes[i].code, text, &answer);
         total = summed(summed(total, answer.status), answer.bits.low);
     }
@@ -98,7 +75,7 @@ static uint64_t summed_readings(uint64_t total, uint32_t format, const char *tex
 
 /* Whether a text is read, to nearest, as these bits. */
 static bool is_read_as(uint32_t format, const char *text, uint64_t pattern) {
-    apfloat_answer answer = answer_before;
+    apfloat_answer answer = before;
     return parsed(format, APFLOAT_NEAREST_EVEN, text, &answer) == APFLOAT_ANSWERED && answer.bits.low == pattern &&
            answer.bits.high == 0;
 }
@@ -147,7 +124,7 @@ static bool is_ties(char *columns[]) {
 static unsigned refusals(void) {
     const apfloat_halves one = {1, 0};
     const uint8_t text[] = {'1', '.', '5'}, accented[] = {'1', 0xe9};
-    apfloat_answer answer = answer_before;
+    apfloat_answer answer = before;
     apfloat_text written = text_before(), unchanged = text_before();
     const uint32_t codes[][2] = {
         {apfloat_parse_decimal(0, 5, text, 3, &answer), APFLOAT_UNKNOWN_FORMAT},
@@ -161,7 +138,7 @@ static unsigned refusals(void) {
         {apfloat_shortest(APFLOAT_DOUBLE_PAIR, one, &written), APFLOAT_NO_SUCH_OPERATION}};
     unsigned count = 0;
     for (size_t i = 0; i < COUNT(codes); i++)
-        if (codes[i][0] == codes[i][1] && memcmp(&answer, &answer_before, sizeof answer) == 0 &&
+        if (codes[i][0] == codes[i][1] && memcmp(&answer, &before, sizeof answer) == 0 &&
             memcmp(&written, &unchanged, sizeof written) == 0) count++;
     return count;
 }
@@ -192,14 +169,8 @@ int main(void) {
     while (fgets(line, sizeof line, stdin)) {
         line[strcspn(line, "\n")] = '\0';
         strcpy(copy, line);
-        char *columns[COLUMNS] = {0}, *rest = copy;
-        size_t count = 0;
-        for (char *tab = rest; rest && count < COLUMNS; rest = tab) {
-            columns[count++] = rest;
-            tab = strchr(rest, '\t');
-            if (tab) *tab++ = '\0';
-        }
-        if (!is_counted(columns, count)) printf("differs: %s\n", line);
+        char *columns[COLUMNS];
+        if (!is_counted(columns, split(copy, columns, COLUMNS))) printf("differs: %s\n", line);
     }
     for (size_t i = 0; i < COUNT(kinds); i++) printf("%s: %u rows agree\n", kinds[i].name, kinds[i].count);
     printf("%u errors agree\n", refusals());
