@@ -79,7 +79,7 @@ def around(operands, name, amount, halvings):
 def written(operands, amount, halvings, change=0, tail="", count=0):
     """A text of a magnitude, some units of its last place off, and with digits after those.
 
-    After zeros stands a 1.
+    A 1 follows these.
     """
     choices = operands.choices
     zeros = trailing_zeros(amount)

@@ -1,6 +1,6 @@
 /* Calls the library from C for rows of calls with their results, as crates/check_vectors/stdin has them
  * (docs/VECTORS.md), and compares each field of the answer: a field or an argument in the wrong place shows only in a
- * call from C. Rows that the library has no function or no code for are passed over.
+ * call from C. Rows that the library has no function or no code for are skipped.
  *
  * It prints each row that differs, and for each call that has rows how many agree. .ci/run compares this with
  * tests/c/agreeing.
@@ -21,7 +21,7 @@ static const struct code orders[] = {{"Less", (uint32_t)APFLOAT_LESS},
                                      {"Greater", APFLOAT_GREATER},
                                      {"None", APFLOAT_UNORDERED}};
 
-/* Each question about a value that its class answers, with the classes for which the answer is yes. */
+/* Each question about a value that is answered by its class, with the classes for which the answer is yes. */
 #define CLASS(number) (UINT32_C(1) << (number))
 static const struct code questions[] = {
     {"is_signaling", CLASS(APFLOAT_SIGNALING_NAN)},
@@ -341,7 +341,7 @@ static size_t call_named(const char *name) {
     return i;
 }
 
-/* Whether a row agrees. One that no function of the library answers is passed over. */
+/* Whether a row agrees. One that the library has no function for is skipped. */
 static bool check(char *columns[]) {
     size_t i = call_named(columns[CALL]);
     if (i == COUNT(calls)) return true;

@@ -1,4 +1,4 @@
-/* Rows with tabs between their columns, and what stands in these. */
+/* Rows with tabs between their columns, and what the columns say. */
 #ifndef ROWS_H
 #define ROWS_H
 
