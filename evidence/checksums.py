@@ -17,6 +17,7 @@ from exact.pairs import PAIRS
 from exact.rounding import Mode
 from exact.status import OK
 from exact.values import VALUES
+from exact.words import checksum
 
 MODES = (Mode.EVEN, Mode.UP, Mode.DOWN, Mode.ZERO, Mode.AWAY)
 
@@ -84,7 +85,7 @@ def has_operation(name, operation):
 def line_of(task):
     """The line of an operation on a set of operands."""
     modes = MODES[:1] if task[1] in WITHOUT_MODE else MODES
-    sums = [f"{checksum(results(*task, mode)):016x}" for mode in modes]
+    sums = [f"{checksum_of(results(*task, mode)):016x}" for mode in modes]
     return " ".join([*task, *sums])
 
 
@@ -120,13 +121,9 @@ def written(kind, result):
     return kind.encoded(value), flags
 
 
-def checksum(results):
+def checksum_of(results):
     """One integer for many results: of the flags and of both halves of the bits of each."""
-    total = 0
-    for bits, flags in results:
-        for word in flags, bits % 2**64, bits >> 64:
-            total = (total * 31 + word) % (2**61 - 1)
-    return total
+    return checksum(word for bits, flags in results for word in (flags, bits % 2**64, bits >> 64))
 
 
 if __name__ == "__main__":

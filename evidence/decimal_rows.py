@@ -7,16 +7,20 @@ Texts and numbers are drawn from a fixed seed, and some are chosen.
 """
 
 import random
+import sys
 
 from exact import bits, decimals, status, texts
-from exact.data import Infinite, is_nan
-from exact.formats import FALLBACK, FORMATS, PROGRAM_FORMATS
+from exact.data import Infinite, is_nan, number
+from exact.formats import BFLOAT, E4M3FN, E4M3FNUZ, E5M2, FALLBACK, FORMATS, HALF, PROGRAM_FORMATS
+from exact.neighbours import spacing
 from exact.pairs import PairValues, split_result
 from exact.rounding import Mode
 from exact.values import VALUES
-from exact.words import word_of
+from exact.words import checksum, word_of
 from questions.decimals import magnitude, text
 from questions.operands import Operands
+from questions.readings import readings
+from questions.short_forms import spelled_out
 
 _SEED = 7
 _LONGEST = 600
@@ -36,6 +40,7 @@ _TEXTS = (
 
 def main():
     """Prints all rows."""
+    sys.set_int_max_str_digits(0)
     choices = random.Random(_SEED)
     for literal in _TEXTS:
         for name in ("half", "double", "quad", "e4m3fnuz", "dd"):
@@ -53,15 +58,21 @@ def main():
     for known in PROGRAM_FORMATS:
         for pattern in patterns(choices, known):
             print(writing(choices, known, pattern))
+    for name, mode, form in readings(random.Random(_SEED)):
+        print(reading(name, mode, form))
+    for known in (HALF, BFLOAT, E5M2, E4M3FN, E4M3FNUZ):
+        print(all_values(known))
+    for known in (HALF, E5M2, E4M3FN, E4M3FNUZ):
+        print(all_midpoints(known))
 
 
-def reading(name, mode, literal):
-    """A row of a text that is read."""
+def reading(name, mode, form):
+    """A row of a text that is read, in its short form."""
     try:
-        value, flags = value_of(name, literal, mode)
+        value, flags = value_of(name, spelled_out(form), mode)
     except texts.ParseError:
-        return f"read\t{name}\t{mode.value}\t{literal}\tParseError\t-"
-    return f"read\t{name}\t{mode.value}\t{literal}\t{word_of(_KINDS[name], value)}\t{status.names(flags)}"
+        return f"read\t{name}\t{mode.value}\t{form}\tParseError\t-"
+    return f"read\t{name}\t{mode.value}\t{form}\t{word_of(_KINDS[name], value)}\t{status.names(flags)}"
 
 
 def value_of(name, literal, mode):
@@ -101,6 +112,34 @@ def writing(choices, known, pattern):
     x = bits.decoded(known, pattern)
     digits = known.hexadecimal_digits
     return f"shortest\t{known.name}{choices.choice(rules)}\t{pattern:0{digits}x}\t{shown(known, x)}"
+
+
+def all_values(known):
+    """A row with checksums of all values: of their texts, and of what these are read as."""
+    lines = [shown(known, bits.decoded(known, pattern)) for pattern in range(1 << known.bits)]
+    letters = "".join(f"{line}\n" for line in lines).encode()
+    return f"each\t{known.name}\t{known.bits}\t{checksum(letters):016x}\t{checksum(words_read(known, lines)):016x}"
+
+
+def all_midpoints(known):
+    """A row with a checksum of what is read at, just below and just above the midpoint after each magnitude."""
+    trailing, halvings = bits.significand_bits(known), known.scale + 1
+    last = bits.encoded(known, number(known, False, known.largest))
+    lines = []
+    for pattern in range(last + 1):
+        quanta = bits.decoded(known, pattern).quanta
+        digits = (2 * quanta + spacing(known, quanta)) * 5**halvings
+        sign = "-" if pattern % 2 else ""
+        lines += [f"{sign}{digits + change}e-{halvings}" for change in (-1, 0, 1)]
+    return f"ties\t{known.name}\t{trailing}\t{halvings}\t{last:x}\t{checksum(words_read(known, lines)):016x}"
+
+
+def words_read(known, lines):
+    """The flags and the bits of texts in each mode."""
+    for line in lines:
+        for mode in Mode:
+            value, flags = read(known, line, mode)
+            yield from (flags, bits.encoded(known, value))
 
 
 def shown(known, x):

@@ -1,5 +1,5 @@
 #!/usr/bin/env python3
-"""Answers rows anew: reads a file of rows, and writes it with the answers that the model computes.
+"""Computes rows again: reads a file of rows, and writes it with the results that the model computes.
 
     python3 evidence/rows.py [--by-subject] [FILE]
 
@@ -64,7 +64,7 @@ _DRAWN = re.compile(r"# .*: fresh\.py ([0-9]+) ([0-9]+) (\w+)\.")
 
 
 def main():
-    """Reads the rows and writes them with new answers."""
+    """Reads the rows and writes them with new results."""
     parser = argparse.ArgumentParser(description="Answers a file of rows anew.")
     parser.add_argument("--by-subject", action="store_true", help="in order, below headings")
     parser.add_argument("file", nargs="?", default=STORED, help="rows; without it the stored ones")
@@ -139,7 +139,7 @@ def by_subject(rows):
 
 
 def heading_of(row):
-    """The heading that a row stands below."""
+    """The heading above a row."""
     columns = row.split("\t")
     if len(columns) == 2:
         command, answer = columns
@@ -164,7 +164,7 @@ def subject_of(name, subjects):
 
 
 def place_of(row):
-    """Where a row stands in its subject: by its format, pairs last."""
+    """The place of a row in its subject: by its format, pairs last."""
     columns = row.split("\t")
     kind = columns[0].split(" ")[0] if len(columns) == 2 else columns[1].split(">")[0]
     known = [*FORMATS, "dd"]

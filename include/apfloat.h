@@ -4,10 +4,10 @@
  * result through a pointer. It returns APFLOAT_ANSWERED, or the code of the first error, in the order in which these
  * codes are listed; on an error, *answer is unchanged.
  *
- * The library never allocates, keeps no state between calls, and calls no other functions but the compiler's own
- * division of 128-bit integers, and memcpy and memset, which compilers ask for everywhere. So its functions may be
- * called from any thread, and from a signal handler. Given valid pointers, they are defined for every value of every
- * argument: no code, bit pattern, width or text causes undefined behaviour.
+ * The library never allocates, keeps no state between calls, and calls no functions outside itself other than the
+ * compiler's own division of 128-bit integers, and memcpy and memset, which compilers call everywhere. So its functions
+ * may be called from any thread, and from a signal handler. Given valid pointers, they are defined for every value of
+ * every argument: no code, bit pattern, width or text causes undefined behaviour.
  *
  * Pointers are not checked. The caller must ensure that:
  *
@@ -16,9 +16,9 @@
  * - `text` is not null, not even if `length` is 0 (any address will do then, such as (const uint8_t *)""). It points to
  *   `length` bytes of one object, hence at most PTRDIFF_MAX, and nothing writes to them during the call. It needs no
  *   alignment and no terminating zero, since no byte after the last one is read.
- * - arrays of values are as `text` is: not null even if they are empty, and not written to during the call. So is
- *   `results`, but only the call itself reads or writes it, and it overlaps no other argument. Arrays of operands may
- *   overlap each other.
+ * - What holds for `text` holds for arrays of values: they are not null even if they are empty, and nothing writes to
+ *   them during the call. It holds for `results` too, except that the call writes there; nothing else reads or writes
+ *   `results` during the call, and it overlaps no other argument. Arrays of operands may overlap each other.
  * - `answer` and `text` do not overlap. Values and integers are passed by value, so an answer may overwrite an operand:
  *   apfloat_add(f, m, a.bits, b, &a) is fine.
  *

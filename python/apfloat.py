@@ -1,7 +1,7 @@
 """Software floating point in any of ten formats, correctly rounded, with exact flags.
 
-The arithmetic is that of the library for C, whose functions are proved. The shared library is libapfloat.so beside this
-file, or the file that the environment variable APFLOAT_LIBRARY names; packaging/install builds it.
+The arithmetic is that of the library for C, whose functions are proved. The shared library is libapfloat.so in the
+folder of this file, or the file that the environment variable APFLOAT_LIBRARY names; packaging/install builds it.
 
 A format makes values from texts, integers, Python's floats and values of other formats. A value is shown as the
 shortest decimal that its format reads as it:
@@ -22,8 +22,8 @@ Each operation rounds once, in the mode of the context, and adds its flags to th
 ...     third = single(1) / 3
 >>> third
 single('0.33333334')
->>> context.flags
-<Flags.INEXACT: 16>
+>>> context.flags, context.inexact
+(<Flags.INEXACT: 16>, True)
 >>> with Context() as context:
 ...     half(1) / 0
 half('inf')
@@ -34,12 +34,12 @@ A format raises the flags of IEEE 754-2008 in every mode if it is written half.i
 rounding if it is written half.ieee.before; e4m3fn, e4m3fnuz and double_pair have no such choice. Formats with these
 flags read no decimals, only hexadecimal texts.
 
-An array has values of one format, for numpy too where it is there:
+An array has values of one format, and can be made of a numpy array and turned into one:
 
 >>> single.array([0.5, 3]).to(half) + 1
 half.array(['1.5', '4.0'])
 
-Both operands have the same format; integers and floats are converted to it if that is exact:
+Both operands of an operation have the same format; integers and floats are converted to it if that is exact:
 
 >>> half(1) + single(1)
 Traceback (most recent call last):
@@ -49,6 +49,11 @@ TypeError: half and single: convert one of them
 Traceback (most recent call last):
 ...
 ValueError: 0.1 is not a value of half
+
+Comparisons are exact, with numbers of any kind, and equal numbers have equal hashes:
+
+>>> half(1) == 1 == single(1), half('0.1') == 0.1, half('0.1') < 0.1, {0.5: 'a half'}[half(0.5)]
+(True, False, True, 'a half')
 """
 
 import contextvars
@@ -57,14 +62,15 @@ import decimal
 import enum
 import fractions
 import functools
+import math
 import os
 import re
 import struct
 
 __all__ = [
     'Array', 'Context', 'DOWNWARD', 'Flags', 'Format', 'NEAREST_AWAY', 'NEAREST_EVEN', 'Refused', 'Rounding',
-    'TOWARD_ZERO', 'UPWARD', 'Value', 'bfloat', 'context', 'double', 'double_pair', 'e4m3fn', 'e4m3fnuz', 'e5m2', 'half', 'quad',
-    'single', 'x87',
+    'TOWARD_ZERO', 'UPWARD', 'Value', 'bfloat', 'context', 'double', 'double_pair', 'e4m3fn', 'e4m3fnuz', 'e5m2',
+    'half', 'quad', 'single', 'x87',
 ]
 
 
@@ -92,24 +98,49 @@ class Flags(enum.IntFlag):
     INEXACT = 16
 
 
+def _raised(flag):
+    """Whether a flag was raised, as a property."""
+    return property(lambda context: flag in context.flags, doc=f'Whether {flag.name} was raised.')
+
+
 class Context:
     """A rounding mode, and the flags that operations raised in its `with` block.
 
-    >>> with Context(mode=TOWARD_ZERO):
+    >>> with Context(mode=TOWARD_ZERO) as context:
     ...     half(65504) + half(65504)
     half('65500.0')
+    >>> context.inexact, context.overflow
+    (True, False)
+    >>> context.clear_flags()
+    >>> context
+    Context(mode=TOWARD_ZERO, flags=OK)
     """
 
     def __init__(self, mode=NEAREST_EVEN):
         self.mode = Rounding(mode)
         self.flags = Flags.OK
+        self._tokens = []
 
     def __enter__(self):
-        self._token = _context.set(self)
+        self._tokens.append(_context.set(self))
         return self
 
     def __exit__(self, *_):
-        _context.reset(self._token)
+        _context.reset(self._tokens.pop())
+
+    def __repr__(self):
+        flags = '|'.join(flag.name for flag in Flags if flag and flag in self.flags)
+        return f'Context(mode={Rounding(self.mode).name}, flags={flags or "OK"})'
+
+    def clear_flags(self):
+        """Lowers all flags."""
+        self.flags = Flags.OK
+
+    invalid_op = _raised(Flags.INVALID_OP)
+    div_by_zero = _raised(Flags.DIV_BY_ZERO)
+    overflow = _raised(Flags.OVERFLOW)
+    underflow = _raised(Flags.UNDERFLOW)
+    inexact = _raised(Flags.INEXACT)
 
 
 _context = contextvars.ContextVar('apfloat', default=Context())
@@ -164,8 +195,8 @@ class Refused(ValueError):
 
 
 def _library():
-    beside = os.path.join(os.path.dirname(os.path.abspath(__file__)), 'libapfloat.so')
-    return ctypes.CDLL(os.environ.get('APFLOAT_LIBRARY', beside))
+    default = os.path.join(os.path.dirname(os.path.abspath(__file__)), 'libapfloat.so')
+    return ctypes.CDLL(os.environ.get('APFLOAT_LIBRARY', default))
 
 
 _functions = _library()
@@ -212,6 +243,10 @@ class Format:
     def __repr__(self):
         return self.name
 
+    def __reduce__(self):
+        # The object's name in this module, for pickle and copy.
+        return self.name
+
     @functools.lru_cache(maxsize=None)
     def _with_flags(self, name, bits):
         return Format(f'{self.name}.{name}', self.code | bits, self.width, self._precision, self._exponent_bits)
@@ -222,9 +257,9 @@ class Format:
 
         >>> with Context(mode=TOWARD_ZERO) as context:
         ...     half.ieee(65504) + 65504
-        half.ieee('65500.0')
-        >>> context.flags == Flags.OVERFLOW | Flags.INEXACT
-        True
+        half.ieee('0x1.ffcp+15')
+        >>> context.overflow, context.inexact
+        (True, True)
         """
         if self.code not in _WITH_IEEE_FLAGS:
             raise ValueError(f'{self.name} has no choice of flags')
@@ -238,10 +273,10 @@ class Format:
         >>> for format in half.ieee, half.ieee.before:
         ...     with Context() as context:
         ...         format('0x1.004p-14') * format(below_one)
-        ...     bool(context.flags & Flags.UNDERFLOW)
-        half.ieee('0.00006104')
+        ...     context.underflow
+        half.ieee('0x1p-14')
         False
-        half.ieee.before('0.00006104')
+        half.ieee.before('0x1p-14')
         True
         """
         if not self.code & _IEEE_FLAGS:
@@ -253,6 +288,36 @@ class Format:
         if not 0 <= bits < 1 << self.width:
             raise ValueError(f'{self.name} has {self.width} bits')
         return Value(self, bits)
+
+    @property
+    def largest(self):
+        """The largest number.
+
+        >>> half.largest == 65504, e4m3fn.largest == 448, double_pair.largest.next_up()
+        (True, True, double_pair('inf'))
+        >>> half.smallest, half.smallest_normal, half.epsilon
+        (half('6e-8'), half('0.00006104'), half('0.000977'))
+        """
+        if self is double_pair:
+            # What overflows is an infinity in every mode.
+            return self.from_bits(0x7c8ffffffffffffe << 64 | 0x7fefffffffffffff)
+        with Context(mode=TOWARD_ZERO):
+            return self.fromhex('0x1p99999')
+
+    @property
+    def smallest(self):
+        """The smallest number above zero."""
+        return self(0).next_up()
+
+    @property
+    def smallest_normal(self):
+        """The smallest normal number."""
+        return self.smallest.ldexp(self._precision - 1)
+
+    @property
+    def epsilon(self):
+        """The distance from 1 to the next number of so many digits, 2 to the power of 1 less their count."""
+        return self(1).ldexp(1 - self._precision)
 
     def fromhex(self, text):
         """The value of a hexadecimal text, an infinity or a NaN, rounded once, like float.fromhex.
@@ -277,6 +342,9 @@ class Format:
             answer = _call('convert', ctypes.c_uint32(of.format.code), ctypes.c_uint32(mode),
                            ctypes.c_uint32(self.code), _halves(of.bits))
         elif isinstance(of, str):
+            if self is double_pair and ' + ' in of:
+                high, low = of.split(' + ')
+                return self.from_bits(double(high).bits | double(low).bits << 64)
             return self._read('parse' if self.code & _IEEE_FLAGS else 'parse_decimal', of)
         elif isinstance(of, int):
             if -1 << 127 <= of < 1 << 127:
@@ -287,9 +355,8 @@ class Format:
             of = double.from_bits(struct.unpack('<Q', struct.pack('<d', of))[0])
             return self(of) if self is not double_pair else self.from_bits(of.bits)
         else:
-            return NotImplemented
+            raise TypeError(f'{self} makes no value of {of!r}')
         return Value(self, _whole(answer.bits))
-
 
     @property
     def _bytes(self):
@@ -302,10 +369,14 @@ class Format:
         (half.array(['1.0', '0.5', '0.1']), half.array(['1.0']))
 
         A numpy array is taken as it is if its elements are of the format: float16, float32 and float64 are `half`,
-        `single` and `double`, and integers without a sign are the bits of other formats of 8 or 16 bits.
+        `single` and `double`; types of ml_dtypes, or integers without a sign that are the bits, are the other formats
+        of 8 or 16 bits.
         """
         if hasattr(of, '__array_interface__'):
-            expected = _ELEMENTS.get(self.code & _FORMAT_BITS)
+            code = self.code & _FORMAT_BITS
+            if of.dtype.name == _ML_TYPES.get(code):
+                return Array(self, of.tobytes())
+            expected = _ELEMENTS.get(code)
             if expected is None or of.dtype.newbyteorder('<').str[1:] != expected:
                 raise TypeError(f'elements of {of.dtype} are no values of {self}')
             return Array(self, of.astype('<' + expected, copy=False).tobytes())
@@ -316,61 +387,44 @@ class Format:
 
 # The numpy elements that values of a format are, by its code: numbers, or their bits.
 _ELEMENTS = {1: 'f2', 2: 'f4', 3: 'f8', 5: 'u2', 6: 'u1', 7: 'u1', 8: 'u1'}
+# The types of the package ml_dtypes, by the code of the format.
+_ML_TYPES = {5: 'bfloat16', 6: 'float8_e5m2', 7: 'float8_e4m3fn', 8: 'float8_e4m3fnuz'}
 
 
 def _operators(name):
-    """An operator on values, and its reflected form, for a left operand that is not a value."""
+    """An operator, and its reflected form, for a left operand that is neither a value nor an array."""
 
-    def rounded(left, right):
-        other = left._same_format(right)
-        return NotImplemented if other is None else left._rounded(name, left, other)
+    def operator(left, right):
+        other = left._operand(right)
+        return other if other is NotImplemented else left._computed(name, left, other)
 
     def reflected(right, left):
-        other = right._same_format(left)
-        return NotImplemented if other is None else right._rounded(name, other, right)
+        other = right._operand(left)
+        return other if other is NotImplemented else right._computed(name, other, right)
 
-    return rounded, reflected
+    return operator, reflected
 
 
-class Value:
-    """A value of a format: its bits. Operations round once, in the mode of the context.
+class _Arithmetic:
+    """What values and arrays of values have: each result is rounded once, in the mode of the context."""
 
-    >>> x = double('5e-324')
-    >>> x / 2, x * 2 == x + x, -x < x
-    (double('0.0'), True, True)
-    >>> double('nan') == double('nan')
-    False
-    """
+    __slots__ = ()
 
-    __slots__ = ('format', 'bits')
-
-    def __init__(self, format, bits):
-        object.__setattr__(self, 'format', format)
-        object.__setattr__(self, 'bits', bits)
-
-    def __setattr__(self, name, value):
-        raise AttributeError('values do not change')
-
-    def _same_format(self, other):
-        if isinstance(other, Value):
+    def _operand(self, other):
+        """Another operand in this one's format and, for an array, of its length."""
+        if isinstance(other, type(self)):
             if other.format is not self.format:
                 raise TypeError(f'{self.format} and {other.format}: convert one of them')
             return other
-        if not isinstance(other, (int, float)):
-            return None
-        with Context() as exact:
-            value = self.format(other)
-        if exact.flags & Flags.INEXACT:
-            raise ValueError(f'{other} is not a value of {self.format}')
-        return value
+        return self._converted(other)
 
-    def _rounded(self, name, *operands):
-        answer = _call(name, ctypes.c_uint32(self.format.code), ctypes.c_uint32(context().mode),
-                       *[_halves(operand.bits) for operand in operands])
-        return Value(self.format, _whole(answer.bits))
-
-    def _exact(self, name, *operands):
-        return _call(name, ctypes.c_uint32(self.format.code), *[_halves(operand.bits) for operand in operands])
+    def _with(self, name, *others):
+        """The result of an operation of this and of others."""
+        operands = [self._operand(other) for other in others]
+        for other, operand in zip(others, operands):
+            if operand is NotImplemented:
+                raise TypeError(f'{other!r} is no operand of {self.format}')
+        return self._computed(name, self, *operands)
 
     __add__, __radd__ = _operators('add')
     __sub__, __rsub__ = _operators('sub')
@@ -386,10 +440,10 @@ class Value:
         >>> above * above, above.fma(above, -above * above).hex()
         (quad('1.0000000000000000000000000000000004'), '0x1p-224')
         """
-        return self._rounded('fma', self, self._same_format(factor), self._same_format(addend))
+        return self._with('fma', factor, addend)
 
     def sqrt(self):
-        """The square root, rounded once; of a value below zero a NaN.
+        """The square root, rounded once (IEEE 754-2008 5.4.1); of a value below zero a NaN.
 
         >>> double(2).sqrt(), quad(4).sqrt(), half('-0x0p0').sqrt()
         (double('1.4142135623730951'), quad('2.0'), half('-0.0'))
@@ -399,7 +453,7 @@ class Value:
         >>> context.flags
         <Flags.INVALID_OP: 1>
         """
-        return self._rounded('sqrt', self)
+        return self._with('sqrt')
 
     def remainder(self, divisor):
         """self less the divisor times the integer nearest to the quotient, a tie going to the even one: exact.
@@ -407,11 +461,60 @@ class Value:
         >>> double(5).remainder(3), double(5).fmod(3)
         (double('-1.0'), double('2.0'))
         """
-        return Value(self.format, _whole(self._exact('rem', self, self._same_format(divisor)).bits))
+        return self._with('rem', divisor)
 
     def fmod(self, divisor):
         """self less the divisor times the quotient truncated toward zero: exact, like math.fmod."""
-        return Value(self.format, _whole(self._exact('mod', self, self._same_format(divisor)).bits))
+        return self._with('mod', divisor)
+
+
+# The operations whose functions take no mode, since their results are exact.
+_WITHOUT_MODE = ('rem', 'mod')
+
+
+class Value(_Arithmetic):
+    """A value of a format: its bits. Operations round once, in the mode of the context.
+
+    >>> x = double('5e-324')
+    >>> x / 2, x * 2 == x + x, -x < x
+    (double('0.0'), True, True)
+    >>> double('nan') == double('nan')
+    False
+    >>> import pickle
+    >>> pickle.loads(pickle.dumps(x)) == eval(repr(x)) == x
+    True
+    """
+
+    __slots__ = ('format', 'bits')
+
+    def __init__(self, format, bits):
+        object.__setattr__(self, 'format', format)
+        object.__setattr__(self, 'bits', bits)
+
+    def __setattr__(self, name, value):
+        raise AttributeError('values do not change')
+
+    def __reduce__(self):
+        return Value, (self.format, self.bits)
+
+    def _converted(self, other):
+        if not isinstance(other, (int, float)):
+            return NotImplemented
+        with Context() as exact:
+            value = self.format(other)
+        if exact.inexact:
+            raise ValueError(f'{other} is not a value of {self.format}')
+        return value
+
+    def _computed(self, name, *operands):
+        mode = () if name in _WITHOUT_MODE else (ctypes.c_uint32(context().mode),)
+        return self._made(name, *mode, *[_halves(operand.bits) for operand in operands])
+
+    def _asked(self, name, *arguments):
+        return _call(name, ctypes.c_uint32(self.format.code), *arguments)
+
+    def _made(self, name, *arguments):
+        return Value(self.format, _whole(self._asked(name, *arguments).bits))
 
     def next_up(self):
         """The least value above self.
@@ -419,11 +522,11 @@ class Value:
         >>> half(1).next_up(), half(1).next_down()
         (half('1.001'), half('0.9995'))
         """
-        return Value(self.format, _whole(self._exact('next_up', self).bits))
+        return self._made('next_up', _halves(self.bits))
 
     def next_down(self):
         """The greatest value below self."""
-        return Value(self.format, _whole(self._exact('next_down', self).bits))
+        return self._made('next_down', _halves(self.bits))
 
     def round_to_integral(self):
         """The integral value that the mode picks.
@@ -431,10 +534,24 @@ class Value:
         >>> half('0x1.4p1').round_to_integral()
         half('2.0')
         """
-        return self._rounded('round_to_integral', self)
+        return self._computed('round_to_integral', self)
+
+    def ldexp(self, power):
+        """self times 2 to the power of `power`, rounded once; it raises no flag.
+
+        >>> half(3).ldexp(-1), half(3).frexp()
+        (half('1.5'), (half('0.75'), 2))
+        """
+        return self._made('scalbn', ctypes.c_uint32(context().mode), _halves(self.bits),
+                          ctypes.c_int32(max(-1 << 31, min(power, (1 << 31) - 1))))
+
+    def frexp(self):
+        """A fraction of magnitude from 0.5 to below 1, and the power of two to multiply it by, like math.frexp."""
+        answer = self._asked('frexp', ctypes.c_uint32(context().mode), _halves(self.bits))
+        return Value(self.format, _whole(answer.bits)), answer.number if self.is_finite else 0
 
     def _class(self):
-        return self._exact('classify', self).number
+        return self._asked('classify', _halves(self.bits)).number
 
     @property
     def is_nan(self):
@@ -445,6 +562,11 @@ class Value:
     def is_infinite(self):
         """Whether it is an infinity."""
         return self._class() in (2, 9)
+
+    @property
+    def is_finite(self):
+        """Whether it is a number."""
+        return self._class() not in (0, 1, 2, 9)
 
     @property
     def is_zero(self):
@@ -474,8 +596,13 @@ class Value:
         return not self.is_zero
 
     def _compared(self, other):
-        other = self._same_format(other)
-        return None if other is None else self._exact('compare', self, other).number
+        """The order of two values; None for what is no number."""
+        if isinstance(other, Value) and other.format is self.format:
+            return self._asked('compare', _halves(self.bits), _halves(other.bits)).number
+        left, right = _exact_number(self), _exact_number(other)
+        if right is None:
+            return None
+        return _UNORDERED if left != left or right != right else (left > right) - (left < right)
 
     def __eq__(self, other):
         order = self._compared(other)
@@ -498,16 +625,29 @@ class Value:
         return NotImplemented if order is None else order in (0, 1)
 
     def __hash__(self):
-        return hash((self.format.name, 0 if self.is_zero else self.bits))
+        return object.__hash__(self) if self.is_nan else hash(_exact_number(self))
 
     def __int__(self):
-        """The integer of a value of at most 128 digits, truncated toward zero."""
-        answer = _call('to_i128', ctypes.c_uint32(self.format.code), ctypes.c_uint32(TOWARD_ZERO), _halves(self.bits),
-                       ctypes.c_uint32(128))
-        if answer.status & Flags.INVALID_OP:
-            raise OverflowError(f'{self!r} has no integer of 128 bits')
-        number = _whole(answer.bits)
-        return number - (1 << 128) if number >> 127 else number
+        """The integer of a number, truncated toward zero, like that of a float.
+
+        >>> int(half('-2.5')), round(half('2.5')), math.floor(half('-2.5')), math.ceil(half('-2.5'))
+        (-2, 2, -3, -2)
+        """
+        return int(self._fraction())
+
+    __trunc__ = __int__
+
+    def __floor__(self):
+        return math.floor(self._fraction())
+
+    def __ceil__(self):
+        return math.ceil(self._fraction())
+
+    def __round__(self):
+        return round(self._fraction())
+
+    def _fraction(self):
+        return fractions.Fraction(*self.as_integer_ratio())
 
     def __float__(self):
         """The value as a Python float, rounded once in the mode of the context.
@@ -535,13 +675,11 @@ class Value:
         >>> half('0.1').as_integer_ratio()
         (819, 8192)
         """
-        if self.is_nan or self.is_infinite:
-            raise ValueError(f'{self} is no number')
-        sign, whole, fraction, exponent = _HEXADECIMAL.fullmatch(self.hex()).groups()
-        digits = int(whole + (fraction or ''), 16)
-        exponent = int(exponent) - 4 * len(fraction or '')
-        ratio = fractions.Fraction(digits << exponent) if exponent > 0 else fractions.Fraction(digits, 1 << -exponent)
-        return (-ratio if sign else ratio).as_integer_ratio()
+        if self.is_nan:
+            raise ValueError('a NaN is no number')
+        if self.is_infinite:
+            raise OverflowError('an infinity is no number')
+        return sum(_fraction_of(part) for part in self.hex().split(' + ')).as_integer_ratio()
 
     def __str__(self):
         """The shortest decimal that the format reads as the value; of a pair of doubles, those of its parts.
@@ -561,12 +699,13 @@ class Value:
         return text.bytes.decode()
 
     def __repr__(self):
-        """The format and the text that it reads as the value; a NaN has its sign and its payload.
+        """The format and a text that it reads as the value to nearest; a NaN has its sign and its payload.
 
-        >>> half.from_bits(0x7e01), single('1e10'), double('-0')
-        (half('nan(0x1)'), single('10000000000.0'), double('-0.0'))
+        >>> half.from_bits(0x7e01), single('1e10'), double('-0'), half.ieee(1.5)
+        (half('nan(0x1)'), single('10000000000.0'), double('-0.0'), half.ieee('0x1.8p+0'))
         """
-        return f'{self.format}({(self.hex() if self.is_nan else str(self))!r})'
+        is_decimal = not self.is_nan and not self.format.code & _IEEE_FLAGS
+        return f'{self.format}({(str(self) if is_decimal else self.hex())!r})'
 
     def __format__(self, spec):
         """The value as Python's decimal.Decimal formats it exactly, or as str does without a specification.
@@ -584,26 +723,16 @@ class Value:
         return format(decimal.Decimal(f'{sign}{abs(numerator) * 5**places}e-{places}'), spec)
 
 
-def _array_operators(code):
-    """An operator on arrays, and its reflected form, for a left operand that is no array."""
-
-    def mapped(left, right):
-        other = left._same_length(right)
-        return NotImplemented if other is None else left._mapped(code, left, other)
-
-    def reflected(right, left):
-        other = right._same_length(left)
-        return NotImplemented if other is None else right._mapped(code, other, right)
-
-    return mapped, reflected
+# The codes of operations on arrays.
+_OPERATIONS = {'add': 1, 'sub': 2, 'mul': 3, 'div': 4, 'rem': 5, 'mod': 6, 'fma': 7, 'sqrt': 8}
 
 
-class Array:
+class Array(_Arithmetic):
     """Values of one format, in consecutive bytes. An operation makes a new array, of the results of its elements.
 
     Each element is rounded once, in the mode of the context, and its flags are added to those of the context. `counts`
-    says how many values raised each flag, and how many results are NaNs. An operand that is no array stands for an
-    array of it alone.
+    says how many values raised each flag, and how many results are NaNs. An operand may be a numpy array of the format,
+    or a value or a number, which is used for each element.
 
     >>> xs = single.array([1, 2, 3])
     >>> thirds = xs / 3
@@ -639,52 +768,32 @@ class Array:
         """The bytes of the values, the lowest byte of each first."""
         return self._data
 
-    def __array__(self, dtype=None):
-        """The elements for numpy: numbers in `half`, `single` and `double`, otherwise bits, or bytes of a value."""
+    def __array__(self, dtype=None, copy=None):
+        """The elements for numpy: numbers in `half`, `single` and `double`, otherwise bits, or bytes of a value.
+
+        With ml_dtypes, numpy.asarray(xs).view(ml_dtypes.bfloat16) has the numbers of an array of `bfloat`.
+        """
         import numpy
         elements = _ELEMENTS.get(self.format.code & _FORMAT_BITS, f'V{self.format._bytes}')
         made = numpy.frombuffer(self._data, '<' + elements if elements[0] != 'V' else elements)
-        return made if dtype is None else made.astype(dtype)
+        return made.copy() if dtype is None and copy else made if dtype is None else made.astype(dtype)
 
     def __repr__(self):
         return f'{self.format}.array({[str(value) for value in self]})'
 
-    def _same_length(self, other):
-        if isinstance(other, Array):
-            if other.format is not self.format:
-                raise TypeError(f'{self.format} and {other.format}: convert one of them')
-            return other
-        value = Value(self.format, 0)._same_format(other)
-        if value is None:
-            return None
+    def _converted(self, other):
+        if hasattr(other, '__array_interface__'):
+            return self.format.array(other)
+        value = Value(self.format, 0)._operand(other)
+        if value is NotImplemented:
+            return value
         return Array(self.format, value.bits.to_bytes(self.format._bytes, 'little') * len(self))
 
-    def _mapped(self, code, *operands):
+    def _computed(self, name, *operands):
         operands = [operand._data for operand in operands] + [b''] * (3 - len(operands))
         words = [word for data in operands for word in (data, ctypes.c_size_t(len(data)))]
-        return _array_call('map_array', self.format, ctypes.c_uint32(context().mode), ctypes.c_uint32(code), *words,
-                           of=self.format, count=len(self))
-
-    __add__, __radd__ = _array_operators(1)
-    __sub__, __rsub__ = _array_operators(2)
-    __mul__, __rmul__ = _array_operators(3)
-    __truediv__, __rtruediv__ = _array_operators(4)
-
-    def remainder(self, divisor):
-        """The remainder of the quotient rounded to nearest (IEEE 754-2008 5.3.1)."""
-        return self._mapped(5, self, self._same_length(divisor))
-
-    def fmod(self, divisor):
-        """The remainder of the quotient rounded toward zero, like math.fmod."""
-        return self._mapped(6, self, self._same_length(divisor))
-
-    def fma(self, factor, addend):
-        """self * factor + addend, rounded once."""
-        return self._mapped(7, self, self._same_length(factor), self._same_length(addend))
-
-    def sqrt(self):
-        """The square root (IEEE 754-2008 5.4.1)."""
-        return self._mapped(8, self)
+        return _array_call('map_array', self.format, ctypes.c_uint32(context().mode),
+                           ctypes.c_uint32(_OPERATIONS[name]), *words, of=self.format, count=len(self))
 
     def to(self, format, saturate=False):
         """The values in another format. With `saturate`, a number that overflows gives the largest one of its sign.
@@ -718,6 +827,26 @@ def _array_call(name, format, *arguments, of, count):
 
 _HEXADECIMAL = re.compile('(-?)0x([01])(?:[.]([0-9a-f]+))?p([+-][0-9]+)')
 
+# The order of a NaN and anything else.
+_UNORDERED = 2
+
+
+def _fraction_of(text):
+    """The number of a hexadecimal text."""
+    sign, whole, fraction, exponent = _HEXADECIMAL.fullmatch(text).groups()
+    digits = int(sign + whole + (fraction or ''), 16)
+    exponent = int(exponent) - 4 * len(fraction or '')
+    return fractions.Fraction(digits << exponent) if exponent > 0 else fractions.Fraction(digits, 1 << -exponent)
+
+
+def _exact_number(of):
+    """What compares exactly with Python's numbers: a fraction, or a float that is an infinity or a NaN."""
+    if isinstance(of, Value):
+        return of._fraction() if of.is_finite else float(str(of))
+    if isinstance(of, float):
+        return fractions.Fraction(of) if math.isfinite(of) else of
+    return of if isinstance(of, (int, fractions.Fraction)) else None
+
 
 def _hexadecimal(value):
     format = value.format
@@ -730,8 +859,7 @@ def _hexadecimal(value):
         return sign + 'inf'
     if kind in (5, 6):
         return sign + '0x0p+0'
-    answer = value._exact('ilogb', value)
-    exponent = answer.number
+    exponent = value._asked('ilogb', _halves(value.bits)).number
     stored = format._precision - (not format._has_integer_bit)
     digits = value.bits & (1 << stored) - 1
     biased = value.bits >> stored & (1 << format._exponent_bits) - 1

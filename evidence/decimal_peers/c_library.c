@@ -9,6 +9,7 @@
 // too many or too few, and numbers halfway between two values or next to that. Half of them are read to nearest, and
 // the others in one of the three other modes. It prints the texts whose values differ, at most 20 a format, and how
 // many agree. Flags are not compared. It needs x86-64, where long double is the format of the x87.
+#include "../drawing.h"
 #include "apfloat.h"
 
 #include <fenv.h>
@@ -35,17 +36,7 @@ static const struct {
              {FE_DOWNWARD, APFLOAT_DOWNWARD},
              {FE_TOWARDZERO, APFLOAT_TOWARD_ZERO}};
 
-// The generator splitmix64.
-static uint64_t state;
-
-static uint64_t word(void) {
-    uint64_t z = state += 0x9e3779b97f4a7c15;
-    z = (z ^ z >> 30) * 0xbf58476d1ce4e5b9;
-    z = (z ^ z >> 27) * 0x94d049bb133111eb;
-    return z ^ z >> 31;
-}
-
-static int below(int count) { return (int)(word() % (uint64_t)count); }
+static int below(int count) { return (int)between(0, count - 1); }
 
 // A positive number of a format, or halfway from it to the next one where binary128 has that.
 static __float128 number(int format, int halfway) {

@@ -8,37 +8,16 @@ decimal of a double has to be the number that `repr` writes, and a text has to b
 reads it. Prints what differs, and how much was compared.
 """
 
-import ctypes
-import os
 import random
 import struct
 import sys
 from pathlib import Path
 
-sys.path.insert(0, str(Path(__file__).resolve().parent.parent))
+_TOP = Path(__file__).resolve().parents[2]
+sys.path += [str(_TOP / "evidence"), str(_TOP / "python")]
 
+import apfloat  # noqa: E402
 from exact.decimals import literal, without_zeros  # noqa: E402
-
-_LIBRARY = ctypes.CDLL(os.environ["APFLOAT_LIBRARY"])
-_DOUBLE = 3
-
-
-class _Halves(ctypes.Structure):
-    _fields_ = [("low", ctypes.c_uint64), ("high", ctypes.c_uint64)]
-
-
-class _Answer(ctypes.Structure):
-    _fields_ = [("bits", _Halves), ("status", ctypes.c_uint32), ("number", ctypes.c_int32)]
-
-
-class _Text(ctypes.Structure):
-    _fields_ = [("bytes", ctypes.c_char * 64), ("length", ctypes.c_uint32)]
-
-
-_LIBRARY.apfloat_shortest.argtypes = [ctypes.c_uint32, _Halves, ctypes.POINTER(_Text)]
-_LIBRARY.apfloat_parse_decimal.argtypes = [
-    ctypes.c_uint32, ctypes.c_uint32, ctypes.c_char_p, ctypes.c_size_t, ctypes.POINTER(_Answer)
-]
 
 
 def main():
@@ -92,16 +71,12 @@ def number(text):
 
 def shortest(x):
     """The text that the library writes of a double."""
-    text = _Text()
-    code = _LIBRARY.apfloat_shortest(_DOUBLE, _Halves(bits_of(x), 0), ctypes.byref(text))
-    return text.bytes.decode() if code == 0 else f"code {code}"
+    return str(apfloat.double.from_bits(bits_of(x)))
 
 
 def parsed(text):
     """The bits of the double that the library reads."""
-    answer = _Answer()
-    code = _LIBRARY.apfloat_parse_decimal(_DOUBLE, 0, text.encode(), len(text), ctypes.byref(answer))
-    return answer.bits.low if code == 0 else f"code {code}"
+    return apfloat.double(text).bits
 
 
 if __name__ == "__main__":

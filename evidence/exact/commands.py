@@ -68,7 +68,7 @@ def has_operation(kind, operation):
 
 
 def bits_operand(kind, word):
-    """The bits of an operand: up to 32 hexadecimal digits, which may stand behind 0x."""
+    """The bits of an operand: up to 32 hexadecimal digits, after 0x or without it."""
     if re.fullmatch(r"(0x)?[0-9a-fA-F]{1,32}", word):
         pattern = int(word, 16)
         if pattern >> kind.bits == 0:

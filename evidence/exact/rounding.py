@@ -50,7 +50,7 @@ def picked(precision, mode, negative, amount, parts):
     """The point that a mode picks for amount / parts on a grid, and whether they are equal.
 
     A point of the grid is an integer of at most `precision` binary digits times a power of two
-    that is at least 1. Beside a magnitude the points are as far apart as the least power of two
+    that is at least 1. Near a magnitude the points are as far apart as the least power of two
     that leaves it below 2^precision.
     """
     place = max(0, amount.bit_length() - parts.bit_length() - precision)

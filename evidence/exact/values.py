@@ -59,7 +59,7 @@ class Values:
         return self.chosen(x, y, 1)
 
     def chosen_number(self, x, y, side):
-        """y if x is a NaN or y stands on this side of x, otherwise x."""
+        """y if x is a NaN or y is on this side of x, otherwise x."""
         return y if self.category(x) == "NaN" or self.compared(y, x) == side else x
 
     def chosen(self, x, y, side):

@@ -56,3 +56,11 @@ def trailing_zeros(integer):
 def payload_of(word):
     """The payload of a NaN in hexadecimal digits; None stands for 0."""
     return 0 if word == "None" else int(word, 16)
+
+
+def checksum(words):
+    """One integer for many."""
+    total = 0
+    for word in words:
+        total = (total * 31 + word) % (2**61 - 1)
+    return total

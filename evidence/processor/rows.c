@@ -9,6 +9,8 @@
 // result is tiny, as if exponents had no end. No operand is a NaN. IEEE 754 leaves open which NaN an invalid operation
 // returns, so any NaN is written as the positive one without payload; and what an invalid conversion to an integer
 // returns, so the nearest end of the range is written.
+#include "../drawing.h"
+
 #include <stdint.h>
 #include <stdio.h>
 #include <stdlib.h>
@@ -62,20 +64,6 @@ typedef struct {
     unsigned flags;
 } Answer;
 
-// The generator splitmix64.
-static uint64_t state;
-
-static uint64_t word(void) {
-    uint64_t z = state += 0x9e3779b97f4a7c15;
-    z = (z ^ z >> 30) * 0xbf58476d1ce4e5b9;
-    z = (z ^ z >> 27) * 0x94d049bb133111eb;
-    return z ^ z >> 31;
-}
-
-static int64_t between(int64_t least, int64_t greatest) {
-    return least + (int64_t)(word() % (uint64_t)(greatest - least + 1));
-}
-
 static Bits one_at(int place) { return (Bits)1 << place; }
 static int greatest_field(const Format *f) { return (1 << f->field_bits) - 1; }
 static Bits infinity_of(const Format *f) { return (Bits)greatest_field(f) << f->trailing; }
@@ -99,7 +87,7 @@ static uint64_t digits(const Format *f) {
 static Bits with_any_sign(const Format *f, Bits x) { return word() & 1 ? x ^ sign_bit(f) : x; }
 
 // The bits, some steps away.
-static Bits beside(Bits x, int steps) { return x + (Bits)between(-steps, steps); }
+static Bits steps_away(Bits x, int steps) { return x + (Bits)between(-steps, steps); }
 
 // The number with a field, which is brought into the range of numbers.
 static Bits number(const Format *f, int64_t field) {
@@ -111,7 +99,7 @@ static Bits number(const Format *f, int64_t field) {
 // A zero, an infinity, or a number at an end of a range.
 static Bits limit(const Format *f) {
     Bits normal = one_at(f->trailing), one = (Bits)(greatest_field(f) / 2) << f->trailing;
-    Bits limits[] = {0, 1, normal - 1, normal, one, infinity_of(f) - 1, infinity_of(f), beside(normal, 3)};
+    Bits limits[] = {0, 1, normal - 1, normal, one, infinity_of(f) - 1, infinity_of(f), steps_away(normal, 3)};
     return with_any_sign(f, limits[word() % 8]);
 }
 
@@ -247,7 +235,7 @@ static Bits about(int format, int call, Bits x, Bits y) {
 static Bits reaching_an_end(int format, int call, Bits x) {
     const Format *f = &FORMATS[format];
     Bits end = word() % 4 ? one_at(f->trailing) : infinity_of(f) - 1;
-    return beside(call == DIVIDE ? about(format, DIVIDE, x, end) : about(format, DIVIDE, end, x), 1);
+    return steps_away(call == DIVIDE ? about(format, DIVIDE, x, end) : about(format, DIVIDE, end, x), 1);
 }
 
 // A second operand, in view of the first one.
@@ -255,7 +243,7 @@ static Bits second(int format, int call, Bits x) {
     const Format *f = &FORMATS[format];
     switch (word() % 8) {
     case 0: return any(f);
-    case 1: return with_any_sign(f, beside(x, 3));
+    case 1: return with_any_sign(f, steps_away(x, 3));
     case 2: return number(f, field_of(f, x) + between(-f->trailing - 3, f->trailing + 3));
     case 3: return reaching_an_end(format, call, x);
     default: return aiming_at(f, call, x, goal(f));
@@ -266,7 +254,7 @@ static Bits second(int format, int call, Bits x) {
 static Bits square(int format, Bits x) {
     Bits root = x & ~(one_at((int)between(0, FORMATS[format].trailing)) - 1);
     Bits product = about(format, MULTIPLY, root, root);
-    return word() & 1 ? beside(product, 2) : product;
+    return word() & 1 ? steps_away(product, 2) : product;
 }
 
 // An addend, in view of the product: its negation or near it, or some places away.
@@ -276,7 +264,7 @@ static Bits addend(int format, Bits x, Bits y) {
     switch (word() % 5) {
     case 0: return any(f);
     case 1: return limit(f);
-    case 2: return beside(product ^ sign_bit(f), 2);
+    case 2: return steps_away(product ^ sign_bit(f), 2);
     case 3: return product ^ sign_bit(f);
     default: return number(f, field_of(f, product) + between(-2 * f->trailing - 6, 2 * f->trailing + 6));
     }
@@ -287,7 +275,7 @@ static Bits near_target(const Format *f, const Format *target) {
     int shorter = f->trailing - target->trailing, bias = greatest_field(f) / 2 - greatest_field(target) / 2;
     Bits ends[] = {0, one_at(target->trailing), infinity_of(target), any(target) & (sign_bit(target) - 1)};
     Bits end = (ends[word() % 4] << shorter) + ((Bits)bias << f->trailing);
-    Bits x = beside(end, 3);
+    Bits x = steps_away(end, 3);
     if (word() & 1) x ^= one_at((int)between(0, shorter + 1));
     if (word() % 4 == 0) x -= (Bits)between(0, target->trailing + 2) << f->trailing;
     return with_any_sign(f, x);

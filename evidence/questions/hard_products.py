@@ -89,7 +89,7 @@ def far_below(operands):
     x = operands.significand(operands.choices.randint(1, form.precision))
     if operands.sign():
         x = form.largest - (x << operands.span)
-    return factors(operands, [max(1, x), operands.beside(x, 1)])
+    return factors(operands, [max(1, x), operands.steps_away(x, 1)])
 
 
 _CASES = (

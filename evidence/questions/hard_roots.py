@@ -107,14 +107,14 @@ def denormal(operands):
 def beside_a_power_of_two(operands):
     """A power of two, or the number before or after it."""
     power = placed(operands, 1, operands.choices.randint(0, 1))
-    return positive(operands, operands.beside(power, 1))
+    return positive(operands, operands.steps_away(power, 1))
 
 
 def at_an_end(operands):
     """A number near the smallest, the smallest normal or the largest one."""
     form = operands.form
     end = operands.choice([1, form.smallest_normalized, form.largest])
-    return positive(operands, operands.beside(end, 3))
+    return positive(operands, operands.steps_away(end, 3))
 
 
 def any_number(operands):

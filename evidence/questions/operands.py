@@ -51,7 +51,7 @@ class Operands:
         draw = choices.random()
         if draw < 0.15:
             ends = [1, form.smallest_normalized, form.largest, 1 << form.scale]
-            return self.beside(self.choice(ends), 3)
+            return self.steps_away(self.choice(ends), 3)
         if draw < 0.25:
             return self.significand(choices.randint(1, form.precision))
         near_one = form.scale - form.precision + choices.randint(-form.precision, form.precision)
@@ -81,9 +81,9 @@ class Operands:
 
     def near(self, amount, parts):
         """The same, or sometimes of the number after that."""
-        return self.beside(self.nearest(amount, parts), self.choice([0, 0, 1]))
+        return self.steps_away(self.nearest(amount, parts), self.choice([0, 0, 1]))
 
-    def beside(self, quanta, steps):
+    def steps_away(self, quanta, steps):
         """The quanta of a number at most so many numbers away, but not of zero."""
         step = self.choices.randint(-steps, steps)
         for _ in range(abs(step)):

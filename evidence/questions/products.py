@@ -36,10 +36,10 @@ def factors(operands):
         return operands.any(), operands.any()
     x = operands.magnitude()
     if draw < 0.25:
-        y = operands.beside(x, 2)
+        y = operands.steps_away(x, 2)
     elif draw < 0.65:
         amount, parts = operands.end()
-        y = operands.beside(operands.nearest(amount << form.scale, parts * x), 1)
+        y = operands.steps_away(operands.nearest(amount << form.scale, parts * x), 1)
     elif draw < 0.75:
         x, y = operands.near_one(1), operands.near_one(1)
     else:
@@ -68,13 +68,13 @@ def addend(operands, x, y):
     amount, parts = x.quanta * y.quanta, 1 << form.scale
     is_small = amount < form.smallest_normalized * parts
     if is_small and choices.random() < 0.5:
-        quanta = operands.beside(operands.choice([1, 1, form.smallest_normalized]), 3)
+        quanta = operands.steps_away(operands.choice([1, 1, form.smallest_normalized]), 3)
     elif draw < 0.5:
-        quanta = operands.beside(operands.nearest(amount, parts), operands.choice([0, 0, 1, 2]))
+        quanta = operands.steps_away(operands.nearest(amount, parts), operands.choice([0, 0, 1, 2]))
     elif draw < 0.7:
-        quanta = operands.beside(operands.nearest(amount << form.precision, parts), 2)
+        quanta = operands.steps_away(operands.nearest(amount << form.precision, parts), 2)
     elif draw < 0.85:
-        quanta = operands.beside(operands.choice([1, form.smallest_normalized, form.largest]), 3)
+        quanta = operands.steps_away(operands.choice([1, form.smallest_normalized, form.largest]), 3)
     else:
         places = choices.randint(1, 2 * form.precision + 4)
         shift = operands.choice([(places, 0), (0, places)])

@@ -35,7 +35,7 @@ def operand(operands):
         return operands.any()
     quanta = operands.magnitude()
     if draw < 0.75:
-        quanta = operands.beside(square(operands), choices.choice([0, 1, 2]))
+        quanta = operands.steps_away(square(operands), choices.choice([0, 1, 2]))
     return number(form, draw > 0.97, quanta)
 
 

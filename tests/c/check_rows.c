@@ -1,6 +1,6 @@
 /* Calls the library from C for rows of calls with their results, as crates/check_vectors/stdin has them
  * (docs/VECTORS.md), and compares each field of the answer: a field or an argument in the wrong place shows only in a
- * call from C. Rows that the library has no function or no code for are passed over.
+ * call from C. Rows that the library has no function or no code for are skipped.
  *
  * It prints each row that differs, and for each call that has rows how many agree. .ci/run compares this with
  * tests/c/agreeing.
@@ -9,7 +9,7 @@
  *   cc -std=c99 -Wall -Wextra -O2 -Iinclude tests/c/check_rows.c crates/apfloat_c/out/libapfloat_c.a -o check_rows
  *   ./check_rows < crates/check_vectors/stdin | diff - tests/c/agreeing */
 #include "apfloat.h"
-#include "../../examples/c/names.h"
+#include "rows.h"
 
 #include <stdbool.h>
 #include <stdio.h>
@@ -21,7 +21,7 @@ static const struct code orders[] = {{"Less", (uint32_t)APFLOAT_LESS},
                                      {"Greater", APFLOAT_GREATER},
                                      {"None", APFLOAT_UNORDERED}};
 
-/* Each question about a value that its class answers, with the classes for which the answer is yes. */
+/* Each question about a value that is answered by its class, with the classes for which the answer is yes. */
 #define CLASS(number) (UINT32_C(1) << (number))
 static const struct code questions[] = {
     {"is_signaling", CLASS(APFLOAT_SIGNALING_NAN)},
@@ -120,27 +120,6 @@ static unsigned agreeing[COUNT(calls)];
 
 /* ---- reading */
 
-/* Digits of a base up to 16 as 128 bits; a minus sign negates, in two's complement. */
-static bool read_integer(const char *word, uint64_t base, apfloat_halves *number) {
-    bool is_negative = *word == '-';
-    if (is_negative) word++;
-    number->low = number->high = 0;
-    if (*word == '\0') return false;
-    for (; *word; word++) {
-        const char *all = "0123456789abcdef", *digit = strchr(all, *word);
-        if (!digit || (uint64_t)(digit - all) >= base) return false;
-        uint64_t lowest = (number->low & UINT32_MAX) * base + (uint64_t)(digit - all);
-        uint64_t next = (number->low >> 32) * base + (lowest >> 32);
-        number->high = number->high * base + (next >> 32);
-        number->low = next << 32 | (lowest & UINT32_MAX);
-    }
-    if (is_negative) {
-        number->low = -number->low;
-        number->high = ~number->high + (number->low == 0);
-    }
-    return true;
-}
-
 static bool read_operands(char *words, const char *letters, struct arguments *a) {
     if (*letters == 't') {
         a->text = words;
@@ -159,26 +138,12 @@ static bool read_operands(char *words, const char *letters, struct arguments *a)
     return *letters == '\0';
 }
 
-static bool read_flags(char *names, uint32_t *status) {
-    *status = 0;
-    if (strcmp(names, "OK") == 0 || strcmp(names, "-") == 0) return true;
-    for (char *name = strtok(names, "|"); name; name = strtok(NULL, "|")) {
-        uint32_t flag = code_of(flags, COUNT(flags), name);
-        if (flag == NO_CODE) return false;
-        *status |= flag;
-    }
-    return true;
-}
-
 /* What a row says of an answer; `classes` are those of its value, if it answers a question. */
 struct expected {
     uint32_t code, classes;
     apfloat_answer answer;
     bool has_number;
 };
-
-/* Memory that no call left as it is. */
-static const apfloat_answer before = {{UINT64_C(0x0123456789abcdef), UINT64_C(0xfedcba9876543210)}, 0x55aa, -77};
 
 enum column { CALL, FORMAT, MODE, OPERANDS, VALUE, FLAGS, MORE, COLUMNS };
 
@@ -376,18 +341,7 @@ static size_t call_named(const char *name) {
     return i;
 }
 
-/* The code of a format, with its rule of flags in the words after each +. */
-static uint32_t format_of(char *name) {
-    char *rule = strchr(name, '+');
-    if (rule) *rule++ = '\0';
-    uint32_t code = code_of(formats, COUNT(formats), name);
-    if (code == NO_CODE || !rule) return code;
-    if (strcmp(rule, "ieee") == 0) return code | APFLOAT_IEEE_FLAGS;
-    if (strcmp(rule, "ieee+before") == 0) return code | APFLOAT_IEEE_FLAGS | APFLOAT_TINY_BEFORE_ROUNDING;
-    return NO_CODE;
-}
-
-/* Whether a row agrees. One that no function of the library answers is passed over. */
+/* Whether a row agrees. One that the library has no function for is skipped. */
 static bool check(char *columns[]) {
     size_t i = call_named(columns[CALL]);
     if (i == COUNT(calls)) return true;
@@ -456,14 +410,9 @@ int main(void) {
     while (fgets(line, sizeof line, stdin)) {
         line[strcspn(line, "\r\n")] = '\0';
         strcpy(copy, line);
-        char *columns[COLUMNS], *rest = copy;
-        size_t count = 0;
-        for (char *tab = rest; rest && count < COLUMNS; rest = tab) {
-            columns[count++] = rest;
-            tab = strchr(rest, '\t');
-            if (tab) *tab++ = '\0';
-        }
-        if (line[0] != '#' && count == COLUMNS && !rest && !check(columns)) printf("differs: %s\n", line);
+        char *columns[COLUMNS];
+        if (line[0] != '#' && split(copy, columns, COLUMNS) == COLUMNS && !check(columns))
+            printf("differs: %s\n", line);
     }
     for (size_t i = 0; i < COUNT(calls); i++)
         if (agreeing[i]) printf("%s: %u rows agree\n", calls[i].name, agreeing[i]);
