@@ -149,21 +149,7 @@ def shown(known, x):
     sign = "-" if x.negative else ""
     if isinstance(x, Infinite):
         return f"{sign}inf"
-    return sign + spelled(*decimals.shortest(known, x))
-
-
-def spelled(digits, exponent):
-    """A decimal without an exponent if that of its first digit is from -6 to 20."""
-    word = str(digits)
-    first = exponent + len(word) - 1
-    if digits == 0:
-        return "0.0"
-    if not -6 <= first <= 20:
-        return f"{word[0]}{'.' * (len(word) > 1)}{word[1:]}e{first}"
-    if exponent >= 0:
-        return f"{word}{'0' * exponent}.0"
-    word = word.zfill(1 - exponent)
-    return f"{word[:exponent]}.{word[exponent:]}"
+    return sign + decimals.spelled(*decimals.shortest(known, x))
 
 
 if __name__ == "__main__":

@@ -51,7 +51,7 @@ _CALL_SUBJECTS = {
     "to_u128_r to_u128 to_i128_r to_i128 through_i128": "conversions to integers",
     "convert_r convert from": "conversions between formats, and with the wide format",
     "from_str_r from_str": "texts",
-    "from_decimal_r shortest_decimal": "decimals",
+    "read_decimal shortest rounded exact from_decimal_r shortest_decimal": "decimals",
     "to_bits neg abs copy_sign": "bits and signs",
     "qnan snan nan infinity zero default smallest smallest_normalized largest "
     "BITS PRECISION MIN_EXP MAX_EXP MULTIPLIES": "NaNs and constants",

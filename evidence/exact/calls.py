@@ -7,6 +7,7 @@ operands, the value, the flags, and what else the call returns. The first four a
 from typing import NamedTuple
 
 from exact import conversions, decimals, remainders, status, words
+from exact.data import Finite
 from exact.pairs import PAIRS, joined, split
 from exact.rounding import Mode
 from exact.texts import ParseError
@@ -130,6 +131,8 @@ def answered_in(call, kind_word, mode, operands):
         return answered_text(kind, operands, mode)
     if call == "from_decimal_r":
         return valued(kind, decimals.read(kind.format, operands, mode))._replace(more=())
+    if call == "read_decimal":
+        return answered_reading(kind, operands, mode)
     if call == "from_str":
         answer = answered_text(kind, operands, mode)
         return answer if answer.flags == "ParseError" else Answer(answer.value)
@@ -197,6 +200,14 @@ def answered_text(kind, text, mode):
     return Answer(words.word_of(kind, value), status.names(flags))
 
 
+def answered_reading(kind, text, mode):
+    """The reading of a decimal, or of a text that `from_str_r` reads."""
+    if decimals.literal(text) is None:
+        return answered_text(kind, text, mode)
+    value, flags = decimals.read(kind.format, text, mode)
+    return Answer(words.word_of(kind, value), status.names(flags))
+
+
 def answered_from_integer(kind, mode, integer):
     """The value of an integer."""
     return valued(kind, kind.from_integer(int(integer), mode))
@@ -240,6 +251,33 @@ def answered_shortest(kind, _mode, x):
     return Answer(f"{'-' if x.negative else ''}{digits}e{exponent}")
 
 
+def answered_decimal(kind, _mode, word):
+    """The shortest decimal of a number."""
+    return written(words.value_of(kind, word), lambda x: decimals.shortest(kind.format, x))
+
+
+def answered_exact(kind, _mode, word):
+    """The decimal that a number is."""
+    return written(words.value_of(kind, word), lambda x: decimals.exact(kind.format, x))
+
+
+def answered_rounded(kind, mode, word, count):
+    """A number rounded to so many decimal digits."""
+    x = words.value_of(kind, word)
+    if not isinstance(x, Finite):
+        return Answer("None")
+    decimal, is_exact = decimals.rounded(kind.format, x, int(count), mode)
+    return written(x, lambda _: decimal)._replace(more=(("is_exact", yes_or_no(is_exact)),))
+
+
+def written(x, decimal_of):
+    """The text of a decimal, or None of another value and of a number without one."""
+    decimal = decimal_of(x) if isinstance(x, Finite) else None
+    if decimal is None:
+        return Answer("None")
+    return Answer(("-" if x.negative else "") + decimals.spelled(*decimal))
+
+
 # Calls with operands that are not all values.
 _ON_WORDS = {
     "from_u128_r": answered_from_integer,
@@ -255,6 +293,9 @@ _ON_WORDS = {
     "qnan": answered_qnan,
     "snan": answered_snan,
     "shortest_decimal": answered_shortest,
+    "shortest": answered_decimal,
+    "exact": answered_exact,
+    "rounded": answered_rounded,
 }
 
 

@@ -119,6 +119,11 @@ fn shows_each_kind_of_answer(rt: HostRuntime) {
         ),
         ("from_str\thalf\t-\t0x1p0", "-\tParseError\t-", "3c00\t-\t-"),
         (
+            "rounded\thalf\tup\t2e66 2",
+            "0.1\t-\tis_exact=true",
+            "0.10\t-\tis_exact=false",
+        ),
+        (
             "/\tsingle\t-\t3f800000 00000000",
             "7f800000\tOK\t-",
             "7f800000\tDIV_BY_ZERO\t-",
@@ -158,72 +163,110 @@ fn tells_what_is_malformed(rt: HostRuntime) {
             "abs\thalf\t-\t3c00\t3c00\t-\t-\t-",
             "columns: 8, and a command has 2, a call 7",
         ),
-        ("half int even 464\t5f40", "no reply: `5f40`"),
-        ("half int odd 464\t5f40 OK", "no mode: `odd`"),
-        ("halff int even 464\t5f40 OK", "no format: `halff`"),
-        ("half int even 464\t5f40 FINE", "no reply: `5f40 FINE`"),
-        ("cbrt\thalf\teven\t3c00\t3c00\tOK\t-", "no call: `cbrt`"),
-        ("abs\tthird\t-\t3c00\t3c00\t-\t-", "no format: `third`"),
+        (
+            "half int even 464\t5f40",
+            "no reply: `5f40`; expected: bits and flags, as `5f40 OK`, or `refused: ` and a word",
+        ),
+        (
+            "half int odd 464\t5f40 OK",
+            "no mode: `odd`; expected: even, up, down, zero or away",
+        ),
+        (
+            "halff int even 464\t5f40 OK",
+            "no format: `halff`; expected: half, single, double, quad, bfloat, e5m2, e4m3fn, e4m3fnuz, x87 or dd",
+        ),
+        (
+            "half int even 464\t5f40 FINE",
+            "no reply: `5f40 FINE`; expected: bits and flags, as `5f40 OK`, or `refused: ` and a word",
+        ),
+        (
+            "cbrt\thalf\teven\t3c00\t3c00\tOK\t-",
+            "no call: `cbrt`; expected: one that docs/VECTORS.md lists",
+        ),
+        (
+            "abs\tthird\t-\t3c00\t3c00\t-\t-",
+            "no format: `third`; expected: one that docs/VECTORS.md lists, or SOURCE>TARGET",
+        ),
         (
             "convert\thalf>third\t-\t3c00\t3c00\tOK\t-",
-            "no format: `half>third`",
+            "no format: `half>third`; expected: one that docs/VECTORS.md lists, or SOURCE>TARGET",
         ),
         (
             "abs\thalf\teven\t3c00\t3c00\t-\t-",
-            "no mode of the call: `even`",
+            "no mode of the call: `even`; expected: `-`, since the call has none",
         ),
         (
             "abs\thalf\tany\t3c00\t3c00\t-\t-",
-            "no mode of the call: `any`",
+            "no mode of the call: `any`; expected: `-`, since the call has none",
         ),
         (
             "add_r\thalf\t-\t3c00 3c00\t4000\tOK\t-",
-            "no mode of the call: `-`",
+            "no mode of the call: `-`; expected: even, up, down, zero, away or any",
         ),
         (
             "add_r\thalf\todd\t3c00 3c00\t4000\tOK\t-",
-            "no mode of the call: `odd`",
+            "no mode of the call: `odd`; expected: even, up, down, zero, away or any",
         ),
         (
             "abs\thalf\t-\t13c00\t3c00\t-\t-",
-            "no operands of the call: `13c00`",
+            "no operand of the call: `13c00` has 17 bits; expected: at most 16",
         ),
         (
             "abs\thalf\t-\t3c00 3c00\t3c00\t-\t-",
-            "no operands of the call: `3c00 3c00`",
+            "no operands of the call: `3c00 3c00`; expected: one value",
         ),
         (
             "abs\thalf\t-\t3c00\t3g00\t-\t-",
-            "no value of the call: `3g00`",
+            "no value of the call: `3g00`; expected: hexadecimal digits",
         ),
         (
             "abs\thalf\t-\t3c00\t3c00\tOK\t-",
-            "no flags of the call: `OK`",
+            "no flags of the call: `OK`; expected: `-`, since the call has none",
         ),
         (
             "add_r\thalf\tany\t3c00 3c00\t4000\tINEXACT|INEXACT\t-",
-            "no flags of the call: `INEXACT|INEXACT`",
+            "no flags of the call: `INEXACT|INEXACT`; \
+            expected: `-`, OK, or names joined by bars, as OVERFLOW|INEXACT",
         ),
         (
             "abs\thalf\t-\t3c00\t3c00\t-\texponent=1",
-            "nothing that the call answers: `exponent=1`",
+            "nothing that the call answers: `exponent=1`; expected: `-`",
         ),
         (
             "mul_r\tquad\teven\t0 0\t0\tOK\t-",
-            "no such call here: `mul_r`",
+            "no such call here: `mul_r`; expected: a call that the format has (docs/VECTORS.md)",
+        ),
+        (
+            "add_r\thalf\teven\t3c00 3g00\t4000\tOK\t-",
+            "no operand of the call: `3g00`; \
+            expected: hexadecimal digits, or quanta as `+3q` in a format \
+            without bits",
+        ),
+        (
+            "to_u128\thalf\t-\t3c00 129\t1\tOK\t-",
+            "no operands of the call: `3c00 129`; \
+            expected: a value and a width of at most 128 bits",
+        ),
+        (
+            "abs\thalf\t-\t3c00\t13c00\t-\t-",
+            "no value of the call: `13c00` has 17 bits; expected: at most 16",
+        ),
+        (
+            "shortest\thalf+ieee\t-\t3c00\t1.0\t-\t-",
+            "no such call here: `shortest`; expected: a call that the format has (docs/VECTORS.md)",
         ),
         // Of two faults, the first in the order of `docs/VECTORS.md`.
         (
             "abs\tthird\teven\t3c00\t3c00\t-\t-",
-            "no mode of the call: `even`",
+            "no mode of the call: `even`; expected: `-`, since the call has none",
         ),
         (
             "abs\thalf\t-\t3c00\t3g00\tOK\texponent=1",
-            "no flags of the call: `OK`",
+            "no flags of the call: `OK`; expected: `-`, since the call has none",
         ),
         (
             "abs\thalf\t-\t3c00\t3g00\t-\texponent=1",
-            "nothing that the call answers: `exponent=1`",
+            "nothing that the call answers: `exponent=1`; expected: `-`",
         ),
     ] {
         expect_fault(&rt, line, fault);

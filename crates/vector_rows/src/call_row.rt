@@ -3,8 +3,6 @@
 ghost use Rattle.std.specs.Prelude.{◌≡◌, ◌++◌, ◌∷◌};
 ghost use Rattle.std.specs.Option.{IfSome};
 
-use crate::failure::RowError;
-
 /// The columns of a row.
 #[derive(Clone, Copy)]
 pub struct CallRow<'a> {
@@ -67,34 +65,4 @@ fn cut_column(text: &str) -> Option<(&str, &str)>
     ensures { IfSome result (λ parts. text.now ≡ parts.0.now ++ 9 ∷ parts.1.now) }
 {
     text.split_once('\t')
-}
-
-impl<'a> CallRow<'a> {
-    /// The row in a mode.
-    pub fn in_mode(self, mode: &'a str) -> CallRow<'a> {
-        CallRow { mode, ..self }
-    }
-
-    /// The first operand, and the others.
-    pub fn cut_operand(self) -> Result<(&'a str, &'a str), RowError<'a>> {
-        match self.operands.split_once(' ') {
-            Some(parts) => Ok(parts),
-            None => Err(self.operand_error()),
-        }
-    }
-
-    /// The error for operands that the call does not take.
-    pub fn operand_error(self) -> RowError<'a> {
-        RowError::Word("no operands of the call", self.operands)
-    }
-
-    /// The error for a format that does not exist.
-    pub fn format_error(self) -> RowError<'a> {
-        RowError::Word("no format", self.format)
-    }
-
-    /// The error for a call that the format does not have.
-    pub fn support_error(self) -> RowError<'a> {
-        RowError::Word("no such call here", self.call)
-    }
 }

@@ -2,121 +2,183 @@
 
 mod answer;
 mod call;
+mod decimals;
+mod fault;
 mod formats;
 mod of_type;
+mod operands;
 mod quanta;
 mod row_format;
 mod table;
 
 use crate::call_row::CallRow;
-use crate::calls::answer::RowAnswer;
 use crate::calls::call::Call;
-use crate::calls::formats::answered;
-use crate::failure::RowError;
+use crate::calls::fault::takes_mode;
+use crate::calls::formats::{Formats, answered};
+use crate::calls::of_type::{Answered, Request};
+use crate::calls::quanta::Quanta;
 pub use answer::{StatusField, Text, ValueField, shown, status_named};
 use dispatch::mode_named;
+pub use fault::CallFault;
 use rustc_apfloat::Round;
 use std::io;
 use std::io::Write;
 pub use table::found;
 
-static MODES: &[&str] = &["even", "up", "down", "zero", "away"];
+/// The modes, with their words.
+static MODES: &[(&str, Round)] = &[
+    ("even", Round::NearestTiesToEven),
+    ("up", Round::TowardPositive),
+    ("down", Round::TowardNegative),
+    ("zero", Round::TowardZero),
+    ("away", Round::NearestTiesToAway),
+];
 
 /// Whether a row agrees, in each mode that it names.
-pub fn agrees(row: CallRow<'_>) -> Result<bool, RowError<'_>> {
-    if row.mode != "any" || !takes_mode(row.call) {
-        return agrees_in_mode(row);
+pub fn agrees(row: CallRow<'_>) -> Result<bool, CallFault> {
+    let asked = match Asked::of_row(row) {
+        Ok(asked) => asked,
+        Err(fault) => return Err(fault),
+    };
+    if !asked.in_each_mode {
+        return asked.agrees(row.value, row.status, row.extra);
     }
     let mut all_agree = true;
-    for mode in MODES {
-        match agrees_in_mode(row.in_mode(mode)) {
+    for (_, round) in MODES {
+        match asked
+            .in_mode(*round)
+            .agrees(row.value, row.status, row.extra)
+        {
             Ok(agrees) => all_agree &= agrees,
-            Err(error) => return Err(error),
+            Err(fault) => return Err(fault),
         }
     }
     Ok(all_agree)
-}
-
-/// Whether a row agrees in its mode.
-fn agrees_in_mode(row: CallRow<'_>) -> Result<bool, RowError<'_>> {
-    match answer_of(row) {
-        Ok(answer) => answer.is_of(row),
-        Err(error) => Err(error),
-    }
-}
-
-/// What the call of a row returns.
-pub fn answer_of(row: CallRow<'_>) -> Result<RowAnswer, RowError<'_>> {
-    match RowRequest::of(row) {
-        Ok(request) => answered(request),
-        Err(error) => Err(error),
-    }
 }
 
 /// Writes what a row expects, and what the call returns in each mode of the row in which that differs.
 pub fn write_answers<W: Write>(row: CallRow<'_>, out: &mut W) -> io::Result<()> {
     let (value, status, extra) = (row.value, row.status, row.extra);
     writeln!(out, "  expected: {value}\t{status}\t{extra}")?;
-    if row.mode != "any" {
-        return write_given(row, "", out);
+    let Ok(asked) = Asked::of_row(row) else {
+        return Ok(());
+    };
+    if !asked.in_each_mode {
+        return asked.write_given(value, status, extra, "", out);
     }
-    for mode in MODES {
-        write_given(row.in_mode(mode), mode, out)?;
+    for (mode, round) in MODES {
+        asked
+            .in_mode(*round)
+            .write_given(value, status, extra, mode, out)?;
     }
     Ok(())
 }
 
-/// Writes what the call returns, after the name of the mode, unless that agrees with the row.
-fn write_given<W: Write>(row: CallRow<'_>, mode: &str, out: &mut W) -> io::Result<()> {
-    let Ok(answer) = answer_of(row) else {
-        return Ok(());
-    };
-    if let Ok(true) = answer.is_of(row) {
-        return Ok(());
-    }
-    let label = if mode.is_empty() { "" } else { " in " };
-    write!(out, "  given{label}{mode}: ")?;
-    answer.write(row, out)?;
-    out.write_all(b"\n")
-}
-
-/// A call that a row asks for.
+/// What a row asks for.
 #[derive(Clone, Copy)]
-pub struct RowRequest<'a> {
-    /// The row.
-    pub row: CallRow<'a>,
-    /// The call.
-    pub call: Call,
-    /// The mode, which matters only if the call takes one.
-    pub round: Round,
+pub struct Asked<'a> {
+    formats: Formats,
+    request: Request,
+    in_each_mode: bool,
+    // The operands as they are written, since one may be a text.
+    text: &'a str,
 }
 
-impl<'a> RowRequest<'a> {
-    /// What a row asks for, if there is such a call and it takes the mode.
-    pub fn of(row: CallRow<'a>) -> Result<RowRequest<'a>, RowError<'a>> {
-        let Some(call) = Call::named(row.call) else {
-            return Err(RowError::Word("no call", row.call));
-        };
-        match mode_of(row) {
-            Some(round) => Ok(RowRequest { row, call, round }),
-            None => Err(RowError::Word("no mode of the call", row.mode)),
+impl<'a> Asked<'a> {
+    /// What a row asks for, if there is such a call.
+    fn of_row(row: CallRow<'a>) -> Result<Asked<'a>, CallFault> {
+        match Asked::of(row.call, row.format, row.mode, row.operands) {
+            Ok(asked) => Ok(asked.stating(Quanta::named(row.value))),
+            Err(fault) => Err(fault),
         }
+    }
+
+    /// What these columns of a row ask for, if there is such a call.
+    pub fn of(
+        name: &str,
+        format: &str,
+        mode: &str,
+        operands: &'a str,
+    ) -> Result<Asked<'a>, CallFault> {
+        let Some(call) = Call::named(name) else {
+            return Err(CallFault::Call);
+        };
+        let Some(round) = mode_of(mode, takes_mode(name)) else {
+            return Err(CallFault::Mode);
+        };
+        let Some(formats) = Formats::named(format) else {
+            return Err(CallFault::Format);
+        };
+        match call.form().read(operands) {
+            Some(read) => Ok(Asked {
+                formats,
+                request: Request::new(call, round, read),
+                in_each_mode: mode == "any",
+                text: operands,
+            }),
+            None => Err(CallFault::Operands),
+        }
+    }
+
+    /// The same of a row that states this value.
+    fn stating(self, stated: Option<Quanta>) -> Asked<'a> {
+        let request = Request {
+            stated,
+            ..self.request
+        };
+        Asked { request, ..self }
+    }
+
+    /// The same in a mode.
+    fn in_mode(self, round: Round) -> Asked<'a> {
+        let request = Request {
+            round,
+            ..self.request
+        };
+        Asked { request, ..self }
+    }
+
+    /// What the call returns.
+    pub fn answer(self) -> Answered {
+        answered(self.formats, self.request, self.text)
+    }
+
+    /// Whether the call returns what these columns say.
+    fn agrees(self, value: &str, status: &str, extra: &str) -> Result<bool, CallFault> {
+        match self.answer() {
+            Ok(answer) => answer.is_of(value, status, extra),
+            Err(fault) => Err(fault),
+        }
+    }
+
+    /// Writes what the call returns, after the name of the mode, unless that is what these columns say.
+    fn write_given<W: Write>(
+        self,
+        value: &str,
+        status: &str,
+        extra: &str,
+        mode: &str,
+        out: &mut W,
+    ) -> io::Result<()> {
+        let Ok(answer) = self.answer() else {
+            return Ok(());
+        };
+        if let Ok(true) = answer.is_of(value, status, extra) {
+            return Ok(());
+        }
+        let label = if mode.is_empty() { "" } else { " in " };
+        write!(out, "  given{label}{mode}: ")?;
+        answer.write(value, extra, out)?;
+        out.write_all(b"\n")
     }
 }
 
 /// The mode of a row, if it is one that its call takes. A call without one gets any.
-fn mode_of(row: CallRow<'_>) -> Option<Round> {
-    if takes_mode(row.call) {
-        return mode_named(row.mode);
+fn mode_of(word: &str, takes_mode: bool) -> Option<Round> {
+    match word {
+        "any" if takes_mode => Some(Round::NearestTiesToEven),
+        "-" if !takes_mode => Some(Round::NearestTiesToEven),
+        _ if takes_mode => mode_named(word),
+        _ => None,
     }
-    if row.mode == "-" {
-        Some(Round::NearestTiesToEven)
-    } else {
-        None
-    }
-}
-
-/// Whether the call of this name takes a rounding mode.
-fn takes_mode(call: &str) -> bool {
-    call.ends_with("_r") || call == "round_to_integral"
 }

@@ -220,7 +220,7 @@ impl Check {
                 }
                 Ok(())
             }
-            Err(error) => self.take_error(error, out),
+            Err(fault) => self.take_error(row.error(fault), out),
         }
     }
 

@@ -8,6 +8,15 @@ use rustc_apfloat::Flags;
 use std::alloc::{AllocError, Global};
 use std::{io, str};
 
+/// What a reply is, for messages.
+const REPLY: &str = "bits and flags, as `5f40 OK`, or `refused: ` and a word";
+
+/// The formats of commands.
+const FORMATS: &str = "half, single, double, quad, bfloat, e5m2, e4m3fn, e4m3fnuz, x87 or dd";
+
+/// The modes of commands.
+const MODES: &str = "even, up, down, zero or away";
+
 /// A command and its reply.
 #[derive(Clone, Copy)]
 pub struct CommandRow<'a> {
@@ -25,11 +34,11 @@ impl<'a> CommandRow<'a> {
             return None;
         }
         if result_of(self.reply).is_none() {
-            return Some(RowError::Word("no reply", self.reply));
+            return Some(RowError::Word("no reply", self.reply, REPLY));
         }
         match self.command.split_once(' ') {
             Some((format, _)) if BuiltInKind::named(format).is_none() => {
-                Some(RowError::Word("no format", format))
+                Some(RowError::Word("no format", format, FORMATS))
             }
             Some((_, words)) => mode_fault(words),
             None => None,
@@ -81,7 +90,9 @@ fn mode_fault(words: &str) -> Option<RowError<'_>> {
         return None;
     };
     match words.split_once(' ') {
-        Some((mode, _)) if mode_named(mode).is_none() => Some(RowError::Word("no mode", mode)),
+        Some((mode, _)) if mode_named(mode).is_none() => {
+            Some(RowError::Word("no mode", mode, MODES))
+        }
         _ => None,
     }
 }

@@ -67,8 +67,10 @@ pub enum RowError<'a> {
     Columns(usize),
     /// It has this many words, and not as many as the second number says.
     Numbers(usize, usize),
-    /// A column has no such thing as the first text says; the second is what it has.
-    Word(&'a str, &'a str),
+    /// A column has no such thing as the first text says: what it has, and what is expected.
+    Word(&'static str, &'a str, &'static str),
+    /// The same of a word that has so many bits; the second number is how many it may have.
+    Bits(&'static str, &'a str, u32, usize),
 }
 
 impl fmt::Display for RowError<'_> {
@@ -81,7 +83,15 @@ impl fmt::Display for RowError<'_> {
             RowError::Numbers(count, wanted) => {
                 write!(f, "words: {count}, and a line has {wanted}")
             }
-            RowError::Word(fault, word) => write!(f, "{fault}: `{word}`"),
+            RowError::Word(fault, word, expected) => {
+                write!(f, "{fault}: `{word}`; expected: {expected}")
+            }
+            RowError::Bits(fault, word, length, width) => {
+                write!(
+                    f,
+                    "{fault}: `{word}` has {length} bits; expected: at most {width}"
+                )
+            }
         }
     }
 }

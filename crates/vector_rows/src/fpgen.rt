@@ -11,6 +11,13 @@ use std::fmt::Write as _;
 use std::io;
 use std::io::Write;
 
+/// What a line is, for messages.
+const LINE: &str = "a line such as `b32+ =0 +1.000000P0 +1.800000P1 -> +1.000000P2`";
+
+/// What operands are, and results.
+const NUMBERS: &str =
+    "numbers such as +1.800000P-3, +Zero, -Inf, Q or S, as many as the operation has";
+
 /// A format of FPgen.
 #[derive(Clone, Copy)]
 struct BinaryFormat {
@@ -131,7 +138,7 @@ impl Fpgen {
         };
         match self.given(test) {
             Some(given) => Ok(Some(test.agrees(given))),
-            None => Err(RowError::Word("no such call here", line)),
+            None => Err(RowError::Word("no such call here", line, LINE)),
         }
     }
 
@@ -181,17 +188,17 @@ impl Test {
 /// What a line says, or nothing if it says what a trap gets.
 fn test_of(line: &str) -> Result<Option<Test>, RowError<'_>> {
     let Some((name, left, right)) = cut_line(line) else {
-        return Err(RowError::Word("no line of FPgen", line));
+        return Err(RowError::Word("no line of FPgen", line, LINE));
     };
     let operation = match operation_named(name) {
         Ok(operation) => operation,
         Err(error) => return Err(error),
     };
     let Some((rounding, words)) = left.split_once(' ') else {
-        return Err(RowError::Word("no line of FPgen", line));
+        return Err(RowError::Word("no line of FPgen", line, LINE));
     };
     match found(ROUNDINGS, rounding) {
-        None => Err(RowError::Word("no mode", rounding)),
+        None => Err(RowError::Word("no mode", rounding, "=0 > < 0 or =^")),
         Some(_) if has_traps(words) => Ok(None),
         Some(mode) => operation.test(mode, words, right),
     }
@@ -227,7 +234,7 @@ struct Operation {
 /// The operation of this name, which begins with its format.
 fn operation_named(name: &str) -> Result<Operation, RowError<'_>> {
     let Some((format, operation)) = format_of(name) else {
-        return Err(RowError::Word("no format", name));
+        return Err(RowError::Word("no format", name, "b32, b64 or b128"));
     };
     match found(OPERATIONS, operation) {
         Some((call, operand_count)) => Ok(Operation {
@@ -235,7 +242,7 @@ fn operation_named(name: &str) -> Result<Operation, RowError<'_>> {
             call,
             operand_count,
         }),
-        None => Err(RowError::Word("no call", name)),
+        None => Err(RowError::Word("no call", name, "+ - * *+ / % V or rfi after the format")),
     }
 }
 
@@ -248,7 +255,7 @@ impl Operation {
         right: &'a str,
     ) -> Result<Option<Test>, RowError<'a>> {
         if words.split(' ').count() != self.operand_count {
-            return Err(RowError::Word("no operands of the call", words));
+            return Err(RowError::Word("no operands of the call", words, NUMBERS));
         }
         let stated = match stated_in(right, self.format) {
             Ok(Some(stated)) => stated,
@@ -263,7 +270,7 @@ impl Operation {
                 operands,
                 stated,
             })),
-            None => Err(RowError::Word("no operands of the call", words)),
+            None => Err(RowError::Word("no operands of the call", words, NUMBERS)),
         }
     }
 }
@@ -275,8 +282,8 @@ fn stated_in(right: &str, format: BinaryFormat) -> Result<Option<Columns>, RowEr
         return Ok(None);
     }
     match (bits_of_word(result, format), flags_of(flags)) {
-        (None, _) => Err(RowError::Word("no result", result)),
-        (_, None) => Err(RowError::Word("no flags", flags)),
+        (None, _) => Err(RowError::Word("no result", result, NUMBERS)),
+        (_, None) => Err(RowError::Word("no flags", flags, "letters of x u o z i")),
         (Some(result), Some(flags)) => Ok(Some(Columns { result, flags })),
     }
 }

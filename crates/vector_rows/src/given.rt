@@ -1,7 +1,6 @@
 //! What the library returns for a line of another program's file, as numbers.
 
-use crate::call_row::CallRow;
-use crate::calls::{StatusField, ValueField, answer_of};
+use crate::calls::{Asked, StatusField, ValueField};
 use rustc_apfloat::{Flags, Status};
 
 /// A result and its flags, as numbers.
@@ -16,16 +15,10 @@ pub struct Columns {
 
 /// What a call returns, if there is such a call with a status.
 pub fn given(call: &str, format: &str, mode: &str, operands: &str) -> Option<Columns> {
-    let row = CallRow {
-        call,
-        format,
-        mode,
-        operands,
-        value: "-",
-        status: "-",
-        extra: "-",
+    let Ok(asked) = Asked::of(call, format, mode, operands) else {
+        return None;
     };
-    let Ok(answer) = answer_of(row) else {
+    let Ok(answer) = asked.answer() else {
         return None;
     };
     let StatusField::Flags(status) = answer.status else {

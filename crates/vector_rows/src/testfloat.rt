@@ -199,8 +199,8 @@ impl TestFloat {
     /// The result and the flags that two words stand for.
     fn stated<'a>(self, value: &'a str, flags: &'a str) -> Result<Columns, RowError<'a>> {
         match (bits_of(value, width_of(self.result)), bits_of(flags, 5)) {
-            (None, _) => Err(RowError::Word("no result", value)),
-            (_, None) => Err(RowError::Word("no flags", flags)),
+            (None, _) => Err(RowError::Word("no result", value, "hexadecimal digits of its width")),
+            (_, None) => Err(RowError::Word("no flags", flags, "two hexadecimal digits, 00 to 1F")),
             (Some(result), Some(flags)) => Ok(Columns { result, flags }),
         }
     }
@@ -212,7 +212,11 @@ impl TestFloat {
                 result: result & mask(width_of(self.result)),
                 flags,
             }),
-            None => Err(RowError::Word("no operands of the function", operands)),
+            None => Err(RowError::Word(
+                "no operands of the function",
+                operands,
+                "hexadecimal digits of their widths",
+            )),
         }
     }
 

@@ -1,8 +1,7 @@
 //! What a call returns, compared with the last three columns of a row.
 
-use crate::call_row::CallRow;
-use crate::calls::quanta::{is_quanta_of, parts_of, text_of};
-use crate::failure::RowError;
+use crate::calls::fault::CallFault;
+use crate::calls::quanta::{Quanta, text_of};
 use commands::{bits_of, number_of, write_status};
 use rustc_apfloat::{ExpInt, Flags, Float, Status, StatusAnd};
 use std::cmp::Ordering;
@@ -130,14 +129,16 @@ pub struct RowAnswer {
 }
 
 impl RowAnswer {
-    /// The columns for what the call of a row returns.
-    pub fn of<F: Float + Debug>(returned: Returned<F>, row: CallRow<'_>) -> RowAnswer {
+    /// The columns for what a call returns. The row states a value of a format without bits, or another one.
+    pub fn of<F: Float + Debug>(returned: Returned<F>, stated: Option<Quanta>) -> RowAnswer {
         match returned {
-            Returned::Value(x) | Returned::Optional(Some(x)) => RowAnswer::told(field_of(x, row)),
+            Returned::Value(x) | Returned::Optional(Some(x)) => {
+                RowAnswer::told(field_of(x, stated))
+            }
             Returned::Optional(None) => RowAnswer::told(ValueField::Text(Text::of("None"))),
-            Returned::Rounded(answer) => rounded(answer, row),
+            Returned::Rounded(answer) => rounded(answer, stated),
             Returned::Fraction(x, exponent) => RowAnswer {
-                value: field_of(x, row),
+                value: field_of(x, stated),
                 status: StatusField::Nothing,
                 extra: ExtraField::Exponent(exponent),
             },
@@ -147,11 +148,16 @@ impl RowAnswer {
                 extra,
             },
             Returned::Field(value) => RowAnswer::told(value),
-            Returned::Refused(reason) => RowAnswer {
-                value: ValueField::Text(reason),
-                status: StatusField::Refused,
-                extra: ExtraField::Nothing,
-            },
+            Returned::Refused(reason) => RowAnswer::refused(reason),
+        }
+    }
+
+    /// The columns for a text that is refused.
+    pub fn refused(reason: Text) -> RowAnswer {
+        RowAnswer {
+            value: ValueField::Text(reason),
+            status: StatusField::Refused,
+            extra: ExtraField::Nothing,
         }
     }
 
@@ -174,51 +180,55 @@ impl RowAnswer {
     }
 
     /// Whether a row has these columns; `-` in the last one agrees with anything.
-    pub fn is_of<'a>(&self, row: CallRow<'a>) -> Result<bool, RowError<'a>> {
-        let is_refusal = row.status == "ParseError";
-        let Some(has_status) = self.status.is_in_row(row.status) else {
-            return Err(RowError::Word("no flags of the call", row.status));
+    pub fn is_of(&self, value: &str, status: &str, extra: &str) -> Result<bool, CallFault> {
+        let Some(has_status) = self.status.is_in_row(status) else {
+            return Err(CallFault::Flags(self.status.form()));
         };
-        let Some(has_extra) = self.extra.is_in_row(row.extra) else {
-            return Err(RowError::Word("nothing that the call answers", row.extra));
+        let Some(has_extra) = self.extra.is_in_row(extra) else {
+            return Err(CallFault::Extra(self.extra.form()));
         };
-        match self.value.is_named(row.value) {
+        match self.value.is_named(value) {
             Some(has_value) => Ok(has_value && has_status && has_extra),
-            None if is_refusal => Ok(false),
-            None => Err(RowError::Word("no value of the call", row.value)),
+            None if status == "ParseError" => Ok(false),
+            None => Err(self.value.fault()),
         }
     }
 
     /// Writes the columns, the last one if the row has it.
-    pub fn write<W: Write>(&self, row: CallRow<'_>, out: &mut W) -> io::Result<()> {
-        self.value.write(row.value, out)?;
+    pub fn write<W: Write>(&self, value: &str, extra: &str, out: &mut W) -> io::Result<()> {
+        self.value.write(value, out)?;
         out.write_all(b"\t")?;
         self.status.write(out)?;
         out.write_all(b"\t")?;
-        if row.extra == "-" {
+        if extra == "-" {
             return out.write_all(b"-");
         }
-        self.extra.write(row.extra, out)
+        self.extra.write(extra, out)
     }
 }
 
 /// The columns for a value and a status.
-fn rounded<F: Float + Debug>(answer: StatusAnd<F>, row: CallRow<'_>) -> RowAnswer {
+fn rounded<F: Float + Debug>(answer: StatusAnd<F>, stated: Option<Quanta>) -> RowAnswer {
     RowAnswer {
-        value: field_of(answer.value, row),
+        value: field_of(answer.value, stated),
         status: StatusField::Flags(answer.status),
         extra: ExtraField::IsSignaling(answer.value.is_signaling()),
     }
 }
 
 /// The field of a value: its canonical bits, if the format has bits.
-fn field_of<F: Float + Debug>(x: F, row: CallRow<'_>) -> ValueField {
+fn field_of<F: Float + Debug>(x: F, stated: Option<Quanta>) -> ValueField {
     if F::PRECISION < F::BITS {
         return ValueField::Bits(x.to_bits(), F::BITS);
     }
-    if is_quanta_of(x, row.value) {
-        return ValueField::InRow;
+    match stated {
+        Some(quanta) if quanta.is_of(x) => ValueField::InRow,
+        _ => quanta_field(x),
     }
+}
+
+/// The field of a value of a format without bits.
+fn quanta_field<F: Float + Debug>(x: F) -> ValueField {
     match text_of(x) {
         Some(text) => ValueField::Quanta(text),
         None => ValueField::Text(shown(x)),
@@ -247,6 +257,19 @@ impl ValueField {
         }
     }
 
+    /// The fault of a word that cannot be compared with this.
+    fn fault(&self) -> CallFault {
+        match self {
+            ValueField::Bits(_, width) => CallFault::ValueBits(*width),
+            ValueField::InRow | ValueField::Quanta(_) => CallFault::Value("quanta, as `+3q`"),
+            ValueField::Unsigned(_) => CallFault::Value("an integer of 128 bits without a sign"),
+            ValueField::Signed(_) => CallFault::Value("an integer of 128 bits"),
+            ValueField::Truth(_) => CallFault::Value("true or false"),
+            ValueField::Order(_) => CallFault::Value("Less, Equal, Greater or None"),
+            ValueField::Text(_) => CallFault::Value("a text"),
+        }
+    }
+
     /// Writes the word for this.
     fn write<W: Write>(&self, in_row: &str, out: &mut W) -> io::Result<()> {
         match self {
@@ -271,7 +294,7 @@ fn is_bits(bits: u128, width: usize, word: &str) -> Option<bool> {
 
 /// Whether a word stands for a count of quanta that is not that of the row.
 fn is_other_quanta(word: &str) -> Option<bool> {
-    if word == "None" || parts_of(word).is_some() {
+    if word == "None" || Quanta::named(word).is_some() {
         Some(false)
     } else {
         None
@@ -339,6 +362,14 @@ impl StatusField {
         }
     }
 
+    /// The form of the column, for messages.
+    fn form(&self) -> &'static str {
+        match self {
+            StatusField::Nothing => "`-`, since the call has none",
+            _ => "`-`, OK, or names joined by bars, as OVERFLOW|INEXACT",
+        }
+    }
+
     /// Writes the word for this.
     fn write<W: Write>(&self, out: &mut W) -> io::Result<()> {
         match self {
@@ -377,6 +408,18 @@ impl ExtraField {
             ExtraField::LosesInfo(_) => "loses_info=",
             ExtraField::Exponent(_) => "exponent=",
             ExtraField::Steps(_, _) => "steps=",
+        }
+    }
+
+    /// The form of the column, for messages.
+    fn form(&self) -> &'static str {
+        match self {
+            ExtraField::Nothing => "`-`",
+            ExtraField::IsSignaling(_) => "`-`, or is_signaling= with true or false",
+            ExtraField::IsExact(_) => "`-`, or is_exact= with true or false",
+            ExtraField::LosesInfo(_) => "`-`, or loses_info= with true or false",
+            ExtraField::Exponent(_) => "`-`, or exponent= with an integer",
+            ExtraField::Steps(_, _) => "`-`, or steps=3, or steps=3 bound=5",
         }
     }
 

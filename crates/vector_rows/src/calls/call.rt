@@ -1,5 +1,6 @@
 //! The calls that rows can ask for, and their names.
 
+use crate::calls::operands::Form;
 use crate::calls::table::found;
 
 /// A call, by what its operands are.
@@ -17,8 +18,12 @@ pub enum Call {
     Assigning(AssigningOperator),
     /// A value and an integer.
     OfValueAndInteger(IntegerCall),
-    /// An integer, the payload of a NaN, or a text.
+    /// An integer, or the payload of a NaN.
     OfWord(WordCall),
+    /// A text.
+    OfText(TextCall),
+    /// A decimal, or a value that is written as one.
+    OfDecimal(DecimalCall),
     /// Values of a type that has the call by itself, and not by a trait.
     OfOneType(OneTypeCall),
     /// A value of another type.
@@ -128,7 +133,7 @@ pub enum IntegerCall {
     ToI128R,
 }
 
-/// A call of an integer, a payload or a text.
+/// A call of an integer or a payload.
 #[derive(Clone, Copy)]
 pub enum WordCall {
     FromU128,
@@ -137,8 +142,22 @@ pub enum WordCall {
     FromI128R,
     Qnan,
     Snan,
+}
+
+/// A call of a text.
+#[derive(Clone, Copy)]
+pub enum TextCall {
     FromStr,
     FromStrR,
+}
+
+/// A call of the crate of decimals.
+#[derive(Clone, Copy)]
+pub enum DecimalCall {
+    Read,
+    Shortest,
+    Rounded,
+    Exact,
 }
 
 /// A call that some types have by themselves.
@@ -258,8 +277,12 @@ static CALLS: &[(&str, Call)] = &[
     ("from_i128_r", Call::OfWord(WordCall::FromI128R)),
     ("qnan", Call::OfWord(WordCall::Qnan)),
     ("snan", Call::OfWord(WordCall::Snan)),
-    ("from_str", Call::OfWord(WordCall::FromStr)),
-    ("from_str_r", Call::OfWord(WordCall::FromStrR)),
+    ("from_str", Call::OfText(TextCall::FromStr)),
+    ("from_str_r", Call::OfText(TextCall::FromStrR)),
+    ("read_decimal", Call::OfDecimal(DecimalCall::Read)),
+    ("shortest", Call::OfDecimal(DecimalCall::Shortest)),
+    ("rounded", Call::OfDecimal(DecimalCall::Rounded)),
+    ("exact", Call::OfDecimal(DecimalCall::Exact)),
     ("sqrt", Call::OfOneType(OneTypeCall::Sqrt)),
     ("sqrt_r", Call::OfOneType(OneTypeCall::SqrtR)),
     ("wide_mul_r", Call::OfOneType(OneTypeCall::WideMulR)),
@@ -277,5 +300,64 @@ impl Call {
     /// The call of this name.
     pub fn named(name: &str) -> Option<Call> {
         found(CALLS, name)
+    }
+
+    /// What its operands are.
+    pub fn form(self) -> Form {
+        match self {
+            Call::Constant(_) => Form::Nothing,
+            Call::OfOneValue(_) | Call::HasProperty(_) | Call::Conversion(_) => Form::OneValue,
+            Call::OfTwoValues(_) | Call::Assigning(_) => Form::TwoValues,
+            Call::OfValueAndInteger(call) => call.form(),
+            Call::OfWord(call) => call.form(),
+            Call::OfOneType(call) => call.form(),
+            Call::OfText(_) => Form::Text,
+            Call::OfDecimal(call) => call.form(),
+        }
+    }
+}
+
+impl IntegerCall {
+    /// What its operands are.
+    fn form(self) -> Form {
+        match self {
+            IntegerCall::Scalbn | IntegerCall::ScalbnR => Form::ValueAndExponent,
+            _ => Form::ValueAndWidth,
+        }
+    }
+}
+
+impl WordCall {
+    /// What its operand is.
+    fn form(self) -> Form {
+        match self {
+            WordCall::FromU128 | WordCall::FromU128R => Form::Unsigned,
+            WordCall::FromI128 | WordCall::FromI128R => Form::Signed,
+            WordCall::Qnan | WordCall::Snan => Form::Payload,
+        }
+    }
+}
+
+impl OneTypeCall {
+    /// What its operands are.
+    fn form(self) -> Form {
+        match self {
+            OneTypeCall::Sqrt | OneTypeCall::SqrtR => Form::OneValue,
+            OneTypeCall::WideMulAddR | OneTypeCall::MulAdd | OneTypeCall::MulAddR => {
+                Form::ThreeValues
+            }
+            _ => Form::TwoValues,
+        }
+    }
+}
+
+impl DecimalCall {
+    /// What its operands are.
+    fn form(self) -> Form {
+        match self {
+            DecimalCall::Read => Form::Text,
+            DecimalCall::Rounded => Form::ValueAndCount,
+            DecimalCall::Shortest | DecimalCall::Exact => Form::OneValue,
+        }
     }
 }

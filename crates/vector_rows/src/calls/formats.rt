@@ -3,13 +3,14 @@
 ghost use Rattle.std.specs.Prelude.{◌≡◌, true};
 ghost use Rattle.rustc_apfloat.specs.PairParts.{CanComparePairMagnitudes};
 
-use crate::call_row::CallRow;
-use crate::calls::RowRequest;
 use crate::calls::answer::{ExtraField, Returned, RowAnswer, ValueField};
 use crate::calls::call::{Call, ConversionCall, OneTypeCall};
-use crate::calls::of_type::{Answered, of_type, two_values, value_of};
+use crate::calls::decimals::in_decimals;
+use crate::calls::fault::CallFault;
+use crate::calls::of_type::{Answered, Request, of_type, two_values, value_fault, value_of};
+use crate::calls::operands::{Operand, Operands};
+use crate::calls::quanta::Quanta;
 use crate::calls::row_format::{CallInFormat, RowFormat};
-use crate::failure::RowError;
 use dispatch::InFormat;
 use rustc_apfloat::ieee::{Double, Flagged, IeeeFloat, Semantics};
 use rustc_apfloat::ppc::{DoubleDouble, FallbackS};
@@ -18,64 +19,100 @@ use std::cmp::Ordering;
 use std::fmt::Debug;
 use std::marker::PhantomData;
 
-/// What the call of a row returns in its format.
-pub fn answered(request: RowRequest<'_>) -> Answered<'_> {
-    let format = request.row.format;
-    match format.split_once('>') {
-        None if format == "dd" => of_pairs(request),
-        None => in_one_format(request),
-        Some(("dd", "fallback")) => from::<DoubleDouble, IeeeFloat<FallbackS>>(request),
-        Some(("fallback", "dd")) => from::<IeeeFloat<FallbackS>, DoubleDouble>(request),
-        Some((source, target)) => between_formats(source, target, request),
+/// The formats of a row.
+#[derive(Clone, Copy)]
+pub enum Formats {
+    /// One format.
+    One(RowFormat),
+    /// Pairs of doubles.
+    Pairs,
+    /// From pairs to the wide format.
+    FromPairs,
+    /// From the wide format to pairs.
+    ToPairs,
+    /// From one format to another.
+    Between(RowFormat, RowFormat),
+}
+
+impl Formats {
+    /// The formats of this word.
+    pub fn named(word: &str) -> Option<Formats> {
+        match word.split_once('>') {
+            None if word == "dd" => Some(Formats::Pairs),
+            None => match RowFormat::named(word) {
+                Some(format) => Some(Formats::One(format)),
+                None => None,
+            },
+            Some(("dd", "fallback")) => Some(Formats::FromPairs),
+            Some(("fallback", "dd")) => Some(Formats::ToPairs),
+            Some((source, target)) => Formats::between(source, target),
+        }
+    }
+
+    /// From one format to another.
+    fn between(source: &str, target: &str) -> Option<Formats> {
+        match (RowFormat::named(source), RowFormat::named(target)) {
+            (Some(source), Some(target)) => Some(Formats::Between(source, target)),
+            _ => None,
+        }
     }
 }
 
-/// What a call returns in the format of a row.
-fn in_one_format(request: RowRequest<'_>) -> Answered<'_> {
-    match RowFormat::named(request.row.format) {
-        Some(format) => format.run(InOneFormat(request)),
-        None => Err(request.row.format_error()),
+/// What the call of a row returns in its formats. The text is its operand, if that is one.
+pub fn answered(formats: Formats, request: Request, text: &str) -> Answered {
+    match formats {
+        Formats::Pairs => of_pairs(request, text),
+        Formats::One(format) => in_one_format(format, request, text),
+        Formats::FromPairs => from::<DoubleDouble, IeeeFloat<FallbackS>>(request),
+        Formats::ToPairs => from::<IeeeFloat<FallbackS>, DoubleDouble>(request),
+        Formats::Between(source, target) => between(source, target, request),
     }
 }
 
-/// What a call returns in two formats of a row. Each pair of formats takes code of its own, so only values of built-in
-/// formats are converted with the flags of IEEE 754.
-fn between_formats<'a>(source: &str, target: &str, request: RowRequest<'a>) -> Answered<'a> {
-    match (RowFormat::named(source), RowFormat::named(target)) {
-        (Some(RowFormat::BuiltIn(source, _)), Some(target)) => {
-            source.run(FromBuiltIn { target, request })
-        }
-        (Some(RowFormat::Other(source)), Some(target)) if target.is_plain() => {
-            source.run(FromOther { target, request })
-        }
-        (Some(_), Some(_)) => Err(request.row.support_error()),
-        _ => Err(request.row.format_error()),
+/// What a call returns in one format.
+fn in_one_format(format: RowFormat, request: Request, text: &str) -> Answered {
+    match request.call {
+        Call::OfDecimal(call) => in_decimals(format, call, request, text),
+        _ => format.run(InOneFormat { request, text }),
+    }
+}
+
+/// What a conversion returns. Each pair of formats takes code of its own, so only values of built-in formats are
+/// converted with the flags of IEEE 754.
+fn between(source: RowFormat, target: RowFormat, request: Request) -> Answered {
+    match source {
+        RowFormat::BuiltIn(source, _) => source.run(FromBuiltIn { target, request }),
+        RowFormat::Other(source) if target.is_plain() => source.run(FromOther { target, request }),
+        RowFormat::Other(_) => Err(CallFault::Support),
     }
 }
 
 /// A call in one format.
 #[derive(Drop)]
-struct InOneFormat<'a>(RowRequest<'a>);
+struct InOneFormat<'a> {
+    request: Request,
+    text: &'a str,
+}
 
-impl<'a> CallInFormat for InOneFormat<'a> {
-    type Output = Answered<'a>;
+impl CallInFormat for InOneFormat<'_> {
+    type Output = Answered;
 
-    fn made_in<S: Flagged>(self) -> Answered<'a> {
-        of_format::<S>(self.0)
+    fn made_in<S: Flagged>(self) -> Answered {
+        of_format::<S>(self.request, self.text)
     }
 }
 
 /// A conversion from a built-in format.
 #[derive(Drop)]
-struct FromBuiltIn<'a> {
+struct FromBuiltIn {
     target: RowFormat,
-    request: RowRequest<'a>,
+    request: Request,
 }
 
-impl<'a> InFormat for FromBuiltIn<'a> {
-    type Output = Answered<'a>;
+impl InFormat for FromBuiltIn {
+    type Output = Answered;
 
-    fn in_format<S: Semantics>(self) -> Answered<'a> {
+    fn in_format<S: Semantics>(self) -> Answered {
         self.target.run(ToFormat {
             source: PhantomData::<S>,
             request: self.request,
@@ -85,15 +122,15 @@ impl<'a> InFormat for FromBuiltIn<'a> {
 
 /// A conversion from another format, to one with the flags of the built-in formats.
 #[derive(Drop)]
-struct FromOther<'a> {
+struct FromOther {
     target: RowFormat,
-    request: RowRequest<'a>,
+    request: Request,
 }
 
-impl<'a> CallInFormat for FromOther<'a> {
-    type Output = Answered<'a>;
+impl CallInFormat for FromOther {
+    type Output = Answered;
 
-    fn made_in<S: Flagged>(self) -> Answered<'a> {
+    fn made_in<S: Flagged>(self) -> Answered {
         self.target.run_plain(ToFormat {
             source: PhantomData::<S>,
             request: self.request,
@@ -103,171 +140,206 @@ impl<'a> CallInFormat for FromOther<'a> {
 
 /// A conversion from the format `S`.
 #[derive(Drop)]
-struct ToFormat<'a, S> {
+struct ToFormat<S> {
     source: PhantomData<S>,
-    request: RowRequest<'a>,
+    request: Request,
 }
 
-impl<'a, S: Flagged> CallInFormat for ToFormat<'a, S> {
-    type Output = Answered<'a>;
+impl<S: Flagged> CallInFormat for ToFormat<S> {
+    type Output = Answered;
 
-    fn made_in<T: Flagged>(self) -> Answered<'a> {
+    fn made_in<T: Flagged>(self) -> Answered {
         converted::<S, T>(self.request)
     }
 }
 
 /// What a call returns in a format.
-fn of_format<S: Flagged>(request: RowRequest<'_>) -> Answered<'_> {
-    let RowRequest { row, call, round } = request;
+fn of_format<S: Flagged>(request: Request, text: &str) -> Answered {
+    match request.call {
+        Call::OfOneType(call) => of_one_format::<S>(call, request),
+        _ => of_type::<IeeeFloat<S>>(request, text),
+    }
+}
+
+/// What a call returns that only formats have.
+fn of_one_format<S: Flagged>(call: OneTypeCall, request: Request) -> Answered {
     match call {
-        Call::OfOneType(OneTypeCall::Sqrt) => square_root::<S>(row, None),
-        Call::OfOneType(OneTypeCall::SqrtR) => square_root::<S>(row, Some(round)),
-        Call::OfOneType(OneTypeCall::WideMulR) => wide_product::<S>(row, round),
-        Call::OfOneType(OneTypeCall::WideMulAddR) => wide_fused_sum::<S>(row, round),
-        Call::OfOneType(OneTypeCall::MulAdd) => fused_sum::<S>(row, None),
-        Call::OfOneType(OneTypeCall::MulAddR) => fused_sum::<S>(row, Some(round)),
-        Call::OfOneType(OneTypeCall::CFmodSteps) => remainder_steps::<S>(row),
-        Call::OfOneType(OneTypeCall::CmpAbsNormal) => order_of_magnitudes::<S>(row),
-        _ => of_type::<IeeeFloat<S>>(request),
+        OneTypeCall::CmpAbsNormal => order_of_magnitudes::<S>(request.operands),
+        OneTypeCall::CFmodSteps => remainder_steps::<S>(request),
+        _ => match rounded_once::<S>(call, request) {
+            Ok(answer) => Ok(rounded_in(answer, request.stated)),
+            Err(fault) => Err(fault),
+        },
+    }
+}
+
+/// What a call returns that rounds once in a format of any precision, or a fused sum.
+fn rounded_once<S: Flagged>(
+    call: OneTypeCall,
+    request: Request,
+) -> Result<StatusAnd<IeeeFloat<S>>, CallFault> {
+    let Request {
+        operands,
+        round,
+        ..
+    } = request;
+    match call {
+        OneTypeCall::Sqrt => square_root(operands, None),
+        OneTypeCall::SqrtR => square_root(operands, Some(round)),
+        OneTypeCall::WideMulR => wide_product(operands, round),
+        OneTypeCall::WideMulAddR => wide_fused_sum(operands, round),
+        OneTypeCall::MulAdd => fused_sum(operands, None),
+        OneTypeCall::MulAddR => fused_sum(operands, Some(round)),
+        OneTypeCall::CFmodSteps | OneTypeCall::CmpAbsNormal => Err(CallFault::Support),
     }
 }
 
 /// The value that an operand stands for.
-fn value_in<S: Flagged>(word: &str) -> Result<IeeeFloat<S>, RowError<'_>> {
-    value_of(word)
+fn value_in<S: Flagged>(operand: Operand) -> Option<IeeeFloat<S>> {
+    value_of(operand)
+}
+
+/// The fault of an operand that is no value of the format.
+fn fault_in<S: Flagged>() -> CallFault {
+    value_fault::<IeeeFloat<S>>()
 }
 
 /// The columns for a value and its flags.
-fn rounded_in<S: Flagged>(answer: StatusAnd<IeeeFloat<S>>, row: CallRow<'_>) -> RowAnswer {
-    RowAnswer::of(Returned::Rounded(answer), row)
+fn rounded_in<S: Flagged>(answer: StatusAnd<IeeeFloat<S>>, stated: Option<Quanta>) -> RowAnswer {
+    RowAnswer::of(Returned::Rounded(answer), stated)
 }
 
 /// The values of two operands.
-fn two_in<S: Flagged>(row: CallRow<'_>) -> Result<(IeeeFloat<S>, IeeeFloat<S>), RowError<'_>> {
-    let (first, second) = row.cut_operand()?;
-    Ok((value_in(first)?, value_in(second)?))
+fn two_in<S: Flagged>(operands: Operands) -> Option<(IeeeFloat<S>, IeeeFloat<S>)> {
+    match (value_in(operands.first), value_in(operands.second)) {
+        (Some(x), Some(y)) => Some((x, y)),
+        _ => None,
+    }
 }
 
-/// The values of three operands.
-fn three_in<S: Flagged>(
-    row: CallRow<'_>,
-) -> Result<(IeeeFloat<S>, IeeeFloat<S>, IeeeFloat<S>), RowError<'_>> {
-    let (first, others) = row.cut_operand()?;
-    let Some((second, third)) = others.split_once(' ') else {
-        return Err(row.operand_error());
-    };
-    Ok((value_in(first)?, value_in(second)?, value_in(third)?))
-}
+/// What a call returns, with its status.
+type RoundedIn<S> = Result<StatusAnd<IeeeFloat<S>>, CallFault>;
 
 /// A square root, in the mode if there is one.
-fn square_root<S: Flagged>(row: CallRow<'_>, mode: Option<Round>) -> Answered<'_> {
-    let x = value_in::<S>(row.operands)?;
-    let answer = match mode {
-        None => x.sqrt(),
-        Some(round) => x.sqrt_r(round),
-    };
-    Ok(rounded_in(answer, row))
+fn square_root<S: Flagged>(operands: Operands, mode: Option<Round>) -> RoundedIn<S> {
+    match (value_in::<S>(operands.first), mode) {
+        (None, _) => Err(fault_in::<S>()),
+        (Some(x), None) => Ok(x.sqrt()),
+        (Some(x), Some(round)) => Ok(x.sqrt_r(round)),
+    }
 }
 
 /// A product in a format of any precision.
-fn wide_product<S: Flagged>(row: CallRow<'_>, round: Round) -> Answered<'_> {
-    let (x, y) = two_in::<S>(row)?;
-    Ok(rounded_in(x.wide_mul_r(y, round), row))
+fn wide_product<S: Flagged>(operands: Operands, round: Round) -> RoundedIn<S> {
+    match two_in::<S>(operands) {
+        Some((x, y)) => Ok(x.wide_mul_r(y, round)),
+        None => Err(fault_in::<S>()),
+    }
 }
 
 /// A product plus a third value, rounded once, in a format of any precision.
-fn wide_fused_sum<S: Flagged>(row: CallRow<'_>, round: Round) -> Answered<'_> {
-    let (x, y, z) = three_in::<S>(row)?;
-    Ok(rounded_in(x.wide_mul_add_r(y, z, round), row))
+fn wide_fused_sum<S: Flagged>(operands: Operands, round: Round) -> RoundedIn<S> {
+    match (two_in::<S>(operands), value_in(operands.third)) {
+        (Some((x, y)), Some(z)) => Ok(x.wide_mul_add_r(y, z, round)),
+        _ => Err(fault_in::<S>()),
+    }
 }
 
 /// A product plus a third value, rounded once, in the mode if there is one.
-fn fused_sum<S: Flagged>(row: CallRow<'_>, mode: Option<Round>) -> Answered<'_> {
-    let (x, y, z) = three_in::<S>(row)?;
+fn fused_sum<S: Flagged>(operands: Operands, mode: Option<Round>) -> RoundedIn<S> {
     if S::PRECISION > FUSED_LIMIT {
-        return Err(row.support_error());
+        return Err(CallFault::Support);
     }
-    let answer = match mode {
-        None => x.mul_add(y, z),
-        Some(round) => x.mul_add_r(y, z, round),
-    };
-    Ok(rounded_in(answer, row))
+    match (two_in::<S>(operands), value_in(operands.third), mode) {
+        (Some((x, y)), Some(z), None) => Ok(x.mul_add(y, z)),
+        (Some((x, y)), Some(z), Some(round)) => Ok(x.mul_add_r(y, z, round)),
+        _ => Err(fault_in::<S>()),
+    }
 }
 
 /// A remainder, with the steps that it takes and how many they are at most.
-fn remainder_steps<S: Flagged>(row: CallRow<'_>) -> Answered<'_> {
-    let (x, y) = two_in::<S>(row)?;
+fn remainder_steps<S: Flagged>(request: Request) -> Answered {
+    let Some((x, y)) = two_in::<S>(request.operands) else {
+        return Err(fault_in::<S>());
+    };
     let (answer, taken) = x.c_fmod_steps(y);
     let bound = x.ilogb().saturating_sub(y.ilogb()).saturating_add(1).max(0);
-    let columns = rounded_in(answer, row);
+    let columns = rounded_in(answer, request.stated);
     Ok(columns.with(ExtraField::Steps(taken, bound)))
 }
 
 /// The order of two magnitudes.
-fn order_of_magnitudes<S: Flagged>(row: CallRow<'_>) -> Answered<'_> {
-    let (x, y) = two_in::<S>(row)?;
+fn order_of_magnitudes<S: Flagged>(operands: Operands) -> Answered {
+    let Some((x, y)) = two_in::<S>(operands) else {
+        return Err(fault_in::<S>());
+    };
     match (x.category(), y.category()) {
         (Category::Normal, Category::Normal) => {
             let order = x.cmp_abs_normal(y);
             Ok(RowAnswer::told(ValueField::Order(Some(order))))
         }
-        _ => Err(row.support_error()),
+        _ => Err(CallFault::Support),
     }
 }
 
 /// A value converted to another format, and whether that loses information.
-fn converted<S: Flagged, T: Flagged>(request: RowRequest<'_>) -> Answered<'_> {
-    let RowRequest { row, call, round } = request;
-    let mode = match call {
+fn converted<S: Flagged, T: Flagged>(request: Request) -> Answered {
+    let mode = match request.call {
         Call::Conversion(ConversionCall::Convert) => None,
-        Call::Conversion(ConversionCall::ConvertR) => Some(round),
-        _ => return Err(row.support_error()),
+        Call::Conversion(ConversionCall::ConvertR) => Some(request.round),
+        _ => return Err(CallFault::Support),
     };
-    let x = value_in::<S>(row.operands)?;
+    let Some(x) = value_in::<S>(request.operands.first) else {
+        return Err(fault_in::<S>());
+    };
     let mut loses_info = false;
     let answer: StatusAnd<IeeeFloat<T>> = match mode {
         None => x.convert(&mut loses_info),
         Some(round) => x.convert_r(round, &mut loses_info),
     };
-    Ok(rounded_in(answer, row).with(ExtraField::LosesInfo(loses_info)))
+    Ok(rounded_in(answer, request.stated).with(ExtraField::LosesInfo(loses_info)))
 }
 
 /// A pair as a wide value, or a wide value as a pair.
-fn from<F: Float + Debug, T: Float + Debug + From<F>>(request: RowRequest<'_>) -> Answered<'_> {
-    let RowRequest { row, call, .. } = request;
-    if !matches!(call, Call::Conversion(ConversionCall::From)) {
-        return Err(row.support_error());
+fn from<F: Float + Debug, T: Float + Debug + From<F>>(request: Request) -> Answered {
+    if !matches!(request.call, Call::Conversion(ConversionCall::From)) {
+        return Err(CallFault::Support);
     }
-    let x = value_of::<F>(row.operands)?;
-    Ok(RowAnswer::of(Returned::Value(T::from(x)), row))
+    match value_of::<F>(request.operands.first) {
+        Some(x) => Ok(RowAnswer::of(Returned::Value(T::from(x)), request.stated)),
+        None => Err(value_fault::<F>()),
+    }
 }
 
 /// What a call returns in pairs of doubles.
-fn of_pairs(request: RowRequest<'_>) -> Answered<'_> {
-    let RowRequest { row, call, round } = request;
-    match call {
-        Call::OfOneType(OneTypeCall::Sqrt) => square_root_of_pair(row, None),
-        Call::OfOneType(OneTypeCall::SqrtR) => square_root_of_pair(row, Some(round)),
-        Call::OfOneType(OneTypeCall::CmpAbsNormal) => order_of_pair_magnitudes(row),
-        _ => of_type::<DoubleDouble>(request),
+fn of_pairs(request: Request, text: &str) -> Answered {
+    match request.call {
+        Call::OfOneType(OneTypeCall::Sqrt) => square_root_of_pair(request, None),
+        Call::OfOneType(OneTypeCall::SqrtR) => square_root_of_pair(request, Some(request.round)),
+        Call::OfOneType(OneTypeCall::CmpAbsNormal) => order_of_pair_magnitudes(request.operands),
+        _ => of_type::<DoubleDouble>(request, text),
     }
 }
 
 /// The square root of a pair, in the mode if there is one.
-fn square_root_of_pair(row: CallRow<'_>, mode: Option<Round>) -> Answered<'_> {
-    let x = value_of::<DoubleDouble>(row.operands)?;
+fn square_root_of_pair(request: Request, mode: Option<Round>) -> Answered {
+    let Some(x) = value_of::<DoubleDouble>(request.operands.first) else {
+        return Err(value_fault::<DoubleDouble>());
+    };
     let answer = match mode {
         None => x.sqrt(),
         Some(round) => x.sqrt_r(round),
     };
-    Ok(RowAnswer::of(Returned::Rounded(answer), row))
+    Ok(RowAnswer::of(Returned::Rounded(answer), request.stated))
 }
 
 /// The order of the magnitudes of two pairs.
-fn order_of_pair_magnitudes(row: CallRow<'_>) -> Answered<'_> {
-    let (x, y) = two_values(row)?;
+fn order_of_pair_magnitudes(operands: Operands) -> Answered {
+    let Some((x, y)) = two_values::<DoubleDouble>(operands) else {
+        return Err(value_fault::<DoubleDouble>());
+    };
     if !can_compare_magnitudes(x, y) {
-        return Err(row.support_error());
+        return Err(CallFault::Support);
     }
     Ok(RowAnswer::told(ValueField::Order(Some(x.cmp_abs_normal(y)))))
 }

@@ -2,62 +2,91 @@
 
 ghost use Rattle.std.specs.Prelude.{◌≤◌};
 
-use crate::call_row::CallRow;
 use crate::calls::answer::{ExtraField, Returned, RowAnswer, Text, ValueField, shown};
 use crate::calls::call::{
-    AssigningOperator, Call, Constant, IntegerCall, OneValueCall, Property, TwoValuesCall, WordCall,
+    AssigningOperator, Call, Constant, IntegerCall, OneValueCall, Property, TextCall,
+    TwoValuesCall, WordCall,
 };
-use crate::calls::{RowRequest, quanta};
-use crate::failure::RowError;
-use commands::{bits_of, number_of};
+use crate::calls::fault::CallFault;
+use crate::calls::operands::{Operand, Operands};
+use crate::calls::quanta::Quanta;
+use crate::given::mask;
 use rustc_apfloat::{ExpInt, Float, Round, StatusAnd};
 use std::fmt::Debug;
 
 /// What the call of a row returns, or what is wrong with the row.
-pub type Answered<'a> = Result<RowAnswer, RowError<'a>>;
+pub type Answered = Result<RowAnswer, CallFault>;
 
-/// What a call returns.
-pub fn of_type<F: Float + Debug>(request: RowRequest<'_>) -> Answered<'_> {
-    let RowRequest { row, call, round } = request;
-    match call {
-        Call::Constant(constant) => constant_of::<F>(constant, row),
-        Call::OfOneValue(call) => of_one_value::<F>(call, row, round),
-        Call::HasProperty(property) => has_property::<F>(property, row),
-        Call::OfTwoValues(call) => of_two_values::<F>(call, row, round),
-        Call::Assigning(operator) => assigned::<F>(operator, row),
-        Call::OfValueAndInteger(call) => of_value_and_integer::<F>(call, row, round),
-        Call::OfWord(call) => of_word::<F>(call, row, round),
-        Call::OfOneType(_) | Call::Conversion(_) => Err(row.support_error()),
-    }
+/// A call that a row asks for, in one mode.
+#[derive(Clone, Copy)]
+pub struct Request {
+    /// The call.
+    pub call: Call,
+    /// The mode, which matters only if the call takes one.
+    pub round: Round,
+    /// The operands that are not texts.
+    pub operands: Operands,
+    /// The value that the row states, if it is one of a format without bits.
+    pub stated: Option<Quanta>,
 }
 
-/// The value that an operand stands for: its bits, or a count of quanta in a format without bits.
-pub fn value_of<F: Float>(word: &str) -> Result<F, RowError<'_>> {
-    let value = if F::PRECISION >= F::BITS {
-        quanta::value_of(word)
-    } else {
-        match bits_of(word, F::BITS) {
-            Some(bits) => Some(F::from_bits(bits)),
-            None => None,
+impl Request {
+    /// A call of operands, in a mode.
+    pub fn new(call: Call, round: Round, operands: Operands) -> Request {
+        Request {
+            call,
+            round,
+            operands,
+            stated: None,
         }
-    };
-    match value {
-        Some(value) => Ok(value),
-        None => Err(RowError::Word("no operands of the call", word)),
     }
 }
 
-/// The values of two operands.
-pub fn two_values<F: Float>(row: CallRow<'_>) -> Result<(F, F), RowError<'_>> {
-    let (first, second) = row.cut_operand()?;
-    Ok((value_of(first)?, value_of(second)?))
+/// What a call returns. The text is its operand, if that is one.
+pub fn of_type<F: Float + Debug>(request: Request, text: &str) -> Answered {
+    match request.call {
+        Call::Constant(constant) => Ok(constant_of::<F>(constant, request.stated)),
+        Call::OfOneValue(call) => of_one_value::<F>(call, request),
+        Call::HasProperty(property) => has_property::<F>(property, request.operands.first),
+        Call::OfTwoValues(call) => of_two_values::<F>(call, request),
+        Call::Assigning(operator) => assigned::<F>(operator, request),
+        Call::OfValueAndInteger(call) => of_value_and_integer::<F>(call, request),
+        Call::OfWord(call) => of_word::<F>(call, request),
+        Call::OfText(call) => Ok(of_text::<F>(call, text, request.round, request.stated)),
+        Call::OfOneType(_) | Call::OfDecimal(_) | Call::Conversion(_) => Err(CallFault::Support),
+    }
+}
+
+/// The value of an operand: its bits, or a count of quanta in a format without bits.
+pub fn value_of<F: Float>(operand: Operand) -> Option<F> {
+    match operand {
+        Operand::Bits(bits) if bits <= mask(F::BITS) && F::PRECISION < F::BITS => {
+            Some(F::from_bits(bits))
+        }
+        Operand::Quanta(quanta) if F::PRECISION >= F::BITS => quanta.value(),
+        _ => None,
+    }
+}
+
+/// The fault of an operand that is no value of the type.
+pub fn value_fault<F: Float>() -> CallFault {
+    if F::PRECISION < F::BITS {
+        CallFault::OperandBits(F::BITS)
+    } else {
+        CallFault::OperandQuanta
+    }
+}
+
+/// The values of the first two operands.
+pub fn two_values<F: Float>(operands: Operands) -> Option<(F, F)> {
+    match (value_of(operands.first), value_of(operands.second)) {
+        (Some(x), Some(y)) => Some((x, y)),
+        _ => None,
+    }
 }
 
 /// A constant of the type.
-fn constant_of<F: Float + Debug>(constant: Constant, row: CallRow<'_>) -> Answered<'_> {
-    if row.operands != "-" {
-        return Err(row.operand_error());
-    }
+fn constant_of<F: Float + Debug>(constant: Constant, stated: Option<Quanta>) -> RowAnswer {
     let returned = match constant {
         Constant::Bits => Returned::Field(ValueField::Unsigned(F::BITS as u128)),
         Constant::Precision => Returned::Field(ValueField::Unsigned(F::PRECISION as u128)),
@@ -72,16 +101,22 @@ fn constant_of<F: Float + Debug>(constant: Constant, row: CallRow<'_>) -> Answer
         Constant::Smallest => Returned::Value(F::smallest()),
         Constant::SmallestNormalized => Returned::Value(F::smallest_normalized()),
     };
-    Ok(RowAnswer::of(returned, row))
+    RowAnswer::of(returned, stated)
 }
 
 /// What a call of one value returns.
-fn of_one_value<F: Float + Debug>(
-    call: OneValueCall,
-    row: CallRow<'_>,
-    round: Round,
-) -> Answered<'_> {
-    let x = value_of::<F>(row.operands)?;
+fn of_one_value<F: Float + Debug>(call: OneValueCall, request: Request) -> Answered {
+    let Some(x) = value_of::<F>(request.operands.first) else {
+        return Err(value_fault::<F>());
+    };
+    match returned_of(call, x, request.round) {
+        Some(returned) => Ok(RowAnswer::of(returned, request.stated)),
+        None => Err(CallFault::Support),
+    }
+}
+
+/// What a call of one value returns, if the type has it.
+fn returned_of<F: Float + Debug>(call: OneValueCall, x: F, round: Round) -> Option<Returned<F>> {
     let mut exponent = 0;
     let returned = match call {
         OneValueCall::RoundToIntegral => Returned::Rounded(x.round_to_integral(round)),
@@ -94,17 +129,19 @@ fn of_one_value<F: Float + Debug>(
         OneValueCall::Frexp => Returned::Fraction(x.frexp(&mut exponent), exponent),
         OneValueCall::FrexpR => Returned::Fraction(x.frexp_r(&mut exponent, round), exponent),
         OneValueCall::Ilogb => Returned::Field(ValueField::Signed(i128::from(x.ilogb()))),
-        OneValueCall::ToBits if F::PRECISION >= F::BITS => return Err(row.support_error()),
+        OneValueCall::ToBits if F::PRECISION >= F::BITS => return None,
         OneValueCall::ToBits => Returned::Field(ValueField::Bits(x.to_bits(), F::BITS)),
         OneValueCall::Category => Returned::Field(ValueField::Text(shown(x.category()))),
         OneValueCall::Debug => Returned::Field(ValueField::Text(shown(x))),
     };
-    Ok(RowAnswer::of(returned, row))
+    Some(returned)
 }
 
 /// Whether a value has the property.
-fn has_property<F: Float>(property: Property, row: CallRow<'_>) -> Answered<'_> {
-    let x = value_of::<F>(row.operands)?;
+fn has_property<F: Float>(property: Property, operand: Operand) -> Answered {
+    let Some(x) = value_of::<F>(operand) else {
+        return Err(value_fault::<F>());
+    };
     let holds = match property {
         Property::Normal => x.is_normal(),
         Property::Denormal => x.is_denormal(),
@@ -129,27 +166,32 @@ fn has_property<F: Float>(property: Property, row: CallRow<'_>) -> Answered<'_> 
 }
 
 /// What a call of two values returns.
-fn of_two_values<F: Float + Debug>(
-    call: TwoValuesCall,
-    row: CallRow<'_>,
-    round: Round,
-) -> Answered<'_> {
-    let (x, y) = two_values::<F>(row)?;
-    let returned = match call {
-        TwoValuesCall::CopySign => Returned::Value(x.copy_sign(y)),
-        TwoValuesCall::Min => Returned::Value(x.min(y)),
-        TwoValuesCall::Max => Returned::Value(x.max(y)),
-        TwoValuesCall::Minimum => Returned::Value(x.minimum(y)),
-        TwoValuesCall::Maximum => Returned::Value(x.maximum(y)),
-        TwoValuesCall::Eq => Returned::Field(ValueField::Truth(x == y)),
-        TwoValuesCall::BitwiseEq => Returned::Field(ValueField::Truth(x.bitwise_eq(y))),
-        TwoValuesCall::PartialCmp => Returned::Field(ValueField::Order(x.partial_cmp(&y))),
-        _ => match computed(call, x, y, round) {
-            Some(answer) => Returned::Rounded(answer),
-            None => return Err(row.support_error()),
-        },
+fn of_two_values<F: Float + Debug>(call: TwoValuesCall, request: Request) -> Answered {
+    let Some((x, y)) = two_values::<F>(request.operands) else {
+        return Err(value_fault::<F>());
     };
-    Ok(RowAnswer::of(returned, row))
+    match returned_of_two(call, x, y, request.round) {
+        Some(returned) => Ok(RowAnswer::of(returned, request.stated)),
+        None => Err(CallFault::Support),
+    }
+}
+
+/// What a call of two values returns, if the type has it.
+fn returned_of_two<F: Float>(call: TwoValuesCall, x: F, y: F, round: Round) -> Option<Returned<F>> {
+    match call {
+        TwoValuesCall::CopySign => Some(Returned::Value(x.copy_sign(y))),
+        TwoValuesCall::Min => Some(Returned::Value(x.min(y))),
+        TwoValuesCall::Max => Some(Returned::Value(x.max(y))),
+        TwoValuesCall::Minimum => Some(Returned::Value(x.minimum(y))),
+        TwoValuesCall::Maximum => Some(Returned::Value(x.maximum(y))),
+        TwoValuesCall::Eq => Some(Returned::Field(ValueField::Truth(x == y))),
+        TwoValuesCall::BitwiseEq => Some(Returned::Field(ValueField::Truth(x.bitwise_eq(y)))),
+        TwoValuesCall::PartialCmp => { Some(Returned::Field(ValueField::Order(x.partial_cmp(&y)))) }
+        _ => match computed(call, x, y, round) {
+            Some(answer) => Some(Returned::Rounded(answer)),
+            None => None,
+        },
+    }
 }
 
 /// What a call that rounds computes of two values, if the type has it.
@@ -172,52 +214,49 @@ fn computed<F: Float>(call: TwoValuesCall, x: F, y: F, round: Round) -> Option<S
 }
 
 /// The left operand after an assigning operator.
-fn assigned<F: Float + Debug>(operator: AssigningOperator, row: CallRow<'_>) -> Answered<'_> {
-    let (x, y) = two_values::<F>(row)?;
+fn assigned<F: Float + Debug>(operator: AssigningOperator, request: Request) -> Answered {
+    let Some((x, y)) = two_values::<F>(request.operands) else {
+        return Err(value_fault::<F>());
+    };
     let mut value = x;
     match operator {
         AssigningOperator::Add => value += y,
         AssigningOperator::Sub => value -= y,
-        AssigningOperator::Mul if !F::MULTIPLIES => return Err(row.support_error()),
+        AssigningOperator::Mul if !F::MULTIPLIES => return Err(CallFault::Support),
         AssigningOperator::Mul => value *= y,
         AssigningOperator::Div => value /= y,
         AssigningOperator::Rem => value %= y,
     }
-    Ok(RowAnswer::of(Returned::Value(value), row))
+    Ok(RowAnswer::of(Returned::Value(value), request.stated))
 }
 
 /// What a call of a value and an integer returns.
-fn of_value_and_integer<F: Float + Debug>(
-    call: IntegerCall,
-    row: CallRow<'_>,
-    round: Round,
-) -> Answered<'_> {
-    let (word, integer) = row.cut_operand()?;
-    let x = value_of::<F>(word)?;
+fn of_value_and_integer<F: Float + Debug>(call: IntegerCall, request: Request) -> Answered {
+    let Operand::Integer(integer) = request.operands.second else {
+        return Err(CallFault::Operands);
+    };
+    let Some(x) = value_of::<F>(request.operands.first) else {
+        return Err(value_fault::<F>());
+    };
     let returned = match call {
-        IntegerCall::Scalbn | IntegerCall::ScalbnR => scaled(call, x, integer, round),
-        _ => to_integer(call, x, integer, round),
+        IntegerCall::Scalbn => Some(Returned::Value(x.scalbn(integer))),
+        IntegerCall::ScalbnR => Some(Returned::Value(x.scalbn_r(integer, request.round))),
+        _ => to_integer(call, x, integer, request.round),
     };
     match returned {
-        Some(returned) => Ok(RowAnswer::of(returned, row)),
-        None => Err(row.operand_error()),
+        Some(returned) => Ok(RowAnswer::of(returned, request.stated)),
+        None => Err(CallFault::Operands),
     }
 }
 
-/// A value times a power of two, if the word is its exponent.
-fn scaled<F: Float>(call: IntegerCall, x: F, exponent: &str, round: Round) -> Option<Returned<F>> {
-    let Ok(exponent) = exponent.parse::<ExpInt>() else {
-        return None;
-    };
-    match call {
-        IntegerCall::Scalbn => Some(Returned::Value(x.scalbn(exponent))),
-        _ => Some(Returned::Value(x.scalbn_r(exponent, round))),
-    }
-}
-
-/// A value as an integer, if the word is a width.
-fn to_integer<F: Float>(call: IntegerCall, x: F, width: &str, round: Round) -> Option<Returned<F>> {
-    let Ok(width) = width.parse::<usize>() else {
+/// A value as an integer, if the width is one.
+fn to_integer<F: Float>(
+    call: IntegerCall,
+    x: F,
+    width: ExpInt,
+    round: Round,
+) -> Option<Returned<F>> {
+    let Ok(width) = usize::try_from(width) else {
         return None;
     };
     if width < 1 || width > 128 {
@@ -262,50 +301,51 @@ fn to_signed<F: Float>(call: IntegerCall, x: F, width: usize, round: Round) -> R
     Returned::Integer(answer.status.and(ValueField::Signed(answer.value)), extra)
 }
 
-/// What a call of an integer, a payload or a text returns.
-fn of_word<F: Float + Debug>(call: WordCall, row: CallRow<'_>, round: Round) -> Answered<'_> {
-    let word = row.operands;
-    let returned = match call {
-        WordCall::FromStr => match word.parse::<F>() {
-            Ok(value) => Some(Returned::Value(value)),
-            Err(error) => Some(Returned::Refused(Text::of(error.0))),
-        },
-        WordCall::FromStrR => match F::from_str_r(word, round) {
-            Ok(answer) => Some(Returned::Rounded(answer)),
-            Err(error) => Some(Returned::Refused(Text::of(error.0))),
-        },
-        WordCall::Qnan | WordCall::Snan => nan_of(call, word),
-        _ => from_integer(call, word, round),
-    };
-    match returned {
-        Some(returned) => Ok(RowAnswer::of(returned, row)),
-        None => Err(row.operand_error()),
+/// What a call of an integer or a payload returns.
+fn of_word<F: Float + Debug>(call: WordCall, request: Request) -> Answered {
+    match from_word::<F>(call, request.operands.first, request.round) {
+        Some(returned) => Ok(RowAnswer::of(returned, request.stated)),
+        None => Err(CallFault::Operands),
     }
 }
 
-/// The value of an integer, if the word is one.
-fn from_integer<F: Float>(call: WordCall, word: &str, round: Round) -> Option<Returned<F>> {
-    match (call, number_of(word), word.parse::<i128>()) {
-        (WordCall::FromU128, Some(number), _) => Some(Returned::Rounded(F::from_u128(number))),
-        (WordCall::FromU128R, Some(number), _) => {
+/// The value of an integer, or a NaN with a payload or with none.
+fn from_word<F: Float>(call: WordCall, operand: Operand, round: Round) -> Option<Returned<F>> {
+    match (call, operand) {
+        (WordCall::FromU128, Operand::Unsigned(number)) => {
+            Some(Returned::Rounded(F::from_u128(number)))
+        }
+        (WordCall::FromU128R, Operand::Unsigned(number)) => {
             Some(Returned::Rounded(F::from_u128_r(number, round)))
         }
-        (WordCall::FromI128, _, Ok(number)) => Some(Returned::Rounded(F::from_i128(number))),
-        (WordCall::FromI128R, _, Ok(number)) => {
+        (WordCall::FromI128, Operand::Signed(number)) => {
+            Some(Returned::Rounded(F::from_i128(number)))
+        }
+        (WordCall::FromI128R, Operand::Signed(number)) => {
             Some(Returned::Rounded(F::from_i128_r(number, round)))
         }
+        (WordCall::Qnan, Operand::Payload(payload)) => Some(Returned::Value(F::qnan(payload))),
+        (WordCall::Snan, Operand::Payload(payload)) => Some(Returned::Value(F::snan(payload))),
         _ => None,
     }
 }
 
-/// A NaN with a payload, or with none, if the word is one.
-fn nan_of<F: Float>(call: WordCall, word: &str) -> Option<Returned<F>> {
-    let payload = bits_of(word, 128);
-    if payload.is_none() && word != "None" {
-        return None;
-    }
-    match call {
-        WordCall::Qnan => Some(Returned::Value(F::qnan(payload))),
-        _ => Some(Returned::Value(F::snan(payload))),
-    }
+/// What a call of a text returns.
+fn of_text<F: Float + Debug>(
+    call: TextCall,
+    text: &str,
+    round: Round,
+    stated: Option<Quanta>,
+) -> RowAnswer {
+    let returned = match call {
+        TextCall::FromStr => match text.parse::<F>() {
+            Ok(value) => Returned::Value(value),
+            Err(error) => Returned::Refused(Text::of(error.0)),
+        },
+        TextCall::FromStrR => match F::from_str_r(text, round) {
+            Ok(answer) => Returned::Rounded(answer),
+            Err(error) => Returned::Refused(Text::of(error.0)),
+        },
+    };
+    RowAnswer::of(returned, stated)
 }

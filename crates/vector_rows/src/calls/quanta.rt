@@ -13,6 +13,13 @@ use commands::{bits_of, number_of};
 use rustc_apfloat::{Category, ExpInt, Flags, Float};
 use std::fmt::Write;
 
+/// What a word stands for.
+#[derive(Clone, Copy)]
+pub struct Quanta {
+    is_negative: bool,
+    magnitude: Magnitude,
+}
+
 /// A magnitude.
 #[derive(Clone, Copy)]
 pub enum Magnitude {
@@ -25,43 +32,40 @@ pub enum Magnitude {
     Count(u128, ExpInt),
 }
 
-/// The value that a word stands for.
-pub fn value_of<F: Float>(word: &str) -> Option<F> {
-    let Some((is_negative, magnitude)) = parts_of(word) else {
-        return None;
-    };
-    let Some(x) = magnitude.value::<F>() else {
-        return None;
-    };
-    let x = if is_negative { -x } else { x };
-    if is_quanta_of(x, word) { Some(x) } else { None }
-}
-
-/// Whether a word stands for this value.
-pub fn is_quanta_of<F: Float>(x: F, word: &str) -> bool {
-    match parts_of(word) {
-        Some((is_negative, magnitude)) => {
-            x.is_negative() == is_negative && magnitude.is_of(x.abs())
+impl Quanta {
+    /// What a word stands for, if it has the form of a value.
+    pub fn named(word: &str) -> Option<Quanta> {
+        if let Some(magnitude) = word.strip_prefix('-') {
+            return signed(true, Magnitude::named(magnitude));
         }
-        None => false,
+        match word.strip_prefix('+') {
+            Some(magnitude) => signed(false, Magnitude::named(magnitude)),
+            None => None,
+        }
     }
-}
 
-/// The sign and the magnitude of a word, if it has the form of a value.
-pub fn parts_of(word: &str) -> Option<(bool, Magnitude)> {
-    if let Some(magnitude) = word.strip_prefix('-') {
-        return signed(true, Magnitude::named(magnitude));
+    /// The value that this stands for, if there is one.
+    pub fn value<F: Float>(self) -> Option<F> {
+        let Some(x) = self.magnitude.value::<F>() else {
+            return None;
+        };
+        let x = if self.is_negative { -x } else { x };
+        if self.is_of(x) { Some(x) } else { None }
     }
-    match word.strip_prefix('+') {
-        Some(magnitude) => signed(false, Magnitude::named(magnitude)),
-        None => None,
+
+    /// Whether this stands for the value.
+    pub fn is_of<F: Float>(self, x: F) -> bool {
+        x.is_negative() == self.is_negative && self.magnitude.is_of(x.abs())
     }
 }
 
 /// A sign with a magnitude, if there is one.
-fn signed(is_negative: bool, magnitude: Option<Magnitude>) -> Option<(bool, Magnitude)> {
+fn signed(is_negative: bool, magnitude: Option<Magnitude>) -> Option<Quanta> {
     match magnitude {
-        Some(magnitude) => Some((is_negative, magnitude)),
+        Some(magnitude) => Some(Quanta {
+            is_negative,
+            magnitude,
+        }),
         None => None,
     }
 }

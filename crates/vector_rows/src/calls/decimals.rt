@@ -1,0 +1,111 @@
+//! The calls of decimals, in the built-in formats.
+//!
+//! The value of a row is that of `read_decimal`, or the text of a decimal as `Display` writes it.
+
+ghost use Rattle.rustc_apfloat.specs.Types.{format_of};
+ghost use Rattle.apfloat_decimals.specs.ShortestSearch.{IsWithinQuad};
+ghost use Rattle.vector_rows.specs.Formats.{HasShortest};
+
+use crate::calls::answer::{ExtraField, Returned, RowAnswer, Text, ValueField};
+use crate::calls::call::DecimalCall;
+use crate::calls::fault::CallFault;
+use crate::calls::of_type::{Answered, Request, value_fault, value_of};
+use crate::calls::operands::Operand;
+use crate::calls::row_format::RowFormat;
+use apfloat_decimals::{Decimal, exact, read_decimal, rounded, shortest};
+use dispatch::{FlaggedFormat, InFormat};
+use rustc_apfloat::Round;
+use rustc_apfloat::ieee::{IeeeFloat, Semantics};
+use std::fmt::Write as _;
+
+/// What a call of decimals returns in a format, if that is a built-in one with its own flags.
+pub fn in_decimals(format: RowFormat, call: DecimalCall, request: Request, text: &str) -> Answered {
+    match format {
+        RowFormat::BuiltIn(format, FlaggedFormat::BuiltIn(_)) => {
+            format.run(InDecimals {
+                call,
+                request,
+                text,
+            })
+        }
+        _ => Err(CallFault::Support),
+    }
+}
+
+/// A call of decimals in a format.
+#[derive(Drop)]
+struct InDecimals<'a> {
+    call: DecimalCall,
+    request: Request,
+    text: &'a str,
+}
+
+impl InFormat for InDecimals<'_> {
+    type Output = Answered;
+
+    ghost can = { λ _ kind. HasShortest kind };
+
+    fn in_format<S: Semantics>(self) -> Answered {
+        match self.call {
+            DecimalCall::Read => Ok(read::<S>(self.text, self.request.round)),
+            _ => written::<S>(self.call, self.request),
+        }
+    }
+}
+
+/// The value of a decimal text.
+fn read<S: Semantics>(text: &str, round: Round) -> RowAnswer
+    requires { IsWithinQuad (format_of S.Semantics) }
+{
+    match read_decimal::<S>(text, round) {
+        Ok(answer) => RowAnswer::of(Returned::Rounded(answer), None),
+        Err(error) => RowAnswer::refused(Text::of(error.0)),
+    }
+}
+
+/// A value as a decimal.
+fn written<S: Semantics>(call: DecimalCall, request: Request) -> Answered
+    requires { IsWithinQuad (format_of S.Semantics) }
+{
+    let Some(x) = value_of::<IeeeFloat<S>>(request.operands.first) else {
+        return Err(value_fault::<IeeeFloat<S>>());
+    };
+    match call {
+        DecimalCall::Shortest => Ok(columns(shortest(x))),
+        DecimalCall::Rounded => rounded_columns(x, request.operands.second, request.round),
+        _ => Ok(columns(exact(x))),
+    }
+}
+
+/// The columns for a value rounded to a count of digits.
+fn rounded_columns<S: Semantics>(x: IeeeFloat<S>, count: Operand, round: Round) -> Answered
+    requires { IsWithinQuad (format_of S.Semantics) }
+{
+    let Operand::Integer(count) = count else {
+        return Err(CallFault::Operands);
+    };
+    let Ok(count) = u32::try_from(count) else {
+        return Err(CallFault::Operands);
+    };
+    if count < 1 || count > 36 {
+        return Err(CallFault::Operands);
+    }
+    match rounded(x, count, round) {
+        Some((decimal, is_exact)) => {
+            Ok(columns(Some(decimal)).with(ExtraField::IsExact(is_exact)))
+        }
+        None => Ok(columns(None)),
+    }
+}
+
+/// The columns for a decimal, if there is one.
+fn columns(decimal: Option<Decimal>) -> RowAnswer {
+    let mut text = Text::of("");
+    match decimal {
+        Some(decimal) => {
+            let _ = write!(text, "{decimal}");
+        }
+        None => text = Text::of("None"),
+    }
+    RowAnswer::told(ValueField::Text(text))
+}
