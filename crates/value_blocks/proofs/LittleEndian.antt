@@ -1,5 +1,6 @@
 -- Numbers read and written as bytes, one after another.
 use Rattle.std.proofs.Common.{◌≡◌, ℕ, zero, suc, ◌+◌, ◌-◌, ◌*◌, ◌/◌, ◌%◌, ◌^◌, ◌<◌, ◌≤◌, List, [], ◌∷◌, ◌++◌, length, get_or, set, take, drop, refl, sym, ◌∙◌, ap, arith, lit<, pow-add, add-one}
+use Rattle.std.specs.Int.{w64, from_le_bytes}
 use Rattle.std.proofs.Math.Nat.{pow-le-pow_right, pow-suc, mul_assoc, mul_comm, mul-add, mul-suc}
 use Rattle.std.proofs.Math.ListN.{drop_of_length-le}
 use Rattle.std.proofs.lemmas.List.{drop_more, take_more_set, take_all, length-take-le}
@@ -149,3 +150,23 @@ fits number bits places small room =
     let wider : 2 ^ bits ≤ 2 ^ (8 * places) = pow-le-pow_right base room in
     let same = bytes_of_bits places in
     omega arith
+
+-- ---- numbers of one byte and of eight
+
+pub one_written : (bytes : List ℕ) (number : ℕ) → length bytes ≡ 1 → number < 256 ^ length bytes
+    → number_of (set bytes 0 number) ≡ number
+one_written [] number all small = absurd (omega arith)
+one_written (a ∷ b ∷ bytes) number all small = absurd (omega arith)
+one_written (a ∷ []) number all small = omega arith
+
+pub eight_bytes : (bytes : List ℕ) → length bytes ≡ 8 → from_le_bytes w64 bytes ≡ number_of bytes
+eight_bytes [] all = absurd (omega arith)
+eight_bytes (a ∷ []) all = absurd (omega arith)
+eight_bytes (a ∷ b ∷ []) all = absurd (omega arith)
+eight_bytes (a ∷ b ∷ c ∷ []) all = absurd (omega arith)
+eight_bytes (a ∷ b ∷ c ∷ d ∷ []) all = absurd (omega arith)
+eight_bytes (a ∷ b ∷ c ∷ d ∷ e ∷ []) all = absurd (omega arith)
+eight_bytes (a ∷ b ∷ c ∷ d ∷ e ∷ f ∷ []) all = absurd (omega arith)
+eight_bytes (a ∷ b ∷ c ∷ d ∷ e ∷ f ∷ g ∷ []) all = absurd (omega arith)
+eight_bytes (a ∷ b ∷ c ∷ d ∷ e ∷ f ∷ g ∷ h ∷ more ∷ bytes) all = absurd (omega arith)
+eight_bytes (a ∷ b ∷ c ∷ d ∷ e ∷ f ∷ g ∷ h ∷ []) all = omega arith

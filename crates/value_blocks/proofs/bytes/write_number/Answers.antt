@@ -1,16 +1,5 @@
-use Rattle.std.proofs.Common.{arith}
-use Rattle.value_blocks.proofs.LittleEndian.{write_none, write_more, write_to_end}
+use Rattle.value_blocks.proofs.LittleEndian.{one_written}
 use Rattle.value_blocks.proofs.bytes.write_number.Goals as goal
 
-pub loop-place-init : goal.loop-place-init
-loop-place-init c = write_none c.args.number c.args.bytes.now
-
-pub loop-place-preserved : goal.loop-place-preserved
-loop-place-preserved c =
-    write_more c.args.number c.loop-place.rest c.loop-place.place c.loop-place.bytes (omega arith)
-    c.loop-place.invariant
-
-pub returns : goal.returns
-returns c =
-    write_to_end c.args.number c.loop-place.rest c.loop-place.place c.loop-place.bytes (omega arith)
-    (rw c.loop-place.auto.bytes c.requires) c.loop-place.invariant
+pub returns-in-1 : goal.returns-in-1
+returns-in-1 c = one_written c.args.bytes.now c.args.number c.in-1.is c.requires
