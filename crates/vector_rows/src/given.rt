@@ -15,7 +15,7 @@ pub struct Columns {
 
 /// What a call returns, if there is such a call with a status.
 pub fn given(call: &str, format: &str, mode: &str, operands: &str) -> Option<Columns> {
-    let Ok(asked) = Asked::of(call, format, mode, operands) else {
+    let Ok(asked) = Asked::of(call, format, mode, operands, "-") else {
         return None;
     };
     let Ok(answer) = asked.answer() else {

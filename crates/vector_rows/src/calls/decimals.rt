@@ -9,7 +9,7 @@ ghost use Rattle.vector_rows.specs.Formats.{HasShortest};
 use crate::calls::answer::{ExtraField, Returned, RowAnswer, Text, ValueField};
 use crate::calls::call::DecimalCall;
 use crate::calls::fault::CallFault;
-use crate::calls::of_type::{Answered, Request, value_fault, value_of};
+use crate::calls::of_type::{Answered, Request, value_of};
 use crate::calls::operands::Operand;
 use crate::calls::row_format::RowFormat;
 use apfloat_decimals::{Decimal, exact, read_decimal, rounded, shortest};
@@ -68,7 +68,7 @@ fn written<S: Semantics>(call: DecimalCall, request: Request) -> Answered
     requires { IsWithinQuad (format_of S.Semantics) }
 {
     let Some(x) = value_of::<IeeeFloat<S>>(request.operands.first) else {
-        return Err(value_fault::<IeeeFloat<S>>());
+        return Err(CallFault::Operand);
     };
     match call {
         DecimalCall::Shortest => Ok(columns(shortest(x))),

@@ -2,6 +2,7 @@
 
 use crate::call_row::CallRow;
 use crate::calls::call::Call;
+use crate::calls::formats::Formats;
 use crate::calls::operands::{Form, Operand};
 use crate::failure::RowError;
 use crate::given::mask;
@@ -18,10 +19,8 @@ pub enum CallFault {
     Format,
     /// The operands do not have the form that the call takes.
     Operands,
-    /// An operand is no value of a format with so many bits.
-    OperandBits(usize),
-    /// An operand is no value of a format without bits.
-    OperandQuanta,
+    /// An operand is no value of the format.
+    Operand,
     /// The formats do not have the call.
     Support,
     /// The flags cannot be those of the call, which are of this form.
@@ -64,15 +63,21 @@ impl<'a> CallRow<'a> {
             CallFault::Value(form) => RowError::Word("no value of the call", self.value, form),
             CallFault::ValueBits(width) => bits_error("no value of the call", self.value, width),
             CallFault::Operands => operand_error(self.operands, form_of(self.call)),
-            CallFault::OperandBits(width) => {
-                operand_bits_error(self.operands, form_of(self.call), width)
+            CallFault::Operand => {
+                value_error(self.operands, form_of(self.call), width_of(self.format))
             }
-            CallFault::OperandQuanta => RowError::Word(
-                "no operands of the call",
-                self.operands,
-                "values of the format, in quanta as `+3q`",
-            ),
         }
+    }
+}
+
+/// What values of a format without bits are, for messages.
+const QUANTA: &str = "values of the format, in quanta as `+3q`";
+
+/// How many bits an operand in these formats has, if it has bits.
+fn width_of(formats: &str) -> Option<usize> {
+    match Formats::named(formats) {
+        Some(formats) => formats.width(),
+        None => None,
     }
 }
 
@@ -113,8 +118,11 @@ fn operand_error(operands: &str, form: Form) -> RowError<'_> {
     RowError::Word("no operands of the call", operands, form.description())
 }
 
-/// The error of operands of which one is not of so many bits, by that one.
-fn operand_bits_error(operands: &str, form: Form, width: usize) -> RowError<'_> {
+/// The error of operands of which one is no value of a format with so many bits, by that one, or of one without bits.
+fn value_error(operands: &str, form: Form, width: Option<usize>) -> RowError<'_> {
+    let Some(width) = width else {
+        return RowError::Word("no operands of the call", operands, QUANTA);
+    };
     let mut left = form.value_count();
     for word in operands.split(' ') {
         if left == 0 {

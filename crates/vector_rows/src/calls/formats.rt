@@ -7,7 +7,7 @@ use crate::calls::answer::{ExtraField, Returned, RowAnswer, ValueField};
 use crate::calls::call::{Call, ConversionCall, OneTypeCall};
 use crate::calls::decimals::in_decimals;
 use crate::calls::fault::CallFault;
-use crate::calls::of_type::{Answered, Request, of_type, two_values, value_fault, value_of};
+use crate::calls::of_type::{Answered, Request, of_type, two_values, value_of};
 use crate::calls::operands::{Operand, Operands};
 use crate::calls::quanta::Quanta;
 use crate::calls::row_format::{CallInFormat, RowFormat};
@@ -46,6 +46,15 @@ impl Formats {
             Some(("dd", "fallback")) => Some(Formats::FromPairs),
             Some(("fallback", "dd")) => Some(Formats::ToPairs),
             Some((source, target)) => Formats::between(source, target),
+        }
+    }
+
+    /// How many bits an operand has, if it has bits.
+    pub fn width(self) -> Option<usize> {
+        match self {
+            Formats::Pairs | Formats::FromPairs => Some(128),
+            Formats::One(format) | Formats::Between(format, _) => format.width(),
+            Formats::ToPairs => None,
         }
     }
 
@@ -199,11 +208,6 @@ fn value_in<S: Flagged>(operand: Operand) -> Option<IeeeFloat<S>> {
     value_of(operand)
 }
 
-/// The fault of an operand that is no value of the format.
-fn fault_in<S: Flagged>() -> CallFault {
-    value_fault::<IeeeFloat<S>>()
-}
-
 /// The columns for a value and its flags.
 fn rounded_in<S: Flagged>(answer: StatusAnd<IeeeFloat<S>>, stated: Option<Quanta>) -> RowAnswer {
     RowAnswer::of(Returned::Rounded(answer), stated)
@@ -223,7 +227,7 @@ type RoundedIn<S> = Result<StatusAnd<IeeeFloat<S>>, CallFault>;
 /// A square root, in the mode if there is one.
 fn square_root<S: Flagged>(operands: Operands, mode: Option<Round>) -> RoundedIn<S> {
     match (value_in::<S>(operands.first), mode) {
-        (None, _) => Err(fault_in::<S>()),
+        (None, _) => Err(CallFault::Operand),
         (Some(x), None) => Ok(x.sqrt()),
         (Some(x), Some(round)) => Ok(x.sqrt_r(round)),
     }
@@ -233,7 +237,7 @@ fn square_root<S: Flagged>(operands: Operands, mode: Option<Round>) -> RoundedIn
 fn wide_product<S: Flagged>(operands: Operands, round: Round) -> RoundedIn<S> {
     match two_in::<S>(operands) {
         Some((x, y)) => Ok(x.wide_mul_r(y, round)),
-        None => Err(fault_in::<S>()),
+        None => Err(CallFault::Operand),
     }
 }
 
@@ -241,7 +245,7 @@ fn wide_product<S: Flagged>(operands: Operands, round: Round) -> RoundedIn<S> {
 fn wide_fused_sum<S: Flagged>(operands: Operands, round: Round) -> RoundedIn<S> {
     match (two_in::<S>(operands), value_in(operands.third)) {
         (Some((x, y)), Some(z)) => Ok(x.wide_mul_add_r(y, z, round)),
-        _ => Err(fault_in::<S>()),
+        _ => Err(CallFault::Operand),
     }
 }
 
@@ -253,14 +257,14 @@ fn fused_sum<S: Flagged>(operands: Operands, mode: Option<Round>) -> RoundedIn<S
     match (two_in::<S>(operands), value_in(operands.third), mode) {
         (Some((x, y)), Some(z), None) => Ok(x.mul_add(y, z)),
         (Some((x, y)), Some(z), Some(round)) => Ok(x.mul_add_r(y, z, round)),
-        _ => Err(fault_in::<S>()),
+        _ => Err(CallFault::Operand),
     }
 }
 
 /// A remainder, with the steps that it takes and how many they are at most.
 fn remainder_steps<S: Flagged>(request: Request) -> Answered {
     let Some((x, y)) = two_in::<S>(request.operands) else {
-        return Err(fault_in::<S>());
+        return Err(CallFault::Operand);
     };
     let (answer, taken) = x.c_fmod_steps(y);
     let bound = x.ilogb().saturating_sub(y.ilogb()).saturating_add(1).max(0);
@@ -271,7 +275,7 @@ fn remainder_steps<S: Flagged>(request: Request) -> Answered {
 /// The order of two magnitudes.
 fn order_of_magnitudes<S: Flagged>(operands: Operands) -> Answered {
     let Some((x, y)) = two_in::<S>(operands) else {
-        return Err(fault_in::<S>());
+        return Err(CallFault::Operand);
     };
     match (x.category(), y.category()) {
         (Category::Normal, Category::Normal) => {
@@ -290,7 +294,7 @@ fn converted<S: Flagged, T: Flagged>(request: Request) -> Answered {
         _ => return Err(CallFault::Support),
     };
     let Some(x) = value_in::<S>(request.operands.first) else {
-        return Err(fault_in::<S>());
+        return Err(CallFault::Operand);
     };
     let mut loses_info = false;
     let answer: StatusAnd<IeeeFloat<T>> = match mode {
@@ -307,7 +311,7 @@ fn from<F: Float + Debug, T: Float + Debug + From<F>>(request: Request) -> Answe
     }
     match value_of::<F>(request.operands.first) {
         Some(x) => Ok(RowAnswer::of(Returned::Value(T::from(x)), request.stated)),
-        None => Err(value_fault::<F>()),
+        None => Err(CallFault::Operand),
     }
 }
 
@@ -324,7 +328,7 @@ fn of_pairs(request: Request, text: &str) -> Answered {
 /// The square root of a pair, in the mode if there is one.
 fn square_root_of_pair(request: Request, mode: Option<Round>) -> Answered {
     let Some(x) = value_of::<DoubleDouble>(request.operands.first) else {
-        return Err(value_fault::<DoubleDouble>());
+        return Err(CallFault::Operand);
     };
     let answer = match mode {
         None => x.sqrt(),
@@ -336,7 +340,7 @@ fn square_root_of_pair(request: Request, mode: Option<Round>) -> Answered {
 /// The order of the magnitudes of two pairs.
 fn order_of_pair_magnitudes(operands: Operands) -> Answered {
     let Some((x, y)) = two_values::<DoubleDouble>(operands) else {
-        return Err(value_fault::<DoubleDouble>());
+        return Err(CallFault::Operand);
     };
     if !can_compare_magnitudes(x, y) {
         return Err(CallFault::Support);

@@ -30,18 +30,6 @@ pub struct Request {
     pub stated: Option<Quanta>,
 }
 
-impl Request {
-    /// A call of operands, in a mode.
-    pub fn new(call: Call, round: Round, operands: Operands) -> Request {
-        Request {
-            call,
-            round,
-            operands,
-            stated: None,
-        }
-    }
-}
-
 /// What a call returns. The text is its operand, if that is one.
 pub fn of_type<F: Float + Debug>(request: Request, text: &str) -> Answered {
     match request.call {
@@ -65,15 +53,6 @@ pub fn value_of<F: Float>(operand: Operand) -> Option<F> {
         }
         Operand::Quanta(quanta) if F::PRECISION >= F::BITS => quanta.value(),
         _ => None,
-    }
-}
-
-/// The fault of an operand that is no value of the type.
-pub fn value_fault<F: Float>() -> CallFault {
-    if F::PRECISION < F::BITS {
-        CallFault::OperandBits(F::BITS)
-    } else {
-        CallFault::OperandQuanta
     }
 }
 
@@ -107,7 +86,7 @@ fn constant_of<F: Float + Debug>(constant: Constant, stated: Option<Quanta>) -> 
 /// What a call of one value returns.
 fn of_one_value<F: Float + Debug>(call: OneValueCall, request: Request) -> Answered {
     let Some(x) = value_of::<F>(request.operands.first) else {
-        return Err(value_fault::<F>());
+        return Err(CallFault::Operand);
     };
     match returned_of(call, x, request.round) {
         Some(returned) => Ok(RowAnswer::of(returned, request.stated)),
@@ -140,7 +119,7 @@ fn returned_of<F: Float + Debug>(call: OneValueCall, x: F, round: Round) -> Opti
 /// Whether a value has the property.
 fn has_property<F: Float>(property: Property, operand: Operand) -> Answered {
     let Some(x) = value_of::<F>(operand) else {
-        return Err(value_fault::<F>());
+        return Err(CallFault::Operand);
     };
     let holds = match property {
         Property::Normal => x.is_normal(),
@@ -168,7 +147,7 @@ fn has_property<F: Float>(property: Property, operand: Operand) -> Answered {
 /// What a call of two values returns.
 fn of_two_values<F: Float + Debug>(call: TwoValuesCall, request: Request) -> Answered {
     let Some((x, y)) = two_values::<F>(request.operands) else {
-        return Err(value_fault::<F>());
+        return Err(CallFault::Operand);
     };
     match returned_of_two(call, x, y, request.round) {
         Some(returned) => Ok(RowAnswer::of(returned, request.stated)),
@@ -216,7 +195,7 @@ fn computed<F: Float>(call: TwoValuesCall, x: F, y: F, round: Round) -> Option<S
 /// The left operand after an assigning operator.
 fn assigned<F: Float + Debug>(operator: AssigningOperator, request: Request) -> Answered {
     let Some((x, y)) = two_values::<F>(request.operands) else {
-        return Err(value_fault::<F>());
+        return Err(CallFault::Operand);
     };
     let mut value = x;
     match operator {
@@ -236,7 +215,7 @@ fn of_value_and_integer<F: Float + Debug>(call: IntegerCall, request: Request) -
         return Err(CallFault::Operands);
     };
     let Some(x) = value_of::<F>(request.operands.first) else {
-        return Err(value_fault::<F>());
+        return Err(CallFault::Operand);
     };
     let returned = match call {
         IntegerCall::Scalbn => Some(Returned::Value(x.scalbn(integer))),

@@ -96,6 +96,11 @@ impl RowFormat {
         }
     }
 
+    /// How many bits the format has, if it has bits.
+    pub fn width(self) -> Option<usize> {
+        self.run_plain(Width)
+    }
+
     /// Makes a call in the format with the flags of the built-in formats.
     pub fn run_plain<C: CallInFormat + Drop>(self, call: C) -> C::Output {
         match self {
@@ -109,6 +114,22 @@ impl RowFormat {
         match self {
             RowFormat::BuiltIn(_, format) => format.run(WithBits(call)),
             RowFormat::Other(format) => format.run(call),
+        }
+    }
+}
+
+/// How many bits a format has, if it has bits.
+#[derive(Drop)]
+struct Width;
+
+impl CallInFormat for Width {
+    type Output = Option<usize>;
+
+    fn made_in<S: Flagged>(self) -> Option<usize> {
+        if S::PRECISION < S::BITS {
+            Some(S::BITS)
+        } else {
+            None
         }
     }
 }
