@@ -18,12 +18,14 @@ mod large;
 mod leading_digits;
 mod narrow;
 mod parsing;
+mod powers;
 mod quick_search;
 mod quotient;
 mod reading;
 mod round_trips;
 mod rounding;
 mod search;
+mod settling;
 mod texts;
 mod writing;
 
