@@ -4,8 +4,8 @@
 //! `Quad`. Below it are large whole numbers in words on the stack (`large`): multiples, sums, differences and
 //! comparisons of numbers of up to 40960 binary digits; their quotients (`quotient`), cut to 127 or 128 digits, with
 //! what was cut off; and decimals as such quotients (`reading`). `narrow` has the quotients that 128 bits serve. Most
-//! decimals need none of these: `powers` has each power of five between bounds, and `settling` finds the digits that all
-//! numbers between such bounds have.
+//! decimals need none of these: `powers` has each power of five between bounds, and `settling` finds the digits that
+//! all numbers between such bounds have.
 //!
 //! `read_decimal` reads a text of any length (`texts`), `shortest` finds the shortest decimal that reads back as a
 //! value (`search`, `quick_search`), `rounded` gives a value to a count of digits (`rounding`), both by its first
