@@ -1,3 +1,4 @@
+pub mod Bounded
 pub mod Clamped
 pub mod CutDecimals
 pub mod CutNumbers
@@ -21,6 +22,7 @@ pub mod ReadBacks
 pub mod Readings
 pub mod RoundedDecimals
 pub mod RoundedOrder
+pub mod SettledCuts
 pub mod ShortNumbers
 pub mod ShortestFound
 pub mod ShortestSearch

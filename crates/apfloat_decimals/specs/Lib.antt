@@ -1,3 +1,4 @@
+pub mod Bounded
 pub mod CutDecimals
 pub mod Cuts
 pub mod DecimalTexts

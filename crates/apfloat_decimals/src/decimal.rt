@@ -34,7 +34,11 @@ pub fn from_decimal<S: Semantics>(decimal: Decimal, round: Round) -> StatusAnd<I
     if decimal.digits == 0 {
         return deliver::<S>(0, 0, Loss::ExactlyZero, round, decimal.negative);
     }
-    let ratio = scaled(decimal.digits, nearest(decimal.exponent));
+    let ratio = scaled(
+        decimal.digits,
+        nearest(decimal.exponent),
+        S::PRECISION as u32,
+    );
     deliver::<S>(
         ratio.significand,
         ratio.exponent,

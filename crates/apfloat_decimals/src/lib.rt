@@ -3,7 +3,9 @@
 //! `from_decimal` gives the value of a `Decimal`, rounded once, in any format whose exponents are within those of
 //! `Quad`. Below it are large whole numbers in words on the stack (`large`): multiples, sums, differences and
 //! comparisons of numbers of up to 40960 binary digits; their quotients (`quotient`), cut to 127 or 128 digits, with
-//! what was cut off; and decimals as such quotients (`reading`). `narrow` has the quotients that 128 bits serve.
+//! what was cut off; and decimals as such quotients (`reading`). `narrow` has the quotients that 128 bits serve. Most
+//! decimals need none of these: `powers` has each power of five between bounds, and `settling` finds the digits that
+//! all numbers between such bounds have.
 //!
 //! `read_decimal` reads a text of any length (`texts`), `shortest` finds the shortest decimal that reads back as a
 //! value (`search`, `quick_search`), `rounded` gives a value to a count of digits (`rounding`), both by its first
@@ -18,12 +20,14 @@ mod large;
 mod leading_digits;
 mod narrow;
 mod parsing;
+mod powers;
 mod quick_search;
 mod quotient;
 mod reading;
 mod round_trips;
 mod rounding;
 mod search;
+mod settling;
 mod texts;
 mod writing;
 

@@ -3,7 +3,7 @@ use Rattle.std.proofs.lemmas.Int.{to_z-of_z, ints}
 use Rattle.apfloat_base.specs.arithmetic.Exact.{up, down}
 use Rattle.apfloat_base.specs.rounding.Flags.{bits_of}
 use Rattle.apfloat_ieee.specs.Types.{format_of}
-use Rattle.apfloat_decimals.proofs.Readings.{none_stand, fine, decimal_delivered}
+use Rattle.apfloat_decimals.proofs.Readings.{none_stand, fine_digits, decimal_delivered}
 use Rattle.apfloat_decimals.proofs.Values.{power_pos}
 use Rattle.apfloat_decimals.proofs.decimal.from_decimal.Goals as goal
 
@@ -14,8 +14,8 @@ returns-then-decimal-eq0 g c =
 
 pub deliver-requires-2-clause-fine : goal.deliver-requires-2-clause-fine
 deliver-requires-2-clause-fine g c =
-    fine g.S.Semantics.PRECISION c.scaled-ratio.result.significand _ c.scaled-ratio.result.loss
-    g.S.Semantics.lawful.parameters.precision_high c.scaled-ratio.ensures.full
+    let full = rw c.PRECISION.ensures at c.scaled-ratio.ensures.full in
+    fine_digits g.S.Semantics.PRECISION c.scaled-ratio.result.significand _ c.scaled-ratio.result.loss full
 
 pub returns : goal.returns
 returns g c =
