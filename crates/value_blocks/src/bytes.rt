@@ -13,7 +13,9 @@ pub fn number_of(bytes: &[u8]) -> u128
         [a] => u128::from(*a),
         [a, b] => u128::from(u16::from_le_bytes([*a, *b])),
         [a, b, c, d] => u128::from(u32::from_le_bytes([*a, *b, *c, *d])),
-        [a, b, c, d, e, f, g, h] => u128::from(u64::from_le_bytes([*a, *b, *c, *d, *e, *f, *g, *h])),
+        [a, b, c, d, e, f, g, h] => u128::from(u64::from_le_bytes([
+            *a, *b, *c, *d, *e, *f, *g, *h,
+        ])),
         _ => number_byte_by_byte(bytes),
     }
 }
