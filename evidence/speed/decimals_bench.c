@@ -7,57 +7,25 @@
 
    Compiled with -DLIBRARY it calls the library for C of this repository, which writes the shortest decimal. Otherwise
    it calls the C library and libquadmath, which write as many digits as are enough for every value of the format. */
+#include "timing.h"
+
 #include <math.h>
 #include <quadmath.h>
 #include <stdint.h>
 #include <stdio.h>
 #include <stdlib.h>
 #include <string.h>
-#include <time.h>
 
 #ifdef LIBRARY
 #include "apfloat.h"
 #endif
 
-typedef unsigned __int128 u128;
-
-enum { COUNT = 1024, LONGEST = 1 << 14, ROUNDS = 300 };
-static const double ENOUGH = 200e6;
+enum { LONGEST = 1 << 14 };
 
 static char *texts[COUNT];
 static size_t lengths[COUNT];
 static u128 bits[COUNT];
 static char line[LONGEST];
-
-static double now(void)
-{
-    struct timespec time;
-    clock_gettime(CLOCK_MONOTONIC, &time);
-    return time.tv_sec * 1e9 + time.tv_nsec;
-}
-
-static u128 number_of(const char *word)
-{
-    u128 number = 0;
-    for (; *word; word++)
-        number = number << 4 | (u128)(*word <= '9' ? *word - '0' : *word - 'a' + 10);
-    return number;
-}
-
-#define TIME(CALL)                                                      \
-    do {                                                                \
-        double least = 1e18, spent = 0;                                 \
-        for (int round = 0; round < ROUNDS && spent < ENOUGH; round++) {\
-            double start = now();                                       \
-            for (int i = 0; i < COUNT; i++) {                           \
-                CALL;                                                   \
-            }                                                           \
-            double time = now() - start;                                \
-            spent += time;                                              \
-            least = time < least ? time : least;                        \
-        }                                                               \
-        printf("%.2f", least / COUNT);                                  \
-    } while (0)
 
 static void print_checksum(void)
 {

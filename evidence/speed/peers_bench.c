@@ -8,16 +8,12 @@
    Compiled with -DQUADMATH the library is that of GCC: sqrtq and fmaq of libquadmath, and the product of libgcc. They
    have the format quad alone. Otherwise it is MPFR, with the range of the format's exponents, its denormal numbers and
    its flags. */
+#include "timing.h"
+
 #include <mpfr.h>
 #include <quadmath.h>
 #include <stdio.h>
 #include <string.h>
-#include <time.h>
-
-typedef unsigned __int128 u128;
-
-enum { COUNT = 1024, ROUNDS = 300 };
-static const double ENOUGH = 200e6;
 
 struct format {
     const char *name;
@@ -32,35 +28,11 @@ static const struct format FORMATS[] = {
 static const struct format *form;
 static u128 bits[3][COUNT];
 
-static u128 number_of(const char *word)
-{
-    u128 number = 0;
-    for (; *word; word++)
-        number = number << 4 | (u128)(*word <= '9' ? *word - '0' : *word - 'a' + 10);
-    return number;
-}
-
-static double now(void)
-{
-    struct timespec time;
-    clock_gettime(CLOCK_MONOTONIC, &time);
-    return time.tv_sec * 1e9 + time.tv_nsec;
-}
-
-#define TIME(CALL)                                                      \
-    do {                                                                \
-        double least = 1e18, spent = 0;                                 \
-        for (int round = 0; round < ROUNDS && spent < ENOUGH; round++) {\
-            double start = now();                                       \
-            for (int i = 0; i < COUNT; i++) {                           \
-                CALL;                                                   \
-            }                                                           \
-            double time = now() - start;                                \
-            spent += time;                                              \
-            least = time < least ? time : least;                        \
-        }                                                               \
-        printf("%.2f\n", least / COUNT);                                \
-        return 0;                                                       \
+#define TIMED(CALL)  \
+    do {             \
+        TIME(CALL);  \
+        puts("");    \
+        return 0;    \
     } while (0)
 
 #ifdef QUADMATH
@@ -75,11 +47,11 @@ static int measured(const char *operation)
     for (int i = 0; i < COUNT; i++)
         magnitude[i] = fabsq(x[0][i]);
     if (!strcmp(operation, "sqrt"))
-        TIME(result[i] = sqrtq(magnitude[i]));
+        TIMED(result[i] = sqrtq(magnitude[i]));
     if (!strcmp(operation, "wide_mul"))
-        TIME(result[i] = x[0][i] * x[1][i]);
+        TIMED(result[i] = x[0][i] * x[1][i]);
     if (!strcmp(operation, "wide_fma"))
-        TIME(result[i] = fmaq(x[0][i], x[1][i], x[2][i]));
+        TIMED(result[i] = fmaq(x[0][i], x[1][i], x[2][i]));
     return 1;
 }
 
@@ -107,7 +79,7 @@ static void read_number(mpfr_t value, u128 pattern)
 static volatile unsigned long seen;
 
 #define ROUNDED(CALL)                                                   \
-    TIME(mpfr_clear_flags(); int side = CALL;                           \
+    TIMED(mpfr_clear_flags(); int side = CALL;                           \
          side = mpfr_check_range(result[i], side, MPFR_RNDN);           \
          side = mpfr_subnormalize(result[i], side, MPFR_RNDN);          \
          seen += (unsigned long)side + mpfr_flags_save())
