@@ -8,8 +8,6 @@
 //! there is not enough memory for the buffers, and 4 if a read or a write failed.
 #![tactic(auto)]
 
-#[cfg(test)]
-mod asserts;
 mod job;
 mod run;
 mod stream;

@@ -1,12 +1,10 @@
 //! What the program reads and writes, and how it ends.
 
-use crate::asserts::same;
 use crate::run::{run, tell_failure};
 use crate::stream::Failure;
 use std::alloc::{AllocError, Global};
 use std::io;
 use std::io::{ErrorKind, Read, Write};
-use std::process::Abort;
 use std::test::Fail;
 
 /// A reader that gives its bytes a few at a time, is interrupted before each read, and fails when it has no more.
@@ -78,130 +76,88 @@ fn answer_to(
     Ok((output, err, status))
 }
 
-/// A line of arguments and a stream, what is written for them, and the exit status.
-struct Run {
-    line: &'static str,
-    stream: &'static [u8],
-    output: &'static [u8],
-    told: &'static [u8],
-    status: u8,
-}
-
-/// Asserts that each run writes the expected bytes and ends with the expected status.
-fn check_runs<R: Abort + AllocGlobal>(rt: &R, runs: &[Run]) -> Result<(), AllocError> {
-    for run in runs {
-        let (output, err, status) = answer_to(rt.alloc(), run.line, run.stream)?;
-        same(
-            rt,
-            (output.as_slice(), err.as_slice(), status),
-            (run.output, run.told, run.status),
-            run.line,
-        );
-    }
-    Ok(())
-}
-
 /// 1, 1.0625, a signaling NaN, 1000 and half of the least number; followed by three bytes of another value.
 const SINGLES: &[u8] =
     b"\x00\x00\x80\x3f\x00\x00\x88\x3f\x01\x00\x80\x7f\x00\x00\x7a\x44\x00\x00\x80\x3a\x01\x02\x03";
 
-/// The same without those three bytes.
-const WHOLE_SINGLES: &[u8] =
-    b"\x00\x00\x80\x3f\x00\x00\x88\x3f\x01\x00\x80\x7f\x00\x00\x7a\x44\x00\x00\x80\x3a";
-
-static WHOLE_VALUES: [Run; 2] = [
-    Run {
-        line: "single e4m3fn even",
-        stream: SINGLES,
-        output: b"\x38\x38\x7f\x7f\x00",
-        told: b"values 5, inexact 3, underflow 1, overflow 1, invalid 1, NaNs 2\n\
-            convert_values: the stream ended inside a value; bytes after the last whole one: 3\n",
-        status: 1,
-    },
-    Run {
-        line: "single e4m3fn up",
-        stream: WHOLE_SINGLES,
-        output: b"\x38\x39\x7f\x7f\x01",
-        told: b"values 5, inexact 3, underflow 1, overflow 1, invalid 1, NaNs 2\n",
-        status: 0,
-    },
-];
-
 #[test]
 fn converts_whole_values_before_the_end(rt: HostRuntime) -> Result<(), Fail> {
-    check_runs(&rt, &WHOLE_VALUES)?;
+    let (output, err, status) = answer_to(rt.alloc(), "single e4m3fn even", SINGLES)?;
+    assert_eq!(rt; output.as_slice(), b"\x38\x38\x7f\x7f\x00".as_slice());
+    assert_eq!(rt;
+        err.as_slice(),
+        b"values 5, inexact 3, underflow 1, overflow 1, invalid 1, NaNs 2\n\
+          convert_values: the stream ended inside a value; bytes after the last whole one: 3\n"
+            .as_slice()
+    );
+    assert_eq!(rt; status, 1);
+    let (output, err, status) = answer_to(rt.alloc(), "single e4m3fn up", &SINGLES[..20])?;
+    assert_eq!(rt; output.as_slice(), b"\x38\x39\x7f\x7f\x01".as_slice());
+    assert_eq!(rt;
+        err.as_slice(),
+        b"values 5, inexact 3, underflow 1, overflow 1, invalid 1, NaNs 2\n".as_slice()
+    );
+    assert_eq!(rt; status, 0);
     Ok(())
 }
 
 /// 1, 1000, -1000, both infinities and a signaling NaN.
-static BEYOND: [Run; 1] = [Run {
-    line: "--saturate single e4m3fn even",
-    stream: b"\x00\x00\x80\x3f\x00\x00\x7a\x44\x00\x00\x7a\xc4\
-        \x00\x00\x80\x7f\x00\x00\x80\xff\x01\x00\x80\x7f",
-    output: b"\x38\x7e\xfe\x7f\xff\x7f",
-    told: b"values 6, inexact 4, underflow 0, overflow 2, invalid 1, NaNs 3\n",
-    status: 0,
-}];
+const BEYOND: &[u8] =
+    b"\x00\x00\x80\x3f\x00\x00\x7a\x44\x00\x00\x7a\xc4\x00\x00\x80\x7f\x00\x00\x80\xff\x01\x00\x80\x7f";
 
 #[test]
 fn saturates_overflows_alone(rt: HostRuntime) -> Result<(), Fail> {
-    check_runs(&rt, &BEYOND)?;
+    let line = "--saturate single e4m3fn even";
+    let (output, err, status) = answer_to(rt.alloc(), line, BEYOND)?;
+    assert_eq!(rt; output.as_slice(), b"\x38\x7e\xfe\x7f\xff\x7f".as_slice());
+    assert_eq!(rt;
+        err.as_slice(),
+        b"values 6, inexact 4, underflow 0, overflow 2, invalid 1, NaNs 3\n".as_slice()
+    );
+    assert_eq!(rt; status, 0);
     Ok(())
 }
-
-/// 3 with padding, and without.
-static PADDED: [Run; 2] = [
-    Run {
-        line: "--x87-bytes=16 x87 x87 even",
-        stream: b"\x00\x00\x00\x00\x00\x00\x00\xc0\x00\x40\x01\x02\x03\x04\x05\x06",
-        output: b"\x00\x00\x00\x00\x00\x00\x00\xc0\x00\x40\x00\x00\x00\x00\x00\x00",
-        told: b"values 1, inexact 0, underflow 0, overflow 0, invalid 0, NaNs 0\n",
-        status: 0,
-    },
-    Run {
-        line: "--x87-bytes=10 x87 half even",
-        stream: b"\x00\x00\x00\x00\x00\x00\x00\xc0\x00\x40",
-        output: b"\x00\x42",
-        told: b"values 1, inexact 0, underflow 0, overflow 0, invalid 0, NaNs 0\n",
-        status: 0,
-    },
-];
 
 #[test]
 fn reads_no_padding_and_writes_zeros(rt: HostRuntime) -> Result<(), Fail> {
-    check_runs(&rt, &PADDED)?;
+    let three = b"\x00\x00\x00\x00\x00\x00\x00\xc0\x00\x40\x01\x02\x03\x04\x05\x06";
+    let (output, _, status) = answer_to(rt.alloc(), "--x87-bytes=16 x87 x87 even", three)?;
+    let wanted = b"\x00\x00\x00\x00\x00\x00\x00\xc0\x00\x40\x00\x00\x00\x00\x00\x00";
+    assert_eq!(rt; output.as_slice(), wanted.as_slice());
+    assert_eq!(rt; status, 0);
+    let (output, _, status) = answer_to(rt.alloc(), "--x87-bytes=10 x87 half even", &three[..10])?;
+    assert_eq!(rt; output.as_slice(), b"\x00\x42".as_slice());
+    assert_eq!(rt; status, 0);
     Ok(())
 }
 
-/// What the help begins with.
-const USAGE: &[u8] = b"usage: convert_values ";
-
-static REFUSED_LINES: [&str; 11] = [
-    "",
-    "single",
-    "single e4m3fn",
-    "single e4m3fn nearest",
-    "float e4m3fn even",
-    "single dd even",
-    "--x87-bytes=12 single x87 even",
-    "single e4m3fn even even",
-    "single e4m3fn even even even",
-    "--saturate single e4m3fn",
-    "--x87-bytes=10 --saturate single e4m3fn even",
-];
-
 #[test]
 fn refuses_other_words(rt: HostRuntime) -> Result<(), Fail> {
-    for line in &REFUSED_LINES {
-        let (output, err, status) = answer_to(rt.alloc(), *line, SINGLES)?;
-        let is_told = err.as_slice().starts_with(USAGE);
-        let got = (output.as_slice(), is_told, status);
-        same(&rt, got, (b"".as_slice(), true, 2), *line);
+    for line in [
+        "",
+        "single",
+        "single e4m3fn",
+        "single e4m3fn nearest",
+        "float e4m3fn even",
+        "single dd even",
+        "--x87-bytes=12 single x87 even",
+        "single e4m3fn even even",
+        "single e4m3fn even even even",
+        "--saturate single e4m3fn",
+        "--x87-bytes=10 --saturate single e4m3fn even",
+    ] {
+        let (output, err, status) = answer_to(rt.alloc(), line, SINGLES)?;
+        assert!(rt; output.is_empty());
+        assert!(rt;
+            err.as_slice().starts_with(b"usage: convert_values "),
+            "{line}"
+        );
+        assert_eq!(rt; status, 2, "{line}");
     }
     let (output, err, status) = answer_to(rt.alloc(), "--help", SINGLES)?;
-    let is_written = output.as_slice().starts_with(USAGE);
-    let got = (is_written, err.as_slice(), status);
-    same(&rt, got, (true, b"".as_slice(), 0), "--help");
+    assert!(rt; output.as_slice().starts_with(b"usage: convert_values "));
+    assert!(rt; err.is_empty());
+    assert_eq!(rt; status, 0);
     Ok(())
 }
 
@@ -227,7 +183,7 @@ fn names_the_wrong_word(rt: HostRuntime) -> Result<(), Fail> {
     for (line, told) in WRONG_WORDS {
         let (_, err, status) = answer_to(rt.alloc(), line, SINGLES)?;
         let is_told = status == 2 && err.as_slice().ends_with(told);
-        same(&rt, is_told, true, *line);
+        assert!(rt; is_told, "{line}");
     }
     Ok(())
 }
@@ -243,8 +199,8 @@ fn reads_a_few_bytes_at_a_time(rt: HostRuntime) -> Result<(), Fail> {
     let mut err = Vec::new(rt.alloc());
     let given = words(rt.alloc(), "single e4m3fn down")?;
     let status = run(rt.alloc(), Ok(given), &mut input, &mut output, &mut err);
-    let expected = (b"\x38\x38\x7f\x7e\x00".as_slice(), 1);
-    same(&rt, (output.as_slice(), status), expected, "a few bytes");
+    assert_eq!(rt; output.as_slice(), b"\x38\x38\x7f\x7e\x00".as_slice());
+    assert_eq!(rt; status, 1);
     Ok(())
 }
 
@@ -259,10 +215,11 @@ fn names_failed_reads_and_writes(rt: HostRuntime) -> Result<(), Fail> {
     let mut err = Vec::new(rt.alloc());
     let given = words(rt.alloc(), "single e4m3fn even")?;
     let status = run(rt.alloc(), Ok(given), &mut input, &mut output, &mut err);
-    let is_told = err
-        .as_slice()
-        .starts_with(b"convert_values: reading failed: ");
-    same(&rt, (is_told, status), (true, 4), "reading");
+    assert!(rt;
+        err.as_slice()
+            .starts_with(b"convert_values: reading failed: ")
+    );
+    assert_eq!(rt; status, 4);
     for room in 0..6usize {
         let mut rest = SINGLES;
         let mut err = Vec::new(rt.alloc());
@@ -274,26 +231,29 @@ fn names_failed_reads_and_writes(rt: HostRuntime) -> Result<(), Fail> {
             &mut Narrow { room },
             &mut err,
         );
-        let is_told = err
-            .as_slice()
-            .starts_with(b"convert_values: writing failed: ");
+        assert!(rt;
+            err.as_slice()
+                .starts_with(b"convert_values: writing failed: "),
+            "{room}"
+        );
+        assert_eq!(rt; status, 4, "{room}");
         let mut rest = SINGLES;
         let given = words(rt.alloc(), "single e4m3fn even")?;
         let mut out = Vec::new(rt.alloc());
-        let untold = run(
+        let status = run(
             rt.alloc(),
             Ok(given),
             &mut rest,
             &mut out,
             &mut Narrow { room },
         );
-        same(&rt, (is_told, status, untold), (true, 4, 4), room);
+        assert_eq!(rt; status, 4, "{room}");
     }
     Ok(())
 }
 
 /// Values of binary16 with different outcomes of their conversion to `e4m3fn`, and how many of each are in the stream.
-static RAISING: [([u8; 2], usize); 5] = [
+const RAISING: [([u8; 2], usize); 5] = [
     // 1.0625 is inexact.
     ([0x40, 0x3c], 2),
     // 2^-10 underflows.
@@ -312,9 +272,9 @@ fn counts_the_values_of_all_blocks(rt: HostRuntime) -> Result<(), Fail> {
     for _ in 0..16370usize {
         stream.extend_from_slice(b"\x00\x3c")?;
     }
-    for (bytes, count) in &RAISING {
-        for _ in 0..*count {
-            stream.extend_from_slice(bytes)?;
+    for (bytes, count) in RAISING {
+        for _ in 0..count {
+            stream.extend_from_slice(&bytes)?;
         }
     }
     for _ in 0..20000usize {
@@ -322,40 +282,31 @@ fn counts_the_values_of_all_blocks(rt: HostRuntime) -> Result<(), Fail> {
     }
     stream.push(0x3c)?;
     let (output, err, status) = answer_to(rt.alloc(), "half e4m3fn even", stream.as_slice())?;
-    let told = b"values 36398, inexact 10, underflow 3, overflow 5, invalid 7, NaNs 23\n\
-        convert_values: the stream ended inside a value; bytes after the last whole one: 1\n"
-        .as_slice();
-    let got = (output.len(), err.as_slice(), status);
-    same(&rt, got, (36398, told, 1), "blocks");
+    assert_eq!(rt; output.len(), 36398);
+    assert_eq!(rt;
+        err.as_slice(),
+        b"values 36398, inexact 10, underflow 3, overflow 5, invalid 7, NaNs 23\n\
+          convert_values: the stream ended inside a value; bytes after the last whole one: 1\n"
+            .as_slice()
+    );
+    assert_eq!(rt; status, 1);
     Ok(())
 }
 
-/// The double above 1, and -1.
-const DOUBLES: &[u8] = b"\x01\x00\x00\x00\x00\x00\xf0\x3f\x00\x00\x00\x00\x00\x00\xf0\xbf";
-
-static LOWEST_FIRST: [Run; 2] = [
-    // 1 + 2^-112 and -1.
-    Run {
-        line: "quad double up",
-        stream: b"\x01\x00\x00\x00\x00\x00\x00\x00\x00\x00\x00\x00\x00\x00\xff\x3f\
-            \x00\x00\x00\x00\x00\x00\x00\x00\x00\x00\x00\x00\x00\x00\xff\xbf",
-        output: DOUBLES,
-        told: b"values 2, inexact 1, underflow 0, overflow 0, invalid 0, NaNs 0\n",
-        status: 0,
-    },
-    Run {
-        line: "double x87 even",
-        stream: DOUBLES,
-        output: b"\x00\x08\x00\x00\x00\x00\x00\x80\xff\x3f\
-            \x00\x00\x00\x00\x00\x00\x00\x80\xff\xbf",
-        told: b"values 2, inexact 0, underflow 0, overflow 0, invalid 0, NaNs 0\n",
-        status: 0,
-    },
-];
-
 #[test]
 fn reads_and_writes_the_lowest_byte_first(rt: HostRuntime) -> Result<(), Fail> {
-    check_runs(&rt, &LOWEST_FIRST)?;
+    // 1 + 2^-112 and -1.
+    let quads = b"\x01\x00\x00\x00\x00\x00\x00\x00\x00\x00\x00\x00\x00\x00\xff\x3f\
+        \x00\x00\x00\x00\x00\x00\x00\x00\x00\x00\x00\x00\x00\x00\xff\xbf";
+    let (output, _, status) = answer_to(rt.alloc(), "quad double up", quads)?;
+    let doubles = b"\x01\x00\x00\x00\x00\x00\xf0\x3f\x00\x00\x00\x00\x00\x00\xf0\xbf";
+    assert_eq!(rt; output.as_slice(), doubles.as_slice());
+    assert_eq!(rt; status, 0);
+    let (output, _, status) = answer_to(rt.alloc(), "double x87 even", doubles)?;
+    let extended = b"\x00\x08\x00\x00\x00\x00\x00\x80\xff\x3f\
+        \x00\x00\x00\x00\x00\x00\x00\x80\xff\xbf";
+    assert_eq!(rt; output.as_slice(), extended.as_slice());
+    assert_eq!(rt; status, 0);
     Ok(())
 }
 
@@ -372,13 +323,14 @@ fn refusal_for(alloc: Global, kind: ErrorKind) -> (Vec<u8>, Vec<u8>, u8) {
 #[test]
 fn refuses_to_run_without_words(rt: HostRuntime) -> Result<(), Fail> {
     let (output, err, status) = refusal_for(rt.alloc(), ErrorKind::OutOfMemory);
-    let told = b"convert_values: no memory for the words\n".as_slice();
-    let got = (output.is_empty(), err.as_slice(), status);
-    same(&rt, got, (true, told, 3), "no memory");
+    assert!(rt; output.is_empty());
+    let wanted = b"convert_values: no memory for the words\n";
+    assert_eq!(rt; err.as_slice(), wanted.as_slice());
+    assert_eq!(rt; status, 3);
     let (output, err, status) = refusal_for(rt.alloc(), ErrorKind::InvalidData);
-    let is_told = err.as_slice().starts_with(USAGE);
-    let got = (output.is_empty(), is_told, status);
-    same(&rt, got, (true, true, 2), "other data");
+    assert!(rt; output.is_empty());
+    assert!(rt; err.as_slice().starts_with(b"usage: convert_values "));
+    assert_eq!(rt; status, 2);
     Ok(())
 }
 
@@ -386,20 +338,21 @@ fn refuses_to_run_without_words(rt: HostRuntime) -> Result<(), Fail> {
 fn tells_of_missing_memory(rt: HostRuntime) -> Result<(), Fail> {
     let mut err = Vec::new(rt.alloc());
     let status = tell_failure(Failure::from(AllocError), &mut err)?;
-    let told = b"convert_values: no memory for the buffers\n".as_slice();
-    same(&rt, (err.as_slice(), status), (told, 3), "buffers");
+    let wanted = b"convert_values: no memory for the buffers\n";
+    assert_eq!(rt; err.as_slice(), wanted.as_slice());
+    assert_eq!(rt; status, 3);
     Ok(())
 }
 
 #[test]
 fn fails_if_a_flush_fails(rt: HostRuntime) -> Result<(), Fail> {
     for line in ["--help", "single e4m3fn even"] {
-        let mut rest = WHOLE_SINGLES;
+        let mut rest = &SINGLES[..20];
         let given = words(rt.alloc(), line)?;
         let mut output = Narrow { room: 1 << 16 };
         let mut err = Vec::new(rt.alloc());
         let status = run(rt.alloc(), Ok(given), &mut rest, &mut output, &mut err);
-        same(&rt, status, 4, line);
+        assert_eq!(rt; status, 4, "{line}");
     }
     Ok(())
 }
