@@ -28,6 +28,7 @@ pub mod ShortestFound
 pub mod ShortestSearch
 pub mod ShortestSteps
 pub mod SpelledTexts
+pub mod TextFronts
 pub mod TextParts
 pub mod TextReadings
 pub mod Values

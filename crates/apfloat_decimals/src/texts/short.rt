@@ -4,12 +4,19 @@ ghost use Rattle.std.specs.Prelude.{◌≡◌, ◌+◌, ◌*◌, ◌^◌, ◌<�
 ghost use Rattle.apfloat_base.specs.texts.Digits.{every, is_decimal};
 ghost use Rattle.apfloat_decimals.specs.LeadingDigits.{number_from};
 
+/// Numbers below this, with one more digit, fit in one machine word.
+const WORD: u128 = 1 << 60;
+
 /// A number followed by one more digit.
+#[inline(always)]
 fn with_digit(number: u128, digit: u8) -> u128
     requires digit { digit < 10 }
     requires fits { number < 10 ^ 37 }
     ensures { result ≡ number * 10 + digit }
 {
+    if number < WORD {
+        return u128::from(number as u64 * 10 + u64::from(digit));
+    }
     number * 10 + u128::from(digit)
 }
 
