@@ -2,8 +2,8 @@
  *
  * OP is add, sub, mul, div, rem or mod of two values, fma of three, sqrt of one, or parse of a text. A value is its
  * bits, 1 to 32 hexadecimal digits, with or without 0x before them. Words are separated by spaces and tabs. Any other
- * line is refused with -1, as is one of more than 4000 bytes; a line that the library refuses is refused with the
- * library's code. Build it at the top of the repository, after `rt lib` in crates/apfloat_c:
+ * line is refused with -1, as is one of more than 4000 bytes or with a zero byte; a line that the library refuses is
+ * refused with the library's code. Build it at the top of the repository, after `rt lib` in crates/apfloat_c:
  *
  *   cc -std=c99 -Wall -Wextra -O2 -Iinclude examples/c/fold.c crates/apfloat_c/out/libapfloat_c.a -o fold
  *
@@ -71,11 +71,24 @@ static void print(const apfloat_answer *answer) {
     puts(answer->status ? "" : " OK");
 }
 
-/* Computes a line that is not too long. */
+/* Reads a line without its end. One that is too long or has a zero byte is left empty. False after the last one. */
+static bool read_line(char *line) {
+    size_t length = 0;
+    bool fits = true;
+    int next = getchar();
+    if (next == EOF) return false;
+    for (; next != EOF && next != '\n'; next = getchar()) {
+        fits = fits && next != 0 && length < MOST_BYTES;
+        if (fits) line[length++] = (char)next;
+    }
+    line[fits ? length : 0] = 0;
+    return true;
+}
+
 static uint32_t fold_line(char *line, apfloat_answer *answer) {
     char *words[MOST_WORDS];
     size_t count = 0;
-    for (char *word = strtok(line, " \t\r\n"); word; word = strtok(NULL, " \t\r\n")) {
+    for (char *word = strtok(line, " \t\r"); word; word = strtok(NULL, " \t\r")) {
         if (count < MOST_WORDS) words[count] = word;
         count++;
     }
@@ -83,14 +96,10 @@ static uint32_t fold_line(char *line, apfloat_answer *answer) {
 }
 
 int main(void) {
-    char line[MOST_BYTES + 2];
-    while (fgets(line, sizeof line, stdin)) {
+    char line[MOST_BYTES + 1];
+    while (read_line(line)) {
         apfloat_answer answer;
-        uint32_t code = UINT32_MAX;
-        if (strchr(line, '\n') || strlen(line) <= MOST_BYTES)
-            code = fold_line(line, &answer);
-        else
-            for (int next = getchar(); next != EOF && next != '\n';) next = getchar();
+        uint32_t code = fold_line(line, &answer);
         if (code == APFLOAT_ANSWERED)
             print(&answer);
         else

@@ -84,7 +84,7 @@ std::vector<std::string> words_of(const std::string &line) {
 
 // The library's code for a line, and the answer; nothing if the operation or an operand is malformed.
 std::optional<std::uint32_t> fold(const std::string &line, apfloat_answer &answer) {
-    if (line.size() > most_bytes) return std::nullopt;
+    if (line.size() > most_bytes || line.find('\0') != std::string::npos) return std::nullopt;
     const auto words = words_of(line);
     if (words.size() < 4) return std::nullopt;
     const auto format = code_of(formats, words[0]), mode = code_of(modes, words[2]);

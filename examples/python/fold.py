@@ -52,7 +52,7 @@ def bits_of(word):
 
 def fold(line):
     """The bits and the flags of a line's result."""
-    if len(line) > MOST_BYTES:
+    if len(line) > MOST_BYTES or '\0' in line:
         raise Malformed
     words = re.findall('[^ \\t\\r\\n]+', line)
     if not 4 <= len(words) <= 6 or len(words) - 3 != OPERANDS.get(words[1], 2):

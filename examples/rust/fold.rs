@@ -2,8 +2,8 @@
 //!
 //! OP is add, sub, mul, div, rem or mod of two values, fma of three, sqrt of one, or parse of a text. A value is its
 //! bits, 1 to 32 hexadecimal digits, with or without 0x before them. Words are separated by spaces and tabs. Any other
-//! line is refused with -1, as is one of more than 4000 bytes; a line that the library refuses is refused with the
-//! library's code. Build it at the top of the repository, after `rt lib` in crates/apfloat_c:
+//! line is refused with -1, as is one of more than 4000 bytes or with a zero byte; a line that the library refuses is
+//! refused with the library's code. Build it at the top of the repository, after `rt lib` in crates/apfloat_c:
 //!
 //! ```text
 //! rustc --edition 2021 -O examples/rust/fold.rs -L crates/apfloat_c/out -l static=apfloat_c -o fold_rs
@@ -83,7 +83,7 @@ fn parse(format: u32, mode: u32, text: &str, answer: &mut Answer) -> u32 {
 
 /// The result of a line, or the library's error code; -1 if the operation or an operand is malformed.
 fn fold(line: &[u8]) -> Result<Answer, i32> {
-    if line.len() > MOST_BYTES {
+    if line.len() > MOST_BYTES || line.contains(&0) {
         return Err(-1);
     }
     let line = String::from_utf8_lossy(line);
