@@ -148,8 +148,11 @@ def print_table(times, operands, others):
     print("(in brackets, how many times as long the first of the others takes)\n")
     print("| | " + " | ".join(FORMATS) + " |")
     print("|---" * (len(FORMATS) + 1) + "|")
+    compared = {cell[1] for name in others for cell in times[name]}
     operations = dict.fromkeys(cell[1] for cell in times["library"])
     for operation in operations:
+        if others and operation not in compared:
+            continue
         cells = [shown(times, (name, operation, operands), others) for name in FORMATS]
         print(f"| {operation} | " + " | ".join(cells) + " |")
     print()
