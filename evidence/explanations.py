@@ -169,10 +169,11 @@ def placed(format, word, operation, data, mode, value, flags):
         return [exact, ""] if isinstance(value, Finite) else []
     lower, _ = computed(format, word, operation, data, Mode.DOWN)
     upper, _ = computed(format, word, operation, data, Mode.UP)
-    if not (isinstance(lower, Finite) and isinstance(upper, Finite)):
-        return ["The exact result is beyond the largest value.", ""]
-    gap = upper.signed_quanta - lower.signed_quanta
     low, high = exactly(format, word, data)
+    exact = [f"exact   {digits_of(low, high, format.scale)}", ""]
+    if not (isinstance(lower, Finite) and isinstance(upper, Finite)):
+        return exact + ["The exact result is beyond the largest value.", ""]
+    gap = upper.signed_quanta - lower.signed_quanta
     parts = 64 * (low - lower.signed_quanta) // gap
     middle = lower.signed_quanta + Fraction(gap, 2)
     if low == high == middle:
@@ -180,7 +181,7 @@ def placed(format, word, operation, data, mode, value, flags):
     else:
         side, reason = ("above" if low >= middle else "below") + " the middle", REASONS[mode]
     taken = "upper" if value == upper else "lower"
-    return [
+    return exact + [
         "The exact result lies between two neighbours:",
         "",
         *headed(format, "lower", lower),
@@ -194,12 +195,27 @@ def placed(format, word, operation, data, mode, value, flags):
     ]
 
 
+def digits_of(low, high, scale):
+    """An exact result between two bounds, in quanta, as an odd number times a power of two.
+
+    One of more than 125 binary digits is cut after these, downward.
+    """
+    magnitude = abs(low)
+    place = magnitude.numerator.bit_length() - magnitude.denominator.bit_length() - 124
+    if magnitude < Fraction(2) ** (place + 124):
+        place -= 1
+    significand = low / Fraction(2) ** place // 1
+    more = "" if low == high == significand * Fraction(2) ** place else "a little more than "
+    zeros = (significand & -significand).bit_length() - 1
+    return f"{more}{significand >> zeros} * 2^{place + zeros - scale}"
+
+
 def exactly(format, word, data):
     """The exact result in quanta, as two bounds that no neighbour or part of a way separates."""
     scale = 1 << format.scale
     x, *others = (Fraction(x.signed_quanta) for x in data)
     if word == "sqrt":
-        finer = 2 * format.precision + 16
+        finer = 256
         root = isqrt(int(x) * scale << 2 * finer)
         low = Fraction(root, 1 << finer)
         return low, low if low * low == x * scale else Fraction(root + 1, 1 << finer)

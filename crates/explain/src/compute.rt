@@ -9,7 +9,7 @@ ghost use Rattle.explain.specs.Formats.{HasShortest};
 ghost use Rattle.rustc_apfloat.specs.Types.{format_of};
 ghost use Rattle.apfloat_decimals.specs.ShortestSearch.{IsWithinQuad};
 
-use crate::explanation::{Between, Explanation, Meaning, Place, Shown, Side, Widths};
+use crate::explanation::{Between, Exact, Explanation, Meaning, Place, Shown, Side, Widths};
 use crate::request::{Operation, Request};
 use apfloat_decimals::{read_decimal, shortest};
 use commands::bits_of;
@@ -222,12 +222,13 @@ fn place<S: Semantics>(
             Place::None
         };
     }
+    let downward = exact_place(operation, widened(x), widened(y), widened(z));
     if !lower.is_finite() || !upper.is_finite() {
-        return Place::Beyond;
+        return Place::Beyond(exact_result(&downward));
     }
-    let exact = exact_place(operation, widened(x), widened(y), widened(z));
-    let way = way_between(widened(lower), widened(upper), exact);
+    let way = way_between(widened(lower), widened(upper), &downward);
     Place::Between(Between {
+        exact: exact_result(&downward),
         lower: shown(lower, false),
         upper: shown(upper, false),
         parts: way.parts,
@@ -241,6 +242,15 @@ fn exact_place(operation: Operation, x: Vast, y: Vast, z: Vast) -> StatusAnd<Vas
     computed(operation, x, y, z, Round::TowardNegative)
 }
 
+/// The exact result, from that rounded downward.
+fn exact_result(downward: &StatusAnd<Vast>) -> Exact {
+    Exact {
+        negative: downward.value.is_negative(),
+        digits: meaning(downward.value),
+        is_cut: downward.status.intersects(Status::INEXACT),
+    }
+}
+
 /// A place on the way from one neighbour to the next.
 #[derive(Clone, Copy)]
 struct Way {
@@ -249,7 +259,7 @@ struct Way {
 }
 
 /// The place of a number between two neighbours. The number is rounded downward, and inexact if it is greater.
-fn way_between(lower: Vast, upper: Vast, exact: StatusAnd<Vast>) -> Way {
+fn way_between(lower: Vast, upper: Vast, exact: &StatusAnd<Vast>) -> Way {
     let gap = (upper - lower).value;
     let above = exact.value.sub_r(lower, Round::TowardNegative);
     let is_cut = exact.status.union(above.status).intersects(Status::INEXACT);

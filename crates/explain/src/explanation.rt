@@ -57,9 +57,22 @@ pub enum Side {
     Upper,
 }
 
+/// An exact result that is no value of the format.
+#[derive(Clone, Copy, Debug)]
+pub struct Exact {
+    /// Whether it is negative.
+    pub negative: bool,
+    /// Its first 125 binary digits, rounded downward.
+    pub digits: Meaning,
+    /// Whether it is greater than these digits.
+    pub is_cut: bool,
+}
+
 /// A place between two neighbours.
 #[derive(Clone, Copy, Debug)]
 pub struct Between {
+    /// What lies there.
+    pub exact: Exact,
     /// The neighbour below.
     pub lower: Shown,
     /// The neighbour above.
@@ -82,7 +95,7 @@ pub enum Place {
     /// Between two neighbours.
     Between(Between),
     /// Beyond the largest value.
-    Beyond,
+    Beyond(Exact),
 }
 
 /// A computation.

@@ -1,6 +1,6 @@
 //! Writes an explanation, in lines of at most 80 columns.
 
-use crate::explanation::{Between, Explanation, Meaning, Place, Shown, Side, Widths};
+use crate::explanation::{Between, Exact, Explanation, Meaning, Place, Shown, Side, Widths};
 use crate::request::{Operation, Request};
 use apfloat_decimals::Decimal;
 use dispatch::Arithmetic;
@@ -180,12 +180,32 @@ fn write_place<W: Write>(
     match place {
         Place::None => Ok(()),
         Place::Exact => writeln!(out, "The exact result is a value of the format.\n"),
-        Place::Beyond => writeln!(out, "The exact result is beyond the largest value.\n"),
+        Place::Beyond(exact) => {
+            write_exact(exact, out)?;
+            writeln!(out, "The exact result is beyond the largest value.\n")
+        }
         Place::Between(between) => {
+            write_exact(&between.exact, out)?;
             writeln!(out, "The exact result lies between two neighbours:\n")?;
             write_way(widths, between, in_colour, out)?;
             write_pick(round, between, out)
         }
+    }
+}
+
+/// Writes an exact result, or its first binary digits if it has more than 125.
+fn write_exact<W: Write>(exact: &Exact, out: &mut W) -> io::Result<()> {
+    let sign = if exact.negative { "-" } else { "" };
+    let more = if exact.is_cut {
+        "a little more than "
+    } else {
+        ""
+    };
+    match exact.digits {
+        Meaning::Number(significand, exponent) => {
+            writeln!(out, "exact   {more}{sign}{significand} * 2^{exponent}\n")
+        }
+        _ => Ok(()),
     }
 }
 
