@@ -168,6 +168,10 @@ fn tells_what_is_malformed(rt: HostRuntime) {
             "no reply: `5f40`; expected: bits and flags, as `5f40 OK`, or `refused: ` and a word",
         ),
         (
+            "half int even 464\t15f40 OK",
+            "no reply: `15f40` has 17 bits; expected: at most 16",
+        ),
+        (
             "half int odd 464\t5f40 OK",
             "no mode: `odd`; expected: even, up, down, zero or away",
         ),
@@ -513,8 +517,6 @@ fn expect_run<R: Abort + std::rt::Files + Clock + Input + AllocGlobal>(
 fn does_what_its_words_say(rt: HostRuntime) -> Result<(), Fail> {
     let usage = "usage: check_vectors [FILE | --help]\n";
     expect_run(&rt, &["--help"], (0, usage, ""))?;
-    expect_run(&rt, &["--halp"], (2, "", usage))?;
-    expect_run(&rt, &["rows", "more"], (2, "", usage))?;
     expect_run(
         &rt,
         &["none/such"],
@@ -531,6 +533,38 @@ fn does_what_its_words_say(rt: HostRuntime) -> Result<(), Fail> {
         1 rows agree, 1 differ, 0 malformed; 0 lines skipped\n";
     expect_run(&rt, &["rows"], (1, whole, ""))?;
     expect_run(&rt, &["--", "rows"], (1, whole, ""))?;
+    Ok(())
+}
+
+/// Arguments with a word that is wrong, and the last line that is written for each.
+static WRONG_WORDS: &[(&str, &[u8])] = &[
+    ("--halp", b"check_vectors: no such option: `--halp`\n"),
+    ("--halp rows", b"check_vectors: no such option: `--halp`\n"),
+    ("rows more", b"check_vectors: a word too many: `more`\n"),
+    (
+        "--first few rows",
+        b"check_vectors: no count of rows: `few`\n",
+    ),
+    (
+        "--testfloat f64_ad",
+        b"check_vectors: no such function of TestFloat: `f64_ad`\n",
+    ),
+    ("--fpgen -rmax", b"check_vectors: no such option: `-rmax`\n"),
+];
+
+#[test]
+fn names_the_wrong_word(rt: HostRuntime) -> Result<(), Fail> {
+    for (line, told) in WRONG_WORDS {
+        let mut given = Vec::new(rt.alloc());
+        for word in line.split(' ') {
+            given.push(String::from_str(rt.alloc(), word)?)?;
+        }
+        let mut out = Vec::new(rt.alloc());
+        let mut err = Vec::new(rt.alloc());
+        let status = run(&rt, Ok(given), &mut out, &mut err);
+        let is_told = status == 2 && out.is_empty() && err.as_slice().ends_with(told);
+        assert!(rt; is_told, "{line}");
+    }
     Ok(())
 }
 

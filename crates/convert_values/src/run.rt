@@ -66,9 +66,7 @@ fn answer<R: Read, W: Write, V: Write>(
 /// Names the word that is wrong, if one is.
 fn tell_wrong_word<V: Write>(words: &[String], err: &mut V) -> io::Result<()> {
     match wrong_word(words) {
-        Some(WrongWord { wanted, word }) => {
-            writeln!(err, "convert_values: no such {wanted}: `{word}`")
-        }
+        Some(WrongWord { fault, word }) => { writeln!(err, "convert_values: {fault}: `{word}`") }
         None => Ok(()),
     }
 }

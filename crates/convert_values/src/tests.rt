@@ -176,6 +176,10 @@ static WRONG_WORDS: &[(&str, &[u8])] = &[
         "--clamp single half even",
         b"convert_values: no such option: `--clamp`\n",
     ),
+    (
+        "--saturate single half even more",
+        b"convert_values: a word too many: `more`\n",
+    ),
 ];
 
 #[test]

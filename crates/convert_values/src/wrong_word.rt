@@ -5,36 +5,31 @@ use dispatch::{BuiltInKind, mode_named};
 /// A word that names nothing.
 #[derive(Clone, Copy)]
 pub struct WrongWord<'a> {
-    /// What a word in its place names.
-    pub wanted: &'static str,
+    /// What is wrong with it.
+    pub fault: &'static str,
     /// The word.
     pub word: &'a str,
 }
 
 /// The first wrong word, if three words and any options before them make a job.
 pub fn wrong_word(words: &[String]) -> Option<WrongWord<'_>> {
-    if words.len() < 3 {
-        return None;
-    }
-    let (options, names) = words.split_at(words.len() - 3);
-    match wrong_option(options) {
-        Some(word) => Some(WrongWord {
-            wanted: "option",
-            word,
+    match words {
+        [word, others @ ..] if is_option(word.as_str()) => wrong_word(others),
+        [word, ..] if word.as_str().starts_with('-') => Some(WrongWord {
+            fault: "no such option",
+            word: word.as_str(),
         }),
-        None => wrong_name(names),
+        [_, _, _, word, ..] => Some(WrongWord {
+            fault: "a word too many",
+            word: word.as_str(),
+        }),
+        _ => wrong_name(words),
     }
 }
 
-/// The first of these words that is no option.
-fn wrong_option(words: &[String]) -> Option<&str> {
-    for word in words {
-        match word.as_str() {
-            "--saturate" | "--x87-bytes=10" | "--x87-bytes=16" => {}
-            other => return Some(other),
-        }
-    }
-    None
+/// Whether the word is that of an option.
+fn is_option(word: &str) -> bool {
+    matches!(word, "--saturate" | "--x87-bytes=10" | "--x87-bytes=16")
 }
 
 /// The first of two formats and a mode that does not exist.
@@ -42,20 +37,20 @@ fn wrong_name(names: &[String]) -> Option<WrongWord<'_>> {
     let [source, target, mode] = names else {
         return None;
     };
-    let wanted = "format";
+    let fault = "no such format";
     if !is_format(source.as_str()) {
         Some(WrongWord {
-            wanted,
+            fault,
             word: source.as_str(),
         })
     } else if !is_format(target.as_str()) {
         Some(WrongWord {
-            wanted,
+            fault,
             word: target.as_str(),
         })
     } else if mode_named(mode.as_str()).is_none() {
         Some(WrongWord {
-            wanted: "mode",
+            fault: "no such mode",
             word: mode.as_str(),
         })
     } else {

@@ -20,7 +20,7 @@ use crate::calls::operands::Operands;
 use crate::calls::quanta::Quanta;
 pub use answer::{StatusField, Text, ValueField, shown, status_named};
 use dispatch::mode_named;
-pub use fault::CallFault;
+pub use fault::{CallFault, bits_error, width_of};
 use rustc_apfloat::Round;
 use std::io;
 use std::io::Write;

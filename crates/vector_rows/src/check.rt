@@ -235,6 +235,11 @@ impl Check {
             return self.take_error(error, out);
         }
         let wrong = row.wrong_reply(self.alloc)?;
+        if wrong.is_some()
+            && let Some(error) = row.width_fault()
+        {
+            return self.take_error(error, out);
+        }
         if self.takes_difference(text, wrong.is_none(), out)?
             && let Some(given) = wrong
         {

@@ -1,7 +1,8 @@
 //! Rows of commands: each gets a reply as from the program `vectors`, which is compared with that of the row.
 
-use crate::calls::status_named;
+use crate::calls::{bits_error, status_named, width_of};
 use crate::failure::RowError;
+use crate::given::mask;
 use commands::{agrees, bits_of, run};
 use dispatch::{BuiltInKind, mode_named};
 use rustc_apfloat::Flags;
@@ -42,6 +43,22 @@ impl<'a> CommandRow<'a> {
             }
             Some((_, words)) => mode_fault(words),
             None => None,
+        }
+    }
+
+    /// What is wrong with a reply that has more bits than the format of its command, which no reply has.
+    pub fn width_fault(self) -> Option<RowError<'a>> {
+        let Some((format, _)) = self.command.split_once(' ') else {
+            return None;
+        };
+        let Some((bits, _)) = self.reply.split_once(' ') else {
+            return None;
+        };
+        match (width_of(format), bits_of(bits, 128)) {
+            (Some(width), Some(number)) if number > mask(width) => {
+                Some(bits_error("no reply", bits, width))
+            }
+            _ => None,
         }
     }
 

@@ -57,12 +57,12 @@ pub fn run<R: Files + Clock + Input + AllocGlobal, W: Write, V: Write>(
         Err(error) => return refuse(error, err),
     };
     match job_of(words.as_slice()) {
-        Some(Job::Check(task, None)) => {
+        Ok(Job::Check(task, None)) => {
             check_reader(rt, "standard input", rt.reader(), task, out, err)
         }
-        Some(Job::Check(task, Some(name))) => check_file(rt, name, task, out, err),
-        Some(Job::Help) => help(out, err),
-        None => usage(err),
+        Ok(Job::Check(task, Some(name))) => check_file(rt, name, task, out, err),
+        Ok(Job::Help) => help(out, err),
+        Err(wrong) => refuse_word(wrong, err),
     }
 }
 
@@ -74,27 +74,39 @@ enum Job<'a> {
     Check(Task, Option<&'a str>),
 }
 
-/// What the arguments ask for, if they are known.
-fn job_of(words: &[String]) -> Option<Job<'_>> {
+/// A word among the arguments that is wrong.
+#[derive(Clone, Copy)]
+struct WrongWord<'a> {
+    /// What is wrong with it.
+    fault: &'static str,
+    /// The word.
+    word: &'a str,
+}
+
+/// What the arguments ask for, or the first word that is wrong.
+fn job_of(words: &[String]) -> Result<Job<'_>, WrongWord<'_>> {
     match words {
-        [word] if matches!(word.as_str(), "--help" | "-h") => Some(Job::Help),
+        [word] if matches!(word.as_str(), "--help" | "-h") => Ok(Job::Help),
         _ => match task_of(words) {
-            Some((task, left)) => check_of(task, file_of(left)),
-            None => None,
+            Ok((task, left)) => check_of(task, file_of(left)),
+            Err(wrong) => Err(wrong),
         },
     }
 }
 
-/// A check of a file, if there is one.
-fn check_of(task: Task, file: Option<Option<&str>>) -> Option<Job<'_>> {
+/// A check of a file, or of standard input.
+fn check_of<'a>(
+    task: Task,
+    file: Result<Option<&'a str>, WrongWord<'a>>,
+) -> Result<Job<'a>, WrongWord<'a>> {
     match file {
-        Some(file) => Some(Job::Check(task, file)),
-        None => None,
+        Ok(file) => Ok(Job::Check(task, file)),
+        Err(wrong) => Err(wrong),
     }
 }
 
 /// What the options before a file ask for, and the words after them.
-fn task_of(words: &[String]) -> Option<(Task, &[String])> {
+fn task_of(words: &[String]) -> Result<(Task, &[String]), WrongWord<'_>> {
     let mut task = Task::rows();
     let mut left = words;
     for _ in 0..words.len() {
@@ -103,19 +115,19 @@ fn task_of(words: &[String]) -> Option<(Task, &[String])> {
                 task = changed;
                 left = others;
             }
-            NextOption::Unknown => return None,
+            NextOption::Wrong(wrong) => return Err(wrong),
             NextOption::End => break,
         }
     }
-    Some((task, left))
+    Ok((task, left))
 }
 
 /// What comes next among the words.
 enum NextOption<'a> {
     /// An option: the task with it, and the words after it.
     Known(Task, &'a [String]),
-    /// An option with a count or a function that is none.
-    Unknown,
+    /// An option whose count or function is wrong.
+    Wrong(WrongWord<'a>),
     /// No option.
     End,
 }
@@ -134,7 +146,7 @@ fn next_option(task: Task, words: &[String]) -> NextOption<'_> {
                     let first = Some(count);
                     NextOption::Known(Task { first, ..task }, others)
                 }
-                Err(_) => NextOption::Unknown,
+                Err(_) => wrong("no count of rows", count),
             }
         }
         _ => option_on_lines(task, words),
@@ -150,7 +162,7 @@ fn option_on_lines(task: Task, words: &[String]) -> NextOption<'_> {
         [word, name, others @ ..] if word.as_str() == "--testfloat" => {
             match TestFloat::named(name.as_str()) {
                 Some(function) => with_lines(task, Lines::TestFloat(function), others),
-                None => NextOption::Unknown,
+                None => wrong("no such function of TestFloat", name),
             }
         }
         [word, others @ ..] => match task.lines.with(word.as_str()) {
@@ -161,20 +173,32 @@ fn option_on_lines(task: Task, words: &[String]) -> NextOption<'_> {
     }
 }
 
+/// A word after an option that is wrong.
+fn wrong<'a>(fault: &'static str, word: &'a String) -> NextOption<'a> {
+    let word = word.as_str();
+    NextOption::Wrong(WrongWord { fault, word })
+}
+
 /// The task on other lines.
 fn with_lines(task: Task, lines: Lines, others: &[String]) -> NextOption<'_> {
     NextOption::Known(Task { lines, ..task }, others)
 }
 
 /// The file that the last words name, or none for standard input.
-fn file_of(words: &[String]) -> Option<Option<&str>> {
+fn file_of(words: &[String]) -> Result<Option<&str>, WrongWord<'_>> {
     match words {
-        [] => Some(None),
-        [word] if word.as_str() == "-" => Some(None),
-        [word] if word.as_str().starts_with('-') => None,
-        [word] => Some(Some(word.as_str())),
-        [mark, name] if mark.as_str() == "--" => Some(Some(name.as_str())),
-        _ => None,
+        [] => Ok(None),
+        [word] if word.as_str() == "-" => Ok(None),
+        [mark, name] if mark.as_str() == "--" => Ok(Some(name.as_str())),
+        [word, ..] if word.as_str().starts_with('-') => Err(WrongWord {
+            fault: "no such option",
+            word: word.as_str(),
+        }),
+        [word] => Ok(Some(word.as_str())),
+        [_, word, ..] => Err(WrongWord {
+            fault: "a word too many",
+            word: word.as_str(),
+        }),
     }
 }
 
@@ -184,6 +208,13 @@ fn refuse<V: Write>(error: io::Error, err: &mut V) -> u8 {
         ErrorKind::OutOfMemory => report("arguments", &Failure::Memory, err),
         _ => usage(err),
     }
+}
+
+/// Writes how the program is called, and the word that is wrong. Returns the exit status for unknown arguments.
+fn refuse_word<V: Write>(wrong: WrongWord<'_>, err: &mut V) -> u8 {
+    let WrongWord { fault, word } = wrong;
+    let status = usage(err);
+    status_after(writeln!(err, "check_vectors: {fault}: `{word}`"), status)
 }
 
 /// Writes how the program is called. Returns the exit status for unknown arguments.

@@ -74,7 +74,7 @@ impl<'a> CallRow<'a> {
 const QUANTA: &str = "values of the format, in quanta as `+3q`";
 
 /// How many bits an operand in these formats has, if it has bits.
-fn width_of(formats: &str) -> Option<usize> {
+pub fn width_of(formats: &str) -> Option<usize> {
     match Formats::named(formats) {
         Some(formats) => formats.width(),
         None => None,
@@ -137,7 +137,7 @@ fn value_error(operands: &str, form: Form, width: Option<usize>) -> RowError<'_>
 }
 
 /// The error of a word that is not of so many bits.
-fn bits_error<'a>(fault: &'static str, word: &'a str, width: usize) -> RowError<'a> {
+pub fn bits_error<'a>(fault: &'static str, word: &'a str, width: usize) -> RowError<'a> {
     match bits_of(word, 128) {
         Some(bits) if bits > mask(width) => {
             RowError::Bits(
