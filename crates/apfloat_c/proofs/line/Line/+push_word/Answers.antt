@@ -15,7 +15,8 @@ push-requires t c =
     elim c.if-number-ge10.branch [
       | then-number-ge10 w ↦
           rw (w.self-is, w.push_word.ensures)
-          (room_for_last c.args.self.now c.args.number w.if-number-ge10.true (omega (arith, c.ranges.number.fits)) c.requires)
+          (room_for_last c.args.self.now c.args.number w.if-number-ge10.true
+          (omega (arith, c.ranges.number.fits)) c.requires)
       | else-number-ge10 w ↦
           let one = single c.args.number w.if-number-ge10.false in
           let room = c.requires in
