@@ -54,40 +54,6 @@ pub fn convert_block_by<S: Flagged, T: Flagged>(
         IsBlock (IsConvertedBy overflow c d round) widths.source widths.target count
         input.now output.new result }
 {
-    match (overflow, round) {
-        (Overflow::Rounded, Round::NearestTiesToEven) => convert_each::<S, T>(
-            Overflow::Rounded,
-            Round::NearestTiesToEven,
-            widths,
-            count,
-            input,
-            output,
-        ),
-        _ => convert_each::<S, T>(overflow, round, widths, count, input, output),
-    }
-}
-
-/// Converts the values one by one. It is inlined, so that with a constant mode the loop makes no choice of the mode.
-#[inline(always)]
-fn convert_each<S: Flagged, T: Flagged>(
-    overflow: Overflow,
-    round: Round,
-    widths: Widths,
-    count: usize,
-    input: &[u8],
-    output: &mut [u8],
-) -> Counts
-    requires read { S.PRECISION < S.BITS }
-    requires written { T.PRECISION < T.BITS }
-    requires source { widths.source ≤ 16 }
-    requires target { T.BITS ≤ 8 * widths.target }
-    requires input { length input.now ≡ count * widths.source }
-    requires output { length output.old ≡ count * widths.target }
-    ensures { let c = flagged_constants_of S.Flagged in
-        let d = flagged_constants_of T.Flagged in
-        IsBlock (IsConvertedBy overflow c d round) widths.source widths.target count
-        input.now output.new result }
-{
     let mut counts = Counts::NONE;
     for index in 0..count {
         let (from, to) = (index * widths.source, index * widths.target);

@@ -11,7 +11,7 @@ use rustc_apfloat::ieee::{Flagged, IeeeFloat};
 use rustc_apfloat::{Float, Round, StatusAnd};
 
 /// Converts the value of these bytes, lowest first, to the bytes of its value in the format `T`.
-#[inline(always)]
+#[inline]
 pub fn convert_value<S: Flagged, T: Flagged>(
     overflow: Overflow,
     round: Round,

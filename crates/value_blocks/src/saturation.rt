@@ -21,7 +21,7 @@ pub enum Overflow {
 
 /// A value in the format `T`, rounded once, with the flags of that rounding. Saturation changes no flag, and nothing of
 /// infinities and NaNs.
-#[inline(always)]
+#[inline]
 pub fn convert_by<S: Flagged, T: Flagged>(
     overflow: Overflow,
     round: Round,
@@ -39,7 +39,7 @@ pub fn convert_by<S: Flagged, T: Flagged>(
 }
 
 /// What takes the place of the value that `x` was rounded to.
-#[inline(always)]
+#[inline]
 fn saturated<S: Flagged, T: Flagged>(x: IeeeFloat<S>, rounded: IeeeFloat<T>) -> IeeeFloat<T>
     ensures { result ≡ saturated (format_of T.Flagged) x rounded }
 {

@@ -1,7 +1,7 @@
 use Rattle.rustc_apfloat.specs.FlaggedTypes.{constants_of}
 use Rattle.value_blocks.specs.Values.{IsConvertedBy}
 use Rattle.value_blocks.specs.Blocks.{IsBlock}
-use Rattle.value_blocks.proofs.blocks.convert_each.Given as goal
+use Rattle.value_blocks.proofs.blocks.convert_block_by.Given as goal
 
 abbrev pub invariant-loop-index : goal.invariant-loop-index
 invariant-loop-index g l =

@@ -2,7 +2,7 @@ use Rattle.std.proofs.Common.{◌≡◌, ◌*◌, length, ◌∙◌}
 use Rattle.rustc_apfloat.specs.FlaggedTypes.{constants_of}
 use Rattle.value_blocks.specs.Values.{IsConvertedBy}
 use Rattle.value_blocks.proofs.Places.{block_none, block_more, place_size}
-use Rattle.value_blocks.proofs.blocks.convert_each.Goals as goal
+use Rattle.value_blocks.proofs.blocks.convert_block_by.Goals as goal
 
 pub loop-index-init : goal.loop-index-init
 loop-index-init g c =
