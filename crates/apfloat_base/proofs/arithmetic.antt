@@ -17,6 +17,7 @@ pub mod SingleScalings
 pub mod Totals
 pub mod WideNumbers
 pub mod WideTotals
+pub mod OddTotals
 pub mod SumLaws
 pub mod ExactConversions
 pub mod NextBack

@@ -2,6 +2,7 @@ pub mod Neighbours
 pub mod NeighboursExist
 pub mod Losses
 pub mod KeptDigits
+pub mod OddRoundings
 pub mod Picks
 pub mod PickedPoints
 pub mod Deliveries

@@ -6,6 +6,7 @@ pub mod Flags
 pub mod RaisedFlags
 pub mod Standing
 pub mod RootStanding
+pub mod RoundingToOdd
 pub mod Enclosure
 pub mod Bounds
 pub mod TwoModes

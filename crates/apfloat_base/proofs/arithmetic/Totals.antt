@@ -113,7 +113,7 @@ together_stands base eh el s t mh ml gap q loss l e d h =
     }
 
 -- a balance holds in smaller units too
-balances_times : (flipped : Bool) (n a b w : ℕ) → Balances flipped n a b → Balances flipped (n * w) (a * w) (b * w)
+pub balances_times : (flipped : Bool) (n a b w : ℕ) → Balances flipped n a b → Balances flipped (n * w) (a * w) (b * w)
 balances_times true n a b w h = ap (λ (x : ℕ). x * w) h ∙ omega arith
 balances_times false n a b w h = ap (λ (x : ℕ). x * w) h ∙ omega arith
 

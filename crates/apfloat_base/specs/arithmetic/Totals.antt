@@ -2,6 +2,7 @@
 use Rattle.std.specs.Prelude.{◌≡◌, ℕ, ◌+◌, ◌*◌, ◌^◌, ◌⊎◌, Bool, true, false, ℤ, ◌-ℤ◌, ◌≤ℤ◌}
 use Rattle.apfloat_base.specs.declared.sig.loss.Loss.{Loss}
 use Rattle.apfloat_base.specs.arithmetic.Exact.{up, signed}
+use Rattle.apfloat_base.specs.rounding.RoundingToOdd.{IsRoundedToOdd}
 use Rattle.apfloat_base.specs.rounding.Standing.{StandsFor}
 
 -- significand * 2 ^ exponent with that sign, counted in units of 2 ^ low, for a `low` that is not above the exponent
@@ -16,6 +17,14 @@ pub record StandsForSigned (low exact : ℤ) (negative : Bool) (exponent : ℤ) 
     pub amount : ℕ
     pub is : signed negative amount ≡ exact
     pub stands : StandsFor significand loss amount (2 ^ up (exponent -ℤ low))
+
+-- The same where nothing but a rounding to odd of the magnitude is known.
+pub record IsSignedToOdd (least : ℕ) (low exact : ℤ) (negative : Bool) (exponent : ℤ) (significand : ℕ) : Type 0
+  where
+    pub above : low ≤ℤ exponent
+    pub amount : ℕ
+    pub is : signed negative amount ≡ exact
+    pub rounded : IsRoundedToOdd least significand amount (2 ^ up (exponent -ℤ low))
 
 -- the greater of two integers
 pub record IsGreater (z a b : ℤ) : Type 0 where
@@ -33,3 +42,9 @@ pub record IsApart (a b : ℕ) (flipped : Bool) (significand : ℕ) (loss : Loss
   pub amount : ℕ
   pub balances : Balances flipped amount a b
   pub stands : StandsFor significand loss amount unit
+
+-- how far apart a and b are, in units, rounded to odd
+pub record IsApartToOdd (least a b : ℕ) (flipped : Bool) (significand unit : ℕ) : Type 0 where
+  pub amount : ℕ
+  pub balances : Balances flipped amount a b
+  pub rounded : IsRoundedToOdd least significand amount unit

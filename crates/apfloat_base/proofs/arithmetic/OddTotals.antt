@@ -1,0 +1,238 @@
+-- Sums and differences of magnitudes that are rounded to odd, and their signs.
+use Rattle.std.proofs.Common.{◌≡◌, ℕ, zero, suc, ℤ, pos, ◌+ℤ◌, ◌-ℤ◌, ◌≤ℤ◌, ◌+◌, ◌-◌, ◌*◌, ◌/◌, ◌%◌, ◌^◌, ◌<◌, ◌≤◌, ◌⊎◌, Bool, true, false, cond, not, ltb, sym, refl, ap, ◌∙◌, subst, inl, inr, ⊎_elim, arith}
+use mathlib.Core.Bool.{beq}
+use Rattle.std.proofs.Math.Path.{subst₂}
+use Rattle.std.proofs.Math.Nat.{mul-le-mul_left, mul-le-mul_right, pow-le-pow_right}
+use Rattle.std.proofs.lemmas.Bool.{cases_lt, lt-ltb, le-ltb}
+use Rattle.std.proofs.lemmas.Nat.{pow-add, pow_pos}
+use Rattle.std.proofs.lemmas.Int.{ints}
+use Rattle.apfloat_base.specs.declared.sig.sum.Term.{Term}
+use Rattle.apfloat_base.specs.arithmetic.Exact.{up, signed}
+use Rattle.apfloat_base.specs.arithmetic.Totals.{counted, IsSignedToOdd, IsApartToOdd, IsGreater, Balances}
+use Rattle.apfloat_base.specs.rounding.RoundingToOdd.{IsRoundedToOdd}
+use Rattle.apfloat_base.proofs.general.Powers.{two_pos}
+use Rattle.apfloat_base.proofs.arithmetic.Signs.{swapped_sum}
+use Rattle.apfloat_base.proofs.arithmetic.Totals.{raised, like_signs, unlike_signs, balances_times}
+use Rattle.apfloat_base.proofs.rounding.OddRoundings.{whole_to_odd, to_odd_times, odd_together, odd_apart}
+
+-- ---- significands that are moved up to 62 digits
+
+pub moved_fits : (m precision : ℕ) → precision ≤ 59 → m < 2 ^ precision → m * 2 ^ (62 - precision) < 2 ^ 62
+moved_fits m precision l h =
+    let k : 0 < 2 ^ (62 - precision) = pow_pos (62 - precision) in
+    let e : precision + (62 - precision) ≡ 62 = omega arith in
+    let w : 2 ^ 62 ≡ 2 ^ precision * 2 ^ (62 - precision) = ap (λ (x : ℕ). 2 ^ x) (sym e) ∙
+    pow-add 2 precision (62 - precision) in
+    let h' : m + 1 ≤ 2 ^ precision = omega (arith, h) in
+    let d : (m + 1) * 2 ^ (62 - precision) ≤ 2 ^ precision * 2 ^ (62 - precision) =
+    mul-le-mul_right (2 ^ (62 - precision)) h' in
+    omega (arith, d, w, k)
+
+pub moved_full : (m precision : ℕ) → 0 < precision → precision ≤ 59 → 2 ^ (precision - 1) ≤ m
+    → 2 ^ 61 ≤ m * 2 ^ (62 - precision)
+moved_full m precision p l h =
+    let e : (precision - 1) + (62 - precision) ≡ 61 = omega arith in
+    let w : 2 ^ 61 ≡ 2 ^ (precision - 1) * 2 ^ (62 - precision) = ap (λ (x : ℕ). 2 ^ x) (sym e) ∙
+    pow-add 2 (precision - 1) (62 - precision) in
+    let d : 2 ^ (precision - 1) * 2 ^ (62 - precision) ≤ m * 2 ^ (62 - precision) =
+    mul-le-mul_right (2 ^ (62 - precision)) h in
+    omega (arith, d, w)
+
+-- their last three digits are zero
+pub moved_free : (m precision : ℕ) → precision ≤ 59 → m * 2 ^ (62 - precision) % 8 ≡ 0
+moved_free m precision l =
+    let e : (59 - precision) + 3 ≡ 62 - precision = omega arith in
+    let w : 2 ^ (62 - precision) ≡ 2 ^ (59 - precision) * 8 = ap (λ (x : ℕ). 2 ^ x) (sym e) ∙
+    pow-add 2 (59 - precision) 3 in
+    let d : m * 2 ^ (62 - precision) ≡ m * 2 ^ (59 - precision) * 8 = ap (λ (x : ℕ). m * x) w ∙ omega arith in
+    omega (arith, d)
+
+-- ---- together and apart, in one unit
+
+-- a number with three free digits loses nothing by a cut of at most three
+free_cut : (low j gap : ℕ) → low % 8 ≡ 0 → gap ≤ 3 → IsRoundedToOdd 1 j low (2 ^ gap) → low ≡ j * 2 ^ gap
+free_cut low j gap f l h =
+    let e : (3 - gap) + gap ≡ 3 = omega arith in
+    let w : 8 ≡ 2 ^ (3 - gap) * 2 ^ gap = ap (λ (x : ℕ). 2 ^ x) (sym e) ∙ pow-add 2 (3 - gap) gap in
+    let d : low ≡ low / 8 * 8 = omega (arith, f) in
+    let k : low ≡ low / 8 * 2 ^ (3 - gap) * 2 ^ gap = d ∙ ap (λ (x : ℕ). low / 8 * x) w ∙ omega arith in
+    k ∙ sym (whole_to_odd 1 j (low / 8 * 2 ^ (3 - gap)) (2 ^ gap)
+    (subst (λ (x : ℕ). IsRoundedToOdd 1 j x (2 ^ gap)) k h))
+
+-- and a cut of more leaves little of it
+far_cut : (low j gap : ℕ) → low < 2 ^ 62 → 4 ≤ gap → IsRoundedToOdd 1 j low (2 ^ gap) → j ≤ 2 ^ 58
+far_cut low zero gap f l h = omega arith
+far_cut low (suc i) gap f l h =
+    let k : 2 ^ 4 ≤ 2 ^ gap = pow-le-pow_right two_pos l in
+    let m : i * 2 ^ 4 ≤ i * 2 ^ gap = mul-le-mul_left i k in
+    let a : i * 2 ^ gap < low =
+    ⊎_elim
+    (λ (e : low ≡ suc i * 2 ^ gap). omega (arith, e, k))
+    (λ b. let a = b.above in omega (arith, a))
+    h in
+    omega (arith, m, a, f)
+
+-- an exact difference
+exact_apart : (high low j gap : ℕ) (flipped : Bool) → low ≡ j * 2 ^ gap → flipped ≡ ltb high j
+    → IsApartToOdd (2 ^ 60) (high * 2 ^ gap) low flipped (cond flipped j high - cond flipped high j) (2 ^ gap)
+exact_apart high low j gap flipped e f =
+    ⊎_elim
+    (λ (l : high < j).
+    let g : flipped ≡ true = f ∙ lt-ltb high j l in
+    let r : (j - high) + high ≡ j = omega arith in
+    let k : ((j - high) + high) * 2 ^ gap ≡ j * 2 ^ gap = ap (λ (x : ℕ). x * 2 ^ gap) r in
+    rw g (record {
+      amount = (j - high) * 2 ^ gap;
+      balances = omega (arith, k, e);
+      rounded = inl refl;
+    }))
+    (λ (l : j ≤ high).
+    let g : flipped ≡ false = f ∙ le-ltb high j l in
+    let r : (high - j) + j ≡ high = omega arith in
+    let k : ((high - j) + j) * 2 ^ gap ≡ high * 2 ^ gap = ap (λ (x : ℕ). x * 2 ^ gap) r in
+    rw g (record {
+      amount = (high - j) * 2 ^ gap;
+      balances = omega (arith, k, e);
+      rounded = inl refl;
+    }))
+    (cases_lt high j)
+
+pub apart_to_odd : (high low j gap : ℕ) (flipped : Bool) → 2 ^ 61 ≤ high → high % 8 ≡ 0 → low < 2 ^ 62
+    → low % 8 ≡ 0 → IsRoundedToOdd 1 j low (2 ^ gap) → flipped ≡ ltb high j
+    → IsApartToOdd (2 ^ 60) (high * 2 ^ gap) low flipped (cond flipped j high - cond flipped high j) (2 ^ gap)
+apart_to_odd high low j gap flipped full even fits free h f =
+    ⊎_elim
+    (λ (l : gap < 4). exact_apart high low j gap flipped (free_cut low j gap free (omega arith) h) f)
+    (λ (l : 4 ≤ gap).
+    let s : j ≤ 2 ^ 58 = far_cut low j gap fits l h in
+    let g : flipped ≡ false = f ∙ le-ltb high j (omega (arith, s, full)) in
+    let r = odd_apart (2 ^ 60) high low j (2 ^ gap) (omega (arith, even)) (omega (arith, s, full)) h in
+    let b = r.0 in
+    rw g (record { amount = high * 2 ^ gap - low; balances = omega (arith, b); rounded = r.1 }))
+    (cases_lt gap 4)
+
+pub together_to_odd : (high low j gap : ℕ) (flipped : Bool) → 2 ^ 61 ≤ high → high % 8 ≡ 0
+    → IsRoundedToOdd 1 j low (2 ^ gap) → flipped ≡ false
+    → (flipped ≡ false) × IsRoundedToOdd (2 ^ 60) (cond flipped j high + cond flipped high j)
+    (high * 2 ^ gap + low) (2 ^ gap)
+together_to_odd high low j gap flipped full even h f =
+    (f, rw f (odd_together (2 ^ 60) high low j (2 ^ gap) (omega (arith, even)) (omega (arith, full)) h))
+
+pub combined_fits : (high j : ℕ) (flipped : Bool) → high < 2 ^ 62 → j < 2 ^ 62
+    → (cond flipped j high - cond flipped high j < 2 ^ 63) × (cond flipped j high + cond flipped high j < 2 ^ 63)
+combined_fits high j true h k = (omega (arith, h, k), omega (arith, h, k))
+combined_fits high j false h k = (omega (arith, h, k), omega (arith, h, k))
+
+-- ---- two terms with signs
+
+-- the total of two terms whose significands were moved up by `room` places
+pub total_to_odd : (base eh el e : ℤ) (s t unlike flipped : Bool) (mh ml room gap q : ℕ)
+    → (base +ℤ pos 62) ≤ℤ el → room ≤ 62 → (el +ℤ pos gap) ≡ eh → (e +ℤ pos room) ≡ eh
+    → (unlike ≡ false → s ≡ t) → (unlike ≡ true → s ≡ t → ⊥)
+    → (unlike ≡ false → (flipped ≡ false)
+    × IsRoundedToOdd (2 ^ 60) q (mh * 2 ^ room * 2 ^ gap + ml * 2 ^ room) (2 ^ gap))
+    → (unlike ≡ true → IsApartToOdd (2 ^ 60) (mh * 2 ^ room * 2 ^ gap) (ml * 2 ^ room) flipped q (2 ^ gap))
+    → IsSignedToOdd (2 ^ 60) base (counted base s eh mh +ℤ counted base t el ml) (cond flipped t s) e q
+total_to_odd base eh el e s t false flipped mh ml room gap q l r g d like unlike together apart =
+    let lowest = el -ℤ pos room in
+    let w = 2 ^ up (lowest -ℤ base) in
+    let a = raised base lowest e gap (omega (arith, ints)) (omega (arith, ints)) in
+    let b = raised base e eh room a.0 d in
+    let v = raised base lowest el room (omega (arith, ints)) (omega (arith, ints)) in
+    let h = together refl in
+    let high : mh * 2 ^ up (eh -ℤ base) ≡ mh * 2 ^ room * 2 ^ gap * w = ap (λ (x : ℕ). mh * x) b.1 ∙
+    ap (λ (x : ℕ). mh * (2 ^ room * x)) a.1 ∙ omega arith in
+    let low : ml * 2 ^ up (el -ℤ base) ≡ ml * 2 ^ room * w = ap (λ (x : ℕ). ml * x) v.1 ∙ omega arith in
+    let k : (mh * 2 ^ room * 2 ^ gap + ml * 2 ^ room) * w
+    ≡ mh * 2 ^ up (eh -ℤ base) + ml * 2 ^ up (el -ℤ base) = omega (arith, high, low) in
+    record {
+      above = a.0;
+      amount = (mh * 2 ^ room * 2 ^ gap + ml * 2 ^ room) * w;
+      is = ap (λ (x : Bool). signed (cond x t s) ((mh * 2 ^ room * 2 ^ gap + ml * 2 ^ room) * w)) h.0 ∙
+          ap (λ (x : ℕ). signed s x) k ∙ like_signs s (mh * 2 ^ up (eh -ℤ base)) (ml * 2 ^ up (el -ℤ base)) ∙
+          ap (λ (x : Bool). counted base s eh mh +ℤ counted base x el ml) (like refl);
+      rounded =
+          subst (λ (x : ℕ). IsRoundedToOdd (2 ^ 60) q ((mh * 2 ^ room * 2 ^ gap + ml * 2 ^ room) * w) x) (sym a.1)
+          (to_odd_times (2 ^ 60) q (mh * 2 ^ room * 2 ^ gap + ml * 2 ^ room) (2 ^ gap) w
+          (pow_pos (up (lowest -ℤ base))) h.1);
+    }
+total_to_odd base eh el e s t true flipped mh ml room gap q l r g d like unlike together apart =
+    let lowest = el -ℤ pos room in
+    let w = 2 ^ up (lowest -ℤ base) in
+    let a = raised base lowest e gap (omega (arith, ints)) (omega (arith, ints)) in
+    let b = raised base e eh room a.0 d in
+    let v = raised base lowest el room (omega (arith, ints)) (omega (arith, ints)) in
+    let h = apart refl in
+    let high : mh * 2 ^ up (eh -ℤ base) ≡ mh * 2 ^ room * 2 ^ gap * w = ap (λ (x : ℕ). mh * x) b.1 ∙
+    ap (λ (x : ℕ). mh * (2 ^ room * x)) a.1 ∙ omega arith in
+    let low : ml * 2 ^ up (el -ℤ base) ≡ ml * 2 ^ room * w = ap (λ (x : ℕ). ml * x) v.1 ∙ omega arith in
+    let k : Balances flipped (h.amount * w) (mh * 2 ^ up (eh -ℤ base)) (ml * 2 ^ up (el -ℤ base)) =
+    subst₂ (λ (x : ℕ) (y : ℕ). Balances flipped (h.amount * w) x y) (sym high) (sym low)
+    (balances_times flipped h.amount (mh * 2 ^ room * 2 ^ gap) (ml * 2 ^ room) w h.balances) in
+    record {
+      above = a.0;
+      amount = h.amount * w;
+      is = unlike_signs s t flipped (mh * 2 ^ up (eh -ℤ base)) (ml * 2 ^ up (el -ℤ base)) (h.amount * w)
+          (unlike refl) k;
+      rounded =
+          subst (λ (x : ℕ). IsRoundedToOdd (2 ^ 60) q (h.amount * w) x) (sym a.1)
+          (to_odd_times (2 ^ 60) q h.amount (2 ^ gap) w (pow_pos (up (lowest -ℤ base))) h.rounded);
+    }
+
+-- in which order the terms are does not matter
+pub ordered_to_odd : (least : ℕ) (base : ℤ) (high low x y : Term) (negative : Bool) (e : ℤ) (q : ℕ)
+    → ((high ≡ x) × (low ≡ y)) ⊎ ((high ≡ y) × (low ≡ x))
+    → IsSignedToOdd least base (counted base high.negative high.exponent high.significand +ℤ counted base
+    low.negative low.exponent low.significand) negative e q
+    → IsSignedToOdd least base (counted base x.negative x.exponent x.significand +ℤ counted base y.negative
+    y.exponent y.significand) negative e q
+ordered_to_odd least base high low x y negative e q (inl d) h =
+    subst₂ (λ (a : Term) (b : Term). IsSignedToOdd least base (counted base a.negative a.exponent a.significand
+    +ℤ counted base b.negative b.exponent b.significand) negative e q) d.0 d.1 h
+ordered_to_odd least base high low x y negative e q (inr d) h =
+    let g = subst₂ (λ (a : Term) (b : Term). IsSignedToOdd least base
+    (counted base a.negative a.exponent a.significand +ℤ counted base b.negative b.exponent b.significand)
+    negative e q) d.0 d.1 h in
+    record {
+      above = g.above;
+      amount = g.amount;
+      is = g.is ∙ swapped_sum (counted base y.negative y.exponent y.significand)
+          (counted base x.negative x.exponent x.significand);
+      rounded = g.rounded;
+    }
+
+-- what holds of both terms holds of each of them in order
+pub of_high : (P : Term → Type 0) (high low x y : Term)
+    → ((high ≡ x) × (low ≡ y)) ⊎ ((high ≡ y) × (low ≡ x)) → P x → P y → P high
+of_high P high low x y (inl d) a b = subst P (sym d.0) a
+of_high P high low x y (inr d) a b = subst P (sym d.0) b
+
+pub of_low : (P : Term → Type 0) (high low x y : Term)
+    → ((high ≡ x) × (low ≡ y)) ⊎ ((high ≡ y) × (low ≡ x)) → P x → P y → P low
+of_low P high low x y (inl d) a b = subst P (sym d.1) b
+of_low P high low x y (inr d) a b = subst P (sym d.1) a
+
+-- two signs that differ, and two that do not
+pub unlike_false : (s t : Bool) → not (beq s t) ≡ false → s ≡ t
+unlike_false true true e = refl
+unlike_false true false e = cc
+unlike_false false true e = cc
+unlike_false false false e = refl
+
+pub unlike_true : (s t : Bool) → not (beq s t) ≡ true → s ≡ t → ⊥
+unlike_true true true e d = cc
+unlike_true true false e d = cc
+unlike_true false true e d = cc
+unlike_true false false e d = cc
+
+-- the first of two terms in order has the greater exponent
+pub greater_first : (high low x y : Term) (z : ℤ) → ((high ≡ x) × (low ≡ y)) ⊎ ((high ≡ y) × (low ≡ x))
+    → low.exponent ≤ℤ high.exponent → z ≡ high.exponent → IsGreater z x.exponent y.exponent
+greater_first high low x y z (inl d) l e =
+    let a : high.exponent ≡ x.exponent = ap (λ (t : Term). t.exponent) d.0 in
+    let b : low.exponent ≡ y.exponent = ap (λ (t : Term). t.exponent) d.1 in
+    record { one = inl (e ∙ a); first = omega (arith, ints, a, b, l, e); second = omega (arith, ints, a, b, l, e) }
+greater_first high low x y z (inr d) l e =
+    let a : high.exponent ≡ y.exponent = ap (λ (t : Term). t.exponent) d.0 in
+    let b : low.exponent ≡ x.exponent = ap (λ (t : Term). t.exponent) d.1 in
+    record { one = inr (e ∙ a); first = omega (arith, ints, a, b, l, e); second = omega (arith, ints, a, b, l, e) }

@@ -1,0 +1,111 @@
+-- Numbers of units that are rounded to odd.
+use Rattle.std.proofs.Common.{◌≡◌, ℕ, zero, suc, ◌+◌, ◌-◌, ◌*◌, ◌%◌, ◌^◌, ◌<◌, ◌≤◌, sym, refl, ap, inl, inr, arith}
+use Rattle.std.proofs.Math.Nat.{mul-le-mul_right, mul-le-mul_left, mul-lt-mul_of_pos_right, eq_of_mul-eq-mul_right, lt_of_mul-lt-mul_right, pow-le-pow_right}
+use Rattle.apfloat_base.proofs.general.Powers.{two_pos}
+use Rattle.apfloat_base.specs.rounding.RoundingToOdd.{IsRoundedToOdd}
+
+-- ---- a number that is cut
+
+-- an even number of units below which something is lost goes up to the odd one
+pub raised_to_odd : (n u q : ℕ) → q * u < n → n < (q + 1) * u → q % 2 ≡ 0 → IsRoundedToOdd 1 (q + 1) n u
+raised_to_odd n u q a b e = inr (record {
+  long = omega arith;
+  odd = omega (arith, e);
+  above = omega (arith, a);
+  below = omega (arith, b);
+})
+
+-- and an odd one stays
+pub stays_odd : (n u q : ℕ) → q * u ≤ n → n < (q + 1) * u → q % 2 ≡ 1 → IsRoundedToOdd 1 q n u
+stays_odd n u q a b o = inr (record {
+  long = omega (arith, o);
+  odd = o;
+  above = omega (arith, a, b);
+  below = omega (arith, b);
+})
+
+-- what is cut off as a whole leaves 1, if it is not 0
+pub beyond_to_odd : (n k : ℕ) → 64 ≤ k → n < 2 ^ 64 → 0 < n → IsRoundedToOdd 1 1 n (2 ^ k)
+beyond_to_odd n k l h p =
+    let w : 2 ^ 64 ≤ 2 ^ k = pow-le-pow_right two_pos l in
+    inr (record { long = omega arith; odd = refl; above = omega (arith, p); below = omega (arith, w, h) })
+
+-- ---- units
+
+-- a whole number of units is not changed
+pub whole_to_odd : (least s m u : ℕ) → IsRoundedToOdd least s (m * u) u → s * u ≡ m * u
+whole_to_odd least s m u (inl e) = sym e
+whole_to_odd least s m u (inr b) =
+    let a : s < m + 1 = lt_of_mul-lt-mul_right u (omega (arith, b.above)) in
+    let l : m < s + 1 = lt_of_mul-lt-mul_right u (omega (arith, b.below)) in
+    let e : s ≡ m = omega arith in
+    ap (λ (x : ℕ). x * u) e
+
+-- multiplying amount and unit by a factor changes nothing
+pub to_odd_times : (least s amount u w : ℕ) → 0 < w → IsRoundedToOdd least s amount u
+    → IsRoundedToOdd least s (amount * w) (u * w)
+to_odd_times least s amount u w p (inl e) =
+    let k : amount * w ≡ s * u * w = ap (λ (x : ℕ). x * w) e in inl (omega arith)
+to_odd_times least s amount u w p (inr b) =
+    let a : s * u * w < (amount + u) * w = mul-lt-mul_of_pos_right b.above p in
+    let l : amount * w < (s + 1) * u * w = mul-lt-mul_of_pos_right b.below p in
+    inr (record { long = b.long; odd = b.odd; above = omega arith; below = omega arith })
+
+-- nor does dividing both by a common factor
+pub to_odd_cancel : (least s amount u w : ℕ) → 0 < w → IsRoundedToOdd least s (amount * w) (u * w)
+    → IsRoundedToOdd least s amount u
+to_odd_cancel least s amount u w p (inl e) = inl (eq_of_mul-eq-mul_right w p amount (s * u) (omega (arith, e)))
+to_odd_cancel least s amount u w p (inr b) =
+    let a = b.above in let l = b.below in
+    inr (record {
+      long = b.long;
+      odd = b.odd;
+      above = lt_of_mul-lt-mul_right w (omega (arith, a));
+      below = lt_of_mul-lt-mul_right w (omega (arith, l));
+    })
+
+-- ---- sums
+
+-- the number of units is at most the amount
+pub to_odd_at_most : (least s amount u : ℕ) → 0 < u → IsRoundedToOdd least s amount u → s ≤ amount
+to_odd_at_most least s amount zero p (inl e) = absurd (omega arith)
+to_odd_at_most least s amount (suc u) p (inl e) = omega (arith, e)
+to_odd_at_most least zero amount u p (inr b) = omega arith
+to_odd_at_most least (suc s) amount u p (inr b) =
+    let a = b.above in
+    let k : s * 1 ≤ s * u = mul-le-mul_left s p in
+    omega (arith, a, k)
+
+-- an even number of whole units can be added
+pub odd_together : (least high low j u : ℕ) → high % 2 ≡ 0 → least ≤ high → IsRoundedToOdd 1 j low u
+    → IsRoundedToOdd least (high + j) (high * u + low) u
+odd_together least high low j u e l (inl d) = inl (omega (arith, d))
+odd_together least high low j u e l (inr b) =
+    let o = b.odd in let a = b.above in let d = b.below in
+    inr (record {
+      long = omega arith;
+      odd = omega (arith, e, o);
+      above = omega (arith, a);
+      below = omega (arith, d);
+    })
+
+-- and what was rounded can be subtracted from one that is greater
+pub odd_apart : (least high low j u : ℕ) → high % 2 ≡ 0 → j + 1 + least ≤ high → IsRoundedToOdd 1 j low u
+    → (low ≤ high * u) × IsRoundedToOdd least (high - j) (high * u - low) u
+odd_apart least high low j u e l (inl d) =
+    let r : (high - j) + j ≡ high = omega arith in
+    let k : ((high - j) + j) * u ≡ high * u = ap (λ (x : ℕ). x * u) r in
+    (omega (arith, d, k), inl (omega (arith, d, k)))
+odd_apart least high low j u e l (inr b) =
+    let o = b.odd in let a = b.above in let d = b.below in
+    let r : (high - j) + j ≡ high = omega arith in
+    let k : ((high - j) + j) * u ≡ high * u = ap (λ (x : ℕ). x * u) r in
+    let m : (j + 1) * u ≤ high * u = mul-le-mul_right u (omega arith) in (
+      omega (arith, d, m),
+      inr (record {
+        long = omega arith;
+        odd = omega (arith, e, o);
+        above = omega (arith, a, d, k, m);
+        below = omega (arith, a, d, k, m);
+      }),
+    )
