@@ -8,11 +8,13 @@ use Rattle.std.proofs.lemmas.Int.{ints}
 use Rattle.apfloat_base.specs.declared.sig.loss.Loss.{Loss}
 use Rattle.apfloat_base.specs.declared.sig.loss.Loss.TheVariants.{ExactlyZero}
 use Rattle.apfloat_base.specs.arithmetic.Exact.{up, down, signed, sign_of, magnitude}
+use Rattle.apfloat_base.specs.rounding.RoundingToOdd.{IsRoundedToOdd}
 use Rattle.apfloat_base.specs.rounding.Standing.{StandsFor}
-use Rattle.apfloat_base.specs.arithmetic.Totals.{counted, StandsForSigned}
+use Rattle.apfloat_base.specs.arithmetic.Totals.{counted, StandsForSigned, IsSignedToOdd}
 use Rattle.apfloat_base.proofs.general.Powers.{two_pos, twice_half}
 use Rattle.apfloat_base.proofs.rounding.Deliveries.{loss_cases}
 use Rattle.apfloat_base.proofs.rounding.KeptDigits.{stands_cancel, stands_times}
+use Rattle.apfloat_base.proofs.rounding.OddRoundings.{to_odd_times, to_odd_cancel}
 use Rattle.apfloat_base.proofs.arithmetic.Totals.{zero_stands, no_down}
 use Rattle.apfloat_unpacked.specs.Stored.{IsQuantaAt}
 
@@ -172,6 +174,97 @@ sum_read of_zero precision scale min xe ye tx ty e unit s t negative mx my m n q
     let h' : StandsForSigned base (signed s (m * 2 ^ k) +ℤ signed t (n * 2 ^ k)) negative e q loss =
     subst₂ (λ (z : ℕ) (w : ℕ). StandsForSigned base (signed s z +ℤ signed t w) negative e q loss) x y h in
     read_sum of_zero base e unit k m n s t negative q loss (omega (arith, ints)) h'
+
+-- ---- the same for a total that was rounded to odd
+
+pub record IsRepresentedToOdd (least : ℕ) (of_zero : Bool) (exact : ℤ) (negative : Bool) (unit : ℤ)
+    (significand : ℕ) : Type 0 where
+  pub rounded : IsRoundedToOdd least significand (magnitude exact * 2 ^ down unit) (1 * 2 ^ up unit)
+  pub zero_sign : significand ≡ 0 → of_zero ≡ sign_of of_zero exact
+  pub other_sign : (significand ≡ 0 → ⊥) → negative ≡ sign_of of_zero exact
+
+-- what a significand is rounded from, counted from the quantum
+read_to_odd : (least : ℕ) (base e unit : ℤ) (k amount whole q : ℕ) → base ≤ℤ e → e ≡ ((unit +ℤ base) +ℤ pos k)
+    → amount ≡ whole * 2 ^ k → IsRoundedToOdd least q amount (2 ^ up (e -ℤ base))
+    → IsRoundedToOdd least q (whole * 2 ^ down unit) (1 * 2 ^ up unit)
+read_to_odd least base e unit k amount whole q l d a h =
+    let z : down (e -ℤ base) ≡ 0 = no_down (e -ℤ base) (omega (arith, ints)) in
+    let v : up (e -ℤ base) + down unit ≡ up unit + k = omega (arith, ints) in
+    let p : 2 ^ up (e -ℤ base) * 2 ^ down unit ≡ 2 ^ up unit * 2 ^ k =
+    sym (pow-add 2 (up (e -ℤ base)) (down unit)) ∙ ap (λ (x : ℕ). 2 ^ x) v ∙ pow-add 2 (up unit) k in
+    let p' : 2 ^ up (e -ℤ base) * 2 ^ down unit ≡ 1 * 2 ^ up unit * 2 ^ k = omega arith in
+    let w : amount * 2 ^ down unit ≡ whole * 2 ^ down unit * 2 ^ k = ap (λ (x : ℕ). x * 2 ^ down unit) a ∙
+    omega arith in
+    let t : IsRoundedToOdd least q (amount * 2 ^ down unit) (2 ^ up (e -ℤ base) * 2 ^ down unit) =
+    to_odd_times least q amount (2 ^ up (e -ℤ base)) (2 ^ down unit) (pow_pos (down unit)) h in
+    to_odd_cancel least q (whole * 2 ^ down unit) (1 * 2 ^ up unit) (2 ^ k) (pow_pos k)
+    (subst₂ (λ (x : ℕ) (y : ℕ). IsRoundedToOdd least q x y) w p' t)
+
+-- an amount above 0 is not rounded to 0, and 0 is
+odd_amount : (least q amount unit : ℕ) → 0 < unit → (q ≡ 0 → ⊥) → IsRoundedToOdd least q amount unit → 0 < amount
+odd_amount least zero amount unit p n h = absurd (n refl)
+odd_amount least (suc q) (suc amount) unit p n h = omega arith
+odd_amount least (suc q) zero unit p n (inl e) = absurd (omega (arith, e, p))
+odd_amount least (suc q) zero unit p n (inr b) = let a = b.above in absurd (omega (arith, a))
+
+even_amount : (least q amount unit : ℕ) → q ≡ 0 → IsRoundedToOdd least q amount unit → amount ≡ 0
+even_amount least zero amount unit z (inl e) = omega (arith, e)
+even_amount least zero amount unit z (inr b) = let o = b.odd in absurd (omega (arith, o))
+even_amount least (suc q) amount unit z h = absurd (omega (arith, z))
+
+read_odd_sum : (least : ℕ) (of_zero : Bool) (base e unit : ℤ) (k m n : ℕ) (left right negative : Bool) (q : ℕ)
+    → e ≡ ((unit +ℤ base) +ℤ pos k)
+    → IsSignedToOdd least base (signed left (m * 2 ^ k) +ℤ signed right (n * 2 ^ k)) negative e q
+    → IsRepresentedToOdd least of_zero (signed left m +ℤ signed right n) negative unit q
+read_odd_sum least of_zero base e unit k m n s t negative q d h =
+    let w : 0 < 2 ^ k = pow_pos k in
+    let u : 0 < 2 ^ up (e -ℤ base) = pow_pos (up (e -ℤ base)) in
+    let b = scaled_sum s t m n (2 ^ k) (signed negative h.amount) (signed s m +ℤ signed t n) h.is refl in
+    let a : h.amount ≡ magnitude (signed s m +ℤ signed t n) * 2 ^ k =
+    read_amount negative h.amount (2 ^ k) (signed s m +ℤ signed t n) w b in
+    record {
+      rounded =
+          read_to_odd least base e unit k h.amount (magnitude (signed s m +ℤ signed t n)) q h.above d a h.rounded;
+      zero_sign =
+          λ x. read_zero of_zero h.amount (2 ^ k) (signed s m +ℤ signed t n) w
+          (even_amount least q h.amount (2 ^ up (e -ℤ base)) x h.rounded) a;
+      other_sign =
+          λ x. read_sign of_zero negative h.amount (2 ^ k) (signed s m +ℤ signed t n) w
+          (odd_amount least q h.amount (2 ^ up (e -ℤ base)) u x h.rounded) b;
+    }
+
+-- the sign of the sum, where a zero takes the sign that the mode gives it
+pub read_odd_sign : (least : ℕ) (of_zero : Bool) (exact unit : ℤ) (negative answer : Bool) (significand : ℕ)
+    → IsRepresentedToOdd least of_zero exact negative unit significand
+    → (significand ≡ 0 → answer ≡ of_zero) → ((significand ≡ 0 → ⊥) → answer ≡ negative)
+    → answer ≡ sign_of of_zero exact
+read_odd_sign least of_zero exact unit negative answer zero r f g = f refl ∙ r.zero_sign refl
+read_odd_sign least of_zero exact unit negative answer (suc n) r f g =
+    let k = λ (x : suc n ≡ 0). absurd (omega arith) in g k ∙ r.other_sign k
+
+-- the two numbers and the sum of their terms
+pub odd_sum_read : (least : ℕ) (of_zero : Bool) (precision scale : ℕ) (min xe ye tx ty e unit : ℤ)
+    (left right negative : Bool) (mx my m n q : ℕ)
+    → ((min +ℤ pos 1) -ℤ pos precision) ≤ℤ xe → ((min +ℤ pos 1) -ℤ pos precision) ≤ℤ ye
+    → (tx +ℤ pos precision) ≡ (xe +ℤ pos 1) → (ty +ℤ pos precision) ≡ (ye +ℤ pos 1)
+    → (pos scale +ℤ min) +ℤ pos 1 ≡ pos precision → unit ≡ (e +ℤ pos scale) → IsQuantaAt min mx xe m
+    → IsQuantaAt min my ye n
+    → ((base : ℤ) → (base +ℤ pos 62) ≤ℤ tx → (base +ℤ pos 62) ≤ℤ ty
+    → IsSignedToOdd least base (counted base left tx mx +ℤ counted base right ty my) negative e q)
+    → IsRepresentedToOdd least of_zero (signed left m +ℤ signed right n) negative unit q
+odd_sum_read least of_zero precision scale min xe ye tx ty e unit s t negative mx my m n q lx ly ax ay w u ix iy f =
+    let base = ((min -ℤ pos precision) -ℤ pos precision) -ℤ pos 64 in
+    let k = precision + 65 in
+    let bx : (base +ℤ pos 62) ≤ℤ tx = omega (arith, ints) in
+    let by : (base +ℤ pos 62) ≤ℤ ty = omega (arith, ints) in
+    let x : mx * 2 ^ up (tx -ℤ base) ≡ m * 2 ^ k =
+    quanta_counted min xe tx base k mx m (omega (arith, ints)) (omega (arith, ints)) ix in
+    let y : my * 2 ^ up (ty -ℤ base) ≡ n * 2 ^ k =
+    quanta_counted min ye ty base k my n (omega (arith, ints)) (omega (arith, ints)) iy in
+    let h : IsSignedToOdd least base (counted base s tx mx +ℤ counted base t ty my) negative e q = f base bx by in
+    let h' : IsSignedToOdd least base (signed s (m * 2 ^ k) +ℤ signed t (n * 2 ^ k)) negative e q =
+    subst₂ (λ (z : ℕ) (v : ℕ). IsSignedToOdd least base (signed s z +ℤ signed t v) negative e q) x y h in
+    read_odd_sum least of_zero base e unit k m n s t negative q (omega (arith, ints)) h'
 
 -- the least exponent and the scale, by the precision
 pub scale_is : (precision : ℕ) (min : ℤ) → 3 ≤ precision → min ≤ℤ negsuc 0

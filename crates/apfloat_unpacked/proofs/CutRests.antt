@@ -23,7 +23,7 @@ use Rattle.apfloat_unpacked.specs.Cuts.{loss_at}
 pub loss_zero : (rest half : ℕ) → rest ≡ 0 → loss_at rest half ≡ ExactlyZero
 loss_zero rest half e = let a : eqb rest 0 ≡ true = eq-eqb rest 0 e in rw a refl
 
-loss_less : (rest half : ℕ) → 0 < rest → rest < half → loss_at rest half ≡ LessThanHalf
+pub loss_less : (rest half : ℕ) → 0 < rest → rest < half → loss_at rest half ≡ LessThanHalf
 loss_less rest half p l =
     let a : eqb rest 0 ≡ false = ne_eqb rest 0 (λ z. omega (arith, z)) in
     let b : ltb rest half ≡ true = lt-ltb rest half l in
@@ -36,7 +36,7 @@ loss_half rest half p e =
     let d : eqb rest half ≡ true = eq-eqb rest half e in
     rw (a, b, d) refl
 
-loss_more : (rest half : ℕ) → half < rest → loss_at rest half ≡ MoreThanHalf
+pub loss_more : (rest half : ℕ) → half < rest → loss_at rest half ≡ MoreThanHalf
 loss_more rest half l =
     let a : eqb rest 0 ≡ false = ne_eqb rest 0 (λ z. omega (arith, z)) in
     let b : ltb rest half ≡ false = le-ltb rest half (omega (arith, l)) in
@@ -55,7 +55,7 @@ loss_some rest half p z =
     no_zero (ltb rest half) (eqb rest half) (rw a at z)
 
 -- the significand that is left stands for the amount, with the loss of the rest
-rest_stands : (q half rest amount unit : ℕ) → 0 < unit → rest < 2 * half
+pub rest_stands : (q half rest amount unit : ℕ) → 0 < unit → rest < 2 * half
     → StandsFor (q * (2 * half) + rest) ExactlyZero amount unit
     → StandsFor q (loss_at rest half) amount (2 * half * unit)
 rest_stands q half rest amount unit u l h =

@@ -4,3 +4,4 @@ pub mod StoredMembers
 pub mod ShapeExponents
 pub mod HalfQuanta
 pub mod CutRests
+pub mod OddCuts

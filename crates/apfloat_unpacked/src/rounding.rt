@@ -25,6 +25,8 @@ ghost use Rattle.apfloat_unpacked.specs.Cuts.{IsCut, IsCutOff, IsGiven, loss_at}
 ghost use Rattle.apfloat_unpacked.specs.Shapes.{format_at};
 ghost use Rattle.apfloat_unpacked.specs.Stored.{IsStored, GivesAt};
 
+pub mod odd;
+
 use crate::shape::Shape;
 use crate::unpacked::{Unpacked, from_full_quanta, from_rounded_quanta, infinity_of, largest_of};
 use apfloat_base::sig::{Loss, digits, low_digits, power_of_two, shift_right};

@@ -1,0 +1,240 @@
+-- The cut of a significand that was rounded to odd.
+use Rattle.std.proofs.Common.{◌≡◌, ℕ, zero, suc, ℤ, pos, negsuc, ◌+ℤ◌, ◌≤ℤ◌, ◌+◌, ◌-◌, ◌*◌, ◌/◌, ◌%◌, ◌^◌, ◌<◌, ◌≤◌, ◌⊎◌, sym, refl, ap, ◌∙◌, subst, inl, inr, ⊎_elim, arith}
+use Rattle.std.proofs.Math.Path.{subst₂}
+use Rattle.std.proofs.Math.Nat.{mul-le-mul_right, mul-lt-mul_of_pos_right, mul-pos, div-add-mod'}
+use Rattle.std.proofs.lemmas.Bool.{cases_lt}
+use Rattle.std.proofs.lemmas.Int.{ints}
+use Rattle.std.proofs.lemmas.Nat.{pow-add, pow_pos}
+use Rattle.apfloat_base.specs.declared.sig.loss.Loss.{Loss}
+use Rattle.apfloat_base.specs.declared.sig.loss.Loss.TheVariants.{ExactlyZero, LessThanHalf, MoreThanHalf}
+use Rattle.apfloat_base.specs.rounding.Enclosure.{IsEnclosed}
+use Rattle.apfloat_base.specs.rounding.RoundingToOdd.{IsRoundedToOdd}
+use Rattle.apfloat_base.specs.rounding.Standing.{StandsFor, up, down}
+use Rattle.apfloat_base.proofs.general.Powers.{twice_half, exponent_below, pow3}
+use Rattle.apfloat_base.proofs.rounding.KeptDigits.{kept_stands, fits_cut, full_cut, enclosed_from}
+use Rattle.apfloat_base.proofs.rounding.OddRoundings.{whole_to_odd}
+use Rattle.apfloat_unpacked.specs.Cuts.{loss_at}
+use Rattle.apfloat_unpacked.proofs.CutRests.{loss_less, loss_more, rest_stands, rest_below}
+
+-- ---- a significand at the top of a word
+
+-- a number below 2 ^ 64 has at most 64 digits
+pub word_digits : (n digits : ℕ) → n < 2 ^ 64 → (0 < digits → 2 ^ (digits - 1) ≤ n) → digits ≤ 64
+word_digits n zero h f = omega arith
+word_digits n (suc d) h f =
+    let l : 2 ^ (suc d - 1) ≤ n = f (omega arith) in
+    let e : suc d - 1 ≡ d = omega arith in
+    let k : 2 ^ d ≤ n = subst (λ (x : ℕ). 2 ^ x ≤ n) e l in
+    let b : d < 64 = exponent_below d 64 (omega (arith, k, h)) in
+    omega arith
+
+-- moved up to 64 digits, it stays in the word
+pub top_fits : (n digits : ℕ) → digits ≤ 64 → n < 2 ^ digits → n * 2 ^ (64 - digits) < 2 ^ 64
+top_fits n digits l h =
+    let k : 0 < 2 ^ (64 - digits) = pow_pos (64 - digits) in
+    let e : digits + (64 - digits) ≡ 64 = omega arith in
+    let w : 2 ^ 64 ≡ 2 ^ digits * 2 ^ (64 - digits) = ap (λ (x : ℕ). 2 ^ x) (sym e) ∙ pow-add 2 digits (64 - digits) in
+    let h' : n + 1 ≤ 2 ^ digits = omega (arith, h) in
+    let d : (n + 1) * 2 ^ (64 - digits) ≤ 2 ^ digits * 2 ^ (64 - digits) = mul-le-mul_right (2 ^ (64 - digits)) h' in
+    omega (arith, d, w, k)
+
+-- and has its highest digit at the top
+pub top_full : (n digits : ℕ) → 0 < digits → digits ≤ 64 → 2 ^ (digits - 1) ≤ n → 2 ^ 63 ≤ n * 2 ^ (64 - digits)
+top_full n digits p l h =
+    let e : (digits - 1) + (64 - digits) ≡ 63 = omega arith in
+    let w : 2 ^ 63 ≡ 2 ^ (digits - 1) * 2 ^ (64 - digits) = ap (λ (x : ℕ). 2 ^ x) (sym e) ∙
+    pow-add 2 (digits - 1) (64 - digits) in
+    let d : 2 ^ (digits - 1) * 2 ^ (64 - digits) ≤ n * 2 ^ (64 - digits) = mul-le-mul_right (2 ^ (64 - digits)) h in
+    omega (arith, d, w)
+
+-- ---- the rest of an odd significand
+
+-- an odd rest below half of an even unit
+beside_less : (q h r amount u w : ℕ) → 0 < r → r + 1 ≤ h → 0 < w → (q * (2 * h) + r) * u < amount + u
+    → amount < (q * (2 * h) + r + 1) * u → StandsFor q LessThanHalf (amount * w) (2 * (h * w) * u)
+beside_less q h r amount u w p l k a b =
+    let m : 1 * u ≤ r * u = mul-le-mul_right u p in
+    let n : (r + 1) * u ≤ h * u = mul-le-mul_right u l in
+    let x : q * (2 * h) * u < amount = omega (arith, a, m) in
+    let y : 2 * amount < (2 * q + 1) * (2 * h) * u = omega (arith, b, n) in
+    let x' : q * (2 * h) * u * w < amount * w = mul-lt-mul_of_pos_right x k in
+    let y' : 2 * amount * w < (2 * q + 1) * (2 * h) * u * w = mul-lt-mul_of_pos_right y k in
+    (omega (arith, x'), omega (arith, y'))
+
+-- and above it
+beside_more : (q h r amount u w : ℕ) → h + 1 ≤ r → r + 1 ≤ 2 * h → 0 < w → (q * (2 * h) + r) * u < amount + u
+    → amount < (q * (2 * h) + r + 1) * u → StandsFor q MoreThanHalf (amount * w) (2 * (h * w) * u)
+beside_more q h r amount u w l t k a b =
+    let m : (h + 1) * u ≤ r * u = mul-le-mul_right u l in
+    let n : (r + 1) * u ≤ 2 * h * u = mul-le-mul_right u t in
+    let x : (2 * q + 1) * (2 * h) * u < 2 * amount = omega (arith, a, m) in
+    let y : amount < (q + 1) * (2 * h) * u = omega (arith, b, n) in
+    let x' : (2 * q + 1) * (2 * h) * u * w < 2 * amount * w = mul-lt-mul_of_pos_right x k in
+    let y' : amount * w < (q + 1) * (2 * h) * u * w = mul-lt-mul_of_pos_right y k in
+    (omega (arith, x'), omega (arith, y'))
+
+-- the significand t times w is q * 2 * (h * w) + rest, and h is even: what it leaves is less than, or more than, half
+odd_rest : (q g t rest amount u w : ℕ) → 0 < w → t % 2 ≡ 1 → t * w ≡ q * (2 * (2 * g * w)) + rest
+    → rest < 2 * (2 * g * w) → t * u < amount + u → amount < (t + 1) * u
+    → StandsFor q (loss_at rest (2 * g * w)) (amount * w) (2 * (2 * g * w) * u)
+odd_rest q g t rest amount u w k o e l a b =
+    let h = 2 * g in
+    let r = t - q * (2 * h) in
+    let s : q * (2 * h) * w ≤ t * w = omega (arith, e) in
+    let s' : q * (2 * h) ≤ t =
+    ⊎_elim
+    (λ (c : t < q * (2 * h)). let d : t * w < q * (2 * h) * w = mul-lt-mul_of_pos_right c k in absurd (omega arith))
+    (λ (c : q * (2 * h) ≤ t). c)
+    (cases_lt t (q * (2 * h))) in
+    let d : t ≡ q * (2 * h) + r = omega arith in
+    let v : t * w ≡ (q * (2 * h) + r) * w = ap (λ (x : ℕ). x * w) d in
+    let f : rest ≡ r * w = omega (arith, e, v) in
+    let z : r % 2 ≡ 1 = omega (arith, o, d) in
+    let a' : (q * (2 * h) + r) * u < amount + u = subst (λ (x : ℕ). x * u < amount + u) d a in
+    let b' : amount < (q * (2 * h) + r + 1) * u = subst (λ (x : ℕ). amount < (x + 1) * u) d b in
+    let below : r < 2 * h =
+    ⊎_elim
+    (λ (c : r < 2 * h). c)
+    (λ (c : 2 * h ≤ r). let y : 2 * h * w ≤ r * w = mul-le-mul_right w c in absurd (omega (arith, y, f, l)))
+    (cases_lt r (2 * h)) in
+    ⊎_elim
+    (λ (c : r < h).
+    let y : (r + 1) * w ≤ h * w = mul-le-mul_right w (omega arith) in
+    let i : 0 < r = omega (arith, z) in
+    let p : 0 < rest = omega (arith, f, mul-pos i k) in
+    subst (λ (x : Loss). StandsFor q x (amount * w) (2 * (h * w) * u)) (sym (loss_less rest (h * w) p
+    (omega (arith, y, f, k)))) (beside_less q h r amount u w (omega (arith, z)) (omega arith) k a' b'))
+    (λ (c : h ≤ r).
+    let n : h + 1 ≤ r = omega (arith, z, c) in
+    let y : (h + 1) * w ≤ r * w = mul-le-mul_right w n in
+    subst (λ (x : Loss). StandsFor q x (amount * w) (2 * (h * w) * u)) (sym (loss_more rest (h * w)
+    (omega (arith, y, f, k)))) (beside_more q h r amount u w n (omega arith) k a' b'))
+    (cases_lt r h)
+
+-- ---- a cut to the precision
+
+-- how a significand with that many digits, moved up to the top of a word, is cut to the precision
+pub record IsTopSplit (precision s digits top place rest half up down : ℕ) : Type 0 where
+  pub some : 0 < precision
+  pub short : precision ≤ 59
+  pub word : digits ≤ 64
+  pub any : 0 < digits
+  pub fits : s < 2 ^ digits
+  pub full : 2 ^ (digits - 1) ≤ s
+  pub top_is : top ≡ s * 2 ^ (64 - digits)
+  pub half_is : half ≡ 2 ^ (64 - precision - 1)
+  pub rest_is : rest ≡ top % 2 ^ (64 - precision)
+  pub place_is : digits + up ≡ place + precision + down
+
+pub top_cut_fits : (precision s digits top place rest half up down : ℕ)
+    → IsTopSplit precision s digits top place rest half up down → top / 2 ^ (64 - precision) < 2 ^ precision
+top_cut_fits precision s digits top place rest half up down i =
+    let l = i.short in
+    let f : top < 2 ^ 64 = subst (λ (x : ℕ). x < 2 ^ 64) (sym i.top_is) (top_fits s digits i.word i.fits) in
+    fits_cut top 64 (64 - precision) precision f (omega (arith, l))
+
+pub top_cut_full : (precision s digits top place rest half up down : ℕ)
+    → IsTopSplit precision s digits top place rest half up down
+    → 2 ^ (precision - 1) ≤ top / 2 ^ (64 - precision)
+top_cut_full precision s digits top place rest half up down i =
+    let l = i.short in
+    let f : 2 ^ 63 ≤ top = subst (λ (x : ℕ). 2 ^ 63 ≤ x) (sym i.top_is) (top_full s digits i.any i.word i.full) in
+    full_cut top 64 (64 - precision) precision i.some (λ _. f) (omega (arith, l))
+
+-- the cut in units of the significand
+top_stands : (precision s digits top place rest half up down amount unit : ℕ)
+    → IsTopSplit precision s digits top place rest half up down → 0 < unit → IsRoundedToOdd (2 ^ 60) s amount unit
+    → StandsFor (top / 2 ^ (64 - precision)) (loss_at rest half) (amount * 2 ^ (64 - digits))
+    (2 ^ (64 - precision) * unit)
+top_stands precision s digits top place rest half up down amount unit i u h =
+    let l = i.short in
+    let k : 0 < 64 - precision = omega (arith, l) in
+    let q = top / 2 ^ (64 - precision) in
+    let w = 2 ^ (64 - digits) in
+    let t : 2 * 2 ^ (64 - precision - 1) ≡ 2 ^ (64 - precision) = twice_half (64 - precision) k in
+    let t' : 2 * half ≡ 2 ^ (64 - precision) = ap (λ (x : ℕ). 2 * x) i.half_is ∙ t in
+    let b : rest < 2 * half = rest_below top (64 - precision) half rest k i.half_is i.rest_is in
+    let d : q * (2 * half) + rest ≡ top =
+    ap (λ (x : ℕ). q * x + rest) t' ∙ ap (λ (x : ℕ). q * 2 ^ (64 - precision) + x) i.rest_is
+    ∙ div-add-mod' top (2 ^ (64 - precision)) in
+    let v : s * w ≡ q * (2 * half) + rest = sym i.top_is ∙ sym d in
+    subst (λ (x : ℕ). StandsFor q (loss_at rest half) (amount * w) (x * unit)) t'
+    (⊎_elim
+    (λ (e : amount ≡ s * unit).
+    let y : amount * w ≡ s * unit * w = ap (λ (x : ℕ). x * w) e in
+    let z : s * w * unit ≡ (q * (2 * half) + rest) * unit = ap (λ (x : ℕ). x * unit) v in
+    rest_stands q half rest (amount * w) unit u b (omega (arith, y, z)))
+    (λ o.
+    let f = i.fits in
+    let m = o.long in
+    let n : 2 ^ 60 < 2 ^ digits = omega (arith, f, m) in
+    let p : 60 < digits = exponent_below 60 digits n in
+    let g = 2 ^ (62 - precision - (64 - digits)) in
+    let x : 1 + (62 - precision - (64 - digits)) + (64 - digits) ≡ 64 - precision - 1 = omega (arith, l, p) in
+    let c : half ≡ 2 * g * w = i.half_is ∙ ap (λ (x : ℕ). 2 ^ x) (sym x) ∙
+    pow3 1 (62 - precision - (64 - digits)) (64 - digits) in
+    let v' : s * w ≡ q * (2 * (2 * g * w)) + rest = subst (λ (x : ℕ). s * w ≡ q * (2 * x) + rest) c v in
+    let b' : rest < 2 * (2 * g * w) = subst (λ (x : ℕ). rest < 2 * x) c b in
+    subst (λ (x : ℕ). StandsFor q (loss_at rest x) (amount * w) (2 * x * unit)) (sym c)
+    (odd_rest q g s rest amount unit w (pow_pos (64 - digits)) o.odd v' b' o.above o.below))
+    h)
+
+-- what is kept stands for the amount in quanta
+pub top_cut_stands : (precision s digits top place rest half up down amount parts : ℕ)
+    → IsTopSplit precision s digits top place rest half up down → 0 < parts
+    → IsRoundedToOdd (2 ^ 60) s (amount * 2 ^ down) (parts * 2 ^ up)
+    → StandsFor (top / 2 ^ (64 - precision)) (loss_at rest half) amount (2 ^ place * parts)
+top_cut_stands precision s digits top place rest half up down amount parts i p h =
+    let l = i.short in
+    let w = i.word in
+    let d = i.place_is in
+    let e : 64 - precision + up ≡ place + (down + (64 - digits)) = omega (arith, l, w, d) in
+    let a : amount * 2 ^ down * 2 ^ (64 - digits) ≡ amount * 2 ^ (down + (64 - digits)) =
+    let x : 2 ^ (down + (64 - digits)) ≡ 2 ^ down * 2 ^ (64 - digits) = pow-add 2 down (64 - digits) in
+    let y : amount * 2 ^ (down + (64 - digits)) ≡ amount * (2 ^ down * 2 ^ (64 - digits)) =
+    ap (λ (z : ℕ). amount * z) x in
+    omega (arith, y) in
+    kept_stands (top / 2 ^ (64 - precision)) (loss_at rest half) amount parts (64 - precision) up
+    (down + (64 - digits)) place e
+    (subst (λ (x : ℕ). StandsFor (top / 2 ^ (64 - precision)) (loss_at rest half) x
+    (2 ^ (64 - precision) * (parts * 2 ^ up))) a
+    (top_stands precision s digits top place rest half up down (amount * 2 ^ down) (parts * 2 ^ up) i
+    (mul-pos p (pow_pos up)) h))
+
+pub top_cut_encloses : (precision s digits top place rest half up down amount parts : ℕ)
+    → IsTopSplit precision s digits top place rest half up down → 0 < parts
+    → IsRoundedToOdd (2 ^ 60) s (amount * 2 ^ down) (parts * 2 ^ up)
+    → IsEnclosed precision (2 ^ (precision - 1)) (top / 2 ^ (64 - precision)) place amount parts
+top_cut_encloses precision s digits top place rest half up down amount parts i p h =
+    enclosed_from precision (top / 2 ^ (64 - precision)) place (loss_at rest half) amount parts i.some p
+    (top_cut_fits precision s digits top place rest half up down i)
+    (inr (top_cut_full precision s digits top place rest half up down i))
+    (top_cut_stands precision s digits top place rest half up down amount parts i p h)
+
+-- ---- below the last place
+
+-- an integer that is not positive has no positive part
+no_up : (z : ℤ) → z ≤ℤ pos 0 → up z ≡ 0
+no_up (pos zero) h = refl
+no_up (pos (suc n)) h = absurd (omega (arith, ints, h))
+no_up (negsuc n) h = refl
+
+-- with a unit below the quantum, a whole number of quanta is not rounded
+pub exact_below : (s digits precision amount : ℕ) (unit : ℤ) → precision ≤ 59
+    → (s ≡ 0) ⊎ ((s < 2 ^ digits) × ((unit +ℤ pos digits) ≤ℤ pos precision))
+    → IsRoundedToOdd (2 ^ 60) s (amount * 2 ^ down unit) (1 * 2 ^ up unit)
+    → StandsFor s ExactlyZero (amount * 2 ^ down unit) (1 * 2 ^ up unit)
+exact_below s digits precision amount unit l d (inl e) = e
+exact_below s digits precision amount unit l (inl z) (inr o) = let m = o.long in absurd (omega (arith, m, z))
+exact_below s digits precision amount unit l (inr d) (inr o) =
+    let f = d.0 in
+    let g = d.1 in
+    let m = o.long in
+    let n : 2 ^ 60 < 2 ^ digits = omega (arith, f, m) in
+    let p : 60 < digits = exponent_below 60 digits n in
+    let z : up unit ≡ 0 = no_up unit (omega (arith, ints, g, p, l)) in
+    let e : 1 * 2 ^ up unit ≡ 1 = ap (λ (x : ℕ). 1 * 2 ^ x) z in
+    let h : IsRoundedToOdd (2 ^ 60) s (amount * 2 ^ down unit * 1) 1 =
+    subst₂ (λ (x : ℕ) (y : ℕ). IsRoundedToOdd (2 ^ 60) s x y) (omega arith) e (inr o) in
+    let w = whole_to_odd (2 ^ 60) s (amount * 2 ^ down unit) 1 h in
+    subst (λ (y : ℕ). amount * 2 ^ down unit ≡ s * y) (sym e) (omega (arith, w))

@@ -1,0 +1,93 @@
+//! The rounding of a short significand that was rounded to odd before.
+//!
+//! It has at least two digits more than the format keeps, or it is exact. So the rest that is cut off is compared with
+//! none and with half as the exact rest would be, since these are even numbers of its units. The significand is moved
+//! up to the top of a word, so that the cut is at the same digit for each of them.
+
+ghost use Rattle.std.specs.Prelude.{◌≡◌, ℕ, ◌-◌, ◌*◌, ◌^◌, ◌<◌, ◌≤◌, pos, ◌+ℤ◌, ◌≤ℤ◌};
+ghost use Rattle.apfloat_base.specs.rounding.Bounds.{IsWithin, exponent_bound, unit_bound, place_bound};
+ghost use Rattle.apfloat_base.specs.rounding.Rounding.{IsDelivered};
+ghost use Rattle.apfloat_base.specs.rounding.RoundingToOdd.{IsRoundedToOdd};
+ghost use Rattle.apfloat_base.specs.rounding.Standing.{up, down};
+ghost use Rattle.apfloat_unpacked.specs.Cuts.{IsCutOff};
+ghost use Rattle.apfloat_unpacked.specs.Shapes.{format_at};
+ghost use Rattle.apfloat_unpacked.specs.Stored.{IsStored, GivesAt};
+
+use super::{Cut, deliver, full_place, round_cut, unit_place};
+use crate::shape::Shape;
+use crate::unpacked::Unpacked;
+use apfloat_base::sig::{Loss, digits, low_digits, power_of_two};
+use apfloat_base::{ExpInt, Round, StatusAnd};
+
+/// A significand with `digits` digits, moved up until it has 64.
+#[inline(always)]
+fn at_top(significand: u64, digits: u32) -> u64
+    requires word { digits ≤ 64 }
+    requires any { 0 < digits }
+    requires fits { significand < 2 ^ digits }
+    ensures { result ≡ significand * 2 ^ (64 - digits) }
+{
+    significand << (64 - digits)
+}
+
+/// Cuts a significand with `digits` digits, which was rounded to odd, to the precision.
+#[inline(always)]
+fn cut_odd(precision: u32, significand: u64, digits: u32, unit: ExpInt) -> Cut
+    requires some { 0 < precision }
+    requires short { precision ≤ 59 }
+    requires word { digits ≤ 64 }
+    requires any { 0 < digits }
+    requires fits { significand < 2 ^ digits }
+    requires full { 2 ^ (digits - 1) ≤ significand }
+    requires within { IsWithin unit_bound unit }
+    requires above { pos precision ≤ℤ (unit +ℤ pos digits) }
+    ensures fits { result.significand < 2 ^ precision }
+    ensures full { 2 ^ (precision - 1) ≤ result.significand }
+    ensures near { result.place < place_bound }
+    ensures rest { result.rest < 2 * result.half }
+    ensures cut { (amount parts : ℕ) → 0 < parts
+        → IsRoundedToOdd (2 ^ 60) significand (amount * 2 ^ down unit) (parts * 2 ^ up unit)
+        → IsCutOff precision result amount parts }
+{
+    let top = u128::from(at_top(significand, digits));
+    let places = 64 - precision;
+    Cut {
+        significand: top >> places,
+        place: full_place(precision, digits, unit),
+        rest: low_digits(top, places),
+        half: power_of_two(places - 1),
+    }
+}
+
+/// Delivers `significand * 2^exponent`, which was rounded to odd, rounded once: where it is odd it may be less than one
+/// unit beside the exact result.
+#[inline(always)]
+pub fn deliver_odd(
+    shape: Shape,
+    significand: u64,
+    exponent: ExpInt,
+    mode: Round,
+    negative: bool,
+) -> StatusAnd<Unpacked>
+    requires short { shape.precision ≤ 59 }
+    requires within { IsWithin exponent_bound exponent }
+    ensures stored { IsStored shape result.value }
+    ensures delivered { let unit = exponent +ℤ pos (format_at shape).scale in (amount : ℕ)
+        → IsRoundedToOdd (2 ^ 60) significand (amount * 2 ^ down unit) (1 * 2 ^ up unit)
+        → GivesAt shape (IsDelivered (format_at shape) mode negative amount 1) result }
+{
+    let unit = unit_place(shape, exponent);
+    let digits = digits(u128::from(significand));
+    if digits > 0 && unit + digits as ExpInt >= shape.precision as ExpInt {
+        let cut = cut_odd(shape.precision, significand, digits, unit);
+        return round_cut(shape, cut, mode, negative);
+    }
+    deliver(
+        shape,
+        u128::from(significand),
+        exponent,
+        Loss::ExactlyZero,
+        mode,
+        negative,
+    )
+}
