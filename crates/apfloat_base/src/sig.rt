@@ -11,6 +11,7 @@ pub mod loss;
 pub mod odd_sum;
 pub mod product;
 pub mod quotient;
+pub mod reciprocal;
 pub mod rest;
 pub mod roots;
 pub mod shift;

@@ -1,19 +1,19 @@
-use Rattle.std.proofs.Common.{◌≡◌, ℕ, ◌+◌, ◌-◌, ◌*◌, ◌/◌, ◌%◌, ◌^◌, ◌<◌, ◌≤◌, refl, ap, ◌∙◌, sym, arith, lit<}
+use Rattle.std.proofs.Common.{◌≡◌, ℕ, ◌+◌, ◌-◌, ◌*◌, ◌/◌, ◌%◌, ◌^◌, ◌<◌, ◌≤◌, ap, ◌∙◌, sym, arith, lit<}
 use Rattle.std.proofs.lemmas.Nat.{pow-add, pow_pos}
 use Rattle.apfloat_base.proofs.arithmetic.LongDivisions.{IsGuess, guess_low, guess_small, guess_nearer, wrapped_difference, corrected}
-use Rattle.apfloat_base.proofs.sig.short_quotient.next_short_digits.Goals.{Start, After-less_short_divisor}
+use Rattle.apfloat_base.proofs.sig.short_quotient.next_short_digits.Goals.{After-divided_by, After-less_short_divisor}
 use Rattle.apfloat_base.proofs.sig.short_quotient.next_short_digits.Goals as goal
 
-abbrev guess : Start → ℕ
-guess c = 2 * c.args.rest / c.args.guide / 2 ^ (31 - c.args.places)
+abbrev guess : After-divided_by → ℕ
+guess c = c.divided_by.result / 2 ^ (31 - c.args.places)
 
-part_of_word : (state : Start) → 2 ^ (31 - state.args.places) * 2 ^ state.args.places ≡ 2 ^ 31
+part_of_word : (state : After-divided_by) → 2 ^ (31 - state.args.places) * 2 ^ state.args.places ≡ 2 ^ 31
 part_of_word c =
     let w : (31 - c.args.places) + c.args.places ≡ 31 = let s = c.requires.short in omega arith in
     sym (pow-add 2 (31 - c.args.places) c.args.places) ∙ ap (λ (x : ℕ). 2 ^ x) w
 
 -- twice the rest has its highest digits, with 31 more places
-is_guess : (state : Start) → IsGuess state.args.rest state.args.divisor (2 * state.args.rest)
+is_guess : (state : After-divided_by) → IsGuess state.args.rest state.args.divisor (2 * state.args.rest)
     state.args.guide (2 ^ 30) (2 ^ (31 - state.args.places)) (2 ^ state.args.places) (guess state)
 is_guess c =
     let r : c.args.rest * (2 ^ (31 - c.args.places) * 2 ^ c.args.places) ≡ c.args.rest * 2 ^ 31 =
@@ -22,24 +22,24 @@ is_guess c =
       top_low = omega arith;
       top_near = omega arith;
       guide_is = c.requires.guide;
-      guess_is = refl;
+      guess_is = ap (λ (x : ℕ). x / 2 ^ (31 - c.args.places)) c.divided_by.ensures;
       unit_some = pow_pos 30;
       part_some = pow_pos (31 - c.args.places);
       count_some = pow_pos c.args.places;
       below = c.requires.below;
     }
 
-low : (state : Start) → guess state * state.args.divisor ≤ state.args.rest * 2 ^ state.args.places
+low : (state : After-divided_by) → guess state * state.args.divisor ≤ state.args.rest * 2 ^ state.args.places
 low c = guess_low _ _ _ _ _ _ _ _ (is_guess c)
 
-near : (state : Start) → state.args.rest * 2 ^ state.args.places < (guess state + 2) * state.args.divisor
+near : (state : After-divided_by) → state.args.rest * 2 ^ state.args.places < (guess state + 2) * state.args.divisor
 near c =
     let f = c.requires.full in
     let u : 2 ^ (31 - c.args.places) * 2 ^ c.args.places * 2 ^ 30 ≡ 2 ^ 31 * 2 ^ 30 =
     ap (λ (x : ℕ). x * 2 ^ 30) (part_of_word c) in
     guess_nearer _ _ _ _ _ _ _ _ (is_guess c) (omega arith)
 
-difference : (state : Start)
+difference : (state : After-divided_by)
     → (state.args.rest * 2 ^ state.args.places % 2 ^ 64 +
     (2 ^ 64 - guess state * state.args.divisor % 2 ^ 64)) % 2 ^ 64
     ≡ state.args.rest * 2 ^ state.args.places - guess state * state.args.divisor

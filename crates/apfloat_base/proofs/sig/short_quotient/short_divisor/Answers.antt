@@ -1,5 +1,6 @@
-use Rattle.std.proofs.Common.{◌≡◌, ◌-◌, ◌*◌, ◌%◌, ◌^◌, ◌<◌, ◌≤◌, arith}
-use Rattle.std.proofs.Math.Nat.{mod-eq_of_lt}
+use Rattle.std.proofs.Common.{◌≡◌, ◌+◌, ◌-◌, ◌*◌, ◌/◌, ◌%◌, ◌^◌, ◌<◌, ◌≤◌, arith}
+use Rattle.std.proofs.Math.Nat.{mod-eq_of_lt, le-div_iff_mul-le, div-lt_iff_lt-mul}
+use Rattle.std.proofs.lemmas.Nat.{pow_pos}
 use Rattle.apfloat_base.proofs.general.Powers.{exponent_below}
 use Rattle.apfloat_base.proofs.rounding.KeptDigits.{fits_shifted, full_shifted, some_digits}
 use Rattle.apfloat_base.proofs.sig.short_quotient.short_divisor.Goals.{After-digits-up}
@@ -40,14 +41,46 @@ whole : (state : After-digits-up)
 whole c = let n = narrow c in mod-eq_of_lt (omega arith)
 
 pub returns-clause-moved : goal.returns-clause-moved
-returns-clause-moved c = whole c
+returns-clause-moved c =
+    let state = (goal.at.returns-clause-moved c).After-digits-up in
+    whole state
 
 pub returns-clause-full : goal.returns-clause-full
 returns-clause-full c =
-    let f = few_digits c in
-    rw (whole c)
-    (full_shifted c.args.divisor c.digits-up.result (62 - c.digits-up.result) 62 (has_digits c) (λ p. full c)
+    let state = (goal.at.returns-clause-full c).After-digits-up in
+    let f = few_digits state in
+    rw (whole state)
+    (full_shifted c.args.divisor c.digits-up.result (62 - c.digits-up.result) 62 (has_digits state) (λ p. full state)
     (omega arith))
 
 pub returns-clause-narrow : goal.returns-clause-narrow
-returns-clause-narrow c = rw (whole c) (narrow c)
+returns-clause-narrow c =
+    let state = (goal.at.returns-clause-narrow c).After-digits-up in
+    rw (whole state) (narrow state)
+
+-- the highest 32 digits
+guide : (state : After-digits-up) → 2 ^ 61 ≤ state.args.divisor * 2 ^ (62 - state.digits-up.result)
+    → (2 ^ 31 < state.args.divisor * 2 ^ (62 - state.digits-up.result) / 2 ^ 30 + 1)
+    × (state.args.divisor * 2 ^ (62 - state.digits-up.result) / 2 ^ 30 + 1 ≤ 2 ^ 32)
+guide c l =
+    let n = narrow c in
+    let x = c.args.divisor * 2 ^ (62 - c.digits-up.result) in
+    let a : 2 ^ 31 ≤ x / 2 ^ 30 = (le-div_iff_mul-le (pow_pos 30)).1 (omega (arith, l)) in
+    let b : x / 2 ^ 30 < 2 ^ 32 = (div-lt_iff_lt-mul (pow_pos 30)).1 (omega (arith, n)) in
+    (omega (arith, a), omega (arith, b))
+
+pub guessed_reciprocal-requires-clause-full : goal.guessed_reciprocal-requires-clause-full
+guessed_reciprocal-requires-clause-full c =
+    let state = (goal.at.guessed_reciprocal-requires-clause-full c).After-digits-up in
+    let few = few_digits state in
+    let f = full_shifted c.args.divisor c.digits-up.result (62 - c.digits-up.result) 62 (has_digits state)
+    (λ p. full state) (omega arith) in
+    rw (whole state) (guide state f).0
+
+pub guessed_reciprocal-requires-clause-fits : goal.guessed_reciprocal-requires-clause-fits
+guessed_reciprocal-requires-clause-fits c =
+    let state = (goal.at.guessed_reciprocal-requires-clause-fits c).After-digits-up in
+    let few = few_digits state in
+    let f = full_shifted c.args.divisor c.digits-up.result (62 - c.digits-up.result) 62 (has_digits state)
+    (λ p. full state) (omega arith) in
+    rw (whole state) (guide state f).1
