@@ -122,6 +122,18 @@ fn divide_any(shape: Shape, x: Unpacked, y: Unpacked, round: Round) -> StatusAnd
     }
 }
 
+/// The quotient of any two values, as `divide_any` has it, rebuilt from its fields, like `multiply_others`.
+#[inline(always)]
+fn divide_others(shape: Shape, x: Unpacked, y: Unpacked, round: Round) -> StatusAnd<Unpacked>
+    requires left { IsStored shape x }
+    requires right { IsStored shape y }
+    ensures stored { IsStored shape result.value }
+    ensures delivered { GivesAt shape
+        (IsQuotient (format_at shape) round (datum_at shape x) (datum_at shape y)) result }
+{
+    remade(divide_any(shape.remade(), x.remade(), y.remade(), round))
+}
+
 /// The quotient of two values, rounded once (IEEE 754-2008 5.4.1, division).
 #[inline(always)]
 pub fn divide(shape: Shape, x: Unpacked, y: Unpacked, round: Round) -> StatusAnd<Unpacked>
@@ -134,6 +146,6 @@ pub fn divide(shape: Shape, x: Unpacked, y: Unpacked, round: Round) -> StatusAnd
     if are_normal(x, y) {
         divide_numbers(shape, x, y, round)
     } else {
-        remade(divide_any(shape.remade(), x.remade(), y.remade(), round))
+        divide_others(shape, x, y, round)
     }
 }

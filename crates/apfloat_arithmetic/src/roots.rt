@@ -90,6 +90,18 @@ fn root_of_special(shape: Shape, x: Unpacked, round: Round) -> StatusAnd<Unpacke
     }
 }
 
+/// The root of any value but a positive number, as `root_of_special` has it, rebuilt from its fields, like
+/// `multiply_others`.
+#[inline(always)]
+fn root_of_other(shape: Shape, x: Unpacked, round: Round) -> StatusAnd<Unpacked>
+    requires stored { IsStored shape x }
+    requires special { x.category ≡ Category.Normal → x.negative ≡ true }
+    ensures stored { IsStored shape result.value }
+    ensures delivered { GivesAt shape (IsRoot (format_at shape) round (datum_at shape x)) result }
+{
+    remade(root_of_special(shape.remade(), x.remade(), round))
+}
+
 /// Whether the value is a positive number, neither zero nor infinity.
 #[inline(always)]
 fn is_positive_number(x: Unpacked) -> bool
@@ -109,6 +121,6 @@ pub fn square_root(shape: Shape, x: Unpacked, round: Round) -> StatusAnd<Unpacke
     if is_positive_number(x) {
         root_of_number(shape, x, round)
     } else {
-        remade(root_of_special(shape.remade(), x.remade(), round))
+        root_of_other(shape, x, round)
     }
 }

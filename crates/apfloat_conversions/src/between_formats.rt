@@ -13,11 +13,10 @@ ghost use Rattle.apfloat_conversions.specs.Results.{ConvertsAt};
 
 use crate::held::{has, widened};
 use crate::payloads::converted_nan;
-use apfloat_base::sig::low_digits;
 use apfloat_base::{Category, NonfiniteBehavior, Round, Status, StatusAnd};
 use apfloat_unpacked::rounding::deliver_digits;
 use apfloat_unpacked::shape::{Shape, last_exponent};
-use apfloat_unpacked::unpacked::{Unpacked, infinity_of, remade, zero_of};
+use apfloat_unpacked::unpacked::{Unpacked, infinity_of, remade, significand_of, zero_of};
 
 /// A result in the other format, and whether information was lost.
 #[derive(Clone, Copy, Debug)]
@@ -45,7 +44,7 @@ fn converted_number(from: Shape, into: Shape, x: Unpacked, round: Round) -> Conv
     }
     let answer = deliver_digits(
         into,
-        low_digits(x.significand, from.precision),
+        significand_of(from, x),
         from.precision,
         last_exponent(from, x.exponent),
         round,
@@ -120,6 +119,24 @@ fn convert_apart(from: Shape, into: Shape, x: Unpacked, round: Round) -> Convert
     }
 }
 
+/// A value of one format in another, as `convert_apart` has it, rebuilt from its fields: so the caller, where a number
+/// is inlined, has no struct whose address is passed on, and none to be zeroed for it.
+#[inline(always)]
+fn convert_other(from: Shape, into: Shape, x: Unpacked, round: Round) -> Converted
+    requires { IsStored from x }
+    ensures stored { IsStored into result.answer.value }
+    ensures converted { ConvertsAt into
+        (IsConversion (format_at from) (format_at into) round (datum_at from x)) result }
+    ensures exact { ConvertsAt into
+        (IsExactlyConverted (format_at from) (format_at into) (datum_at from x)) result }
+{
+    let converted = convert_apart(from.remade(), into.remade(), x.remade(), round);
+    Converted {
+        answer: remade(converted.answer),
+        loses_info: converted.loses_info,
+    }
+}
+
 /// A value of one format in another, rounded once, and whether information was lost (IEEE 754-2008 5.4.2,
 /// convertFormat).
 #[inline(always)]
@@ -133,12 +150,6 @@ pub fn convert(from: Shape, into: Shape, x: Unpacked, round: Round) -> Converted
 {
     match x.category {
         Category::Normal => converted_number(from, into, x, round),
-        _ => {
-            let converted = convert_apart(from.remade(), into.remade(), x.remade(), round);
-            Converted {
-                answer: remade(converted.answer),
-                loses_info: converted.loses_info,
-            }
-        }
+        _ => convert_other(from, into, x, round),
     }
 }

@@ -9,7 +9,7 @@ ghost use Rattle.apfloat_conversions.specs.Held.{IsHeld, IsHeldNumber, IsInside,
 
 use apfloat_base::{Category, ExpInt};
 use apfloat_unpacked::shape::Shape;
-use apfloat_unpacked::unpacked::Unpacked;
+use apfloat_unpacked::unpacked::{Unpacked, significand_of};
 
 /// Whether the largest value of a format is no larger than that of another, whose precision is no lower.
 #[inline(always)]
@@ -53,7 +53,8 @@ pub fn has(from: Shape, into: Shape, x: Unpacked) -> bool
     holds(from, into) || is_inside(from, into, x.exponent)
 }
 
-/// A number in a format that has it: its significand is extended by the additional digits of that format.
+/// A number in a format that has it: its significand is extended by the additional digits of that format. It is its own
+/// low digits: in a narrow format the compiler then computes with one word of it.
 #[inline(always)]
 pub fn widened(from: Shape, into: Shape, x: Unpacked) -> Unpacked
     requires held { IsHeldNumber from into x }
@@ -64,7 +65,7 @@ pub fn widened(from: Shape, into: Shape, x: Unpacked) -> Unpacked
         ≡ quanta_of into result * 2 ^ (format_at from).scale }
 {
     Unpacked {
-        significand: x.significand << (into.precision - from.precision),
+        significand: significand_of(from, x) << (into.precision - from.precision),
         exponent: x.exponent,
         category: Category::Normal,
         negative: x.negative,

@@ -156,6 +156,24 @@ fn any_to_unsigned(shape: Shape, x: Unpacked, width: u32, round: Round) -> Unsig
     }
 }
 
+/// Any value as a whole number, as `any_to_unsigned` has it, rebuilt from its fields: so the caller, where a number is
+/// inlined, has no struct whose address is passed on, and none to be zeroed for it.
+#[inline(always)]
+fn other_to_unsigned(shape: Shape, x: Unpacked, width: u32, round: Round) -> Unsigned
+    requires stored { IsStored shape x }
+    requires low { 1 ≤ width }
+    requires high { width ≤ 128 }
+    ensures whole { GivesWhole (to_unsigned (format_at shape) round width (datum_at shape x))
+        result }
+    ensures fits { result.answer.value < 2 ^ width }
+{
+    let whole = any_to_unsigned(shape.remade(), x.remade(), width, round);
+    Unsigned {
+        answer: whole.answer.status.and(whole.answer.value),
+        is_exact: whole.is_exact,
+    }
+}
+
 /// A value as a whole number of `width` binary digits.
 #[inline(always)]
 pub fn to_unsigned(shape: Shape, x: Unpacked, width: u32, round: Round) -> Unsigned
@@ -168,6 +186,6 @@ pub fn to_unsigned(shape: Shape, x: Unpacked, width: u32, round: Round) -> Unsig
 {
     match x.category {
         Category::Normal => number_to_unsigned(shape, x, width, round),
-        _ => any_to_unsigned(shape.remade(), x.remade(), width, round),
+        _ => other_to_unsigned(shape, x, width, round),
     }
 }

@@ -1,11 +1,14 @@
 //! The whole number that a mode picks for a number.
 
 ghost use Rattle.std.specs.Prelude.{◌≡◌, ℕ, ◌+◌, ◌-◌, ◌*◌, ◌/◌, ◌^◌, ◌<◌, ◌≤◌, pos, ◌+ℤ◌, ◌-ℤ◌, ◌≤ℤ◌};
+ghost use Rattle.apfloat_base.specs.rounding.Standing.{StandsFor};
 ghost use Rattle.apfloat_unpacked.specs.Shapes.{format_at};
 ghost use Rattle.apfloat_unpacked.specs.Stored.{IsNormal, quanta_of};
 ghost use Rattle.apfloat_conversions.specs.Wholes.{IsPicked, IsPickedWithin};
 
-use apfloat_base::sig::{Loss, is_exact, power_of_two, shift_right, steps_between};
+use apfloat_base::sig::{
+    Loss, Shifted, is_exact, loss_of_rest, low_digits, power_of_two, shift_right, steps_between,
+};
 use apfloat_base::{ExpInt, Round};
 use apfloat_unpacked::rounding::moves_up;
 use apfloat_unpacked::shape::{Shape, last_exponent};
@@ -20,15 +23,71 @@ pub struct Whole {
     pub exact: bool,
 }
 
+/// How far a word is shifted: 63 places leave nothing of 62 digits, as more places do.
+#[inline(always)]
+fn word_places(places: u32) -> u32
+    ensures near { places ≤ 63 → result ≡ places }
+    ensures far { 63 < places → result ≡ 63 }
+    ensures bound { result ≤ 63 }
+    ensures some { 0 < places → 0 < result }
+{
+    if places > 63 { 63 } else { places }
+}
+
+/// `shift_right` of at most 62 digits, with nothing lost below them, in one word.
+#[inline(always)]
+fn shift_word(significand: u128, places: u32) -> Shifted
+    requires short { significand < 2 ^ 62 }
+    requires some { 0 < places }
+    ensures quotient { result.significand ≡ significand / 2 ^ places }
+    ensures stands { (amount unit : ℕ) → 0 < unit
+        → StandsFor significand Loss.ExactlyZero amount unit
+        → StandsFor result.significand result.loss amount (2 ^ places * unit) }
+{
+    let word = significand as u64;
+    let shift = word_places(places);
+    let half = power_of_two(shift - 1);
+    let rest = low_digits(u128::from(word), shift);
+    Shifted {
+        significand: u128::from(word >> shift),
+        loss: loss_of_rest(rest, half, Loss::ExactlyZero),
+    }
+}
+
+/// `shift_right` with nothing lost below, in one word where the precision leaves room in it.
+#[inline(always)]
+fn cut_at_dot(precision: u32, significand: u128, places: u32) -> Shifted
+    requires fits { significand < 2 ^ precision }
+    requires some { 0 < places }
+    ensures quotient { result.significand ≡ significand / 2 ^ places }
+    ensures stands { (amount unit : ℕ) → 0 < unit
+        → StandsFor significand Loss.ExactlyZero amount unit
+        → StandsFor result.significand result.loss amount (2 ^ places * unit) }
+{
+    if precision <= 62 {
+        shift_word(significand, places)
+    } else {
+        shift_right(significand, places, Loss::ExactlyZero)
+    }
+}
+
 /// `significand * 2^-places`, rounded by the mode to a whole number.
 #[inline(always)]
-fn round_fraction(significand: u128, places: u32, round: Round, negative: bool) -> Whole
-    requires { significand < 2 ^ 125 }
+fn round_fraction(
+    precision: u32,
+    significand: u128,
+    places: u32,
+    round: Round,
+    negative: bool,
+) -> Whole
+    requires precise { precision ≤ 125 }
+    requires fits { significand < 2 ^ precision }
+    requires some { 0 < places }
     ensures bound { result.magnitude ≤ significand / 2 ^ places + 1 }
     ensures picked { (amount parts : ℕ) → 0 < parts → amount * 2 ^ places ≡ significand * parts
         → IsPicked round negative amount parts result }
 {
-    let kept = shift_right(significand, places, Loss::ExactlyZero);
+    let kept = cut_at_dot(precision, significand, places);
     let exact = is_exact(kept.loss);
     if moves_up(round, negative, kept.loss, kept.significand % 2 == 1) {
         Whole {
@@ -54,7 +113,13 @@ pub(crate) fn round_at_dot(shape: Shape, x: Unpacked, exponent: ExpInt, round: R
     ensures picked { IsPicked round x.negative (quanta_of shape x) (2 ^ (format_at shape).scale)
         result }
 {
-    round_fraction(x.significand, steps_between(0, exponent), round, x.negative)
+    round_fraction(
+        shape.precision,
+        x.significand,
+        steps_between(0, exponent),
+        round,
+        x.negative,
+    )
 }
 
 /// The whole number `significand * 2^places`.

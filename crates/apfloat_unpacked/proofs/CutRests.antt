@@ -1,17 +1,19 @@
 -- The rest below the digits of a precision, and how it decides the rounding.
 use Rattle.std.proofs.Common.{◌≡◌, ℕ, ◌+◌, ◌-◌, ◌*◌, ◌/◌, ◌%◌, ◌^◌, ◌<◌, ◌≤◌, Bool, true, false, cond, ltb, eqb, sym, refl, ap, ◌∙◌, subst, inl, inr, ⊎_elim, arith}
-use Rattle.std.proofs.Math.Nat.{mul-pos}
-use Rattle.std.proofs.lemmas.Nat.{pow_pos, mod_below}
+use Rattle.std.proofs.Math.Nat.{mul-pos, mul-le-mul_right, mul-le-mul_left, pow-le-pow_right}
+use Rattle.std.proofs.lemmas.Nat.{pow_pos, pow-add, mod_below, mod-pow-add, shr-shr}
 use Rattle.std.proofs.lemmas.Bool.{cases_lt, lt-ltb, le-ltb, eq-eqb, ne_eqb}
 use Rattle.apfloat_base.specs.declared.kinds.Round.{Round}
 use Rattle.apfloat_base.specs.declared.sig.loss.Loss.{Loss}
 use Rattle.apfloat_base.specs.declared.sig.loss.Loss.TheVariants.{ExactlyZero, LessThanHalf, ExactlyHalf, MoreThanHalf}
-use Rattle.apfloat_base.specs.formats.Format.{Format}
+use Rattle.apfloat_base.specs.formats.Format.{Format, greatest_significand, largest}
+use Rattle.apfloat_base.specs.formats.Datum.{Datum}
 use Rattle.apfloat_base.specs.rounding.Enclosure.{IsEnclosed, rounds_up}
-use Rattle.apfloat_base.specs.rounding.Rounding.{IsPick, is_tiny}
+use Rattle.apfloat_base.specs.rounding.Rounding.{IsPick, IsDelivered, is_tiny, signed_quanta, ok_bits, inexact_bit}
 use Rattle.apfloat_base.specs.rounding.Standing.{StandsFor}
-use Rattle.apfloat_base.proofs.general.Powers.{twice_half}
-use Rattle.apfloat_base.proofs.rounding.Deliveries.{tiny_before, tiny_after}
+use Rattle.apfloat_base.proofs.formats.Greatest.{greatest_full}
+use Rattle.apfloat_base.proofs.general.Powers.{two_pos, twice_half}
+use Rattle.apfloat_base.proofs.rounding.Deliveries.{tiny_before, tiny_after, delivered_exactly, delivered_inexactly, exact_if, inexact_if}
 use Rattle.apfloat_base.proofs.rounding.KeptDigits.{kept_stands, fits_cut, full_cut, enclosed_from}
 use Rattle.apfloat_base.proofs.rounding.Losses.{cut_less, cut_more, cut_at}
 use Rattle.apfloat_base.proofs.rounding.Picks.{pick_is}
@@ -166,3 +168,160 @@ not_tiny format mode negative m c amount parts s place p l f i =
     (sym (tiny_before format.precision half m c amount parts p i) ∙ le-ltb m half l)
     (not_below format.precision half m c amount parts mode negative p l i)
     (sym (tiny_after half s place (inr f)) ∙ le-ltb s half f)
+
+-- ---- digits that are cut off as words
+
+-- more than a word of digits: the lowest word matters only by whether it is 0, which one bit says
+folded : (u l h w s : ℕ) → l < w → (l ≡ 0 → s ≡ 0) → (0 < l → s ≡ 1)
+    → loss_at (2 * u + s) (2 * h) ≡ loss_at (u * w + l) (h * w)
+folded u l h w s b z o =
+    ⊎_elim
+    (λ (a : u < h).
+    let m : (u + 1) * w ≤ h * w = mul-le-mul_right w (omega arith) in
+    ⊎_elim
+    (λ (y : l < 1).
+    let e : l ≡ 0 = omega arith in
+    let f = z e in
+    ⊎_elim
+    (λ (x : u < 1).
+    let v : u ≡ 0 = omega arith in
+    let p : u * w ≡ 0 * w = ap (λ (n : ℕ). n * w) v in
+    loss_zero (2 * u + s) (2 * h) (omega (arith, f, v)) ∙ sym (loss_zero (u * w + l) (h * w) (omega (arith, e, p))))
+    (λ (x : 1 ≤ u).
+    let p : 1 * w ≤ u * w = mul-le-mul_right w x in
+    loss_less (2 * u + s) (2 * h) (omega arith) (omega (arith, f))
+    ∙ sym (loss_less (u * w + l) (h * w) (omega (arith, p, b)) (omega (arith, m, b))))
+    (cases_lt u 1))
+    (λ (y : 1 ≤ l).
+    let f = o (omega arith) in
+    loss_less (2 * u + s) (2 * h) (omega (arith, f)) (omega (arith, f))
+    ∙ sym (loss_less (u * w + l) (h * w) (omega arith) (omega (arith, m, b))))
+    (cases_lt l 1))
+    (λ (a : h ≤ u).
+    let m : h * w ≤ u * w = mul-le-mul_right w a in
+    ⊎_elim
+    (λ (y : l < 1).
+    let e : l ≡ 0 = omega arith in
+    let f = z e in
+    ⊎_elim
+    (λ (x : h < u).
+    let k : (h + 1) * w ≤ u * w = mul-le-mul_right w (omega arith) in
+    loss_more (2 * u + s) (2 * h) (omega arith)
+    ∙ sym (loss_more (u * w + l) (h * w) (omega (arith, k, b))))
+    (λ (x : u ≤ h).
+    let v : u ≡ h = omega arith in
+    let p : u * w ≡ h * w = ap (λ (n : ℕ). n * w) v in
+    ⊎_elim
+    (λ (g : h < 1).
+    let q : h ≡ 0 = omega arith in
+    let r : h * w ≡ 0 * w = ap (λ (n : ℕ). n * w) q in
+    loss_zero (2 * u + s) (2 * h) (omega (arith, f, v, q))
+    ∙ sym (loss_zero (u * w + l) (h * w) (omega (arith, e, p, r))))
+    (λ (g : 1 ≤ h).
+    let r : 1 * w ≤ h * w = mul-le-mul_right w g in
+    loss_half (2 * u + s) (2 * h) (omega (arith, v, g)) (omega (arith, f, v))
+    ∙ sym (loss_half (u * w + l) (h * w) (omega (arith, p, r, b)) (omega (arith, e, p))))
+    (cases_lt h 1))
+    (cases_lt h u))
+    (λ (y : 1 ≤ l).
+    let f = o (omega arith) in
+    loss_more (2 * u + s) (2 * h) (omega (arith, f))
+    ∙ sym (loss_more (u * w + l) (h * w) (omega (arith, m))))
+    (cases_lt l 1))
+    (cases_lt u h)
+
+-- the rest of more digits than those of a word, in units of which half is 2 ^ (places - word)
+pub folded_rest : (s word places upper some half : ℕ) → word < places → upper ≡ s / 2 ^ word % 2 ^ (places - word)
+    → (s % 2 ^ word ≡ 0 → some ≡ 0) → (0 < s % 2 ^ word → some ≡ 1) → half ≡ 2 ^ (places - word)
+    → loss_at (2 * upper + some) half ≡ loss_at (s % 2 ^ places) (2 ^ (places - 1))
+folded_rest s word places upper some half l u z o h =
+    let e : places ≡ places - word + word = omega arith in
+    let a : s % 2 ^ places ≡ s / 2 ^ word % 2 ^ (places - word) * 2 ^ word + s % 2 ^ word =
+    ap (λ (x : ℕ). s % 2 ^ x) e ∙ mod-pow-add s (places - word) word in
+    let t : 2 * 2 ^ (places - word - 1) ≡ 2 ^ (places - word) = twice_half (places - word) (omega arith) in
+    let d : places - 1 ≡ places - word - 1 + word = omega arith in
+    let p : 2 ^ (places - 1) ≡ 2 ^ (places - word - 1) * 2 ^ word =
+    ap (λ (x : ℕ). 2 ^ x) d ∙ pow-add 2 (places - word - 1) word in
+    let m : s % 2 ^ word < 2 ^ word = mod_below s (2 ^ word) (pow_pos word) in
+    ap (λ (x : ℕ). loss_at (2 * x + some) half) u
+    ∙ ap (λ (x : ℕ). loss_at (2 * (s / 2 ^ word % 2 ^ (places - word)) + some) x) (h ∙ sym t)
+    ∙ folded (s / 2 ^ word % 2 ^ (places - word)) (s % 2 ^ word) (2 ^ (places - word - 1)) (2 ^ word) some m z o
+    ∙ ap (λ (x : ℕ). loss_at x (2 ^ (places - word - 1) * 2 ^ word)) (sym a)
+    ∙ ap (λ (x : ℕ). loss_at (s % 2 ^ places) x) (sym p)
+
+-- and is below twice that half
+pub folded_below : (n k upper some half : ℕ) → upper ≡ n % 2 ^ k → some ≤ 1 → half ≡ 2 ^ k
+    → 2 * upper + some < 2 * half
+folded_below n k upper some half u o h =
+    let m : n % 2 ^ k < 2 ^ k = mod_below n (2 ^ k) (pow_pos k) in
+    omega (arith, m, u, o, h)
+
+-- what is left of the digits above the word
+pub upper_kept : (s word places : ℕ) → word < places → s / 2 ^ word / 2 ^ (places - word) ≡ s / 2 ^ places
+upper_kept s word places l =
+    let e : word + (places - word) ≡ places = omega arith in
+    shr-shr s word (places - word) ∙ ap (λ (x : ℕ). s / 2 ^ x) e
+
+-- a significand below the next power of two, at a place below the greatest one, is within the largest value
+pub within_format : (format : Format) (next place : ℕ) → 3 ≤ format.precision → next < 2 ^ format.precision
+    → place < format.span → next * 2 ^ place ≤ largest format
+within_format format next place s f l =
+    let precision = format.precision in
+    let half = 2 ^ (format.precision - 1) in
+    let greatest = greatest_significand format.nonfinite format.precision in
+    let g = greatest_full format.nonfinite format.precision s in
+    let t : 2 * 2 ^ (format.precision - 1) ≡ 2 ^ format.precision = twice_half format.precision (omega (arith, s)) in
+    let a : next * 2 ^ place ≤ 2 ^ format.precision * 2 ^ place = mul-le-mul_right (2 ^ place) (omega arith) in
+    let b : 2 ^ (place + 1) ≡ 2 ^ place * 2 = pow-add 2 place 1 in
+    let c : 2 ^ (place + 1) ≤ 2 ^ format.span = pow-le-pow_right two_pos (omega arith) in
+    let d : 2 ^ (format.precision - 1) * 2 ^ (place + 1) ≤ 2 ^ (format.precision - 1) * 2 ^ format.span =
+    mul-le-mul_left half c in
+    let e : 2 ^ (format.precision - 1) * 2 ^ format.span ≤ largest format = mul-le-mul_right (2 ^ format.span) g in
+    let r : 2 * half * 2 ^ place ≡ half * (2 ^ place * 2) = omega arith in
+    let k : 2 ^ format.precision * 2 ^ place ≡ 2 ^ (format.precision - 1) * 2 ^ (place + 1) =
+    ap (λ (x : ℕ). x * 2 ^ place) (sym t) ∙ r ∙ ap (λ (x : ℕ). half * x) (sym b) in
+    omega (arith, a, k, d, e)
+
+-- digits that are kept of a cut, and the loss of what is cut off, in any units
+pub cut_off : (precision s digits place rest half up down amount parts kept some unit : ℕ)
+    → IsSplit precision s digits place rest half up down → kept ≡ s / 2 ^ (digits - precision)
+    → loss_at some unit ≡ loss_at rest half → 0 < parts
+    → StandsFor s ExactlyZero (amount * 2 ^ down) (parts * 2 ^ up)
+    → IsEnclosed precision (2 ^ (precision - 1)) kept place amount parts
+    × StandsFor kept (loss_at some unit) amount (2 ^ place * parts)
+cut_off precision s digits place rest half up down amount parts kept some unit i k l p g = (
+  subst (λ (n : ℕ). IsEnclosed precision (2 ^ (precision - 1)) n place amount parts) (sym k)
+      (split_encloses precision s digits place rest half up down amount parts i p g),
+  subst (λ (n : ℕ). StandsFor n (loss_at some unit) amount (2 ^ place * parts)) (sym k)
+      (subst (λ (x : Loss). StandsFor (s / 2 ^ (digits - precision)) x amount (2 ^ place * parts)) (sym l)
+      (split_stands precision s digits place rest half up down amount parts i p g)),
+)
+
+-- a point with all digits of the precision, moved as the rest demands and within the format, is delivered
+pub delivered_full : (format : Format) (mode : Round) (negative : Bool) (m c amount parts s place rest half : ℕ)
+    (moved : Bool) (value : Datum) (status : ℕ) → 0 < parts → 2 ^ (format.precision - 1) ≤ m
+    → 2 ^ (format.precision - 1) ≤ s → moved ≡ rounds_up mode negative (loss_at rest half) (eqb (m % 2) 1)
+    → s * 2 ^ place ≡ cond moved (m + 1) m * 2 ^ c → ltb (largest format) (s * 2 ^ place) ≡ false
+    → IsEnclosed format.precision (2 ^ (format.precision - 1)) m c amount parts
+    → StandsFor m (loss_at rest half) amount (2 ^ c * parts)
+    → value ≡ signed_quanta format.nonfinite negative (s * 2 ^ place) → (rest ≡ 0 → status ≡ ok_bits)
+    → ((rest ≡ 0 → ⊥) → status ≡ inexact_bit) → IsDelivered format mode negative amount parts value status
+delivered_full format mode negative m c amount parts s place rest half moved value status u f g e v a i h w z o =
+    let p = s * 2 ^ place in
+    let loss = loss_at rest half in
+    let is = picked_if_moved format.precision mode negative m c amount parts p loss moved e v u i h in
+    ⊎_elim
+    (λ (y : rest < 1).
+    let n : rest ≡ 0 = omega arith in
+    delivered_exactly format mode negative amount parts p value status is a
+    (exact_if format.precision mode negative (2 ^ (format.precision - 1)) m c amount parts p loss
+    (loss_zero rest half n) u i h is)
+    w (z n))
+    (λ (y : 1 ≤ rest).
+    let n : rest ≡ 0 → ⊥ = λ (x : rest ≡ 0). omega (arith, x) in
+    let t = not_tiny format mode negative m c amount parts s place u f g i in
+    delivered_inexactly format mode negative amount parts p value status is a
+    (inexact_if format.precision mode negative (2 ^ (format.precision - 1)) m c amount parts p loss
+    (loss_some rest half (omega arith)) u i h is)
+    w (rw t (o n)))
+    (cases_lt rest 1)

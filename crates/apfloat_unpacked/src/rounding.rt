@@ -12,7 +12,7 @@
 //! largest value, otherwise the value, exact or inexact, tiny or not. Only one question needs the digits again: whether
 //! the magnitude would be below the smallest normalized value if exponents had no lower end.
 
-ghost use Rattle.std.specs.Prelude.{◌≡◌, ℕ, ◌+◌, ◌-◌, ◌*◌, ◌^◌, ◌<◌, ◌≤◌, ◌⊎◌, ltb, pos, neg_ℤ, ◌≤ℤ◌, ◌+ℤ◌, if◌then◌else◌, false};
+ghost use Rattle.std.specs.Prelude.{◌≡◌, ℕ, ◌+◌, ◌-◌, ◌*◌, ◌/◌, ◌%◌, ◌^◌, ◌<◌, ◌≤◌, ◌⊎◌, ltb, pos, neg_ℤ, ◌≤ℤ◌, ◌+ℤ◌, if◌then◌else◌, false};
 ghost use Rattle.apfloat_base.specs.rounding.Bounds.{IsWithin, exponent_bound, unit_bound, place_bound};
 ghost use Rattle.apfloat_base.specs.rounding.Flags.{bits_of};
 ghost use Rattle.apfloat_base.specs.formats.Format.{largest, nan_base};
@@ -54,8 +54,8 @@ struct Kept {
 struct Cut {
     significand: u128,
     place: u32,
-    rest: u128,
-    half: u128,
+    rest: u64,
+    half: u64,
 }
 
 /// The place of the lowest kept digit of a significand with `digits` digits at `unit`; places and units are counted
@@ -424,6 +424,119 @@ fn full_place(precision: u32, digits: u32, unit: ExpInt) -> u32
     (unit + digits as ExpInt - precision as ExpInt) as u32
 }
 
+/// The digits that are kept, and the rest that is cut off below them, in units of which the lowest kept digit is
+/// `2 * half`. In these units a rest is one word: of more than 64 digits the lowest 64 matter only by whether they are
+/// all zero.
+#[derive(Clone, Copy, Debug)]
+struct Pieces {
+    kept: u128,
+    rest: u64,
+    half: u64,
+}
+
+/// 2 to the power of `exponent`, in a word.
+#[inline(always)]
+fn word_power(exponent: u32) -> u64
+    requires { exponent < 64 }
+    ensures { result ≡ 2 ^ exponent }
+{
+    1 << exponent
+}
+
+/// The lowest `places` binary digits of a word.
+#[inline(always)]
+fn low_of_word(word: u64, places: u32) -> u64
+    requires { places < 64 }
+    ensures { result ≡ word % 2 ^ places }
+{
+    word & (word_power(places) - 1)
+}
+
+/// A significand of one word without its `places` lowest digits.
+#[inline(always)]
+fn split_word(significand: u128, places: u32) -> Pieces
+    requires some { 0 < places }
+    requires short { places < 64 }
+    requires fits { significand < 2 ^ 64 }
+    ensures kept { result.kept ≡ significand / 2 ^ places }
+    ensures below { result.rest < 2 * result.half }
+    ensures rest { loss_at result.rest result.half
+        ≡ loss_at (significand % 2 ^ places) (2 ^ (places - 1)) }
+{
+    let word = significand as u64;
+    Pieces {
+        kept: u128::from(word >> places),
+        rest: low_of_word(word, places),
+        half: word_power(places - 1),
+    }
+}
+
+/// A significand without its `places` lowest digits, which have at most one word.
+#[inline(always)]
+fn split_low(significand: u128, places: u32) -> Pieces
+    requires some { 0 < places }
+    requires short { places ≤ 64 }
+    ensures kept { result.kept ≡ significand / 2 ^ places }
+    ensures below { result.rest < 2 * result.half }
+    ensures rest { loss_at result.rest result.half
+        ≡ loss_at (significand % 2 ^ places) (2 ^ (places - 1)) }
+{
+    Pieces {
+        kept: significand >> places,
+        rest: low_digits(significand, places) as u64,
+        half: word_power(places - 1),
+    }
+}
+
+/// 1, or 0 for 0.
+#[inline(always)]
+fn one_if_some(number: u128) -> u64
+    ensures none { number ≡ 0 → result ≡ 0 }
+    ensures some { 0 < number → result ≡ 1 }
+    ensures bound { result ≤ 1 }
+{
+    if number == 0 { 0 } else { 1 }
+}
+
+/// A significand without its `places` lowest digits, which have more than one word.
+#[inline(always)]
+fn split_high(significand: u128, places: u32) -> Pieces
+    requires long { 64 < places }
+    requires short { places < 128 }
+    ensures kept { result.kept ≡ significand / 2 ^ places }
+    ensures below { result.rest < 2 * result.half }
+    ensures rest { loss_at result.rest result.half
+        ≡ loss_at (significand % 2 ^ places) (2 ^ (places - 1)) }
+{
+    let upper = (significand >> 64) as u64;
+    Pieces {
+        kept: u128::from(upper >> (places - 64)),
+        rest: 2 * low_of_word(upper, places - 64) + one_if_some(low_digits(significand, 64)),
+        half: word_power(places - 64),
+    }
+}
+
+/// A significand with `digits` digits without its `places` lowest ones.
+#[inline(always)]
+fn split(significand: u128, digits: u32, places: u32) -> Pieces
+    requires some { 0 < places }
+    requires below { places < digits }
+    requires short { digits ≤ 128 }
+    requires fits { significand < 2 ^ digits }
+    ensures kept { result.kept ≡ significand / 2 ^ places }
+    ensures below { result.rest < 2 * result.half }
+    ensures rest { loss_at result.rest result.half
+        ≡ loss_at (significand % 2 ^ places) (2 ^ (places - 1)) }
+{
+    if digits <= 64 {
+        split_word(significand, places)
+    } else if places <= 64 {
+        split_low(significand, places)
+    } else {
+        split_high(significand, places)
+    }
+}
+
 /// Cuts a significand with `digits` digits to the precision.
 #[inline(always)]
 fn cut_digits(precision: u32, given: Given, digits: u32) -> Cut
@@ -443,31 +556,33 @@ fn cut_digits(precision: u32, given: Given, digits: u32) -> Cut
     ensures cut { (amount parts : ℕ) → 0 < parts → IsGiven given amount parts
         → IsCutOff precision result amount parts }
 {
-    let places = digits - precision;
+    let pieces = split(given.significand, digits, digits - precision);
     Cut {
-        significand: given.significand >> places,
+        significand: pieces.kept,
         place: full_place(precision, digits, given.unit),
-        rest: low_digits(given.significand, places),
-        half: power_of_two(places - 1),
+        rest: pieces.rest,
+        half: pieces.half,
     }
 }
 
 /// Whether the mode moves a significand up for the rest below it, in units of which its last digit is `2 * half`.
 #[inline(always)]
-fn moves_past(mode: Round, negative: bool, rest: u128, half: u128, odd: bool) -> bool
+fn moves_past(mode: Round, negative: bool, rest: u64, half: u64, odd: bool) -> bool
     requires { rest < 2 * half }
     ensures { result ≡ rounds_up mode negative (loss_at rest half) odd }
 {
-    let to_even = mode == Round::NearestTiesToEven;
-    let to_nearest = to_even | (mode == Round::NearestTiesToAway);
-    let outward = is_outward(mode, negative) & (rest != 0);
-    let tie = (rest == half) & (odd | !to_even);
-    outward | (to_nearest & (tie | (rest > half)))
+    if mode == Round::NearestTiesToEven {
+        return rest > half - u64::from(odd);
+    }
+    if mode == Round::NearestTiesToAway {
+        return rest >= half;
+    }
+    is_outward(mode, negative) & (rest != 0)
 }
 
 /// The status of a rounding within the format that cuts off a rest, and leaves all digits of the precision.
 #[inline(always)]
-fn status_of_rest(rest: u128) -> Status
+fn status_of_rest(rest: u64) -> Status
     ensures exact { rest ≡ 0 → bits_of result ≡ ok_bits }
     ensures inexact { (rest ≡ 0 → ⊥) → bits_of result ≡ inexact_bit }
 {
@@ -478,7 +593,20 @@ fn status_of_rest(rest: u128) -> Status
     }
 }
 
-/// Rounds all digits of the precision, with the rest below them, to a value of the format.
+/// The next significand, if it moved, or the significand itself.
+#[inline(always)]
+fn next_if(precision: u32, significand: u128, moved: bool) -> u128
+    requires precise { precision ≤ 125 }
+    requires fits { significand < 2 ^ precision }
+    ensures value { result ≡ (if moved then significand + 1 else significand) }
+    ensures bound { result ≤ 2 ^ precision }
+    ensures above { significand ≤ result }
+{
+    if moved { significand + 1 } else { significand }
+}
+
+/// Rounds all digits of the precision, with the rest below them, to a value of the format. Below the greatest exponent,
+/// where no carry moves the place, the result is within the format, and no point has to be compared.
 #[inline(always)]
 fn round_cut(shape: Shape, cut: Cut, mode: Round, negative: bool) -> StatusAnd<Unpacked>
     requires fits { cut.significand < 2 ^ shape.precision }
@@ -491,12 +619,16 @@ fn round_cut(shape: Shape, cut: Cut, mode: Round, negative: bool) -> StatusAnd<U
 {
     let odd = cut.significand % 2 == 1;
     let moved = moves_past(mode, negative, cut.rest, cut.half, odd);
+    let status = status_of_rest(cut.rest);
+    let next = next_if(shape.precision, cut.significand, moved);
+    if cut.place < shape.span() && next != power_of_two(shape.precision) {
+        return status.and(from_full_quanta(shape, negative, next, cut.place));
+    }
     let point = raised(shape.precision, cut.significand, cut.place, moved);
     let greatest = shape.greatest_significand();
     if is_past(shape.precision, point, greatest, shape.span()) {
         return overflowed(shape, mode, negative);
     }
-    let status = status_of_rest(cut.rest);
     status.and(from_full_quanta(shape, negative, point.significand, point.place))
 }
 

@@ -67,6 +67,20 @@ pub fn remade(answer: StatusAnd<Unpacked>) -> StatusAnd<Unpacked>
     }
 }
 
+/// The significand of a value. In a format of at most 64 digits it is made anew from one word, so that the compiler
+/// computes with one word of it.
+#[inline(always)]
+pub fn significand_of(shape: Shape, x: Unpacked) -> u128
+    requires { x.significand < 2 ^ shape.precision }
+    ensures { result ≡ x.significand }
+{
+    if shape.precision <= 64 {
+        u128::from(x.significand as u64)
+    } else {
+        x.significand
+    }
+}
+
 /// The zero of that sign, or the format's only zero.
 #[inline(always)]
 pub fn zero_of(shape: Shape, negative: bool) -> Unpacked

@@ -1,5 +1,4 @@
-use Rattle.std.proofs.Common.{◌≡◌, ℕ, ◌-◌, ◌*◌, ◌^◌, w32, subst, ap, ◌∙◌, arith}
-use Rattle.std.proofs.Math.Nat.{mod-eq_of_lt}
+use Rattle.std.proofs.Common.{ℕ, ◌-◌, ◌*◌, ◌^◌, w32, subst, ap, ◌∙◌, arith}
 use Rattle.std.proofs.lemmas.Int.{to_z-of_z, ints}
 use Rattle.std.proofs.lemmas.Nat.{pow_pos}
 use Rattle.apfloat_base.specs.formats.Datum.{Datum}
@@ -30,11 +29,11 @@ deliver_digits-answer-requires-clause-within c =
 
 pub deliver_digits-answer-requires-clause-fits : goal.deliver_digits-answer-requires-clause-fits
 deliver_digits-answer-requires-clause-fits c =
-    rw (c.low_digits.ensures ∙ mod-eq_of_lt c.requires.operand.fits) c.requires.operand.fits
+    rw c.significand_of.ensures c.requires.operand.fits
 
 pub deliver_digits-answer-requires-clause-full : goal.deliver_digits-answer-requires-clause-full
 deliver_digits-answer-requires-clause-full c =
-    rw (c.low_digits.ensures ∙ mod-eq_of_lt c.requires.operand.fits) c.requires.operand.full
+    rw c.significand_of.ensures c.requires.operand.full
 
 pub returns-clause-stored : goal.returns-clause-stored
 returns-clause-stored c = c.deliver_digits-answer.ensures.stored
@@ -46,9 +45,7 @@ returns-clause-converted c =
     let ex = exponent_word s c.args.x.significand c.args.x.exponent c.requires in
     let v = rw ex at c.last_exponent.ensures.value in
     let w = to_z-of_z w32 c.last_exponent.result (record { sfits = c.last_exponent.type_inv }) in
-    let l : c.low_digits.result ≡ c.args.x.significand =
-    c.low_digits.ensures ∙ mod-eq_of_lt c.requires.operand.fits in
-    let g = rw (w, l) at c.deliver_digits-answer.ensures.delivered in
+    let g = rw (w, c.significand_of.ensures) at c.deliver_digits-answer.ensures.delivered in
     let k = scale_is s in
     let k' = scale_is t in
     let a : ℕ = quanta_at s.min_exp c.args.x.significand c.args.x.exponent in

@@ -9,6 +9,7 @@ returns-clause-stored c =
     let m = c.args.x.significand in
     let e = c.args.x.exponent in
     rw (
+      c.significand_of.ensures,
       held_shift s.precision t.precision m (precise_there s t e c.requires.held) c.args.into.parameters.precision_high
           c.requires.x.operand.fits,
       exponent_word s m e c.requires.x,
@@ -23,6 +24,7 @@ returns-clause-same c =
     let e = c.args.x.exponent in
     let p = precise_there s t e c.requires.held in
     rw (
+      c.significand_of.ensures,
       held_shift s.precision t.precision m p c.args.into.parameters.precision_high c.requires.x.operand.fits,
       exponent_word s m e c.requires.x,
     )

@@ -4,13 +4,19 @@ use Rattle.std.proofs.lemmas.Nat.{pow_pos}
 use Rattle.apfloat_unpacked.specs.Shapes.{format_at}
 use Rattle.apfloat_unpacked.specs.Stored.{quanta_at}
 use Rattle.apfloat_unpacked.proofs.ShapeExponents.{exponent_word}
-use Rattle.apfloat_conversions.proofs.StoredExponents.{fraction_places, significand_small}
+use Rattle.apfloat_conversions.proofs.StoredExponents.{fraction_places}
 use Rattle.apfloat_conversions.proofs.Wholes.{whole_fits}
 use Rattle.apfloat_conversions.proofs.whole.round_at_dot.Goals as goal
 
 pub round_fraction-requires : goal.round_fraction-requires
 round_fraction-requires c =
-    significand_small c.args.shape c.args.x.significand c.requires.normal.operand.fits
+    let b = c.requires.behind in
+    let k = rw (to_z-of_z w32 c.args.exponent c.ranges.exponent) at c.steps_between.ensures in
+    record {
+      precise = c.args.shape.parameters.precision_high;
+      fits = c.requires.normal.operand.fits;
+      some = omega (arith, ints, b, k);
+    }
 
 pub returns-clause-bound : goal.returns-clause-bound
 returns-clause-bound c =
