@@ -13,10 +13,10 @@ ghost use Rattle.apfloat_unpacked.specs.Cuts.{IsCutOff};
 ghost use Rattle.apfloat_unpacked.specs.Shapes.{format_at};
 ghost use Rattle.apfloat_unpacked.specs.Stored.{IsStored, GivesAt};
 
-use super::{Cut, deliver, full_place, round_cut, unit_place};
+use super::{Cut, deliver, full_place, low_of_word, round_cut, unit_place, word_power};
 use crate::shape::Shape;
 use crate::unpacked::Unpacked;
-use apfloat_base::sig::{Loss, digits, low_digits, power_of_two};
+use apfloat_base::sig::{Loss, digits};
 use apfloat_base::{ExpInt, Round, StatusAnd};
 
 /// A significand with `digits` digits, moved up until it has 64.
@@ -49,13 +49,13 @@ fn cut_odd(precision: u32, significand: u64, digits: u32, unit: ExpInt) -> Cut
         → IsRoundedToOdd (2 ^ 60) significand (amount * 2 ^ down unit) (parts * 2 ^ up unit)
         → IsCutOff precision result amount parts }
 {
-    let top = u128::from(at_top(significand, digits));
+    let top = at_top(significand, digits);
     let places = 64 - precision;
     Cut {
-        significand: top >> places,
+        significand: u128::from(top >> places),
         place: full_place(precision, digits, unit),
-        rest: low_digits(top, places),
-        half: power_of_two(places - 1),
+        rest: low_of_word(top, places),
+        half: word_power(places - 1),
     }
 }
 
