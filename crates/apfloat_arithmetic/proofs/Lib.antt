@@ -16,3 +16,4 @@ mod SpecialRemainders
 mod Additions
 mod SumCases
 mod StepBounds
+pub mod ShortQuotients

@@ -14,10 +14,13 @@ ghost use Rattle.apfloat_unpacked.specs.Stored.{IsStored, IsNormal, quanta_of, d
 use crate::classes::are_normal;
 use crate::exact::{exact_infinity, exact_zero};
 use crate::products::product_sign;
-use apfloat_base::sig::{Quotient, divide_by_words, divide_short_by_words, divide_word};
+use apfloat_base::sig::{
+    Quotient, SHORT_LIMIT, divide_by_words, divide_short_by_words, divide_word,
+};
 use apfloat_base::{Category, ExpInt, Round, Status, StatusAnd};
 use apfloat_unpacked::nans::{invalid, propagated, propagated_left};
 use apfloat_unpacked::rounding::deliver;
+use apfloat_unpacked::rounding::odd::deliver_short;
 use apfloat_unpacked::shape::Shape;
 use apfloat_unpacked::unpacked::{Unpacked, infinity_of, remade};
 
@@ -34,18 +37,21 @@ fn quotient_exponent(left: ExpInt, right: ExpInt, places: u32) -> ExpInt
     left - right - places as ExpInt
 }
 
-/// The quotient of two significands of `precision` digits, with one place more, by the fastest division that has room.
+/// The quotient of two significands of `precision` digits, with one or two places more, by the fastest division that has
+/// room.
 #[inline(always)]
-fn quotient_of(precision: u32, dividend: u128, divisor: u128) -> Quotient
+fn quotient_of(precision: u32, places: u32, dividend: u128, divisor: u128) -> Quotient
     requires some { 0 < precision }
     requires precise { precision ≤ 125 }
+    requires some_more { precision < places }
+    requires few_more { places ≤ precision + 2 }
+    requires room { places ≤ 126 }
     requires dividend_fits { dividend < 2 ^ precision }
     requires divisor_fits { divisor < 2 ^ precision }
     requires divisor_full { 2 ^ (precision - 1) ≤ divisor }
-    ensures quotient { result.whole ≡ dividend * 2 ^ (precision + 1) / divisor }
-    ensures stands { StandsFor result.whole result.loss (dividend * 2 ^ (precision + 1)) divisor }
+    ensures quotient { result.whole ≡ dividend * 2 ^ places / divisor }
+    ensures stands { StandsFor result.whole result.loss (dividend * 2 ^ places) divisor }
 {
-    let places = precision + 1;
     if precision <= 31 {
         divide_word(dividend as u64, divisor as u64, places)
     } else if places <= 62 {
@@ -53,6 +59,30 @@ fn quotient_of(precision: u32, dividend: u128, divisor: u128) -> Quotient
     } else {
         divide_by_words(dividend, divisor, places)
     }
+}
+
+/// The quotient of two nonzero numbers with few digits, rounded once. Two places more than the precision always give two
+/// digits more than the format has.
+#[inline(always)]
+fn divide_short_numbers(shape: Shape, x: Unpacked, y: Unpacked, round: Round) -> StatusAnd<Unpacked>
+    requires short { shape.precision ≤ 59 }
+    requires left { IsNormal shape x }
+    requires right { IsNormal shape y }
+    ensures stored { IsStored shape result.value }
+    ensures delivered { GivesAt shape (IsDelivered (format_at shape) round
+        (product_sign x.negative y.negative) (quanta_of shape x * 2 ^ (format_at shape).scale)
+        (quanta_of shape y)) result }
+{
+    let places = shape.precision + 2;
+    let quotient = quotient_of(shape.precision, places, x.significand, y.significand);
+    deliver_short(
+        shape,
+        quotient.whole as u64,
+        quotient_exponent(x.exponent, y.exponent, places),
+        quotient.loss,
+        round,
+        product_sign(x.negative, y.negative),
+    )
 }
 
 /// The quotient of two nonzero numbers, rounded once. One place more than the precision always gives all digits of the
@@ -66,8 +96,11 @@ fn divide_numbers(shape: Shape, x: Unpacked, y: Unpacked, round: Round) -> Statu
         (product_sign x.negative y.negative) (quanta_of shape x * 2 ^ (format_at shape).scale)
         (quanta_of shape y)) result }
 {
+    if shape.precision <= SHORT_LIMIT {
+        return divide_short_numbers(shape, x, y, round);
+    }
     let places = shape.precision + 1;
-    let quotient = quotient_of(shape.precision, x.significand, y.significand);
+    let quotient = quotient_of(shape.precision, places, x.significand, y.significand);
     deliver(
         shape,
         quotient.whole,

@@ -11,7 +11,7 @@ ghost use Rattle.apfloat_unpacked.specs.Stored.{IsNormal, IsStored, datum_at, nu
 use crate::classes::are_normal;
 use crate::signs::negated;
 use apfloat_base::sig::{
-    Loss, OddTotal, SHORT_SUM_LIMIT, Term, Total, add_short_terms, add_terms, is_zero,
+    Loss, OddTotal, SHORT_LIMIT, Term, Total, add_short_terms, add_terms, is_zero,
 };
 use apfloat_base::{Category, Round, Status, StatusAnd};
 use apfloat_unpacked::nans::{invalid, propagated, propagated_left};
@@ -106,7 +106,7 @@ fn add_numbers(shape: Shape, x: Unpacked, y: Unpacked, round: Round) -> StatusAn
         (zero_sum_sign round x.negative y.negative)
         (signed x.negative (quanta_of shape x) +ℤ signed y.negative (quanta_of shape y)) 1) result }
 {
-    if shape.precision <= SHORT_SUM_LIMIT {
+    if shape.precision <= SHORT_LIMIT {
         return add_short_numbers(shape, x, y, round);
     }
     let total = add_terms(term_of(shape, x), term_of(shape, y));

@@ -24,7 +24,7 @@ pub mod wide_sum;
 pub use long_product::wide_product;
 pub use long_quotient::{Digits, LongDivisor, divide_by_words, long_divisor, next_digits};
 pub use loss::{Loss, is_exact, loss_of_rest};
-pub use odd_sum::{OddTotal, SHORT_SUM_LIMIT, add_short_terms};
+pub use odd_sum::{OddTotal, SHORT_LIMIT, add_short_terms};
 pub use product::full_product;
 pub use quotient::{Quotient, divide};
 pub use rest::{MovedRest, moved_rest, short_moved_rest};

@@ -143,7 +143,7 @@ top_cut_full precision s digits top place rest half up down i =
 
 -- the cut in units of the significand
 top_stands : (precision s digits top place rest half up down amount unit : ℕ)
-    → IsTopSplit precision s digits top place rest half up down → 0 < unit → IsRoundedToOdd (2 ^ 60) s amount unit
+    → IsTopSplit precision s digits top place rest half up down → 0 < unit → IsRoundedToOdd (2 ^ (precision + 1)) s amount unit
     → StandsFor (top / 2 ^ (64 - precision)) (loss_at rest half) (amount * 2 ^ (64 - digits))
     (2 ^ (64 - precision) * unit)
 top_stands precision s digits top place rest half up down amount unit i u h =
@@ -167,8 +167,8 @@ top_stands precision s digits top place rest half up down amount unit i u h =
     (λ o.
     let f = i.fits in
     let m = o.long in
-    let n : 2 ^ 60 < 2 ^ digits = omega (arith, f, m) in
-    let p : 60 < digits = exponent_below 60 digits n in
+    let n : 2 ^ (precision + 1) < 2 ^ digits = omega (arith, f, m) in
+    let p : precision + 1 < digits = exponent_below (precision + 1) digits n in
     let g = 2 ^ (62 - precision - (64 - digits)) in
     let x : 1 + (62 - precision - (64 - digits)) + (64 - digits) ≡ 64 - precision - 1 = omega (arith, l, p) in
     let c : half ≡ 2 * g * w = i.half_is ∙ ap (λ (x : ℕ). 2 ^ x) (sym x) ∙
@@ -182,7 +182,7 @@ top_stands precision s digits top place rest half up down amount unit i u h =
 -- what is kept stands for the amount in quanta
 pub top_cut_stands : (precision s digits top place rest half up down amount parts : ℕ)
     → IsTopSplit precision s digits top place rest half up down → 0 < parts
-    → IsRoundedToOdd (2 ^ 60) s (amount * 2 ^ down) (parts * 2 ^ up)
+    → IsRoundedToOdd (2 ^ (precision + 1)) s (amount * 2 ^ down) (parts * 2 ^ up)
     → StandsFor (top / 2 ^ (64 - precision)) (loss_at rest half) amount (2 ^ place * parts)
 top_cut_stands precision s digits top place rest half up down amount parts i p h =
     let l = i.short in
@@ -203,7 +203,7 @@ top_cut_stands precision s digits top place rest half up down amount parts i p h
 
 pub top_cut_encloses : (precision s digits top place rest half up down amount parts : ℕ)
     → IsTopSplit precision s digits top place rest half up down → 0 < parts
-    → IsRoundedToOdd (2 ^ 60) s (amount * 2 ^ down) (parts * 2 ^ up)
+    → IsRoundedToOdd (2 ^ (precision + 1)) s (amount * 2 ^ down) (parts * 2 ^ up)
     → IsEnclosed precision (2 ^ (precision - 1)) (top / 2 ^ (64 - precision)) place amount parts
 top_cut_encloses precision s digits top place rest half up down amount parts i p h =
     enclosed_from precision (top / 2 ^ (64 - precision)) place (loss_at rest half) amount parts i.some p
@@ -222,19 +222,19 @@ no_up (negsuc n) h = refl
 -- with a unit below the quantum, a whole number of quanta is not rounded
 pub exact_below : (s digits precision amount : ℕ) (unit : ℤ) → precision ≤ 59
     → (s ≡ 0) ⊎ ((s < 2 ^ digits) × ((unit +ℤ pos digits) ≤ℤ pos precision))
-    → IsRoundedToOdd (2 ^ 60) s (amount * 2 ^ down unit) (1 * 2 ^ up unit)
+    → IsRoundedToOdd (2 ^ (precision + 1)) s (amount * 2 ^ down unit) (1 * 2 ^ up unit)
     → StandsFor s ExactlyZero (amount * 2 ^ down unit) (1 * 2 ^ up unit)
 exact_below s digits precision amount unit l d (inl e) = e
-exact_below s digits precision amount unit l (inl z) (inr o) = let m = o.long in absurd (omega (arith, m, z))
+exact_below s digits precision amount unit l (inl z) (inr o) = let m = o.long in let k = pow_pos (precision + 1) in absurd (omega (arith, m, z, k))
 exact_below s digits precision amount unit l (inr d) (inr o) =
     let f = d.0 in
     let g = d.1 in
     let m = o.long in
-    let n : 2 ^ 60 < 2 ^ digits = omega (arith, f, m) in
-    let p : 60 < digits = exponent_below 60 digits n in
+    let n : 2 ^ (precision + 1) < 2 ^ digits = omega (arith, f, m) in
+    let p : precision + 1 < digits = exponent_below (precision + 1) digits n in
     let z : up unit ≡ 0 = no_up unit (omega (arith, ints, g, p, l)) in
     let e : 1 * 2 ^ up unit ≡ 1 = ap (λ (x : ℕ). 1 * 2 ^ x) z in
-    let h : IsRoundedToOdd (2 ^ 60) s (amount * 2 ^ down unit * 1) 1 =
-    subst₂ (λ (x : ℕ) (y : ℕ). IsRoundedToOdd (2 ^ 60) s x y) (omega arith) e (inr o) in
-    let w = whole_to_odd (2 ^ 60) s (amount * 2 ^ down unit) 1 h in
+    let h : IsRoundedToOdd (2 ^ (precision + 1)) s (amount * 2 ^ down unit * 1) 1 =
+    subst₂ (λ (x : ℕ) (y : ℕ). IsRoundedToOdd (2 ^ (precision + 1)) s x y) (omega arith) e (inr o) in
+    let w = whole_to_odd (2 ^ (precision + 1)) s (amount * 2 ^ down unit) 1 h in
     subst (λ (y : ℕ). amount * 2 ^ down unit ≡ s * y) (sym e) (omega (arith, w))

@@ -2,9 +2,21 @@
 use Rattle.std.proofs.Common.{◌≡◌, ℕ, zero, suc, ◌+◌, ◌-◌, ◌*◌, ◌%◌, ◌^◌, ◌<◌, ◌≤◌, sym, refl, ap, inl, inr, arith}
 use Rattle.std.proofs.Math.Nat.{mul-le-mul_right, mul-le-mul_left, mul-lt-mul_of_pos_right, eq_of_mul-eq-mul_right, lt_of_mul-lt-mul_right, pow-le-pow_right}
 use Rattle.apfloat_base.proofs.general.Powers.{two_pos}
+use Rattle.apfloat_base.specs.declared.sig.loss.Loss.{Loss}
+use Rattle.apfloat_base.specs.declared.sig.loss.Loss.TheVariants.{ExactlyZero, LessThanHalf, ExactlyHalf, MoreThanHalf}
+use Rattle.apfloat_base.specs.rounding.Standing.{StandsFor}
 use Rattle.apfloat_base.specs.rounding.RoundingToOdd.{IsRoundedToOdd}
 
 -- ---- a number that is cut
+
+-- if something is lost, the amount lies strictly between two whole numbers of units
+stands_strictly : (q : ℕ) (loss : Loss) (amount u : ℕ) → 0 < u → (loss ≡ ExactlyZero → ⊥) → StandsFor q loss amount u
+    → (q * u < amount) × (amount < (q + 1) * u)
+stands_strictly q ExactlyZero amount u p n h = absurd (n refl)
+stands_strictly q LessThanHalf amount u p n h = let a = h.0 in let b = h.1 in (a, omega (arith, a, b))
+stands_strictly q ExactlyHalf amount zero p n h = absurd (omega arith)
+stands_strictly q ExactlyHalf amount (suc u) p n h = (omega (arith, h), omega (arith, h))
+stands_strictly q MoreThanHalf amount u p n h = let a = h.0 in let b = h.1 in (omega (arith, a, b), b)
 
 -- an even number of units below which something is lost goes up to the odd one
 pub raised_to_odd : (n u q : ℕ) → q * u < n → n < (q + 1) * u → q % 2 ≡ 0 → IsRoundedToOdd 1 (q + 1) n u
@@ -29,6 +41,36 @@ pub beyond_to_odd : (n k : ℕ) → 64 ≤ k → n < 2 ^ 64 → 0 < n → IsRoun
 beyond_to_odd n k l h p =
     let w : 2 ^ 64 ≤ 2 ^ k = pow-le-pow_right two_pos l in
     inr (record { long = omega arith; odd = refl; above = omega (arith, p); below = omega (arith, w, h) })
+
+-- a significand that is at least one bound is at least any lower one
+pub to_odd_least : (least lower s amount u : ℕ) → lower ≤ least → IsRoundedToOdd least s amount u
+    → IsRoundedToOdd lower s amount u
+to_odd_least least lower s amount u l (inl e) = inl e
+to_odd_least least lower s amount u l (inr b) =
+    let m = b.long in
+    inr (record { long = omega (arith, m, l); odd = b.odd; above = b.above; below = b.below })
+
+-- what stands for an amount, with a loss, is rounded to odd by it: if it is even it goes up
+pub lost_to_odd : (least q : ℕ) (loss : Loss) (amount u : ℕ) → least ≤ q → 0 < u
+    → (loss ≡ ExactlyZero → ⊥) → StandsFor q loss amount u
+    → (q % 2 ≡ 0 → IsRoundedToOdd least (q + 1) amount u) × (q % 2 ≡ 1 → IsRoundedToOdd least q amount u)
+lost_to_odd least q loss amount u l p n h =
+    let b = stands_strictly q loss amount u p n h in
+    let a = b.0 in
+    let t = b.1 in (
+      λ e. inr (record {
+        long = omega (arith, l);
+        odd = omega (arith, e);
+        above = omega (arith, a);
+        below = omega (arith, t);
+      }),
+      λ o. inr (record {
+        long = l;
+        odd = o;
+        above = omega (arith, a, t);
+        below = t;
+      }),
+    )
 
 -- ---- units
 

@@ -4,11 +4,11 @@
 //! none and with half as the exact rest would be, since these are even numbers of its units. The significand is moved
 //! up to the top of a word, so that the cut is at the same digit for each of them.
 
-ghost use Rattle.std.specs.Prelude.{◌≡◌, ℕ, ◌-◌, ◌*◌, ◌^◌, ◌<◌, ◌≤◌, pos, ◌+ℤ◌, ◌≤ℤ◌};
+ghost use Rattle.std.specs.Prelude.{◌≡◌, ℕ, ◌+◌, ◌-◌, ◌*◌, ◌^◌, ◌<◌, ◌≤◌, pos, ◌+ℤ◌, ◌≤ℤ◌};
 ghost use Rattle.apfloat_base.specs.rounding.Bounds.{IsWithin, exponent_bound, unit_bound, place_bound};
 ghost use Rattle.apfloat_base.specs.rounding.Rounding.{IsDelivered};
 ghost use Rattle.apfloat_base.specs.rounding.RoundingToOdd.{IsRoundedToOdd};
-ghost use Rattle.apfloat_base.specs.rounding.Standing.{up, down};
+ghost use Rattle.apfloat_base.specs.rounding.Standing.{StandsFor, up, down};
 ghost use Rattle.apfloat_unpacked.specs.Cuts.{IsCutOff};
 ghost use Rattle.apfloat_unpacked.specs.Shapes.{format_at};
 ghost use Rattle.apfloat_unpacked.specs.Stored.{IsStored, GivesAt};
@@ -16,7 +16,7 @@ ghost use Rattle.apfloat_unpacked.specs.Stored.{IsStored, GivesAt};
 use super::{Cut, deliver, full_place, low_of_word, round_cut, unit_place, word_power};
 use crate::shape::Shape;
 use crate::unpacked::Unpacked;
-use apfloat_base::sig::{Loss, digits};
+use apfloat_base::sig::{Loss, digits, is_exact};
 use apfloat_base::{ExpInt, Round, StatusAnd};
 
 /// A significand with `digits` digits, moved up until it has 64.
@@ -46,7 +46,8 @@ fn cut_odd(precision: u32, significand: u64, digits: u32, unit: ExpInt) -> Cut
     ensures near { result.place < place_bound }
     ensures rest { result.rest < 2 * result.half }
     ensures cut { (amount parts : ℕ) → 0 < parts
-        → IsRoundedToOdd (2 ^ 60) significand (amount * 2 ^ down unit) (parts * 2 ^ up unit)
+        → IsRoundedToOdd (2 ^ (precision + 1)) significand (amount * 2 ^ down unit)
+        (parts * 2 ^ up unit)
         → IsCutOff precision result amount parts }
 {
     let top = at_top(significand, digits);
@@ -73,7 +74,8 @@ pub fn deliver_odd(
     requires within { IsWithin exponent_bound exponent }
     ensures stored { IsStored shape result.value }
     ensures delivered { let unit = exponent +ℤ pos (format_at shape).scale in (amount : ℕ)
-        → IsRoundedToOdd (2 ^ 60) significand (amount * 2 ^ down unit) (1 * 2 ^ up unit)
+        → IsRoundedToOdd (2 ^ (shape.precision + 1)) significand (amount * 2 ^ down unit)
+        (1 * 2 ^ up unit)
         → GivesAt shape (IsDelivered (format_at shape) mode negative amount 1) result }
 {
     let unit = unit_place(shape, exponent);
@@ -87,6 +89,59 @@ pub fn deliver_odd(
         u128::from(significand),
         exponent,
         Loss::ExactlyZero,
+        mode,
+        negative,
+    )
+}
+
+/// A significand that is rounded to odd for what was lost below it.
+#[inline(always)]
+fn odd_for(significand: u64, loss: Loss) -> u64
+    requires room { significand < 2 ^ 63 }
+    ensures rounded { (least amount unit : ℕ) → least ≤ significand → 0 < unit
+        → StandsFor significand loss amount unit → IsRoundedToOdd least result amount unit }
+    ensures bound { result ≤ significand + 1 }
+    ensures above { significand ≤ result }
+{
+    if !is_exact(loss) & (significand % 2 == 0) {
+        significand + 1
+    } else {
+        significand
+    }
+}
+
+/// Delivers a short significand with at least two digits more than the format keeps, and what was lost below it. It is
+/// `deliver`, and faster.
+#[inline(always)]
+pub fn deliver_short(
+    shape: Shape,
+    significand: u64,
+    exponent: ExpInt,
+    loss: Loss,
+    mode: Round,
+    negative: bool,
+) -> StatusAnd<Unpacked>
+    requires short { shape.precision ≤ 59 }
+    requires room { significand < 2 ^ 63 }
+    requires long { 2 ^ (shape.precision + 1) ≤ significand }
+    requires within { IsWithin exponent_bound exponent }
+    ensures stored { IsStored shape result.value }
+    ensures delivered { let unit = exponent +ℤ pos (format_at shape).scale in (amount parts : ℕ)
+        → 0 < parts → StandsFor significand loss (amount * 2 ^ down unit) (parts * 2 ^ up unit)
+        → GivesAt shape (IsDelivered (format_at shape) mode negative amount parts) result }
+{
+    let unit = unit_place(shape, exponent);
+    let odd = odd_for(significand, loss);
+    let digits = digits(u128::from(odd));
+    if unit + digits as ExpInt >= shape.precision as ExpInt {
+        let cut = cut_odd(shape.precision, odd, digits, unit);
+        return round_cut(shape, cut, mode, negative);
+    }
+    deliver(
+        shape,
+        u128::from(significand),
+        exponent,
+        loss,
         mode,
         negative,
     )

@@ -25,4 +25,4 @@ divide_word-requires-clause-narrow c =
 
 pub divide_word-requires-clause-fits : goal.divide_word-requires-clause-fits
 divide_word-requires-clause-fits c =
-    fits_shifted c.args.dividend c.args.precision (c.args.precision + 1) 64 c.requires.dividend_fits (omega arith)
+    fits_shifted c.args.dividend c.args.precision c.args.places 64 c.requires.dividend_fits (omega arith)

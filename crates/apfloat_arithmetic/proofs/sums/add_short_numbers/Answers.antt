@@ -1,4 +1,5 @@
-use Rattle.std.proofs.Common.{◌≡◌, ◌-◌, ◌*◌, ◌^◌, ◌<◌, ◌≤◌, ◌+ℤ◌, Bool, pos, subst, refl, to_z, of_z, w32, arith}
+use Rattle.std.proofs.Common.{◌≡◌, ◌+◌, ◌-◌, ◌*◌, ◌^◌, ◌<◌, ◌≤◌, ◌+ℤ◌, Bool, pos, subst, refl, to_z, of_z, w32, arith}
+use Rattle.std.proofs.Math.Nat.{pow-le-pow_right}
 use Rattle.std.proofs.lemmas.Int.{ints, to_z-of_z}
 use Rattle.apfloat_base.specs.arithmetic.Exact.{signed, sign_of, magnitude}
 use Rattle.apfloat_base.specs.rounding.Flags.{bits_of}
@@ -6,6 +7,8 @@ use Rattle.apfloat_base.specs.rounding.Rounding.{IsDelivered}
 use Rattle.apfloat_base.specs.arithmetic.Sums.{zero_sum_sign}
 use Rattle.apfloat_unpacked.specs.Shapes.{format_at}
 use Rattle.apfloat_unpacked.specs.Stored.{quanta_at, datum_at}
+use Rattle.apfloat_base.proofs.general.Powers.{two_pos}
+use Rattle.apfloat_base.proofs.rounding.OddRoundings.{to_odd_least}
 use Rattle.apfloat_arithmetic.proofs.Additions.{odd_sum_read, read_odd_sign, scale_is}
 use Rattle.apfloat_arithmetic.proofs.sums.add_short_numbers.Goals as goal
 
@@ -51,6 +54,8 @@ returns-clause-delivered c =
       c.requires.y_normal.operand,
     ) in
     let d = rw w at c.deliver_odd.ensures.delivered in
+    let few : c.args.shape.precision + 1 ≤ 60 = let p = c.requires.short in omega (arith, p) in
+    let least : 2 ^ (c.args.shape.precision + 1) ≤ 2 ^ 60 = pow-le-pow_right two_pos few in
     let g = rw (
       c.term_of.ensures.negative,
       c.term_of.ensures.significand,
@@ -70,4 +75,4 @@ returns-clause-delivered c =
     c.sign_of_odd_total-negative.ensures.other in
     subst (λ (b : Bool). IsDelivered (format_at c.args.shape) c.args.round b (magnitude exact) 1
     (datum_at c.args.shape c.deliver_odd.result.value) (bits_of c.deliver_odd.result.status)) e
-    (d (magnitude exact) r.rounded)
+    (d (magnitude exact) (to_odd_least (2 ^ 60) (2 ^ (c.args.shape.precision + 1)) total.significand _ _ least r.rounded))

@@ -1,4 +1,4 @@
-use Rattle.std.proofs.Common.{◌≡◌, ℕ, ℤ, pos, ◌+ℤ◌, ◌≤ℤ◌, ◌*◌, ◌^◌, ◌<◌, ◌⊎◌, sym, ◌∙◌, subst, inl, inr, to_z, of_z, w32, arith}
+use Rattle.std.proofs.Common.{◌≡◌, ℕ, ℤ, pos, ◌+ℤ◌, ◌≤ℤ◌, ◌+◌, ◌*◌, ◌^◌, ◌<◌, ◌⊎◌, sym, ◌∙◌, subst, inl, inr, to_z, of_z, w32, arith}
 use Rattle.std.proofs.lemmas.Int.{ints, to_z-of_z}
 use Rattle.apfloat_base.specs.rounding.RoundingToOdd.{IsRoundedToOdd}
 use Rattle.apfloat_base.specs.declared.sig.loss.Loss.TheVariants.{ExactlyZero}
@@ -18,10 +18,10 @@ returns-then-unit-digits-clause-delivered c = λ amount h.
     let v = rw e at c.unit_place-unit.ensures.value in
     let w : to_z w32 (of_z w32 c.unit_place-unit.result) ≡ c.unit_place-unit.result =
     to_z-of_z w32 c.unit_place-unit.result (record { sfits = c.unit_place-unit.type_inv }) in
-    let h' : IsRoundedToOdd (2 ^ 60) c.args.significand
+    let h' : IsRoundedToOdd (2 ^ (c.args.shape.precision + 1)) c.args.significand
     (amount * 2 ^ down (to_z w32 (of_z w32 c.unit_place-unit.result)))
     (1 * 2 ^ up (to_z w32 (of_z w32 c.unit_place-unit.result))) =
-    subst (λ (x : ℤ). IsRoundedToOdd (2 ^ 60) c.args.significand (amount * 2 ^ down x) (1 * 2 ^ up x))
+    subst (λ (x : ℤ). IsRoundedToOdd (2 ^ (c.args.shape.precision + 1)) c.args.significand (amount * 2 ^ down x) (1 * 2 ^ up x))
     (sym v ∙ sym w) h in
     c.round_cut.ensures.delivered amount 1 (omega arith) (c.cut_odd-cut.ensures.cut amount 1 (omega arith) h')
 
@@ -53,8 +53,8 @@ returns-clause-delivered c = λ amount h.
           let k : c.args.significand < 2 ^ 0 = subst (λ (x : ℕ). c.args.significand < 2 ^ x) z s in
           inl (omega (arith, k))
     ] in
-    let h' : IsRoundedToOdd (2 ^ 60) c.args.significand (amount * 2 ^ down u) (1 * 2 ^ up u) =
-    subst (λ (x : ℤ). IsRoundedToOdd (2 ^ 60) c.args.significand (amount * 2 ^ down x) (1 * 2 ^ up x)) (sym v) h in
+    let h' : IsRoundedToOdd (2 ^ (c.args.shape.precision + 1)) c.args.significand (amount * 2 ^ down u) (1 * 2 ^ up u) =
+    subst (λ (x : ℤ). IsRoundedToOdd (2 ^ (c.args.shape.precision + 1)) c.args.significand (amount * 2 ^ down x) (1 * 2 ^ up x)) (sym v) h in
     let g : StandsFor c.args.significand ExactlyZero (amount * 2 ^ down u) (1 * 2 ^ up u) =
     exact_below c.args.significand c.digits-digits.result c.args.shape.precision amount u c.requires.short d h' in
     let r = rw (e, c.from-2.ensures) at c.deliver.ensures.delivered in
