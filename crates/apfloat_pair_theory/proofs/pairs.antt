@@ -4,5 +4,6 @@ pub mod LawOperands
 pub mod WideFormat
 pub mod SplitLaws
 pub mod SplitSteps
+pub mod Joins
 pub mod PairBits
 pub mod ExactPairs

@@ -9,7 +9,7 @@ ghost use Rattle.apfloat_pair_theory.specs.PairAccuracy.{IsExactSplit};
 ghost use Rattle.apfloat_pair_theory.specs.Pairs.{IsJoined, IsNearestDouble, IsSplit, IsWidened, left_over};
 
 use crate::{DoubleFloat, Fallback};
-use apfloat_base::{Float, FloatConvert, Status, StatusAnd};
+use apfloat_base::{Float, FloatConvert, Round, Status, StatusAnd};
 use apfloat_formats::Double;
 
 /// A double in the wide format, which has all doubles; a signaling NaN is quieted.
@@ -27,6 +27,11 @@ pub(crate) fn joined(x: DoubleFloat) -> Fallback
     ensures { IsJoined x result }
 {
     let high = widened(x.0);
+    if x.1.is_zero() {
+        // The high part is a value of its format, as `category` ensures, so the sum with a zero is exact.
+        let _ = x.0.category();
+        return high;
+    }
     if x.0.is_finite_non_zero() {
         (high + widened(x.1)).value
     } else {
@@ -46,7 +51,8 @@ fn rest(x: Fallback, rounded: StatusAnd<Double>) -> Double
     let _ = (x.category(), rounded.value.category());
     let mut loses_info = false;
     let rest = (x - widened(rounded.value)).value;
-    rest.convert(&mut loses_info).value
+    rest.convert_r(Round::NearestTiesToEven, &mut loses_info)
+        .value
 }
 
 /// The pair of a wide value, which `DoubleFloat::from` describes.
@@ -55,7 +61,7 @@ pub(crate) fn split(x: Fallback) -> DoubleFloat
     ensures { IsSplit x result }
 {
     let mut loses_info = false;
-    let rounded: StatusAnd<Double> = x.convert(&mut loses_info);
+    let rounded: StatusAnd<Double> = x.convert_r(Round::NearestTiesToEven, &mut loses_info);
     if rounded.value.is_finite_non_zero() && rounded.status != Status::OK {
         DoubleFloat(rounded.value, rest(x, rounded))
     } else {

@@ -97,7 +97,9 @@ pub(crate) fn to_unsigned(
         result }
     ensures fits { result.value < 2 ^ width }
 {
-    joined(x).to_u128_r(width, round, is_exact)
+    let whole = joined(x).to_u128_r(width, round, is_exact);
+    // Rebuilt from its fields: a struct that is passed on as a whole is copied together with its padding.
+    whole.status.and(whole.value)
 }
 
 /// The pair of a text, or its refusal.

@@ -8,7 +8,7 @@ ghost use Rattle.apfloat_base.specs.texts.Literals.{digits_number, places_behind
 ghost use Rattle.apfloat_texts.specs.Scans.{IsKept, IsScan, IsScanned};
 ghost use Rattle.apfloat_base.specs.declared.parse_error.Fault.TheVariants.{SecondDot};
 
-use crate::characters::{digit_value, is_digit_or_dot};
+use crate::characters::{digit_value, is_digit_or_dot, is_hexadecimal};
 use apfloat_base::parse_error::Fault;
 use apfloat_base::sig::{Loss, loss_of_rest};
 
@@ -167,6 +167,27 @@ impl Scan {
         })
     }
 
+    /// The scan with the digits at the start of the text, as long as none is cut off, and what follows them.
+    ///
+    /// Whether the dot was read stays the same, and nothing is lost, so that all counts stay in registers.
+    #[inline(always)]
+    fn with_digits(self, text: &[u8]) -> (Scan, &[u8])
+        requires { (rest : List ℕ) × (length rest ≤ usize.MAX) × IsScan rest text.now self }
+        ensures { (rest : List ℕ) → IsScan rest text.now self → IsScan rest result.1.now result.0 }
+    {
+        let mut scan = self;
+        let mut left = text;
+        while let [byte, behind @ ..] = left
+            && scan.digits.significand < 1 << 124
+            && is_hexadecimal(*byte)
+        {
+            let next = scan.with_digit(*byte);
+            scan = next.remade();
+            left = behind;
+        }
+        (scan.remade(), left)
+    }
+
     /// The scan, rebuilt from its fields, which are copied in registers.
     #[inline(always)]
     fn remade(self) -> Scan
@@ -205,23 +226,17 @@ impl Scan {
 
 /// The significand at the start of the text after the prefix, and what follows it.
 ///
-/// The first loop ends when digits begin to be cut off. Until then nothing is lost, and all its counts stay in
-/// registers; few texts reach the second loop.
+/// Few texts have more than the digits before the dot and those after it, of which none is cut off: the loop reads what
+/// is left of the others.
 #[inline(always)]
 pub fn scanned(rest: &[u8]) -> Result<(Scan, &[u8]), Fault>
     ensures { MatchResult result (λ answer. IsScanned rest.now answer.1.now answer.0)
         (λ fault. (fault ≡ SecondDot)
         × (ltb 1 (length (filter is_dot (significand_of rest.now))) ≡ true)) }
 {
-    let mut scan = Scan::none();
-    let mut left = rest;
-    while let [byte, behind @ ..] = left
-        && scan.digits.significand < 1 << 124
-        && is_digit_or_dot(*byte)
-    {
-        let next = scan.with(*byte)?;
-        scan = next.remade();
-        left = behind;
+    let (mut scan, mut left) = Scan::none().with_digits(rest);
+    if let [b'.', behind @ ..] = left {
+        (scan, left) = scan.with_dot()?.with_digits(behind);
     }
     while let [byte, behind @ ..] = left
         && is_digit_or_dot(*byte)

@@ -47,7 +47,7 @@ pub record IsRestBySteps (x high low : Datum) (status : ℕ) : Type 0 where
 -- ---- a double is a wide number
 
 -- the grid of doubles is within that of the wide format
-more_digits : (n : ℕ) → IsOnGrid double.precision n → IsOnGrid wide.precision n
+pub more_digits : (n : ℕ) → IsOnGrid double.precision n → IsOnGrid wide.precision n
 more_digits n g = let powers : 2 ^ double.precision ≤ 2 ^ wide.precision = lit≤ tt in record {
   significand = g.significand;
   place = g.place;
@@ -56,7 +56,7 @@ more_digits n g = let powers : 2 ^ double.precision ≤ 2 ^ wide.precision = lit
 }
 
 -- a double in the wide format is the same datum
-widened_same : (negative : Bool) (n : ℕ) (value : Datum) → IsFiniteOf double negative n
+pub widened_same : (negative : Bool) (n : ℕ) (value : Datum) → IsFiniteOf double negative n
     → IsWidened (finite negative n) value → value ≡ finite negative n
 widened_same b n value m w =
     let t : IsFiniteOf wide b n = record {

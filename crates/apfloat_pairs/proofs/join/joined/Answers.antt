@@ -1,3 +1,4 @@
+use Rattle.apfloat_pair_theory.proofs.pairs.Joins.{joined_with_zero}
 use Rattle.apfloat_pairs.proofs.PairSteps.{joined_by_sum, joined_alone}
 use Rattle.apfloat_pairs.proofs.join.joined.Goals as goal
 
@@ -11,3 +12,8 @@ pub returns-else-is_finite_non_zero : goal.returns-else-is_finite_non_zero
 returns-else-is_finite_non_zero c =
     rw (← c.x.view_is)
     (joined_alone _ _ _ c.is_finite_non_zero.ensures c.if-is_finite_non_zero.false c.widened-high.ensures)
+
+pub returns-then-is_zero : goal.returns-then-is_zero
+returns-then-is_zero c =
+    rw (← c.x.view_is)
+    (joined_with_zero _ _ _ c.category.ensures.member c.is_zero.ensures c.if-is_zero.true c.widened-high.ensures)

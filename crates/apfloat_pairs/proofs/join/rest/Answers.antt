@@ -4,7 +4,7 @@ use Rattle.apfloat_pairs.proofs.join.rest.Goals as goal
 
 pub returns : goal.returns
 returns c =
-    rest_by_steps c.args.x c.args.rounded.value c.convert.result.value (bits_of c.args.rounded.status)
+    rest_by_steps c.args.x c.args.rounded.value c.convert_r.result.value (bits_of c.args.rounded.status)
     c.requires.number
     (record {
       is_wide = c.category.ensures.member;
@@ -16,7 +16,7 @@ returns c =
       rest = c.sub.result.value;
       rest_status = bits_of c.sub.result.status;
       rest_is = c.sub.ensures;
-      low_status = bits_of c.convert.result.status;
-      low_loses_info = c.convert.new.loses_info;
-      low_is = c.convert.ensures;
+      low_status = bits_of c.convert_r.result.status;
+      low_loses_info = c.convert_r.new.loses_info;
+      low_is = c.convert_r.ensures.converted;
     })
