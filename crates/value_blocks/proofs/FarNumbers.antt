@@ -11,7 +11,7 @@ use Rattle.apfloat_base.specs.declared.kinds.NonfiniteBehavior.{NonfiniteBehavio
 use Rattle.apfloat_base.specs.declared.kinds.NonfiniteBehavior.TheVariants.{IEEE754, NanOnly, NanNegativeZero}
 use Rattle.apfloat_base.specs.declared.sig.loss.Loss.TheVariants.{ExactlyZero}
 use Rattle.rustc_apfloat.specs.declared.Round.{Round}
-use Rattle.rustc_apfloat.specs.Format.{Format, smallest_normalized}
+use Rattle.rustc_apfloat.specs.Format.{Format}
 use Rattle.rustc_apfloat.specs.Datum.{Datum, finite}
 use Rattle.rustc_apfloat.specs.Flags.{bits_of}
 use Rattle.rustc_apfloat.specs.Lawful.{Constants, IsLawful, AreParameters, format_with, layout_with}
@@ -217,9 +217,12 @@ placed c d bits place false true true lawful_c lawful_d implied is_past is_littl
                 (trailing_low c bits implied) (is_little refl);
           };
     }
-placed c d bits place true little false lawful_c lawful_d implied is_past is_little is_number both is = absurd (false≢true both)
-placed c d bits place false true false lawful_c lawful_d implied is_past is_little is_number both is = absurd (false≢true both)
-placed c d bits place false false number lawful_c lawful_d implied is_past is_little is_number both is = absurd (false≢true both)
+placed c d bits place true little false lawful_c lawful_d implied is_past is_little is_number both is =
+    absurd (false≢true both)
+placed c d bits place false true false lawful_c lawful_d implied is_past is_little is_number both is =
+    absurd (false≢true both)
+placed c d bits place false false number lawful_c lawful_d implied is_past is_little is_number both is =
+    absurd (false≢true both)
 
 -- the lowest digits of bits, as many as biased exponents have
 pub biased_fits : (c : Constants) (bits digits result : ℕ) → IsLawful c → c.precision < c.bits

@@ -14,10 +14,10 @@ use apfloat_base::sig::low_digits;
 use rustc_apfloat::ieee::{Flagged, IeeeFloat, Loss, deliver};
 use rustc_apfloat::{ExpInt, Float, Round, StatusAnd};
 
-/// The answers to numbers below half of the least value, then to those past all values, each first to the positive ones.
+/// The answers to numbers below half of the least value, then to those past all values; of both first to positive ones.
 pub type FarAnswers = [Answer; 4];
 
-/// Fewer values are converted sooner than the answers are found.
+/// For fewer values the answers are not found: that takes as long as some twenty conversions.
 const LEAST_COUNT: usize = 256;
 
 /// The answers for so many values, unless there are too few values, or few of them can be far out.
