@@ -1,6 +1,6 @@
 //! Custom formats, declared as a user would declare them: each gives its constants and proves its law in one line.
 //!
-//! Programs read rows in them (`vector_rows`), and tests use them at the limits of the law (`conformance_tests`).
+//! Rows of test vectors name them (`row_names`), and tests use them at the limits of the law (`conformance_tests`).
 #![tactic(auto)]
 
 mod broad;

@@ -182,7 +182,7 @@ impl<C: InFlaggedFormat> InFormat for WithBuiltInFlags<C> {
 
 impl IeeeFormat {
     /// The format of a kind of values, if it is one of these.
-    fn of(kind: BuiltInKind) -> Option<IeeeFormat>
+    pub fn of(kind: BuiltInKind) -> Option<IeeeFormat>
         ensures { result ≡ ieee_format_in kind }
     {
         each_ieee_format!(ieee_format(kind))

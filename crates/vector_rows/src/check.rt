@@ -1,12 +1,11 @@
 //! Checks the lines of an input, one at a time, counts them, and reports how far it has come.
 
-use crate::call_row::{CallRow, row_of};
-use crate::calls::{agrees, write_answers};
 use crate::command_row::CommandRow;
-use crate::failure::{Failure, RowError};
-use crate::fpgen::Fpgen;
+use crate::failure::Failure;
+use crate::other_files::{Fpgen, TestFloat};
 use crate::summary::Summary;
-use crate::testfloat::TestFloat;
+use row_calls::{CallRow, agrees, row_of, write_answers};
+use row_columns::RowError;
 use std::alloc::{Allocator, Global};
 use std::io::{BufRead, Write};
 use std::rt::Clock;

@@ -1,10 +1,9 @@
 //! Rows of commands: each gets a reply as from the program `vectors`, which is compared with that of the row.
 
-use crate::calls::{bits_error, status_named, width_of};
-use crate::failure::RowError;
-use crate::given::mask;
 use commands::{agrees, bits_of, run};
 use dispatch::{BuiltInKind, mode_named};
+use row_calls::width_of;
+use row_columns::{RowError, bits_error, mask, status_named};
 use rustc_apfloat::Flags;
 use std::alloc::{AllocError, Global};
 use std::{io, str};

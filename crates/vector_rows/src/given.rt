@@ -1,21 +1,14 @@
 //! What the library returns for a line of another program's file, as numbers.
 
-use crate::calls::{Asked, StatusField, ValueField};
+use row_calls::Asked;
+use row_columns::{StatusField, ValueField};
 use rustc_apfloat::{Flags, Status};
-
-/// A result and its flags, as numbers.
-#[derive(Clone, Copy)]
-pub struct Columns {
-    /// The bits of a value or of an integer in two's complement.
-    pub result: u128,
-    /// The flags: 1 for inexact, 2 for underflow, 4 for overflow, 8 for a division by zero, 16 for an invalid
-    /// operation.
-    pub flags: u128,
-}
+use testfloat_lines::{Columns, LineCall};
 
 /// What a call returns, if there is such a call with a status.
-pub fn given(call: &str, format: &str, mode: &str, operands: &str) -> Option<Columns> {
-    let Ok(asked) = Asked::of(call, format, mode, operands, "-") else {
+pub fn given(call: &LineCall) -> Option<Columns> {
+    let (format, operands) = (call.format.as_str(), call.operands.as_str());
+    let Ok(asked) = Asked::of(call.name, format, call.mode, operands, "-") else {
         return None;
     };
     let Ok(answer) = asked.answer() else {
@@ -64,18 +57,4 @@ fn bits_of_status(status: Status) -> u128 {
         }
     }
     bits
-}
-
-/// As many bits 1 as the width says.
-pub fn mask(width: usize) -> u128 {
-    if width < 128 {
-        !(u128::MAX << width as u32)
-    } else {
-        u128::MAX
-    }
-}
-
-/// Whether bits of this width are those of a NaN, in a format whose infinity has these.
-pub fn is_nan(bits: u128, width: usize, infinity: u128) -> bool {
-    bits & (mask(width) >> 1) > infinity
 }

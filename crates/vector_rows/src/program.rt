@@ -2,8 +2,7 @@
 
 use crate::check::{Check, Lines, Task};
 use crate::failure::Failure;
-use crate::fpgen::Fpgen;
-use crate::testfloat::TestFloat;
+use crate::other_files::{Fpgen, TestFloat};
 use std::io::{BufRead, BufReader, BufWriter, ErrorKind, Read, Write};
 use std::rt::{Clock, Files};
 use std::{fs, io};

@@ -1,6 +1,6 @@
 //! The formats of rows, and calls in them.
 
-use crate::calls::table::found;
+use crate::table::found;
 use custom_formats::{
     BroadS, DeepS, HalfTinyBeforeS, LeastFiniteS, LeastS, PreciseS, SevenS, TenS, VastS,
     WrittenBitS,
@@ -143,7 +143,7 @@ fn built_in_named(word: &str) -> Option<RowFormat> {
     let Some(format) = kind.format() else {
         return None;
     };
-    match (rule, ieee_format(format)) {
+    match (rule, IeeeFormat::of(kind)) {
         ("", _) if name == word => {
             Some(RowFormat::BuiltIn(format, FlaggedFormat::BuiltIn(format)))
         }
@@ -154,20 +154,6 @@ fn built_in_named(word: &str) -> Option<RowFormat> {
             Some(RowFormat::BuiltIn(format, FlaggedFormat::BeforeRounding(ieee)))
         }
         _ => None,
-    }
-}
-
-/// The same format with the flags of IEEE 754, if it has infinities.
-fn ieee_format(format: BuiltInFormat) -> Option<IeeeFormat> {
-    match format {
-        BuiltInFormat::Half => Some(IeeeFormat::Half),
-        BuiltInFormat::Single => Some(IeeeFormat::Single),
-        BuiltInFormat::Double => Some(IeeeFormat::Double),
-        BuiltInFormat::Quad => Some(IeeeFormat::Quad),
-        BuiltInFormat::BFloat => Some(IeeeFormat::BFloat),
-        BuiltInFormat::E5M2 => Some(IeeeFormat::E5M2),
-        BuiltInFormat::X87 => Some(IeeeFormat::X87),
-        BuiltInFormat::E4M3FN | BuiltInFormat::E4M3FNUZ => None,
     }
 }
 

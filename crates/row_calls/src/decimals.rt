@@ -4,16 +4,13 @@
 
 ghost use Rattle.rustc_apfloat.specs.Types.{format_of};
 ghost use Rattle.apfloat_decimals.specs.ShortestSearch.{IsWithinQuad};
-ghost use Rattle.vector_rows.specs.Formats.{HasShortest};
+ghost use Rattle.row_calls.specs.Formats.{HasShortest};
 
-use crate::calls::answer::{ExtraField, Returned, RowAnswer, Text, ValueField};
-use crate::calls::call::DecimalCall;
-use crate::calls::fault::CallFault;
-use crate::calls::of_type::{Answered, Request, value_of};
-use crate::calls::operands::Operand;
-use crate::calls::row_format::RowFormat;
+use crate::of_type::{Answered, Request, value_of};
 use apfloat_decimals::{Decimal, exact, read_decimal, rounded, shortest};
 use dispatch::{FlaggedFormat, InFormat};
+use row_columns::{CallFault, ExtraField, Operand, Returned, RowAnswer, Text, ValueField};
+use row_names::{DecimalCall, RowFormat};
 use rustc_apfloat::Round;
 use rustc_apfloat::ieee::{IeeeFloat, Semantics};
 use std::fmt::Write as _;

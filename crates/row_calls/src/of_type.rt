@@ -2,15 +2,14 @@
 
 ghost use Rattle.std.specs.Prelude.{◌≤◌};
 
-use crate::calls::answer::{ExtraField, Returned, RowAnswer, Text, ValueField, shown};
-use crate::calls::call::{
+use row_columns::{
+    CallFault, ExtraField, Operand, Operands, Quanta, Returned, RowAnswer, Text, ValueField, mask,
+    shown,
+};
+use row_names::{
     AssigningOperator, Call, Constant, IntegerCall, OneValueCall, Property, TextCall,
     TwoValuesCall, WordCall,
 };
-use crate::calls::fault::CallFault;
-use crate::calls::operands::{Operand, Operands};
-use crate::calls::quanta::Quanta;
-use crate::given::mask;
 use rustc_apfloat::{ExpInt, Float, Round, StatusAnd};
 use std::fmt::Debug;
 

@@ -3,10 +3,10 @@
 //! The first word is a format and an operation. After it come the rounding mode, which exceptions trap, the operands,
 //! an arrow, the result, and a letter for each flag. Flags are those that processors raise.
 
-use crate::calls::{Text, found};
-use crate::failure::RowError;
-use crate::given::{Columns, given, is_nan, mask};
+use crate::columns::{Columns, LineCall, is_nan};
 use commands::bits_of;
+use row_columns::{RowError, Text, mask};
+use row_names::found;
 use std::fmt::Write as _;
 use std::io;
 use std::io::Write;
@@ -102,11 +102,10 @@ pub struct Fpgen {
 
 /// What a line says.
 #[derive(Clone, Copy)]
-struct Test {
+pub struct FpgenTest {
+    /// The call that it asks for.
+    pub call: LineCall,
     format: BinaryFormat,
-    call: &'static str,
-    mode: &'static str,
-    operands: Text,
     stated: Columns,
 }
 
@@ -129,78 +128,75 @@ impl Fpgen {
         }
     }
 
-    /// Whether what the library returns agrees with a line, or nothing if the line says what a trap gets.
-    pub fn agrees(self, line: &str) -> Result<Option<bool>, RowError<'_>> {
-        let test = match test_of(line) {
-            Ok(Some(test)) => test,
-            Ok(None) => return Ok(None),
+    /// What a line says, or nothing if it says what a trap gets.
+    pub fn read(self, line: &str) -> Result<Option<FpgenTest>, RowError<'_>> {
+        let Some((name, left, right)) = cut_line(line) else {
+            return Err(RowError::Word("no line of FPgen", line, LINE));
+        };
+        let operation = match self.operation_named(name) {
+            Ok(operation) => operation,
             Err(error) => return Err(error),
         };
-        match self.given(test) {
-            Some(given) => Ok(Some(test.agrees(given))),
-            None => Err(RowError::Word("no such call here", line, LINE)),
+        let Some((rounding, words)) = left.split_once(' ') else {
+            return Err(RowError::Word("no line of FPgen", line, LINE));
+        };
+        match found(ROUNDINGS, rounding) {
+            None => Err(RowError::Word("no mode", rounding, "=0 > < 0 or =^")),
+            Some(_) if has_traps(words) => Ok(None),
+            Some(mode) => operation.test(mode, words, right),
         }
     }
 
-    /// Writes the bits and the flags that the library returns for a line.
-    pub fn write_given<W: Write>(self, line: &str, out: &mut W) -> io::Result<()> {
-        let Ok(Some(test)) = test_of(line) else {
-            return Ok(());
-        };
-        let Some(Columns { result, flags }) = self.given(test) else {
-            return Ok(());
-        };
-        let digits = test.format.width / 4;
-        let letters = letters_of(flags);
-        writeln!(out, "  given: {result:0digits$x} {}", letters.as_str())
+    /// The error of a line whose call the library does not have.
+    pub fn no_call(line: &str) -> RowError<'_> {
+        RowError::Word("no such call here", line, LINE)
     }
 
-    /// What the library returns.
-    fn given(self, test: Test) -> Option<Columns> {
-        let word = if self.tiny_before_rounding {
-            test.format.word_before
-        } else {
-            test.format.word
+    /// The operation of this name, which begins with its format.
+    fn operation_named(self, name: &str) -> Result<Operation, RowError<'_>> {
+        let Some((format, operation)) = format_of(name) else {
+            return Err(RowError::Word("no format", name, "b32, b64 or b128"));
         };
-        let mode = if test.call == "ieee_rem" {
-            "-"
+        match found(OPERATIONS, operation) {
+            Some((call, operand_count)) => Ok(Operation {
+                format,
+                word: self.word_of(format),
+                call,
+                operand_count,
+            }),
+            None => Err(RowError::Word("no call", name, "+ - * *+ / % V or rfi after the format")),
+        }
+    }
+
+    /// The word in rows of a format.
+    fn word_of(self, format: BinaryFormat) -> &'static str {
+        if self.tiny_before_rounding {
+            format.word_before
         } else {
-            test.mode
-        };
-        given(test.call, word, mode, test.operands.as_str())
+            format.word
+        }
     }
 }
 
-impl Test {
+impl FpgenTest {
     /// Whether the result and the flags are those stated; any NaN agrees with any other.
-    fn agrees(self, given: Columns) -> bool {
+    pub fn agrees(self, given: Columns) -> bool {
         given.flags == self.stated.flags
             && (given.result == self.stated.result
                 || (self.is_nan(given.result) && self.is_nan(self.stated.result)))
     }
 
+    /// Writes the bits and the flags that the library returns.
+    pub fn write_given<W: Write>(self, given: Columns, out: &mut W) -> io::Result<()> {
+        let Columns { result, flags } = given;
+        let digits = self.format.width / 4;
+        let letters = letters_of(flags);
+        writeln!(out, "  given: {result:0digits$x} {}", letters.as_str())
+    }
+
     /// Whether bits are those of a NaN.
     fn is_nan(self, bits: u128) -> bool {
         is_nan(bits, self.format.width, self.format.infinity)
-    }
-}
-
-/// What a line says, or nothing if it says what a trap gets.
-fn test_of(line: &str) -> Result<Option<Test>, RowError<'_>> {
-    let Some((name, left, right)) = cut_line(line) else {
-        return Err(RowError::Word("no line of FPgen", line, LINE));
-    };
-    let operation = match operation_named(name) {
-        Ok(operation) => operation,
-        Err(error) => return Err(error),
-    };
-    let Some((rounding, words)) = left.split_once(' ') else {
-        return Err(RowError::Word("no line of FPgen", line, LINE));
-    };
-    match found(ROUNDINGS, rounding) {
-        None => Err(RowError::Word("no mode", rounding, "=0 > < 0 or =^")),
-        Some(_) if has_traps(words) => Ok(None),
-        Some(mode) => operation.test(mode, words, right),
     }
 }
 
@@ -227,23 +223,9 @@ fn has_traps(words: &str) -> bool {
 #[derive(Clone, Copy)]
 struct Operation {
     format: BinaryFormat,
+    word: &'static str,
     call: &'static str,
     operand_count: usize,
-}
-
-/// The operation of this name, which begins with its format.
-fn operation_named(name: &str) -> Result<Operation, RowError<'_>> {
-    let Some((format, operation)) = format_of(name) else {
-        return Err(RowError::Word("no format", name, "b32, b64 or b128"));
-    };
-    match found(OPERATIONS, operation) {
-        Some((call, operand_count)) => Ok(Operation {
-            format,
-            call,
-            operand_count,
-        }),
-        None => Err(RowError::Word("no call", name, "+ - * *+ / % V or rfi after the format")),
-    }
 }
 
 impl Operation {
@@ -253,7 +235,7 @@ impl Operation {
         mode: &'static str,
         words: &'a str,
         right: &'a str,
-    ) -> Result<Option<Test>, RowError<'a>> {
+    ) -> Result<Option<FpgenTest>, RowError<'a>> {
         if words.split(' ').count() != self.operand_count {
             return Err(RowError::Word("no operands of the call", words, NUMBERS));
         }
@@ -263,14 +245,22 @@ impl Operation {
             Err(error) => return Err(error),
         };
         match operands_of(words, self.format) {
-            Some(operands) => Ok(Some(Test {
+            Some(operands) => Ok(Some(FpgenTest {
+                call: self.call_on(mode, operands),
                 format: self.format,
-                call: self.call,
-                mode,
-                operands,
                 stated,
             })),
             None => Err(RowError::Word("no operands of the call", words, NUMBERS)),
+        }
+    }
+
+    /// The call on operands, in a mode if it has one.
+    fn call_on(self, mode: &'static str, operands: Text) -> LineCall {
+        LineCall {
+            name: self.call,
+            format: Text::of(self.word),
+            mode: if self.call == "ieee_rem" { "-" } else { mode },
+            operands,
         }
     }
 }

@@ -1,7 +1,7 @@
 //! The calls that rows can ask for, and their names.
 
-use crate::calls::operands::Form;
-use crate::calls::table::found;
+use crate::form::Form;
+use crate::table::found;
 
 /// A call, by what its operands are.
 #[derive(Clone, Copy)]

@@ -1,119 +1,79 @@
 //! What a call returns, compared with the last three columns of a row.
 
-use crate::calls::fault::CallFault;
-use crate::calls::quanta::{Quanta, text_of};
+use crate::call_fault::CallFault;
+use crate::quanta::{Quanta, text_of};
+use crate::text::{Text, shown};
 use commands::{bits_of, number_of, write_status};
 use rustc_apfloat::{ExpInt, Flags, Float, Status, StatusAnd};
 use std::cmp::Ordering;
-use std::fmt::{Debug, Write as _};
+use std::fmt::Debug;
+use std::io;
 use std::io::Write;
-use std::{fmt, io, str};
-
-/// A text of at most 128 bytes: no type shows more by `Debug`, and no refusal is longer.
-#[derive(Clone, Copy)]
-pub struct Text {
-    bytes: [u8; 128],
-    length: usize,
-}
-
-impl Text {
-    /// A copy of a text, which has room.
-    pub fn of(text: &str) -> Text {
-        let (bytes, length) = ([0; 128], 0);
-        let mut copy = Text { bytes, length };
-        let _ = copy.write_str(text);
-        copy
-    }
-
-    /// A copy of a text, if it has room.
-    pub fn whole(text: &str) -> Option<Text> {
-        let mut copy = Text::of("");
-        match copy.write_str(text) {
-            Ok(()) => Some(copy),
-            Err(_) => None,
-        }
-    }
-
-    /// Copies of texts, one after the other, which have room together.
-    pub fn of_parts(parts: &[&str]) -> Text {
-        let mut text = Text::of("");
-        for part in parts {
-            let _ = text.write_str(part);
-        }
-        text
-    }
-
-    /// The bytes of the text.
-    pub fn as_bytes(&self) -> &[u8] {
-        &self.bytes[..self.length.min(128)]
-    }
-
-    /// The text.
-    pub fn as_str(&self) -> &str {
-        str::from_utf8(self.as_bytes()).unwrap_or("")
-    }
-}
-
-impl fmt::Write for Text {
-    fn write_str(&mut self, text: &str) -> fmt::Result {
-        for byte in text.as_bytes() {
-            if self.length >= 128 {
-                return Err(fmt::Error);
-            }
-            self.bytes[self.length] = *byte;
-            self.length += 1;
-        }
-        Ok(())
-    }
-}
 
 /// What a call in the type `F` returns.
 pub enum Returned<F> {
+    /// A value.
     Value(F),
+    /// A value, or none.
     Optional(Option<F>),
+    /// A value, and its status.
     Rounded(StatusAnd<F>),
-    // A fraction, and its exponent.
+    /// A fraction, and its exponent.
     Fraction(F, ExpInt),
-    // An integer, and whether it is exact.
+    /// An integer, and whether it is exact.
     Integer(StatusAnd<ValueField>, ExtraField),
-    // Something else without a status.
+    /// Something else without a status.
     Field(ValueField),
+    /// Why a text is refused.
     Refused(Text),
 }
 
 /// What is compared with the value of a row.
 #[derive(Clone, Copy)]
 pub enum ValueField {
-    // The bits of a value, and how many there are.
+    /// The bits of a value, and how many there are.
     Bits(u128, usize),
-    // A value of a format without bits: that of the row, or another one.
+    /// A value of a format without bits: that of the row.
     InRow,
+    /// A value of a format without bits: another one.
     Quanta(Text),
+    /// An integer without a sign.
     Unsigned(u128),
+    /// An integer.
     Signed(i128),
+    /// Whether something holds.
     Truth(bool),
+    /// An order, which may be none.
     Order(Option<Ordering>),
+    /// A text.
     Text(Text),
 }
 
 /// What is compared with the flags of a row.
 #[derive(Clone, Copy)]
 pub enum StatusField {
+    /// The call has none.
     Nothing,
+    /// These flags.
     Flags(Status),
-    // Of a text.
+    /// A text is refused.
     Refused,
 }
 
 /// What is compared with the last column of a row.
 #[derive(Clone, Copy)]
 pub enum ExtraField {
+    /// There is nothing else.
     Nothing,
+    /// Whether the value is a signaling NaN.
     IsSignaling(bool),
+    /// Whether an integer is exact.
     IsExact(bool),
+    /// Whether a conversion loses information.
     LosesInfo(bool),
+    /// The exponent of a fraction.
     Exponent(ExpInt),
-    // A remainder takes that many steps, and at most that many.
+    /// A remainder takes that many steps, and at most that many.
     Steps(u32, ExpInt),
 }
 
@@ -233,13 +193,6 @@ fn quanta_field<F: Float + Debug>(x: F) -> ValueField {
         Some(text) => ValueField::Quanta(text),
         None => ValueField::Text(shown(x)),
     }
-}
-
-/// What `Debug` shows.
-pub fn shown<T: Debug + Copy>(x: T) -> Text {
-    let mut text = Text::of("");
-    let _ = write!(text, "{x:?}");
-    text
 }
 
 impl ValueField {

@@ -3,10 +3,10 @@
 //!
 //! Flags are those that processors raise, so the formats are those of IEEE 754-2008 with its rules of flags.
 
-use crate::calls::{Text, found, shown};
-use crate::failure::RowError;
-use crate::given::{Columns, given, is_nan, mask};
+use crate::columns::{Columns, LineCall, is_nan};
 use commands::bits_of;
+use row_columns::{RowError, Text, mask, shown};
+use row_names::found;
 use std::fmt::Write as _;
 use std::io;
 use std::io::Write;
@@ -123,28 +123,45 @@ impl TestFloat {
         Some(TestFloat { mode, ..self })
     }
 
-    /// Whether what the library returns agrees with a line.
-    pub fn agrees(self, line: &str) -> Result<bool, RowError<'_>> {
+    /// The call that a line asks for, and the result and the flags that it states.
+    pub fn read(self, line: &str) -> Result<(LineCall, Columns), RowError<'_>> {
         let (operands, stated) = match self.cut(line) {
             Ok(parts) => parts,
             Err(error) => return Err(error),
         };
-        match self.given(operands) {
-            Ok(given) => Ok(self.flags_agree(given, stated) && self.results_agree(given, stated)),
-            Err(error) => Err(error),
+        match self.call_on(operands) {
+            Some(call) => Ok((call, stated)),
+            None => Err(operand_error(operands)),
         }
     }
 
-    /// Writes the result and the flags that the library returns for a line.
-    pub fn write_given<W: Write>(self, line: &str, out: &mut W) -> io::Result<()> {
-        let Ok((operands, _)) = self.cut(line) else {
-            return Ok(());
-        };
-        let Ok(Columns { result, flags }) = self.given(operands) else {
-            return Ok(());
-        };
+    /// The error of a line whose call the library does not have.
+    pub fn no_call(self, line: &str) -> RowError<'_> {
+        match self.cut(line) {
+            Ok((operands, _)) => operand_error(operands),
+            Err(error) => error,
+        }
+    }
+
+    /// Whether what the library returns agrees with what a line states.
+    pub fn agrees(self, given: Columns, stated: Columns) -> bool {
+        let given = self.cut_to_width(given);
+        self.flags_agree(given, stated) && self.results_agree(given, stated)
+    }
+
+    /// Writes the result and the flags that the library returns.
+    pub fn write_given<W: Write>(self, given: Columns, out: &mut W) -> io::Result<()> {
+        let Columns { result, flags } = self.cut_to_width(given);
         let digits = width_of(self.result).div_ceil(4);
         writeln!(out, "  given: {result:0digits$X} {flags:02X}")
+    }
+
+    /// The result without the bits above its width, which a negative integer has.
+    fn cut_to_width(self, given: Columns) -> Columns {
+        Columns {
+            result: given.result & mask(width_of(self.result)),
+            flags: given.flags,
+        }
     }
 
     /// Whether the flags are the same, or differ only in the inexact one, and that is not compared.
@@ -205,25 +222,15 @@ impl TestFloat {
         }
     }
 
-    /// What the library returns for operands.
-    fn given<'a>(self, operands: &'a str) -> Result<Columns, RowError<'a>> {
-        match self.computed(operands) {
-            Some(Columns { result, flags }) => Ok(Columns {
-                result: result & mask(width_of(self.result)),
-                flags,
-            }),
-            None => Err(RowError::Word(
-                "no operands of the function",
-                operands,
-                "hexadecimal digits of their widths",
-            )),
-        }
-    }
-
-    /// What the call of a row returns for operands, if they are some.
-    fn computed(self, operands: &str) -> Option<Columns> {
+    /// The call on operands, if they are some.
+    fn call_on(self, operands: &str) -> Option<LineCall> {
         match self.words(operands) {
-            Some(words) => given(self.call, self.format().as_str(), self.mode, words.as_str()),
+            Some(words) => Some(LineCall {
+                name: self.call,
+                format: self.format(),
+                mode: self.mode,
+                operands: words,
+            }),
             None => None,
         }
     }
@@ -255,6 +262,15 @@ impl TestFloat {
             _ => Text::whole(operands),
         }
     }
+}
+
+/// The error of operands that are none of the function.
+fn operand_error(operands: &str) -> RowError<'_> {
+    RowError::Word(
+        "no operands of the function",
+        operands,
+        "hexadecimal digits of their widths",
+    )
 }
 
 /// The function that converts one kind to another, if there are both.

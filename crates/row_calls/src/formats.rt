@@ -3,15 +3,13 @@
 ghost use Rattle.std.specs.Prelude.{◌≡◌, true};
 ghost use Rattle.rustc_apfloat.specs.PairParts.{CanComparePairMagnitudes};
 
-use crate::calls::answer::{ExtraField, Returned, RowAnswer, ValueField};
-use crate::calls::call::{Call, ConversionCall, OneTypeCall};
-use crate::calls::decimals::in_decimals;
-use crate::calls::fault::CallFault;
-use crate::calls::of_type::{Answered, Request, of_type, two_values, value_of};
-use crate::calls::operands::{Operand, Operands};
-use crate::calls::quanta::Quanta;
-use crate::calls::row_format::{CallInFormat, RowFormat};
+use crate::decimals::in_decimals;
+use crate::of_type::{Answered, Request, of_type, two_values, value_of};
 use dispatch::InFormat;
+use row_columns::{
+    CallFault, ExtraField, Operand, Operands, Quanta, Returned, RowAnswer, ValueField,
+};
+use row_names::{Call, CallInFormat, ConversionCall, OneTypeCall, RowFormat};
 use rustc_apfloat::ieee::{Double, Flagged, IeeeFloat, Semantics};
 use rustc_apfloat::ppc::{DoubleDouble, FallbackS};
 use rustc_apfloat::{Category, FUSED_LIMIT, Float, FloatConvert, Round, StatusAnd};

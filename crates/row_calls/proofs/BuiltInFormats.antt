@@ -4,7 +4,7 @@ use Rattle.dispatch.specs.declared.built_in.BuiltInFormat.{BuiltInFormat}
 use Rattle.dispatch.specs.declared.built_in.BuiltInFormat.TheVariants.{Half, Single, Double, Quad, BFloat, E5M2, E4M3FN, E4M3FNUZ, X87}
 use Rattle.dispatch.specs.BuiltIns.{constants_in}
 use Rattle.dispatch.specs.ValueKinds.{of_format}
-use Rattle.vector_rows.specs.Formats.{HasShortest}
+use Rattle.row_calls.specs.Formats.{HasShortest}
 
 pub has_shortest : (format : BuiltInFormat) → HasShortest (of_format (constants_in format))
 has_shortest Half = record { exponents = record { low = lit≤ tt; high = lit≤ tt }; precise = lit≤ tt }

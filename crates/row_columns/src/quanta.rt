@@ -8,7 +8,7 @@
 //! has to become (`to_u128`) the odd part of the count; zeros and infinities are recognised by their class, and NaNs
 //! by comparison with those of `qnan` and `snan`. An operand is made by calls too, and then recognised in this way.
 
-use crate::calls::answer::Text;
+use crate::text::Text;
 use commands::{bits_of, number_of};
 use rustc_apfloat::{Category, ExpInt, Flags, Float};
 use std::fmt::Write;

@@ -1,37 +1,10 @@
 //! What is wrong with a row of a call.
 
 use crate::call_row::CallRow;
-use crate::calls::call::Call;
-use crate::calls::formats::Formats;
-use crate::calls::operands::{Form, Operand};
-use crate::failure::RowError;
-use crate::given::mask;
+use crate::formats::Formats;
 use commands::bits_of;
-
-/// What is wrong with a row of a call.
-#[derive(Clone, Copy)]
-pub enum CallFault {
-    /// There is no such call.
-    Call,
-    /// The call does not take the mode.
-    Mode,
-    /// There is no such format.
-    Format,
-    /// The operands do not have the form that the call takes.
-    Operands,
-    /// An operand is no value of the format.
-    Operand,
-    /// The formats do not have the call.
-    Support,
-    /// The flags cannot be those of the call, which are of this form.
-    Flags(&'static str),
-    /// The call answers nothing else of this form.
-    Extra(&'static str),
-    /// The value cannot be that of the call, which is of this form.
-    Value(&'static str),
-    /// The value is not of so many bits.
-    ValueBits(usize),
-}
+use row_columns::{CallFault, Operand, RowError, bits_error};
+use row_names::{Call, Form};
 
 /// How a value is written, for messages.
 const VALUE: &str = "hexadecimal digits, or quanta as `+3q` in a format without bits";
@@ -134,19 +107,4 @@ fn value_error(operands: &str, form: Form, width: Option<usize>) -> RowError<'_>
         }
     }
     RowError::Word("no operands of the call", operands, form.description())
-}
-
-/// The error of a word that is not of so many bits.
-pub fn bits_error<'a>(fault: &'static str, word: &'a str, width: usize) -> RowError<'a> {
-    match bits_of(word, 128) {
-        Some(bits) if bits > mask(width) => {
-            RowError::Bits(
-                fault,
-                word,
-                128_u32.saturating_sub(bits.leading_zeros()),
-                width,
-            )
-        }
-        _ => RowError::Word(fault, word, "hexadecimal digits"),
-    }
 }

@@ -1,30 +1,16 @@
 //! How a row of a call is checked: the call is made, and what it returns is compared with the row.
 
-mod answer;
-mod call;
-mod decimals;
-mod fault;
-mod formats;
-mod of_type;
-mod operands;
-mod quanta;
-mod row_format;
-mod table;
-
 use crate::call_row::CallRow;
-use crate::calls::call::Call;
-use crate::calls::fault::takes_mode;
-use crate::calls::formats::{Formats, answered};
-use crate::calls::of_type::{Answered, Request};
-use crate::calls::operands::Operands;
-use crate::calls::quanta::Quanta;
-pub use answer::{StatusField, Text, ValueField, shown, status_named};
+use crate::fault::takes_mode;
+use crate::formats::{Formats, answered};
+use crate::of_type::{Answered, Request};
+use crate::reading::operands_of;
 use dispatch::mode_named;
-pub use fault::{CallFault, bits_error, width_of};
+use row_columns::{CallFault, Operands, Quanta};
+use row_names::Call;
 use rustc_apfloat::Round;
 use std::io;
 use std::io::Write;
-pub use table::found;
 
 /// The modes, with what follows `given` where a row is shown in them.
 static MODES: &[(&str, Round)] = &[
@@ -85,7 +71,7 @@ impl<'a> Asked<'a> {
         let Some(formats) = Formats::named(format) else {
             return Err(CallFault::Format);
         };
-        match call.form().read(operands) {
+        match operands_of(call.form(), operands) {
             Some(read) => Ok(Asked {
                 formats,
                 call,

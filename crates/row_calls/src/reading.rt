@@ -1,0 +1,33 @@
+//! The operands of a row, by what its call takes.
+
+use row_columns::{Operand, Operands};
+use row_names::Form;
+
+/// The operands that a text has in a form; those that are texts stay in the row.
+pub fn operands_of(form: Form, text: &str) -> Option<Operands> {
+    match form {
+        Form::Nothing if text == "-" => Some(Operands::none()),
+        Form::Nothing => None,
+        Form::Text => Some(Operands::none()),
+        Form::TwoValues => Operands::two_values(text),
+        Form::ThreeValues => Operands::three_values(text),
+        Form::ValueAndExponent | Form::ValueAndWidth | Form::ValueAndCount => {
+            Operands::value_and_integer(text)
+        }
+        _ => match operand_of(form, text) {
+            Some(operand) => Some(Operands::one(operand)),
+            None => None,
+        },
+    }
+}
+
+/// The only operand.
+fn operand_of(form: Form, word: &str) -> Option<Operand> {
+    match form {
+        Form::OneValue => Operand::value(word),
+        Form::Unsigned => Operand::unsigned(word),
+        Form::Signed => Operand::signed(word),
+        Form::Payload => Operand::payload(word),
+        _ => None,
+    }
+}

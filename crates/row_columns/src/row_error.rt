@@ -1,0 +1,58 @@
+//! What is wrong with a malformed line.
+
+use crate::widths::mask;
+use commands::bits_of;
+use std::fmt;
+
+/// What is wrong with a line.
+#[derive(Clone, Copy)]
+pub enum RowError<'a> {
+    /// It is not UTF-8.
+    Encoding,
+    /// It has this many columns.
+    Columns(usize),
+    /// It has this many words, and not as many as the second number says.
+    Numbers(usize, usize),
+    /// A column has no such thing as the first text says: what it has, and what is expected.
+    Word(&'static str, &'a str, &'static str),
+    /// The same of a word that has so many bits; the second number is how many it may have.
+    Bits(&'static str, &'a str, u32, usize),
+}
+
+impl fmt::Display for RowError<'_> {
+    fn fmt<W: fmt::Write>(&self, f: &mut fmt::Formatter<W>) -> fmt::Result {
+        match *self {
+            RowError::Encoding => f.write_str("it is not UTF-8"),
+            RowError::Columns(count) => {
+                write!(f, "columns: {count}, and a command has 2, a call 7")
+            }
+            RowError::Numbers(count, wanted) => {
+                write!(f, "words: {count}, and a line has {wanted}")
+            }
+            RowError::Word(fault, word, expected) => {
+                write!(f, "{fault}: `{word}`; expected: {expected}")
+            }
+            RowError::Bits(fault, word, length, width) => {
+                write!(
+                    f,
+                    "{fault}: `{word}` has {length} bits; expected: at most {width}"
+                )
+            }
+        }
+    }
+}
+
+/// The error of a word that is not of so many bits.
+pub fn bits_error<'a>(fault: &'static str, word: &'a str, width: usize) -> RowError<'a> {
+    match bits_of(word, 128) {
+        Some(bits) if bits > mask(width) => {
+            RowError::Bits(
+                fault,
+                word,
+                128_u32.saturating_sub(bits.leading_zeros()),
+                width,
+            )
+        }
+        _ => RowError::Word(fault, word, "hexadecimal digits"),
+    }
+}

@@ -1,0 +1,58 @@
+//! What the operands of calls are.
+
+/// What the operands of a call are.
+#[derive(Clone, Copy)]
+pub enum Form {
+    /// There are none.
+    Nothing,
+    /// A text.
+    Text,
+    /// One value.
+    OneValue,
+    /// Two values.
+    TwoValues,
+    /// Three values.
+    ThreeValues,
+    /// A value and an exponent.
+    ValueAndExponent,
+    /// A value and the width of an integer.
+    ValueAndWidth,
+    /// A value and a count of digits.
+    ValueAndCount,
+    /// An integer without a sign.
+    Unsigned,
+    /// An integer.
+    Signed,
+    /// The payload of a NaN.
+    Payload,
+}
+
+impl Form {
+    /// How many of the operands, from the first one, are values.
+    pub fn value_count(self) -> usize {
+        match self {
+            Form::OneValue | Form::ValueAndExponent | Form::ValueAndWidth | Form::ValueAndCount =>
+                1,
+            Form::TwoValues => 2,
+            Form::ThreeValues => 3,
+            _ => 0,
+        }
+    }
+
+    /// What the operands have to be, for messages.
+    pub fn description(self) -> &'static str {
+        match self {
+            Form::Nothing => "`-`",
+            Form::Text => "a text",
+            Form::OneValue => "one value",
+            Form::TwoValues => "two values",
+            Form::ThreeValues => "three values",
+            Form::ValueAndExponent => "a value and an exponent",
+            Form::ValueAndWidth => "a value and a width of at most 128 bits",
+            Form::ValueAndCount => "a value and a count of 1 to 36 digits",
+            Form::Unsigned => "an integer of 128 bits without a sign",
+            Form::Signed => "an integer of 128 bits",
+            Form::Payload => "hexadecimal digits or `None`",
+        }
+    }
+}

@@ -1,0 +1,101 @@
+//! Lines of other programs' files, and what the library returns for them.
+
+use crate::given::given;
+use row_columns::RowError;
+use std::io;
+use std::io::Write;
+
+/// A function of TestFloat, and how it rounds: what the lines of a file are about.
+#[derive(Clone, Copy)]
+pub struct TestFloat {
+    lines: testfloat_lines::TestFloat,
+}
+
+impl TestFloat {
+    /// The function of this name. It rounds to the nearest, ties to even, and finds results tiny after rounding;
+    /// integral values and integers do not raise the inexact flag, and each bit of a NaN matters.
+    pub fn named(name: &str) -> Option<TestFloat> {
+        match testfloat_lines::TestFloat::named(name) {
+            Some(lines) => Some(TestFloat { lines }),
+            None => None,
+        }
+    }
+
+    /// The function with an option of TestFloat, or `--any-nan`.
+    pub fn with(self, option: &str) -> Option<TestFloat> {
+        match self.lines.with(option) {
+            Some(lines) => Some(TestFloat { lines }),
+            None => None,
+        }
+    }
+
+    /// Whether what the library returns agrees with a line.
+    pub fn agrees(self, line: &str) -> Result<bool, RowError<'_>> {
+        let (call, stated) = match self.lines.read(line) {
+            Ok(parts) => parts,
+            Err(error) => return Err(error),
+        };
+        match given(&call) {
+            Some(given) => Ok(self.lines.agrees(given, stated)),
+            None => Err(self.lines.no_call(line)),
+        }
+    }
+
+    /// Writes the result and the flags that the library returns for a line.
+    pub fn write_given<W: Write>(self, line: &str, out: &mut W) -> io::Result<()> {
+        let Ok((call, _)) = self.lines.read(line) else {
+            return Ok(());
+        };
+        match given(&call) {
+            Some(given) => self.lines.write_given(given, out),
+            None => Ok(()),
+        }
+    }
+}
+
+/// How lines of FPgen are read.
+#[derive(Clone, Copy)]
+pub struct Fpgen {
+    lines: testfloat_lines::Fpgen,
+}
+
+impl Fpgen {
+    /// Lines whose results are found tiny after they are rounded.
+    pub fn new() -> Fpgen {
+        Fpgen {
+            lines: testfloat_lines::Fpgen::new(),
+        }
+    }
+
+    /// The lines with an option.
+    pub fn with(self, option: &str) -> Option<Fpgen> {
+        match self.lines.with(option) {
+            Some(lines) => Some(Fpgen { lines }),
+            None => None,
+        }
+    }
+
+    /// Whether what the library returns agrees with a line, or nothing if the line says what a trap gets.
+    pub fn agrees(self, line: &str) -> Result<Option<bool>, RowError<'_>> {
+        let test = match self.lines.read(line) {
+            Ok(Some(test)) => test,
+            Ok(None) => return Ok(None),
+            Err(error) => return Err(error),
+        };
+        match given(&test.call) {
+            Some(given) => Ok(Some(test.agrees(given))),
+            None => Err(testfloat_lines::Fpgen::no_call(line)),
+        }
+    }
+
+    /// Writes the bits and the flags that the library returns for a line.
+    pub fn write_given<W: Write>(self, line: &str, out: &mut W) -> io::Result<()> {
+        let Ok(Some(test)) = self.lines.read(line) else {
+            return Ok(());
+        };
+        match given(&test.call) {
+            Some(given) => test.write_given(given, out),
+            None => Ok(()),
+        }
+    }
+}
