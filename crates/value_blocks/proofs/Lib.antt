@@ -1,4 +1,5 @@
 pub mod LittleEndian
 pub mod ConversionsBy
+pub mod FarNumbers
 pub mod Places
 pub mod WidthBounds

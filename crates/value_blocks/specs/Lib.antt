@@ -2,6 +2,7 @@ pub mod Bytes
 pub mod Outcomes
 pub mod Saturation
 pub mod Values
+pub mod FarNumbers
 pub mod Blocks
 pub mod Widths
 pub mod Calls

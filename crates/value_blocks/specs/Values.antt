@@ -7,11 +7,12 @@ use Rattle.rustc_apfloat.specs.Classes.{is_nan}
 use Rattle.rustc_apfloat.specs.Conversions.{IsConversion}
 use Rattle.rustc_apfloat.specs.Lawful.{Constants, format_with, layout_with}
 use Rattle.rustc_apfloat.specs.Layout.{datum_of, IsEncodedBy}
+use Rattle.value_blocks.specs.declared.answer.Answer.{Answer}
 use Rattle.value_blocks.specs.declared.counts.Outcome.{Outcome}
 use Rattle.value_blocks.specs.declared.saturation.Overflow.{Overflow}
 use Rattle.value_blocks.specs.declared.saturation.Overflow.TheVariants.{Rounded, Saturated}
 use Rattle.value_blocks.specs.Bytes.{number_of}
-use Rattle.value_blocks.specs.Saturation.{IsSaturatedConversion}
+use Rattle.value_blocks.specs.Saturation.{IsConversionBy, IsSaturatedConversion}
 
 -- The input bytes are a value of the first format, and the output bytes are the one encoding of its conversion to the
 -- second. Bytes beyond the width of the first are ignored, those beyond the width of the second are 0.
@@ -38,3 +39,13 @@ abbrev pub IsConvertedBy : Overflow → Constants → Constants → Round → Li
     → Type 0
 IsConvertedBy Rounded c d mode input output outcome = IsConvertedValue c d mode input output outcome
 IsConvertedBy Saturated c d mode input output outcome = IsSaturatedValue c d mode input output outcome
+
+-- the same from bits to bits
+pub record IsAnswerFrom (overflow : Overflow) (c d : Constants) (mode : Round) (bits : ℕ) (answer : Answer)
+    : Type 0 where
+  pub value : Datum
+  pub loses : Bool
+  pub is_conversion : IsConversionBy overflow (format_with c) (format_with d) mode
+      (datum_of (format_with c) (layout_with c) bits) value (bits_of answer.outcome.status) loses
+  pub is_encoded : IsEncodedBy (format_with d) (layout_with d) answer.bits value
+  pub nan_is : answer.outcome.is_nan ≡ is_nan value

@@ -7,6 +7,7 @@ ghost use Rattle.value_blocks.specs.Values.{IsConvertedBy, IsConvertedValue};
 ghost use Rattle.value_blocks.specs.Blocks.{IsBlock};
 
 use crate::counts::Counts;
+use crate::far_numbers::far_answers_for;
 use crate::one_value::convert_value;
 use crate::saturation::Overflow;
 use crate::widths::Widths;
@@ -54,12 +55,13 @@ pub fn convert_block_by<S: Flagged, T: Flagged>(
         IsBlock (IsConvertedBy overflow c d round) widths.source widths.target count
         input.now output.new result }
 {
+    let far = far_answers_for::<S, T>(overflow, round, count);
     let mut counts = Counts::NONE;
     for index in 0..count {
         let (from, to) = (index * widths.source, index * widths.target);
         let source = &input[from..from + widths.source];
         let target = &mut output[to..to + widths.target];
-        counts.count(convert_value::<S, T>(overflow, round, source, target));
+        counts.count(convert_value::<S, T>(&far, overflow, round, source, target));
     }
     counts
 }

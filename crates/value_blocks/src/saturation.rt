@@ -51,7 +51,7 @@ fn saturated<S: Flagged, T: Flagged>(x: IeeeFloat<S>, rounded: IeeeFloat<T>) -> 
 }
 
 /// The largest value with this sign.
-fn largest_of_sign<T: Flagged>(negative: bool) -> IeeeFloat<T>
+pub fn largest_of_sign<T: Flagged>(negative: bool) -> IeeeFloat<T>
     ensures { result ≡ finite negative (largest (format_of T.Flagged)) }
 {
     let largest = IeeeFloat::<T>::largest();
