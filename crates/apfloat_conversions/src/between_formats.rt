@@ -28,7 +28,6 @@ pub struct Converted {
 }
 
 /// A number, rounded once; an inexact result loses information. If the other format has the number, nothing is rounded.
-/// Its significand is its own low digits: in a narrow format the compiler then computes with one word of it.
 #[inline(always)]
 fn converted_number(from: Shape, into: Shape, x: Unpacked, round: Round) -> Converted
     requires { IsNormal from x }

@@ -53,8 +53,7 @@ pub fn has(from: Shape, into: Shape, x: Unpacked) -> bool
     holds(from, into) || is_inside(from, into, x.exponent)
 }
 
-/// A number in a format that has it: its significand is extended by the additional digits of that format. It is its own
-/// low digits: in a narrow format the compiler then computes with one word of it.
+/// A number in a format that has it: its significand is extended by the additional digits of that format.
 #[inline(always)]
 pub fn widened(from: Shape, into: Shape, x: Unpacked) -> Unpacked
     requires held { IsHeldNumber from into x }
