@@ -1,8 +1,9 @@
 //! The words of a command: names, whole numbers, and bits.
 
-ghost use Rattle.std.specs.Prelude.{◌≡◌, Some, None, Ok, Err, ◌+◌, ◌*◌, ◌^◌, ◌&&◌, nat_lt, if◌then◌else◌};
+ghost use Rattle.std.specs.Prelude.{◌≡◌, ◌≤◌, Some, None, Ok, Err, ◌+◌, ◌*◌, ◌^◌, ◌&&◌, length, nat_lt, if◌then◌else◌};
 ghost use Rattle.std.specs.Result.{MatchResult};
 ghost use Rattle.rustc_apfloat.specs.Digits.{digit_value};
+ghost use Rattle.apfloat_base.specs.declared.marks.Radix.TheVariants.{Sixteen};
 ghost use Rattle.apfloat_base.specs.texts.Specials.{base_of, is_digit_of};
 ghost use Rattle.commands.specs.Commands.{bits_of_digits, bits_of_word, found, named, number_of_digits, operations, whole_number_of};
 
@@ -77,7 +78,7 @@ fn bits_of_digits(digits: &[u8], width: usize) -> Option<u128>
     if digits.len() > 32 {
         return None;
     }
-    let bits = number_of_digits(Radix::Sixteen, digits)?;
+    let bits = hexadecimal_number(digits)?;
     if is_within(bits, width) {
         Some(bits)
     } else {
@@ -90,6 +91,23 @@ fn is_within(number: u128, width: usize) -> bool
     ensures { result ≡ nat_lt number (2 ^ width) }
 {
     width >= 128 || number < 1 << width
+}
+
+/// The number that 1 to 32 hexadecimal digits stand for.
+fn hexadecimal_number(digits: &[u8]) -> Option<u128>
+    requires { length digits.now ≤ 32 }
+    ensures { result ≡ number_of_digits Sixteen digits.now }
+{
+    if digits.is_empty() {
+        return None;
+    }
+    let mut number = 0;
+    for byte in digits {
+        let digit = digit_of(Radix::Sixteen, *byte)?;
+        // 32 digits fill a u128.
+        number = number * 16 + u128::from(digit);
+    }
+    Some(number)
 }
 
 /// The whole number that one or more digits stand for, if it is below 2^128.
