@@ -37,27 +37,21 @@ fn quotient_exponent(left: ExpInt, right: ExpInt, places: u32) -> ExpInt
     left - right - places as ExpInt
 }
 
-/// The quotient of two significands of `precision` digits, with one or two places more, by the fastest division that has
-/// room.
+/// The quotient of two significands of few digits, with two places more, by the faster division that has room.
 #[inline(always)]
-fn quotient_of(precision: u32, places: u32, dividend: u128, divisor: u128) -> Quotient
+fn short_quotient_of(precision: u32, dividend: u128, divisor: u128) -> Quotient
     requires some { 0 < precision }
-    requires precise { precision ≤ 125 }
-    requires some_more { precision < places }
-    requires few_more { places ≤ precision + 2 }
-    requires room { places ≤ 126 }
+    requires short { precision ≤ 59 }
     requires dividend_fits { dividend < 2 ^ precision }
     requires divisor_fits { divisor < 2 ^ precision }
     requires divisor_full { 2 ^ (precision - 1) ≤ divisor }
-    ensures quotient { result.whole ≡ dividend * 2 ^ places / divisor }
-    ensures stands { StandsFor result.whole result.loss (dividend * 2 ^ places) divisor }
+    ensures quotient { result.whole ≡ dividend * 2 ^ (precision + 2) / divisor }
+    ensures stands { StandsFor result.whole result.loss (dividend * 2 ^ (precision + 2)) divisor }
 {
     if precision <= 31 {
-        divide_word(dividend as u64, divisor as u64, places)
-    } else if places <= 62 {
-        divide_short_by_words(dividend as u64, divisor as u64, places)
+        divide_word(dividend as u64, divisor as u64, precision + 2)
     } else {
-        divide_by_words(dividend, divisor, places)
+        divide_short_by_words(dividend as u64, divisor as u64, precision + 2)
     }
 }
 
@@ -74,7 +68,7 @@ fn divide_short_numbers(shape: Shape, x: Unpacked, y: Unpacked, round: Round) ->
         (quanta_of shape y)) result }
 {
     let places = shape.precision + 2;
-    let quotient = quotient_of(shape.precision, places, x.significand, y.significand);
+    let quotient = short_quotient_of(shape.precision, x.significand, y.significand);
     deliver_short(
         shape,
         quotient.whole as u64,
@@ -100,7 +94,7 @@ fn divide_numbers(shape: Shape, x: Unpacked, y: Unpacked, round: Round) -> Statu
         return divide_short_numbers(shape, x, y, round);
     }
     let places = shape.precision + 1;
-    let quotient = quotient_of(shape.precision, places, x.significand, y.significand);
+    let quotient = divide_by_words(x.significand, y.significand, places);
     deliver(
         shape,
         quotient.whole,

@@ -13,7 +13,7 @@ ghost use Rattle.apfloat_unpacked.specs.Cuts.{IsCutOff};
 ghost use Rattle.apfloat_unpacked.specs.Shapes.{format_at};
 ghost use Rattle.apfloat_unpacked.specs.Stored.{IsStored, GivesAt};
 
-use super::{Cut, deliver, full_place, low_of_word, round_cut, unit_place, word_power};
+use super::{Cut, deliver_apart, full_place, low_of_word, round_cut, unit_place, word_power};
 use crate::shape::Shape;
 use crate::unpacked::Unpacked;
 use apfloat_base::sig::{Loss, digits, is_exact};
@@ -84,7 +84,7 @@ pub fn deliver_odd(
         let cut = cut_odd(shape.precision, significand, digits, unit);
         return round_cut(shape, cut, mode, negative);
     }
-    deliver(
+    deliver_apart(
         shape,
         u128::from(significand),
         exponent,
@@ -137,7 +137,7 @@ pub fn deliver_short(
         let cut = cut_odd(shape.precision, odd, digits, unit);
         return round_cut(shape, cut, mode, negative);
     }
-    deliver(
+    deliver_apart(
         shape,
         u128::from(significand),
         exponent,

@@ -1,7 +1,9 @@
-use Rattle.std.proofs.Common.{◌≡◌, ◌+◌, ◌*◌, ◌^◌, Bool, w32, to_z, of_z, subst, arith, inr}
+use Rattle.std.proofs.Common.{◌≡◌, ◌+◌, ◌-◌, ◌*◌, ◌^◌, ◌≤◌, Bool, w32, to_z, of_z, subst, arith, inr}
+use Rattle.std.proofs.Math.Nat.{pow-le-pow_right}
 use Rattle.std.proofs.lemmas.Int.{to_z-of_z, ints}
 use Rattle.apfloat_base.specs.rounding.Flags.{bits_of}
 use Rattle.apfloat_base.specs.rounding.Rounding.{IsDelivered}
+use Rattle.apfloat_base.proofs.general.Powers.{two_pos, twice_half}
 use Rattle.apfloat_base.proofs.arithmetic.Fractions.{quotient_full}
 use Rattle.apfloat_unpacked.specs.Shapes.{format_at}
 use Rattle.apfloat_unpacked.specs.Stored.{quanta_at, datum_at}
@@ -12,8 +14,25 @@ use Rattle.apfloat_arithmetic.proofs.quotients.divide_numbers.Goals as goal
 pub overflow_add-places : goal.overflow_add-places
 overflow_add-places c = omega (arith, c.args.shape.parameters.precision_high)
 
-pub quotient_of-quotient-requires-clause-some : goal.quotient_of-quotient-requires-clause-some
-quotient_of-quotient-requires-clause-some c = let l = c.args.shape.parameters.precision_low in omega arith
+pub divide_by_words-quotient-requires-clause-some : goal.divide_by_words-quotient-requires-clause-some
+divide_by_words-quotient-requires-clause-some c =
+    normal_some c.args.shape c.args.y.significand c.args.y.exponent c.requires.right
+
+pub divide_by_words-quotient-requires-clause-narrow : goal.divide_by_words-quotient-requires-clause-narrow
+divide_by_words-quotient-requires-clause-narrow c =
+    let a : 2 ^ c.args.shape.precision ≤ 2 ^ 125 =
+    pow-le-pow_right two_pos c.args.shape.parameters.precision_high in
+    let f = c.requires.right.operand.fits in
+    omega (arith, a, f)
+
+pub divide_by_words-quotient-requires-clause-close : goal.divide_by_words-quotient-requires-clause-close
+divide_by_words-quotient-requires-clause-close c =
+    let l = c.args.shape.parameters.precision_low in
+    let t : 2 * 2 ^ (c.args.shape.precision - 1) ≡ 2 ^ c.args.shape.precision =
+    twice_half c.args.shape.precision (omega (arith, l)) in
+    let f = c.requires.left.operand.fits in
+    let g = c.requires.right.operand.full in
+    omega (arith, t, f, g)
 
 pub quotient_exponent-requires-clause-left : goal.quotient_exponent-requires-clause-left
 quotient_exponent-requires-clause-left c =
@@ -43,10 +62,10 @@ pub deliver-requires-clause-fine : goal.deliver-requires-clause-fine
 deliver-requires-clause-fine c =
     let s = c.args.shape in
     let t = c.args.shape.parameters.precision_low in
-    inr (inr (quotient_full c.quotient_of-quotient.result.whole c.args.x.significand c.args.y.significand
+    inr (inr (quotient_full c.divide_by_words-quotient.result.whole c.args.x.significand c.args.y.significand
     s.precision (s.precision + 1)
     (normal_some s c.args.y.significand c.args.y.exponent c.requires.right) c.requires.left.operand.full
-    c.requires.right.operand.fits (omega arith) (omega arith) c.quotient_of-quotient.ensures.quotient))
+    c.requires.right.operand.fits (omega arith) (omega arith) c.divide_by_words-quotient.ensures.quotient))
 
 pub returns-clause-stored : goal.returns-clause-stored
 returns-clause-stored c = c.deliver.ensures.stored
@@ -64,9 +83,9 @@ returns-clause-delivered c =
     (quanta_at s.min_exp c.args.y.significand c.args.y.exponent)
     (quanta_some s c.args.y.significand c.args.y.exponent c.requires.right)
     (quotient_is s c.args.x.exponent c.args.y.exponent c.quotient_exponent.result (s.precision + 1)
-    c.quotient_of-quotient.result.whole c.quotient_of-quotient.result.loss c.args.x.significand
+    c.divide_by_words-quotient.result.whole c.divide_by_words-quotient.result.loss c.args.x.significand
     c.args.y.significand c.requires.left c.requires.right v
-    c.quotient_of-quotient.ensures.stands) in
+    c.divide_by_words-quotient.ensures.stands) in
     subst (λ (b : Bool). IsDelivered (format_at s) c.args.round b
     (quanta_at s.min_exp c.args.x.significand c.args.x.exponent * 2 ^ (format_at s).scale)
     (quanta_at s.min_exp c.args.y.significand c.args.y.exponent) (datum_at s c.deliver.result.value)

@@ -12,8 +12,8 @@ use Rattle.apfloat_arithmetic.proofs.quotients.divide_short_numbers.Goals as goa
 pub overflow_add-places : goal.overflow_add-places
 overflow_add-places c = omega (arith, c.args.shape.parameters.precision_high)
 
-pub quotient_of-quotient-requires-clause-some : goal.quotient_of-quotient-requires-clause-some
-quotient_of-quotient-requires-clause-some c = let l = c.args.shape.parameters.precision_low in omega arith
+pub short_quotient_of-quotient-requires-clause-some : goal.short_quotient_of-quotient-requires-clause-some
+short_quotient_of-quotient-requires-clause-some c = let l = c.args.shape.parameters.precision_low in omega arith
 
 pub quotient_exponent-requires-clause-left : goal.quotient_exponent-requires-clause-left
 quotient_exponent-requires-clause-left c =
@@ -43,26 +43,26 @@ pub overflow_cast-quotient : goal.overflow_cast-quotient
 overflow_cast-quotient c =
     let s = c.args.shape in
     let t = c.args.shape.parameters.precision_low in
-    let f = quotient_fits c.quotient_of-quotient.result.whole c.args.x.significand c.args.y.significand s.precision
+    let f = quotient_fits c.short_quotient_of-quotient.result.whole c.args.x.significand c.args.y.significand s.precision
     (normal_some s c.args.y.significand c.args.y.exponent c.requires.right) (omega arith) c.requires.short
-    c.requires.left.operand.fits c.requires.right.operand.full c.quotient_of-quotient.ensures.quotient in
+    c.requires.left.operand.fits c.requires.right.operand.full c.short_quotient_of-quotient.ensures.quotient in
     record { fits = omega (arith, f) }
 
 pub deliver_short-requires-clause-room : goal.deliver_short-requires-clause-room
 deliver_short-requires-clause-room c =
     let s = c.args.shape in
     let t = c.args.shape.parameters.precision_low in
-    quotient_fits c.quotient_of-quotient.result.whole c.args.x.significand c.args.y.significand s.precision
+    quotient_fits c.short_quotient_of-quotient.result.whole c.args.x.significand c.args.y.significand s.precision
     (normal_some s c.args.y.significand c.args.y.exponent c.requires.right) (omega arith) c.requires.short
-    c.requires.left.operand.fits c.requires.right.operand.full c.quotient_of-quotient.ensures.quotient
+    c.requires.left.operand.fits c.requires.right.operand.full c.short_quotient_of-quotient.ensures.quotient
 
 pub deliver_short-requires-clause-long : goal.deliver_short-requires-clause-long
 deliver_short-requires-clause-long c =
     let s = c.args.shape in
     let t = c.args.shape.parameters.precision_low in
-    quotient_long c.quotient_of-quotient.result.whole c.args.x.significand c.args.y.significand s.precision
+    quotient_long c.short_quotient_of-quotient.result.whole c.args.x.significand c.args.y.significand s.precision
     (normal_some s c.args.y.significand c.args.y.exponent c.requires.right) (omega arith)
-    c.requires.left.operand.full c.requires.right.operand.fits c.quotient_of-quotient.ensures.quotient
+    c.requires.left.operand.full c.requires.right.operand.fits c.short_quotient_of-quotient.ensures.quotient
 
 pub returns-clause-stored : goal.returns-clause-stored
 returns-clause-stored c = c.deliver_short.ensures.stored
@@ -80,9 +80,9 @@ returns-clause-delivered c =
     (quanta_at s.min_exp c.args.y.significand c.args.y.exponent)
     (quanta_some s c.args.y.significand c.args.y.exponent c.requires.right)
     (quotient_is s c.args.x.exponent c.args.y.exponent c.quotient_exponent.result (s.precision + 2)
-    c.quotient_of-quotient.result.whole c.quotient_of-quotient.result.loss c.args.x.significand
+    c.short_quotient_of-quotient.result.whole c.short_quotient_of-quotient.result.loss c.args.x.significand
     c.args.y.significand c.requires.left c.requires.right v
-    c.quotient_of-quotient.ensures.stands) in
+    c.short_quotient_of-quotient.ensures.stands) in
     subst (λ (b : Bool). IsDelivered (format_at s) c.args.round b
     (quanta_at s.min_exp c.args.x.significand c.args.x.exponent * 2 ^ (format_at s).scale)
     (quanta_at s.min_exp c.args.y.significand c.args.y.exponent) (datum_at s c.deliver_short.result.value)

@@ -57,6 +57,6 @@ returns-clause-delivered c = λ amount h.
     subst (λ (x : ℤ). IsRoundedToOdd (2 ^ (c.args.shape.precision + 1)) c.args.significand (amount * 2 ^ down x) (1 * 2 ^ up x)) (sym v) h in
     let g : StandsFor c.args.significand ExactlyZero (amount * 2 ^ down u) (1 * 2 ^ up u) =
     exact_below c.args.significand c.digits-digits.result c.args.shape.precision amount u c.requires.short d h' in
-    let r = rw (e, c.from-2.ensures) at c.deliver.ensures.delivered in
+    let r = rw (e, c.from-2.ensures) at c.deliver_apart.ensures.delivered in
     r amount 1 (omega arith)
     (subst (λ (x : ℤ). StandsFor c.args.significand ExactlyZero (amount * 2 ^ down x) (1 * 2 ^ up x)) v g)

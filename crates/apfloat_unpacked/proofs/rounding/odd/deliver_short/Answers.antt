@@ -32,4 +32,4 @@ returns-then-unit-digits-clause-delivered c = λ amount parts u h.
 pub returns-clause-delivered : goal.returns-clause-delivered
 returns-clause-delivered c =
     let e = to_z-of_z w32 c.args.exponent c.ranges.exponent in
-    rw (e, c.from-2.ensures) at c.deliver.ensures.delivered
+    rw (e, c.from-2.ensures) at c.deliver_apart.ensures.delivered
