@@ -18,6 +18,7 @@ pub mod Totals
 pub mod WideNumbers
 pub mod WideTotals
 pub mod OddTotals
+pub mod Orders
 pub mod SumLaws
 pub mod ExactConversions
 pub mod NextBack

@@ -8,7 +8,7 @@ use Rattle.std.proofs.lemmas.Nat.{pow-add, pow_pos}
 use Rattle.std.proofs.lemmas.Int.{ints}
 use Rattle.apfloat_base.specs.declared.sig.sum.Term.{Term}
 use Rattle.apfloat_base.specs.arithmetic.Exact.{up, signed}
-use Rattle.apfloat_base.specs.arithmetic.Totals.{counted, IsSignedToOdd, IsApartToOdd, IsGreater, Balances}
+use Rattle.apfloat_base.specs.arithmetic.Totals.{counted, IsSignedToOdd, IsApartToOdd, Balances}
 use Rattle.apfloat_base.specs.rounding.RoundingToOdd.{IsRoundedToOdd}
 use Rattle.apfloat_base.proofs.general.Powers.{two_pos}
 use Rattle.apfloat_base.proofs.arithmetic.Signs.{swapped_sum}
@@ -201,17 +201,6 @@ ordered_to_odd least base high low x y negative e q (inr d) h =
       rounded = g.rounded;
     }
 
--- what holds of both terms holds of each of them in order
-pub of_high : (P : Term → Type 0) (high low x y : Term)
-    → ((high ≡ x) × (low ≡ y)) ⊎ ((high ≡ y) × (low ≡ x)) → P x → P y → P high
-of_high P high low x y (inl d) a b = subst P (sym d.0) a
-of_high P high low x y (inr d) a b = subst P (sym d.0) b
-
-pub of_low : (P : Term → Type 0) (high low x y : Term)
-    → ((high ≡ x) × (low ≡ y)) ⊎ ((high ≡ y) × (low ≡ x)) → P x → P y → P low
-of_low P high low x y (inl d) a b = subst P (sym d.1) b
-of_low P high low x y (inr d) a b = subst P (sym d.1) a
-
 -- two signs that differ, and two that do not
 pub unlike_false : (s t : Bool) → not (beq s t) ≡ false → s ≡ t
 unlike_false true true e = refl
@@ -224,15 +213,3 @@ unlike_true true true e d = cc
 unlike_true true false e d = cc
 unlike_true false true e d = cc
 unlike_true false false e d = cc
-
--- the first of two terms in order has the greater exponent
-pub greater_first : (high low x y : Term) (z : ℤ) → ((high ≡ x) × (low ≡ y)) ⊎ ((high ≡ y) × (low ≡ x))
-    → low.exponent ≤ℤ high.exponent → z ≡ high.exponent → IsGreater z x.exponent y.exponent
-greater_first high low x y z (inl d) l e =
-    let a : high.exponent ≡ x.exponent = ap (λ (t : Term). t.exponent) d.0 in
-    let b : low.exponent ≡ y.exponent = ap (λ (t : Term). t.exponent) d.1 in
-    record { one = inl (e ∙ a); first = omega (arith, ints, a, b, l, e); second = omega (arith, ints, a, b, l, e) }
-greater_first high low x y z (inr d) l e =
-    let a : high.exponent ≡ y.exponent = ap (λ (t : Term). t.exponent) d.0 in
-    let b : low.exponent ≡ x.exponent = ap (λ (t : Term). t.exponent) d.1 in
-    record { one = inr (e ∙ a); first = omega (arith, ints, a, b, l, e); second = omega (arith, ints, a, b, l, e) }

@@ -2,7 +2,8 @@ use Rattle.std.proofs.Common.{◌≡◌, ◌-◌, ◌^◌, ◌<◌, ◌≤◌, �
 use Rattle.std.proofs.lemmas.Int.{to_z-of_z, ints}
 use Rattle.apfloat_base.specs.declared.sig.sum.Term.{Term}
 use Rattle.apfloat_base.specs.rounding.Bounds.{IsWithin, exponent_bound}
-use Rattle.apfloat_base.proofs.arithmetic.OddTotals.{greater_first, moved_fits, moved_full, moved_free, of_high, of_low, total_to_odd, ordered_to_odd, unlike_false, unlike_true}
+use Rattle.apfloat_base.proofs.arithmetic.OddTotals.{moved_fits, moved_full, moved_free, total_to_odd, ordered_to_odd, unlike_false, unlike_true}
+use Rattle.apfloat_base.proofs.arithmetic.Orders.{greater_first, of_high, of_low}
 use Rattle.apfloat_base.proofs.sig.odd_sum.add_short_terms.Goals as goal
 
 pub moved_up-requires : goal.moved_up-requires
