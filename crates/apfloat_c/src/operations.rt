@@ -5,6 +5,7 @@ ghost use Rattle.rustc_apfloat.specs.FlaggedTypes.{constants_of};
 ghost use Rattle.dispatch.specs.FlaggedKinds.{flagged_kind_coded};
 ghost use Rattle.dispatch.specs.ValueKinds.{of_format, of_pairs};
 ghost use Rattle.dispatch.specs.declared.Arithmetic.TheVariants.{Sum, Difference, Product, Quotient, NearestRemainder, TruncatedRemainder};
+ghost use Rattle.apfloat_c.specs.declared.exported_call.ExportedCall.{ExportedCall};
 ghost use Rattle.apfloat_c.specs.declared.exported_call.ExportedCall.TheVariants.{OfTwo, FusedSum, SquareRoot, FromUnsigned, FromSigned, ToUnsigned, ToSigned, RoundToIntegral, Scaling, Fraction, Exponent, NextUp, NextDown, Comparison, Class, Conversion, Text};
 ghost use Rattle.apfloat_c.specs.Answers.{IsLeft, IsReturned};
 ghost use Rattle.apfloat_c.specs.KnownCalls.{known_in};
@@ -16,7 +17,6 @@ use crate::answers::{
 };
 use crate::codes::{ANSWERED, NO_SUCH_OPERATION, UNKNOWN_FORMAT, UNKNOWN_MODE};
 use crate::data::Answer;
-use crate::exported_call::ExportedCall;
 use dispatch::{Arithmetic, FillsInFormat, FillsInKind, FlaggedKind};
 use rustc_apfloat::ieee::{Flagged, IeeeFloat};
 use rustc_apfloat::ppc::DoubleDouble;
