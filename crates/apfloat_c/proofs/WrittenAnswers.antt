@@ -1,5 +1,5 @@
--- Answers where nothing is refused, and the exponents of fractions.
-use Rattle.std.proofs.Common.{◌≡◌, ℕ, Bool, true, false, List, None, Option, Ok, Result, refl, subst}
+-- What calls leave, and the exponents of fractions.
+use Rattle.std.proofs.Common.{◌≡◌, ℕ, Bool, true, false, List, None, Option, Some, refl, subst}
 use Rattle.std.proofs.lemmas.Bool.{false≢true}
 use Rattle.std.specs.Char.{is_ascii}
 use Rattle.rustc_apfloat.specs.declared.Round.{Round}
@@ -13,62 +13,33 @@ use Rattle.rustc_apfloat.specs.PairFormats.{double}
 use Rattle.rustc_apfloat.specs.Pairs.{Pair, pair_of}
 use Rattle.apfloat_pair_theory.proofs.pairs.PairBits.{double_is_lawful}
 use Rattle.apfloat_c.proofs.ExponentWords.{frexp_fits}
-use Rattle.dispatch.specs.declared.FlaggedKind.{FlaggedKind}
-use Rattle.dispatch.specs.declared.Arithmetic.{Arithmetic}
-use Rattle.dispatch.specs.Relations.{Relations, in_format, in_pairs}
-use Rattle.dispatch.specs.ValueKinds.{of_format, of_pairs, value_of}
+use Rattle.dispatch.specs.Relations.{in_format, in_pairs}
+use Rattle.dispatch.specs.ValueKinds.{Kind, value_of}
 use Rattle.apfloat_c.specs.declared.data.Answer.{Answer}
 use Rattle.apfloat_c.specs.declared.exported_call.ExportedCall.{ExportedCall}
-use Rattle.apfloat_c.specs.declared.exported_call.ExportedCall.TheVariants.{OfTwo, FusedSum, SquareRoot, Fraction, Conversion}
-use Rattle.apfloat_c.specs.KnownCalls.{is_text, unless}
-use Rattle.apfloat_c.specs.Answers.{FractionFits, IsOutcome, IsOutcomeBy, IsTypeOutcome}
+use Rattle.apfloat_c.specs.declared.exported_call.ExportedCall.TheVariants.{Fraction}
+use Rattle.apfloat_c.specs.KnownCalls.{answered, is_text, unless, without}
+use Rattle.apfloat_c.specs.Answers.{FractionFits, IsKindAnswer, IsLeftBy, IsReturned}
 
--- where the test holds, the answer is no refusal
-pub answered_if : (holds : Bool) (error : ℕ) (Holds : Answer → Type 0) (answer : Answer)
-    → holds ≡ true → Holds answer → IsOutcomeBy (unless holds error) Holds (Ok answer)
-answered_if true error Holds answer e h = h
-answered_if false error Holds answer e h = absurd (false≢true e)
+-- where the test holds, a call leaves an answer
+pub answered_if : (holds : Bool) (error : ℕ) (Holds : Answer → Type 0) (old answer : Answer)
+    → holds ≡ true → Holds answer → IsLeftBy (unless holds error) Holds old answer answered
+answered_if true error Holds old answer e h = (refl, h)
+answered_if false error Holds old answer e h = absurd (false≢true e)
 
 -- ASCII bytes without a fault are a text
 pub text_without_fault : (bytes : List ℕ) → every is_ascii bytes ≡ true → fault_of bytes ≡ None
     → is_text bytes ≡ true
 text_without_fault bytes ascii none = rw (ascii, none) refl
 
--- a type returns what its format does, except for calls that are not those of a type
-pub type_outcome : (constants : Constants) (mode : Round) (call : ExportedCall) (outcome : Result Answer ℕ)
-    → ((arithmetic : Arithmetic) (x y : ℕ) → call ≡ OfTwo arithmetic x y → ⊥)
-    → ((x y z : ℕ) → call ≡ FusedSum x y z → ⊥)
-    → ((x : ℕ) → call ≡ SquareRoot x → ⊥)
-    → ((x : ℕ) (target : Option FlaggedKind) → call ≡ Conversion x target → ⊥)
-    → IsTypeOutcome (in_format constants) mode call outcome
-    → IsOutcome (of_format constants) mode call outcome
-type_outcome constants mode (OfTwo arithmetic x y) outcome no_two no_fused no_root no_conversion holds =
-    absurd (no_two arithmetic x y refl)
-type_outcome constants mode (FusedSum x y z) outcome no_two no_fused no_root no_conversion holds =
-    absurd (no_fused x y z refl)
-type_outcome constants mode (SquareRoot x) outcome no_two no_fused no_root no_conversion holds =
-    absurd (no_root x refl)
-type_outcome constants mode (Conversion x target) outcome no_two no_fused no_root no_conversion holds =
-    absurd (no_conversion x target refl)
-type_outcome constants mode call outcome no_two no_fused no_root no_conversion holds = holds
-
--- and what pairs of doubles do, except for operations on two values and the square root
-pub pair_outcome : (mode : Round) (call : ExportedCall) (outcome : Result Answer ℕ)
-    → ((arithmetic : Arithmetic) (x y : ℕ) → call ≡ OfTwo arithmetic x y → ⊥)
-    → ((x : ℕ) → call ≡ SquareRoot x → ⊥)
-    → IsTypeOutcome in_pairs mode call outcome
-    → IsOutcome of_pairs mode call outcome
-pair_outcome mode (OfTwo arithmetic x y) outcome no_two no_root holds = absurd (no_two arithmetic x y refl)
-pair_outcome mode (SquareRoot x) outcome no_two no_root holds = absurd (no_root x refl)
-pair_outcome mode call outcome no_two no_root holds = holds
+-- what a call leaves, with the kind of values and the mode that are known
+pub left_returned : (fault : Option ℕ) (kind : Kind) (mode : Round) (call : ExportedCall) (old new : Answer) (code : ℕ)
+    → IsLeftBy fault (IsKindAnswer kind mode call) old new code
+    → IsReturned (without fault (record { kind = kind; mode = mode; call = call })) old new code
+left_returned None kind mode call old new code left = left
+left_returned (Some fault) kind mode call old new code left = left
 
 -- ---- fractions
-
--- a call that asks for no fraction
-pub no_fraction : {A : Type 0} (of_type : Relations A) (call : ExportedCall)
-    → ((x : ℕ) → call ≡ Fraction x → ⊥) → FractionFits of_type call
-no_fraction of_type (Fraction x) other = absurd (other x refl)
-no_fraction of_type call other = tt
 
 -- one that asks for that of a value of a format
 pub fraction_fits : (constants : Constants) → IsLawful constants → (call : ExportedCall) (x : ℕ) (value : Datum)

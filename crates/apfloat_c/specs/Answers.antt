@@ -184,18 +184,18 @@ IsKindAnswer of_pairs mode (SquareRoot x) answer =
     IsValue in_pairs (λ given. Gives (IsPairRoot mode (pair_of x)) given) answer
 IsKindAnswer of_pairs mode call answer = IsTypeAnswer in_pairs mode call answer
 
--- an answer where nothing is refused, and else that error
-abbrev pub IsOutcomeBy : Option ℕ → (Answer → Type 0) → Result Answer ℕ → Type 0
-IsOutcomeBy None Holds (Ok answer) = Holds answer
-IsOutcomeBy None Holds (Err error) = ⊥
-IsOutcomeBy (Some fault) Holds (Ok answer) = ⊥
-IsOutcomeBy (Some fault) Holds (Err error) = error ≡ fault
+-- what a call leaves: the code 0 and an answer where nothing is refused, and else the code of the error and what was
+-- there before
+abbrev pub IsLeftBy : Option ℕ → (Answer → Type 0) → Answer → Answer → ℕ → Type 0
+IsLeftBy None Holds old new code = (code ≡ answered) × Holds new
+IsLeftBy (Some fault) Holds old new code = (code ≡ fault) × (new ≡ old)
 
-abbrev pub IsTypeOutcome : {A : Type 0} → Relations A → Round → ExportedCall → Result Answer ℕ → Type 0
-IsTypeOutcome of_type mode call outcome = IsOutcomeBy (type_fault call) (IsTypeAnswer of_type mode call) outcome
+abbrev pub IsTypeLeft : {A : Type 0} → Relations A → Round → ExportedCall → Answer → Answer → ℕ → Type 0
+IsTypeLeft of_type mode call old new code =
+    IsLeftBy (type_fault call) (IsTypeAnswer of_type mode call) old new code
 
-abbrev pub IsOutcome : Kind → Round → ExportedCall → Result Answer ℕ → Type 0
-IsOutcome kind mode call outcome = IsOutcomeBy (fault_in kind call) (IsKindAnswer kind mode call) outcome
+abbrev pub IsLeft : Kind → Round → ExportedCall → Answer → Answer → ℕ → Type 0
+IsLeft kind mode call old new code = IsLeftBy (fault_in kind call) (IsKindAnswer kind mode call) old new code
 
 -- what an export leaves: the code 0 and the answer, or the code of the error and what was there before
 abbrev pub IsReturned : Result KnownCall ℕ → Answer → Answer → ℕ → Type 0

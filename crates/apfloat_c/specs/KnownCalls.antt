@@ -90,6 +90,12 @@ abbrev pub without : {A : Type 0} → Option ℕ → A → Result A ℕ
 without None x = Ok x
 without (Some fault) x = Err fault
 
+-- the faults of a call in a known kind of values: the mode, what the kind refuses
+abbrev pub known_in : Kind → Option Round → ExportedCall → Result KnownCall ℕ
+known_in kind mode call =
+    ok_or mode unknown_mode >>= λ rounding.
+    without (fault_in kind call) (record { kind = kind; mode = rounding; call = call })
+
 -- The faults in their order: the format, the mode, what the format refuses.
 abbrev pub known_call : Option FlaggedKind → Option Round → ExportedCall → Result KnownCall ℕ
 known_call format mode call =

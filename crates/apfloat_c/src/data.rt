@@ -37,6 +37,7 @@ const _: () = prove!(align_of::<Answer>() == 8);
 
 impl Halves {
     /// The 128 bits of these halves.
+    #[inline(always)]
     pub fn number(self) -> u128
         ensures { result ≡ whole self }
     {
@@ -44,6 +45,7 @@ impl Halves {
     }
 
     /// The halves of 128 bits.
+    #[inline(always)]
     pub fn of(number: u128) -> Halves
         ensures { whole result ≡ number }
     {
@@ -69,6 +71,7 @@ impl Answer {
     }
 
     /// A result with bits, flags and the extra result.
+    #[inline(always)]
     pub fn of(bits: u128, status: Status, number: i32) -> Answer
         ensures bits { whole result.bits ≡ bits }
         ensures status { result.status ≡ bits_of status }

@@ -12,8 +12,13 @@ ghost use Rattle.apfloat_c.specs.Answers.{IsReturned, whole};
 
 use crate::by_code::reply;
 use crate::data::{Answer, Halves};
-use crate::exported_call::ExportedCall;
-use dispatch::{Arithmetic, FlaggedKind, mode_coded};
+use crate::operations::{
+    ClassCall, ComparisonCall, ConversionCall, DifferenceCall, ExponentCall, FractionCall,
+    FromSignedCall, FromUnsignedCall, FusedSumCall, NearestRemainderCall, NextDownCall, NextUpCall,
+    ProductCall, QuotientCall, RoundToIntegralCall, ScalingCall, SquareRootCall, SumCall, TextCall,
+    ToSignedCall, ToUnsignedCall, TruncatedRemainderCall,
+};
+use dispatch::mode_coded;
 use rustc_apfloat::Round;
 
 /// The sum of two values, rounded once.
@@ -32,7 +37,10 @@ pub extern "C" fn apfloat_add(
     reply(
         format,
         mode_coded(mode),
-        ExportedCall::OfTwo(Arithmetic::Sum, x.number(), y.number()),
+        SumCall {
+            x: x.number(),
+            y: y.number(),
+        },
         answer,
     )
 }
@@ -53,7 +61,10 @@ pub extern "C" fn apfloat_sub(
     reply(
         format,
         mode_coded(mode),
-        ExportedCall::OfTwo(Arithmetic::Difference, x.number(), y.number()),
+        DifferenceCall {
+            x: x.number(),
+            y: y.number(),
+        },
         answer,
     )
 }
@@ -74,7 +85,10 @@ pub extern "C" fn apfloat_mul(
     reply(
         format,
         mode_coded(mode),
-        ExportedCall::OfTwo(Arithmetic::Product, x.number(), y.number()),
+        ProductCall {
+            x: x.number(),
+            y: y.number(),
+        },
         answer,
     )
 }
@@ -95,7 +109,10 @@ pub extern "C" fn apfloat_div(
     reply(
         format,
         mode_coded(mode),
-        ExportedCall::OfTwo(Arithmetic::Quotient, x.number(), y.number()),
+        QuotientCall {
+            x: x.number(),
+            y: y.number(),
+        },
         answer,
     )
 }
@@ -110,7 +127,10 @@ pub extern "C" fn apfloat_rem(format: u32, x: Halves, y: Halves, answer: &mut An
     reply(
         format,
         Some(Round::NearestTiesToEven),
-        ExportedCall::OfTwo(Arithmetic::NearestRemainder, x.number(), y.number()),
+        NearestRemainderCall {
+            x: x.number(),
+            y: y.number(),
+        },
         answer,
     )
 }
@@ -125,7 +145,10 @@ pub extern "C" fn apfloat_mod(format: u32, x: Halves, y: Halves, answer: &mut An
     reply(
         format,
         Some(Round::NearestTiesToEven),
-        ExportedCall::OfTwo(Arithmetic::TruncatedRemainder, x.number(), y.number()),
+        TruncatedRemainderCall {
+            x: x.number(),
+            y: y.number(),
+        },
         answer,
     )
 }
@@ -147,7 +170,11 @@ pub extern "C" fn apfloat_fma(
     reply(
         format,
         mode_coded(mode),
-        ExportedCall::FusedSum(x.number(), y.number(), z.number()),
+        FusedSumCall {
+            x: x.number(),
+            y: y.number(),
+            z: z.number(),
+        },
         answer,
     )
 }
@@ -162,7 +189,7 @@ pub extern "C" fn apfloat_sqrt(format: u32, mode: u32, x: Halves, answer: &mut A
     reply(
         format,
         mode_coded(mode),
-        ExportedCall::SquareRoot(x.number()),
+        SquareRootCall { x: x.number() },
         answer,
     )
 }
@@ -183,7 +210,7 @@ pub extern "C" fn apfloat_convert(
     reply(
         format,
         mode_coded(mode),
-        ExportedCall::Conversion(x.number(), FlaggedKind::coded(to)),
+        ConversionCall { x: x.number(), to },
         answer,
     )
 }
@@ -203,7 +230,9 @@ pub extern "C" fn apfloat_from_u128(
     reply(
         format,
         mode_coded(mode),
-        ExportedCall::FromUnsigned(number.number()),
+        FromUnsignedCall {
+            number: number.number(),
+        },
         answer,
     )
 }
@@ -223,7 +252,9 @@ pub extern "C" fn apfloat_from_i128(
     reply(
         format,
         mode_coded(mode),
-        ExportedCall::FromSigned(number.number().cast_signed()),
+        FromSignedCall {
+            number: number.number().cast_signed(),
+        },
         answer,
     )
 }
@@ -245,7 +276,10 @@ pub extern "C" fn apfloat_to_u128(
     reply(
         format,
         mode_coded(mode),
-        ExportedCall::ToUnsigned(x.number(), width),
+        ToUnsignedCall {
+            x: x.number(),
+            width,
+        },
         answer,
     )
 }
@@ -267,7 +301,10 @@ pub extern "C" fn apfloat_to_i128(
     reply(
         format,
         mode_coded(mode),
-        ExportedCall::ToSigned(x.number(), width),
+        ToSignedCall {
+            x: x.number(),
+            width,
+        },
         answer,
     )
 }
@@ -287,7 +324,7 @@ pub extern "C" fn apfloat_round_to_integral(
     reply(
         format,
         mode_coded(mode),
-        ExportedCall::RoundToIntegral(x.number()),
+        RoundToIntegralCall { x: x.number() },
         answer,
     )
 }
@@ -308,7 +345,10 @@ pub extern "C" fn apfloat_scalbn(
     reply(
         format,
         mode_coded(mode),
-        ExportedCall::Scaling(x.number(), power),
+        ScalingCall {
+            x: x.number(),
+            power,
+        },
         answer,
     )
 }
@@ -323,7 +363,7 @@ pub extern "C" fn apfloat_ilogb(format: u32, x: Halves, answer: &mut Answer) -> 
     reply(
         format,
         Some(Round::NearestTiesToEven),
-        ExportedCall::Exponent(x.number()),
+        ExponentCall { x: x.number() },
         answer,
     )
 }
@@ -338,7 +378,7 @@ pub extern "C" fn apfloat_frexp(format: u32, mode: u32, x: Halves, answer: &mut 
     reply(
         format,
         mode_coded(mode),
-        ExportedCall::Fraction(x.number()),
+        FractionCall { x: x.number() },
         answer,
     )
 }
@@ -353,7 +393,7 @@ pub extern "C" fn apfloat_next_up(format: u32, x: Halves, answer: &mut Answer) -
     reply(
         format,
         Some(Round::NearestTiesToEven),
-        ExportedCall::NextUp(x.number()),
+        NextUpCall { x: x.number() },
         answer,
     )
 }
@@ -368,7 +408,7 @@ pub extern "C" fn apfloat_next_down(format: u32, x: Halves, answer: &mut Answer)
     reply(
         format,
         Some(Round::NearestTiesToEven),
-        ExportedCall::NextDown(x.number()),
+        NextDownCall { x: x.number() },
         answer,
     )
 }
@@ -383,7 +423,10 @@ pub extern "C" fn apfloat_compare(format: u32, x: Halves, y: Halves, answer: &mu
     reply(
         format,
         Some(Round::NearestTiesToEven),
-        ExportedCall::Comparison(x.number(), y.number()),
+        ComparisonCall {
+            x: x.number(),
+            y: y.number(),
+        },
         answer,
     )
 }
@@ -398,7 +441,7 @@ pub extern "C" fn apfloat_classify(format: u32, x: Halves, answer: &mut Answer) 
     reply(
         format,
         Some(Round::NearestTiesToEven),
-        ExportedCall::Class(x.number()),
+        ClassCall { x: x.number() },
         answer,
     )
 }
@@ -410,5 +453,5 @@ pub extern "C" fn apfloat_parse(format: u32, mode: u32, text: &[u8], answer: &mu
         IsReturned (known_call (flagged_kind_coded format) (mode_coded mode) call)
         answer.old answer.new result }
 {
-    reply(format, mode_coded(mode), ExportedCall::Text(text), answer)
+    reply(format, mode_coded(mode), TextCall { text }, answer)
 }

@@ -18,3 +18,4 @@ mod exported_call;
 mod exports;
 mod line;
 mod maps;
+mod operations;

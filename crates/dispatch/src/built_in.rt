@@ -4,7 +4,7 @@ ghost use Rattle.std.specs.Prelude.{◌≡◌, Some};
 ghost use Rattle.dispatch.specs.ValueKinds.{of_format};
 ghost use Rattle.dispatch.specs.BuiltIns.{constants_in, format_in, kind_coded, kind_named, kind_of};
 
-use crate::flagged::WritesInFormat;
+use crate::flagged::{FillsInFormat, WritesInFormat};
 use crate::in_kind::{InFormat, InKind};
 use rustc_apfloat::ieee::{
     BFloatS, DoubleS, Float8E4M3FNS, Float8E4M3FNUZS, Float8E5M2S, HalfS, QuadS, SingleS,
@@ -48,6 +48,15 @@ macro_rules! write_in {
         $($name:ident $semantics:ident $word:literal $code:literal,)*) => {
         match $format {
             $(BuiltInFormat::$name => $call.write_in_format::<$semantics>($bytes),)*
+        }
+    };
+}
+
+macro_rules! fill_in {
+    (($format:expr, $call:expr, $place:expr)
+        $($name:ident $semantics:ident $word:literal $code:literal,)*) => {
+        match $format {
+            $(BuiltInFormat::$name => $call.fill_in_format::<$semantics>($place),)*
         }
     };
 }
@@ -133,6 +142,14 @@ impl BuiltInFormat {
     {
         each_format!(write_in(self, call, bytes))
     }
+
+    /// Makes a call that fills a place, in the format.
+    #[inline(always)]
+    pub fn fill<C: FillsInFormat>(self, call: C, place: &mut C::Place) -> C::Output
+        ensures { C.gives call (of_format (constants_in self)) place.old place.new result }
+    {
+        each_format!(fill_in(self, call, place))
+    }
 }
 
 impl BuiltInKind {
@@ -162,6 +179,7 @@ impl BuiltInKind {
     }
 
     /// The kind that this code names, if any.
+    #[inline(always)]
     pub fn coded(code: u32) -> Option<BuiltInKind>
         ensures { result ≡ kind_coded code }
     {

@@ -68,6 +68,26 @@ macro_rules! write_before_rounding {
     };
 }
 
+macro_rules! fill_after_rounding {
+    (($format:expr, $call:expr, $place:expr) $($name:ident $semantics:ident,)*) => {
+        match $format {
+            $(IeeeFormat::$name => $call.fill_in_format::<IeeeFlags<$semantics>>($place),)*
+        }
+    };
+}
+
+macro_rules! fill_before_rounding {
+    (($format:expr, $call:expr, $place:expr) $($name:ident $semantics:ident,)*) => {
+        match $format {
+            $(
+                IeeeFormat::$name => {
+                    $call.fill_in_format::<IeeeFlags<TinyBefore<$semantics>>>($place)
+                }
+            )*
+        }
+    };
+}
+
 macro_rules! built_in_format {
     (($format:expr) $($name:ident $semantics:ident,)*) => {
         match $format {
@@ -122,6 +142,30 @@ pub trait WritesInFormat {
         requires written { S.PRECISION < S.BITS }
         requires can { can self (of_format (constants_of S.Flagged)) bytes.old }
         ensures { gives self (of_format (constants_of S.Flagged)) bytes.old bytes.new result };
+}
+
+/// A call that can be made in each format that has bits, with either rule of flags, and that fills a place lent to it.
+pub trait FillsInFormat {
+    /// What is lent to it.
+    type Place;
+
+    /// What it returns.
+    type Output;
+
+    // What it returns in values of a kind, and what becomes of the place: by default anything.
+    ghost gives: { Self → Kind → Self.Place → Self.Place → Self.Output → Type 0 } = { λ _ _ _ _ _. ⊤ };
+
+    /// Makes the call in the format `S`.
+    fn fill_in_format<S: Flagged>(self, place: &mut Self::Place) -> Self::Output
+        requires { S.PRECISION < S.BITS }
+        ensures { gives self (of_format (constants_of S.Flagged)) place.old place.new result };
+}
+
+/// A call that can also be made of pairs of doubles, and that fills a place lent to it.
+pub trait FillsInKind: FillsInFormat {
+    /// Makes the call in pairs of doubles.
+    fn fill_in_pairs(self, place: &mut Self::Place) -> Self::Output
+        ensures { Self.gives self of_pairs place.old place.new result };
 }
 
 /// The built-in formats with the infinities and NaNs of IEEE 754, whose calls can raise its flags.
@@ -182,6 +226,7 @@ impl<C: InFlaggedFormat> InFormat for WithBuiltInFlags<C> {
 
 impl IeeeFormat {
     /// The format of a kind of values, if it is one of these.
+    #[inline(always)]
     pub fn of(kind: BuiltInKind) -> Option<IeeeFormat>
         ensures { result ≡ ieee_format_in kind }
     {
@@ -202,6 +247,24 @@ impl IeeeFormat {
         ensures { C.gives call (of_format (before_rounding self)) result }
     {
         each_ieee_format!(run_before_rounding(self, call))
+    }
+}
+
+impl IeeeFormat {
+    /// Makes a call that fills a place, with the flags of IEEE 754-2008, tininess detected after rounding.
+    #[inline(always)]
+    fn fill_after_rounding<C: FillsInFormat>(self, call: C, place: &mut C::Place) -> C::Output
+        ensures { C.gives call (of_format (after_rounding self)) place.old place.new result }
+    {
+        each_ieee_format!(fill_after_rounding(self, call, place))
+    }
+
+    /// Makes a call that fills a place, with the flags of IEEE 754-2008, tininess detected before rounding.
+    #[inline(always)]
+    fn fill_before_rounding<C: FillsInFormat>(self, call: C, place: &mut C::Place) -> C::Output
+        ensures { C.gives call (of_format (before_rounding self)) place.old place.new result }
+    {
+        each_ieee_format!(fill_before_rounding(self, call, place))
     }
 }
 
@@ -254,6 +317,18 @@ impl FlaggedFormat {
         }
     }
 
+    /// Makes a call that fills a place, in the format.
+    #[inline(always)]
+    pub fn fill<C: FillsInFormat>(self, call: C, place: &mut C::Place) -> C::Output
+        ensures { C.gives call (of_format (flagged_constants self)) place.old place.new result }
+    {
+        match self {
+            FlaggedFormat::BuiltIn(format) => format.fill(call, place),
+            FlaggedFormat::AfterRounding(format) => format.fill_after_rounding(call, place),
+            FlaggedFormat::BeforeRounding(format) => format.fill_before_rounding(call, place),
+        }
+    }
+
     /// Makes a call in the format.
     #[inline(always)]
     pub fn run<C: InFlaggedFormat>(self, call: C) -> C::Output
@@ -279,21 +354,39 @@ impl FlaggedKind {
         }
     }
 
+    /// Makes a call that fills a place, in values of the kind.
+    #[inline(always)]
+    pub fn fill<C: FillsInKind>(self, call: C, place: &mut C::Place) -> C::Output
+        ensures { C.gives call (flagged_kind_of self) place.old place.new result }
+    {
+        match self {
+            FlaggedKind::OfFormat(format) => format.fill(call, place),
+            FlaggedKind::Pairs => call.fill_in_pairs(place),
+        }
+    }
+
     /// The kind that this code names, if any: its lowest eight bits are the code of a built-in kind, the bit above them
     /// asks for the flags of IEEE 754-2008, and the next one, only together with that, for tininess before rounding.
+    #[inline(always)]
     pub fn coded(code: u32) -> Option<FlaggedKind>
         ensures { result ≡ flagged_kind_coded code }
     {
-        let kind = BuiltInKind::coded(code % 256)?;
         match code / 256 {
-            0 => Some(FlaggedKind::built_in(kind)),
-            1 => Some(FlaggedKind::OfFormat(FlaggedFormat::AfterRounding(IeeeFormat::of(kind)?))),
-            3 => Some(FlaggedKind::OfFormat(FlaggedFormat::BeforeRounding(IeeeFormat::of(kind)?))),
+            0 => Some(FlaggedKind::built_in(BuiltInKind::coded(code % 256)?)),
+            1 => {
+                let format = IeeeFormat::of(BuiltInKind::coded(code % 256)?)?;
+                Some(FlaggedKind::OfFormat(FlaggedFormat::AfterRounding(format)))
+            }
+            3 => {
+                let format = IeeeFormat::of(BuiltInKind::coded(code % 256)?)?;
+                Some(FlaggedKind::OfFormat(FlaggedFormat::BeforeRounding(format)))
+            }
             _ => None,
         }
     }
 
     /// A kind with the flags of the built-in formats.
+    #[inline(always)]
     fn built_in(kind: BuiltInKind) -> FlaggedKind
         ensures { result ≡ built_in kind }
     {

@@ -11,7 +11,8 @@ mod modes;
 pub use arithmetic::Arithmetic;
 pub use built_in::{BUILT_IN_KINDS, BuiltInFormat, BuiltInKind};
 pub use flagged::{
-    FlaggedFormat, FlaggedKind, IeeeFormat, InFlaggedFormat, InFlaggedKind, WritesInFormat,
+    FillsInFormat, FillsInKind, FlaggedFormat, FlaggedKind, IeeeFormat, InFlaggedFormat,
+    InFlaggedKind, WritesInFormat,
 };
 pub use in_kind::{InFormat, InKind};
 pub use modes::{mode_coded, mode_named};

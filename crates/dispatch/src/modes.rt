@@ -20,6 +20,7 @@ pub fn mode_named(word: &str) -> Option<Round>
 }
 
 /// The rounding mode that this code names, if any.
+#[inline(always)]
 pub fn mode_coded(code: u32) -> Option<Round>
     ensures { result ≡ mode_coded code }
 {

@@ -1,0 +1,611 @@
+//! The calls of the exports, each of them a type, so that each export has its own choice of a format.
+
+ghost use Rattle.std.specs.Prelude.{◌<◌};
+ghost use Rattle.rustc_apfloat.specs.FlaggedTypes.{constants_of};
+ghost use Rattle.dispatch.specs.FlaggedKinds.{flagged_kind_coded};
+ghost use Rattle.dispatch.specs.ValueKinds.{of_format, of_pairs};
+ghost use Rattle.dispatch.specs.declared.Arithmetic.TheVariants.{Sum, Difference, Product, Quotient, NearestRemainder, TruncatedRemainder};
+ghost use Rattle.apfloat_c.specs.declared.exported_call.ExportedCall.{ExportedCall};
+ghost use Rattle.apfloat_c.specs.declared.exported_call.ExportedCall.TheVariants.{OfTwo, FusedSum, SquareRoot, FromUnsigned, FromSigned, ToUnsigned, ToSigned, RoundToIntegral, Scaling, Fraction, Exponent, NextUp, NextDown, Comparison, Class, Conversion, Text};
+ghost use Rattle.apfloat_c.specs.Answers.{IsLeft, IsReturned};
+ghost use Rattle.apfloat_c.specs.KnownCalls.{known_in};
+
+use crate::answers::{
+    class, comparison, converted, difference, exponent, fraction, from_signed, from_unsigned,
+    fused_sum, nearest_remainder, next_down, next_up, of_two_pairs, pair_root, product, quotient,
+    read, root, round_to_integral, scaled, sum, to_signed, to_unsigned, truncated_remainder,
+};
+use crate::codes::{ANSWERED, NO_SUCH_OPERATION, UNKNOWN_FORMAT, UNKNOWN_MODE};
+use crate::data::Answer;
+use dispatch::{Arithmetic, FillsInFormat, FillsInKind, FlaggedKind};
+use rustc_apfloat::ieee::{Flagged, IeeeFloat};
+use rustc_apfloat::ppc::DoubleDouble;
+use rustc_apfloat::{Float, Round};
+
+/// A call with its operands.
+pub trait Operation: Copy {
+    // Which call it is.
+    ghost call: { Self → ExportedCall };
+
+    /// Makes the call in the format `S`.
+    fn in_format<S: Flagged>(self, round: Round, answer: &mut Answer) -> u32
+        requires { S.PRECISION < S.BITS }
+        ensures { IsLeft (of_format (constants_of S.Flagged)) round (call self)
+            answer.old answer.new result };
+
+    /// Makes the call in pairs of doubles.
+    fn in_pairs(self, round: Round, answer: &mut Answer) -> u32
+        ensures { IsLeft of_pairs round (call self) answer.old answer.new result };
+}
+
+/// A call with its rounding mode, if that is known.
+#[derive(Clone, Copy)]
+pub struct InMode<O> {
+    /// The rounding mode.
+    pub mode: Option<Round>,
+    /// The call.
+    pub operation: O,
+}
+
+impl<O: Operation> FillsInFormat for InMode<O> {
+    type Place = Answer;
+
+    type Output = u32;
+
+    ghost gives = { λ it kind old new code.
+        IsReturned (known_in kind it.mode (O.call it.operation)) old new code };
+
+    #[inline(always)]
+    fn fill_in_format<S: Flagged>(self, answer: &mut Answer) -> u32 {
+        match self.mode {
+            None => UNKNOWN_MODE,
+            Some(round) => self.operation.in_format::<S>(round, answer),
+        }
+    }
+}
+
+impl<O: Operation> FillsInKind for InMode<O> {
+    #[inline(always)]
+    fn fill_in_pairs(self, answer: &mut Answer) -> u32 {
+        match self.mode {
+            None => UNKNOWN_MODE,
+            Some(round) => self.operation.in_pairs(round, answer),
+        }
+    }
+}
+
+/// The sum of two values.
+#[derive(Clone, Copy)]
+pub struct SumCall {
+    /// The first value.
+    pub x: u128,
+    /// The second value.
+    pub y: u128,
+}
+
+impl Operation for SumCall {
+    ghost call = { λ it. OfTwo Sum it.x it.y };
+
+    #[inline(always)]
+    fn in_format<S: Flagged>(self, round: Round, answer: &mut Answer) -> u32 {
+        sum::<S>(round, self.x, self.y, answer);
+        ANSWERED
+    }
+
+    #[inline(always)]
+    fn in_pairs(self, round: Round, answer: &mut Answer) -> u32 {
+        of_two_pairs(round, Arithmetic::Sum, self.x, self.y, answer);
+        ANSWERED
+    }
+}
+
+/// The difference of two values.
+#[derive(Clone, Copy)]
+pub struct DifferenceCall {
+    /// The first value.
+    pub x: u128,
+    /// The second value.
+    pub y: u128,
+}
+
+impl Operation for DifferenceCall {
+    ghost call = { λ it. OfTwo Difference it.x it.y };
+
+    #[inline(always)]
+    fn in_format<S: Flagged>(self, round: Round, answer: &mut Answer) -> u32 {
+        difference::<S>(round, self.x, self.y, answer);
+        ANSWERED
+    }
+
+    #[inline(always)]
+    fn in_pairs(self, round: Round, answer: &mut Answer) -> u32 {
+        of_two_pairs(round, Arithmetic::Difference, self.x, self.y, answer);
+        ANSWERED
+    }
+}
+
+/// The product of two values.
+#[derive(Clone, Copy)]
+pub struct ProductCall {
+    /// The first value.
+    pub x: u128,
+    /// The second value.
+    pub y: u128,
+}
+
+impl Operation for ProductCall {
+    ghost call = { λ it. OfTwo Product it.x it.y };
+
+    #[inline(always)]
+    fn in_format<S: Flagged>(self, round: Round, answer: &mut Answer) -> u32 {
+        product::<S>(round, self.x, self.y, answer);
+        ANSWERED
+    }
+
+    #[inline(always)]
+    fn in_pairs(self, round: Round, answer: &mut Answer) -> u32 {
+        of_two_pairs(round, Arithmetic::Product, self.x, self.y, answer);
+        ANSWERED
+    }
+}
+
+/// The quotient of two values.
+#[derive(Clone, Copy)]
+pub struct QuotientCall {
+    /// The first value.
+    pub x: u128,
+    /// The second value.
+    pub y: u128,
+}
+
+impl Operation for QuotientCall {
+    ghost call = { λ it. OfTwo Quotient it.x it.y };
+
+    #[inline(always)]
+    fn in_format<S: Flagged>(self, round: Round, answer: &mut Answer) -> u32 {
+        quotient::<S>(round, self.x, self.y, answer);
+        ANSWERED
+    }
+
+    #[inline(always)]
+    fn in_pairs(self, round: Round, answer: &mut Answer) -> u32 {
+        of_two_pairs(round, Arithmetic::Quotient, self.x, self.y, answer);
+        ANSWERED
+    }
+}
+
+/// The remainder by the whole number nearest to the quotient.
+#[derive(Clone, Copy)]
+pub struct NearestRemainderCall {
+    /// The first value.
+    pub x: u128,
+    /// The second value.
+    pub y: u128,
+}
+
+impl Operation for NearestRemainderCall {
+    ghost call = { λ it. OfTwo NearestRemainder it.x it.y };
+
+    #[inline(always)]
+    fn in_format<S: Flagged>(self, round: Round, answer: &mut Answer) -> u32 {
+        nearest_remainder::<S>(round, self.x, self.y, answer);
+        ANSWERED
+    }
+
+    #[inline(always)]
+    fn in_pairs(self, round: Round, answer: &mut Answer) -> u32 {
+        of_two_pairs(round, Arithmetic::NearestRemainder, self.x, self.y, answer);
+        ANSWERED
+    }
+}
+
+/// The remainder by the quotient cut toward zero.
+#[derive(Clone, Copy)]
+pub struct TruncatedRemainderCall {
+    /// The first value.
+    pub x: u128,
+    /// The second value.
+    pub y: u128,
+}
+
+impl Operation for TruncatedRemainderCall {
+    ghost call = { λ it. OfTwo TruncatedRemainder it.x it.y };
+
+    #[inline(always)]
+    fn in_format<S: Flagged>(self, round: Round, answer: &mut Answer) -> u32 {
+        truncated_remainder::<S>(round, self.x, self.y, answer);
+        ANSWERED
+    }
+
+    #[inline(always)]
+    fn in_pairs(self, round: Round, answer: &mut Answer) -> u32 {
+        of_two_pairs(
+            round,
+            Arithmetic::TruncatedRemainder,
+            self.x,
+            self.y,
+            answer,
+        );
+        ANSWERED
+    }
+}
+
+/// The product of two values plus a third.
+#[derive(Clone, Copy)]
+pub struct FusedSumCall {
+    /// The first value.
+    pub x: u128,
+    /// The second value.
+    pub y: u128,
+    /// The third value.
+    pub z: u128,
+}
+
+impl Operation for FusedSumCall {
+    ghost call = { λ it. FusedSum it.x it.y it.z };
+
+    #[inline(always)]
+    fn in_format<S: Flagged>(self, round: Round, answer: &mut Answer) -> u32 {
+        fused_sum::<S>(round, self.x, self.y, self.z, answer);
+        ANSWERED
+    }
+
+    #[inline(always)]
+    fn in_pairs(self, round: Round, answer: &mut Answer) -> u32 {
+        NO_SUCH_OPERATION
+    }
+}
+
+/// The square root of a value.
+#[derive(Clone, Copy)]
+pub struct SquareRootCall {
+    /// The value.
+    pub x: u128,
+}
+
+impl Operation for SquareRootCall {
+    ghost call = { λ it. SquareRoot it.x };
+
+    #[inline(always)]
+    fn in_format<S: Flagged>(self, round: Round, answer: &mut Answer) -> u32 {
+        root::<S>(round, self.x, answer);
+        ANSWERED
+    }
+
+    #[inline(always)]
+    fn in_pairs(self, round: Round, answer: &mut Answer) -> u32 {
+        pair_root(round, self.x, answer);
+        ANSWERED
+    }
+}
+
+/// A whole number as a value.
+#[derive(Clone, Copy)]
+pub struct FromUnsignedCall {
+    /// The number.
+    pub number: u128,
+}
+
+impl Operation for FromUnsignedCall {
+    ghost call = { λ it. FromUnsigned it.number };
+
+    #[inline(always)]
+    fn in_format<S: Flagged>(self, round: Round, answer: &mut Answer) -> u32 {
+        from_unsigned::<IeeeFloat<S>>(round, self.number, answer);
+        ANSWERED
+    }
+
+    #[inline(always)]
+    fn in_pairs(self, round: Round, answer: &mut Answer) -> u32 {
+        from_unsigned::<DoubleDouble>(round, self.number, answer);
+        ANSWERED
+    }
+}
+
+/// A whole number with a sign as a value.
+#[derive(Clone, Copy)]
+pub struct FromSignedCall {
+    /// The number.
+    pub number: i128,
+}
+
+impl Operation for FromSignedCall {
+    ghost call = { λ it. FromSigned it.number };
+
+    #[inline(always)]
+    fn in_format<S: Flagged>(self, round: Round, answer: &mut Answer) -> u32 {
+        from_signed::<IeeeFloat<S>>(round, self.number, answer);
+        ANSWERED
+    }
+
+    #[inline(always)]
+    fn in_pairs(self, round: Round, answer: &mut Answer) -> u32 {
+        from_signed::<DoubleDouble>(round, self.number, answer);
+        ANSWERED
+    }
+}
+
+/// A value as a whole number.
+#[derive(Clone, Copy)]
+pub struct ToUnsignedCall {
+    /// The value.
+    pub x: u128,
+    /// The binary digits of the whole number.
+    pub width: u32,
+}
+
+impl Operation for ToUnsignedCall {
+    ghost call = { λ it. ToUnsigned it.x it.width };
+
+    #[inline(always)]
+    fn in_format<S: Flagged>(self, round: Round, answer: &mut Answer) -> u32 {
+        to_unsigned::<IeeeFloat<S>>(round, self.x, self.width, answer)
+    }
+
+    #[inline(always)]
+    fn in_pairs(self, round: Round, answer: &mut Answer) -> u32 {
+        to_unsigned::<DoubleDouble>(round, self.x, self.width, answer)
+    }
+}
+
+/// A value as a whole number with a sign.
+#[derive(Clone, Copy)]
+pub struct ToSignedCall {
+    /// The value.
+    pub x: u128,
+    /// The binary digits of the whole number.
+    pub width: u32,
+}
+
+impl Operation for ToSignedCall {
+    ghost call = { λ it. ToSigned it.x it.width };
+
+    #[inline(always)]
+    fn in_format<S: Flagged>(self, round: Round, answer: &mut Answer) -> u32 {
+        to_signed::<IeeeFloat<S>>(round, self.x, self.width, answer)
+    }
+
+    #[inline(always)]
+    fn in_pairs(self, round: Round, answer: &mut Answer) -> u32 {
+        to_signed::<DoubleDouble>(round, self.x, self.width, answer)
+    }
+}
+
+/// A value rounded to an integral value.
+#[derive(Clone, Copy)]
+pub struct RoundToIntegralCall {
+    /// The value.
+    pub x: u128,
+}
+
+impl Operation for RoundToIntegralCall {
+    ghost call = { λ it. RoundToIntegral it.x };
+
+    #[inline(always)]
+    fn in_format<S: Flagged>(self, round: Round, answer: &mut Answer) -> u32 {
+        round_to_integral::<IeeeFloat<S>>(round, self.x, answer);
+        ANSWERED
+    }
+
+    #[inline(always)]
+    fn in_pairs(self, round: Round, answer: &mut Answer) -> u32 {
+        round_to_integral::<DoubleDouble>(round, self.x, answer);
+        ANSWERED
+    }
+}
+
+/// A value times a power of two.
+#[derive(Clone, Copy)]
+pub struct ScalingCall {
+    /// The value.
+    pub x: u128,
+    /// The exponent of the power.
+    pub power: i32,
+}
+
+impl Operation for ScalingCall {
+    ghost call = { λ it. Scaling it.x it.power };
+
+    #[inline(always)]
+    fn in_format<S: Flagged>(self, round: Round, answer: &mut Answer) -> u32 {
+        scaled::<IeeeFloat<S>>(round, self.x, self.power, answer);
+        ANSWERED
+    }
+
+    #[inline(always)]
+    fn in_pairs(self, round: Round, answer: &mut Answer) -> u32 {
+        scaled::<DoubleDouble>(round, self.x, self.power, answer);
+        ANSWERED
+    }
+}
+
+/// The fraction of a value, with its exponent.
+#[derive(Clone, Copy)]
+pub struct FractionCall {
+    /// The value.
+    pub x: u128,
+}
+
+impl Operation for FractionCall {
+    ghost call = { λ it. Fraction it.x };
+
+    #[inline(always)]
+    fn in_format<S: Flagged>(self, round: Round, answer: &mut Answer) -> u32 {
+        // That `x` belongs to the format bounds its exponent, which therefore fits 32 bits.
+        let _ = IeeeFloat::<S>::from_bits(self.x).category();
+        fraction::<IeeeFloat<S>>(round, self.x, answer);
+        ANSWERED
+    }
+
+    #[inline(always)]
+    fn in_pairs(self, round: Round, answer: &mut Answer) -> u32 {
+        // That both parts are doubles bounds the exponent, which therefore fits 32 bits.
+        let _ = DoubleDouble::from_bits(self.x).category();
+        fraction::<DoubleDouble>(round, self.x, answer);
+        ANSWERED
+    }
+}
+
+/// The exponent of the highest digit.
+#[derive(Clone, Copy)]
+pub struct ExponentCall {
+    /// The value.
+    pub x: u128,
+}
+
+impl Operation for ExponentCall {
+    ghost call = { λ it. Exponent it.x };
+
+    #[inline(always)]
+    fn in_format<S: Flagged>(self, round: Round, answer: &mut Answer) -> u32 {
+        exponent::<IeeeFloat<S>>(self.x, answer);
+        ANSWERED
+    }
+
+    #[inline(always)]
+    fn in_pairs(self, round: Round, answer: &mut Answer) -> u32 {
+        exponent::<DoubleDouble>(self.x, answer);
+        ANSWERED
+    }
+}
+
+/// The least value above.
+#[derive(Clone, Copy)]
+pub struct NextUpCall {
+    /// The value.
+    pub x: u128,
+}
+
+impl Operation for NextUpCall {
+    ghost call = { λ it. NextUp it.x };
+
+    #[inline(always)]
+    fn in_format<S: Flagged>(self, round: Round, answer: &mut Answer) -> u32 {
+        next_up::<IeeeFloat<S>>(self.x, answer);
+        ANSWERED
+    }
+
+    #[inline(always)]
+    fn in_pairs(self, round: Round, answer: &mut Answer) -> u32 {
+        next_up::<DoubleDouble>(self.x, answer);
+        ANSWERED
+    }
+}
+
+/// The greatest value below.
+#[derive(Clone, Copy)]
+pub struct NextDownCall {
+    /// The value.
+    pub x: u128,
+}
+
+impl Operation for NextDownCall {
+    ghost call = { λ it. NextDown it.x };
+
+    #[inline(always)]
+    fn in_format<S: Flagged>(self, round: Round, answer: &mut Answer) -> u32 {
+        next_down::<IeeeFloat<S>>(self.x, answer);
+        ANSWERED
+    }
+
+    #[inline(always)]
+    fn in_pairs(self, round: Round, answer: &mut Answer) -> u32 {
+        next_down::<DoubleDouble>(self.x, answer);
+        ANSWERED
+    }
+}
+
+/// The order of two values.
+#[derive(Clone, Copy)]
+pub struct ComparisonCall {
+    /// The first value.
+    pub x: u128,
+    /// The second value.
+    pub y: u128,
+}
+
+impl Operation for ComparisonCall {
+    ghost call = { λ it. Comparison it.x it.y };
+
+    #[inline(always)]
+    fn in_format<S: Flagged>(self, round: Round, answer: &mut Answer) -> u32 {
+        comparison::<IeeeFloat<S>>(self.x, self.y, answer);
+        ANSWERED
+    }
+
+    #[inline(always)]
+    fn in_pairs(self, round: Round, answer: &mut Answer) -> u32 {
+        comparison::<DoubleDouble>(self.x, self.y, answer);
+        ANSWERED
+    }
+}
+
+/// The class of a value.
+#[derive(Clone, Copy)]
+pub struct ClassCall {
+    /// The value.
+    pub x: u128,
+}
+
+impl Operation for ClassCall {
+    ghost call = { λ it. Class it.x };
+
+    #[inline(always)]
+    fn in_format<S: Flagged>(self, round: Round, answer: &mut Answer) -> u32 {
+        class::<IeeeFloat<S>>(self.x, answer);
+        ANSWERED
+    }
+
+    #[inline(always)]
+    fn in_pairs(self, round: Round, answer: &mut Answer) -> u32 {
+        class::<DoubleDouble>(self.x, answer);
+        ANSWERED
+    }
+}
+
+/// The value in another kind.
+#[derive(Clone, Copy)]
+pub struct ConversionCall {
+    /// The value.
+    pub x: u128,
+    /// The code of the kind.
+    pub to: u32,
+}
+
+impl Operation for ConversionCall {
+    ghost call = { λ it. Conversion it.x (flagged_kind_coded it.to) };
+
+    #[inline(always)]
+    fn in_format<S: Flagged>(self, round: Round, answer: &mut Answer) -> u32 {
+        converted::<S>(round, self.x, FlaggedKind::coded(self.to), answer)
+    }
+
+    #[inline(always)]
+    fn in_pairs(self, round: Round, answer: &mut Answer) -> u32 {
+        match FlaggedKind::coded(self.to) {
+            None => UNKNOWN_FORMAT,
+            Some(_) => NO_SUCH_OPERATION,
+        }
+    }
+}
+
+/// The value of a text.
+#[derive(Clone, Copy)]
+pub struct TextCall<'a> {
+    /// The text.
+    pub text: &'a [u8],
+}
+
+impl Operation for TextCall<'_> {
+    ghost call = { λ it. Text it.text };
+
+    #[inline(always)]
+    fn in_format<S: Flagged>(self, round: Round, answer: &mut Answer) -> u32 {
+        read::<IeeeFloat<S>>(round, self.text, answer)
+    }
+
+    #[inline(always)]
+    fn in_pairs(self, round: Round, answer: &mut Answer) -> u32 {
+        read::<DoubleDouble>(round, self.text, answer)
+    }
+}
