@@ -299,11 +299,12 @@ pub fn converted<S: Flagged>(
 }
 
 /// The conversion of a value of the format `S`.
-#[derive_where(Clone, Copy)]
+#[derive(Drop)]
 struct ConversionFrom<S: Flagged> {
     source: PhantomData<S>,
     round: Round,
     x: u128,
+    ghost has_bits: { S.PRECISION < S.BITS },
 }
 
 impl<S: Flagged> FillsInFormat for ConversionFrom<S> {
@@ -323,7 +324,8 @@ impl<S: Flagged> FillsInFormat for ConversionFrom<S> {
 /// A value of the format `S` in the format `T`.
 #[inline(never)]
 fn converted_to<S: Flagged, T: Flagged>(round: Round, x: u128, answer: &mut Answer)
-    requires { T.PRECISION < T.BITS }
+    requires source { S.PRECISION < S.BITS }
+    requires target { T.PRECISION < T.BITS }
     ensures { let c = constants_of S.Flagged in
         IsConvertedInto c round (value_of c x) (of_format (constants_of T.Flagged)) answer.new }
 {

@@ -10,6 +10,6 @@ returns g c = record {
   given = c.sub_r.result;
   holds = subst₂
       (λ x y. IsOfTwo (in_format (constants_of g.S.Flagged)) Difference c.args.round x y c.sub_r.result)
-      c.from_bits-x.ensures.read c.from_bits-y.ensures.read c.sub_r.ensures;
+      c.from_bits-x.ensures.read c.from_bits-y.ensures.read c.sub_r.ensures.difference;
   is_written = c.written.ensures;
 }

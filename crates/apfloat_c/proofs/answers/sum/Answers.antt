@@ -10,6 +10,6 @@ returns g c = record {
   given = c.add_r.result;
   holds = subst₂
       (λ x y. IsOfTwo (in_format (constants_of g.S.Flagged)) Sum c.args.round x y c.add_r.result)
-      c.from_bits-x.ensures.read c.from_bits-y.ensures.read c.add_r.ensures;
+      c.from_bits-x.ensures.read c.from_bits-y.ensures.read c.add_r.ensures.sum;
   is_written = c.written.ensures;
 }
