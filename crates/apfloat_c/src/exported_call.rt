@@ -1,4 +1,4 @@
-//! What can be asked of a kind of values.
+//! What can be asked of a kind of values, as the contracts of calls name it.
 
 use dispatch::{Arithmetic, FlaggedKind};
 
