@@ -2,13 +2,11 @@
 use Rattle.std.specs.Prelude.{ℕ, ◌/◌, ◌%◌, ◌==◌, nat_le, Bool, true, false, ◌&&◌, if◌then◌else◌, Option, Some, None, ok_or, option_and_then, Result, Ok, Err}
 use Rattle.rustc_apfloat.specs.declared.Round.{Round}
 use Rattle.dispatch.specs.declared.Arithmetic.TheVariants.{Sum, Difference, Product, Quotient, NearestRemainder, TruncatedRemainder}
-use Rattle.dispatch.specs.declared.FlaggedFormat.{FlaggedFormat}
 use Rattle.dispatch.specs.declared.FlaggedKind.{FlaggedKind}
 use Rattle.dispatch.specs.declared.FlaggedKind.TheVariants.{OfFormat, Pairs}
 use Rattle.dispatch.specs.FlaggedKinds.{format_without_rule}
 use Rattle.dispatch.specs.Modes.{mode_coded}
 use Rattle.value_blocks.specs.declared.ArrayConversion.{ArrayConversion}
-use Rattle.value_blocks.specs.declared.Overflow.{Overflow}
 use Rattle.value_blocks.specs.declared.Overflow.TheVariants.{Rounded, Saturated}
 use Rattle.value_blocks.specs.declared.Extended.TheVariants.{Packed}
 use Rattle.value_blocks.specs.Widths.{array_widths, width_of}

@@ -1,8 +1,7 @@
 -- What calls on arrays leave.
-use Rattle.std.specs.Prelude.{◌≡◌, ℕ, ◌+◌, ◌-◌, ◌*◌, ◌/◌, ◌^◌, ◌<◌, ◌==◌, bit_and, Bool, true, false, not, if◌then◌else◌, List, length, take, drop, count_by, Result, Ok, Err}
+use Rattle.std.specs.Prelude.{◌≡◌, ℕ, ◌+◌, ◌-◌, ◌*◌, ◌/◌, ◌^◌, ◌<◌, ◌==◌, bit_and, Bool, not, if◌then◌else◌, List, length, take, drop, count_by, Result, Ok, Err}
 use Rattle.rustc_apfloat.specs.Classes.{is_nan, is_nan_category}
 use Rattle.rustc_apfloat.specs.Pairs.{pair_category, pair_of}
-use Rattle.rustc_apfloat.specs.declared.Round.{Round}
 use Rattle.dispatch.specs.BuiltIns.{constants_in}
 use Rattle.dispatch.specs.FlaggedKinds.{flagged_constants, flagged_kind_of}
 use Rattle.dispatch.specs.ValueKinds.{Kind, of_format, of_pairs, value_of}
