@@ -8,9 +8,10 @@ ghost use Rattle.apfloat_ieee.specs.FlaggedTypes.{format_of};
 
 use crate::flagged::Flagged;
 use crate::ieee_float::{IeeeFloat, shape_of};
+use crate::products::product;
 use apfloat_arithmetic::wide_fused::wide_multiply_add;
-use apfloat_arithmetic::wide_products::wide_multiply;
-use apfloat_base::{FUSED_LIMIT, Round, StatusAnd};
+use apfloat_arithmetic::wide_products::multiply_long;
+use apfloat_base::{FUSED_LIMIT, PRODUCT_LIMIT, Round, StatusAnd};
 
 impl<S: Flagged> IeeeFloat<S> {
     /// The product with `rhs`, rounded once (IEEE 754-2008 5.4.1, multiplication), in a format of any precision.
@@ -20,7 +21,10 @@ impl<S: Flagged> IeeeFloat<S> {
     pub fn wide_mul_r(self, rhs: Self, round: Round) -> StatusAnd<Self>
         ensures { Gives (IsProduct (format_of S.Flagged) round self rhs) result }
     {
-        IeeeFloat::answered(wide_multiply(shape_of::<S>(), self.unpacked(), rhs.unpacked(), round))
+        if S::PRECISION <= PRODUCT_LIMIT {
+            return product(self, rhs, round);
+        }
+        IeeeFloat::answered(multiply_long(shape_of::<S>(), self.unpacked(), rhs.unpacked(), round))
     }
 
     /// The product with `rhs`, rounded once to the nearest value, ties to even, in a format of any precision.
