@@ -25,7 +25,8 @@ pub quotient_fits : (q n d precision : ℕ) → 0 < d → 0 < precision → prec
 quotient_fits q n d precision p s t f l e =
     let h : 2 * 2 ^ (precision - 1) ≡ 2 ^ precision = twice_half precision s in
     let g : n < 2 * d = omega (arith, f, l, h) in
-    let a : n * 2 ^ (precision + 2) < 2 * d * 2 ^ (precision + 2) = mul-lt-mul_of_pos_right g (pow_pos (precision + 2)) in
+    let a : n * 2 ^ (precision + 2) < 2 * d * 2 ^ (precision + 2) =
+    mul-lt-mul_of_pos_right g (pow_pos (precision + 2)) in
     let w : 2 ^ (precision + 3) ≡ 2 ^ (precision + 2) * 2 =
     let v : precision + 3 ≡ (precision + 2) + 1 = omega arith in
     ap (λ (x : ℕ). 2 ^ x) v ∙ pow-add 2 (precision + 2) 1 in

@@ -55,8 +55,8 @@ fn short_quotient_of(precision: u32, dividend: u128, divisor: u128) -> Quotient
     }
 }
 
-/// The quotient of two nonzero numbers with few digits, rounded once. Two places more than the precision always give two
-/// digits more than the format has.
+/// The quotient of two nonzero numbers with few digits, rounded once. Two places more than the precision always give
+/// two digits more than the format has.
 #[inline(always)]
 fn divide_short_numbers(shape: Shape, x: Unpacked, y: Unpacked, round: Round) -> StatusAnd<Unpacked>
     requires short { shape.precision ≤ 59 }

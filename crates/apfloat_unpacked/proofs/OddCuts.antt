@@ -143,7 +143,8 @@ top_cut_full precision s digits top place rest half up down i =
 
 -- the cut in units of the significand
 top_stands : (precision s digits top place rest half up down amount unit : ℕ)
-    → IsTopSplit precision s digits top place rest half up down → 0 < unit → IsRoundedToOdd (2 ^ (precision + 1)) s amount unit
+    → IsTopSplit precision s digits top place rest half up down → 0 < unit
+    → IsRoundedToOdd (2 ^ (precision + 1)) s amount unit
     → StandsFor (top / 2 ^ (64 - precision)) (loss_at rest half) (amount * 2 ^ (64 - digits))
     (2 ^ (64 - precision) * unit)
 top_stands precision s digits top place rest half up down amount unit i u h =
@@ -225,7 +226,10 @@ pub exact_below : (s digits precision amount : ℕ) (unit : ℤ) → precision �
     → IsRoundedToOdd (2 ^ (precision + 1)) s (amount * 2 ^ down unit) (1 * 2 ^ up unit)
     → StandsFor s ExactlyZero (amount * 2 ^ down unit) (1 * 2 ^ up unit)
 exact_below s digits precision amount unit l d (inl e) = e
-exact_below s digits precision amount unit l (inl z) (inr o) = let m = o.long in let k = pow_pos (precision + 1) in absurd (omega (arith, m, z, k))
+exact_below s digits precision amount unit l (inl z) (inr o) =
+    let m = o.long in
+    let k = pow_pos (precision + 1) in
+    absurd (omega (arith, m, z, k))
 exact_below s digits precision amount unit l (inr d) (inr o) =
     let f = d.0 in
     let g = d.1 in

@@ -1,5 +1,5 @@
-//! Lines of other programs' files: those of Berkeley TestFloat and of IBM's FPgen. A line is read as a call in the words
-//! of a row, with the result and the flags that it states. For the functions here only safety is proved.
+//! Lines of other programs' files: those of Berkeley TestFloat and of IBM's FPgen. A line is read as a call in the
+//! words of a row, with the result and the flags that it states. For the functions here only safety is proved.
 #![tactic(auto)]
 
 mod columns;

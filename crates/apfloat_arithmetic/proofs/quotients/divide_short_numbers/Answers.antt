@@ -43,8 +43,8 @@ pub overflow_cast-quotient : goal.overflow_cast-quotient
 overflow_cast-quotient c =
     let s = c.args.shape in
     let t = c.args.shape.parameters.precision_low in
-    let f = quotient_fits c.short_quotient_of-quotient.result.whole c.args.x.significand c.args.y.significand s.precision
-    (normal_some s c.args.y.significand c.args.y.exponent c.requires.right) (omega arith) c.requires.short
+    let f = quotient_fits c.short_quotient_of-quotient.result.whole c.args.x.significand c.args.y.significand
+    s.precision (normal_some s c.args.y.significand c.args.y.exponent c.requires.right) (omega arith) c.requires.short
     c.requires.left.operand.fits c.requires.right.operand.full c.short_quotient_of-quotient.ensures.quotient in
     record { fits = omega (arith, f) }
 

@@ -75,4 +75,5 @@ returns-clause-delivered c =
     c.sign_of_odd_total-negative.ensures.other in
     subst (λ (b : Bool). IsDelivered (format_at c.args.shape) c.args.round b (magnitude exact) 1
     (datum_at c.args.shape c.deliver_odd.result.value) (bits_of c.deliver_odd.result.status)) e
-    (d (magnitude exact) (to_odd_least (2 ^ 60) (2 ^ (c.args.shape.precision + 1)) total.significand _ _ least r.rounded))
+    (d (magnitude exact)
+    (to_odd_least (2 ^ 60) (2 ^ (c.args.shape.precision + 1)) total.significand _ _ least r.rounded))

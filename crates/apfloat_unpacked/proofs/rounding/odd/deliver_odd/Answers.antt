@@ -21,7 +21,8 @@ returns-then-unit-digits-clause-delivered c = λ amount h.
     let h' : IsRoundedToOdd (2 ^ (c.args.shape.precision + 1)) c.args.significand
     (amount * 2 ^ down (to_z w32 (of_z w32 c.unit_place-unit.result)))
     (1 * 2 ^ up (to_z w32 (of_z w32 c.unit_place-unit.result))) =
-    subst (λ (x : ℤ). IsRoundedToOdd (2 ^ (c.args.shape.precision + 1)) c.args.significand (amount * 2 ^ down x) (1 * 2 ^ up x))
+    subst (λ (x : ℤ). IsRoundedToOdd (2 ^ (c.args.shape.precision + 1)) c.args.significand (amount * 2 ^ down x)
+    (1 * 2 ^ up x))
     (sym v ∙ sym w) h in
     c.round_cut.ensures.delivered amount 1 (omega arith) (c.cut_odd-cut.ensures.cut amount 1 (omega arith) h')
 
@@ -54,7 +55,8 @@ returns-clause-delivered c = λ amount h.
           inl (omega (arith, k))
     ] in
     let h' : IsRoundedToOdd (2 ^ (c.args.shape.precision + 1)) c.args.significand (amount * 2 ^ down u) (1 * 2 ^ up u) =
-    subst (λ (x : ℤ). IsRoundedToOdd (2 ^ (c.args.shape.precision + 1)) c.args.significand (amount * 2 ^ down x) (1 * 2 ^ up x)) (sym v) h in
+    subst (λ (x : ℤ). IsRoundedToOdd (2 ^ (c.args.shape.precision + 1)) c.args.significand (amount * 2 ^ down x)
+    (1 * 2 ^ up x)) (sym v) h in
     let g : StandsFor c.args.significand ExactlyZero (amount * 2 ^ down u) (1 * 2 ^ up u) =
     exact_below c.args.significand c.digits-digits.result c.args.shape.precision amount u c.requires.short d h' in
     let r = rw (e, c.from-2.ensures) at c.deliver_apart.ensures.delivered in
