@@ -15,7 +15,8 @@ use crate::classes::are_normal;
 use crate::exact::{exact_infinity, exact_zero};
 use crate::products::product_sign;
 use apfloat_base::sig::{
-    Quotient, SHORT_LIMIT, divide_by_words, divide_short_by_words, divide_word,
+    NEAR_LIMIT, Quotient, SHORT_LIMIT, divide_by_words, divide_short_by_guess, divide_word,
+    divide_word_by_guess, guess_quotient,
 };
 use apfloat_base::{Category, ExpInt, Round, Status, StatusAnd};
 use apfloat_unpacked::nans::{invalid, propagated, propagated_left};
@@ -37,7 +38,8 @@ fn quotient_exponent(left: ExpInt, right: ExpInt, places: u32) -> ExpInt
     left - right - places as ExpInt
 }
 
-/// The quotient of two significands of few digits, with two places more, by the faster division that has room.
+/// The quotient of two significands of few digits, with two places more: by a machine division of 32 digits if they
+/// suffice, and by a guess otherwise.
 #[inline(always)]
 fn short_quotient_of(precision: u32, dividend: u128, divisor: u128) -> Quotient
     requires some { 0 < precision }
@@ -48,10 +50,17 @@ fn short_quotient_of(precision: u32, dividend: u128, divisor: u128) -> Quotient
     ensures quotient { result.whole ≡ dividend * 2 ^ (precision + 2) / divisor }
     ensures stands { StandsFor result.whole result.loss (dividend * 2 ^ (precision + 2)) divisor }
 {
-    if precision <= 31 {
-        divide_word(dividend as u64, divisor as u64, precision + 2)
+    let dividend = dividend as u64;
+    let divisor = divisor as u64;
+    let places = precision + 2;
+    if precision <= 15 {
+        return divide_word(dividend, divisor, places);
+    }
+    let guess = guess_quotient(precision, dividend, divisor);
+    if precision <= NEAR_LIMIT {
+        divide_word_by_guess(guess, dividend, divisor, places)
     } else {
-        divide_short_by_words(dividend as u64, divisor as u64, precision + 2)
+        divide_short_by_guess(guess, dividend, divisor, places)
     }
 }
 
