@@ -1,4 +1,4 @@
-use Rattle.std.proofs.Common.{◌≡◌, ℕ, ◌+◌, ◌-◌, ◌*◌, ◌/◌, ◌%◌, ◌^◌, ◌<◌, ◌≤◌, arith}
+use Rattle.std.proofs.Common.{◌≡◌, ◌+◌, ◌-◌, ◌*◌, ◌/◌, ◌^◌, ◌<◌, ◌≤◌, arith}
 use Rattle.std.proofs.Math.Nat.{mod-eq_of_lt, le-div_iff_mul-le}
 use Rattle.std.proofs.lemmas.Nat.{pow_pos}
 use Rattle.apfloat_base.proofs.rounding.KeptDigits.{fits_shifted, full_shifted}
