@@ -4,7 +4,8 @@ ghost use Rattle.std.specs.Prelude.{◌*◌, ◌^◌, ◌<◌, ◌≤◌};
 
 use crate::asserts::same;
 use apfloat_base::sig::{
-    divide, divide_by_words, divide_short, divide_short_by_words, moved_rest, short_moved_rest,
+    divide, divide_by_words, divide_short, divide_short_by_guess, divide_short_by_words, moved_rest,
+    short_moved_rest,
 };
 
 /// Whether the division by words returns what the division by single digits does.
@@ -46,6 +47,34 @@ fn short_agree(dividend: u64, divisor: u64, places: u32) -> bool
     let words = divide_short_by_words(dividend, divisor, places);
     let single = divide_short(dividend, divisor, places);
     words.whole == single.whole && words.loss == single.loss
+}
+
+/// Whether the division by a guess at that distance from the quotient returns what the division by single digits does.
+fn guess_agrees(distance: u64, dividend: u64, divisor: u64, places: u32) -> bool
+    requires some { 0 < divisor }
+    requires narrow { divisor < 2 ^ 62 }
+    requires close { dividend < 2 * divisor }
+    requires short { places ≤ 61 }
+{
+    let single = divide_short(dividend, divisor, places);
+    let guess = (single.whole as u64).wrapping_add(distance);
+    let guessed = divide_short_by_guess(guess, dividend, divisor, places);
+    guessed.whole == single.whole && guessed.loss == single.loss
+}
+
+/// Whether guesses agree that are right, or too great or too small by 1, 2 and much.
+fn guesses_agree(dividend: u64, divisor: u64, places: u32) -> bool
+    requires some { 0 < divisor }
+    requires narrow { divisor < 2 ^ 62 }
+    requires close { dividend < 2 * divisor }
+    requires short { places ≤ 61 }
+{
+    guess_agrees(0, dividend, divisor, places)
+        && guess_agrees(1, dividend, divisor, places)
+        && guess_agrees(2, dividend, divisor, places)
+        && guess_agrees(1 << 63, dividend, divisor, places)
+        && guess_agrees(0u64.wrapping_sub(1), dividend, divisor, places)
+        && guess_agrees(0u64.wrapping_sub(2), dividend, divisor, places)
 }
 
 /// The rest after `places` doublings, one at a time, and whether the whole quotient is odd.
@@ -149,6 +178,20 @@ fn short_words_and_single_digits_agree(rt: HostRuntime) {
             short_agree((1 << 62) - 1, (1 << 61) + 1, places),
         ];
         same(&rt, agreeing, [true; 6], places);
+    }
+}
+
+#[test]
+fn guesses_and_single_digits_agree(rt: HostRuntime) {
+    for places in 0..62 {
+        let agreeing = [
+            guesses_agree(1, 1, places),
+            guesses_agree(5, 3, places),
+            guesses_agree((1 << 53) - 1, 1 << 52, places),
+            guesses_agree(1 << 52, (1 << 53) - 1, places),
+            guesses_agree((1 << 62) - 2, (1 << 62) - 1, places),
+        ];
+        same(&rt, agreeing, [true; 5], places);
     }
 }
 
