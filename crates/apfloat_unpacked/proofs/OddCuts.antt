@@ -215,7 +215,7 @@ top_cut_encloses precision s digits top place rest half up down amount parts i p
 -- ---- below the last place
 
 -- an integer that is not positive has no positive part
-no_up : (z : ℤ) → z ≤ℤ pos 0 → up z ≡ 0
+pub no_up : (z : ℤ) → z ≤ℤ pos 0 → up z ≡ 0
 no_up (pos zero) h = refl
 no_up (pos (suc n)) h = absurd (omega (arith, ints, h))
 no_up (negsuc n) h = refl

@@ -3,7 +3,7 @@ use Rattle.apfloat_base.specs.declared.sig.loss.Loss.TheVariants.{ExactlyZero}
 use Rattle.apfloat_base.specs.rounding.Standing.{StandsFor}
 use Rattle.apfloat_base.proofs.rounding.Losses.{cut_at}
 use Rattle.apfloat_unpacked.proofs.CutRests.{rest_below}
-use Rattle.apfloat_conversions.proofs.Wholes.{word_quotient, word_stands}
+use Rattle.apfloat_unpacked.proofs.QuantumCuts.{word_quotient, word_stands}
 use Rattle.apfloat_conversions.proofs.whole.shift_word.Goals as goal
 
 pub loss_of_rest-requires : goal.loss_of_rest-requires
