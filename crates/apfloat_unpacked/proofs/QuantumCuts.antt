@@ -1,5 +1,6 @@
 -- A significand of one word that is cut where no more than a half may be left of it: at the quantum, or at a dot.
-use Rattle.std.proofs.Common.{◌≡◌, ℕ, ◌+◌, ◌-◌, ◌*◌, ◌/◌, ◌%◌, ◌^◌, ◌<◌, ◌≤◌, Bool, true, false, cond, eqb, sym, refl, ap, ◌∙◌, subst, inl, ⊎_elim, arith}
+use Rattle.std.proofs.Common.{◌≡◌, ℕ, ◌+◌, ◌-◌, ◌*◌, ◌/◌, ◌%◌, ◌^◌, ◌<◌, ◌≤◌, Bool, true, false, cond, eqb, sym, refl, ap, ◌∙◌, subst, inl, inr, ⊎_elim, arith}
+use Rattle.std.proofs.Math.Path.{subst₂}
 use Rattle.std.proofs.Math.Nat.{div-eq_of_lt, mul-le-mul_right, mul-lt-mul_of_pos_right, mul-pos, pow-le-pow_right, div-add-mod'}
 use Rattle.std.proofs.lemmas.Nat.{pow-add, pow_pos, mod_below, mod-mul-add}
 use Rattle.std.proofs.lemmas.Bool.{cases_lt, le-ltb}
@@ -10,34 +11,39 @@ use Rattle.apfloat_base.specs.formats.Format.{Format, largest}
 use Rattle.apfloat_base.specs.formats.Datum.{Datum}
 use Rattle.apfloat_base.specs.rounding.Enclosure.{IsEnclosed, rounds_up}
 use Rattle.apfloat_base.specs.rounding.Rounding.{IsDelivered, is_tiny, signed_quanta, ok_bits, underflow_bit, inexact_bit}
+use Rattle.apfloat_base.specs.rounding.RoundingToOdd.{IsRoundedToOdd}
 use Rattle.apfloat_base.specs.rounding.Standing.{StandsFor}
 use Rattle.apfloat_base.proofs.formats.Ranges.{half_within}
-use Rattle.apfloat_base.proofs.general.Powers.{two_pos}
+use Rattle.apfloat_base.proofs.general.Powers.{two_pos, exponent_below, pow3}
 use Rattle.apfloat_base.proofs.rounding.Deliveries.{delivered_exactly, delivered_inexactly, exact_if, inexact_if}
-use Rattle.apfloat_base.proofs.rounding.KeptDigits.{kept_stands, fits_cut, enclosed_from}
+use Rattle.apfloat_base.proofs.rounding.KeptDigits.{kept_stands, stands_cancel, fits_cut, enclosed_from}
 use Rattle.apfloat_base.proofs.rounding.Losses.{cut_at}
+use Rattle.apfloat_base.proofs.rounding.OddRoundings.{to_odd_cancel, to_odd_times}
 use Rattle.apfloat_unpacked.specs.Cuts.{loss_at}
+use Rattle.apfloat_unpacked.proofs.OddCuts.{odd_rest}
 use Rattle.apfloat_unpacked.proofs.CutRests.{folded, loss_some, loss_zero, picked_if_moved, rest_below, rest_stands}
 
 -- ---- farther places
 
--- what is left of a significand below half of the unit at one place is below half of those at higher places
-pub stands_farther : (s k places amount unit : ℕ) (loss : Loss) → 2 * s < 2 ^ k → k ≤ places → 0 < unit
-    → amount ≡ s * unit → StandsFor 0 loss amount (2 ^ k * unit) → StandsFor 0 loss amount (2 ^ places * unit)
-stands_farther s k places amount unit ExactlyZero l p u e h = omega (arith, h)
-stands_farther s k places amount unit LessThanHalf l p u e h =
+-- an amount below half of the unit at one place is below half of those at higher places
+pub stands_farther : (k places amount unit : ℕ) (loss : Loss) → k ≤ places → 2 * amount < 2 ^ k * unit
+    → StandsFor 0 loss amount (2 ^ k * unit) → StandsFor 0 loss amount (2 ^ places * unit)
+stands_farther k places amount unit ExactlyZero p e h = omega (arith, h)
+stands_farther k places amount unit LessThanHalf p e h =
     let a : 2 ^ k ≤ 2 ^ places = pow-le-pow_right two_pos p in
     let b : 2 ^ k * unit ≤ 2 ^ places * unit = mul-le-mul_right unit a in
     let f = h.0 in
     let g = h.1 in
     (omega (arith, f), omega (arith, g, b))
-stands_farther s k places amount unit ExactlyHalf l p u e h =
+stands_farther k places amount unit ExactlyHalf p e h = absurd (omega (arith, h, e))
+stands_farther k places amount unit MoreThanHalf p e h = let f = h.0 in absurd (omega (arith, f, e))
+
+-- as that of a short significand is
+pub less_than_half : (s k amount unit : ℕ) → 2 * s < 2 ^ k → 0 < unit → amount ≡ s * unit
+    → 2 * amount < 2 ^ k * unit
+less_than_half s k amount unit l u e =
     let a : (2 * s + 1) * unit ≤ 2 ^ k * unit = mul-le-mul_right unit (omega (arith, l)) in
-    absurd (omega (arith, h, a, e, u))
-stands_farther s k places amount unit MoreThanHalf l p u e h =
-    let a : (2 * s + 1) * unit ≤ 2 ^ k * unit = mul-le-mul_right unit (omega (arith, l)) in
-    let f = h.0 in
-    absurd (omega (arith, f, a, e, u))
+    omega (arith, a, e, u)
 
 -- nothing of the significand is left there, or farther
 pub nothing_left : (s k places : ℕ) → s < 2 ^ k → k ≤ places → s / 2 ^ places ≡ 0
@@ -58,10 +64,10 @@ word_quotient s k places shift l n f =
     (cases_lt k places)
 
 pub word_stands : (s k places shift amount unit : ℕ) (loss : Loss) → 2 * s < 2 ^ k → (places ≤ k → shift ≡ places)
-    → (k < places → shift ≡ k) → 0 < unit → StandsFor s ExactlyZero amount unit
+    → (k < places → shift ≡ k) → 2 * amount < 2 ^ k * unit
     → StandsFor (s / 2 ^ shift) loss amount (2 ^ shift * unit)
     → StandsFor (s / 2 ^ shift) loss amount (2 ^ places * unit)
-word_stands s k places shift amount unit loss l n f u e h =
+word_stands s k places shift amount unit loss l n f e h =
     ⊎_elim
     (λ (a : k < places).
     let b : s < 2 ^ k = omega (arith, l) in
@@ -70,7 +76,7 @@ word_stands s k places shift amount unit loss l n f u e h =
     subst (λ (x : ℕ). StandsFor 0 loss amount (2 ^ x * unit)) (f a)
     (subst (λ (q : ℕ). StandsFor q loss amount (2 ^ shift * unit)) z h) in
     subst (λ (q : ℕ). StandsFor q loss amount (2 ^ places * unit)) (sym z)
-    (stands_farther s k places amount unit loss l (omega (arith, a)) u e g))
+    (stands_farther k places amount unit loss (omega (arith, a)) e g))
     (λ (a : places ≤ k). subst (λ (x : ℕ). StandsFor (s / 2 ^ shift) loss amount (2 ^ x * unit)) (n a) h)
     (cases_lt k places)
 
@@ -143,35 +149,111 @@ top_loss s shift half p l h =
     ∙ ap (λ (x : ℕ). loss_at (s % 2 ^ shift * k) x) w
     ∙ loss_scaled (s % 2 ^ shift) (2 ^ (shift - 1)) k (pow_pos (64 - shift))
 
--- what is kept stands for the amount in quanta
-pub quantum_stands : (precision s digits places shift half up down amount parts : ℕ)
-    → IsQuantumCut precision s digits places shift half → 0 < parts → up ≡ 0 → down ≡ places
-    → StandsFor s ExactlyZero (amount * 2 ^ down) (parts * 2 ^ up)
-    → StandsFor (s / 2 ^ shift) (loss_at (s * 2 ^ (64 - shift) % 2 ^ 64) half) amount (2 ^ 0 * parts)
-quantum_stands precision s digits places shift half up down amount parts i p u d h =
+-- the cut of an odd significand, in its units
+odd_stands : (s shift half amount unit : ℕ) → 2 ≤ shift → shift ≤ 63 → half ≡ 2 ^ 63 → s % 2 ≡ 1
+    → s * unit < amount + unit → amount < (s + 1) * unit
+    → StandsFor (s / 2 ^ shift) (loss_at (s * 2 ^ (64 - shift) % 2 ^ 64) half) amount (2 ^ shift * unit)
+odd_stands s shift half amount unit p l h o a b =
+    let w = 2 ^ (64 - shift) in
+    let g = 2 ^ (shift - 2) in
+    let q = s / 2 ^ shift in
+    let rest = s * 2 ^ (64 - shift) % 2 ^ 64 in
+    let e : 63 ≡ 1 + (shift - 2) + (64 - shift) = omega (arith, p, l) in
+    let c : half ≡ 2 * g * w = h ∙ ap (λ (x : ℕ). 2 ^ x) e ∙ pow3 1 (shift - 2) (64 - shift) in
+    let e' : 64 ≡ shift + (64 - shift) = omega (arith, l) in
+    let c' : 2 ^ 64 ≡ 2 ^ shift * w = ap (λ (x : ℕ). 2 ^ x) e' ∙ pow-add 2 shift (64 - shift) in
+    let t : 2 * (2 * g * w) ≡ 2 ^ shift * w = omega (arith, c, c', h) in
+    let r = top_rest s shift 64 (omega (arith, l)) in
+    let d : q * 2 ^ shift + s % 2 ^ shift ≡ s = div-add-mod' s (2 ^ shift) in
+    let d' : (q * 2 ^ shift + s % 2 ^ shift) * w ≡ s * w = ap (λ (x : ℕ). x * w) d in
+    let t' : q * (2 * (2 * g * w)) ≡ q * (2 ^ shift * w) = ap (λ (x : ℕ). q * x) t in
+    let v : s * w ≡ q * (2 * (2 * g * w)) + rest = omega (arith, d', t', r) in
+    let m : rest < 2 ^ 64 = mod_below (s * w) (2 ^ 64) (pow_pos 64) in
+    let k = odd_rest q g s rest amount unit w (pow_pos (64 - shift)) o v (omega (arith, m, c', t)) a b in
+    let t'' : 2 * (2 * g * w) * unit ≡ 2 ^ shift * unit * w =
+    ap (λ (x : ℕ). x * unit) t ∙ omega arith in
+    subst (λ (x : ℕ). StandsFor q (loss_at rest x) amount (2 ^ shift * unit)) (sym c)
+    (stands_cancel q (loss_at rest (2 * g * w)) amount (2 ^ shift * unit) w (pow_pos (64 - shift))
+    (subst (λ (x : ℕ). StandsFor q (loss_at rest (2 * g * w)) (amount * w) x) t'' k))
+
+-- what is kept, and the cut of a significand that was rounded to odd, in its units
+rounded_stands : (precision s digits places shift half amount unit : ℕ)
+    → IsQuantumCut precision s digits places shift half → 0 < unit
+    → IsRoundedToOdd (2 ^ (precision + 1)) s amount unit
+    → (2 * amount < 2 ^ 63 * unit)
+    × StandsFor (s / 2 ^ shift) (loss_at (s * 2 ^ (64 - shift) % 2 ^ 64) half) amount (2 ^ shift * unit)
+rounded_stands precision s digits places shift half amount unit i u (inl e) =
     let rest = s % 2 ^ shift in
     let below = 2 ^ (shift - 1) in
     let loss = loss_at (s % 2 ^ shift) (2 ^ (shift - 1)) in
-    let o : 0 < parts * 2 ^ up = mul-pos p (pow_pos up) in
-    let b : rest < 2 * below = rest_below s shift below rest i.cuts refl refl in
-    let c = cut_at s shift below rest ExactlyZero loss i.cuts refl refl
-    (λ q a v z g. rest_stands q below rest a v z b g) (amount * 2 ^ down) (parts * 2 ^ up) o h in
+    let b : rest < 2 * below = rest_below s shift below rest i.cuts refl refl in (
+      less_than_half s 63 amount unit (half_word s digits i.short i.fits) u e,
+      subst (λ (x : Loss). StandsFor (s / 2 ^ shift) x amount (2 ^ shift * unit))
+          (sym (top_loss s shift half i.cuts i.bound i.half_is))
+          (cut_at s shift below rest ExactlyZero loss i.cuts refl refl
+          (λ q a v z g. rest_stands q below rest a v z b g) amount unit u e),
+    )
+rounded_stands precision s digits places shift half amount unit i u (inr o) =
+    let f = i.fits in
+    let m = o.long in
+    let w = i.below in
+    let n = i.near in
+    let r = i.far in
+    let k : 2 ^ (precision + 1) < 2 ^ digits = omega (arith, f, m) in
+    let p : precision + 1 < digits = exponent_below (precision + 1) digits k in
+    let c : 2 ≤ shift =
+    ⊎_elim
+    (λ (a : 63 < places). omega (arith, r a))
+    (λ (a : places ≤ 63). omega (arith, n a, w, p))
+    (cases_lt 63 places) in
+    let h : 2 * s < 2 ^ 63 = half_word s digits i.short i.fits in
+    let h' : (2 * s + 2) * unit ≤ 2 ^ 63 * unit = mul-le-mul_right unit (omega (arith, h)) in
+    let b = o.below in (
+      omega (arith, b, h'),
+      odd_stands s shift half amount unit c i.bound i.half_is o.odd o.above o.below,
+    )
+
+-- what is kept stands for the amount in quanta
+pub quantum_stands : (precision s digits places shift half up down amount parts : ℕ)
+    → IsQuantumCut precision s digits places shift half → 0 < parts → up ≡ 0 → down ≡ places
+    → IsRoundedToOdd (2 ^ (precision + 1)) s (amount * 2 ^ down) (parts * 2 ^ up)
+    → StandsFor (s / 2 ^ shift) (loss_at (s * 2 ^ (64 - shift) % 2 ^ 64) half) amount (2 ^ 0 * parts)
+quantum_stands precision s digits places shift half up down amount parts i p u d h =
+    let loss = loss_at (s * 2 ^ (64 - shift) % 2 ^ 64) half in
+    let r = rounded_stands precision s digits places shift half (amount * 2 ^ down) (parts * 2 ^ up) i
+    (mul-pos p (pow_pos up)) h in
     let w = word_stands s 63 places shift (amount * 2 ^ down) (parts * 2 ^ up) loss
-    (half_word s digits i.short i.fits) i.near i.far o h c in
+    (half_word s digits i.short i.fits) i.near i.far r.0 r.1 in
     let e : places + up ≡ 0 + down = omega (arith, u, d) in
-    subst (λ (x : Loss). StandsFor (s / 2 ^ shift) x amount (2 ^ 0 * parts))
-    (sym (top_loss s shift half i.cuts i.bound i.half_is))
-    (kept_stands (s / 2 ^ shift) loss amount parts places up down 0 e w)
+    kept_stands (s / 2 ^ shift) loss amount parts places up down 0 e w
 
 pub quantum_encloses : (precision s digits places shift half up down amount parts : ℕ)
     → IsQuantumCut precision s digits places shift half → 0 < parts → up ≡ 0 → down ≡ places
-    → StandsFor s ExactlyZero (amount * 2 ^ down) (parts * 2 ^ up)
+    → IsRoundedToOdd (2 ^ (precision + 1)) s (amount * 2 ^ down) (parts * 2 ^ up)
     → IsEnclosed precision (2 ^ (precision - 1)) (s / 2 ^ shift) 0 amount parts
 quantum_encloses precision s digits places shift half up down amount parts i p u d h =
     let f = quantum_fits precision s digits places shift half i in
     let a : 2 ^ (precision - 1) ≤ 2 ^ precision = pow-le-pow_right two_pos (omega arith) in
     enclosed_from precision (s / 2 ^ shift) 0 (loss_at (s * 2 ^ (64 - shift) % 2 ^ 64) half) amount parts i.some p
-    (omega (arith, f, a)) (inl refl) (quantum_stands precision s digits places shift half up down amount parts i p u d h)
+    (omega (arith, f, a)) (inl refl)
+    (quantum_stands precision s digits places shift half up down amount parts i p u d h)
+
+-- ---- a significand that is folded into a word
+
+-- the unit of what is left, counted from the quantum
+pub folded_odd : (s least k up down up' down' amount parts : ℕ) → k + up + down' ≡ up' + down
+    → IsRoundedToOdd least s (amount * 2 ^ down) (2 ^ k * (parts * 2 ^ up))
+    → IsRoundedToOdd least s (amount * 2 ^ down') (parts * 2 ^ up')
+folded_odd s least k up down up' down' amount parts e h =
+    let t = to_odd_times least s (amount * 2 ^ down) (2 ^ k * (parts * 2 ^ up)) (2 ^ down') (pow_pos down') h in
+    let a : amount * 2 ^ down * 2 ^ down' ≡ amount * 2 ^ down' * 2 ^ down = omega arith in
+    let p : 2 ^ k * 2 ^ up * 2 ^ down' ≡ 2 ^ up' * 2 ^ down =
+    sym (pow3 k up down') ∙ ap (λ (x : ℕ). 2 ^ x) e ∙ pow-add 2 up' down in
+    let b : 2 ^ k * (parts * 2 ^ up) * 2 ^ down' ≡ parts * (2 ^ k * 2 ^ up * 2 ^ down') = omega arith in
+    let b' : parts * (2 ^ k * 2 ^ up * 2 ^ down') ≡ parts * (2 ^ up' * 2 ^ down) = ap (λ (x : ℕ). parts * x) p in
+    let b'' : parts * (2 ^ up' * 2 ^ down) ≡ parts * 2 ^ up' * 2 ^ down = omega arith in
+    to_odd_cancel least s (amount * 2 ^ down') (parts * 2 ^ up') (2 ^ down) (pow_pos down)
+    (subst₂ (λ (x : ℕ) (y : ℕ). IsRoundedToOdd least s x y) a (b ∙ b' ∙ b'') t)
 
 -- ---- the point that is picked, and its status
 

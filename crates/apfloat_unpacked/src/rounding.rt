@@ -714,7 +714,7 @@ pub fn deliver_digits(
             let cut = cut_digits(shape.precision, given, digits);
             return round_cut(shape, cut, mode, negative);
         }
-        if digits <= 62 {
+        if shape.precision <= 59 {
             return round_denormal(shape, given, digits, mode, negative);
         }
     }

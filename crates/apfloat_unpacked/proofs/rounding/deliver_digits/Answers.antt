@@ -26,9 +26,9 @@ returns-then-unit-digits-clause-delivered c = λ amount parts u h.
     let g = in_quanta (goal.at.returns-then-unit-digits-clause-delivered c).After-unit_place-unit amount parts h in
     c.round_cut.ensures.delivered amount parts u (c.cut_digits-cut.ensures.cut amount parts u g)
 
-pub returns-then-digits-le62-clause-delivered : goal.returns-then-digits-le62-clause-delivered
-returns-then-digits-le62-clause-delivered c = λ amount parts u h.
-    let g = in_quanta (goal.at.returns-then-digits-le62-clause-delivered c).After-unit_place-unit amount parts h in
+pub returns-then-shape-le59-clause-delivered : goal.returns-then-shape-le59-clause-delivered
+returns-then-shape-le59-clause-delivered c = λ amount parts u h.
+    let g = in_quanta (goal.at.returns-then-shape-le59-clause-delivered c).After-unit_place-unit amount parts h in
     c.round_denormal.ensures.delivered amount parts u g
 
 pub returns-clause-delivered : goal.returns-clause-delivered
