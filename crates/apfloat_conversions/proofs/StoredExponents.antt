@@ -1,8 +1,8 @@
 -- A stored number and its exponent, in the format of its shape.
-use Rattle.std.proofs.Common.{◌≡◌, ℕ, ◌+◌, ◌-◌, ◌*◌, ◌^◌, ◌<◌, ◌≤◌, Bool, sym, subst, arith, ℤ, pos, ◌+ℤ◌, ◌-ℤ◌, ◌≤ℤ◌, to_z, of_z, w32}
+use Rattle.std.proofs.Common.{◌≡◌, ℕ, ◌+◌, ◌-◌, ◌*◌, ◌^◌, ◌<◌, ◌≤◌, Bool, sym, ap, ◌∙◌, subst, arith, ℤ, pos, ◌+ℤ◌, ◌-ℤ◌, ◌≤ℤ◌, to_z, of_z, w32}
 use Rattle.std.proofs.lemmas.Int.{ints}
-use Rattle.std.proofs.lemmas.Nat.{pow_pos}
-use Rattle.std.proofs.Math.Nat.{mul-le-mul_right, mul-le-mul_left, pow-le-pow_right}
+use Rattle.std.proofs.lemmas.Nat.{pow-add, pow_pos}
+use Rattle.std.proofs.Math.Nat.{mul-le-mul_right, mul-le-mul_left, mul-lt-mul_of_pos_right, pow-le-pow_right}
 use Rattle.apfloat_base.specs.declared.kinds.Round.{Round}
 use Rattle.apfloat_base.specs.declared.sig.loss.Loss.TheVariants.{ExactlyZero}
 use Rattle.apfloat_base.specs.formats.Format.{Format, largest, greatest_significand}
@@ -14,7 +14,7 @@ use Rattle.apfloat_base.specs.rounding.Standing.{StandsFor, up, down}
 use Rattle.apfloat_base.proofs.general.Powers.{two_pos}
 use Rattle.apfloat_base.proofs.formats.Greatest.{greatest_full}
 use Rattle.apfloat_base.proofs.arithmetic.Tables.{scaling_zero}
-use Rattle.apfloat_base.proofs.arithmetic.SingleScalings.{IsClamped, up_le, quanta_below, scaled_is, clamp_kept}
+use Rattle.apfloat_base.proofs.arithmetic.SingleScalings.{IsClamped, up_le, quanta_below, scaled_is, scaled_stands, clamp_kept}
 use Rattle.apfloat_unpacked.specs.declared.shape.Shape.{Shape}
 use Rattle.apfloat_unpacked.specs.Shapes.{format_at}
 use Rattle.apfloat_unpacked.specs.Stored.{IsOperandAt, IsQuantaAt, IsNormalAt, quanta_at}
@@ -43,6 +43,27 @@ fraction_places shape m k e r n v h =
     let v' = rw (exponent_word shape m e n) at v in
     places_down (shape.precision - 1) (format_at shape).scale shape.min_exp e r m (quanta_at shape.min_exp m e) k
     (scale_is shape) v' h n.whole
+
+-- and a number below 2 ^ 61, moved up until it has 62 digits
+pub word_places : (shape : Shape) (m k : ℕ) (e : ℤ) → IsNormalAt shape m e → shape.precision ≤ 62
+    → pos k ≡ (pos 61 -ℤ e)
+    → quanta_at shape.min_exp m e * 2 ^ k ≡ m * 2 ^ (62 - shape.precision) * 2 ^ (format_at shape).scale
+word_places shape m k e n l h =
+    let z = scale_is shape in
+    let p = shape.parameters.precision_low in
+    let g = scaled_stands m (quanta_at shape.min_exp m e) (down (e -ℤ shape.min_exp)) (up (e -ℤ shape.min_exp)) 0
+    (format_at shape).scale (62 - shape.precision) k n.whole (omega (arith, ints, z, h, l, p)) in
+    omega (arith, g)
+
+-- a significand moved up until it has 62 digits
+pub top_fits : (precision m : ℕ) → precision ≤ 62 → m < 2 ^ precision → m * 2 ^ (62 - precision) < 2 ^ 62
+top_fits precision m l f =
+    let e : precision + (62 - precision) ≡ 62 = omega (arith, l) in
+    let w : 2 ^ 62 ≡ 2 ^ precision * 2 ^ (62 - precision) =
+    ap (λ (x : ℕ). 2 ^ x) (sym e) ∙ pow-add 2 precision (62 - precision) in
+    let a : m * 2 ^ (62 - precision) < 2 ^ precision * 2 ^ (62 - precision) =
+    mul-lt-mul_of_pos_right f (pow_pos (62 - precision)) in
+    omega (arith, a, w)
 
 -- ---- times a power of two
 

@@ -1,9 +1,9 @@
 -- The whole number that a mode picks.
 use Rattle.std.proofs.Common.{◌≡◌, ℕ, ◌+◌, ◌-◌, ◌*◌, ◌/◌, ◌%◌, ◌^◌, ◌<◌, ◌≤◌, Bool, true, false, cond, eqb, sym, refl, ap, ◌∙◌, subst, ⊎_elim, arith, ℤ, pos, negsuc, ◌-ℤ◌, ◌≤ℤ◌}
-use Rattle.std.proofs.Math.Nat.{mul-mod_left, mul-div_cancel, div-eq_of_lt, div-eq_of_lt-le, div-one, mul-le-mul_right, mul-le-mul_left, pow-le-pow_right, mul-lt-mul_of_pos_right}
+use Rattle.std.proofs.Math.Nat.{mul-mod_left, mul-div_cancel, div-eq_of_lt-le, div-one, mul-le-mul_right, mul-le-mul_left, pow-le-pow_right, mul-lt-mul_of_pos_right}
 use Rattle.std.proofs.lemmas.Nat.{div-add-mod', pow-add, pow_pos}
 use Rattle.std.proofs.lemmas.Int.{ints}
-use Rattle.std.proofs.lemmas.Bool.{cases_eq, cases_lt, eq-eqb, ne_eqb}
+use Rattle.std.proofs.lemmas.Bool.{cases_eq, eq-eqb, ne_eqb}
 use Rattle.apfloat_base.specs.declared.kinds.Round.{Round}
 use Rattle.apfloat_base.specs.declared.kinds.Round.TheVariants.{TowardZero}
 use Rattle.apfloat_base.specs.declared.sig.loss.Loss.{Loss}
@@ -243,56 +243,3 @@ whole_multiple q amount parts e = sym (eq-eqb (amount % parts) 0 (ap (λ (x : �
 
 pub fits_longer : (s p k : ℕ) → s < 2 ^ p → p ≤ k → s < 2 ^ k
 fits_longer s p k l h = let a : 2 ^ p ≤ 2 ^ k = pow-le-pow_right two_pos h in omega (arith, l, a)
-
--- what is left of a significand below half of the unit at one place is below half of those at higher places
-pub stands_farther : (s k places amount unit : ℕ) (loss : Loss) → 2 * s < 2 ^ k → k ≤ places → 0 < unit
-    → amount ≡ s * unit → StandsFor 0 loss amount (2 ^ k * unit) → StandsFor 0 loss amount (2 ^ places * unit)
-stands_farther s k places amount unit ExactlyZero l p u e h = omega (arith, h)
-stands_farther s k places amount unit LessThanHalf l p u e h =
-    let a : 2 ^ k ≤ 2 ^ places = pow-le-pow_right two_pos p in
-    let b : 2 ^ k * unit ≤ 2 ^ places * unit = mul-le-mul_right unit a in
-    let f = h.0 in
-    let g = h.1 in
-    (omega (arith, f), omega (arith, g, b))
-stands_farther s k places amount unit ExactlyHalf l p u e h =
-    let a : (2 * s + 1) * unit ≤ 2 ^ k * unit = mul-le-mul_right unit (omega (arith, l)) in
-    absurd (omega (arith, h, a, e, u))
-stands_farther s k places amount unit MoreThanHalf l p u e h =
-    let a : (2 * s + 1) * unit ≤ 2 ^ k * unit = mul-le-mul_right unit (omega (arith, l)) in
-    let f = h.0 in
-    absurd (omega (arith, f, a, e, u))
-
--- nothing of the significand is left there, or farther
-pub nothing_left : (s k places : ℕ) → s < 2 ^ k → k ≤ places → s / 2 ^ places ≡ 0
-nothing_left s k places l p =
-    let a : 2 ^ k ≤ 2 ^ places = pow-le-pow_right two_pos p in
-    div-eq_of_lt (omega (arith, l, a))
-
--- the word is shifted by the places, or by as many as leave nothing
-pub word_quotient : (s k places shift : ℕ) → 2 * s < 2 ^ k → (places ≤ k → shift ≡ places)
-    → (k < places → shift ≡ k) → s / 2 ^ shift ≡ s / 2 ^ places
-word_quotient s k places shift l n f =
-    ⊎_elim
-    (λ (a : k < places).
-    let b : s < 2 ^ k = omega (arith, l) in
-    ap (λ (x : ℕ). s / 2 ^ x) (f a) ∙ nothing_left s k k b (omega arith)
-    ∙ sym (nothing_left s k places b (omega (arith, a))))
-    (λ (a : places ≤ k). ap (λ (x : ℕ). s / 2 ^ x) (n a))
-    (cases_lt k places)
-
-pub word_stands : (s k places shift amount unit : ℕ) (loss : Loss) → 2 * s < 2 ^ k → (places ≤ k → shift ≡ places)
-    → (k < places → shift ≡ k) → 0 < unit → StandsFor s ExactlyZero amount unit
-    → StandsFor (s / 2 ^ shift) loss amount (2 ^ shift * unit)
-    → StandsFor (s / 2 ^ shift) loss amount (2 ^ places * unit)
-word_stands s k places shift amount unit loss l n f u e h =
-    ⊎_elim
-    (λ (a : k < places).
-    let b : s < 2 ^ k = omega (arith, l) in
-    let z : s / 2 ^ shift ≡ 0 = ap (λ (x : ℕ). s / 2 ^ x) (f a) ∙ nothing_left s k k b (omega arith) in
-    let g : StandsFor 0 loss amount (2 ^ k * unit) =
-    subst (λ (x : ℕ). StandsFor 0 loss amount (2 ^ x * unit)) (f a)
-    (subst (λ (q : ℕ). StandsFor q loss amount (2 ^ shift * unit)) z h) in
-    subst (λ (q : ℕ). StandsFor q loss amount (2 ^ places * unit)) (sym z)
-    (stands_farther s k places amount unit loss l (omega (arith, a)) u e g))
-    (λ (a : places ≤ k). subst (λ (x : ℕ). StandsFor (s / 2 ^ shift) loss amount (2 ^ x * unit)) (n a) h)
-    (cases_lt k places)

@@ -10,11 +10,11 @@ ghost use Rattle.apfloat_unpacked.specs.Stored.{IsStored, IsNormal, datum_at, nu
 ghost use Rattle.apfloat_conversions.specs.Results.{GivesWhole};
 
 use crate::whole::{Whole, whole_of};
-use apfloat_base::sig::{Loss, digits};
+use apfloat_base::sig::digits;
 use apfloat_base::{Category, ExpInt, Round, Status, StatusAnd};
-use apfloat_unpacked::rounding::{deliver, deliver_digits};
+use apfloat_unpacked::rounding::deliver_digits;
 use apfloat_unpacked::shape::Shape;
-use apfloat_unpacked::unpacked::Unpacked;
+use apfloat_unpacked::unpacked::{Unpacked, zero_of};
 
 /// A whole number with `count` digits, moved up until it has 128.
 #[inline(always)]
@@ -46,7 +46,7 @@ pub fn from_unsigned(shape: Shape, number: u128, round: Round) -> StatusAnd<Unpa
 {
     let count = digits(number);
     if count == 0 {
-        return deliver(shape, number, 0, Loss::ExactlyZero, round, false);
+        return Status::OK.and(zero_of(shape, false));
     }
     let significand = aligned(number, count);
     deliver_digits(

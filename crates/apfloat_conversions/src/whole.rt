@@ -122,6 +122,20 @@ pub(crate) fn round_at_dot(shape: Shape, x: Unpacked, exponent: ExpInt, round: R
     )
 }
 
+/// A number below `2^61` rounded by the mode to a whole number, in one word. Moved up until it has 62 digits, it has
+/// digits after its dot at each of these exponents, so numbers that are whole need not be told from the others.
+#[inline(always)]
+fn round_word(shape: Shape, x: Unpacked, round: Round) -> Whole
+    requires normal { IsNormal shape x }
+    requires short { shape.precision ≤ 62 }
+    requires small { x.exponent ≤ℤ pos 60 }
+    ensures { IsPicked round x.negative (quanta_of shape x) (2 ^ (format_at shape).scale) result }
+{
+    let top = (x.significand as u64) << (62 - shape.precision);
+    let places = steps_between(61, x.exponent);
+    round_fraction(62, u128::from(top), places, round, x.negative)
+}
+
 /// The whole number `significand * 2^places`.
 #[inline(always)]
 fn raised(precision: u32, significand: u128, places: u32) -> u128
@@ -140,6 +154,9 @@ pub fn whole_of(shape: Shape, x: Unpacked, round: Round) -> Option<Whole>
     ensures { IsPickedWithin round x.negative (quanta_of shape x) (2 ^ (format_at shape).scale)
         result }
 {
+    if shape.precision <= 62 && x.exponent <= 60 {
+        return Some(round_word(shape, x, round));
+    }
     if x.exponent >= 128 {
         return None;
     }

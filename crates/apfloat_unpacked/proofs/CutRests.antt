@@ -172,7 +172,7 @@ not_tiny format mode negative m c amount parts s place p l f i =
 -- ---- digits that are cut off as words
 
 -- more than a word of digits: the lowest word matters only by whether it is 0, which one bit says
-folded : (u l h w s : ℕ) → l < w → (l ≡ 0 → s ≡ 0) → (0 < l → s ≡ 1)
+pub folded : (u l h w s : ℕ) → l < w → (l ≡ 0 → s ≡ 0) → (0 < l → s ≡ 1)
     → loss_at (2 * u + s) (2 * h) ≡ loss_at (u * w + l) (h * w)
 folded u l h w s b z o =
     ⊎_elim

@@ -5,3 +5,4 @@ pub mod ShapeExponents
 pub mod HalfQuanta
 pub mod CutRests
 pub mod OddCuts
+pub mod QuantumCuts

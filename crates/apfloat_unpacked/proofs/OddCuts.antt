@@ -74,7 +74,7 @@ beside_more q h r amount u w l t k a b =
     (omega (arith, x'), omega (arith, y'))
 
 -- the significand t times w is q * 2 * (h * w) + rest, and h is even: what it leaves is less than, or more than, half
-odd_rest : (q g t rest amount u w : ℕ) → 0 < w → t % 2 ≡ 1 → t * w ≡ q * (2 * (2 * g * w)) + rest
+pub odd_rest : (q g t rest amount u w : ℕ) → 0 < w → t % 2 ≡ 1 → t * w ≡ q * (2 * (2 * g * w)) + rest
     → rest < 2 * (2 * g * w) → t * u < amount + u → amount < (t + 1) * u
     → StandsFor q (loss_at rest (2 * g * w)) (amount * w) (2 * (2 * g * w) * u)
 odd_rest q g t rest amount u w k o e l a b =
@@ -215,7 +215,7 @@ top_cut_encloses precision s digits top place rest half up down amount parts i p
 -- ---- below the last place
 
 -- an integer that is not positive has no positive part
-no_up : (z : ℤ) → z ≤ℤ pos 0 → up z ≡ 0
+pub no_up : (z : ℤ) → z ≤ℤ pos 0 → up z ≡ 0
 no_up (pos zero) h = refl
 no_up (pos (suc n)) h = absurd (omega (arith, ints, h))
 no_up (negsuc n) h = refl

@@ -25,8 +25,10 @@ ghost use Rattle.apfloat_unpacked.specs.Cuts.{IsCut, IsCutOff, IsGiven, loss_at}
 ghost use Rattle.apfloat_unpacked.specs.Shapes.{format_at};
 ghost use Rattle.apfloat_unpacked.specs.Stored.{IsStored, GivesAt};
 
+mod denormal;
 pub mod odd;
 
+use self::denormal::round_denormal;
 use crate::shape::Shape;
 use crate::unpacked::{
     Unpacked, from_full_quanta, from_rounded_quanta, infinity_of, largest_of, remade,
@@ -625,14 +627,17 @@ fn moves_past(mode: Round, negative: bool, rest: u64, half: u64, odd: bool) -> b
     is_outward(mode, negative) & (rest != 0)
 }
 
-/// The status of a rounding within the format that cuts off a rest, and leaves all digits of the precision.
+/// The status of a rounding within the format that cuts off a rest.
 #[inline(always)]
-fn status_of_rest(rest: u64) -> Status
+fn status_of_rest(rest: u64, tiny: bool) -> Status
     ensures exact { rest ≡ 0 → bits_of result ≡ ok_bits }
-    ensures inexact { (rest ≡ 0 → ⊥) → bits_of result ≡ inexact_bit }
+    ensures inexact { (rest ≡ 0 → ⊥)
+        → bits_of result ≡ (if tiny then underflow_bit + inexact_bit else inexact_bit) }
 {
     if rest == 0 {
         Status::OK
+    } else if tiny {
+        Status::UNDERFLOW.union(Status::INEXACT)
     } else {
         Status::INEXACT
     }
@@ -664,7 +669,7 @@ fn round_cut(shape: Shape, cut: Cut, mode: Round, negative: bool) -> StatusAnd<U
 {
     let odd = cut.significand % 2 == 1;
     let moved = moves_past(mode, negative, cut.rest, cut.half, odd);
-    let status = status_of_rest(cut.rest);
+    let status = status_of_rest(cut.rest, false);
     let next = next_if(shape.precision, cut.significand, moved);
     if cut.place < shape.span() && next != power_of_two(shape.precision) {
         return status.and(from_full_quanta(shape, negative, next, cut.place));
@@ -699,14 +704,19 @@ pub fn deliver_digits(
         → GivesAt shape (IsDelivered (format_at shape) mode negative amount parts) result }
 {
     let unit = unit_place(shape, exponent);
-    if digits > shape.precision && unit + digits as ExpInt >= shape.precision as ExpInt {
+    if digits > shape.precision {
         let given = Given {
             significand,
             unit,
             loss: Loss::ExactlyZero,
         };
-        let cut = cut_digits(shape.precision, given, digits);
-        return round_cut(shape, cut, mode, negative);
+        if unit + digits as ExpInt >= shape.precision as ExpInt {
+            let cut = cut_digits(shape.precision, given, digits);
+            return round_cut(shape, cut, mode, negative);
+        }
+        if shape.precision <= 59 {
+            return round_denormal(shape, given, digits, mode, negative);
+        }
     }
     deliver(
         shape,

@@ -208,6 +208,29 @@ pub fn from_rounded_quanta(shape: Shape, negative: bool, significand: u128, plac
     from_quanta(shape, negative, significand, place)
 }
 
+/// That many quanta with that sign, at most the smallest normalized value. The number is made before it is known not to
+/// be zero, so that no jump has to tell.
+#[inline(always)]
+pub fn from_few_quanta(shape: Shape, negative: bool, quanta: u64) -> Unpacked
+    requires short { shape.precision ≤ 62 }
+    requires few { quanta ≤ 2 ^ (shape.precision - 1) }
+    ensures stored { IsStored shape result }
+    ensures datum { datum_at shape result ≡ signed_quanta shape.nonfinite negative quanta }
+{
+    let shift = shape.precision - digits(u128::from(quanta));
+    let number = Unpacked {
+        significand: u128::from(quanta << shift),
+        exponent: exponent_at(shape.min_exp, 0, shift),
+        category: Category::Normal,
+        negative,
+    };
+    if quanta == 0 {
+        zero_of(shape, negative)
+    } else {
+        number
+    }
+}
+
 /// The greatest finite value, with that sign.
 #[inline(always)]
 pub fn largest_of(shape: Shape, negative: bool) -> Unpacked

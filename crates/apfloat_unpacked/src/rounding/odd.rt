@@ -4,7 +4,7 @@
 //! none and with half as the exact rest would be, since these are even numbers of its units. The significand is moved
 //! up to the top of a word, so that the cut is at the same digit for each of them.
 
-ghost use Rattle.std.specs.Prelude.{◌≡◌, ℕ, ◌+◌, ◌-◌, ◌*◌, ◌^◌, ◌<◌, ◌≤◌, pos, ◌+ℤ◌, ◌≤ℤ◌};
+ghost use Rattle.std.specs.Prelude.{◌≡◌, ℕ, ◌+◌, ◌-◌, ◌*◌, ◌%◌, ◌^◌, ◌<◌, ◌≤◌, pos, ◌+ℤ◌, ◌≤ℤ◌};
 ghost use Rattle.apfloat_base.specs.rounding.Bounds.{IsWithin, exponent_bound, unit_bound, place_bound};
 ghost use Rattle.apfloat_base.specs.rounding.Rounding.{IsDelivered};
 ghost use Rattle.apfloat_base.specs.rounding.RoundingToOdd.{IsRoundedToOdd};
@@ -96,11 +96,11 @@ pub fn deliver_odd(
 
 /// A significand that is rounded to odd for what was lost below it.
 #[inline(always)]
-fn odd_for(significand: u64, loss: Loss) -> u64
+pub(super) fn odd_for(significand: u64, loss: Loss) -> u64
     requires room { significand < 2 ^ 63 }
     ensures rounded { (least amount unit : ℕ) → least ≤ significand → 0 < unit
         → StandsFor significand loss amount unit → IsRoundedToOdd least result amount unit }
-    ensures bound { result ≤ significand + 1 }
+    ensures bound { result ≤ significand + 1 - significand % 2 }
     ensures above { significand ≤ result }
 {
     if !is_exact(loss) & (significand % 2 == 0) {

@@ -1,16 +1,10 @@
-use Rattle.std.proofs.Common.{◌≡◌, ℕ, ◌+◌, ◌-◌, ◌*◌, ◌^◌, inl, refl, sym, ap, ◌∙◌, arith, ℤ, pos, ◌+ℤ◌, ◌-ℤ◌, ◌≤◌, w32}
+use Rattle.std.proofs.Common.{◌≡◌, ℕ, ◌+◌, ◌-◌, ◌*◌, ◌^◌, ◌<◌, false, subst, sym, ap, ◌∙◌, arith, ℤ, pos, ◌+ℤ◌, ◌-ℤ◌, ◌≤◌, w32}
 use Rattle.std.proofs.lemmas.Int.{ints, to_z-of_z}
 use Rattle.std.proofs.lemmas.Nat.{pow-add}
+use Rattle.apfloat_base.proofs.rounding.Laws.{zero_delivered}
 use Rattle.apfloat_base.specs.rounding.Standing.{up, down}
 use Rattle.apfloat_unpacked.specs.Shapes.{format_at}
 use Rattle.apfloat_conversions.proofs.integers.from_unsigned.Goals as goal
-
-pub deliver-requires-clause-within : goal.deliver-requires-clause-within
-deliver-requires-clause-within c =
-    record { low = omega (arith, ints); high = omega (arith, ints) }
-
-pub deliver-requires-clause-fine : goal.deliver-requires-clause-fine
-deliver-requires-clause-fine c = inl refl
 
 pub deliver_digits-requires-clause-within : goal.deliver_digits-requires-clause-within
 deliver_digits-requires-clause-within c =
@@ -19,13 +13,7 @@ deliver_digits-requires-clause-within c =
       high = omega (arith, ints, c.aligned_exponent.ensures);
     }
 
--- a number and 1 part, each in units of 2 ^ -scale
-in_units : (number scale : ℕ) → number * 2 ^ scale * 2 ^ 0 ≡ number * (1 * 2 ^ (0 + scale))
-in_units number scale =
-    let e : 0 + scale ≡ scale = omega arith in
-    rw e (omega arith)
-
--- the same for a number that was moved up
+-- a number that was moved up and 1 part, each in units of 2 ^ -scale
 moved_units : (number scale places up down : ℕ) → scale + down ≡ places + up
     → number * 2 ^ scale * 2 ^ down ≡ number * 2 ^ places * (1 * 2 ^ up)
 moved_units number scale places up down e =
@@ -40,8 +28,12 @@ balanced_units count scale e l v = omega (arith, ints)
 
 pub returns-then-count-eq0-clause-delivered : goal.returns-then-count-eq0-clause-delivered
 returns-then-count-eq0-clause-delivered c =
-    c.deliver.ensures.delivered (c.args.number * 2 ^ (format_at c.args.shape).scale) 1 (omega arith)
-    (in_units c.args.number (format_at c.args.shape).scale)
+    let f = format_at c.args.shape in
+    let k : c.args.number < 2 ^ 0 = subst (λ (x : ℕ). c.args.number < 2 ^ x) c.if-count-eq0.true c.digits-count.ensures.below in
+    let n : c.args.number ≡ 0 = omega (arith, k) in
+    let z : c.args.number * 2 ^ f.scale ≡ 0 = ap (λ (x : ℕ). x * 2 ^ f.scale) n ∙ omega arith in
+    rw (c.and.ensures.value, c.and.ensures.status, c.zero_of.ensures.datum)
+    (zero_delivered f c.args.round false 1 (c.args.number * 2 ^ f.scale) (omega arith) z)
 
 pub returns-clause-delivered : goal.returns-clause-delivered
 returns-clause-delivered c =

@@ -3,7 +3,7 @@ use Rattle.apfloat_base.specs.declared.sig.loss.Loss.TheVariants.{ExactlyZero}
 use Rattle.apfloat_base.specs.rounding.Standing.{StandsFor}
 use Rattle.apfloat_base.proofs.rounding.Losses.{cut_at}
 use Rattle.apfloat_unpacked.proofs.CutRests.{rest_below}
-use Rattle.apfloat_conversions.proofs.Wholes.{word_quotient, word_stands}
+use Rattle.apfloat_unpacked.proofs.QuantumCuts.{less_than_half, word_quotient, word_stands}
 use Rattle.apfloat_conversions.proofs.whole.shift_word.Goals as goal
 
 pub loss_of_rest-requires : goal.loss_of_rest-requires
@@ -27,6 +27,7 @@ returns-clause-stands c = λ amount unit u h.
     let l : 2 * c.args.significand < 2 ^ 63 = omega (arith, c.requires.short) in
     let e = rw c.from.ensures at c.low_digits-rest.ensures in
     subst (λ (q : ℕ). StandsFor q loss amount (2 ^ places * unit)) (sym c.from-2.ensures)
-    (word_stands s 63 places shift.result amount unit loss l shift.ensures.near shift.ensures.far u h
+    (word_stands s 63 places shift.result amount unit loss l shift.ensures.near shift.ensures.far
+    (less_than_half s 63 amount unit l u h)
     (cut_at s shift.result c.power_of_two-half.result c.low_digits-rest.result ExactlyZero loss
     (shift.ensures.some c.requires.some) c.power_of_two-half.ensures e c.loss_of_rest.ensures amount unit u h))

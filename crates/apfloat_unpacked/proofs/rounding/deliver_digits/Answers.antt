@@ -1,21 +1,35 @@
-use Rattle.std.proofs.Common.{◌≡◌, ◌*◌, ◌^◌, sym, ◌∙◌, subst, ℤ, to_z, of_z, w32}
+use Rattle.std.proofs.Common.{◌≡◌, ℕ, ◌*◌, ◌^◌, sym, ◌∙◌, subst, ℤ, pos, ◌+ℤ◌, to_z, of_z, w32}
 use Rattle.std.proofs.lemmas.Int.{to_z-of_z}
 use Rattle.apfloat_base.specs.declared.sig.loss.Loss.TheVariants.{ExactlyZero}
 use Rattle.apfloat_base.specs.rounding.Standing.{StandsFor, up, down}
+use Rattle.apfloat_unpacked.specs.Shapes.{format_at}
+use Rattle.apfloat_unpacked.proofs.rounding.deliver_digits.Goals.{After-unit_place-unit}
 use Rattle.apfloat_unpacked.proofs.rounding.deliver_digits.Goals as goal
 
-pub returns-then-unit-digits-clause-delivered : goal.returns-then-unit-digits-clause-delivered
-returns-then-unit-digits-clause-delivered c = λ amount parts u h.
+-- the unit, counted from the quantum
+in_quanta : (c : After-unit_place-unit) (amount parts : ℕ)
+    → StandsFor c.args.significand ExactlyZero
+    (amount * 2 ^ down (c.args.exponent +ℤ pos (format_at c.args.shape).scale))
+    (parts * 2 ^ up (c.args.exponent +ℤ pos (format_at c.args.shape).scale))
+    → StandsFor c.args.significand ExactlyZero (amount * 2 ^ down (to_z w32 (of_z w32 c.unit_place-unit.result)))
+    (parts * 2 ^ up (to_z w32 (of_z w32 c.unit_place-unit.result)))
+in_quanta c amount parts h =
     let e = to_z-of_z w32 c.args.exponent c.ranges.exponent in
     let v = rw e at c.unit_place-unit.ensures.value in
     let w : to_z w32 (of_z w32 c.unit_place-unit.result) ≡ c.unit_place-unit.result =
     to_z-of_z w32 c.unit_place-unit.result (record { sfits = c.unit_place-unit.type_inv }) in
-    let h' : StandsFor c.args.significand ExactlyZero
-    (amount * 2 ^ down (to_z w32 (of_z w32 c.unit_place-unit.result)))
-    (parts * 2 ^ up (to_z w32 (of_z w32 c.unit_place-unit.result))) =
     subst (λ (x : ℤ). StandsFor c.args.significand ExactlyZero (amount * 2 ^ down x) (parts * 2 ^ up x))
-    (sym v ∙ sym w) h in
-    c.round_cut.ensures.delivered amount parts u (c.cut_digits-cut.ensures.cut amount parts u h')
+    (sym v ∙ sym w) h
+
+pub returns-then-unit-digits-clause-delivered : goal.returns-then-unit-digits-clause-delivered
+returns-then-unit-digits-clause-delivered c = λ amount parts u h.
+    let g = in_quanta (goal.at.returns-then-unit-digits-clause-delivered c).After-unit_place-unit amount parts h in
+    c.round_cut.ensures.delivered amount parts u (c.cut_digits-cut.ensures.cut amount parts u g)
+
+pub returns-then-shape-le59-clause-delivered : goal.returns-then-shape-le59-clause-delivered
+returns-then-shape-le59-clause-delivered c = λ amount parts u h.
+    let g = in_quanta (goal.at.returns-then-shape-le59-clause-delivered c).After-unit_place-unit amount parts h in
+    c.round_denormal.ensures.delivered amount parts u g
 
 pub returns-clause-delivered : goal.returns-clause-delivered
 returns-clause-delivered c =

@@ -1,4 +1,4 @@
-use Rattle.std.proofs.Common.{◌-◌, ◌∙◌, arith, w32}
+use Rattle.std.proofs.Common.{◌-◌, arith, w32}
 use Rattle.std.proofs.lemmas.Int.{ints, to_z-of_z}
 use borrow.Author.Differences.{fits_in}
 use Rattle.apfloat_base.specs.rounding.Standing.{up, down}

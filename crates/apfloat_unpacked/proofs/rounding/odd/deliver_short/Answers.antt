@@ -1,8 +1,7 @@
-use Rattle.std.proofs.Common.{◌≡◌, ℕ, ℤ, ◌+◌, ◌*◌, ◌^◌, sym, ◌∙◌, subst, to_z, of_z, w32, arith}
+use Rattle.std.proofs.Common.{◌≡◌, ℤ, ◌+◌, ◌*◌, ◌^◌, sym, ◌∙◌, subst, to_z, of_z, w32, arith}
 use Rattle.std.proofs.Math.Nat.{mul-pos}
 use Rattle.std.proofs.lemmas.Int.{to_z-of_z}
 use Rattle.std.proofs.lemmas.Nat.{pow_pos}
-use Rattle.apfloat_base.specs.rounding.RoundingToOdd.{IsRoundedToOdd}
 use Rattle.apfloat_base.specs.rounding.Standing.{StandsFor, up, down}
 use Rattle.apfloat_unpacked.proofs.OddCuts.{word_digits}
 use Rattle.apfloat_unpacked.proofs.rounding.odd.deliver_short.Goals as goal

@@ -1,0 +1,31 @@
+use Rattle.std.proofs.Common.{◌≡◌, ◌-◌, ◌*◌, ◌^◌, ◌∙◌, arith}
+use Rattle.std.proofs.Math.Nat.{mod-eq_of_lt}
+use Rattle.std.proofs.lemmas.Nat.{pow_pos}
+use Rattle.apfloat_unpacked.specs.Shapes.{format_at}
+use Rattle.apfloat_unpacked.specs.Stored.{quanta_at}
+use Rattle.apfloat_unpacked.proofs.ShapeExponents.{exponent_word}
+use Rattle.apfloat_conversions.proofs.StoredExponents.{top_fits, word_places}
+use Rattle.apfloat_conversions.proofs.whole.round_word.Goals.{After-from}
+use Rattle.apfloat_conversions.proofs.whole.round_word.Goals as goal
+
+-- the significand, moved up
+top : (c : After-from) → c.from.result ≡ c.args.x.significand * 2 ^ (62 - c.args.shape.precision)
+top c =
+    let f = top_fits c.args.shape.precision c.args.x.significand c.requires.short c.requires.normal.operand.fits in
+    c.from.ensures ∙ mod-eq_of_lt (omega (arith, f))
+
+pub round_fraction-requires-clause-fits : goal.round_fraction-requires-clause-fits
+round_fraction-requires-clause-fits c =
+    rw (top c)
+    (top_fits c.args.shape.precision c.args.x.significand c.requires.short c.requires.normal.operand.fits)
+
+pub returns : goal.returns
+returns c =
+    let s = c.args.shape in
+    let m = c.args.x.significand in
+    let e = c.args.x.exponent in
+    let n = c.requires.normal in
+    let k = rw (exponent_word s m e n) at c.steps_between-places.ensures in
+    let p = word_places s m c.steps_between-places.result e n c.requires.short k in
+    c.round_fraction.ensures.picked (quanta_at s.min_exp m e) (2 ^ (format_at s).scale) (pow_pos (format_at s).scale)
+    (rw (top (goal.at.returns c).After-from) p)

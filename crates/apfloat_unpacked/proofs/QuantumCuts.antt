@@ -1,0 +1,298 @@
+-- A significand of one word that is cut where no more than a half may be left of it: at the quantum, or at a dot.
+use Rattle.std.proofs.Common.{◌≡◌, ℕ, ◌+◌, ◌-◌, ◌*◌, ◌/◌, ◌%◌, ◌^◌, ◌<◌, ◌≤◌, Bool, true, false, cond, eqb, sym, refl, ap, ◌∙◌, subst, inl, inr, ⊎_elim, arith}
+use Rattle.std.proofs.Math.Path.{subst₂}
+use Rattle.std.proofs.Math.Nat.{div-eq_of_lt, mul-le-mul_right, mul-lt-mul_of_pos_right, mul-pos, pow-le-pow_right, div-add-mod'}
+use Rattle.std.proofs.lemmas.Nat.{pow-add, pow_pos, mod_below, mod-mul-add}
+use Rattle.std.proofs.lemmas.Bool.{cases_lt, le-ltb}
+use Rattle.apfloat_base.specs.declared.kinds.Round.{Round}
+use Rattle.apfloat_base.specs.declared.sig.loss.Loss.{Loss}
+use Rattle.apfloat_base.specs.declared.sig.loss.Loss.TheVariants.{ExactlyZero, LessThanHalf, ExactlyHalf, MoreThanHalf}
+use Rattle.apfloat_base.specs.formats.Format.{Format, largest}
+use Rattle.apfloat_base.specs.formats.Datum.{Datum}
+use Rattle.apfloat_base.specs.rounding.Enclosure.{IsEnclosed, rounds_up}
+use Rattle.apfloat_base.specs.rounding.Rounding.{IsDelivered, is_tiny, signed_quanta, ok_bits, underflow_bit, inexact_bit}
+use Rattle.apfloat_base.specs.rounding.RoundingToOdd.{IsRoundedToOdd}
+use Rattle.apfloat_base.specs.rounding.Standing.{StandsFor}
+use Rattle.apfloat_base.proofs.formats.Ranges.{half_within}
+use Rattle.apfloat_base.proofs.general.Powers.{two_pos, exponent_below, pow3}
+use Rattle.apfloat_base.proofs.rounding.Deliveries.{delivered_exactly, delivered_inexactly, exact_if, inexact_if}
+use Rattle.apfloat_base.proofs.rounding.KeptDigits.{kept_stands, stands_cancel, fits_cut, enclosed_from}
+use Rattle.apfloat_base.proofs.rounding.Losses.{cut_at}
+use Rattle.apfloat_base.proofs.rounding.OddRoundings.{to_odd_cancel, to_odd_times}
+use Rattle.apfloat_unpacked.specs.Cuts.{loss_at}
+use Rattle.apfloat_unpacked.proofs.OddCuts.{odd_rest}
+use Rattle.apfloat_unpacked.proofs.CutRests.{folded, loss_some, loss_zero, picked_if_moved, rest_below, rest_stands}
+
+-- ---- farther places
+
+-- an amount below half of the unit at one place is below half of those at higher places
+pub stands_farther : (k places amount unit : ℕ) (loss : Loss) → k ≤ places → 2 * amount < 2 ^ k * unit
+    → StandsFor 0 loss amount (2 ^ k * unit) → StandsFor 0 loss amount (2 ^ places * unit)
+stands_farther k places amount unit ExactlyZero p e h = omega (arith, h)
+stands_farther k places amount unit LessThanHalf p e h =
+    let a : 2 ^ k ≤ 2 ^ places = pow-le-pow_right two_pos p in
+    let b : 2 ^ k * unit ≤ 2 ^ places * unit = mul-le-mul_right unit a in
+    let f = h.0 in
+    let g = h.1 in
+    (omega (arith, f), omega (arith, g, b))
+stands_farther k places amount unit ExactlyHalf p e h = absurd (omega (arith, h, e))
+stands_farther k places amount unit MoreThanHalf p e h = let f = h.0 in absurd (omega (arith, f, e))
+
+-- as that of a short significand is
+pub less_than_half : (s k amount unit : ℕ) → 2 * s < 2 ^ k → 0 < unit → amount ≡ s * unit
+    → 2 * amount < 2 ^ k * unit
+less_than_half s k amount unit l u e =
+    let a : (2 * s + 1) * unit ≤ 2 ^ k * unit = mul-le-mul_right unit (omega (arith, l)) in
+    omega (arith, a, e, u)
+
+-- nothing of the significand is left there, or farther
+pub nothing_left : (s k places : ℕ) → s < 2 ^ k → k ≤ places → s / 2 ^ places ≡ 0
+nothing_left s k places l p =
+    let a : 2 ^ k ≤ 2 ^ places = pow-le-pow_right two_pos p in
+    div-eq_of_lt (omega (arith, l, a))
+
+-- the word is shifted by the places, or by as many as leave nothing
+pub word_quotient : (s k places shift : ℕ) → 2 * s < 2 ^ k → (places ≤ k → shift ≡ places)
+    → (k < places → shift ≡ k) → s / 2 ^ shift ≡ s / 2 ^ places
+word_quotient s k places shift l n f =
+    ⊎_elim
+    (λ (a : k < places).
+    let b : s < 2 ^ k = omega (arith, l) in
+    ap (λ (x : ℕ). s / 2 ^ x) (f a) ∙ nothing_left s k k b (omega arith)
+    ∙ sym (nothing_left s k places b (omega (arith, a))))
+    (λ (a : places ≤ k). ap (λ (x : ℕ). s / 2 ^ x) (n a))
+    (cases_lt k places)
+
+pub word_stands : (s k places shift amount unit : ℕ) (loss : Loss) → 2 * s < 2 ^ k → (places ≤ k → shift ≡ places)
+    → (k < places → shift ≡ k) → 2 * amount < 2 ^ k * unit
+    → StandsFor (s / 2 ^ shift) loss amount (2 ^ shift * unit)
+    → StandsFor (s / 2 ^ shift) loss amount (2 ^ places * unit)
+word_stands s k places shift amount unit loss l n f e h =
+    ⊎_elim
+    (λ (a : k < places).
+    let b : s < 2 ^ k = omega (arith, l) in
+    let z : s / 2 ^ shift ≡ 0 = ap (λ (x : ℕ). s / 2 ^ x) (f a) ∙ nothing_left s k k b (omega arith) in
+    let g : StandsFor 0 loss amount (2 ^ k * unit) =
+    subst (λ (x : ℕ). StandsFor 0 loss amount (2 ^ x * unit)) (f a)
+    (subst (λ (q : ℕ). StandsFor q loss amount (2 ^ shift * unit)) z h) in
+    subst (λ (q : ℕ). StandsFor q loss amount (2 ^ places * unit)) (sym z)
+    (stands_farther k places amount unit loss (omega (arith, a)) e g))
+    (λ (a : places ≤ k). subst (λ (x : ℕ). StandsFor (s / 2 ^ shift) loss amount (2 ^ x * unit)) (n a) h)
+    (cases_lt k places)
+
+-- ---- the rest at the top of a word
+
+-- a rest has the same loss in other units
+loss_scaled : (r h k : ℕ) → 0 < k → loss_at (r * k) (h * k) ≡ loss_at r h
+loss_scaled r h k p =
+    let d : r * k ≡ r * k + 0 = omega arith in
+    let e : r * 1 + 0 ≡ r = omega arith in
+    let f : h * 1 ≡ h = omega arith in
+    let a : loss_at (2 * r + 0) (2 * h) ≡ loss_at (r * k + 0) (h * k) =
+    folded r 0 h k 0 p (λ z. z) (λ n. absurd (omega (arith, n))) in
+    let b : loss_at (2 * r + 0) (2 * h) ≡ loss_at (r * 1 + 0) (h * 1) =
+    folded r 0 h 1 0 (omega arith) (λ z. z) (λ n. absurd (omega (arith, n))) in
+    ap (λ (x : ℕ). loss_at x (h * k)) d ∙ sym a ∙ b ∙ ap (λ (x : ℕ). loss_at x (h * 1)) e
+    ∙ ap (λ (x : ℕ). loss_at r x) f
+
+-- moved to the top of a word, a significand leaves the digits below the cut there
+top_rest : (s places word : ℕ) → places ≤ word
+    → s * 2 ^ (word - places) % 2 ^ word ≡ s % 2 ^ places * 2 ^ (word - places)
+top_rest s places word l =
+    let k = 2 ^ (word - places) in
+    let q = s / 2 ^ places in
+    let r = s % 2 ^ places in
+    let e : places + (word - places) ≡ word = omega arith in
+    let w : 2 ^ word ≡ 2 ^ places * k = ap (λ (x : ℕ). 2 ^ x) (sym e) ∙ pow-add 2 places (word - places) in
+    let d : q * 2 ^ places + r ≡ s = div-add-mod' s (2 ^ places) in
+    let d' : (q * 2 ^ places + r) * k ≡ s * k = ap (λ (x : ℕ). x * k) d in
+    let w' : q * 2 ^ word ≡ q * (2 ^ places * k) = ap (λ (x : ℕ). q * x) w in
+    let v : s * k ≡ q * 2 ^ word + r * k = omega (arith, d', w') in
+    let b : r < 2 ^ places = mod_below s (2 ^ places) (pow_pos places) in
+    let b' : r * k < 2 ^ places * k = mul-lt-mul_of_pos_right b (pow_pos (word - places)) in
+    ap (λ (x : ℕ). x % 2 ^ word) v ∙ mod-mul-add q (2 ^ word) (r * k) (omega (arith, b', w))
+
+-- how a significand of at most 62 digits, below the smallest normalized value, is cut at the quantum: `places` digits
+-- are below it, of which `shift` are told apart
+pub record IsQuantumCut (precision s digits places shift half : ℕ) : Type 0 where
+  pub some : 0 < precision
+  pub short : digits ≤ 62
+  pub fits : s < 2 ^ digits
+  pub below : digits + 1 ≤ precision + places
+  pub near : places ≤ 63 → shift ≡ places
+  pub far : 63 < places → shift ≡ 63
+  pub bound : shift ≤ 63
+  pub cuts : 0 < shift
+  pub half_is : half ≡ 2 ^ 63
+
+-- it is below half of a word
+half_word : (s digits : ℕ) → digits ≤ 62 → s < 2 ^ digits → 2 * s < 2 ^ 63
+half_word s digits l h = let a : 2 ^ digits ≤ 2 ^ 62 = pow-le-pow_right two_pos l in omega (arith, a, h)
+
+pub quantum_fits : (precision s digits places shift half : ℕ) → IsQuantumCut precision s digits places shift half
+    → s / 2 ^ shift < 2 ^ (precision - 1)
+quantum_fits precision s digits places shift half i =
+    let b = i.below in
+    let p = i.some in
+    let e = word_quotient s 63 places shift (half_word s digits i.short i.fits) i.near i.far in
+    subst (λ (x : ℕ). x < 2 ^ (precision - 1)) (sym e)
+    (fits_cut s digits places (precision - 1) i.fits (omega (arith, b, p)))
+
+-- the loss of the rest at the top of the word is that of the digits below the cut
+top_loss : (s shift half : ℕ) → 0 < shift → shift ≤ 63 → half ≡ 2 ^ 63
+    → loss_at (s * 2 ^ (64 - shift) % 2 ^ 64) half ≡ loss_at (s % 2 ^ shift) (2 ^ (shift - 1))
+top_loss s shift half p l h =
+    let k = 2 ^ (64 - shift) in
+    let e : 63 ≡ shift - 1 + (64 - shift) = omega (arith, p, l) in
+    let w : half ≡ 2 ^ (shift - 1) * k = h ∙ ap (λ (x : ℕ). 2 ^ x) e ∙ pow-add 2 (shift - 1) (64 - shift) in
+    ap (λ (x : ℕ). loss_at x half) (top_rest s shift 64 (omega (arith, l)))
+    ∙ ap (λ (x : ℕ). loss_at (s % 2 ^ shift * k) x) w
+    ∙ loss_scaled (s % 2 ^ shift) (2 ^ (shift - 1)) k (pow_pos (64 - shift))
+
+-- the cut of an odd significand, in its units
+odd_stands : (s shift half amount unit : ℕ) → 2 ≤ shift → shift ≤ 63 → half ≡ 2 ^ 63 → s % 2 ≡ 1
+    → s * unit < amount + unit → amount < (s + 1) * unit
+    → StandsFor (s / 2 ^ shift) (loss_at (s * 2 ^ (64 - shift) % 2 ^ 64) half) amount (2 ^ shift * unit)
+odd_stands s shift half amount unit p l h o a b =
+    let w = 2 ^ (64 - shift) in
+    let g = 2 ^ (shift - 2) in
+    let q = s / 2 ^ shift in
+    let rest = s * 2 ^ (64 - shift) % 2 ^ 64 in
+    let e : 63 ≡ 1 + (shift - 2) + (64 - shift) = omega (arith, p, l) in
+    let c : half ≡ 2 * g * w = h ∙ ap (λ (x : ℕ). 2 ^ x) e ∙ pow3 1 (shift - 2) (64 - shift) in
+    let e' : 64 ≡ shift + (64 - shift) = omega (arith, l) in
+    let c' : 2 ^ 64 ≡ 2 ^ shift * w = ap (λ (x : ℕ). 2 ^ x) e' ∙ pow-add 2 shift (64 - shift) in
+    let t : 2 * (2 * g * w) ≡ 2 ^ shift * w = omega (arith, c, c', h) in
+    let r = top_rest s shift 64 (omega (arith, l)) in
+    let d : q * 2 ^ shift + s % 2 ^ shift ≡ s = div-add-mod' s (2 ^ shift) in
+    let d' : (q * 2 ^ shift + s % 2 ^ shift) * w ≡ s * w = ap (λ (x : ℕ). x * w) d in
+    let t' : q * (2 * (2 * g * w)) ≡ q * (2 ^ shift * w) = ap (λ (x : ℕ). q * x) t in
+    let v : s * w ≡ q * (2 * (2 * g * w)) + rest = omega (arith, d', t', r) in
+    let m : rest < 2 ^ 64 = mod_below (s * w) (2 ^ 64) (pow_pos 64) in
+    let k = odd_rest q g s rest amount unit w (pow_pos (64 - shift)) o v (omega (arith, m, c', t)) a b in
+    let t'' : 2 * (2 * g * w) * unit ≡ 2 ^ shift * unit * w =
+    ap (λ (x : ℕ). x * unit) t ∙ omega arith in
+    subst (λ (x : ℕ). StandsFor q (loss_at rest x) amount (2 ^ shift * unit)) (sym c)
+    (stands_cancel q (loss_at rest (2 * g * w)) amount (2 ^ shift * unit) w (pow_pos (64 - shift))
+    (subst (λ (x : ℕ). StandsFor q (loss_at rest (2 * g * w)) (amount * w) x) t'' k))
+
+-- what is kept, and the cut of a significand that was rounded to odd, in its units
+rounded_stands : (precision s digits places shift half amount unit : ℕ)
+    → IsQuantumCut precision s digits places shift half → 0 < unit
+    → IsRoundedToOdd (2 ^ (precision + 1)) s amount unit
+    → (2 * amount < 2 ^ 63 * unit)
+    × StandsFor (s / 2 ^ shift) (loss_at (s * 2 ^ (64 - shift) % 2 ^ 64) half) amount (2 ^ shift * unit)
+rounded_stands precision s digits places shift half amount unit i u (inl e) =
+    let rest = s % 2 ^ shift in
+    let below = 2 ^ (shift - 1) in
+    let loss = loss_at (s % 2 ^ shift) (2 ^ (shift - 1)) in
+    let b : rest < 2 * below = rest_below s shift below rest i.cuts refl refl in (
+      less_than_half s 63 amount unit (half_word s digits i.short i.fits) u e,
+      subst (λ (x : Loss). StandsFor (s / 2 ^ shift) x amount (2 ^ shift * unit))
+          (sym (top_loss s shift half i.cuts i.bound i.half_is))
+          (cut_at s shift below rest ExactlyZero loss i.cuts refl refl
+          (λ q a v z g. rest_stands q below rest a v z b g) amount unit u e),
+    )
+rounded_stands precision s digits places shift half amount unit i u (inr o) =
+    let f = i.fits in
+    let m = o.long in
+    let w = i.below in
+    let n = i.near in
+    let r = i.far in
+    let k : 2 ^ (precision + 1) < 2 ^ digits = omega (arith, f, m) in
+    let p : precision + 1 < digits = exponent_below (precision + 1) digits k in
+    let c : 2 ≤ shift =
+    ⊎_elim
+    (λ (a : 63 < places). omega (arith, r a))
+    (λ (a : places ≤ 63). omega (arith, n a, w, p))
+    (cases_lt 63 places) in
+    let h : 2 * s < 2 ^ 63 = half_word s digits i.short i.fits in
+    let h' : (2 * s + 2) * unit ≤ 2 ^ 63 * unit = mul-le-mul_right unit (omega (arith, h)) in
+    let b = o.below in (
+      omega (arith, b, h'),
+      odd_stands s shift half amount unit c i.bound i.half_is o.odd o.above o.below,
+    )
+
+-- what is kept stands for the amount in quanta
+pub quantum_stands : (precision s digits places shift half up down amount parts : ℕ)
+    → IsQuantumCut precision s digits places shift half → 0 < parts → up ≡ 0 → down ≡ places
+    → IsRoundedToOdd (2 ^ (precision + 1)) s (amount * 2 ^ down) (parts * 2 ^ up)
+    → StandsFor (s / 2 ^ shift) (loss_at (s * 2 ^ (64 - shift) % 2 ^ 64) half) amount (2 ^ 0 * parts)
+quantum_stands precision s digits places shift half up down amount parts i p u d h =
+    let loss = loss_at (s * 2 ^ (64 - shift) % 2 ^ 64) half in
+    let r = rounded_stands precision s digits places shift half (amount * 2 ^ down) (parts * 2 ^ up) i
+    (mul-pos p (pow_pos up)) h in
+    let w = word_stands s 63 places shift (amount * 2 ^ down) (parts * 2 ^ up) loss
+    (half_word s digits i.short i.fits) i.near i.far r.0 r.1 in
+    let e : places + up ≡ 0 + down = omega (arith, u, d) in
+    kept_stands (s / 2 ^ shift) loss amount parts places up down 0 e w
+
+pub quantum_encloses : (precision s digits places shift half up down amount parts : ℕ)
+    → IsQuantumCut precision s digits places shift half → 0 < parts → up ≡ 0 → down ≡ places
+    → IsRoundedToOdd (2 ^ (precision + 1)) s (amount * 2 ^ down) (parts * 2 ^ up)
+    → IsEnclosed precision (2 ^ (precision - 1)) (s / 2 ^ shift) 0 amount parts
+quantum_encloses precision s digits places shift half up down amount parts i p u d h =
+    let f = quantum_fits precision s digits places shift half i in
+    let a : 2 ^ (precision - 1) ≤ 2 ^ precision = pow-le-pow_right two_pos (omega arith) in
+    enclosed_from precision (s / 2 ^ shift) 0 (loss_at (s * 2 ^ (64 - shift) % 2 ^ 64) half) amount parts i.some p
+    (omega (arith, f, a)) (inl refl)
+    (quantum_stands precision s digits places shift half up down amount parts i p u d h)
+
+-- ---- a significand that is folded into a word
+
+-- the unit of what is left, counted from the quantum
+pub folded_odd : (s least k up down up' down' amount parts : ℕ) → k + up + down' ≡ up' + down
+    → IsRoundedToOdd least s (amount * 2 ^ down) (2 ^ k * (parts * 2 ^ up))
+    → IsRoundedToOdd least s (amount * 2 ^ down') (parts * 2 ^ up')
+folded_odd s least k up down up' down' amount parts e h =
+    let t = to_odd_times least s (amount * 2 ^ down) (2 ^ k * (parts * 2 ^ up)) (2 ^ down') (pow_pos down') h in
+    let a : amount * 2 ^ down * 2 ^ down' ≡ amount * 2 ^ down' * 2 ^ down = omega arith in
+    let p : 2 ^ k * 2 ^ up * 2 ^ down' ≡ 2 ^ up' * 2 ^ down =
+    sym (pow3 k up down') ∙ ap (λ (x : ℕ). 2 ^ x) e ∙ pow-add 2 up' down in
+    let b : 2 ^ k * (parts * 2 ^ up) * 2 ^ down' ≡ parts * (2 ^ k * 2 ^ up * 2 ^ down') = omega arith in
+    let b' : parts * (2 ^ k * 2 ^ up * 2 ^ down') ≡ parts * (2 ^ up' * 2 ^ down) = ap (λ (x : ℕ). parts * x) p in
+    let b'' : parts * (2 ^ up' * 2 ^ down) ≡ parts * 2 ^ up' * 2 ^ down = omega arith in
+    to_odd_cancel least s (amount * 2 ^ down') (parts * 2 ^ up') (2 ^ down) (pow_pos down)
+    (subst₂ (λ (x : ℕ) (y : ℕ). IsRoundedToOdd least s x y) a (b ∙ b' ∙ b'') t)
+
+-- ---- the point that is picked, and its status
+
+moved_at_most : (moved : Bool) (m : ℕ) → cond moved (m + 1) m ≤ m + 1
+moved_at_most true m = omega arith
+moved_at_most false m = omega arith
+
+-- what is kept at the quantum, moved as the rest demands, is delivered
+pub delivered_low : (format : Format) (mode : Round) (negative : Bool) (m c amount parts next rest half : ℕ)
+    (moved tiny : Bool) (value : Datum) (status : ℕ) → 0 < parts → 3 ≤ format.precision → c ≡ 0
+    → m < 2 ^ (format.precision - 1) → moved ≡ rounds_up mode negative (loss_at rest half) (eqb (m % 2) 1)
+    → next ≡ cond moved (m + 1) m → IsEnclosed format.precision (2 ^ (format.precision - 1)) m c amount parts
+    → StandsFor m (loss_at rest half) amount (2 ^ c * parts)
+    → is_tiny format mode negative amount parts (next * 2 ^ 0) ≡ tiny
+    → value ≡ signed_quanta format.nonfinite negative next → (rest ≡ 0 → status ≡ ok_bits)
+    → ((rest ≡ 0 → ⊥) → status ≡ cond tiny (underflow_bit + inexact_bit) inexact_bit)
+    → IsDelivered format mode negative amount parts value status
+delivered_low format mode negative m c amount parts next rest half moved tiny value status p s z f e v i h t w x y =
+    let loss = loss_at rest half in
+    let k : 2 ^ c ≡ 1 = ap (λ (n : ℕ). 2 ^ n) z in
+    let k' : cond moved (m + 1) m * 2 ^ c ≡ cond moved (m + 1) m * 1 = ap (λ (n : ℕ). cond moved (m + 1) m * n) k in
+    let v' : next ≡ cond moved (m + 1) m * 2 ^ c = omega (arith, v, k') in
+    let is = picked_if_moved format.precision mode negative m c amount parts next loss moved e v' p i h in
+    let l : next ≤ largest format = omega (arith, v, moved_at_most moved m, f, half_within format s) in
+    let a = le-ltb (largest format) next l in
+    let n' : next * 2 ^ 0 ≡ next = omega arith in
+    let t' : is_tiny format mode negative amount parts next ≡ tiny =
+    subst (λ (n : ℕ). is_tiny format mode negative amount parts n ≡ tiny) n' t in
+    ⊎_elim
+    (λ (b : rest < 1).
+    let n : rest ≡ 0 = omega arith in
+    delivered_exactly format mode negative amount parts next value status is a
+    (exact_if format.precision mode negative (2 ^ (format.precision - 1)) m c amount parts next loss
+    (loss_zero rest half n) p i h is)
+    w (x n))
+    (λ (b : 1 ≤ rest).
+    let n : rest ≡ 0 → ⊥ = λ (j : rest ≡ 0). omega (arith, j) in
+    delivered_inexactly format mode negative amount parts next value status is a
+    (inexact_if format.precision mode negative (2 ^ (format.precision - 1)) m c amount parts next loss
+    (loss_some rest half (omega arith)) p i h is)
+    w (rw t' (y n)))
+    (cases_lt rest 1)
