@@ -1,7 +1,5 @@
-//! The answers of calls in a kind of values. Each is written where it belongs by a function of its own.
-//!
-//! Such a function takes the answer first, and returns the code, so that its operands are already in the registers where
-//! the export got them, and the export ends with a jump to it.
+//! The answers of calls in a kind of values. Each is written where it belongs by a function of its own, which takes its
+//! operands in registers: the answer first, so that the others stay in those in which C passes them.
 
 ghost use Rattle.std.specs.Prelude.{◌≡◌, ◌<◌, pos};
 ghost use Rattle.rustc_apfloat.specs.FlaggedTypes.{constants_of};
@@ -9,8 +7,7 @@ ghost use Rattle.dispatch.specs.declared.Arithmetic.TheVariants.{Sum, Difference
 ghost use Rattle.dispatch.specs.Relations.{relations_of};
 ghost use Rattle.dispatch.specs.ValueKinds.{of_format, of_pairs, value_of};
 ghost use Rattle.apfloat_c.specs.declared.exported_call.ExportedCall.TheVariants.{OfTwo, FusedSum, SquareRoot, FromUnsigned, FromSigned, ToUnsigned, ToSigned, RoundToIntegral, Scaling, Fraction, Conversion, Text};
-ghost use Rattle.apfloat_c.specs.KnownCalls.{answered};
-ghost use Rattle.apfloat_c.specs.Answers.{FractionFits, IsConvertedInto, IsLeft, IsNumber, IsTypeLeft, IsValue, IsWritten, class_of, order_code};
+ghost use Rattle.apfloat_c.specs.Answers.{FractionFits, IsConvertedInto, IsKindAnswer, IsLeft, IsNumber, IsTypeAnswer, IsTypeLeft, IsValue, IsWritten, class_of, order_code};
 
 use crate::ascii::text_of;
 use crate::codes::{
@@ -26,98 +23,85 @@ use std::marker::PhantomData;
 
 /// A sum.
 #[inline(never)]
-pub fn sum<S: Flagged>(answer: &mut Answer, round: Round, x: u128, y: u128) -> u32
+pub fn sum<S: Flagged>(answer: &mut Answer, round: Round, x: u128, y: u128)
     requires { S.PRECISION < S.BITS }
     ensures { let kind = of_format (constants_of S.Flagged) in
-        IsLeft kind round (OfTwo Sum x y) answer.old answer.new result }
+        IsKindAnswer kind round (OfTwo Sum x y) answer.new }
 {
     let (x, y) = (IeeeFloat::<S>::from_bits(x), IeeeFloat::<S>::from_bits(y));
     *answer = written(x.add_r(y, round));
-    ANSWERED
 }
 
 /// A difference.
 #[inline(never)]
-pub fn difference<S: Flagged>(answer: &mut Answer, round: Round, x: u128, y: u128) -> u32
+pub fn difference<S: Flagged>(answer: &mut Answer, round: Round, x: u128, y: u128)
     requires { S.PRECISION < S.BITS }
     ensures { let kind = of_format (constants_of S.Flagged) in
-        IsLeft kind round (OfTwo Difference x y) answer.old answer.new result }
+        IsKindAnswer kind round (OfTwo Difference x y) answer.new }
 {
     let (x, y) = (IeeeFloat::<S>::from_bits(x), IeeeFloat::<S>::from_bits(y));
     *answer = written(x.sub_r(y, round));
-    ANSWERED
 }
 
 /// A product, however many digits the format has.
 #[inline(never)]
-pub fn product<S: Flagged>(answer: &mut Answer, round: Round, x: u128, y: u128) -> u32
+pub fn product<S: Flagged>(answer: &mut Answer, round: Round, x: u128, y: u128)
     requires { S.PRECISION < S.BITS }
     ensures { let kind = of_format (constants_of S.Flagged) in
-        IsLeft kind round (OfTwo Product x y) answer.old answer.new result }
+        IsKindAnswer kind round (OfTwo Product x y) answer.new }
 {
     let (x, y) = (IeeeFloat::<S>::from_bits(x), IeeeFloat::<S>::from_bits(y));
     *answer = written(x.wide_mul_r(y, round));
-    ANSWERED
 }
 
 /// A quotient.
 #[inline(never)]
-pub fn quotient<S: Flagged>(answer: &mut Answer, round: Round, x: u128, y: u128) -> u32
+pub fn quotient<S: Flagged>(answer: &mut Answer, round: Round, x: u128, y: u128)
     requires { S.PRECISION < S.BITS }
     ensures { let kind = of_format (constants_of S.Flagged) in
-        IsLeft kind round (OfTwo Quotient x y) answer.old answer.new result }
+        IsKindAnswer kind round (OfTwo Quotient x y) answer.new }
 {
     let (x, y) = (IeeeFloat::<S>::from_bits(x), IeeeFloat::<S>::from_bits(y));
     *answer = written(x.div_r(y, round));
-    ANSWERED
 }
 
 /// The remainder by the whole number nearest to the quotient.
 #[inline(never)]
-pub fn nearest_remainder<S: Flagged>(answer: &mut Answer, round: Round, x: u128, y: u128) -> u32
+pub fn nearest_remainder<S: Flagged>(answer: &mut Answer, round: Round, x: u128, y: u128)
     requires { S.PRECISION < S.BITS }
     ensures { let kind = of_format (constants_of S.Flagged) in
-        IsLeft kind round (OfTwo NearestRemainder x y) answer.old answer.new result }
+        IsKindAnswer kind round (OfTwo NearestRemainder x y) answer.new }
 {
     let (x, y) = (IeeeFloat::<S>::from_bits(x), IeeeFloat::<S>::from_bits(y));
     *answer = written(x.ieee_rem(y));
-    ANSWERED
 }
 
 /// The remainder by the quotient cut toward zero.
 #[inline(never)]
-pub fn truncated_remainder<S: Flagged>(answer: &mut Answer, round: Round, x: u128, y: u128) -> u32
+pub fn truncated_remainder<S: Flagged>(answer: &mut Answer, round: Round, x: u128, y: u128)
     requires { S.PRECISION < S.BITS }
     ensures { let kind = of_format (constants_of S.Flagged) in
-        IsLeft kind round (OfTwo TruncatedRemainder x y) answer.old answer.new result }
+        IsKindAnswer kind round (OfTwo TruncatedRemainder x y) answer.new }
 {
     let (x, y) = (IeeeFloat::<S>::from_bits(x), IeeeFloat::<S>::from_bits(y));
     *answer = written(x.c_fmod(y));
-    ANSWERED
 }
 
 /// An operation on two pairs of doubles.
 #[inline(never)]
-pub fn of_two_pairs(
-    answer: &mut Answer,
-    round: Round,
-    x: u128,
-    y: u128,
-    arithmetic: Arithmetic,
-) -> u32
-    ensures { IsLeft of_pairs round (OfTwo arithmetic x y) answer.old answer.new result }
+pub fn of_two_pairs(round: Round, arithmetic: Arithmetic, x: u128, y: u128, answer: &mut Answer)
+    ensures { IsKindAnswer of_pairs round (OfTwo arithmetic x y) answer.new }
 {
     let (x, y) = (DoubleDouble::from_bits(x), DoubleDouble::from_bits(y));
     *answer = written(arithmetic.answer(x, y, round));
-    ANSWERED
 }
 
 /// A product plus a third value, rounded once.
 #[inline(never)]
-pub fn fused_sum<S: Flagged>(answer: &mut Answer, round: Round, x: u128, y: u128, z: u128) -> u32
+pub fn fused_sum<S: Flagged>(answer: &mut Answer, round: Round, x: u128, y: u128, z: u128)
     requires { S.PRECISION < S.BITS }
     ensures { let kind = of_format (constants_of S.Flagged) in
-        IsLeft kind round (FusedSum x y z) answer.old answer.new result }
+        IsKindAnswer kind round (FusedSum x y z) answer.new }
 {
     let (x, y, z) = (
         IeeeFloat::<S>::from_bits(x),
@@ -125,49 +109,44 @@ pub fn fused_sum<S: Flagged>(answer: &mut Answer, round: Round, x: u128, y: u128
         IeeeFloat::<S>::from_bits(z),
     );
     *answer = written(x.wide_mul_add_r(y, z, round));
-    ANSWERED
 }
 
 /// The square root of a value of a format.
 #[inline(never)]
-pub fn root<S: Flagged>(answer: &mut Answer, round: Round, x: u128) -> u32
+pub fn root<S: Flagged>(answer: &mut Answer, round: Round, x: u128)
     requires { S.PRECISION < S.BITS }
     ensures { let kind = of_format (constants_of S.Flagged) in
-        IsLeft kind round (SquareRoot x) answer.old answer.new result }
+        IsKindAnswer kind round (SquareRoot x) answer.new }
 {
     *answer = written(IeeeFloat::<S>::from_bits(x).sqrt_r(round));
-    ANSWERED
 }
 
 /// The square root of a pair of doubles.
 #[inline(never)]
-pub fn pair_root(answer: &mut Answer, round: Round, x: u128) -> u32
-    ensures { IsLeft of_pairs round (SquareRoot x) answer.old answer.new result }
+pub fn pair_root(round: Round, x: u128, answer: &mut Answer)
+    ensures { IsKindAnswer of_pairs round (SquareRoot x) answer.new }
 {
     *answer = written(DoubleDouble::from_bits(x).sqrt_r(round));
-    ANSWERED
 }
 
 /// A whole number.
 #[inline(never)]
-pub fn from_unsigned<F: Float>(answer: &mut Answer, round: Round, number: u128) -> u32
+pub fn from_unsigned<F: Float>(answer: &mut Answer, round: Round, number: u128)
     requires { F.PRECISION < F.BITS }
-    ensures { IsTypeLeft (relations_of F.Float.own F.partial_cmp) round (FromUnsigned number)
-        answer.old answer.new result }
+    ensures { IsTypeAnswer (relations_of F.Float.own F.partial_cmp) round (FromUnsigned number)
+        answer.new }
 {
     *answer = written(F::from_u128_r(number, round));
-    ANSWERED
 }
 
 /// A whole number with a sign.
 #[inline(never)]
-pub fn from_signed<F: Float>(answer: &mut Answer, round: Round, number: i128) -> u32
+pub fn from_signed<F: Float>(answer: &mut Answer, round: Round, number: i128)
     requires { F.PRECISION < F.BITS }
-    ensures { IsTypeLeft (relations_of F.Float.own F.partial_cmp) round (FromSigned number)
-        answer.old answer.new result }
+    ensures { IsTypeAnswer (relations_of F.Float.own F.partial_cmp) round (FromSigned number)
+        answer.new }
 {
     *answer = written(F::from_i128_r(number, round));
-    ANSWERED
 }
 
 /// A value as a whole number.
@@ -206,92 +185,84 @@ pub fn to_signed<F: Float>(answer: &mut Answer, round: Round, x: u128, width: u3
 
 /// A value rounded to an integral value.
 #[inline(never)]
-pub fn round_to_integral<F: Float>(answer: &mut Answer, round: Round, x: u128) -> u32
+pub fn round_to_integral<F: Float>(answer: &mut Answer, round: Round, x: u128)
     requires { F.PRECISION < F.BITS }
-    ensures { IsTypeLeft (relations_of F.Float.own F.partial_cmp) round (RoundToIntegral x)
-        answer.old answer.new result }
+    ensures { IsTypeAnswer (relations_of F.Float.own F.partial_cmp) round (RoundToIntegral x)
+        answer.new }
 {
     *answer = written(F::from_bits(x).round_to_integral(round));
-    ANSWERED
 }
 
 /// A value times a power of two.
 #[inline(never)]
-pub fn scaled<F: Float>(answer: &mut Answer, round: Round, x: u128, power: i32) -> u32
+pub fn scaled<F: Float>(answer: &mut Answer, round: Round, x: u128, power: i32)
     requires { F.PRECISION < F.BITS }
-    ensures { IsTypeLeft (relations_of F.Float.own F.partial_cmp) round (Scaling x power)
-        answer.old answer.new result }
+    ensures { IsTypeAnswer (relations_of F.Float.own F.partial_cmp) round (Scaling x power)
+        answer.new }
 {
     let scaled = F::from_bits(x).scalbn_r(power, round);
     *answer = written(Status::OK.and(scaled));
-    ANSWERED
 }
 
 /// The fraction of a value and its exponent.
 #[inline(never)]
-pub fn fraction<F: Float>(answer: &mut Answer, round: Round, x: u128) -> u32
+pub fn fraction<F: Float>(answer: &mut Answer, round: Round, x: u128)
     requires written { F.PRECISION < F.BITS }
     requires fits { FractionFits (relations_of F.Float.own F.partial_cmp) (Fraction x) }
-    ensures { IsTypeLeft (relations_of F.Float.own F.partial_cmp) round (Fraction x)
-        answer.old answer.new result }
+    ensures { IsTypeAnswer (relations_of F.Float.own F.partial_cmp) round (Fraction x)
+        answer.new }
 {
     let mut exponent = 0;
     let fraction = F::from_bits(x).frexp_r(&mut exponent, round);
     *answer = shown(Status::OK.and(fraction), exponent);
-    ANSWERED
 }
 
 /// The exponent of a value.
 #[inline(never)]
-pub fn exponent<F: Float>(answer: &mut Answer, x: u128) -> u32
+pub fn exponent<F: Float>(answer: &mut Answer, x: u128)
     requires { F.PRECISION < F.BITS }
-    ensures { (result ≡ answered) × IsNumber (F.has_exponent (F.value_of_bits x)) answer.new }
+    ensures { IsNumber (F.has_exponent (F.value_of_bits x)) answer.new }
 {
     *answer = Answer::number(F::from_bits(x).ilogb());
-    ANSWERED
 }
 
 /// The least value above.
 #[inline(never)]
-pub fn next_up<F: Float>(answer: &mut Answer, x: u128) -> u32
+pub fn next_up<F: Float>(answer: &mut Answer, x: u128)
     requires { F.PRECISION < F.BITS }
-    ensures { (result ≡ answered) × IsValue (relations_of F.Float.own F.partial_cmp)
+    ensures { IsValue (relations_of F.Float.own F.partial_cmp)
         (F.steps_up (F.value_of_bits x)) answer.new }
 {
     *answer = written(F::from_bits(x).next_up());
-    ANSWERED
 }
 
 /// The greatest value below.
 #[inline(never)]
-pub fn next_down<F: Float>(answer: &mut Answer, x: u128) -> u32
+pub fn next_down<F: Float>(answer: &mut Answer, x: u128)
     requires { F.PRECISION < F.BITS }
-    ensures { (result ≡ answered) × IsValue (relations_of F.Float.own F.partial_cmp)
+    ensures { IsValue (relations_of F.Float.own F.partial_cmp)
         (F.steps_down (F.value_of_bits x)) answer.new }
 {
     *answer = written(F::from_bits(x).next_down());
-    ANSWERED
 }
 
 /// The order of two values.
 #[inline(never)]
-pub fn comparison<F: Float>(answer: &mut Answer, x: u128, y: u128) -> u32
+pub fn comparison<F: Float>(answer: &mut Answer, x: u128, y: u128)
     requires { F.PRECISION < F.BITS }
-    ensures { (result ≡ answered) × IsNumber
+    ensures { IsNumber
         (λ n. n ≡ order_code (F.partial_cmp (F.value_of_bits x) (F.value_of_bits y))) answer.new }
 {
     let (x, y) = (F::from_bits(x), F::from_bits(y));
     *answer = Answer::number(order_code(x.partial_cmp(&y)));
-    ANSWERED
 }
 
 /// The class of a value.
 #[inline(never)]
-pub fn class<F: Float>(answer: &mut Answer, x: u128) -> u32
+pub fn class<F: Float>(answer: &mut Answer, x: u128)
     requires { F.PRECISION < F.BITS }
     ensures { let of_type = relations_of F.Float.own F.partial_cmp in
-        (result ≡ answered)
-        × IsNumber (λ n. n ≡ class_of of_type (F.value_of_bits x)) answer.new }
+        IsNumber (λ n. n ≡ class_of of_type (F.value_of_bits x)) answer.new }
 {
     let x = F::from_bits(x);
     let code = class_code(
@@ -301,16 +272,15 @@ pub fn class<F: Float>(answer: &mut Answer, x: u128) -> u32
         x.is_signaling(),
     );
     *answer = Answer::number(code);
-    ANSWERED
 }
 
 /// A value in another kind.
 #[inline(always)]
 pub fn converted<S: Flagged>(
-    answer: &mut Answer,
     round: Round,
     x: u128,
     target: Option<FlaggedKind>,
+    answer: &mut Answer,
 ) -> u32
     requires { S.PRECISION < S.BITS }
     ensures { let kind = of_format (constants_of S.Flagged) in
@@ -321,7 +291,8 @@ pub fn converted<S: Flagged>(
         Some(FlaggedKind::Pairs) => NO_SUCH_OPERATION,
         Some(FlaggedKind::OfFormat(target)) => {
             let source = PhantomData;
-            target.fill(ConversionFrom::<S> { source, round, x }, answer)
+            target.fill(ConversionFrom::<S> { source, round, x }, answer);
+            ANSWERED
         }
     }
 }
@@ -338,42 +309,38 @@ struct ConversionFrom<S: Flagged> {
 impl<S: Flagged> FillsInFormat for ConversionFrom<S> {
     type Place = Answer;
 
-    type Output = u32;
+    type Output = ();
 
-    ghost gives = { λ it kind old new code. let c = constants_of S.Flagged in
-        (code ≡ answered) × IsConvertedInto c it.round (value_of c it.x) kind new };
+    ghost gives = { λ it kind old new _.
+        let c = constants_of S.Flagged in IsConvertedInto c it.round (value_of c it.x) kind new };
 
     #[inline(always)]
-    fn fill_in_format<T: Flagged>(self, answer: &mut Answer) -> u32 {
+    fn fill_in_format<T: Flagged>(self, answer: &mut Answer) {
         converted_to::<S, T>(answer, self.round, self.x)
     }
 }
 
 /// A value of the format `S` in the format `T`.
 #[inline(never)]
-fn converted_to<S: Flagged, T: Flagged>(answer: &mut Answer, round: Round, x: u128) -> u32
+fn converted_to<S: Flagged, T: Flagged>(answer: &mut Answer, round: Round, x: u128)
     requires source { S.PRECISION < S.BITS }
     requires target { T.PRECISION < T.BITS }
-    ensures { let c = constants_of S.Flagged in (result ≡ answered)
-        × IsConvertedInto c round (value_of c x) (of_format (constants_of T.Flagged)) answer.new }
+    ensures { let c = constants_of S.Flagged in
+        IsConvertedInto c round (value_of c x) (of_format (constants_of T.Flagged)) answer.new }
 {
     let mut loses_info = false;
     let x = IeeeFloat::<S>::from_bits(x);
     let given: StatusAnd<IeeeFloat<T>> = x.convert_r(round, &mut loses_info);
     *answer = shown(given, one_if(loses_info));
-    ANSWERED
 }
 
-/// The value of a text in a format.
+/// The value of a text in a format. A text that has a value is ASCII, so its bytes are looked at once.
 #[inline(never)]
 pub fn read<S: Flagged>(answer: &mut Answer, round: Round, bytes: &[u8]) -> u32
     requires { S.PRECISION < S.BITS }
     ensures { IsLeft (of_format (constants_of S.Flagged)) round (Text bytes.entry)
         answer.old answer.new result }
 {
-    if !bytes.is_ascii() {
-        return REFUSED_TEXT;
-    }
     match IeeeFloat::<S>::from_ascii_r(bytes, round) {
         Ok(read) => {
             *answer = written(read);

@@ -90,12 +90,14 @@ impl Operation for SumCall {
 
     #[inline(always)]
     fn in_format<S: Flagged>(self, round: Round, answer: &mut Answer) -> u32 {
-        sum::<S>(answer, round, self.x, self.y)
+        sum::<S>(answer, round, self.x, self.y);
+        ANSWERED
     }
 
     #[inline(always)]
     fn in_pairs(self, round: Round, answer: &mut Answer) -> u32 {
-        of_two_pairs(answer, round, self.x, self.y, Arithmetic::Sum)
+        of_two_pairs(round, Arithmetic::Sum, self.x, self.y, answer);
+        ANSWERED
     }
 }
 
@@ -113,12 +115,14 @@ impl Operation for DifferenceCall {
 
     #[inline(always)]
     fn in_format<S: Flagged>(self, round: Round, answer: &mut Answer) -> u32 {
-        difference::<S>(answer, round, self.x, self.y)
+        difference::<S>(answer, round, self.x, self.y);
+        ANSWERED
     }
 
     #[inline(always)]
     fn in_pairs(self, round: Round, answer: &mut Answer) -> u32 {
-        of_two_pairs(answer, round, self.x, self.y, Arithmetic::Difference)
+        of_two_pairs(round, Arithmetic::Difference, self.x, self.y, answer);
+        ANSWERED
     }
 }
 
@@ -136,12 +140,14 @@ impl Operation for ProductCall {
 
     #[inline(always)]
     fn in_format<S: Flagged>(self, round: Round, answer: &mut Answer) -> u32 {
-        product::<S>(answer, round, self.x, self.y)
+        product::<S>(answer, round, self.x, self.y);
+        ANSWERED
     }
 
     #[inline(always)]
     fn in_pairs(self, round: Round, answer: &mut Answer) -> u32 {
-        of_two_pairs(answer, round, self.x, self.y, Arithmetic::Product)
+        of_two_pairs(round, Arithmetic::Product, self.x, self.y, answer);
+        ANSWERED
     }
 }
 
@@ -159,12 +165,14 @@ impl Operation for QuotientCall {
 
     #[inline(always)]
     fn in_format<S: Flagged>(self, round: Round, answer: &mut Answer) -> u32 {
-        quotient::<S>(answer, round, self.x, self.y)
+        quotient::<S>(answer, round, self.x, self.y);
+        ANSWERED
     }
 
     #[inline(always)]
     fn in_pairs(self, round: Round, answer: &mut Answer) -> u32 {
-        of_two_pairs(answer, round, self.x, self.y, Arithmetic::Quotient)
+        of_two_pairs(round, Arithmetic::Quotient, self.x, self.y, answer);
+        ANSWERED
     }
 }
 
@@ -182,12 +190,14 @@ impl Operation for NearestRemainderCall {
 
     #[inline(always)]
     fn in_format<S: Flagged>(self, round: Round, answer: &mut Answer) -> u32 {
-        nearest_remainder::<S>(answer, round, self.x, self.y)
+        nearest_remainder::<S>(answer, round, self.x, self.y);
+        ANSWERED
     }
 
     #[inline(always)]
     fn in_pairs(self, round: Round, answer: &mut Answer) -> u32 {
-        of_two_pairs(answer, round, self.x, self.y, Arithmetic::NearestRemainder)
+        of_two_pairs(round, Arithmetic::NearestRemainder, self.x, self.y, answer);
+        ANSWERED
     }
 }
 
@@ -205,18 +215,20 @@ impl Operation for TruncatedRemainderCall {
 
     #[inline(always)]
     fn in_format<S: Flagged>(self, round: Round, answer: &mut Answer) -> u32 {
-        truncated_remainder::<S>(answer, round, self.x, self.y)
+        truncated_remainder::<S>(answer, round, self.x, self.y);
+        ANSWERED
     }
 
     #[inline(always)]
     fn in_pairs(self, round: Round, answer: &mut Answer) -> u32 {
         of_two_pairs(
-            answer,
             round,
+            Arithmetic::TruncatedRemainder,
             self.x,
             self.y,
-            Arithmetic::TruncatedRemainder,
-        )
+            answer,
+        );
+        ANSWERED
     }
 }
 
@@ -236,7 +248,8 @@ impl Operation for FusedSumCall {
 
     #[inline(always)]
     fn in_format<S: Flagged>(self, round: Round, answer: &mut Answer) -> u32 {
-        fused_sum::<S>(answer, round, self.x, self.y, self.z)
+        fused_sum::<S>(answer, round, self.x, self.y, self.z);
+        ANSWERED
     }
 
     #[inline(always)]
@@ -257,12 +270,14 @@ impl Operation for SquareRootCall {
 
     #[inline(always)]
     fn in_format<S: Flagged>(self, round: Round, answer: &mut Answer) -> u32 {
-        root::<S>(answer, round, self.x)
+        root::<S>(answer, round, self.x);
+        ANSWERED
     }
 
     #[inline(always)]
     fn in_pairs(self, round: Round, answer: &mut Answer) -> u32 {
-        pair_root(answer, round, self.x)
+        pair_root(round, self.x, answer);
+        ANSWERED
     }
 }
 
@@ -278,12 +293,14 @@ impl Operation for FromUnsignedCall {
 
     #[inline(always)]
     fn in_format<S: Flagged>(self, round: Round, answer: &mut Answer) -> u32 {
-        from_unsigned::<IeeeFloat<S>>(answer, round, self.number)
+        from_unsigned::<IeeeFloat<S>>(answer, round, self.number);
+        ANSWERED
     }
 
     #[inline(always)]
     fn in_pairs(self, round: Round, answer: &mut Answer) -> u32 {
-        from_unsigned::<DoubleDouble>(answer, round, self.number)
+        from_unsigned::<DoubleDouble>(answer, round, self.number);
+        ANSWERED
     }
 }
 
@@ -299,12 +316,14 @@ impl Operation for FromSignedCall {
 
     #[inline(always)]
     fn in_format<S: Flagged>(self, round: Round, answer: &mut Answer) -> u32 {
-        from_signed::<IeeeFloat<S>>(answer, round, self.number)
+        from_signed::<IeeeFloat<S>>(answer, round, self.number);
+        ANSWERED
     }
 
     #[inline(always)]
     fn in_pairs(self, round: Round, answer: &mut Answer) -> u32 {
-        from_signed::<DoubleDouble>(answer, round, self.number)
+        from_signed::<DoubleDouble>(answer, round, self.number);
+        ANSWERED
     }
 }
 
@@ -366,12 +385,14 @@ impl Operation for RoundToIntegralCall {
 
     #[inline(always)]
     fn in_format<S: Flagged>(self, round: Round, answer: &mut Answer) -> u32 {
-        round_to_integral::<IeeeFloat<S>>(answer, round, self.x)
+        round_to_integral::<IeeeFloat<S>>(answer, round, self.x);
+        ANSWERED
     }
 
     #[inline(always)]
     fn in_pairs(self, round: Round, answer: &mut Answer) -> u32 {
-        round_to_integral::<DoubleDouble>(answer, round, self.x)
+        round_to_integral::<DoubleDouble>(answer, round, self.x);
+        ANSWERED
     }
 }
 
@@ -389,12 +410,14 @@ impl Operation for ScalingCall {
 
     #[inline(always)]
     fn in_format<S: Flagged>(self, round: Round, answer: &mut Answer) -> u32 {
-        scaled::<IeeeFloat<S>>(answer, round, self.x, self.power)
+        scaled::<IeeeFloat<S>>(answer, round, self.x, self.power);
+        ANSWERED
     }
 
     #[inline(always)]
     fn in_pairs(self, round: Round, answer: &mut Answer) -> u32 {
-        scaled::<DoubleDouble>(answer, round, self.x, self.power)
+        scaled::<DoubleDouble>(answer, round, self.x, self.power);
+        ANSWERED
     }
 }
 
@@ -412,14 +435,16 @@ impl Operation for FractionCall {
     fn in_format<S: Flagged>(self, round: Round, answer: &mut Answer) -> u32 {
         // That `x` belongs to the format bounds its exponent, which therefore fits 32 bits.
         let _ = IeeeFloat::<S>::from_bits(self.x).category();
-        fraction::<IeeeFloat<S>>(answer, round, self.x)
+        fraction::<IeeeFloat<S>>(answer, round, self.x);
+        ANSWERED
     }
 
     #[inline(always)]
     fn in_pairs(self, round: Round, answer: &mut Answer) -> u32 {
         // That both parts are doubles bounds the exponent, which therefore fits 32 bits.
         let _ = DoubleDouble::from_bits(self.x).category();
-        fraction::<DoubleDouble>(answer, round, self.x)
+        fraction::<DoubleDouble>(answer, round, self.x);
+        ANSWERED
     }
 }
 
@@ -435,12 +460,14 @@ impl Operation for ExponentCall {
 
     #[inline(always)]
     fn in_format<S: Flagged>(self, round: Round, answer: &mut Answer) -> u32 {
-        exponent::<IeeeFloat<S>>(answer, self.x)
+        exponent::<IeeeFloat<S>>(answer, self.x);
+        ANSWERED
     }
 
     #[inline(always)]
     fn in_pairs(self, round: Round, answer: &mut Answer) -> u32 {
-        exponent::<DoubleDouble>(answer, self.x)
+        exponent::<DoubleDouble>(answer, self.x);
+        ANSWERED
     }
 }
 
@@ -456,12 +483,14 @@ impl Operation for NextUpCall {
 
     #[inline(always)]
     fn in_format<S: Flagged>(self, round: Round, answer: &mut Answer) -> u32 {
-        next_up::<IeeeFloat<S>>(answer, self.x)
+        next_up::<IeeeFloat<S>>(answer, self.x);
+        ANSWERED
     }
 
     #[inline(always)]
     fn in_pairs(self, round: Round, answer: &mut Answer) -> u32 {
-        next_up::<DoubleDouble>(answer, self.x)
+        next_up::<DoubleDouble>(answer, self.x);
+        ANSWERED
     }
 }
 
@@ -477,12 +506,14 @@ impl Operation for NextDownCall {
 
     #[inline(always)]
     fn in_format<S: Flagged>(self, round: Round, answer: &mut Answer) -> u32 {
-        next_down::<IeeeFloat<S>>(answer, self.x)
+        next_down::<IeeeFloat<S>>(answer, self.x);
+        ANSWERED
     }
 
     #[inline(always)]
     fn in_pairs(self, round: Round, answer: &mut Answer) -> u32 {
-        next_down::<DoubleDouble>(answer, self.x)
+        next_down::<DoubleDouble>(answer, self.x);
+        ANSWERED
     }
 }
 
@@ -500,12 +531,14 @@ impl Operation for ComparisonCall {
 
     #[inline(always)]
     fn in_format<S: Flagged>(self, round: Round, answer: &mut Answer) -> u32 {
-        comparison::<IeeeFloat<S>>(answer, self.x, self.y)
+        comparison::<IeeeFloat<S>>(answer, self.x, self.y);
+        ANSWERED
     }
 
     #[inline(always)]
     fn in_pairs(self, round: Round, answer: &mut Answer) -> u32 {
-        comparison::<DoubleDouble>(answer, self.x, self.y)
+        comparison::<DoubleDouble>(answer, self.x, self.y);
+        ANSWERED
     }
 }
 
@@ -521,12 +554,14 @@ impl Operation for ClassCall {
 
     #[inline(always)]
     fn in_format<S: Flagged>(self, round: Round, answer: &mut Answer) -> u32 {
-        class::<IeeeFloat<S>>(answer, self.x)
+        class::<IeeeFloat<S>>(answer, self.x);
+        ANSWERED
     }
 
     #[inline(always)]
     fn in_pairs(self, round: Round, answer: &mut Answer) -> u32 {
-        class::<DoubleDouble>(answer, self.x)
+        class::<DoubleDouble>(answer, self.x);
+        ANSWERED
     }
 }
 
@@ -544,7 +579,7 @@ impl Operation for ConversionCall {
 
     #[inline(always)]
     fn in_format<S: Flagged>(self, round: Round, answer: &mut Answer) -> u32 {
-        converted::<S>(answer, round, self.x, FlaggedKind::coded(self.to))
+        converted::<S>(round, self.x, FlaggedKind::coded(self.to), answer)
     }
 
     #[inline(always)]

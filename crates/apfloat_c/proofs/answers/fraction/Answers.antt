@@ -1,4 +1,4 @@
-use Rattle.std.proofs.Common.{ap, refl, subst, sym, ◌∙◌}
+use Rattle.std.proofs.Common.{ap, subst, sym, ◌∙◌}
 use Rattle.std.specs.Int.{w32}
 use Rattle.std.proofs.lemmas.Int.{to_z-of_z}
 use Rattle.rustc_apfloat.specs.Flags.{bits_of}
@@ -9,18 +9,16 @@ returns g c =
     let exponent = c.frexp_r-fraction.new.exp in
     let holds = subst (λ x. g.F.Float.has_fraction x c.args.round c.frexp_r-fraction.result exponent)
     c.from_bits.ensures c.frexp_r-fraction.ensures in
-    let fits = c.requires.fits c.args.round c.frexp_r-fraction.result exponent holds in (
-      refl,
-      record {
-        given = c.and.result;
-        exponent = exponent;
-        holds = subst (λ value. g.F.Float.has_fraction (g.F.Float.value_of_bits c.args.x) c.args.round value exponent)
-            (sym c.and.ensures.value) holds;
-        no_flags = ap bits_of c.and.ensures.status;
-        is_written = record {
-          is_encoded = c.shown.ensures.is_encoded;
-          status_is = c.shown.ensures.status_is;
-          number_is = c.shown.ensures.number_is ∙ to_z-of_z w32 exponent fits;
-        };
-      },
-    )
+    let fits = c.requires.fits c.args.round c.frexp_r-fraction.result exponent holds in
+    record {
+      given = c.and.result;
+      exponent = exponent;
+      holds = subst (λ value. g.F.Float.has_fraction (g.F.Float.value_of_bits c.args.x) c.args.round value exponent)
+          (sym c.and.ensures.value) holds;
+      no_flags = ap bits_of c.and.ensures.status;
+      is_written = record {
+        is_encoded = c.shown.ensures.is_encoded;
+        status_is = c.shown.ensures.status_is;
+        number_is = c.shown.ensures.number_is ∙ to_z-of_z w32 exponent fits;
+      };
+    }

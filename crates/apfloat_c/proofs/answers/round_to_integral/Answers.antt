@@ -1,13 +1,10 @@
-use Rattle.std.proofs.Common.{subst, refl}
+use Rattle.std.proofs.Common.{subst}
 use Rattle.apfloat_c.proofs.answers.round_to_integral.Goals as goal
 
 pub returns : goal.returns
-returns g c = (
-  refl,
-  record {
-    given = c.round_to_integral.result;
-    holds = subst (λ x. g.F.Float.rounds_to_integral x c.args.round c.round_to_integral.result)
-        c.from_bits.ensures c.round_to_integral.ensures;
-    is_written = c.written.ensures;
-  },
-)
+returns g c = record {
+  given = c.round_to_integral.result;
+  holds = subst (λ x. g.F.Float.rounds_to_integral x c.args.round c.round_to_integral.result)
+      c.from_bits.ensures c.round_to_integral.ensures;
+  is_written = c.written.ensures;
+}

@@ -1,4 +1,4 @@
-use Rattle.std.proofs.Common.{ap, sym, refl}
+use Rattle.std.proofs.Common.{ap, sym}
 use Rattle.std.proofs.Math.Path.{subst₃}
 use Rattle.std.specs.Int.{w32}
 use Rattle.std.proofs.lemmas.Int.{to_z-of_z}
@@ -6,13 +6,10 @@ use Rattle.rustc_apfloat.specs.Flags.{bits_of}
 use Rattle.apfloat_c.proofs.answers.scaled.Goals as goal
 
 pub returns : goal.returns
-returns g c = (
-  refl,
-  record {
-    given = c.and.result;
-    holds = subst₃ (λ x power value. g.F.Float.scales x power c.args.round value) c.from_bits.ensures
-        (to_z-of_z w32 c.args.power c.ranges.power) (sym c.and.ensures.value) c.scalbn_r-scaled.ensures;
-    no_flags = ap bits_of c.and.ensures.status;
-    is_written = c.written.ensures;
-  },
-)
+returns g c = record {
+  given = c.and.result;
+  holds = subst₃ (λ x power value. g.F.Float.scales x power c.args.round value) c.from_bits.ensures
+      (to_z-of_z w32 c.args.power c.ranges.power) (sym c.and.ensures.value) c.scalbn_r-scaled.ensures;
+  no_flags = ap bits_of c.and.ensures.status;
+  is_written = c.written.ensures;
+}
