@@ -1,4 +1,5 @@
 pub mod AsciiTexts
+pub mod MeaningfulTexts
 pub mod ExponentWords
 pub mod WrittenAnswers
 pub mod ExportsOnce

@@ -1,7 +1,8 @@
 -- What calls leave, and the exponents of fractions.
 use Rattle.std.proofs.Common.{◌≡◌, ℕ, Bool, true, false, List, None, Option, Some, refl, subst}
-use Rattle.std.proofs.lemmas.Bool.{false≢true}
+use Rattle.std.proofs.lemmas.Bool.{and_right, false≢true, true≢false}
 use Rattle.std.specs.Char.{is_ascii}
+use Rattle.apfloat_base.specs.declared.parse_error.Fault.{Fault}
 use Rattle.rustc_apfloat.specs.declared.Round.{Round}
 use Rattle.rustc_apfloat.specs.Digits.{every}
 use Rattle.rustc_apfloat.specs.Faults.{fault_of}
@@ -27,10 +28,20 @@ pub answered_if : (holds : Bool) (error : ℕ) (Holds : Answer → Type 0) (old 
 answered_if true error Holds old answer e h = (refl, h)
 answered_if false error Holds old answer e h = absurd (false≢true e)
 
+-- where it does not hold, it leaves the code of the error and what was there
+pub refused_unless : (holds : Bool) (error : ℕ) (Holds : Answer → Type 0) (old : Answer)
+    → holds ≡ false → IsLeftBy (unless holds error) Holds old old error
+refused_unless true error Holds old e = absurd (true≢false e)
+refused_unless false error Holds old e = (refl, refl)
+
 -- ASCII bytes without a fault are a text
 pub text_without_fault : (bytes : List ℕ) → every is_ascii bytes ≡ true → fault_of bytes ≡ None
     → is_text bytes ≡ true
 text_without_fault bytes ascii none = rw (ascii, none) refl
+
+-- bytes with a fault are none
+pub text_with_fault : (bytes : List ℕ) (fault : Fault) → fault_of bytes ≡ Some fault → is_text bytes ≡ false
+text_with_fault bytes fault some = and_right (every is_ascii bytes) _ (rw some refl)
 
 -- what a call leaves, with the kind of values and the mode that are known
 pub left_returned : (fault : Option ℕ) (kind : Kind) (mode : Round) (call : ExportedCall) (old new : Answer) (code : ℕ)

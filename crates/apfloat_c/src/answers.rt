@@ -1,11 +1,10 @@
 //! The answers of calls in a kind of values. Each is written where it belongs by a function of its own, which takes its
-//! operands in registers.
+//! operands in registers: the answer first, so that the others stay in those in which C passes them.
 
 ghost use Rattle.std.specs.Prelude.{◌≡◌, ◌<◌, pos};
 ghost use Rattle.rustc_apfloat.specs.FlaggedTypes.{constants_of};
 ghost use Rattle.dispatch.specs.declared.Arithmetic.TheVariants.{Sum, Difference, Product, Quotient, NearestRemainder, TruncatedRemainder};
 ghost use Rattle.dispatch.specs.Relations.{relations_of};
-ghost use Rattle.dispatch.specs.TextReadings.{ReadsTexts};
 ghost use Rattle.dispatch.specs.ValueKinds.{of_format, of_pairs, value_of};
 ghost use Rattle.apfloat_c.specs.declared.exported_call.ExportedCall.TheVariants.{OfTwo, FusedSum, SquareRoot, FromUnsigned, FromSigned, ToUnsigned, ToSigned, RoundToIntegral, Scaling, Fraction, Conversion, Text};
 ghost use Rattle.apfloat_c.specs.Answers.{FractionFits, IsConvertedInto, IsKindAnswer, IsLeft, IsNumber, IsTypeAnswer, IsTypeLeft, IsValue, IsWritten, class_of, order_code};
@@ -24,7 +23,7 @@ use std::marker::PhantomData;
 
 /// A sum.
 #[inline(never)]
-pub fn sum<S: Flagged>(round: Round, x: u128, y: u128, answer: &mut Answer)
+pub fn sum<S: Flagged>(answer: &mut Answer, round: Round, x: u128, y: u128)
     requires { S.PRECISION < S.BITS }
     ensures { let kind = of_format (constants_of S.Flagged) in
         IsKindAnswer kind round (OfTwo Sum x y) answer.new }
@@ -35,7 +34,7 @@ pub fn sum<S: Flagged>(round: Round, x: u128, y: u128, answer: &mut Answer)
 
 /// A difference.
 #[inline(never)]
-pub fn difference<S: Flagged>(round: Round, x: u128, y: u128, answer: &mut Answer)
+pub fn difference<S: Flagged>(answer: &mut Answer, round: Round, x: u128, y: u128)
     requires { S.PRECISION < S.BITS }
     ensures { let kind = of_format (constants_of S.Flagged) in
         IsKindAnswer kind round (OfTwo Difference x y) answer.new }
@@ -46,7 +45,7 @@ pub fn difference<S: Flagged>(round: Round, x: u128, y: u128, answer: &mut Answe
 
 /// A product, however many digits the format has.
 #[inline(never)]
-pub fn product<S: Flagged>(round: Round, x: u128, y: u128, answer: &mut Answer)
+pub fn product<S: Flagged>(answer: &mut Answer, round: Round, x: u128, y: u128)
     requires { S.PRECISION < S.BITS }
     ensures { let kind = of_format (constants_of S.Flagged) in
         IsKindAnswer kind round (OfTwo Product x y) answer.new }
@@ -57,7 +56,7 @@ pub fn product<S: Flagged>(round: Round, x: u128, y: u128, answer: &mut Answer)
 
 /// A quotient.
 #[inline(never)]
-pub fn quotient<S: Flagged>(round: Round, x: u128, y: u128, answer: &mut Answer)
+pub fn quotient<S: Flagged>(answer: &mut Answer, round: Round, x: u128, y: u128)
     requires { S.PRECISION < S.BITS }
     ensures { let kind = of_format (constants_of S.Flagged) in
         IsKindAnswer kind round (OfTwo Quotient x y) answer.new }
@@ -68,7 +67,7 @@ pub fn quotient<S: Flagged>(round: Round, x: u128, y: u128, answer: &mut Answer)
 
 /// The remainder by the whole number nearest to the quotient.
 #[inline(never)]
-pub fn nearest_remainder<S: Flagged>(round: Round, x: u128, y: u128, answer: &mut Answer)
+pub fn nearest_remainder<S: Flagged>(answer: &mut Answer, round: Round, x: u128, y: u128)
     requires { S.PRECISION < S.BITS }
     ensures { let kind = of_format (constants_of S.Flagged) in
         IsKindAnswer kind round (OfTwo NearestRemainder x y) answer.new }
@@ -79,7 +78,7 @@ pub fn nearest_remainder<S: Flagged>(round: Round, x: u128, y: u128, answer: &mu
 
 /// The remainder by the quotient cut toward zero.
 #[inline(never)]
-pub fn truncated_remainder<S: Flagged>(round: Round, x: u128, y: u128, answer: &mut Answer)
+pub fn truncated_remainder<S: Flagged>(answer: &mut Answer, round: Round, x: u128, y: u128)
     requires { S.PRECISION < S.BITS }
     ensures { let kind = of_format (constants_of S.Flagged) in
         IsKindAnswer kind round (OfTwo TruncatedRemainder x y) answer.new }
@@ -99,7 +98,7 @@ pub fn of_two_pairs(round: Round, arithmetic: Arithmetic, x: u128, y: u128, answ
 
 /// A product plus a third value, rounded once.
 #[inline(never)]
-pub fn fused_sum<S: Flagged>(round: Round, x: u128, y: u128, z: u128, answer: &mut Answer)
+pub fn fused_sum<S: Flagged>(answer: &mut Answer, round: Round, x: u128, y: u128, z: u128)
     requires { S.PRECISION < S.BITS }
     ensures { let kind = of_format (constants_of S.Flagged) in
         IsKindAnswer kind round (FusedSum x y z) answer.new }
@@ -114,7 +113,7 @@ pub fn fused_sum<S: Flagged>(round: Round, x: u128, y: u128, z: u128, answer: &m
 
 /// The square root of a value of a format.
 #[inline(never)]
-pub fn root<S: Flagged>(round: Round, x: u128, answer: &mut Answer)
+pub fn root<S: Flagged>(answer: &mut Answer, round: Round, x: u128)
     requires { S.PRECISION < S.BITS }
     ensures { let kind = of_format (constants_of S.Flagged) in
         IsKindAnswer kind round (SquareRoot x) answer.new }
@@ -132,7 +131,7 @@ pub fn pair_root(round: Round, x: u128, answer: &mut Answer)
 
 /// A whole number.
 #[inline(never)]
-pub fn from_unsigned<F: Float>(round: Round, number: u128, answer: &mut Answer)
+pub fn from_unsigned<F: Float>(answer: &mut Answer, round: Round, number: u128)
     requires { F.PRECISION < F.BITS }
     ensures { IsTypeAnswer (relations_of F.Float.own F.partial_cmp) round (FromUnsigned number)
         answer.new }
@@ -142,7 +141,7 @@ pub fn from_unsigned<F: Float>(round: Round, number: u128, answer: &mut Answer)
 
 /// A whole number with a sign.
 #[inline(never)]
-pub fn from_signed<F: Float>(round: Round, number: i128, answer: &mut Answer)
+pub fn from_signed<F: Float>(answer: &mut Answer, round: Round, number: i128)
     requires { F.PRECISION < F.BITS }
     ensures { IsTypeAnswer (relations_of F.Float.own F.partial_cmp) round (FromSigned number)
         answer.new }
@@ -152,7 +151,7 @@ pub fn from_signed<F: Float>(round: Round, number: i128, answer: &mut Answer)
 
 /// A value as a whole number.
 #[inline(never)]
-pub fn to_unsigned<F: Float>(round: Round, x: u128, width: u32, answer: &mut Answer) -> u32
+pub fn to_unsigned<F: Float>(answer: &mut Answer, round: Round, x: u128, width: u32) -> u32
     requires { F.PRECISION < F.BITS }
     ensures { IsTypeLeft (relations_of F.Float.own F.partial_cmp) round
         (ToUnsigned x width) answer.old answer.new
@@ -169,7 +168,7 @@ pub fn to_unsigned<F: Float>(round: Round, x: u128, width: u32, answer: &mut Ans
 
 /// A value as a whole number with a sign.
 #[inline(never)]
-pub fn to_signed<F: Float>(round: Round, x: u128, width: u32, answer: &mut Answer) -> u32
+pub fn to_signed<F: Float>(answer: &mut Answer, round: Round, x: u128, width: u32) -> u32
     requires { F.PRECISION < F.BITS }
     ensures { IsTypeLeft (relations_of F.Float.own F.partial_cmp) round
         (ToSigned x width) answer.old answer.new
@@ -186,7 +185,7 @@ pub fn to_signed<F: Float>(round: Round, x: u128, width: u32, answer: &mut Answe
 
 /// A value rounded to an integral value.
 #[inline(never)]
-pub fn round_to_integral<F: Float>(round: Round, x: u128, answer: &mut Answer)
+pub fn round_to_integral<F: Float>(answer: &mut Answer, round: Round, x: u128)
     requires { F.PRECISION < F.BITS }
     ensures { IsTypeAnswer (relations_of F.Float.own F.partial_cmp) round (RoundToIntegral x)
         answer.new }
@@ -196,7 +195,7 @@ pub fn round_to_integral<F: Float>(round: Round, x: u128, answer: &mut Answer)
 
 /// A value times a power of two.
 #[inline(never)]
-pub fn scaled<F: Float>(round: Round, x: u128, power: i32, answer: &mut Answer)
+pub fn scaled<F: Float>(answer: &mut Answer, round: Round, x: u128, power: i32)
     requires { F.PRECISION < F.BITS }
     ensures { IsTypeAnswer (relations_of F.Float.own F.partial_cmp) round (Scaling x power)
         answer.new }
@@ -207,7 +206,7 @@ pub fn scaled<F: Float>(round: Round, x: u128, power: i32, answer: &mut Answer)
 
 /// The fraction of a value and its exponent.
 #[inline(never)]
-pub fn fraction<F: Float>(round: Round, x: u128, answer: &mut Answer)
+pub fn fraction<F: Float>(answer: &mut Answer, round: Round, x: u128)
     requires written { F.PRECISION < F.BITS }
     requires fits { FractionFits (relations_of F.Float.own F.partial_cmp) (Fraction x) }
     ensures { IsTypeAnswer (relations_of F.Float.own F.partial_cmp) round (Fraction x)
@@ -220,7 +219,7 @@ pub fn fraction<F: Float>(round: Round, x: u128, answer: &mut Answer)
 
 /// The exponent of a value.
 #[inline(never)]
-pub fn exponent<F: Float>(x: u128, answer: &mut Answer)
+pub fn exponent<F: Float>(answer: &mut Answer, x: u128)
     requires { F.PRECISION < F.BITS }
     ensures { IsNumber (F.has_exponent (F.value_of_bits x)) answer.new }
 {
@@ -229,7 +228,7 @@ pub fn exponent<F: Float>(x: u128, answer: &mut Answer)
 
 /// The least value above.
 #[inline(never)]
-pub fn next_up<F: Float>(x: u128, answer: &mut Answer)
+pub fn next_up<F: Float>(answer: &mut Answer, x: u128)
     requires { F.PRECISION < F.BITS }
     ensures { IsValue (relations_of F.Float.own F.partial_cmp)
         (F.steps_up (F.value_of_bits x)) answer.new }
@@ -239,7 +238,7 @@ pub fn next_up<F: Float>(x: u128, answer: &mut Answer)
 
 /// The greatest value below.
 #[inline(never)]
-pub fn next_down<F: Float>(x: u128, answer: &mut Answer)
+pub fn next_down<F: Float>(answer: &mut Answer, x: u128)
     requires { F.PRECISION < F.BITS }
     ensures { IsValue (relations_of F.Float.own F.partial_cmp)
         (F.steps_down (F.value_of_bits x)) answer.new }
@@ -249,7 +248,7 @@ pub fn next_down<F: Float>(x: u128, answer: &mut Answer)
 
 /// The order of two values.
 #[inline(never)]
-pub fn comparison<F: Float>(x: u128, y: u128, answer: &mut Answer)
+pub fn comparison<F: Float>(answer: &mut Answer, x: u128, y: u128)
     requires { F.PRECISION < F.BITS }
     ensures { IsNumber
         (λ n. n ≡ order_code (F.partial_cmp (F.value_of_bits x) (F.value_of_bits y))) answer.new }
@@ -260,7 +259,7 @@ pub fn comparison<F: Float>(x: u128, y: u128, answer: &mut Answer)
 
 /// The class of a value.
 #[inline(never)]
-pub fn class<F: Float>(x: u128, answer: &mut Answer)
+pub fn class<F: Float>(answer: &mut Answer, x: u128)
     requires { F.PRECISION < F.BITS }
     ensures { let of_type = relations_of F.Float.own F.partial_cmp in
         IsNumber (λ n. n ≡ class_of of_type (F.value_of_bits x)) answer.new }
@@ -317,13 +316,13 @@ impl<S: Flagged> FillsInFormat for ConversionFrom<S> {
 
     #[inline(always)]
     fn fill_in_format<T: Flagged>(self, answer: &mut Answer) {
-        converted_to::<S, T>(self.round, self.x, answer)
+        converted_to::<S, T>(answer, self.round, self.x)
     }
 }
 
 /// A value of the format `S` in the format `T`.
 #[inline(never)]
-fn converted_to<S: Flagged, T: Flagged>(round: Round, x: u128, answer: &mut Answer)
+fn converted_to<S: Flagged, T: Flagged>(answer: &mut Answer, round: Round, x: u128)
     requires source { S.PRECISION < S.BITS }
     requires target { T.PRECISION < T.BITS }
     ensures { let c = constants_of S.Flagged in
@@ -335,25 +334,35 @@ fn converted_to<S: Flagged, T: Flagged>(round: Round, x: u128, answer: &mut Answ
     *answer = shown(given, one_if(loses_info));
 }
 
-/// The value of a text.
+/// The value of a text in a format. A text that has a value is ASCII, so its bytes are looked at once.
 #[inline(never)]
-pub fn read<F: Float>(round: Round, bytes: &[u8], answer: &mut Answer) -> u32
-    requires written { F.PRECISION < F.BITS }
-    requires reads { ReadsTexts F.reads }
-    ensures { IsTypeLeft (relations_of F.Float.own F.partial_cmp) round
-        (Text bytes.entry) answer.old answer.new
-        result }
+pub fn read<S: Flagged>(answer: &mut Answer, round: Round, bytes: &[u8]) -> u32
+    requires { S.PRECISION < S.BITS }
+    ensures { IsLeft (of_format (constants_of S.Flagged)) round (Text bytes.entry)
+        answer.old answer.new result }
 {
-    let Some(text) = text_of(bytes) else {
-        return REFUSED_TEXT;
-    };
-    match F::from_str_r(text, round) {
+    match IeeeFloat::<S>::from_ascii_r(bytes, round) {
         Ok(read) => {
             *answer = written(read);
             ANSWERED
         }
         Err(_) => REFUSED_TEXT,
     }
+}
+
+/// The value of a text as a pair of doubles.
+#[inline(never)]
+pub fn read_pair(answer: &mut Answer, round: Round, bytes: &[u8]) -> u32
+    ensures { IsLeft of_pairs round (Text bytes.entry) answer.old answer.new result }
+{
+    let Some(text) = text_of(bytes) else {
+        return REFUSED_TEXT;
+    };
+    let Ok(read) = DoubleDouble::from_str_r(text, round) else {
+        return REFUSED_TEXT;
+    };
+    *answer = written(read);
+    ANSWERED
 }
 
 /// A value with its flags.

@@ -1,6 +1,7 @@
 //! Makes a call in the kind of values that a code names.
 
 ghost use Rattle.dispatch.specs.FlaggedKinds.{flagged_kind_coded};
+ghost use Rattle.dispatch.specs.Modes.{mode_coded};
 ghost use Rattle.apfloat_c.specs.KnownCalls.{known_call};
 ghost use Rattle.apfloat_c.specs.Answers.{IsReturned};
 
@@ -8,19 +9,13 @@ use crate::codes::UNKNOWN_FORMAT;
 use crate::data::Answer;
 use crate::operations::{InMode, Operation};
 use dispatch::FlaggedKind;
-use rustc_apfloat::Round;
 
 /// Computes a call in the values of a code, and returns 0 or the code of the first error; on an error the answer is
 /// unchanged.
 #[inline(always)]
-pub fn reply<O: Operation>(
-    format: u32,
-    mode: Option<Round>,
-    operation: O,
-    answer: &mut Answer,
-) -> u32
-    ensures { IsReturned (known_call (flagged_kind_coded format) mode (O.call operation))
-        answer.old answer.new result }
+pub fn reply<O: Operation>(format: u32, mode: u32, operation: O, answer: &mut Answer) -> u32
+    ensures { IsReturned (known_call (flagged_kind_coded format) (mode_coded mode)
+        (O.call operation)) answer.old answer.new result }
 {
     let Some(kind) = FlaggedKind::coded(format) else {
         return UNKNOWN_FORMAT;

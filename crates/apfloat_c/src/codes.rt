@@ -27,6 +27,9 @@ pub const REFUSED_TEXT: u32 = 5;
 /// The error of arrays whose lengths do not fit together.
 pub const WRONG_LENGTH: u32 = 6;
 
+/// The mode of calls that take none.
+pub const NEAREST_EVEN: u32 = 0;
+
 /// Whether an integer may have this width: at least `least`, and at most 128 bits.
 pub fn is_width(least: u32, width: u32) -> bool
     ensures { result ≡ (nat_le least width && nat_le width 128) }

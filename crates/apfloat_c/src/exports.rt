@@ -11,6 +11,7 @@ ghost use Rattle.apfloat_c.specs.KnownCalls.{known_call};
 ghost use Rattle.apfloat_c.specs.Answers.{IsReturned, whole};
 
 use crate::by_code::reply;
+use crate::codes::NEAREST_EVEN;
 use crate::data::{Answer, Halves};
 use crate::operations::{
     ClassCall, ComparisonCall, ConversionCall, DifferenceCall, ExponentCall, FractionCall,
@@ -18,8 +19,6 @@ use crate::operations::{
     ProductCall, QuotientCall, RoundToIntegralCall, ScalingCall, SquareRootCall, SumCall, TextCall,
     ToSignedCall, ToUnsignedCall, TruncatedRemainderCall,
 };
-use dispatch::mode_coded;
-use rustc_apfloat::Round;
 
 /// The sum of two values, rounded once.
 #[unsafe(no_mangle)]
@@ -36,7 +35,7 @@ pub extern "C" fn apfloat_add(
 {
     reply(
         format,
-        mode_coded(mode),
+        mode,
         SumCall {
             x: x.number(),
             y: y.number(),
@@ -60,7 +59,7 @@ pub extern "C" fn apfloat_sub(
 {
     reply(
         format,
-        mode_coded(mode),
+        mode,
         DifferenceCall {
             x: x.number(),
             y: y.number(),
@@ -84,7 +83,7 @@ pub extern "C" fn apfloat_mul(
 {
     reply(
         format,
-        mode_coded(mode),
+        mode,
         ProductCall {
             x: x.number(),
             y: y.number(),
@@ -108,7 +107,7 @@ pub extern "C" fn apfloat_div(
 {
     reply(
         format,
-        mode_coded(mode),
+        mode,
         QuotientCall {
             x: x.number(),
             y: y.number(),
@@ -126,7 +125,7 @@ pub extern "C" fn apfloat_rem(format: u32, x: Halves, y: Halves, answer: &mut An
 {
     reply(
         format,
-        Some(Round::NearestTiesToEven),
+        NEAREST_EVEN,
         NearestRemainderCall {
             x: x.number(),
             y: y.number(),
@@ -144,7 +143,7 @@ pub extern "C" fn apfloat_mod(format: u32, x: Halves, y: Halves, answer: &mut An
 {
     reply(
         format,
-        Some(Round::NearestTiesToEven),
+        NEAREST_EVEN,
         TruncatedRemainderCall {
             x: x.number(),
             y: y.number(),
@@ -169,7 +168,7 @@ pub extern "C" fn apfloat_fma(
 {
     reply(
         format,
-        mode_coded(mode),
+        mode,
         FusedSumCall {
             x: x.number(),
             y: y.number(),
@@ -186,12 +185,7 @@ pub extern "C" fn apfloat_sqrt(format: u32, mode: u32, x: Halves, answer: &mut A
         IsReturned (known_call (flagged_kind_coded format) (mode_coded mode) call)
         answer.old answer.new result }
 {
-    reply(
-        format,
-        mode_coded(mode),
-        SquareRootCall { x: x.number() },
-        answer,
-    )
+    reply(format, mode, SquareRootCall { x: x.number() }, answer)
 }
 
 /// A value in another format; `number` says whether information was lost. Pairs of doubles have no conversion.
@@ -207,12 +201,7 @@ pub extern "C" fn apfloat_convert(
         IsReturned (known_call (flagged_kind_coded format) (mode_coded mode) call)
         answer.old answer.new result }
 {
-    reply(
-        format,
-        mode_coded(mode),
-        ConversionCall { x: x.number(), to },
-        answer,
-    )
+    reply(format, mode, ConversionCall { x: x.number(), to }, answer)
 }
 
 /// A whole number as a value, rounded once.
@@ -229,7 +218,7 @@ pub extern "C" fn apfloat_from_u128(
 {
     reply(
         format,
-        mode_coded(mode),
+        mode,
         FromUnsignedCall {
             number: number.number(),
         },
@@ -251,7 +240,7 @@ pub extern "C" fn apfloat_from_i128(
 {
     reply(
         format,
-        mode_coded(mode),
+        mode,
         FromSignedCall {
             number: number.number().cast_signed(),
         },
@@ -275,7 +264,7 @@ pub extern "C" fn apfloat_to_u128(
 {
     reply(
         format,
-        mode_coded(mode),
+        mode,
         ToUnsignedCall {
             x: x.number(),
             width,
@@ -300,7 +289,7 @@ pub extern "C" fn apfloat_to_i128(
 {
     reply(
         format,
-        mode_coded(mode),
+        mode,
         ToSignedCall {
             x: x.number(),
             width,
@@ -321,12 +310,7 @@ pub extern "C" fn apfloat_round_to_integral(
         IsReturned (known_call (flagged_kind_coded format) (mode_coded mode) call)
         answer.old answer.new result }
 {
-    reply(
-        format,
-        mode_coded(mode),
-        RoundToIntegralCall { x: x.number() },
-        answer,
-    )
+    reply(format, mode, RoundToIntegralCall { x: x.number() }, answer)
 }
 
 /// A value times 2 to the power of `power`, rounded once, without flags.
@@ -344,7 +328,7 @@ pub extern "C" fn apfloat_scalbn(
 {
     reply(
         format,
-        mode_coded(mode),
+        mode,
         ScalingCall {
             x: x.number(),
             power,
@@ -360,12 +344,7 @@ pub extern "C" fn apfloat_ilogb(format: u32, x: Halves, answer: &mut Answer) -> 
         IsReturned (known_call (flagged_kind_coded format) (Some NearestTiesToEven) call)
         answer.old answer.new result }
 {
-    reply(
-        format,
-        Some(Round::NearestTiesToEven),
-        ExponentCall { x: x.number() },
-        answer,
-    )
+    reply(format, NEAREST_EVEN, ExponentCall { x: x.number() }, answer)
 }
 
 /// The fraction of a value, from a half to below 1, and its exponent in `number`. Only pairs of doubles use the mode.
@@ -375,12 +354,7 @@ pub extern "C" fn apfloat_frexp(format: u32, mode: u32, x: Halves, answer: &mut 
         IsReturned (known_call (flagged_kind_coded format) (mode_coded mode) call)
         answer.old answer.new result }
 {
-    reply(
-        format,
-        mode_coded(mode),
-        FractionCall { x: x.number() },
-        answer,
-    )
+    reply(format, mode, FractionCall { x: x.number() }, answer)
 }
 
 /// The least value above the operand.
@@ -390,12 +364,7 @@ pub extern "C" fn apfloat_next_up(format: u32, x: Halves, answer: &mut Answer) -
         IsReturned (known_call (flagged_kind_coded format) (Some NearestTiesToEven) call)
         answer.old answer.new result }
 {
-    reply(
-        format,
-        Some(Round::NearestTiesToEven),
-        NextUpCall { x: x.number() },
-        answer,
-    )
+    reply(format, NEAREST_EVEN, NextUpCall { x: x.number() }, answer)
 }
 
 /// The greatest value below the operand.
@@ -405,12 +374,7 @@ pub extern "C" fn apfloat_next_down(format: u32, x: Halves, answer: &mut Answer)
         IsReturned (known_call (flagged_kind_coded format) (Some NearestTiesToEven) call)
         answer.old answer.new result }
 {
-    reply(
-        format,
-        Some(Round::NearestTiesToEven),
-        NextDownCall { x: x.number() },
-        answer,
-    )
+    reply(format, NEAREST_EVEN, NextDownCall { x: x.number() }, answer)
 }
 
 /// The order of two values in `number`: -1, 0 or 1, and 2 if they are unordered.
@@ -422,7 +386,7 @@ pub extern "C" fn apfloat_compare(format: u32, x: Halves, y: Halves, answer: &mu
 {
     reply(
         format,
-        Some(Round::NearestTiesToEven),
+        NEAREST_EVEN,
         ComparisonCall {
             x: x.number(),
             y: y.number(),
@@ -438,12 +402,7 @@ pub extern "C" fn apfloat_classify(format: u32, x: Halves, answer: &mut Answer) 
         IsReturned (known_call (flagged_kind_coded format) (Some NearestTiesToEven) call)
         answer.old answer.new result }
 {
-    reply(
-        format,
-        Some(Round::NearestTiesToEven),
-        ClassCall { x: x.number() },
-        answer,
-    )
+    reply(format, NEAREST_EVEN, ClassCall { x: x.number() }, answer)
 }
 
 /// The value of a text, rounded once; a text with a byte above 127 is refused.
@@ -453,5 +412,5 @@ pub extern "C" fn apfloat_parse(format: u32, mode: u32, text: &[u8], answer: &mu
         IsReturned (known_call (flagged_kind_coded format) (mode_coded mode) call)
         answer.old answer.new result }
 {
-    reply(format, mode_coded(mode), TextCall { text }, answer)
+    reply(format, mode, TextCall { text }, answer)
 }

@@ -3,6 +3,7 @@
 ghost use Rattle.std.specs.Prelude.{◌<◌};
 ghost use Rattle.rustc_apfloat.specs.FlaggedTypes.{constants_of};
 ghost use Rattle.dispatch.specs.FlaggedKinds.{flagged_kind_coded};
+ghost use Rattle.dispatch.specs.Modes.{mode_coded};
 ghost use Rattle.dispatch.specs.ValueKinds.{of_format, of_pairs};
 ghost use Rattle.dispatch.specs.declared.Arithmetic.TheVariants.{Sum, Difference, Product, Quotient, NearestRemainder, TruncatedRemainder};
 ghost use Rattle.apfloat_c.specs.declared.exported_call.ExportedCall.{ExportedCall};
@@ -13,11 +14,12 @@ ghost use Rattle.apfloat_c.specs.KnownCalls.{known_in};
 use crate::answers::{
     class, comparison, converted, difference, exponent, fraction, from_signed, from_unsigned,
     fused_sum, nearest_remainder, next_down, next_up, of_two_pairs, pair_root, product, quotient,
-    read, root, round_to_integral, scaled, sum, to_signed, to_unsigned, truncated_remainder,
+    read, read_pair, root, round_to_integral, scaled, sum, to_signed, to_unsigned,
+    truncated_remainder,
 };
 use crate::codes::{ANSWERED, NO_SUCH_OPERATION, UNKNOWN_FORMAT, UNKNOWN_MODE};
 use crate::data::Answer;
-use dispatch::{Arithmetic, FillsInFormat, FillsInKind, FlaggedKind};
+use dispatch::{Arithmetic, FillsInFormat, FillsInKind, FlaggedKind, mode_coded};
 use rustc_apfloat::ieee::{Flagged, IeeeFloat};
 use rustc_apfloat::ppc::DoubleDouble;
 use rustc_apfloat::{Float, Round};
@@ -38,11 +40,11 @@ pub trait Operation: Copy {
         ensures { IsLeft of_pairs round (call self) answer.old answer.new result };
 }
 
-/// A call with its rounding mode, if that is known.
+/// A call with the code of its rounding mode.
 #[derive(Clone, Copy)]
 pub struct InMode<O> {
-    /// The rounding mode.
-    pub mode: Option<Round>,
+    /// The code of the rounding mode.
+    pub mode: u32,
     /// The call.
     pub operation: O,
 }
@@ -53,11 +55,11 @@ impl<O: Operation> FillsInFormat for InMode<O> {
     type Output = u32;
 
     ghost gives = { λ it kind old new code.
-        IsReturned (known_in kind it.mode (O.call it.operation)) old new code };
+        IsReturned (known_in kind (mode_coded it.mode) (O.call it.operation)) old new code };
 
     #[inline(always)]
     fn fill_in_format<S: Flagged>(self, answer: &mut Answer) -> u32 {
-        match self.mode {
+        match mode_coded(self.mode) {
             None => UNKNOWN_MODE,
             Some(round) => self.operation.in_format::<S>(round, answer),
         }
@@ -67,7 +69,7 @@ impl<O: Operation> FillsInFormat for InMode<O> {
 impl<O: Operation> FillsInKind for InMode<O> {
     #[inline(always)]
     fn fill_in_pairs(self, answer: &mut Answer) -> u32 {
-        match self.mode {
+        match mode_coded(self.mode) {
             None => UNKNOWN_MODE,
             Some(round) => self.operation.in_pairs(round, answer),
         }
@@ -88,7 +90,7 @@ impl Operation for SumCall {
 
     #[inline(always)]
     fn in_format<S: Flagged>(self, round: Round, answer: &mut Answer) -> u32 {
-        sum::<S>(round, self.x, self.y, answer);
+        sum::<S>(answer, round, self.x, self.y);
         ANSWERED
     }
 
@@ -113,7 +115,7 @@ impl Operation for DifferenceCall {
 
     #[inline(always)]
     fn in_format<S: Flagged>(self, round: Round, answer: &mut Answer) -> u32 {
-        difference::<S>(round, self.x, self.y, answer);
+        difference::<S>(answer, round, self.x, self.y);
         ANSWERED
     }
 
@@ -138,7 +140,7 @@ impl Operation for ProductCall {
 
     #[inline(always)]
     fn in_format<S: Flagged>(self, round: Round, answer: &mut Answer) -> u32 {
-        product::<S>(round, self.x, self.y, answer);
+        product::<S>(answer, round, self.x, self.y);
         ANSWERED
     }
 
@@ -163,7 +165,7 @@ impl Operation for QuotientCall {
 
     #[inline(always)]
     fn in_format<S: Flagged>(self, round: Round, answer: &mut Answer) -> u32 {
-        quotient::<S>(round, self.x, self.y, answer);
+        quotient::<S>(answer, round, self.x, self.y);
         ANSWERED
     }
 
@@ -188,7 +190,7 @@ impl Operation for NearestRemainderCall {
 
     #[inline(always)]
     fn in_format<S: Flagged>(self, round: Round, answer: &mut Answer) -> u32 {
-        nearest_remainder::<S>(round, self.x, self.y, answer);
+        nearest_remainder::<S>(answer, round, self.x, self.y);
         ANSWERED
     }
 
@@ -213,7 +215,7 @@ impl Operation for TruncatedRemainderCall {
 
     #[inline(always)]
     fn in_format<S: Flagged>(self, round: Round, answer: &mut Answer) -> u32 {
-        truncated_remainder::<S>(round, self.x, self.y, answer);
+        truncated_remainder::<S>(answer, round, self.x, self.y);
         ANSWERED
     }
 
@@ -246,7 +248,7 @@ impl Operation for FusedSumCall {
 
     #[inline(always)]
     fn in_format<S: Flagged>(self, round: Round, answer: &mut Answer) -> u32 {
-        fused_sum::<S>(round, self.x, self.y, self.z, answer);
+        fused_sum::<S>(answer, round, self.x, self.y, self.z);
         ANSWERED
     }
 
@@ -268,7 +270,7 @@ impl Operation for SquareRootCall {
 
     #[inline(always)]
     fn in_format<S: Flagged>(self, round: Round, answer: &mut Answer) -> u32 {
-        root::<S>(round, self.x, answer);
+        root::<S>(answer, round, self.x);
         ANSWERED
     }
 
@@ -291,13 +293,13 @@ impl Operation for FromUnsignedCall {
 
     #[inline(always)]
     fn in_format<S: Flagged>(self, round: Round, answer: &mut Answer) -> u32 {
-        from_unsigned::<IeeeFloat<S>>(round, self.number, answer);
+        from_unsigned::<IeeeFloat<S>>(answer, round, self.number);
         ANSWERED
     }
 
     #[inline(always)]
     fn in_pairs(self, round: Round, answer: &mut Answer) -> u32 {
-        from_unsigned::<DoubleDouble>(round, self.number, answer);
+        from_unsigned::<DoubleDouble>(answer, round, self.number);
         ANSWERED
     }
 }
@@ -314,13 +316,13 @@ impl Operation for FromSignedCall {
 
     #[inline(always)]
     fn in_format<S: Flagged>(self, round: Round, answer: &mut Answer) -> u32 {
-        from_signed::<IeeeFloat<S>>(round, self.number, answer);
+        from_signed::<IeeeFloat<S>>(answer, round, self.number);
         ANSWERED
     }
 
     #[inline(always)]
     fn in_pairs(self, round: Round, answer: &mut Answer) -> u32 {
-        from_signed::<DoubleDouble>(round, self.number, answer);
+        from_signed::<DoubleDouble>(answer, round, self.number);
         ANSWERED
     }
 }
@@ -339,12 +341,12 @@ impl Operation for ToUnsignedCall {
 
     #[inline(always)]
     fn in_format<S: Flagged>(self, round: Round, answer: &mut Answer) -> u32 {
-        to_unsigned::<IeeeFloat<S>>(round, self.x, self.width, answer)
+        to_unsigned::<IeeeFloat<S>>(answer, round, self.x, self.width)
     }
 
     #[inline(always)]
     fn in_pairs(self, round: Round, answer: &mut Answer) -> u32 {
-        to_unsigned::<DoubleDouble>(round, self.x, self.width, answer)
+        to_unsigned::<DoubleDouble>(answer, round, self.x, self.width)
     }
 }
 
@@ -362,12 +364,12 @@ impl Operation for ToSignedCall {
 
     #[inline(always)]
     fn in_format<S: Flagged>(self, round: Round, answer: &mut Answer) -> u32 {
-        to_signed::<IeeeFloat<S>>(round, self.x, self.width, answer)
+        to_signed::<IeeeFloat<S>>(answer, round, self.x, self.width)
     }
 
     #[inline(always)]
     fn in_pairs(self, round: Round, answer: &mut Answer) -> u32 {
-        to_signed::<DoubleDouble>(round, self.x, self.width, answer)
+        to_signed::<DoubleDouble>(answer, round, self.x, self.width)
     }
 }
 
@@ -383,13 +385,13 @@ impl Operation for RoundToIntegralCall {
 
     #[inline(always)]
     fn in_format<S: Flagged>(self, round: Round, answer: &mut Answer) -> u32 {
-        round_to_integral::<IeeeFloat<S>>(round, self.x, answer);
+        round_to_integral::<IeeeFloat<S>>(answer, round, self.x);
         ANSWERED
     }
 
     #[inline(always)]
     fn in_pairs(self, round: Round, answer: &mut Answer) -> u32 {
-        round_to_integral::<DoubleDouble>(round, self.x, answer);
+        round_to_integral::<DoubleDouble>(answer, round, self.x);
         ANSWERED
     }
 }
@@ -408,13 +410,13 @@ impl Operation for ScalingCall {
 
     #[inline(always)]
     fn in_format<S: Flagged>(self, round: Round, answer: &mut Answer) -> u32 {
-        scaled::<IeeeFloat<S>>(round, self.x, self.power, answer);
+        scaled::<IeeeFloat<S>>(answer, round, self.x, self.power);
         ANSWERED
     }
 
     #[inline(always)]
     fn in_pairs(self, round: Round, answer: &mut Answer) -> u32 {
-        scaled::<DoubleDouble>(round, self.x, self.power, answer);
+        scaled::<DoubleDouble>(answer, round, self.x, self.power);
         ANSWERED
     }
 }
@@ -433,7 +435,7 @@ impl Operation for FractionCall {
     fn in_format<S: Flagged>(self, round: Round, answer: &mut Answer) -> u32 {
         // That `x` belongs to the format bounds its exponent, which therefore fits 32 bits.
         let _ = IeeeFloat::<S>::from_bits(self.x).category();
-        fraction::<IeeeFloat<S>>(round, self.x, answer);
+        fraction::<IeeeFloat<S>>(answer, round, self.x);
         ANSWERED
     }
 
@@ -441,7 +443,7 @@ impl Operation for FractionCall {
     fn in_pairs(self, round: Round, answer: &mut Answer) -> u32 {
         // That both parts are doubles bounds the exponent, which therefore fits 32 bits.
         let _ = DoubleDouble::from_bits(self.x).category();
-        fraction::<DoubleDouble>(round, self.x, answer);
+        fraction::<DoubleDouble>(answer, round, self.x);
         ANSWERED
     }
 }
@@ -458,13 +460,13 @@ impl Operation for ExponentCall {
 
     #[inline(always)]
     fn in_format<S: Flagged>(self, round: Round, answer: &mut Answer) -> u32 {
-        exponent::<IeeeFloat<S>>(self.x, answer);
+        exponent::<IeeeFloat<S>>(answer, self.x);
         ANSWERED
     }
 
     #[inline(always)]
     fn in_pairs(self, round: Round, answer: &mut Answer) -> u32 {
-        exponent::<DoubleDouble>(self.x, answer);
+        exponent::<DoubleDouble>(answer, self.x);
         ANSWERED
     }
 }
@@ -481,13 +483,13 @@ impl Operation for NextUpCall {
 
     #[inline(always)]
     fn in_format<S: Flagged>(self, round: Round, answer: &mut Answer) -> u32 {
-        next_up::<IeeeFloat<S>>(self.x, answer);
+        next_up::<IeeeFloat<S>>(answer, self.x);
         ANSWERED
     }
 
     #[inline(always)]
     fn in_pairs(self, round: Round, answer: &mut Answer) -> u32 {
-        next_up::<DoubleDouble>(self.x, answer);
+        next_up::<DoubleDouble>(answer, self.x);
         ANSWERED
     }
 }
@@ -504,13 +506,13 @@ impl Operation for NextDownCall {
 
     #[inline(always)]
     fn in_format<S: Flagged>(self, round: Round, answer: &mut Answer) -> u32 {
-        next_down::<IeeeFloat<S>>(self.x, answer);
+        next_down::<IeeeFloat<S>>(answer, self.x);
         ANSWERED
     }
 
     #[inline(always)]
     fn in_pairs(self, round: Round, answer: &mut Answer) -> u32 {
-        next_down::<DoubleDouble>(self.x, answer);
+        next_down::<DoubleDouble>(answer, self.x);
         ANSWERED
     }
 }
@@ -529,13 +531,13 @@ impl Operation for ComparisonCall {
 
     #[inline(always)]
     fn in_format<S: Flagged>(self, round: Round, answer: &mut Answer) -> u32 {
-        comparison::<IeeeFloat<S>>(self.x, self.y, answer);
+        comparison::<IeeeFloat<S>>(answer, self.x, self.y);
         ANSWERED
     }
 
     #[inline(always)]
     fn in_pairs(self, round: Round, answer: &mut Answer) -> u32 {
-        comparison::<DoubleDouble>(self.x, self.y, answer);
+        comparison::<DoubleDouble>(answer, self.x, self.y);
         ANSWERED
     }
 }
@@ -552,13 +554,13 @@ impl Operation for ClassCall {
 
     #[inline(always)]
     fn in_format<S: Flagged>(self, round: Round, answer: &mut Answer) -> u32 {
-        class::<IeeeFloat<S>>(self.x, answer);
+        class::<IeeeFloat<S>>(answer, self.x);
         ANSWERED
     }
 
     #[inline(always)]
     fn in_pairs(self, round: Round, answer: &mut Answer) -> u32 {
-        class::<DoubleDouble>(self.x, answer);
+        class::<DoubleDouble>(answer, self.x);
         ANSWERED
     }
 }
@@ -601,11 +603,11 @@ impl Operation for TextCall<'_> {
 
     #[inline(always)]
     fn in_format<S: Flagged>(self, round: Round, answer: &mut Answer) -> u32 {
-        read::<IeeeFloat<S>>(round, self.text, answer)
+        read::<S>(answer, round, self.text)
     }
 
     #[inline(always)]
     fn in_pairs(self, round: Round, answer: &mut Answer) -> u32 {
-        read::<DoubleDouble>(round, self.text, answer)
+        read_pair(answer, round, self.text)
     }
 }

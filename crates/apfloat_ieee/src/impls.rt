@@ -267,7 +267,7 @@ impl<S: Flagged> Float for IeeeFloat<S> {
 
     #[inline]
     fn from_str_r(s: &str, round: Round) -> Result<StatusAnd<Self>, ParseError> {
-        read::<S>(s, round)
+        read::<S>(s.as_bytes(), round)
     }
 
     #[inline]

@@ -16,7 +16,7 @@ use std::str::FromStr;
 /// The value of a text, or its refusal.
 #[inline]
 pub(crate) fn read<S: Flagged>(
-    text: &str,
+    text: &[u8],
     round: Round,
 ) -> Result<StatusAnd<IeeeFloat<S>>, ParseError>
     ensures { IsRead (format_of S.Flagged) round text.now result }
@@ -24,6 +24,16 @@ pub(crate) fn read<S: Flagged>(
     match apfloat_texts::read(shape_of::<S>(), text, round) {
         Ok(answer) => Ok(IeeeFloat::answered(answer)),
         Err(error) => Err(error),
+    }
+}
+
+impl<S: Flagged> IeeeFloat<S> {
+    /// Reads a text of ASCII characters like `from_str_r`. Other bytes are refused, since none has a meaning.
+    #[inline]
+    pub fn from_ascii_r(text: &[u8], round: Round) -> Result<StatusAnd<Self>, ParseError>
+        ensures { IsRead (format_of S.Flagged) round text.now result }
+    {
+        read::<S>(text, round)
     }
 }
 
@@ -36,7 +46,7 @@ impl<S: Flagged> FromStr for IeeeFloat<S> {
 
     /// Reads a text like `from_str_r`, rounding to the nearest value, ties to even; the status is dropped.
     fn from_str(s: &str) -> Result<Self, ParseError> {
-        match read::<S>(s, Round::NearestTiesToEven) {
+        match read::<S>(s.as_bytes(), Round::NearestTiesToEven) {
             Ok(answer) => Ok(answer.value),
             Err(error) => Err(error),
         }

@@ -72,14 +72,16 @@ fn read_bytes(shape: Shape, text: &[u8], round: Round) -> Result<StatusAnd<Unpac
 /// Reads a text (IEEE 754-2008 5.12): returns the value of its only meaning, rounded once, or the words for the first
 /// fault from the left.
 ///
+/// The text is given by its bytes, since no character of more than one byte has a meaning.
+///
 /// It is inlined into the call of each format, so that the constants of the format are known where its number is
 /// rounded.
 #[inline(always)]
-pub fn read(shape: Shape, text: &str, round: Round) -> Result<StatusAnd<Unpacked>, ParseError>
+pub fn read(shape: Shape, text: &[u8], round: Round) -> Result<StatusAnd<Unpacked>, ParseError>
     ensures { MatchResult result (λ answer. IsTextRead shape round text.now answer)
         (λ error. IsRefusal text.now error.0.now) }
 {
-    match read_bytes(shape, text.as_bytes(), round) {
+    match read_bytes(shape, text, round) {
         Ok(answer) => Ok(answer),
         Err(fault) => Err(fault.refusal()),
     }

@@ -371,8 +371,10 @@ impl FlaggedKind {
     pub fn coded(code: u32) -> Option<FlaggedKind>
         ensures { result ≡ flagged_kind_coded code }
     {
+        if code < 256 {
+            return Some(FlaggedKind::built_in(BuiltInKind::coded(code)?));
+        }
         match code / 256 {
-            0 => Some(FlaggedKind::built_in(BuiltInKind::coded(code % 256)?)),
             1 => {
                 let format = IeeeFormat::of(BuiltInKind::coded(code % 256)?)?;
                 Some(FlaggedKind::OfFormat(FlaggedFormat::AfterRounding(format)))

@@ -10,7 +10,7 @@ use std::test::Fail;
 /// The significand, the exponent and the status of a text read as a binary16 value, rounding upward, or the words of
 /// the refusal.
 fn read_up(text: &str) -> Result<(u128, ExpInt, Status), &'static str> {
-    match read(HALF, text, Round::TowardPositive) {
+    match read(HALF, text.as_bytes(), Round::TowardPositive) {
         Ok(answer) => Ok((
             answer.value.significand,
             answer.value.exponent,

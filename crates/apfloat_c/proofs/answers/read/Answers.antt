@@ -1,13 +1,20 @@
-use Rattle.std.proofs.Common.{Ok, List, ℕ, subst}
-use Rattle.apfloat_c.proofs.WrittenAnswers.{answered_if, text_without_fault}
+use Rattle.apfloat_base.proofs.texts.OneMeaning.{meaning_no_fault}
+use Rattle.apfloat_c.proofs.MeaningfulTexts.{meaningful_ascii}
+use Rattle.apfloat_c.proofs.WrittenAnswers.{answered_if, refused_unless, text_with_fault, text_without_fault}
 use Rattle.apfloat_c.specs.KnownCalls.{is_text, refused_text}
 use Rattle.apfloat_c.proofs.answers.read.Goals as goal
 
 pub returns-in-Ok : goal.returns-in-Ok
 returns-in-Ok g c =
-    let reads = subst (λ (t : List ℕ). g.F.Float.reads t c.args.round (Ok c.in-Ok.read)) c.in-Some.ensures.0
-    c.in-Ok.ensures in
-    let none = c.requires.reads c.args.bytes.now c.args.round (Ok c.in-Ok.read) reads in
-    answered_if (is_text c.args.bytes.now) refused_text _ _ _
-    (text_without_fault c.args.bytes.now c.in-Some.ensures.1 none)
-    (record { given = c.in-Ok.read; holds = reads; is_written = c.written.ensures })
+    let bytes = c.args.bytes.now in
+    let reading = c.in-Ok.ensures in
+    answered_if (is_text bytes) refused_text _ _ _
+    (text_without_fault bytes (meaningful_ascii bytes reading.meaning reading.means)
+    (meaning_no_fault bytes reading.meaning reading.means))
+    (record { given = c.in-Ok.read; holds = reading; is_written = c.written.ensures })
+
+pub returns-in-Err : goal.returns-in-Err
+returns-in-Err g c =
+    let bytes = c.args.bytes.now in
+    let refusal = c.in-Err.ensures in
+    refused_unless (is_text bytes) refused_text _ _ (text_with_fault bytes refusal.fault refusal.is_first)

@@ -2,7 +2,7 @@ use Rattle.std.proofs.Common.{refl}
 use Rattle.apfloat_ieee.proofs.reading.IeeeFloatFromStr.from_str.Goals as goal
 
 pub returns-in-Ok : goal.returns-in-Ok
-returns-in-Ok g c = (c.read.result, c.read.ensures, rw c.in-Ok.is refl)
+returns-in-Ok g c = (c.read.result, rw c.as_bytes.ensures.value at c.read.ensures, rw c.in-Ok.is refl)
 
 pub returns-in-Err : goal.returns-in-Err
-returns-in-Err g c = (c.read.result, c.read.ensures, rw c.in-Err.is refl)
+returns-in-Err g c = (c.read.result, rw c.as_bytes.ensures.value at c.read.ensures, rw c.in-Err.is refl)
