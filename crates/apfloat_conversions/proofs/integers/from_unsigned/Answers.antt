@@ -29,7 +29,8 @@ balanced_units count scale e l v = omega (arith, ints)
 pub returns-then-count-eq0-clause-delivered : goal.returns-then-count-eq0-clause-delivered
 returns-then-count-eq0-clause-delivered c =
     let f = format_at c.args.shape in
-    let k : c.args.number < 2 ^ 0 = subst (λ (x : ℕ). c.args.number < 2 ^ x) c.if-count-eq0.true c.digits-count.ensures.below in
+    let k : c.args.number < 2 ^ 0 =
+    subst (λ (x : ℕ). c.args.number < 2 ^ x) c.if-count-eq0.true c.digits-count.ensures.below in
     let n : c.args.number ≡ 0 = omega (arith, k) in
     let z : c.args.number * 2 ^ f.scale ≡ 0 = ap (λ (x : ℕ). x * 2 ^ f.scale) n ∙ omega arith in
     rw (c.and.ensures.value, c.and.ensures.status, c.zero_of.ensures.datum)
