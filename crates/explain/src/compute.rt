@@ -42,7 +42,7 @@ struct Operand<S: Semantics> {
     is_rounded: bool,
 }
 
-/// The computation in a format, or the word that is no value.
+/// The computation in a format, or the word that is not a value.
 fn explained<'a, S: Semantics>(request: Request<'a>) -> Result<Explanation, &'a str>
     requires written { S.PRECISION < S.BITS }
     requires within { IsWithinQuad (format_of S.Semantics) }

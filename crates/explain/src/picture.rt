@@ -99,7 +99,7 @@ fn write_head<W: Write>(widths: Widths, name: &str, shown: &Shown, out: &mut W) 
     writeln!(out)
 }
 
-/// Writes the shortest decimal of a number, or the word for what is none.
+/// Writes the shortest decimal of a number, or the word for another value.
 fn write_decimal<W: Write>(shown: &Shown, out: &mut W) -> io::Result<()> {
     match shown.decimal {
         Some(decimal) => write!(out, "{decimal}"),
@@ -112,7 +112,7 @@ fn sign_of(shown: &Shown) -> &'static str {
     if shown.negative { "-" } else { "" }
 }
 
-/// The word for what is no number.
+/// The word for a value that is not a number.
 fn word_of(meaning: Meaning) -> &'static str {
     match meaning {
         Meaning::Infinity => "infinity",

@@ -94,7 +94,7 @@ pub enum Fault<'a> {
     Operation(&'a str),
     /// No mode has this name.
     Mode(&'a str),
-    /// This is no value of the format.
+    /// This is not a value of the format.
     Value(&'a str),
 }
 

@@ -1,4 +1,4 @@
--- Numbers far out of the range of a format: how their bits are read, on which side they are, and what answers them.
+-- Numbers far out of the range of a format: how their bits are read, on which side they are, and what they become.
 use Rattle.std.proofs.Common.{◌≡◌, ℕ, ◌+◌, ◌-◌, ◌*◌, ◌%◌, ◌^◌, ◌<◌, ◌≤◌, Bool, true, false, not, ◌&&◌, ◌||◌, eqb, List, [], ◌∷◌, Option, Some, None, refl, ⊎_elim, subst, sym, ap, ◌∙◌, arith, lit<, ℤ, pos, neg_ℤ, ◌+ℤ◌, ◌-ℤ◌, ◌≤ℤ◌}
 use Rattle.std.specs.Prelude.{IsTrue, IsSomeAnd, slice_get, slice_index_or}
 use Rattle.std.specs.Bool.{MatchBool}
