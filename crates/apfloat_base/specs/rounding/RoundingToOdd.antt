@@ -3,7 +3,7 @@
 use Rattle.std.specs.Prelude.{◌≡◌, ℕ, ◌+◌, ◌*◌, ◌%◌, ◌<◌, ◌≤◌, ◌⊎◌}
 
 -- `amount` is less than one unit away from `significand` units, which is odd, and at least `least`
-pub record IsBesideOdd (least significand amount unit : ℕ) : Type 0 where
+pub record IsNearOdd (least significand amount unit : ℕ) : Type 0 where
   pub long : least ≤ significand
   pub odd : significand % 2 ≡ 1
   pub above : significand * unit < amount + unit
@@ -12,4 +12,4 @@ pub record IsBesideOdd (least significand amount unit : ℕ) : Type 0 where
 -- `amount` is that many units, or less than one unit away from an odd number of them that is at least `least`
 abbrev pub IsRoundedToOdd : ℕ → ℕ → ℕ → ℕ → Type 0
 IsRoundedToOdd least significand amount unit =
-    (amount ≡ significand * unit) ⊎ IsBesideOdd least significand amount unit
+    (amount ≡ significand * unit) ⊎ IsNearOdd least significand amount unit
