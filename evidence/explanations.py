@@ -115,7 +115,7 @@ def headed(format, label, x):
 
 
 def short(format, x):
-    """The shortest decimal, or the word for what is no number."""
+    """The shortest decimal, or the word for a value that is not a number."""
     sign = "-" if x.negative else ""
     if isinstance(x, Infinite):
         return f"{sign}infinity"

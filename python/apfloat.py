@@ -596,7 +596,7 @@ class Value(_Arithmetic):
         return not self.is_zero
 
     def _compared(self, other):
-        """The order of two values; None for what is no number."""
+        """The order of two values; None if one of them is not a number."""
         if isinstance(other, Value) and other.format is self.format:
             return self._asked('compare', _halves(self.bits), _halves(other.bits)).number
         left, right = _exact_number(self), _exact_number(other)

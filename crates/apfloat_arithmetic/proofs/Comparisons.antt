@@ -1,4 +1,4 @@
--- The order of data: by exponents and significands, and by where they stand.
+-- The order of data: by exponents and significands, and by the side of 0 that they are on.
 use Rattle.std.proofs.Common.{◌≡◌, ℕ, ◌+◌, ◌*◌, ◌^◌, ◌<◌, ◌≤◌, Bool, true, false, ℤ, pos, ◌<ℤ◌, zero, suc, Some, sym, refl, ap, ◌∙◌, subst, arith}
 use Rattle.std.specs.Prelude.{neg_ℤ}
 use Rattle.std.specs.Bool.{Decides}
@@ -27,7 +27,7 @@ use Rattle.apfloat_arithmetic.proofs.SumCases.{datum_is}
 
 -- ---- two numbers with all their digits: the exponents come first
 
--- a number whose first digit stands lower is less
+-- a number whose first digit is at a lower place is less
 below_top : (precision s n u d t m v e : ℕ) → IsFull precision s n u d → IsFull precision t m v e
     → top_of precision u d < top_of precision v e → n < m
 below_top precision s n u d t m v e f g h =
@@ -104,14 +104,14 @@ below_both m n h = int_cmp_is (neg_ℤ (pos m)) (pos n) Less (omega (arith, ints
 above_both : (m n : ℕ) → 0 < m + n → Greater ≡ int_cmp (pos m) (neg_ℤ (pos n))
 above_both m n h = int_cmp_is (pos m) (neg_ℤ (pos n)) Greater (omega (arith, ints, h))
 
--- ---- where a value stands
+-- ---- the side of 0 that a value is on
 
--- a number other than 0 stands on the side of its sign
+-- a number other than 0 is on the side of its sign
 some_side : (negative : Bool) (n : ℕ) → 0 < n → number_side negative ≡ side (finite negative n)
 some_side b zero h = absurd (omega arith)
 some_side b (suc n) h = refl
 
--- a stored number other than 0 stands on the side of its sign
+-- a stored number other than 0 is on the side of its sign
 pub side_of_normal : (shape : Shape) (x : Unpacked) (negative : Bool) → x.category ≡ Normal → x.negative ≡ negative
     → IsStored shape x → number_side negative ≡ side (datum_at shape x)
 side_of_normal shape x b e f h =
@@ -125,7 +125,7 @@ one_sign true false e = cc
 one_sign false true e = cc
 one_sign false false e = refl
 
--- no number stands on the side of an infinity
+-- an infinity is on no side of numbers
 near_end : (left right : Bool) → number_side left ≡ side (infinite right) → ⊥
 near_end true true e = cc
 near_end true false e = cc

@@ -188,7 +188,7 @@ opposite_word shape m e n =
     let z : pos 0 -ℤ e ≡ neg_ℤ e = omega (arith, ints) in
     to_z-of_z w32 (pos 0 -ℤ e) (fits_in w32 (pos 0 -ℤ e) (omega (arith, ints, x.within))) ∙ z
 
--- what is answered of a number
+-- what is returned for a number
 pub inverse_answer : (shape : Shape) (negative : Bool) (m : ℕ) (e : ℤ) → IsNormalAt shape m e
     → IsInvertibleAt shape m e
     → IsExactInverse (format_at shape) (finite negative (quanta_at shape.min_exp m e))

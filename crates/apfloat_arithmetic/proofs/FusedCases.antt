@@ -41,7 +41,7 @@ zeros_rounded format mode b c d sign l m value status z e h =
     rw w (subst (λ (x : Bool). IsDelivered format mode x 0 (2 ^ format.scale) value status) e
     (h (2 ^ format.scale) (pow_pos format.scale)))
 
--- equal operands and answers make an equal fused sum
+-- a fused sum, with operands and result replaced by equal ones
 pub same_fused : (format : Format) (mode : Round) (x y z value addend answer : Datum) (i j : ℕ) → z ≡ addend
     → value ≡ answer → i ≡ j → IsFusedSum format mode x y addend answer j → IsFusedSum format mode x y z value i
 same_fused format mode x y z v d w i j p q r h = rw (p, q, r) h

@@ -13,7 +13,7 @@ use Rattle.apfloat_unpacked.specs.declared.shape.Shape.{Shape}
 use Rattle.apfloat_unpacked.specs.Stored.{IsNormalAt, quanta_at}
 use Rattle.apfloat_unpacked.proofs.StoredNumbers.{quanta_low_below, quanta_high}
 
--- what a comparison of signed numbers answers
+-- what a comparison of signed numbers returns
 pub compares_as : (less : Bool) (a b : ℤ) (holds : Bool) → lt_z a b ≡ less
     → (a <ℤ b → holds ≡ true) → (b ≤ℤ a → holds ≡ false) → less ≡ holds
 compares_as true a b x e f g = sym (f (lt_z_yes (subst T (sym e) tt)))

@@ -101,7 +101,7 @@ zero_ones : (n : ℕ) → 0 ≡ (if eqb n 0 then 0 else count_ones (0 / n))
 unfolding lib.Count.ones
 zero_ones n = zero_if (eqb n 0) (count_ones (0 / n)) (ap count_ones (zero-div n))
 
--- and none where one of them is no number
+-- and none where one of them is not a number
 pub no_ones : (shape : Shape) (first second : Category) (x y : Unpacked) → (first ≡ Normal → second ≡ Normal → ⊥)
     → 0 ≡ ones_of_quotient (datum_by first shape x) (datum_by second shape y)
 no_ones shape Normal Normal x y h = absurd (h refl refl)

@@ -28,7 +28,7 @@ number_stored shape x e h =
       quanta_some shape x.significand x.exponent n,
     )
 
--- equal operands and answers make an equal sum
+-- a sum, with operands and result replaced by equal ones
 pub same_sum : (format : Format) (mode : Round) (x y value left right answer : Datum) (i j : ℕ) → x ≡ left → y ≡ right
     → value ≡ answer → i ≡ j → IsSum format mode left right answer j → IsSum format mode x y value i
 same_sum format mode x y v a b d i j p q r e h = rw (p, q, r, e) h
@@ -38,7 +38,7 @@ pub datum_is : (category : Category) (shape : Shape) (x : Unpacked) → x.catego
     → datum_at shape x ≡ datum_by category shape x
 datum_is category shape x e = ap (λ (l : Category). datum_by l shape x) e
 
--- a negated number is no signaling NaN
+-- a negated number is not a signaling NaN
 not_signaling : (format : Format) (kind : NonfiniteBehavior) (negative : Bool) (n : ℕ)
     → is_signaling_nan format (negated kind (finite negative n)) ≡ false
 not_signaling format kind b n = search rules

@@ -17,7 +17,7 @@ use Rattle.apfloat_unpacked.specs.declared.shape.Shape.{Shape}
 use Rattle.apfloat_unpacked.specs.declared.unpacked.Unpacked.{Unpacked}
 use Rattle.apfloat_unpacked.specs.Stored.{datum_at, datum_by}
 
--- what is said of two data is said of what two values stand for
+-- what holds of two data holds of values that stand for them
 pub by_categories : (P : Datum → Datum → Type 0) (shape : Shape) (x y : Unpacked) (first second : Category)
     → x.category ≡ first → y.category ≡ second → P (datum_by first shape x) (datum_by second shape y)
     → P (datum_at shape x) (datum_at shape y)

@@ -53,7 +53,7 @@ fn side(x: Unpacked) -> u8
 
 /// The order of two values at the same position.
 #[inline(always)]
-fn compare_beside(x: Unpacked, y: Unpacked) -> Ordering
+fn compare_on_one_side(x: Unpacked, y: Unpacked) -> Ordering
     ensures { (shape : Shape) → IsStored shape x → IsStored shape y
         → side (datum_at shape x) ≡ side (datum_at shape y)
         → result ≡ int_cmp (number (datum_at shape x)) (number (datum_at shape y)) }
@@ -82,7 +82,7 @@ pub fn compare(x: Unpacked, y: Unpacked) -> Option<Ordering>
     if is_nan(x) || is_nan(y) {
         return None;
     }
-    Some(side(x).cmp(&side(y)).then(compare_beside(x, y)))
+    Some(side(x).cmp(&side(y)).then(compare_on_one_side(x, y)))
 }
 
 /// Whether two values have the same class and the same sign.

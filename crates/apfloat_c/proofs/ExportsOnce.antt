@@ -52,7 +52,7 @@ OnceAnswer Holds = (first second : Answer) → Holds first → Holds second → 
 
 -- ---- answers without a value
 
--- a relation with one answer leaves one, be it a whole number
+-- a relation with one result leaves one answer: a whole number
 unsigned_once : (Holds : StatusAnd ℕ → Bool → Type 0) → DeterminesBoth Holds → OnceAnswer (IsUnsigned Holds)
 unsigned_once Holds once a b x y =
     let same = once x.given y.given x.is_exact y.is_exact x.holds y.holds in
@@ -277,7 +277,7 @@ reply_once (Some known) (Some mode) call old a b code other x y =
 
 -- ---- answers as C holds them, whose halves have 64 bits
 
--- two halves that say one number have one upper half
+-- two pairs of halves that make one number have the same upper half
 high_once : (first second : Halves) → first.low < 2 ^ 64 → second.low < 2 ^ 64 → whole first ≡ whole second
     → first.high ≡ second.high
 high_once a b a_fits b_fits same =
@@ -290,18 +290,18 @@ high_once a b a_fits b_fits same =
     (cases_lt b.high a.high))
     (cases_lt a.high b.high)
 
--- and then one lower half
+-- and then the same lower half
 low_once : (first second : Halves) → first.high ≡ second.high → whole first ≡ whole second
     → first.low ≡ second.low
 low_once a b high same = omega arith
 
--- two numbers of two halves are equal where both halves are
+-- two pairs of halves are equal if both halves are
 halves_of : (first second : Halves) → first.low ≡ second.low → first.high ≡ second.high → first ≡ second
 halves_of a b low high =
     ap (λ (n : ℕ). record { low = n; high = a.high }) low
     ∙ ap (λ (n : ℕ). record { low = b.low; high = n }) high
 
--- so the halves are the same
+-- so both halves are the same
 halves_once : (first second : Halves) → first.low < 2 ^ 64 → second.low < 2 ^ 64 → whole first ≡ whole second
     → first ≡ second
 halves_once a b a_fits b_fits same =

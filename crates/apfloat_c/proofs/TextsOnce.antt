@@ -52,7 +52,7 @@ one_struct written other a b same x y =
     ∙ ap (λ (n : ℕ). record { bytes = b.bytes; length = n })
     (x.length_is ∙ ap (λ (text : List ℕ). length text) same ∙ sym y.length_is)
 
--- a format of a built-in name has some digits
+-- a built-in format has at least one digit
 some_precision : (format : BuiltInFormat) → 0 < (format_with (constants_in format)).precision
 some_precision format =
     let law = (known_format format).lawful in

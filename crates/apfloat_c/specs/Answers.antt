@@ -184,7 +184,7 @@ IsKindAnswer of_pairs mode (SquareRoot x) answer =
     IsValue in_pairs (λ given. Gives (IsPairRoot mode (pair_of x)) given) answer
 IsKindAnswer of_pairs mode call answer = IsTypeAnswer in_pairs mode call answer
 
--- what a call leaves: the code 0 and an answer where nothing is refused, and else the code of the error and what was
+-- what a call leaves: the code 0 and an answer if nothing is refused, otherwise the code of the error and what was
 -- there before
 abbrev pub IsLeftBy : Option ℕ → (Answer → Type 0) → Answer → Answer → ℕ → Type 0
 IsLeftBy None Holds old new code = (code ≡ answered) × Holds new

@@ -28,7 +28,7 @@ use Rattle.apfloat_c.specs.declared.decimals.DecimalText.{DecimalText}
 use Rattle.apfloat_c.specs.Answers.{IsValue}
 use Rattle.apfloat_c.specs.KnownCalls.{◌>>=◌, answered, no_such_operation, refused_text, unknown_format, unknown_mode}
 
--- a format has at most the digits of binary128, and its exponents
+-- a format has at most the digits and the exponents of binary128
 abbrev pub HasDecimals : Kind → Type 0
 HasDecimals (of_format c) = IsWithinQuad (format_with c)
 HasDecimals of_pairs = ⊤

@@ -225,8 +225,8 @@ begun_dotted n places tail written e few some exponent same =
     (append_assoc (decimal (n / 10 ^ places)) (46 ∷ padded places (n % 10 ^ places)) tail)
     (rw (sym same) (dotted n places tail written few some exponent))
 
-zero_text : (e : ℤ) → IsMagnitude (codes "0.0") 0 (neg_ℤ (pos 1))
-zero_text e = record {
+zero_text : IsMagnitude (codes "0.0") 0 (neg_ℤ (pos 1))
+zero_text = record {
   is_text = record {
     whole = 48 ∷ [];
     point = codes ".";
@@ -305,7 +305,7 @@ scientific n e few low high =
 magnitude_spelled : (x : Decimal) → IsStoredDecimal x
     → IsMagnitude (magnitude_text x.digits x.exponent) (written x).digits (written x).exponent
 magnitude_spelled x stored =
-    ⊎_elim (λ (zero : eqb x.digits 0 ≡ true). rw zero (zero_text x.exponent))
+    ⊎_elim (λ (zero : eqb x.digits 0 ≡ true). rw zero zero_text)
     (λ (some : eqb x.digits 0 ≡ false).
     ⊎_elim
     (λ (plain : is_plain x.digits x.exponent ≡ true).

@@ -90,7 +90,7 @@ pub record IsSpelled (f : Format) (mode : Round) (negative : Bool) (body : List 
   pub is_text : IsDecimalText body digits exponent
   pub delivered : IsDecimalDelivery f mode negative digits exponent value status
 
--- a decimal text is read as its number; infinities, NaNs and hexadecimal texts as ever
+-- a decimal text is read as its number; infinities, NaNs and hexadecimal texts as `from_str_r` reads them
 abbrev pub IsDecimalReading : Format → Round → List ℕ → Datum → ℕ → Type 0
 IsDecimalReading f mode text value status =
     IsSpelled f mode (is_minus (mark_of text)) (behind_mark text) value status ⊎ IsReading f mode text value status

@@ -28,7 +28,7 @@ use std::str::FromStr;
 /// Why a text gives no `Decimal`.
 #[derive(Clone, Copy, PartialEq, Eq, Debug)]
 pub enum DecimalError {
-    /// The text is no decimal; with the words for its first fault from the left.
+    /// The text is not a decimal; with the words for its first fault from the left.
     NoDecimal(ParseError),
     /// The digits on both sides of the dot, as one whole number, are 2^128 or more.
     TooManyDigits,
@@ -115,7 +115,7 @@ impl FromStr for Decimal {
     /// exponent -2.
     ///
     /// A decimal text is an optional sign, decimal digits with at most one dot, and optionally `e` or `E` and an
-    /// exponent with an optional sign. Infinities, NaNs and hexadecimal numbers are no decimals. A number is refused if
+    /// exponent with an optional sign. Infinities, NaNs and hexadecimal numbers are refused, and so is a number if
     /// its digits are 2^128 or more as a whole number, for which zeros at the start do not count and those at the end
     /// do, or if the exponent of its last digit does not fit in 32 bits, even if the number is zero.
     fn from_str(s: &str) -> Result<Self, DecimalError> {

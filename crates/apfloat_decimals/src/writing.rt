@@ -175,7 +175,7 @@ fn write_signed<W: fmt::Write>(
 impl fmt::Display for Decimal {
     ghost output = { λ x. Some (decimal_text x) };
 
-    /// Writes all digits, and a dot: without an exponent if that of the first digit is from -6 to 20, else in
+    /// Writes all digits, and a dot: without an exponent if that of the first digit is from -6 to 20, otherwise in
     /// scientific notation, as in `12.30`, `0.000001`, `1e-7` and `1.5e21`. A whole number ends in `.0`; a zero is
     /// `0.0`, whatever its exponent. A width and a precision are ignored.
     fn fmt<W: fmt::Write>(&self, f: &mut fmt::Formatter<W>) -> fmt::Result {

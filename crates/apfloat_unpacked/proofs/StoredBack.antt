@@ -35,7 +35,7 @@ moved precision u d h =
     let e : top_of precision u d + d ≡ precision - 1 + u = omega arith in
     sym (pow-add 2 (precision - 1) u) ∙ ap (λ (x : ℕ). 2 ^ x) (sym e) ∙ pow-add 2 (top_of precision u d) d
 
--- the highest digit of n stands at that place
+-- the highest digit of n is at that place
 pub full_low : (precision s n u d : ℕ) → IsFull precision s n u d → 2 ^ top_of precision u d ≤ n
 full_low precision s n u d h =
     let m = moved precision u d h.short in

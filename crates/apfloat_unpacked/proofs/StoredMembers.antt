@@ -16,7 +16,7 @@ use Rattle.apfloat_unpacked.specs.Shapes.{format_at}
 use Rattle.apfloat_unpacked.specs.Stored.{IsStored, IsStoredBy, datum_at, datum_by, quanta_at}
 use Rattle.apfloat_unpacked.proofs.StoredBack.{quanta_some}
 
--- what is stored as of a category stands for a datum of that category
+-- what is stored with a category stands for a datum of that category
 category_by : (category : Category) (shape : Shape) (x : Unpacked) → IsStoredBy category shape x
     → category_of (datum_by category shape x) ≡ category
 category_by Normal shape x h = let p = quanta_some shape x.significand x.exponent h in
@@ -41,7 +41,7 @@ on_grid_at precision m n u d h e (inr z) =
     let w : n * 1 ≡ m * 2 ^ u = ap (λ (x : ℕ). n * 2 ^ x) (sym z) ∙ e in
     record { significand = m; place = u; fits = h; is = omega arith }
 
--- what is stored as of a category stands for a datum of the format
+-- what is stored with a category stands for a datum of the format
 member_by : (category : Category) (shape : Shape) (x : Unpacked) → IsStoredBy category shape x
     → IsMember (format_at shape) (datum_by category shape x)
 member_by Normal shape x h =

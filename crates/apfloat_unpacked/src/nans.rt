@@ -38,7 +38,7 @@ pub fn payload_mask(shape: Shape) -> u128
     }
 }
 
-/// The one of the bits that make a NaN quiet that an operation sets.
+/// Of the bits that make a NaN quiet, the one that an operation sets.
 #[inline(always)]
 fn quiet_bit(shape: Shape) -> u128
     ensures { result ≡ quiet_bit (format_at shape) }

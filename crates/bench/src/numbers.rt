@@ -9,7 +9,7 @@ use crate::operation::Operation;
 use crate::task::Task;
 use crate::wide_numbers::wide_arithmetic;
 use rustc_apfloat::ieee::{DoubleS, HalfS, IeeeFloat, Semantics, SingleS};
-use rustc_apfloat::{Float, FloatConvert, Round, Status, StatusAnd};
+use rustc_apfloat::{FUSED_LIMIT, Float, FloatConvert, PRODUCT_LIMIT, Round, Status, StatusAnd};
 use std::alloc::{AllocError, Global};
 use std::io;
 use std::marker::PhantomData;
@@ -26,8 +26,8 @@ pub fn measured_in<S: Semantics>(
     requires { S.PRECISION < S.BITS }
 {
     let known = match task.operation {
-        Operation::Product if S::PRECISION > 64 => return Ok(None),
-        Operation::FusedSum if S::PRECISION > 63 => return Ok(None),
+        Operation::Product if S::PRECISION > PRODUCT_LIMIT => return Ok(None),
+        Operation::FusedSum if S::PRECISION > FUSED_LIMIT => return Ok(None),
         Operation::ToHalf => conversions::<S, HalfS>(rt, task)?,
         Operation::ToSingle => conversions::<S, SingleS>(rt, task)?,
         Operation::ToDouble => conversions::<S, DoubleS>(rt, task)?,
@@ -62,11 +62,11 @@ impl<S: Semantics> Calls<Operands<S>, IeeeFloat<S>> for Calculates {
         match self.0.operation {
             Operation::Sum => for_each!(operands, answers, x => x[0].add_r(x[1], mode)),
             Operation::Difference => for_each!(operands, answers, x => x[0].sub_r(x[1], mode)),
-            Operation::Product if S::PRECISION <= 64 => {
+            Operation::Product if S::PRECISION <= PRODUCT_LIMIT => {
                 for_each!(operands, answers, x => x[0].mul_r(x[1], mode))
             }
             Operation::Quotient => for_each!(operands, answers, x => x[0].div_r(x[1], mode)),
-            Operation::FusedSum if S::PRECISION <= 63 => {
+            Operation::FusedSum if S::PRECISION <= FUSED_LIMIT => {
                 for_each!(operands, answers, x => x[0].mul_add_r(x[1], x[2], mode))
             }
             Operation::NearestRemainder => for_each!(operands, answers, x => x[0].ieee_rem(x[1])),

@@ -5,8 +5,8 @@ use Rattle.rustc_apfloat.specs.Format.{Format, smallest_normalized, largest, nan
 use Rattle.apfloat_base.specs.declared.kinds.Round.{Round}
 use Rattle.rustc_apfloat.specs.Rounding.{rounds_below_normal}
 use Rattle.rustc_apfloat.specs.Datum.{Datum, finite, infinite, nan}
-use Rattle.conformance.specs.declared.plain.Answer.{Answer}
-use Rattle.conformance.specs.declared.plain.Answer.TheVariants.{Finite, Infinite, NotANumber}
+use Rattle.conformance.specs.declared.plain.RoundedValue.{RoundedValue}
+use Rattle.conformance.specs.declared.plain.RoundedValue.TheVariants.{Finite, Infinite, NotANumber}
 use Rattle.conformance.specs.declared.plain.Bounds.{Bounds}
 
 -- small enough that no product exceeds 128 bits
@@ -41,7 +41,7 @@ tiny_of b mode negative amount parts pick =
     else ltb pick b.smallest_normalized)
 
 -- the datum of an answer, in a format of this kind and precision
-abbrev pub datum_of : NonfiniteBehavior → ℕ → Answer → Datum
+abbrev pub datum_of : NonfiniteBehavior → ℕ → RoundedValue → Datum
 datum_of kind precision (Finite negative quanta) = finite negative quanta
 datum_of kind precision (Infinite negative) = infinite negative
 datum_of kind precision (NotANumber negative) = nan negative (nan_base_of kind precision)

@@ -117,7 +117,7 @@ pub struct Bounds {
 
 /// The value that a rounding returns.
 #[derive(Clone, Copy, Debug)]
-pub enum Answer {
+pub enum RoundedValue {
     /// A number of this sign, in quanta.
     Finite { negative: bool, quanta: u128 },
     /// The infinity of this sign.
@@ -127,24 +127,24 @@ pub enum Answer {
 }
 
 /// The value past the largest one.
-fn past_largest(nonfinite: NonfiniteBehavior, negative: bool) -> Answer
+fn past_largest(nonfinite: NonfiniteBehavior, negative: bool) -> RoundedValue
     ensures { (precision : ℕ) → datum_of nonfinite precision result
         ≡ past_largest nonfinite (nan_base_of nonfinite precision) negative }
 {
     match nonfinite {
-        NonfiniteBehavior::IEEE754 => Answer::Infinite { negative },
-        NonfiniteBehavior::NanOnly => Answer::NotANumber { negative },
-        NonfiniteBehavior::NanNegativeZero => Answer::NotANumber { negative: false },
+        NonfiniteBehavior::IEEE754 => RoundedValue::Infinite { negative },
+        NonfiniteBehavior::NanOnly => RoundedValue::NotANumber { negative },
+        NonfiniteBehavior::NanNegativeZero => RoundedValue::NotANumber { negative: false },
     }
 }
 
 /// The number of this sign and that many quanta; a zero is negative only if the format has a negative zero.
-fn number_of(nonfinite: NonfiniteBehavior, negative: bool, quanta: u128) -> Answer
+fn number_of(nonfinite: NonfiniteBehavior, negative: bool, quanta: u128) -> RoundedValue
     ensures { (precision : ℕ)
         → datum_of nonfinite precision result ≡ signed_quanta nonfinite negative quanta }
 {
     let unsigned_zero = quanta == 0 && nonfinite == NonfiniteBehavior::NanNegativeZero;
-    Answer::Finite {
+    RoundedValue::Finite {
         negative: negative && !unsigned_zero,
         quanta,
     }
@@ -237,7 +237,7 @@ pub fn deliver(
     negative: bool,
     amount: u128,
     parts: u128,
-) -> StatusAnd<Answer>
+) -> StatusAnd<RoundedValue>
     requires small { IsSmall bounds.precision amount parts }
     requires normalized { bounds.smallest_normalized < 2 ^ 60 }
     ensures { (f : Format) → HasBounds f bounds
@@ -260,5 +260,5 @@ pub fn deliver(
         Status::INEXACT
     };
     let quanta = bounds.largest;
-    status.and(Answer::Finite { negative, quanta })
+    status.and(RoundedValue::Finite { negative, quanta })
 }

@@ -7,7 +7,7 @@ ghost use Rattle.conformance.specs.Plain.{HasBounds};
 use crate::asserts::same;
 use crate::small::magnitude_bits;
 use crate::tables::MODES;
-use conformance::plain::{Answer, Bounds, deliver};
+use conformance::plain::{Bounds, RoundedValue, deliver};
 use custom_formats::{HalfTinyBeforeS, SevenS};
 use rustc_apfloat::ieee::{Flagged, Half, HalfS, IeeeFlags, Loss, NonfiniteBehavior, TinyBefore};
 use rustc_apfloat::{ExpInt, Float, Round, ieee};
@@ -95,14 +95,14 @@ const SEVEN: Subject = Subject {
     infinity: 0x38,
 };
 
-fn bits_of(subject: Subject, value: Answer) -> u128
+fn bits_of(subject: Subject, value: RoundedValue) -> u128
     requires { 0 < subject.bounds.smallest_normalized }
 {
     match value {
-        Answer::Infinite { negative } | Answer::NotANumber { negative } => {
+        RoundedValue::Infinite { negative } | RoundedValue::NotANumber { negative } => {
             sign_bit(subject, negative) | subject.infinity
         }
-        Answer::Finite { negative, quanta } => sign_bit(subject, negative)
+        RoundedValue::Finite { negative, quanta } => sign_bit(subject, negative)
             | magnitude_bits(subject.bounds.smallest_normalized, quanta),
     }
 }

@@ -3,6 +3,7 @@
 //! for one rounding.
 
 ghost use Rattle.std.specs.Prelude.{◌^◌, ◌<◌, ◌≤◌};
+ghost use Rattle.rustc_apfloat.specs.Products.{product_limit};
 
 use crate::asserts::{Bits, same};
 use crate::small::{
@@ -88,7 +89,7 @@ fn written<S: Flagged>(answer: StatusAnd<IeeeFloat<S>>) -> Expected
 /// the flags that other formats raise.
 fn check_pair<S: Flagged>(rt: &impl Abort, tininess: Tininess, mode: Round, x: u128, y: u128)
     requires written { S.PRECISION < S.BITS }
-    requires multiplied { S.PRECISION ≤ 64 }
+    requires multiplied { S.PRECISION ≤ product_limit }
 {
     let left = decoded(Small::Half, x);
     let right = decoded(Small::Half, y);
@@ -117,7 +118,7 @@ fn check_pair<S: Flagged>(rt: &impl Abort, tininess: Tininess, mode: Round, x: u
 /// All bit patterns with each of 32 neighbouring ones. The modes take turns.
 fn check_all<S: Flagged>(rt: &impl Abort, tininess: Tininess, neighbours: u64)
     requires written { S.PRECISION < S.BITS }
-    requires multiplied { S.PRECISION ≤ 64 }
+    requires multiplied { S.PRECISION ≤ product_limit }
     requires neighbours { neighbours < 2 ^ 16 }
 {
     for pattern in 0..1u64 << 16 {

@@ -2,6 +2,7 @@
 //! of a format except its law.
 
 ghost use Rattle.std.specs.Prelude.{◌<◌, ◌≤◌};
+ghost use Rattle.rustc_apfloat.specs.Products.{product_limit};
 
 use crate::asserts::same;
 use crate::tables::MODES;
@@ -117,7 +118,7 @@ fn check_sums<S: Semantics>(rt: &impl Abort, x: IeeeFloat<S>, y: IeeeFloat<S>, z
 
 /// The product with the negated left factor in the opposite mode is the negated product.
 fn check_product<S: Semantics>(rt: &impl Abort, x: IeeeFloat<S>, y: IeeeFloat<S>)
-    requires { S.PRECISION ≤ 64 }
+    requires { S.PRECISION ≤ product_limit }
 {
     for mode in MODES {
         let (product, opposite) = opposite_products(x, y, mode);
@@ -198,7 +199,7 @@ fn check_laws_beside<S: Semantics>(rt: &impl Abort, x: IeeeFloat<S>) {
 
 /// The law of products, for values at the limits.
 fn check_products<S: Semantics>(rt: &impl Abort)
-    requires { S.PRECISION ≤ 64 }
+    requires { S.PRECISION ≤ product_limit }
 {
     for left in PLACES {
         for right in PLACES {

@@ -14,74 +14,74 @@ use std::process::Abort;
 
 /// What an integer is converted to: an integer, or the value past the largest one.
 #[derive(Clone, Copy)]
-enum Answer {
+enum Landed {
     Number(u128),
     Past,
 }
 
 /// An integer, a mode, the result and the bits of its status.
-type Row = (u128, Round, Answer, u8);
+type Row = (u128, Round, Landed, u8);
 
 /// The largest value is 14.
 static FEW_DIGITS: [Row; 4] = [
-    (14, EVEN, Answer::Number(14), OK),
-    (15, EVEN, Answer::Past, OVERFLOW_INEXACT),
-    (15, ZERO, Answer::Number(14), INEXACT),
-    (9, EVEN, Answer::Number(8), INEXACT),
+    (14, EVEN, Landed::Number(14), OK),
+    (15, EVEN, Landed::Past, OVERFLOW_INEXACT),
+    (15, ZERO, Landed::Number(14), INEXACT),
+    (9, EVEN, Landed::Number(8), INEXACT),
 ];
 
 /// The largest value is 12.
 static LEAST_FINITE: [Row; 4] = [
-    (12, EVEN, Answer::Number(12), OK),
-    (13, EVEN, Answer::Number(12), INEXACT),
-    (14, EVEN, Answer::Past, OVERFLOW_INEXACT),
-    (14, ZERO, Answer::Number(12), INEXACT),
+    (12, EVEN, Landed::Number(12), OK),
+    (13, EVEN, Landed::Number(12), INEXACT),
+    (14, EVEN, Landed::Past, OVERFLOW_INEXACT),
+    (14, ZERO, Landed::Number(12), INEXACT),
 ];
 
 /// The largest value is 2^126 - 2.
 static PRECISE: [Row; 4] = [
-    ((1 << 125) + 1, EVEN, Answer::Number(1 << 125), INEXACT),
-    ((1 << 126) - 2, EVEN, Answer::Number((1 << 126) - 2), OK),
-    ((1 << 126) - 1, EVEN, Answer::Past, OVERFLOW_INEXACT),
+    ((1 << 125) + 1, EVEN, Landed::Number(1 << 125), INEXACT),
+    ((1 << 126) - 2, EVEN, Landed::Number((1 << 126) - 2), OK),
+    ((1 << 126) - 1, EVEN, Landed::Past, OVERFLOW_INEXACT),
     (
         (1 << 126) - 1,
         ZERO,
-        Answer::Number((1 << 126) - 2),
+        Landed::Number((1 << 126) - 2),
         INEXACT,
     ),
 ];
 
 static VAST: [Row; 3] = [
-    ((1 << 125) + 1, EVEN, Answer::Number(1 << 125), INEXACT),
-    ((1 << 125) - 1, EVEN, Answer::Number((1 << 125) - 1), OK),
-    (u128::MAX, ZERO, Answer::Number(u128::MAX - 7), INEXACT),
+    ((1 << 125) + 1, EVEN, Landed::Number(1 << 125), INEXACT),
+    ((1 << 125) - 1, EVEN, Landed::Number((1 << 125) - 1), OK),
+    (u128::MAX, ZERO, Landed::Number(u128::MAX - 7), INEXACT),
 ];
 
 static BROAD: [Row; 2] = [
-    ((1 << 107) + 1, EVEN, Answer::Number(1 << 107), INEXACT),
-    ((1 << 107) - 1, EVEN, Answer::Number((1 << 107) - 1), OK),
+    ((1 << 107) + 1, EVEN, Landed::Number(1 << 107), INEXACT),
+    ((1 << 107) - 1, EVEN, Landed::Number((1 << 107) - 1), OK),
 ];
 
 static WRITTEN_BIT: [Row; 3] = [
-    (257, EVEN, Answer::Number(256), INEXACT),
-    (65280, EVEN, Answer::Number(65280), OK),
-    (65408, EVEN, Answer::Past, OVERFLOW_INEXACT),
+    (257, EVEN, Landed::Number(256), INEXACT),
+    (65280, EVEN, Landed::Number(65280), OK),
+    (65408, EVEN, Landed::Past, OVERFLOW_INEXACT),
 ];
 
 /// The largest value is 30 * 2^12.
 static TEN: [Row; 4] = [
-    (122880, EVEN, Answer::Number(122880), OK),
-    (124928, EVEN, Answer::Number(122880), INEXACT),
-    (126976, EVEN, Answer::Past, OVERFLOW_INEXACT),
-    (126976, ZERO, Answer::Number(122880), INEXACT),
+    (122880, EVEN, Landed::Number(122880), OK),
+    (124928, EVEN, Landed::Number(122880), INEXACT),
+    (126976, EVEN, Landed::Past, OVERFLOW_INEXACT),
+    (126976, ZERO, Landed::Number(122880), INEXACT),
 ];
 
 fn check_rows<S: Semantics>(rt: &impl Abort, rows: &[Row]) {
     for (number, mode, answer, status) in rows {
         let got = IeeeFloat::<S>::from_u128_r(*number, *mode);
         let value = match *answer {
-            Answer::Number(value) => IeeeFloat::<S>::from_u128(value).value,
-            Answer::Past => IeeeFloat::<S>::infinity(),
+            Landed::Number(value) => IeeeFloat::<S>::from_u128(value).value,
+            Landed::Past => IeeeFloat::<S>::infinity(),
         };
         let got = (got.value.bitwise_eq(value), got.status.bits());
         same(rt, got, (true, *status), (*number, *mode));

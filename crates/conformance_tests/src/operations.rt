@@ -2,6 +2,7 @@
 //! rounding.
 
 ghost use Rattle.std.specs.Prelude.{◌<◌, ◌≤◌};
+ghost use Rattle.rustc_apfloat.specs.Products.{product_limit};
 
 use crate::asserts::{Bits, same};
 use crate::small::{Small, answered, difference, product, quotient, sum};
@@ -13,7 +14,7 @@ use std::process::Abort;
 /// The four operations on two bit patterns: value and status are the expected ones.
 fn check_pair<S: Semantics>(rt: &impl Abort, format: Small, mode: Round, x: u128, y: u128)
     requires written { S.PRECISION < S.BITS }
-    requires multiplied { S.PRECISION ≤ 64 }
+    requires multiplied { S.PRECISION ≤ product_limit }
 {
     let left = S::from_bits(x);
     let right = S::from_bits(y);
@@ -35,7 +36,7 @@ fn check_pair<S: Semantics>(rt: &impl Abort, format: Small, mode: Round, x: u128
 /// All pairs of 8-bit patterns.
 fn check_all<S: Semantics>(rt: &impl Abort, format: Small, mode: Round)
     requires written { S.PRECISION < S.BITS }
-    requires multiplied { S.PRECISION ≤ 64 }
+    requires multiplied { S.PRECISION ≤ product_limit }
 {
     for x in 0..256u64 {
         for y in 0..256u64 {

@@ -1,6 +1,7 @@
 //! Operators, and the calls that round to nearest, ties to even.
 
 ghost use Rattle.std.specs.Prelude.{◌<◌, ◌≤◌};
+ghost use Rattle.rustc_apfloat.specs.FusedSums.{fused_limit};
 
 use crate::asserts::{Bits, same};
 use crate::tables::{DIV_BY_ZERO, INEXACT, INVALID_OP, OK, OVERFLOW_INEXACT, UNDERFLOW_INEXACT};
@@ -113,7 +114,7 @@ static HALF_FUSED: [Fused; 3] = [
 
 fn check_fused<S: Semantics>(rt: &impl Abort, rows: &[Fused])
     requires written { S.PRECISION < S.BITS }
-    requires short { S.PRECISION ≤ 63 }
+    requires short { S.PRECISION ≤ fused_limit }
 {
     for (x, y, z, value, flags) in rows {
         let answer = S::from_bits(*x).mul_add(S::from_bits(*y), S::from_bits(*z));

@@ -4,7 +4,7 @@
 ghost use Rattle.std.specs.Prelude.{◌*◌, ◌^◌, ◌<◌, ◌≤◌};
 
 use crate::tables::{DIV_BY_ZERO, INEXACT, INVALID_OP, OK};
-use conformance::plain::{Answer, Bounds, deliver, whole};
+use conformance::plain::{Bounds, RoundedValue, deliver, whole};
 use rustc_apfloat::ieee::{IeeeFloat, NonfiniteBehavior, Semantics};
 use rustc_apfloat::{Flags, Float, Round, StatusAnd};
 
@@ -190,15 +190,15 @@ pub fn past_bits(layout: Layout, negative: bool) -> u128 {
 }
 
 /// The bits of a result of the plain program.
-pub fn bits_of(layout: Layout, answer: Answer) -> u128
+pub fn bits_of(layout: Layout, answer: RoundedValue) -> u128
     requires { 0 < layout.bounds.smallest_normalized }
 {
     match answer {
-        Answer::Finite { negative, quanta } => {
+        RoundedValue::Finite { negative, quanta } => {
             sign_bit(layout, negative) | magnitude_bits(layout.bounds.smallest_normalized, quanta)
         }
-        Answer::Infinite { negative } => past_bits(layout, negative),
-        Answer::NotANumber { negative } => past_bits(layout, negative),
+        RoundedValue::Infinite { negative } => past_bits(layout, negative),
+        RoundedValue::NotANumber { negative } => past_bits(layout, negative),
     }
 }
 

@@ -6,7 +6,7 @@ use Rattle.rustc_apfloat.specs.declared.StatusAnd.{StatusAnd}
 use Rattle.rustc_apfloat.specs.Faults.{fault_of}
 use Rattle.rustc_apfloat.specs.Readings.{IsRefusal}
 
--- read if it has no fault, and else refused with the words for its first fault
+-- read if it has no fault, otherwise refused with the words for its first fault
 abbrev pub IsReadOrRefused : {A : Type 0} → List ℕ → Result (StatusAnd A) ParseError → Type 0
 IsReadOrRefused text (Ok answer) = fault_of text ≡ None
 IsReadOrRefused text (Err error) = IsRefusal text error.0.now

@@ -10,7 +10,7 @@ ghost use Rattle.rustc_apfloat.specs.Types.{format_of};
 ghost use Rattle.apfloat_decimals.specs.ShortestSearch.{IsWithinQuad};
 
 use crate::explanation::{Between, Exact, Explanation, Meaning, Place, Shown, Side, Widths};
-use crate::request::{Operation, Request};
+use crate::question::{Operation, Question};
 use apfloat_decimals::{read_decimal, shortest};
 use commands::bits_of;
 use custom_formats::Vast;
@@ -22,7 +22,7 @@ use rustc_apfloat::{Category, ExpInt, Flags, Float, FloatConvert, Round, Status,
 #[derive(Clone, Copy)]
 pub struct Computation<'a> {
     /// What is to be explained.
-    pub request: Request<'a>,
+    pub question: Question<'a>,
 }
 
 impl<'a> InFormat for Computation<'a> {
@@ -31,7 +31,7 @@ impl<'a> InFormat for Computation<'a> {
     ghost can = { λ _ kind. HasShortest kind };
 
     fn in_format<S: Semantics>(self) -> Result<Explanation, &'a str> {
-        explained::<S>(self.request)
+        explained::<S>(self.question)
     }
 }
 
@@ -42,15 +42,15 @@ struct Operand<S: Semantics> {
     is_rounded: bool,
 }
 
-/// The computation in a format, or the word that is no value.
-fn explained<'a, S: Semantics>(request: Request<'a>) -> Result<Explanation, &'a str>
+/// The computation in a format, or the word that is not a value.
+fn explained<'a, S: Semantics>(question: Question<'a>) -> Result<Explanation, &'a str>
     requires written { S.PRECISION < S.BITS }
     requires within { IsWithinQuad (format_of S.Semantics) }
 {
-    match values_of::<S>(request.operands) {
+    match values_of::<S>(question.operands) {
         Ok(operands) => Ok(explanation(
-            request.operation,
-            request.round,
+            question.operation,
+            question.round,
             operands[0],
             operands[1],
             operands[2],

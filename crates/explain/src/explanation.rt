@@ -57,7 +57,7 @@ pub enum Side {
     Upper,
 }
 
-/// An exact result that is no value of the format.
+/// An exact result that is not a value of the format.
 #[derive(Clone, Copy, Debug)]
 pub struct Exact {
     /// Whether it is negative.
@@ -88,7 +88,7 @@ pub struct Between {
 /// Where an exact result is.
 #[derive(Clone, Copy, Debug)]
 pub enum Place {
-    /// Nowhere: nothing was computed, or no number from numbers.
+    /// Nowhere: nothing was computed, or an operand or the result is not a number.
     None,
     /// It is a value of the format.
     Exact,

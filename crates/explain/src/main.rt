@@ -10,7 +10,7 @@
 mod compute;
 mod explanation;
 mod picture;
-mod request;
+mod question;
 mod run;
 
 use crate::run::run;

@@ -1,7 +1,7 @@
 //! Writes an explanation, in lines of at most 80 columns.
 
 use crate::explanation::{Between, Exact, Explanation, Meaning, Place, Shown, Side, Widths};
-use crate::request::{Operation, Request};
+use crate::question::{Operation, Question};
 use apfloat_decimals::Decimal;
 use dispatch::Arithmetic;
 use rustc_apfloat::{Flags, Round, Status};
@@ -13,19 +13,19 @@ const WAY: u32 = 64;
 
 /// Writes an explanation.
 pub fn write_explanation<W: Write>(
-    request: Request,
+    question: Question,
     explanation: &Explanation,
     in_colour: bool,
     out: &mut W,
 ) -> io::Result<()> {
     let widths = explanation.widths;
-    if let Operation::Value = request.operation {
-        return write_shown(widths, request.format_word, &explanation.operands[0], out);
+    if let Operation::Value = question.operation {
+        return write_shown(widths, question.format_word, &explanation.operands[0], out);
     }
-    let (format, operation) = (request.format_word, name_of(request.operation));
-    writeln!(out, "{format} {operation}, {}\n", rule_of(request.round))?;
-    write_operands(widths, request.operation.operand_count(), explanation, out)?;
-    write_place(widths, request.round, &explanation.place, in_colour, out)?;
+    let (format, operation) = (question.format_word, name_of(question.operation));
+    writeln!(out, "{format} {operation}, {}\n", rule_of(question.round))?;
+    write_operands(widths, question.operation.operand_count(), explanation, out)?;
+    write_place(widths, question.round, &explanation.place, in_colour, out)?;
     write_shown(widths, "result", &explanation.result, out)?;
     write_flags(explanation.status, in_colour, out)
 }
@@ -99,7 +99,7 @@ fn write_head<W: Write>(widths: Widths, name: &str, shown: &Shown, out: &mut W) 
     writeln!(out)
 }
 
-/// Writes the shortest decimal of a number, or the word for what is none.
+/// Writes the shortest decimal of a number, or the word for another value.
 fn write_decimal<W: Write>(shown: &Shown, out: &mut W) -> io::Result<()> {
     match shown.decimal {
         Some(decimal) => write!(out, "{decimal}"),
@@ -112,7 +112,7 @@ fn sign_of(shown: &Shown) -> &'static str {
     if shown.negative { "-" } else { "" }
 }
 
-/// The word for what is no number.
+/// The word for a value that is not a number.
 fn word_of(meaning: Meaning) -> &'static str {
     match meaning {
         Meaning::Infinity => "infinity",

@@ -2,7 +2,7 @@
 
 use crate::compute::Computation;
 use crate::picture::write_explanation;
-use crate::request::{Fault, Request, USAGE};
+use crate::question::{Fault, Question, USAGE};
 use std::io;
 use std::io::{ErrorKind, Write};
 
@@ -38,14 +38,14 @@ fn answer<W: Write, V: Write>(
             return Ok(0);
         }
     }
-    let request = match Request::named(words) {
-        Ok(request) => request,
+    let question = match Question::named(words) {
+        Ok(question) => question,
         Err(fault) => return refuse(fault, err),
     };
-    let computation = Computation { request };
-    match request.format.run(computation) {
+    let computation = Computation { question };
+    match question.format.run(computation) {
         Ok(explanation) => {
-            write_explanation(request, &explanation, in_colour, out)?;
+            write_explanation(question, &explanation, in_colour, out)?;
             Ok(0)
         }
         Err(word) => refuse(Fault::Value(word), err),

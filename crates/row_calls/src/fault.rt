@@ -76,7 +76,7 @@ pub fn takes_mode(call: &str) -> bool {
     call.ends_with("_r") || matches!(call, "round_to_integral" | "read_decimal" | "rounded")
 }
 
-/// The error of operands that do not have the form, by the first of them that is no value.
+/// The error of operands that do not have the form, by the first of them that is not a value.
 fn operand_error(operands: &str, form: Form) -> RowError<'_> {
     let mut left = form.value_count();
     for word in operands.split(' ') {
@@ -91,7 +91,7 @@ fn operand_error(operands: &str, form: Form) -> RowError<'_> {
     RowError::Word("no operands of the call", operands, form.description())
 }
 
-/// The error of operands of which one is no value of a format with so many bits, by that one, or of one without bits.
+/// The error of operands of which one is not a value of a format with that many bits, or without bits, by that one.
 fn value_error(operands: &str, form: Form, width: Option<usize>) -> RowError<'_> {
     let Some(width) = width else {
         return RowError::Word("no operands of the call", operands, QUANTA);

@@ -11,16 +11,16 @@ pub enum CallFault {
     Format,
     /// The operands do not have the form that the call takes.
     Operands,
-    /// An operand is no value of the format.
+    /// An operand is not a value of the format.
     Operand,
     /// The formats do not have the call.
     Support,
     /// The flags cannot be those of the call, which are of this form.
     Flags(&'static str),
-    /// The call answers nothing else of this form.
+    /// The call returns nothing else of this form.
     Extra(&'static str),
     /// The value cannot be that of the call, which is of this form.
     Value(&'static str),
-    /// The value is not of so many bits.
+    /// The value has more bits than this.
     ValueBits(usize),
 }

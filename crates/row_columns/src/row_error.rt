@@ -11,11 +11,11 @@ pub enum RowError<'a> {
     Encoding,
     /// It has this many columns.
     Columns(usize),
-    /// It has this many words, and not as many as the second number says.
+    /// It has this many words, where a line has the second number.
     Numbers(usize, usize),
-    /// A column has no such thing as the first text says: what it has, and what is expected.
+    /// A word is wrong: how, the word, and what is expected.
     Word(&'static str, &'a str, &'static str),
-    /// The same of a word that has so many bits; the second number is how many it may have.
+    /// A word has too many bits: how it is wrong, the word, how many bits it has, and how many it may have.
     Bits(&'static str, &'a str, u32, usize),
 }
 
@@ -42,7 +42,7 @@ impl fmt::Display for RowError<'_> {
     }
 }
 
-/// The error of a word that is not of so many bits.
+/// The error of a word that is not bits of this width.
 pub fn bits_error<'a>(fault: &'static str, word: &'a str, width: usize) -> RowError<'a> {
     match bits_of(word, 128) {
         Some(bits) if bits > mask(width) => {

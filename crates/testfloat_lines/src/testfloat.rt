@@ -222,7 +222,7 @@ impl TestFloat {
         }
     }
 
-    /// The call on operands, if they are some.
+    /// The call on operands, if these words are operands.
     fn call_on(self, operands: &str) -> Option<LineCall> {
         match self.words(operands) {
             Some(words) => Some(LineCall {
@@ -264,7 +264,7 @@ impl TestFloat {
     }
 }
 
-/// The error of operands that are none of the function.
+/// The error of operands that the function does not take.
 fn operand_error(operands: &str) -> RowError<'_> {
     RowError::Word(
         "no operands of the function",
@@ -330,7 +330,7 @@ fn decimal(number: Option<u128>) -> Option<Text> {
     }
 }
 
-/// The integer that bits of this width stand for in two's complement, in decimal digits, if there are some.
+/// The integer that bits of this width stand for in two's complement, in decimal digits, if there are bits.
 fn signed_decimal(bits: Option<u128>, width: usize) -> Option<Text> {
     let Some(bits) = bits else {
         return None;

@@ -8,7 +8,7 @@ use Rattle.rustc_apfloat.specs.Classes.{is_nan}
 use Rattle.rustc_apfloat.specs.Lawful.{Constants, format_with, layout_with}
 use Rattle.rustc_apfloat.specs.Layout.{datum_of, IsEncodedBy}
 use Rattle.rustc_apfloat.specs.Negation.{negated}
-use Rattle.value_blocks.specs.declared.answer.Answer.{Answer}
+use Rattle.value_blocks.specs.declared.converted.Converted.{Converted}
 use Rattle.value_blocks.specs.declared.counts.Outcome.{Outcome}
 use Rattle.value_blocks.specs.declared.saturation.Overflow.{Overflow}
 use Rattle.value_blocks.specs.declared.saturation.Overflow.TheVariants.{Rounded, Saturated}
@@ -31,7 +31,7 @@ converted_by Saturated c d mode input output outcome value loses conversion enco
     record { value = value; loses = loses; is_conversion = conversion; is_encoded = encoded; nan_is = nan }
 
 -- an answer from the bits that are read, whose bits are written
-pub converted_from : (overflow : Overflow) (c d : Constants) (mode : Round) (input output : List ℕ) (answer : Answer)
+pub converted_from : (overflow : Overflow) (c d : Constants) (mode : Round) (input output : List ℕ) (answer : Converted)
     → IsAnswerFrom overflow c d mode (number_of input) answer → number_of output ≡ answer.bits
     → IsConvertedBy overflow c d mode input output answer.outcome
 converted_from overflow c d mode input output answer it written =

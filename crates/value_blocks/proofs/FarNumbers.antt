@@ -1,4 +1,4 @@
--- Numbers far out of the range of a format: how their bits are read, on which side they are, and what answers them.
+-- Numbers far out of the range of a format: how their bits are read, on which side they are, and what they become.
 use Rattle.std.proofs.Common.{◌≡◌, ℕ, ◌+◌, ◌-◌, ◌*◌, ◌%◌, ◌^◌, ◌<◌, ◌≤◌, Bool, true, false, not, ◌&&◌, ◌||◌, eqb, List, [], ◌∷◌, Option, Some, None, refl, ⊎_elim, subst, sym, ap, ◌∙◌, arith, lit<, ℤ, pos, neg_ℤ, ◌+ℤ◌, ◌-ℤ◌, ◌≤ℤ◌}
 use Rattle.std.specs.Prelude.{IsTrue, IsSomeAnd, slice_get, slice_index_or}
 use Rattle.std.specs.Bool.{MatchBool}
@@ -22,7 +22,7 @@ use Rattle.apfloat_base.proofs.general.Powers.{two_pos, twice_half}
 use Rattle.apfloat_base.proofs.bits.EncodedOnce.{fields_with}
 use Rattle.apfloat_base.proofs.bits.Encodings.{lawful_interchange}
 use Rattle.apfloat_base.proofs.rounding.FarMagnitudes.{far_above, far_below}
-use Rattle.value_blocks.specs.declared.answer.Answer.{Answer}
+use Rattle.value_blocks.specs.declared.converted.Converted.{Converted}
 use Rattle.value_blocks.specs.declared.saturation.Overflow.{Overflow}
 use Rattle.value_blocks.specs.declared.saturation.Overflow.TheVariants.{Rounded, Saturated}
 use Rattle.value_blocks.specs.Saturation.{IsConversionBy}
@@ -274,13 +274,13 @@ number_converted Saturated f g mode negative quanta rounded status some delivere
     }
 
 -- what is at a place that holds something
-held : (found : Option Answer) (Says : Answer → Type 0) → IsSomeAnd found Says
-    → (answer : Answer) × (found ≡ Some answer) × Says answer
+held : (found : Option Converted) (Says : Converted → Type 0) → IsSomeAnd found Says
+    → (answer : Converted) × (found ≡ Some answer) × Says answer
 held None Says said = absurd said
 held (Some answer) Says said = (answer, refl, said)
 
 -- an answer to the number that bits encode
-answered_by : (overflow : Overflow) (c d : Constants) (mode : Round) (bits place : ℕ) (answer : Answer)
+answered_by : (overflow : Overflow) (c d : Constants) (mode : Round) (bits place : ℕ) (answer : Converted)
     (far : IsFarPlace c d bits place)
     → AnswersFar overflow d mode far.past far.negative answer
     → IsAnswerFrom overflow c d mode bits answer
@@ -302,8 +302,8 @@ answered_by overflow c d mode bits place answer far all =
     }
 
 -- the answer at the place of a number far out is that of the number
-pub answered_far : (overflow : Overflow) (c d : Constants) (mode : Round) (bits place : ℕ) (answers : List Answer)
-    (none : Answer) → AreFarAnswers overflow d mode answers → IsFarPlace c d bits place
+pub answered_far : (overflow : Overflow) (c d : Constants) (mode : Round) (bits place : ℕ) (answers : List Converted)
+    (none : Converted) → AreFarAnswers overflow d mode answers → IsFarPlace c d bits place
     → IsAnswerFrom overflow c d mode bits (slice_index_or answers place none)
 answered_far overflow c d mode bits place answers none are far =
     let Says : ℕ → Type 0 = λ n. IsSomeAnd (slice_get answers n)
@@ -311,11 +311,11 @@ answered_far overflow c d mode bits place answers none are far =
     let here : Says place = subst Says (sym far.place_is) (are far.past far.negative) in
     let it = held (slice_get answers place) (λ a. AnswersFar overflow d mode far.past far.negative a) here in
     let same : slice_index_or answers place none ≡ it.0 = get_or_from_slice_get answers place it.0 none it.1 in
-    subst (λ (a : Answer). IsAnswerFrom overflow c d mode bits a) (sym same)
+    subst (λ (a : Converted). IsAnswerFrom overflow c d mode bits a) (sym same)
     (answered_by overflow c d mode bits place it.0 far it.2)
 
 -- four answers, each for its side and its sign
-pub four_answers : (overflow : Overflow) (d : Constants) (mode : Round) (a b e f : Answer)
+pub four_answers : (overflow : Overflow) (d : Constants) (mode : Round) (a b e f : Converted)
     → AnswersFar overflow d mode false false a → AnswersFar overflow d mode false true b
     → AnswersFar overflow d mode true false e → AnswersFar overflow d mode true true f
     → (past negative : Bool)

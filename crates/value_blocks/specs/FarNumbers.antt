@@ -9,7 +9,7 @@ use Rattle.rustc_apfloat.specs.Classes.{is_nan}
 use Rattle.rustc_apfloat.specs.Rounding.{IsDelivered}
 use Rattle.rustc_apfloat.specs.Lawful.{Constants, format_with, layout_with}
 use Rattle.rustc_apfloat.specs.Layout.{datum_of, IsEncodedBy}
-use Rattle.value_blocks.specs.declared.answer.Answer.{Answer}
+use Rattle.value_blocks.specs.declared.converted.Converted.{Converted}
 use Rattle.value_blocks.specs.declared.saturation.Overflow.{Overflow}
 use Rattle.value_blocks.specs.declared.saturation.Overflow.TheVariants.{Rounded, Saturated}
 use Rattle.value_blocks.specs.Outcomes.{one_if}
@@ -35,7 +35,7 @@ with_overflow Saturated g negative rounded = saturated g (finite negative 0) rou
 
 -- the answer has the bits, the flags and the outcome of the magnitude with that sign
 pub record IsAnswerTo (overflow : Overflow) (d : Constants) (mode : Round) (negative : Bool) (amount parts : ℕ)
-    (answer : Answer) : Type 0 where
+    (answer : Converted) : Type 0 where
   pub rounded : Datum
   pub is_delivered : IsDelivered (format_with d) mode negative amount parts rounded (bits_of answer.outcome.status)
   pub is_encoded : IsEncodedBy (format_with d) (layout_with d) answer.bits
@@ -43,7 +43,7 @@ pub record IsAnswerTo (overflow : Overflow) (d : Constants) (mode : Round) (nega
   pub nan_is : answer.outcome.is_nan ≡ is_nan (with_overflow overflow (format_with d) negative rounded)
 
 -- one answer to all magnitudes on that side
-abbrev pub AnswersFar : Overflow → Constants → Round → Bool → Bool → Answer → Type 0
+abbrev pub AnswersFar : Overflow → Constants → Round → Bool → Bool → Converted → Type 0
 AnswersFar overflow d mode past negative answer =
     (amount parts : ℕ) → IsFar past (format_with d) amount parts
     → IsAnswerTo overflow d mode negative amount parts answer
@@ -52,7 +52,7 @@ AnswersFar overflow d mode past negative answer =
 abbrev pub far_place : Bool → Bool → ℕ
 far_place past negative = 2 * one_if past + one_if negative
 
-abbrev pub AreFarAnswers : Overflow → Constants → Round → List Answer → Type 0
+abbrev pub AreFarAnswers : Overflow → Constants → Round → List Converted → Type 0
 AreFarAnswers overflow d mode answers =
     (past negative : Bool)
     → IsSomeAnd (slice_get answers (far_place past negative))

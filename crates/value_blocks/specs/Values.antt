@@ -7,7 +7,7 @@ use Rattle.rustc_apfloat.specs.Classes.{is_nan}
 use Rattle.rustc_apfloat.specs.Conversions.{IsConversion}
 use Rattle.rustc_apfloat.specs.Lawful.{Constants, format_with, layout_with}
 use Rattle.rustc_apfloat.specs.Layout.{datum_of, IsEncodedBy}
-use Rattle.value_blocks.specs.declared.answer.Answer.{Answer}
+use Rattle.value_blocks.specs.declared.converted.Converted.{Converted}
 use Rattle.value_blocks.specs.declared.counts.Outcome.{Outcome}
 use Rattle.value_blocks.specs.declared.saturation.Overflow.{Overflow}
 use Rattle.value_blocks.specs.declared.saturation.Overflow.TheVariants.{Rounded, Saturated}
@@ -41,7 +41,7 @@ IsConvertedBy Rounded c d mode input output outcome = IsConvertedValue c d mode 
 IsConvertedBy Saturated c d mode input output outcome = IsSaturatedValue c d mode input output outcome
 
 -- the same from bits to bits
-pub record IsAnswerFrom (overflow : Overflow) (c d : Constants) (mode : Round) (bits : ℕ) (answer : Answer)
+pub record IsAnswerFrom (overflow : Overflow) (c d : Constants) (mode : Round) (bits : ℕ) (answer : Converted)
     : Type 0 where
   pub value : Datum
   pub loses : Bool

@@ -7,7 +7,7 @@ ghost use Rattle.rustc_apfloat.specs.FlaggedTypes.{constants_of, format_of, layo
 ghost use Rattle.rustc_apfloat.specs.Layout.{fields_of};
 ghost use Rattle.value_blocks.specs.FarNumbers.{AreFarAnswers, IsAnswerTo, IsFar, IsFarPlace, far_place, with_overflow};
 
-use crate::answer::Answer;
+use crate::converted::Converted;
 use crate::counts::Outcome;
 use crate::saturation::{Overflow, largest_of_sign};
 use apfloat_base::sig::low_digits;
@@ -15,7 +15,7 @@ use rustc_apfloat::ieee::{Flagged, IeeeFloat, Loss, deliver};
 use rustc_apfloat::{ExpInt, Float, Round, StatusAnd};
 
 /// The answers to numbers below half of the least value, then to those past all values; of both first to positive ones.
-pub type FarAnswers = [Answer; 4];
+pub type FarAnswers = [Converted; 4];
 
 /// For fewer values the answers are not found: that takes as long as some twenty conversions.
 const LEAST_COUNT: usize = 256;
@@ -52,7 +52,7 @@ fn far_answers<T: Flagged>(overflow: Overflow, round: Round) -> FarAnswers
 
 /// The answer to all numbers on that side with that sign.
 #[inline(never)]
-fn far_answer<T: Flagged>(overflow: Overflow, round: Round, past: bool, negative: bool) -> Answer
+fn far_answer<T: Flagged>(overflow: Overflow, round: Round, past: bool, negative: bool) -> Converted
     requires { T.PRECISION < T.BITS }
     ensures { (amount parts : ℕ) → IsFar past (format_of T.Flagged) amount parts
         → IsAnswerTo overflow (constants_of T.Flagged) round negative amount parts result }
@@ -60,7 +60,7 @@ fn far_answer<T: Flagged>(overflow: Overflow, round: Round, past: bool, negative
     let exponent = far_exponent::<T>(past);
     let delivered = deliver::<T>(1, exponent, Loss::ExactlyZero, round, negative);
     let value = with_overflow(overflow, negative, delivered.value);
-    Answer {
+    Converted {
         bits: value.to_bits(),
         outcome: Outcome {
             status: delivered.status,

@@ -1,12 +1,12 @@
 //! Blocks of values in consecutive bytes, converted from any built-in format to any other.
 #![tactic(auto)]
 
-mod answer;
 mod array;
 mod block_call;
 mod blocks;
 mod bytes;
 mod conversion;
+mod converted;
 mod counts;
 mod far_numbers;
 mod one_value;

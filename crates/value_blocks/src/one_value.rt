@@ -5,8 +5,8 @@ ghost use Rattle.rustc_apfloat.specs.FlaggedTypes.{constants_of};
 ghost use Rattle.value_blocks.specs.FarNumbers.{AreFarAnswers};
 ghost use Rattle.value_blocks.specs.Values.{IsAnswerFrom, IsConvertedBy};
 
-use crate::answer::Answer;
 use crate::bytes::{number_of, write_number};
+use crate::converted::Converted;
 use crate::counts::Outcome;
 use crate::far_numbers::{FarAnswers, far_place};
 use crate::saturation::{Overflow, convert_by};
@@ -43,7 +43,7 @@ fn convert_bits<S: Flagged, T: Flagged>(
     overflow: Overflow,
     round: Round,
     bits: u128,
-) -> Answer
+) -> Converted
     requires read { S.PRECISION < S.BITS }
     requires written { T.PRECISION < T.BITS }
     requires far { IfSome far.now (AreFarAnswers overflow (constants_of T.Flagged) round) }
@@ -60,7 +60,7 @@ fn convert_bits<S: Flagged, T: Flagged>(
 
 /// Converts the value that these bits encode, by the conversion of one value.
 #[inline(always)]
-fn convert_near<S: Flagged, T: Flagged>(overflow: Overflow, round: Round, bits: u128) -> Answer
+fn convert_near<S: Flagged, T: Flagged>(overflow: Overflow, round: Round, bits: u128) -> Converted
     requires read { S.PRECISION < S.BITS }
     requires written { T.PRECISION < T.BITS }
     ensures { IsAnswerFrom overflow (constants_of S.Flagged) (constants_of T.Flagged) round bits
@@ -69,7 +69,7 @@ fn convert_near<S: Flagged, T: Flagged>(overflow: Overflow, round: Round, bits: 
     let mut loses_info = false;
     let x = IeeeFloat::<S>::from_bits(bits);
     let answer: StatusAnd<IeeeFloat<T>> = convert_by(overflow, round, x, &mut loses_info);
-    Answer {
+    Converted {
         bits: answer.value.to_bits(),
         outcome: Outcome {
             status: answer.status,

@@ -4,7 +4,7 @@ use Rattle.std.proofs.Math.Nat.{mul-lt-mul_of_pos_right, mul-pos, lt_of_mul-lt-m
 use Rattle.std.proofs.lemmas.Nat.{mul-le, mul-lt}
 use Rattle.std.proofs.lemmas.Bool.{cases_lt}
 
--- each multiple of 1 / fine is below, at or above amount / parts exactly if it is so with the root of `square`
+-- each multiple of 1 / fine compares with amount / parts as it does with the root of `square`
 pub record AgreesWithRoot (square fine amount parts : ℕ) : Type 0 where
   pub some : 0 < parts
   pub less : (n : ℕ) → n * n < square * (fine * fine) → n * parts < amount * fine

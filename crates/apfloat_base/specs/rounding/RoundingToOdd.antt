@@ -3,13 +3,13 @@
 use Rattle.std.specs.Prelude.{◌≡◌, ℕ, ◌+◌, ◌*◌, ◌%◌, ◌<◌, ◌≤◌, ◌⊎◌}
 
 -- `amount` is less than one unit away from `significand` units, which is odd, and at least `least`
-pub record IsBesideOdd (least significand amount unit : ℕ) : Type 0 where
+pub record IsNearOdd (least significand amount unit : ℕ) : Type 0 where
   pub long : least ≤ significand
   pub odd : significand % 2 ≡ 1
   pub above : significand * unit < amount + unit
   pub below : amount < (significand + 1) * unit
 
--- `amount` is that many units, or lies beside an odd number of them that is at least `least`
+-- `amount` is that many units, or less than one unit away from an odd number of them that is at least `least`
 abbrev pub IsRoundedToOdd : ℕ → ℕ → ℕ → ℕ → Type 0
 IsRoundedToOdd least significand amount unit =
-    (amount ≡ significand * unit) ⊎ IsBesideOdd least significand amount unit
+    (amount ≡ significand * unit) ⊎ IsNearOdd least significand amount unit

@@ -31,7 +31,7 @@ pub record AreOutward (mode other : Round) : Type 0 where
   pub downward : mode ≡ TowardNegative
   pub upward : other ≡ TowardPositive
 
--- the one is at most the other, and they are equal exactly if a status says that the result is exact
+-- the first is at most the second, and they are equal exactly if a status says that the result is exact
 pub record AreBounds (IsExact : ℕ → Type 0) (low high : Datum) (low_status high_status : ℕ) : Type 0 where
   pub in_order : AtMost low high
   pub equal_by_low : Decides (is_equal low high) (IsExact low_status)
@@ -46,7 +46,7 @@ AreBoundsUnlessNan IsExact low high =
 abbrev pub IsOk : ℕ → Type 0
 IsOk status = status ≡ ok_bits
 
--- Also exact is what comes of a zero: the infinity of a number divided by it (IEEE 754-2008 7.3), and the zero that it
--- is converted to, even where that has another sign.
+-- What comes of a zero is exact too: the infinity of a number divided by it (IEEE 754-2008 7.3), and the zero that it
+-- is converted to, even if that has another sign.
 abbrev pub IsOkOrOfZero : Datum → ℕ → Type 0
 IsOkOrOfZero operand status = (status ≡ ok_bits) ⊎ (is_zero operand ≡ true)

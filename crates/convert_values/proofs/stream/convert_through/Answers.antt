@@ -10,7 +10,6 @@ has_room read block source target buffer l is =
     let few : read / source ≤ block = div-le_of_le-mul source (omega (arith, l)) in
     subst (λ (x : ℕ). read / source * target ≤ x) (sym is) (mul-le-mul_right target few)
 
--- src/stream.rt:73:21
 pub convert_by-block-requires : goal.convert_by-block-requires
 convert_by-block-requires g c =
     has_room _ _ (source_width c.args.conversion) (target_width c.args.conversion) _ (search rules) c.loop.invariant

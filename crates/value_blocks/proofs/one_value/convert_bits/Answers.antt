@@ -1,7 +1,7 @@
 use Rattle.std.proofs.Common.{List, Option, subst}
 use Rattle.std.specs.Prelude.{IfSome}
 use Rattle.rustc_apfloat.specs.FlaggedTypes.{constants_of}
-use Rattle.value_blocks.specs.declared.answer.Answer.{Answer}
+use Rattle.value_blocks.specs.declared.converted.Converted.{Converted}
 use Rattle.value_blocks.specs.FarNumbers.{AreFarAnswers}
 use Rattle.value_blocks.proofs.FarNumbers.{answered_far}
 use Rattle.value_blocks.proofs.one_value.convert_bits.Goals as goal
@@ -11,6 +11,6 @@ returns-in-Some-far_place g c =
     answered_far c.args.overflow (constants_of g.S.Flagged) (constants_of g.T.Flagged) c.args.round c.args.bits
     c.in-Some-far_place.place c.in-Some.answers _
     (subst
-    (λ (o : Option (List Answer)). IfSome o (AreFarAnswers c.args.overflow (constants_of g.T.Flagged) c.args.round))
+    (λ (o : Option (List Converted)). IfSome o (AreFarAnswers c.args.overflow (constants_of g.T.Flagged) c.args.round))
     c.in-Some.is c.requires.far)
     c.in-Some-far_place.ensures.place

@@ -4,7 +4,7 @@ use crate::counts::Outcome;
 
 /// The bits of a converted value, and the outcome of its conversion.
 #[derive(Clone, Copy)]
-pub struct Answer {
+pub struct Converted {
     /// The bits of its encoding.
     pub bits: u128,
     /// The outcome.

@@ -1,5 +1,5 @@
 use Rattle.apfloat_arithmetic.proofs.Comparisons.{beside_negative, beside_positive}
-use Rattle.apfloat_arithmetic.proofs.order.compare_beside.Goals as goal
+use Rattle.apfloat_arithmetic.proofs.order.compare_on_one_side.Goals as goal
 
 pub returns-then-x : goal.returns-then-x
 returns-then-x c =

@@ -70,7 +70,7 @@ impl Operation {
 
 /// What is to be explained.
 #[derive(Clone, Copy)]
-pub struct Request<'a> {
+pub struct Question<'a> {
     /// The word of the format.
     pub format_word: &'a str,
     /// The format.
@@ -94,13 +94,13 @@ pub enum Fault<'a> {
     Operation(&'a str),
     /// No mode has this name.
     Mode(&'a str),
-    /// This is no value of the format.
+    /// This is not a value of the format.
     Value(&'a str),
 }
 
-impl<'a> Request<'a> {
+impl<'a> Question<'a> {
     /// What these words ask for.
-    pub fn named(words: &'a [String]) -> Result<Request<'a>, Fault<'a>> {
+    pub fn named(words: &'a [String]) -> Result<Question<'a>, Fault<'a>> {
         if words.len() < 2 || words.len() == 3 {
             return Err(Fault::Count);
         }
@@ -109,7 +109,7 @@ impl<'a> Request<'a> {
             return Err(Fault::Format(format_word));
         };
         if words.len() == 2 {
-            return Ok(Request {
+            return Ok(Question {
                 format_word,
                 format,
                 operation: Operation::Value,
@@ -127,7 +127,7 @@ impl<'a> Request<'a> {
         if operands.len() != operation.operand_count() {
             return Err(Fault::Count);
         }
-        Ok(Request {
+        Ok(Question {
             format_word,
             format,
             operation,
