@@ -131,8 +131,9 @@ behind_prefix_ascii (c ∷ d ∷ text) =
 
 plain_ascii : (text : List ℕ) → HasAscii text (plain_payload text)
 plain_ascii text some =
+    let behind = behind_prefix (radix_of text) text in
     behind_prefix_ascii text
-    (behind_plus_ascii (behind_prefix (radix_of text) text) (digits_ascii (radix_of text) digits some))
+    (behind_plus_ascii behind (digits_ascii (radix_of text) (behind_plus behind) some))
 
 payload_ascii : (text : List ℕ) → HasAscii text (payload_of text)
 payload_ascii [] = λ some. refl

@@ -5,8 +5,8 @@ use Rattle.apfloat_c.proofs.WrittenAnswers.{answered_if, text_without_fault}
 use Rattle.apfloat_c.specs.KnownCalls.{is_text, refused_text}
 use Rattle.apfloat_c.proofs.answers.read_pair.Goals as goal
 
-pub returns-in-Ok : goal.returns-in-Ok
-returns-in-Ok c =
+pub returns : goal.returns
+returns c =
     let bytes = c.args.bytes.now in
     let reads = subst (λ (t : List ℕ). in_pairs.reads t c.args.round (Ok c.in-Ok.read)) c.in-Some.ensures.0
     c.in-Ok.ensures in
