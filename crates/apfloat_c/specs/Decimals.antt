@@ -15,12 +15,11 @@ use Rattle.pair_decimals.specs.PairReadings.{IsPairDecimalReading}
 use Rattle.dispatch.specs.declared.BuiltInFormat.{BuiltInFormat}
 use Rattle.dispatch.specs.declared.BuiltInKind.{BuiltInKind}
 use Rattle.dispatch.specs.declared.BuiltInKind.TheVariants.{OfFormat as OfBuiltIn, Pairs as PairsOfDoubles}
-use Rattle.dispatch.specs.declared.FlaggedFormat.{FlaggedFormat}
 use Rattle.dispatch.specs.declared.FlaggedFormat.TheVariants.{BuiltIn, AfterRounding, BeforeRounding}
 use Rattle.dispatch.specs.declared.FlaggedKind.{FlaggedKind}
 use Rattle.dispatch.specs.declared.FlaggedKind.TheVariants.{OfFormat, Pairs}
 use Rattle.dispatch.specs.BuiltIns.{constants_in, kind_of}
-use Rattle.dispatch.specs.FlaggedKinds.{format_of_ieee}
+use Rattle.dispatch.specs.FlaggedKinds.{format_without_rule}
 use Rattle.dispatch.specs.Relations.{in_format, in_pairs}
 use Rattle.dispatch.specs.ValueKinds.{Kind, of_format, of_pairs, value_of}
 use Rattle.apfloat_c.specs.declared.data.Answer.{Answer}
@@ -98,16 +97,11 @@ abbrev pub IsKindText : Kind → ℕ → DecimalText → Type 0
 IsKindText (of_format c) bits text = IsTextOfBits c bits text
 IsKindText of_pairs bits text = ⊥
 
--- the format with the flags of the built-in ones, which has the same values
-abbrev pub format_without_flags : FlaggedFormat → BuiltInFormat
-format_without_flags (BuiltIn format) = format
-format_without_flags (AfterRounding format) = format_of_ieee format
-format_without_flags (BeforeRounding format) = format_of_ieee format
-
+-- the format with the flags of the built-in ones has the same values
 abbrev pub text_format : Option FlaggedKind → Result BuiltInFormat ℕ
 text_format None = Err unknown_format
 text_format (Some Pairs) = Err no_such_operation
-text_format (Some (OfFormat format)) = Ok (format_without_flags format)
+text_format (Some (OfFormat format)) = Ok (format_without_rule format)
 
 -- the code 0 and the text, or the code of the error and what was there before
 abbrev pub IsShortestWritten : Result BuiltInFormat ℕ → ℕ → DecimalText → DecimalText → ℕ → Type 0

@@ -4,21 +4,18 @@ ghost use Rattle.std.specs.Prelude.{◌≡◌, ◌<◌, ◌++◌, codes, length,
 ghost use Rattle.rustc_apfloat.specs.Types.{constants_of, format_of};
 ghost use Rattle.apfloat_decimals.specs.ShortestSearch.{IsWithinQuad};
 ghost use Rattle.apfloat_decimals.specs.Texts.{sign_text};
-ghost use Rattle.dispatch.specs.FlaggedKinds.{flagged_kind_coded, format_of_ieee};
+ghost use Rattle.dispatch.specs.FlaggedKinds.{flagged_kind_coded};
 ghost use Rattle.dispatch.specs.Modes.{mode_coded};
 ghost use Rattle.dispatch.specs.Relations.{in_format, in_pairs};
 ghost use Rattle.apfloat_c.specs.Answers.{IsWritten, whole};
-ghost use Rattle.apfloat_c.specs.Decimals.{HasDecimals, IsDecimalOutcome, IsKindText, IsParsed, IsShortestWritten, IsText, IsValueText, decimal_kind, format_without_flags, known_reading, text_format};
+ghost use Rattle.apfloat_c.specs.Decimals.{HasDecimals, IsDecimalOutcome, IsKindText, IsParsed, IsShortestWritten, IsText, IsValueText, decimal_kind, known_reading, text_format};
 
 use crate::ascii::text_of;
 use crate::codes::{ANSWERED, NO_SUCH_OPERATION, REFUSED_TEXT, UNKNOWN_FORMAT, UNKNOWN_MODE};
 use crate::data::{Answer, Halves};
 use crate::line::{CAPACITY, Line, line_of};
 use apfloat_decimals::{read_decimal, shortest};
-use dispatch::{
-    BuiltInFormat, BuiltInKind, FlaggedFormat, FlaggedKind, IeeeFormat, InFormat, InKind,
-    mode_coded,
-};
+use dispatch::{BuiltInKind, FlaggedFormat, FlaggedKind, InFormat, InKind, mode_coded};
 use pair_decimals::read_decimal_pair;
 use rustc_apfloat::ieee::{IeeeFloat, Semantics};
 use rustc_apfloat::ppc::DoubleDouble;
@@ -79,7 +76,7 @@ pub extern "C" fn apfloat_shortest(format: u32, x: Halves, text: &mut DecimalTex
         None => UNKNOWN_FORMAT,
         Some(FlaggedKind::Pairs) => NO_SUCH_OPERATION,
         Some(FlaggedKind::OfFormat(format)) => {
-            *text = format_without_flags(format).run(Writing { bits: x.number() });
+            *text = format.built_in().run(Writing { bits: x.number() });
             ANSWERED
         }
     }
@@ -95,32 +92,6 @@ fn decimal_kind(kind: FlaggedKind) -> Option<BuiltInKind>
         }
         FlaggedKind::OfFormat(_) => None,
         FlaggedKind::Pairs => Some(BuiltInKind::Pairs),
-    }
-}
-
-/// The format with the flags of the built-in ones, which has the same values.
-fn format_without_flags(format: FlaggedFormat) -> BuiltInFormat
-    ensures { result ≡ format_without_flags format }
-{
-    match format {
-        FlaggedFormat::BuiltIn(format) => format,
-        FlaggedFormat::AfterRounding(format) => built_in(format),
-        FlaggedFormat::BeforeRounding(format) => built_in(format),
-    }
-}
-
-/// A format of IEEE 754 among the built-in ones.
-fn built_in(format: IeeeFormat) -> BuiltInFormat
-    ensures { result ≡ format_of_ieee format }
-{
-    match format {
-        IeeeFormat::Half => BuiltInFormat::Half,
-        IeeeFormat::Single => BuiltInFormat::Single,
-        IeeeFormat::Double => BuiltInFormat::Double,
-        IeeeFormat::Quad => BuiltInFormat::Quad,
-        IeeeFormat::BFloat => BuiltInFormat::BFloat,
-        IeeeFormat::E5M2 => BuiltInFormat::E5M2,
-        IeeeFormat::X87 => BuiltInFormat::X87,
     }
 }
 
