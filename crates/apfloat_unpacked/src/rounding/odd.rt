@@ -61,7 +61,7 @@ fn cut_odd(precision: u32, significand: u64, digits: u32, unit: ExpInt) -> Cut
 }
 
 /// Delivers `significand * 2^exponent`, which was rounded to odd, rounded once: where it is odd it may be less than one
-/// unit beside the exact result.
+/// unit from the exact result.
 #[inline(always)]
 pub fn deliver_odd(
     shape: Shape,

@@ -10,7 +10,8 @@ returns-then-rest-divisor-clause-quotient c =
     let guess = c.args.guess % 2 ^ 32 in
     let l = c.if-taken-moved.true in
     let r = c.if-rest-divisor.true in
-    let t = corrected n c.args.divisor guess (n % 2 ^ 64 - guess * c.args.divisor) c.less_short_divisor-last.result.digits
+    let t = corrected n c.args.divisor guess (n % 2 ^ 64 - guess * c.args.divisor)
+    c.less_short_divisor-last.result.digits
     c.less_short_divisor-last.result.rest 1 (lit< tt) (omega (arith, m, l)) (omega (arith, r))
     c.less_short_divisor-last.ensures.below c.less_short_divisor-last.ensures.above in
     c.from.ensures ∙

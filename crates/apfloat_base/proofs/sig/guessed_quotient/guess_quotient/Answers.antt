@@ -10,6 +10,7 @@ guessed_reciprocal-near-requires-clause-full c =
     let up : p + (64 - p) ≡ 64 = let s = c.requires.short in omega (arith, s) in
     let x = c.args.divisor * 2 ^ (64 - p) in
     let fits : x < 2 ^ 64 = fits_shifted c.args.divisor p (64 - p) 64 c.requires.divisor_fits (omega (arith, up)) in
-    let full : 2 ^ 63 ≤ x = full_shifted c.args.divisor p (64 - p) 64 c.requires.some (λ d. c.requires.divisor_full) up in
+    let full : 2 ^ 63 ≤ x =
+    full_shifted c.args.divisor p (64 - p) 64 c.requires.some (λ d. c.requires.divisor_full) up in
     let high : 2 ^ 31 ≤ x / 2 ^ 32 = (le-div_iff_mul-le (pow_pos 32)).1 (omega (arith, full)) in
     rw (mod-eq_of_lt fits) (omega (arith, high))
