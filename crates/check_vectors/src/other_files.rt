@@ -6,7 +6,7 @@ use std::rt::Clock;
 use vector_rows::{Fpgen, Lines, Task, TestFloat, check_lines};
 
 /// Functions of TestFloat, an option, and three lines.
-const TESTFLOAT: [(&str, &str, &str); 22] = [
+static TESTFLOAT: &[(&str, &str, &str)] = &[
     (
         "f16_add",
         "-rnear_even",

@@ -60,80 +60,83 @@ fn shows_what_differs(rt: HostRuntime) {
     );
 }
 
+/// Rows that differ: the row, the columns that it expects, and those that are given.
+static DIFFERING: &[(&str, &str, &str)] = &[
+    ("abs\tlim3\t-\t-8q", "+3q\t-\t-", "+8q\t-\t-"),
+    ("infinity\tlim3\t-\t-", "+0q\t-\t-", "+inf\t-\t-"),
+    ("neg\tlim3\t-\t+0q", "+0q\t-\t-", "-0q\t-\t-"),
+    (
+        "abs\tlim125deep\t-\t-5*2^70q",
+        "+5*2^71q\t-\t-",
+        "+5*2^70q\t-\t-",
+    ),
+    ("nan\tlim3\t-\t-", "-nan:0\t-\t-", "(NaN | +2 * 2^4)\t-\t-"),
+    ("is_nan\thalf\t-\t7e00", "false\t-\t-", "true\t-\t-"),
+    (
+        "partial_cmp\thalf\t-\t3c00 4000",
+        "None\t-\t-",
+        "Less\t-\t-",
+    ),
+    (
+        "get_exact_inverse\thalf\t-\t4200",
+        "3555\t-\t-",
+        "None\t-\t-",
+    ),
+    (
+        "get_exact_inverse\thalf\t-\t4000",
+        "None\t-\t-",
+        "3800\t-\t-",
+    ),
+    ("category\thalf\t-\t7c00", "NaN\t-\t-", "Infinity\t-\t-"),
+    (
+        "debug\thalf\t-\t3c00",
+        "1\t-\t-",
+        "(Normal | +1024 * 2^0)\t-\t-",
+    ),
+    ("ilogb\thalf\t-\t3800", "1\t-\t-", "-1\t-\t-"),
+    ("PRECISION\thalf\t-\t-", "10\t-\t-", "11\t-\t-"),
+    (
+        "frexp\thalf\t-\t4000",
+        "3800\t-\texponent=1",
+        "3800\t-\texponent=2",
+    ),
+    (
+        "c_fmod_steps\thalf\t-\t4200 3c00",
+        "0000\tOK\tsteps=1 bound=2",
+        "0000\tOK\tsteps=2 bound=2",
+    ),
+    (
+        "convert_r\tdouble>half\teven\t3ff0000000000001",
+        "3c00\tOK\tloses_info=false",
+        "3c00\tINEXACT\tloses_info=true",
+    ),
+    (
+        "from_str_r\thalf\teven\t1.0",
+        "3c00\tOK\t-",
+        "Not a special or hexadecimal literal\tParseError\t-",
+    ),
+    ("from_str\thalf\t-\t0x1p0", "-\tParseError\t-", "3c00\t-\t-"),
+    (
+        "rounded\thalf\tup\t2e66 2",
+        "0.1\t-\tis_exact=true",
+        "0.10\t-\tis_exact=false",
+    ),
+    (
+        "/\tsingle\t-\t3f800000 00000000",
+        "7f800000\tOK\t-",
+        "7f800000\tDIV_BY_ZERO\t-",
+    ),
+    (
+        "from\tdd>fallback\t-\t00000000000000003ff0000000000000",
+        "+0q\t-\t-",
+        "+1*2^1074q\t-\t-",
+    ),
+];
+
 /// In formats without bits, values are shown as counts of quanta, and a NaN other than that of the row as by `Debug`.
 #[test]
 fn shows_each_kind_of_answer(rt: HostRuntime) {
-    for (row, expected, given) in [
-        ("abs\tlim3\t-\t-8q", "+3q\t-\t-", "+8q\t-\t-"),
-        ("infinity\tlim3\t-\t-", "+0q\t-\t-", "+inf\t-\t-"),
-        ("neg\tlim3\t-\t+0q", "+0q\t-\t-", "-0q\t-\t-"),
-        (
-            "abs\tlim125deep\t-\t-5*2^70q",
-            "+5*2^71q\t-\t-",
-            "+5*2^70q\t-\t-",
-        ),
-        ("nan\tlim3\t-\t-", "-nan:0\t-\t-", "(NaN | +2 * 2^4)\t-\t-"),
-        ("is_nan\thalf\t-\t7e00", "false\t-\t-", "true\t-\t-"),
-        (
-            "partial_cmp\thalf\t-\t3c00 4000",
-            "None\t-\t-",
-            "Less\t-\t-",
-        ),
-        (
-            "get_exact_inverse\thalf\t-\t4200",
-            "3555\t-\t-",
-            "None\t-\t-",
-        ),
-        (
-            "get_exact_inverse\thalf\t-\t4000",
-            "None\t-\t-",
-            "3800\t-\t-",
-        ),
-        ("category\thalf\t-\t7c00", "NaN\t-\t-", "Infinity\t-\t-"),
-        (
-            "debug\thalf\t-\t3c00",
-            "1\t-\t-",
-            "(Normal | +1024 * 2^0)\t-\t-",
-        ),
-        ("ilogb\thalf\t-\t3800", "1\t-\t-", "-1\t-\t-"),
-        ("PRECISION\thalf\t-\t-", "10\t-\t-", "11\t-\t-"),
-        (
-            "frexp\thalf\t-\t4000",
-            "3800\t-\texponent=1",
-            "3800\t-\texponent=2",
-        ),
-        (
-            "c_fmod_steps\thalf\t-\t4200 3c00",
-            "0000\tOK\tsteps=1 bound=2",
-            "0000\tOK\tsteps=2 bound=2",
-        ),
-        (
-            "convert_r\tdouble>half\teven\t3ff0000000000001",
-            "3c00\tOK\tloses_info=false",
-            "3c00\tINEXACT\tloses_info=true",
-        ),
-        (
-            "from_str_r\thalf\teven\t1.0",
-            "3c00\tOK\t-",
-            "Not a special or hexadecimal literal\tParseError\t-",
-        ),
-        ("from_str\thalf\t-\t0x1p0", "-\tParseError\t-", "3c00\t-\t-"),
-        (
-            "rounded\thalf\tup\t2e66 2",
-            "0.1\t-\tis_exact=true",
-            "0.10\t-\tis_exact=false",
-        ),
-        (
-            "/\tsingle\t-\t3f800000 00000000",
-            "7f800000\tOK\t-",
-            "7f800000\tDIV_BY_ZERO\t-",
-        ),
-        (
-            "from\tdd>fallback\t-\t00000000000000003ff0000000000000",
-            "+0q\t-\t-",
-            "+1*2^1074q\t-\t-",
-        ),
-    ] {
+    for (row, expected, given) in DIFFERING {
         expect_one(&rt, row, expected, given);
     }
 }
@@ -151,128 +154,131 @@ fn expect_one<R: Abort + Clock + AllocGlobal>(rt: &R, row: &str, expected: &str,
     }
 }
 
+/// Malformed lines, and what is wrong with them.
+static MALFORMED: &[(&str, &str)] = &[
+    (
+        "half int even 464",
+        "columns: 1, and a command has 2, a call 7",
+    ),
+    ("abs\thalf\t-", "columns: 3, and a command has 2, a call 7"),
+    (
+        "abs\thalf\t-\t3c00\t3c00\t-\t-\t-",
+        "columns: 8, and a command has 2, a call 7",
+    ),
+    (
+        "half int even 464\t5f40",
+        "no reply: `5f40`; expected: bits and flags, as `5f40 OK`, or `refused: ` and a word",
+    ),
+    (
+        "half int even 464\t15f40 OK",
+        "no reply: `15f40` has 17 bits; expected: at most 16",
+    ),
+    (
+        "half int odd 464\t5f40 OK",
+        "no mode: `odd`; expected: even, up, down, zero or away",
+    ),
+    (
+        "halff int even 464\t5f40 OK",
+        "no format: `halff`; expected: half, single, double, quad, bfloat, e5m2, e4m3fn, e4m3fnuz, x87 or dd",
+    ),
+    (
+        "half int even 464\t5f40 FINE",
+        "no reply: `5f40 FINE`; expected: bits and flags, as `5f40 OK`, or `refused: ` and a word",
+    ),
+    (
+        "cbrt\thalf\teven\t3c00\t3c00\tOK\t-",
+        "no call: `cbrt`; expected: one that docs/VECTORS.md lists",
+    ),
+    (
+        "abs\tthird\t-\t3c00\t3c00\t-\t-",
+        "no format: `third`; expected: one that docs/VECTORS.md lists, or SOURCE>TARGET",
+    ),
+    (
+        "convert\thalf>third\t-\t3c00\t3c00\tOK\t-",
+        "no format: `half>third`; expected: one that docs/VECTORS.md lists, or SOURCE>TARGET",
+    ),
+    (
+        "abs\thalf\teven\t3c00\t3c00\t-\t-",
+        "no mode of the call: `even`; expected: `-`, since the call has none",
+    ),
+    (
+        "abs\thalf\tany\t3c00\t3c00\t-\t-",
+        "no mode of the call: `any`; expected: `-`, since the call has none",
+    ),
+    (
+        "add_r\thalf\t-\t3c00 3c00\t4000\tOK\t-",
+        "no mode of the call: `-`; expected: even, up, down, zero, away or any",
+    ),
+    (
+        "add_r\thalf\todd\t3c00 3c00\t4000\tOK\t-",
+        "no mode of the call: `odd`; expected: even, up, down, zero, away or any",
+    ),
+    (
+        "abs\thalf\t-\t13c00\t3c00\t-\t-",
+        "no operand of the call: `13c00` has 17 bits; expected: at most 16",
+    ),
+    (
+        "abs\thalf\t-\t3c00 3c00\t3c00\t-\t-",
+        "no operands of the call: `3c00 3c00`; expected: one value",
+    ),
+    (
+        "abs\thalf\t-\t3c00\t3g00\t-\t-",
+        "no value of the call: `3g00`; expected: hexadecimal digits",
+    ),
+    (
+        "abs\thalf\t-\t3c00\t3c00\tOK\t-",
+        "no flags of the call: `OK`; expected: `-`, since the call has none",
+    ),
+    (
+        "add_r\thalf\tany\t3c00 3c00\t4000\tINEXACT|INEXACT\t-",
+        "no flags of the call: `INEXACT|INEXACT`; \
+        expected: `-`, OK, or names joined by bars, as OVERFLOW|INEXACT",
+    ),
+    (
+        "abs\thalf\t-\t3c00\t3c00\t-\texponent=1",
+        "nothing that the call answers: `exponent=1`; expected: `-`",
+    ),
+    (
+        "mul_r\tquad\teven\t0 0\t0\tOK\t-",
+        "no such call here: `mul_r`; expected: a call that the format has (docs/VECTORS.md)",
+    ),
+    (
+        "add_r\thalf\teven\t3c00 3g00\t4000\tOK\t-",
+        "no operand of the call: `3g00`; \
+        expected: hexadecimal digits, or quanta as `+3q` in a format \
+        without bits",
+    ),
+    (
+        "to_u128\thalf\t-\t3c00 129\t1\tOK\t-",
+        "no operands of the call: `3c00 129`; \
+        expected: a value and a width of at most 128 bits",
+    ),
+    (
+        "abs\thalf\t-\t3c00\t13c00\t-\t-",
+        "no value of the call: `13c00` has 17 bits; expected: at most 16",
+    ),
+    (
+        "shortest\thalf+ieee\t-\t3c00\t1.0\t-\t-",
+        "no such call here: `shortest`; expected: a call that the format has (docs/VECTORS.md)",
+    ),
+    // Of two faults, the first in the order of `docs/VECTORS.md`.
+    (
+        "abs\tthird\teven\t3c00\t3c00\t-\t-",
+        "no mode of the call: `even`; expected: `-`, since the call has none",
+    ),
+    (
+        "abs\thalf\t-\t3c00\t3g00\tOK\texponent=1",
+        "no flags of the call: `OK`; expected: `-`, since the call has none",
+    ),
+    (
+        "abs\thalf\t-\t3c00\t3g00\t-\texponent=1",
+        "nothing that the call answers: `exponent=1`; expected: `-`",
+    ),
+];
+
 #[test]
 fn tells_what_is_malformed(rt: HostRuntime) {
-    for (line, fault) in [
-        (
-            "half int even 464",
-            "columns: 1, and a command has 2, a call 7",
-        ),
-        ("abs\thalf\t-", "columns: 3, and a command has 2, a call 7"),
-        (
-            "abs\thalf\t-\t3c00\t3c00\t-\t-\t-",
-            "columns: 8, and a command has 2, a call 7",
-        ),
-        (
-            "half int even 464\t5f40",
-            "no reply: `5f40`; expected: bits and flags, as `5f40 OK`, or `refused: ` and a word",
-        ),
-        (
-            "half int even 464\t15f40 OK",
-            "no reply: `15f40` has 17 bits; expected: at most 16",
-        ),
-        (
-            "half int odd 464\t5f40 OK",
-            "no mode: `odd`; expected: even, up, down, zero or away",
-        ),
-        (
-            "halff int even 464\t5f40 OK",
-            "no format: `halff`; expected: half, single, double, quad, bfloat, e5m2, e4m3fn, e4m3fnuz, x87 or dd",
-        ),
-        (
-            "half int even 464\t5f40 FINE",
-            "no reply: `5f40 FINE`; expected: bits and flags, as `5f40 OK`, or `refused: ` and a word",
-        ),
-        (
-            "cbrt\thalf\teven\t3c00\t3c00\tOK\t-",
-            "no call: `cbrt`; expected: one that docs/VECTORS.md lists",
-        ),
-        (
-            "abs\tthird\t-\t3c00\t3c00\t-\t-",
-            "no format: `third`; expected: one that docs/VECTORS.md lists, or SOURCE>TARGET",
-        ),
-        (
-            "convert\thalf>third\t-\t3c00\t3c00\tOK\t-",
-            "no format: `half>third`; expected: one that docs/VECTORS.md lists, or SOURCE>TARGET",
-        ),
-        (
-            "abs\thalf\teven\t3c00\t3c00\t-\t-",
-            "no mode of the call: `even`; expected: `-`, since the call has none",
-        ),
-        (
-            "abs\thalf\tany\t3c00\t3c00\t-\t-",
-            "no mode of the call: `any`; expected: `-`, since the call has none",
-        ),
-        (
-            "add_r\thalf\t-\t3c00 3c00\t4000\tOK\t-",
-            "no mode of the call: `-`; expected: even, up, down, zero, away or any",
-        ),
-        (
-            "add_r\thalf\todd\t3c00 3c00\t4000\tOK\t-",
-            "no mode of the call: `odd`; expected: even, up, down, zero, away or any",
-        ),
-        (
-            "abs\thalf\t-\t13c00\t3c00\t-\t-",
-            "no operand of the call: `13c00` has 17 bits; expected: at most 16",
-        ),
-        (
-            "abs\thalf\t-\t3c00 3c00\t3c00\t-\t-",
-            "no operands of the call: `3c00 3c00`; expected: one value",
-        ),
-        (
-            "abs\thalf\t-\t3c00\t3g00\t-\t-",
-            "no value of the call: `3g00`; expected: hexadecimal digits",
-        ),
-        (
-            "abs\thalf\t-\t3c00\t3c00\tOK\t-",
-            "no flags of the call: `OK`; expected: `-`, since the call has none",
-        ),
-        (
-            "add_r\thalf\tany\t3c00 3c00\t4000\tINEXACT|INEXACT\t-",
-            "no flags of the call: `INEXACT|INEXACT`; \
-            expected: `-`, OK, or names joined by bars, as OVERFLOW|INEXACT",
-        ),
-        (
-            "abs\thalf\t-\t3c00\t3c00\t-\texponent=1",
-            "nothing that the call answers: `exponent=1`; expected: `-`",
-        ),
-        (
-            "mul_r\tquad\teven\t0 0\t0\tOK\t-",
-            "no such call here: `mul_r`; expected: a call that the format has (docs/VECTORS.md)",
-        ),
-        (
-            "add_r\thalf\teven\t3c00 3g00\t4000\tOK\t-",
-            "no operand of the call: `3g00`; \
-            expected: hexadecimal digits, or quanta as `+3q` in a format \
-            without bits",
-        ),
-        (
-            "to_u128\thalf\t-\t3c00 129\t1\tOK\t-",
-            "no operands of the call: `3c00 129`; \
-            expected: a value and a width of at most 128 bits",
-        ),
-        (
-            "abs\thalf\t-\t3c00\t13c00\t-\t-",
-            "no value of the call: `13c00` has 17 bits; expected: at most 16",
-        ),
-        (
-            "shortest\thalf+ieee\t-\t3c00\t1.0\t-\t-",
-            "no such call here: `shortest`; expected: a call that the format has (docs/VECTORS.md)",
-        ),
-        // Of two faults, the first in the order of `docs/VECTORS.md`.
-        (
-            "abs\tthird\teven\t3c00\t3c00\t-\t-",
-            "no mode of the call: `even`; expected: `-`, since the call has none",
-        ),
-        (
-            "abs\thalf\t-\t3c00\t3g00\tOK\texponent=1",
-            "no flags of the call: `OK`; expected: `-`, since the call has none",
-        ),
-        (
-            "abs\thalf\t-\t3c00\t3g00\t-\texponent=1",
-            "nothing that the call answers: `exponent=1`; expected: `-`",
-        ),
-    ] {
+    for (line, fault) in MALFORMED {
         expect_fault(&rt, line, fault);
     }
 }

@@ -1,5 +1,5 @@
 -- Hexadecimal digits written from the last one on.
-use Rattle.std.proofs.Common.{◌≡◌, ℕ, suc, zero, ◌+◌, ◌-◌, ◌*◌, ◌/◌, ◌%◌, ◌^◌, ◌<◌, ◌≤◌, List, ◌∷◌, length, take, drop, set, refl, sym, ap, ◌∙◌, arith, add-one, add-zero, add-suc, length-set, []}
+use Rattle.std.proofs.Common.{◌≡◌, ℕ, suc, zero, ◌+◌, ◌-◌, ◌*◌, ◌/◌, ◌%◌, ◌^◌, ◌<◌, ◌≤◌, List, ◌∷◌, length, take, drop, set, refl, sym, ap, ◌∙◌, arith, add-one, length-set, []}
 use Rattle.std.proofs.lemmas.List.{drop-set, take_all}
 use Rattle.std.proofs.Math.Nat.{div-div-eq-div-mul, div-one, pow-suc}
 use Rattle.std.proofs.Math.ListN.{drop_of_length-le}
@@ -62,26 +62,17 @@ write_more number rest place digit text within so_far digit_is = record {
   digits = digits_more number rest place digit text within so_far digit_is;
 }
 
--- the last digits of a longer text are the text of that many digits
-text_drop : (number digits more : ℕ)
-    → drop more (hexadecimal_text number (digits + more)) ≡ hexadecimal_text number digits
-unfolding hexadecimal_text
-text_drop number digits zero = rw (add-zero digits) refl
-text_drop number digits (suc more) = rw (add-suc digits more) (text_drop number digits more)
-
 -- the text of a count of digits has that length
 length-text : (number digits : ℕ) → length (hexadecimal_text number digits) ≡ digits
 unfolding hexadecimal_text
 length-text number zero = refl
 length-text number (suc digits) = ap suc (length-text number digits)
 
--- the last digits of all
-pub last_digits : (number digits : ℕ) (text : List ℕ) → digits ≤ 32 → text ≡ hexadecimal_text number 32
+-- the last digits are what stands behind the others
+pub last_digits : (number digits : ℕ) (text : List ℕ) → digits ≤ 32
+    → drop (32 - digits) text ≡ hexadecimal_text number digits
     → take (32 - (32 - digits)) (drop (32 - digits) text) ≡ hexadecimal_text number digits
-last_digits number digits text within text_is =
-    let all : 32 ≡ digits + (32 - digits) = omega arith in
-    let dropped = ap (drop (32 - digits)) (text_is ∙ ap (hexadecimal_text number) all) ∙
-    text_drop number digits (32 - digits) in
+last_digits number digits text within behind =
     let size = length-text number digits in
     let whole : length (hexadecimal_text number digits) ≤ 32 - (32 - digits) = omega arith in
-    ap (take (32 - (32 - digits))) dropped ∙ take_all _ (hexadecimal_text number digits) whole
+    ap (take (32 - (32 - digits))) behind ∙ take_all _ (hexadecimal_text number digits) whole

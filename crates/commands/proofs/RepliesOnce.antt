@@ -1,5 +1,5 @@
 -- A calculation has one reply.
-use Rattle.std.proofs.Common.{◌≡◌, ◌≤◌, ℕ, ◌/◌, Bool, false, List, Option, Some, None, Result, Ok, Err, nat_le, refl, sym, ap, ◌∙◌, subst}
+use Rattle.std.proofs.Common.{◌≡◌, ◌≤◌, ℕ, ◌/◌, false, List, Option, Some, None, Result, Ok, Err, nat_le, refl, sym, ap, ◌∙◌, subst}
 use Rattle.std.proofs.Math.Path.{subst₂, subst₃}
 use Rattle.std.proofs.lemmas.Bool.{le-leb}
 use Rattle.rustc_apfloat.specs.declared.Round.{Round}

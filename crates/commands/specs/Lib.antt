@@ -1,2 +1,3 @@
 pub mod Commands
+pub mod Operands
 pub mod Replies

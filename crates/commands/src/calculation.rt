@@ -1,11 +1,12 @@
 //! Calculates the operation of a command in the values of a kind.
 
-ghost use Rattle.std.specs.Prelude.{◌≡◌, ◌≤◌, ◌<◌, length, map, string_bytes, true};
+ghost use Rattle.std.specs.Prelude.{◌≡◌, ◌≤◌, ◌<◌, true};
 ghost use Rattle.rustc_apfloat.specs.Types.{constants_of};
 ghost use Rattle.dispatch.specs.OfTwo.{has_operation};
 ghost use Rattle.dispatch.specs.Relations.{in_format, relations_of};
 ghost use Rattle.dispatch.specs.TextReadings.{ReadsTexts};
-ghost use Rattle.commands.specs.Commands.{calculation, commanded, operand_count, provided, type_has, with_operands, with_text, with_three, with_two, with_whole_number};
+ghost use Rattle.commands.specs.Commands.{calculation, commanded, provided, type_has, with_operands, with_text, with_three, with_two, with_whole_number};
+ghost use Rattle.commands.specs.Operands.{words_of};
 ghost use Rattle.commands.specs.Replies.{IsFormatReply, IsLineOf, IsOnly, IsReplyIn, IsReplyTo, digit_count, reply_of};
 
 use crate::operation::Operation;
@@ -25,27 +26,36 @@ pub struct Calculation<'a> {
     pub name: &'a str,
     /// The rounding mode.
     pub round: Round,
-    /// As many words as the operation has operands.
-    pub operands: &'a [String],
+    /// As many words as the operation has operands, and empty ones.
+    pub operands: Operands<'a>,
+}
+
+/// The words of up to three operands; in the place of the others are empty ones.
+#[derive(Clone, Copy)]
+pub struct Operands<'a> {
+    /// The first one.
+    pub first: &'a str,
+    /// The second one.
+    pub second: &'a str,
+    /// The third one.
+    pub third: &'a str,
 }
 
 impl<'a> InFormat for Calculation<'a> {
     type Output = Reply<'a>;
 
-    ghost can = { λ it kind. length it.operands.now ≡ operand_count it.operation };
-
     ghost gives = { λ it kind reply. IsOnly
         (IsReplyTo (commanded kind it.round
-        (calculation kind it.operation it.name.now (map string_bytes it.operands.now))))
+        (calculation kind it.operation it.name.now (words_of it.operands))))
         (reply_of reply) × (digit_count (reply_of reply) ≤ 32) };
 
     fn in_format<S: Semantics>(self) -> Reply<'a> {
         match self.operation {
             Operation::FusedSum if S::PRECISION <= FUSED_LIMIT => fused_sum::<S>(
                 self.round,
-                self.operands[0].as_str(),
-                self.operands[1].as_str(),
-                self.operands[2].as_str(),
+                self.operands.first,
+                self.operands.second,
+                self.operands.third,
             ),
             _ => in_type::<IeeeFloat<S>>(self),
         }
@@ -63,19 +73,18 @@ fn in_type<'a, F: Float>(it: Calculation<'a>) -> Reply<'a>
     requires written { F.PRECISION < F.BITS }
     requires narrow { F.BITS ≤ 128 }
     requires reads { ReadsTexts F.reads }
-    requires count { length it.operands.now ≡ operand_count it.operation }
-    ensures reply { let words = map string_bytes it.entry.operands.now in
+    ensures reply { let words = words_of it.entry.operands in
         let wanted = provided (type_has F.MULTIPLIES it.entry.operation) it.entry.name.now
         (with_operands F.BITS it.entry.operation words) in IsOnly
         (IsReplyIn (relations_of F.Float.own F.partial_cmp) F.BITS it.entry.round wanted)
         (reply_of result) }
     ensures short { digit_count (reply_of result) ≤ 32 }
 {
-    let first = it.operands[0].as_str();
+    let Operands { first, second, .. } = it.operands;
     match it.operation {
         Operation::OfTwo(arithmetic) => {
             if arithmetic.is_supported::<F>() {
-                of_two::<F>(arithmetic, it.round, first, it.operands[1].as_str())
+                of_two::<F>(arithmetic, it.round, first, second)
             } else {
                 Reply::Refused(it.name)
             }

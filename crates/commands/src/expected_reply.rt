@@ -1,32 +1,59 @@
 //! Checks a command against its expected reply, which is a row of a table.
 
-ghost use Rattle.std.specs.Prelude.{◌≡◌, ◌++◌, codes, map, string_bytes, true};
-ghost use Rattle.commands.specs.Replies.{IsReplied};
+ghost use Rattle.std.specs.Prelude.{◌≡◌, ◌≤◌, ◌++◌, codes, map, true};
+ghost use Rattle.rustc_apfloat.specs.Flags.{bits_of};
+ghost use Rattle.commands.specs.Replies.{IsReplied, line_text, refusal_text, status_text};
 
-use crate::output::run;
-use std::alloc::Global;
+use crate::output::{hexadecimal, write_status};
+use crate::reply::{Reply, command_of};
+use crate::text_buffer::TextBuffer;
+use rustc_apfloat::Status;
 
-/// Whether a command has this reply: a line on the first writer only, with status 0, or a refusal on the second only,
-/// with status 2. If there is not enough memory for the output, returns false.
-pub fn agrees(alloc: Global, words: &[String], reply: &str) -> bool
-    ensures { result ≡ true → IsReplied (map string_bytes words.now) reply.now }
+/// The names of all five flags have 53 bytes, with the bars between them.
+const STATUS_ROOM: usize = 64;
+
+/// Whether a command has this reply: the line of an answer, or `refused: ` and a word.
+pub fn agrees(words: &[&str], reply: &str) -> bool
+    ensures { result ≡ true → IsReplied (map (λ w. w.now) words.now) reply.now }
 {
-    let mut out = Vec::new(alloc);
-    let mut err = Vec::new(alloc);
-    let status = run(words, &mut out, &mut err);
-    if reply.starts_with("refused: ") {
-        status == 2 && out.is_empty() && is_line(err.as_slice(), reply)
-    } else {
-        status == 0 && err.is_empty() && is_line(out.as_slice(), reply)
+    match command_of(words) {
+        Reply::Line(bits, digits, status) => is_line(bits, digits, status, reply.as_bytes()),
+        Reply::Refused(word) => is_refusal(word, reply.as_bytes()),
     }
 }
 
-/// Whether bytes are a text followed by a line end.
-fn is_line(written: &[u8], text: &str) -> bool
-    ensures { result ≡ true → written.now ≡ text.now ++ codes "\n" }
+/// Whether a text is the line of an answer, without its end.
+fn is_line(bits: u128, digits: usize, status: Status, text: &[u8]) -> bool
+    requires { digits ≤ 32 }
+    ensures { result ≡ true → line_text bits digits (bits_of status) ≡ text.now ++ codes "\n" }
 {
-    match written.strip_suffix(b"\n") {
-        Some(line) => line == text.as_bytes(),
+    let shown = hexadecimal(bits, digits);
+    let Some(rest) = text.strip_prefix(&shown[shown.len() - digits..]) else {
+        return false;
+    };
+    match rest.strip_prefix(b" ") {
+        Some(flags) => is_status(status, flags),
+        None => false,
+    }
+}
+
+/// Whether a text has the names of these flags, joined by bars, or is `OK`.
+fn is_status(status: Status, text: &[u8]) -> bool
+    ensures { result ≡ true → status_text (bits_of status) ≡ text.now }
+{
+    let mut names = TextBuffer::<STATUS_ROOM>::new();
+    match write_status(status, &mut names) {
+        Ok(()) => names.as_bytes() == text,
+        Err(_) => false,
+    }
+}
+
+/// Whether a text is that of a refusal, without the end of its line.
+fn is_refusal(word: &str, text: &[u8]) -> bool
+    ensures { result ≡ true → refusal_text word.now ≡ text.now ++ codes "\n" }
+{
+    match text.strip_prefix(b"refused: ") {
+        Some(named) => named == word.as_bytes(),
         None => false,
     }
 }

@@ -22,6 +22,6 @@ mod words;
 
 pub use expected_reply::agrees;
 pub use output::{run, run_given, write_line, write_status};
-pub use reply::{Reply, command};
+pub use reply::{Reply, command, command_of};
 pub use system_words::words_of_system;
 pub use words::{bits_of, number_of};

@@ -3,7 +3,7 @@
 //! A reply is assembled first and written in one call, so that the replies of programs that run in parallel do not mix.
 //! Only a refusal longer than `REFUSAL_ROOM` is written in parts.
 
-ghost use Rattle.std.specs.Prelude.{◌≡◌, ◌≢◌, ◌<◌, ◌≤◌, ◌++◌, codes, if◌then◌else◌, IfErr, is_ok, map, MatchResult, OnErr, OnOk, string_bytes};
+ghost use Rattle.std.specs.Prelude.{◌≡◌, ◌≢◌, ◌<◌, ◌≤◌, ◌++◌, ◌-◌, codes, drop, if◌then◌else◌, IfErr, is_ok, map, MatchResult, OnErr, OnOk, string_bytes};
 ghost use Rattle.std.specs.IoError.{error_kind};
 ghost use Rattle.std.specs.Io.KnownBytes.{Appends};
 ghost use Rattle.rustc_apfloat.specs.Flags.{bits_of};
@@ -140,17 +140,18 @@ fn write_hexadecimal<W: Write>(number: u128, digits: usize, out: &mut W) -> io::
     ensures { OnOk result
         (Appends (W.contents out.old) (W.contents out.new) (hexadecimal_text number digits)) }
 {
-    let text = hexadecimal(number);
+    let text = hexadecimal(number, digits);
     out.write_all(&text[text.len() - digits..])
 }
 
-/// All digits of a whole number.
-fn hexadecimal(number: u128) -> [u8; 32]
-    ensures { result ≡ hexadecimal_text number 32 }
+/// A text of which so many bytes at the end are the last digits of a whole number.
+pub fn hexadecimal(number: u128, digits: usize) -> [u8; 32]
+    requires { digits ≤ 32 }
+    ensures { drop (32 - digits) result ≡ hexadecimal_text number digits }
 {
     let mut text = [b'0'; 32];
     let mut rest = number;
-    for place in 0..32 {
+    for place in 0..digits {
         text[31 - place] = hexadecimal_digit((rest % 16) as u8);
         rest /= 16;
     }

@@ -1,10 +1,11 @@
 //! What the program replies to a command.
 
-ghost use Rattle.std.specs.Prelude.{◌≤◌, map, string_bytes};
-ghost use Rattle.commands.specs.Commands.{with_format};
+ghost use Rattle.std.specs.Prelude.{◌≡◌, ◌≤◌, map, string_bytes, take};
+ghost use Rattle.commands.specs.Commands.{with_format, word_at};
+ghost use Rattle.commands.specs.Operands.{words_of};
 ghost use Rattle.commands.specs.Replies.{IsOnly, IsReply, IsReplyTo, digit_count, reply_of};
 
-use crate::calculation::Calculation;
+use crate::calculation::{Calculation, Operands};
 use crate::words::{ARGUMENTS, named};
 use dispatch::BuiltInKind;
 use rustc_apfloat::Status;
@@ -26,22 +27,66 @@ pub fn command(words: &[String]) -> Reply<'_>
     if words.len() < 4 || words.len() > 6 {
         return Reply::Refused(ARGUMENTS);
     }
+    let operands = Operands {
+        first: words[3].as_str(),
+        second: string_at(words, 4),
+        third: string_at(words, 5),
+    };
     answer(
         words[0].as_str(),
         words[1].as_str(),
         words[2].as_str(),
-        &words[3..],
+        operands,
+        words.len() - 3,
     )
 }
 
-/// The answer in the format of this name.
+/// The reply to a command whose words are parts of a text.
+pub fn command_of<'a>(words: &[&'a str]) -> Reply<'a>
+    ensures reply { IsOnly (IsReply (map (λ w. w.now) words.now)) (reply_of result) }
+    ensures short { digit_count (reply_of result) ≤ 32 }
+{
+    if words.len() < 4 || words.len() > 6 {
+        return Reply::Refused(ARGUMENTS);
+    }
+    let operands = Operands {
+        first: words[3],
+        second: text_at(words, 4),
+        third: text_at(words, 5),
+    };
+    answer(words[0], words[1], words[2], operands, words.len() - 3)
+}
+
+/// The word at a place, or an empty one.
+fn string_at(words: &[String], place: usize) -> &str
+    ensures { result.now ≡ word_at (map string_bytes words.now) place }
+{
+    match words.get(place) {
+        Some(word) => word.as_str(),
+        None => "",
+    }
+}
+
+/// The word at a place, or an empty one.
+fn text_at<'a>(words: &[&'a str], place: usize) -> &'a str
+    ensures { result.now ≡ word_at (map (λ w. w.now) words.now) place }
+{
+    match words.get(place) {
+        Some(word) => *word,
+        None => "",
+    }
+}
+
+/// The answer to so many operands, in the format of this name.
 fn answer<'a>(
     format: &'a str,
     operation: &'a str,
     mode: &'a str,
-    operands: &'a [String],
+    operands: Operands<'a>,
+    count: usize,
 ) -> Reply<'a>
-    ensures reply { let words = map string_bytes operands.now in IsOnly
+    requires { count ≤ 3 }
+    ensures reply { let words = take count (words_of operands.entry) in IsOnly
         (IsReplyTo (with_format format.now operation.now mode.now words))
         (reply_of result) }
     ensures short { digit_count (reply_of result) ≤ 32 }
@@ -49,7 +94,7 @@ fn answer<'a>(
     let Some(kind) = BuiltInKind::named(format) else {
         return Reply::Refused(format);
     };
-    let (known, round) = match named(operation, mode, operands.len()) {
+    let (known, round) = match named(operation, mode, count) {
         Ok(known_and_round) => known_and_round,
         Err(word) => return Reply::Refused(word),
     };

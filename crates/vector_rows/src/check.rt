@@ -4,10 +4,11 @@ use crate::command_row::CommandRow;
 use crate::failure::Failure;
 use crate::other_files::{Fpgen, TestFloat};
 use crate::summary::Summary;
+use memchr::memchr;
 use row_calls::{CallRow, agrees, row_of, write_answers};
 use row_columns::RowError;
 use std::alloc::{Allocator, Global};
-use std::io::{BufRead, Write};
+use std::io::{BufRead, ErrorKind, Write};
 use std::rt::Clock;
 use std::time::Instant;
 use std::{fmt, io, str};
@@ -110,7 +111,7 @@ impl Check {
         let mut line = Vec::new(alloc);
         for _ in 0..u64::MAX {
             line.clear();
-            match input.read_until(b'\n', &mut line) {
+            match read_line(input, &mut line) {
                 Ok(0) => break,
                 Ok(_) => {}
                 Err(error) => return Err(Failure::of_input("read", error)),
@@ -144,7 +145,7 @@ impl Check {
         let Ok(text) = str::from_utf8(line) else {
             return self.take_error(RowError::Encoding, out);
         };
-        if text.starts_with('#') || text.trim().is_empty() {
+        if text.starts_with('#') || text.trim_start().is_empty() {
             increment(&mut self.tally.skipped);
             return Ok(());
         }
@@ -194,14 +195,14 @@ impl Check {
 
     /// Checks a row.
     fn take_row<W: Write>(&mut self, text: &str, out: &mut W) -> Result<(), Failure> {
-        if let Some(row) = row_of(text) {
-            return self.take_call(row, text, out);
-        }
         match text.split_once('\t') {
             Some((command, reply)) if !reply.contains('\t') => {
                 self.take_command(CommandRow { command, reply }, text, out)
             }
-            _ => self.take_error(RowError::Columns(text.split('\t').count()), out),
+            _ => match row_of(text) {
+                Some(row) => self.take_call(row, text, out),
+                None => self.take_error(RowError::Columns(text.split('\t').count()), out),
+            },
         }
     }
 
@@ -230,6 +231,10 @@ impl Check {
         text: &str,
         out: &mut W,
     ) -> Result<(), Failure> {
+        if row.agrees() {
+            self.takes_difference(text, true, out)?;
+            return Ok(());
+        }
         if let Some(error) = row.fault() {
             return self.take_error(error, out);
         }
@@ -286,6 +291,24 @@ impl Check {
         self.summary.write(out)?;
         writeln!(out, "{}", self.tally)
     }
+}
+
+/// Reads a line with its end. Returns how many bytes it has, which is 0 at the end of the input.
+fn read_line<R: BufRead, A: Allocator>(input: &mut R, line: &mut Vec<u8, A>) -> io::Result<usize> {
+    let available = match input.fill_buf() {
+        Ok(available) => available,
+        Err(error) => match error.kind() {
+            ErrorKind::Interrupted => return input.read_until(b'\n', line),
+            _ => return Err(error),
+        },
+    };
+    // Most lines are in the buffer as a whole.
+    let Some(end) = memchr(b'\n', available) else {
+        return input.read_until(b'\n', line);
+    };
+    line.extend_from_slice(&available[..=end])?;
+    input.consume(end + 1);
+    Ok(end + 1)
 }
 
 /// How many seconds have passed since a time. Without a clock there are none.

@@ -1,7 +1,10 @@
-use Rattle.commands.proofs.Named.{named_count}
+use Rattle.std.proofs.Common.{sym}
+use Rattle.commands.proofs.Counted.{only_named}
 use Rattle.commands.proofs.reply.answer.Goals as goal
 
-pub run-requires : goal.run-requires
-run-requires c =
-    named_count c.args.operation.now c.args.mode.now _ c.in-Ok.known_and_round.0 c.in-Ok.known_and_round.1
-    c.in-Ok.ensures
+pub returns-clause-reply : goal.returns-clause-reply
+returns-clause-reply c =
+    let it = c.args.operands in
+    only_named c.args.format.now c.args.operation.now c.args.mode.now it.first.now it.second.now it.third.now
+    c.args.count c.in-Some.kind c.in-Ok.known_and_round.0 c.in-Ok.known_and_round.1 _ c.requires
+    (sym c.in-Some.ensures) c.in-Ok.ensures c.run.ensures.0

@@ -1,10 +1,9 @@
-use Rattle.std.proofs.Common.{arith, ◌≡◌, ◌≤◌, false, map, string_bytes, nat_le, subst}
-use Rattle.std.proofs.lemmas.Grind.{common_steps}
+use Rattle.std.proofs.Common.{◌≡◌, ◌≤◌, false, nat_le, refl, subst}
 use Rattle.std.proofs.lemmas.Bool.{lt-leb}
 use Rattle.rustc_apfloat.specs.Types.{constants_of}
 use Rattle.rustc_apfloat.specs.FusedSums.{fused_limit}
 use Rattle.dispatch.proofs.TextsRead.{format_reads}
-use Rattle.commands.specs.Commands.{word_at}
+use Rattle.commands.specs.Operands.{words_of}
 use Rattle.commands.proofs.RepliesOnce.{only_fused, only_in_format}
 use Rattle.commands.proofs.calculation.CalculationInFormat.in_format.Goals as goal
 use Rattle.commands.proofs.calculation.CalculationInFormat.in_format.Goals.{in_default-via-in-FusedSum+else-PRECISION-le-FUSED_LIMIT, in_default-via-in_default}
@@ -15,13 +14,9 @@ in_type-requires-clause-reads g c = format_reads (constants_of g.S.Semantics)
 pub returns-in-FusedSum : goal.returns-in-FusedSum
 returns-in-FusedSum g c =
     let it = c.args.self in
-    let within = subst (λ p. p ≤ fused_limit) c.PRECISION.ensures c.if-PRECISION-le-FUSED_LIMIT.true in
-    let words = map string_bytes it.operands.now in
-    let first : c.as_str.result.now ≡ word_at words 0 = grind (arith, common_steps) in
-    let second : c.as_str-in-FusedSum.result.now ≡ word_at words 1 = grind (arith, common_steps) in
-    let third : c.as_str-in-FusedSum-2.result.now ≡ word_at words 2 = grind (arith, common_steps) in (
-      only_fused (constants_of g.S.Semantics) it.round it.operation it.name.now words _ _ _ _ c.in-FusedSum.is within
-          first second third c.fused_sum.ensures.reply,
+    let within = subst (λ p. p ≤ fused_limit) c.PRECISION.ensures c.if-PRECISION-le-FUSED_LIMIT.true in (
+      only_fused (constants_of g.S.Semantics) it.round it.operation it.name.now (words_of it.operands) _ _ _ _
+          c.in-FusedSum.is within refl refl refl c.fused_sum.ensures.reply,
       c.fused_sum.ensures.short,
     )
 
@@ -29,7 +24,7 @@ pub returns-in_default : goal.returns-in_default
 returns-in_default g c =
     let it = c.args.self in (
       only_in_format (constants_of g.S.Semantics) it.round it.operation it.name.now
-          (map string_bytes it.operands.now) _
+          (words_of it.operands) _
           (elim c.in_default.branch [
             | in_default-via-in-FusedSum+else-PRECISION-le-FUSED_LIMIT w ↦
                 (λ _. subst (λ p. nat_le p fused_limit ≡ false) w.PRECISION.ensures

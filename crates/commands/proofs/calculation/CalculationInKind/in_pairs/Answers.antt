@@ -1,5 +1,5 @@
-use Rattle.std.proofs.Common.{map, string_bytes}
 use Rattle.dispatch.proofs.TextsRead.{pairs_read}
+use Rattle.commands.specs.Operands.{words_of}
 use Rattle.commands.proofs.RepliesOnce.{only_in_pairs}
 use Rattle.commands.proofs.calculation.CalculationInKind.in_pairs.Goals as goal
 
@@ -9,6 +9,6 @@ in_type-requires-clause-reads c = pairs_read
 pub returns : goal.returns
 returns c =
     let it = c.args.self in (
-      only_in_pairs it.round it.operation it.name.now (map string_bytes it.operands.now) _ c.in_type.ensures.reply,
+      only_in_pairs it.round it.operation it.name.now (words_of it.operands) _ c.in_type.ensures.reply,
       c.in_type.ensures.short,
     )
