@@ -10,8 +10,8 @@ use Rattle.std.proofs.lemmas.Nat.{pow-add}
 use Rattle.std.proofs.lemmas.Fmt.{decimal_step_wide, decimal_digit, length-decimal-le_wide, length_signed_le}
 use Rattle.std.proofs.lemmas.List.{append_assoc, length-append, length-replicate}
 use Rattle.std.specs.Fmt.{decimal, signed_decimal}
-use Rattle.apfloat_decimals.proofs.Values.{power_pos}
-use Rattle.apfloat_decimals.proofs.WrittenNumbers.{few_digits, shorter, single, ten_great, times_ten_small}
+use Rattle.apfloat_decimals.proofs.numbers.Values.{power_pos}
+use Rattle.apfloat_decimals.proofs.spelled.WrittenNumbers.{few_digits, shorter, single, ten_great, times_ten_small}
 use Rattle.apfloat_decimals.specs.Texts.{is_plain, padded, pointed, some_pointed, scientific_text, plain_text, magnitude_text, sign_text}
 
 -- ---- digits one by one

@@ -6,7 +6,7 @@ use Rattle.rustc_apfloat.specs.Lawful.{format_with}
 use Rattle.apfloat_decimals.specs.declared.decimal.Decimal.{Decimal}
 use Rattle.apfloat_decimals.specs.ShortestSearch.{IsShortestOf}
 use Rattle.apfloat_decimals.specs.Texts.{decimal_text}
-use Rattle.apfloat_decimals.proofs.OneShortest.{one_shortest}
+use Rattle.apfloat_decimals.proofs.shortest_decimals.OneShortest.{one_shortest}
 use Rattle.dispatch.specs.declared.BuiltInFormat.{BuiltInFormat}
 use Rattle.dispatch.specs.BuiltIns.{constants_in, known_format}
 use Rattle.dispatch.specs.ValueKinds.{value_of}

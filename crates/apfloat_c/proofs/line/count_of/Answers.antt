@@ -1,5 +1,5 @@
 use Rattle.std.proofs.Common.{arith}
-use Rattle.apfloat_decimals.proofs.WrittenNumbers.{few_digits, shorter}
+use Rattle.apfloat_decimals.proofs.spelled.WrittenNumbers.{few_digits, shorter}
 use Rattle.apfloat_c.proofs.line.count_of.Goals as goal
 
 pub overflow_add-count : goal.overflow_add-count

@@ -1,7 +1,7 @@
 use Rattle.std.proofs.Common.{sym, arith, lit<}
 use Rattle.std.proofs.Math.Nat.{div-eq_of_lt, mod-eq_of_lt}
-use Rattle.apfloat_decimals.proofs.Values.{power_pos}
-use Rattle.apfloat_decimals.proofs.WrittenNumbers.{ten_small, ten_great}
+use Rattle.apfloat_decimals.proofs.numbers.Values.{power_pos}
+use Rattle.apfloat_decimals.proofs.spelled.WrittenNumbers.{ten_small, ten_great}
 use Rattle.apfloat_c.proofs.line.parts_of.Goals as goal
 
 pub returns-then-places-gt38-clause-whole : goal.returns-then-places-gt38-clause-whole

@@ -3,8 +3,8 @@ use Rattle.std.proofs.lemmas.Int.{to_z-of_z, ints}
 use Rattle.apfloat_base.specs.arithmetic.Exact.{up, down}
 use Rattle.apfloat_base.specs.rounding.Flags.{bits_of}
 use Rattle.apfloat_ieee.specs.Types.{format_of}
-use Rattle.apfloat_decimals.proofs.Readings.{none_stand, fine_digits, decimal_delivered}
-use Rattle.apfloat_decimals.proofs.Values.{power_pos}
+use Rattle.apfloat_decimals.proofs.cuts.Readings.{none_stand, fine_digits, decimal_delivered}
+use Rattle.apfloat_decimals.proofs.numbers.Values.{power_pos}
 use Rattle.apfloat_decimals.proofs.decimal.from_decimal.Goals as goal
 
 pub returns-then-decimal-eq0 : goal.returns-then-decimal-eq0

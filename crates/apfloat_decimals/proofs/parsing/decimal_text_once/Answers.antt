@@ -1,5 +1,5 @@
-use Rattle.apfloat_decimals.proofs.TextParts.{only_text}
-use Rattle.apfloat_decimals.proofs.TextReadings.{text_once, text_read, text_parsed}
+use Rattle.apfloat_decimals.proofs.spelled.TextParts.{only_text}
+use Rattle.apfloat_decimals.proofs.spelled.TextReadings.{text_once, text_read, text_parsed}
 use Rattle.apfloat_decimals.proofs.parsing.decimal_text_once.Goals as goal
 
 pub returns : goal.returns

@@ -1,7 +1,7 @@
 use Rattle.std.proofs.Common.{◌≡◌, ℕ, List, take, ap, ◌∙◌, arith}
 use Rattle.std.proofs.lemmas.List.{take_all}
 use Rattle.apfloat_decimals.specs.LeadingDigits.{number_from}
-use Rattle.apfloat_decimals.proofs.ParsedNumbers.{digit_next, number_past}
+use Rattle.apfloat_decimals.proofs.spelled.ParsedNumbers.{digit_next, number_past}
 use Rattle.apfloat_decimals.proofs.parsing.followed_by.Goals as goal
 
 pub returns-in_default : goal.returns-in_default

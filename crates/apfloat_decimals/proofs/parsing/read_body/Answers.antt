@@ -6,7 +6,7 @@ use Rattle.apfloat_base.specs.texts.Literals.{exponent_number}
 use Rattle.apfloat_texts.specs.Saturation.{IsNear, far_bound}
 use Rattle.apfloat_texts.proofs.FaultsRead.{exponent_fits}
 use Rattle.apfloat_decimals.specs.DecimalTexts.{IsDecimalText}
-use Rattle.apfloat_decimals.proofs.SpelledTexts.{first_digits, fraction_digits, body_text}
+use Rattle.apfloat_decimals.proofs.spelled.SpelledTexts.{first_digits, fraction_digits, body_text}
 use Rattle.apfloat_decimals.proofs.parsing.read_body.Goals.{After-digits_of}
 use Rattle.apfloat_decimals.proofs.parsing.read_body.Goals as goal
 

@@ -1,4 +1,4 @@
-use Rattle.apfloat_decimals.proofs.WrittenTexts.{text_spelled, written_same, written_stored}
+use Rattle.apfloat_decimals.proofs.spelled.WrittenTexts.{text_spelled, written_same, written_stored}
 use Rattle.apfloat_decimals.proofs.parsing.written_text.Goals as goal
 
 pub returns : goal.returns

@@ -6,7 +6,7 @@ use Rattle.apfloat_base.specs.rounding.Flags.{bits_of}
 use Rattle.apfloat_ieee.specs.Types.{format_of}
 use Rattle.apfloat_texts.proofs.FaultsRead.{exponent_fits}
 use Rattle.apfloat_texts.proofs.Scanning.{refused_by}
-use Rattle.apfloat_decimals.proofs.SpelledTexts.{first_digits, fraction_digits, body_spelled, body_faulted}
+use Rattle.apfloat_decimals.proofs.spelled.SpelledTexts.{first_digits, fraction_digits, body_spelled, body_faulted}
 use Rattle.apfloat_decimals.proofs.texts.read_body.Goals as goal
 
 pub value_of-requires-clause-whole : goal.value_of-requires-clause-whole

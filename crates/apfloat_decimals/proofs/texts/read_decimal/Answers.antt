@@ -1,5 +1,5 @@
 use Rattle.std.proofs.Common.{sym}
-use Rattle.apfloat_decimals.proofs.SpelledTexts.{other_fault, plain_fault}
+use Rattle.apfloat_decimals.proofs.spelled.SpelledTexts.{other_fault, plain_fault}
 use Rattle.apfloat_decimals.proofs.texts.read_decimal.Goals as goal
 
 pub returns-then-not-is_plain : goal.returns-then-not-is_plain

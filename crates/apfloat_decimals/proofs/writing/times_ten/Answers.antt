@@ -1,5 +1,5 @@
 use Rattle.std.proofs.Common.{◌+◌, arith}
-use Rattle.apfloat_decimals.proofs.WrittenNumbers.{ten_small, times_ten_small}
+use Rattle.apfloat_decimals.proofs.spelled.WrittenNumbers.{ten_small, times_ten_small}
 use Rattle.apfloat_decimals.proofs.writing.times_ten.Goals as goal
 
 pub pow-requires : goal.pow-requires

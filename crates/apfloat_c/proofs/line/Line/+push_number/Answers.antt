@@ -1,6 +1,6 @@
 use Rattle.std.proofs.Common.{◌∙◌, ◌+◌, ◌%◌, List, ℕ, [], ◌∷◌, ◌++◌, ap, arith}
 use Rattle.apfloat_c.proofs.Lines.{last_digit, room_for_last}
-use Rattle.apfloat_decimals.proofs.WrittenNumbers.{shorter}
+use Rattle.apfloat_decimals.proofs.spelled.WrittenNumbers.{shorter}
 use Rattle.apfloat_c.proofs.line.Line.+push_number.Goals as goal
 
 pub push_number-requires : goal.push_number-requires

@@ -1,6 +1,6 @@
 use Rattle.std.proofs.Common.{◌∙◌, ◌+◌, ◌%◌, List, ℕ, [], ◌∷◌, ◌++◌, ap, arith}
 use Rattle.apfloat_c.proofs.Lines.{last_digit, only_digit, room_for_last}
-use Rattle.apfloat_decimals.proofs.WrittenNumbers.{shorter, single}
+use Rattle.apfloat_decimals.proofs.spelled.WrittenNumbers.{shorter, single}
 use Rattle.apfloat_c.proofs.line.Line.+push_word.Goals.{then-number-ge10, else-number-ge10}
 use Rattle.apfloat_c.proofs.line.Line.+push_word.Goals as goal
 

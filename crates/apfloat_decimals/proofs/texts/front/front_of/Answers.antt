@@ -1,7 +1,7 @@
 use Rattle.std.proofs.Common.{◌+◌, ◌-◌, ◌^◌, ◌≤◌, length, arith}
-use Rattle.apfloat_decimals.proofs.FoundDigits.{ten_most}
-use Rattle.apfloat_decimals.proofs.ShortNumbers.{both_fit}
-use Rattle.apfloat_decimals.proofs.TextFronts.{long_front, short_front}
+use Rattle.apfloat_decimals.proofs.digits.FoundDigits.{ten_most}
+use Rattle.apfloat_decimals.proofs.digits.ShortNumbers.{both_fit}
+use Rattle.apfloat_decimals.proofs.spelled.TextFronts.{long_front, short_front}
 use Rattle.apfloat_decimals.proofs.texts.front.front_of.Goals as goal
 
 pub returns-then-whole-gt-TAKEN-clause-front : goal.returns-then-whole-gt-TAKEN-clause-front

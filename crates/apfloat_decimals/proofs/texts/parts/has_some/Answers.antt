@@ -1,4 +1,4 @@
-use Rattle.apfloat_decimals.proofs.SpelledTexts.{some_first, some_second}
+use Rattle.apfloat_decimals.proofs.spelled.SpelledTexts.{some_first, some_second}
 use Rattle.apfloat_decimals.proofs.texts.parts.has_some.Goals as goal
 
 pub returns-then-is_empty : goal.returns-then-is_empty

@@ -2,7 +2,7 @@ use Rattle.std.proofs.Common.{List, ℕ, sym, get_or}
 use Rattle.apfloat_texts.specs.Saturation.{IsCounted}
 use Rattle.apfloat_base.proofs.general.ListLaws.{parted}
 use Rattle.apfloat_texts.proofs.Saturations.{count_goes}
-use Rattle.apfloat_decimals.proofs.LeadingNumbers.{decimal_value}
+use Rattle.apfloat_decimals.proofs.numbers.LeadingNumbers.{decimal_value}
 use Rattle.apfloat_decimals.proofs.texts.parts.magnitude.Goals as goal
 
 pub loop-left-preserved : goal.loop-left-preserved

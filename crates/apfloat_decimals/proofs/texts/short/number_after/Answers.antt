@@ -1,8 +1,8 @@
 use Rattle.std.proofs.Common.{◌≡◌, ℕ, ◌+◌, ◌-◌, ◌*◌, ◌^◌, ◌<◌, ◌≤◌, List, length, take, get_or, sym, ap, ◌∙◌, subst, arith}
 use Rattle.std.proofs.lemmas.List.{take_all}
 use Rattle.apfloat_decimals.specs.LeadingDigits.{number_from}
-use Rattle.apfloat_decimals.proofs.LeadingNumbers.{digit_of, value_of_digit, number_next}
-use Rattle.apfloat_decimals.proofs.ShortNumbers.{digit_fits, digit_room, no_more}
+use Rattle.apfloat_decimals.proofs.numbers.LeadingNumbers.{digit_of, value_of_digit, number_next}
+use Rattle.apfloat_decimals.proofs.digits.ShortNumbers.{digit_fits, digit_room, no_more}
 use Rattle.apfloat_decimals.proofs.texts.short.number_after.Goals as goal
 
 pub with_digit-number-requires-clause-fits : goal.with_digit-number-requires-clause-fits

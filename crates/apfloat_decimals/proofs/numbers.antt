@@ -1,0 +1,4 @@
+pub mod Bounded
+pub mod DecimalPowers
+pub mod LeadingNumbers
+pub mod Values

@@ -1,0 +1,9 @@
+pub mod DecimalPlaces
+pub mod EnoughDigits
+pub mod OneShortest
+pub mod PickedFractions
+pub mod QuickSearch
+pub mod ReadBacks
+pub mod ShortestFound
+pub mod ShortestSearch
+pub mod ShortestSteps

@@ -1,0 +1,82 @@
+-- What is read of a decimal text is its number.
+use Rattle.std.proofs.Common.{◌≡◌, ℕ, Bool, sym, ◌∙◌, inl, inr, List, Result, Ok, Err, ℤ, pos, neg_ℤ, ◌≤ℤ◌, ◌+◌, ◌^◌, ap, ⊎_elim, arith}
+use Rattle.std.proofs.lemmas.Int.{ints}
+use Rattle.std.proofs.lemmas.Option.{none-some}
+use Rattle.std.specs.Result.{IsOkAnd}
+use Rattle.apfloat_base.specs.declared.kinds.Round.{Round}
+use Rattle.apfloat_base.specs.declared.parse_error.Fault.TheVariants.{NoLiteral}
+use Rattle.apfloat_base.specs.declared.parse_error.ParseError.{ParseError}
+use Rattle.apfloat_base.specs.declared.status.StatusAnd.{StatusAnd}
+use Rattle.apfloat_base.specs.formats.Datum.{Datum}
+use Rattle.apfloat_base.specs.formats.Format.{Format}
+use Rattle.apfloat_base.specs.rounding.Flags.{Gives, bits_of}
+use Rattle.apfloat_base.specs.texts.Specials.{behind_mark}
+use Rattle.apfloat_base.proofs.texts.OneMeaning.{meaning_no_fault}
+use Rattle.apfloat_decimals.specs.Decimals.{IsDecimalDelivery}
+use Rattle.apfloat_decimals.specs.DecimalTexts.{IsDecimalText, IsDecimalRead, IsDecimalReading}
+use Rattle.apfloat_decimals.specs.Parsing.{Spells, IsParsed}
+use Rattle.apfloat_decimals.specs.ReadBack.{IsStoredDecimal}
+use Rattle.apfloat_decimals.specs.declared.decimal.Decimal.{Decimal}
+use Rattle.apfloat_decimals.specs.declared.parsing.DecimalError.{DecimalError}
+use Rattle.apfloat_decimals.specs.declared.parsing.DecimalError.TheVariants.{NoDecimal, TooManyDigits, ExponentOutOfRange}
+use Rattle.apfloat_decimals.proofs.spelled.TextParts.{only_text, no_other_meaning, no_fault_of, no_plain_fault}
+
+-- a text spells one number
+pub text_once : (body : List ℕ) (digits other : ℕ) (exponent place : ℤ) → IsDecimalText body digits exponent
+    → IsDecimalText body other place → (digits ≡ other) × (exponent ≡ place)
+text_once body digits other exponent place x y =
+    let one = only_text body digits exponent x in
+    let two = only_text body other place y in
+    (one.digits_are ∙ sym two.digits_are, one.exponent_is ∙ sym two.exponent_is)
+
+-- a reading of the text is that of its number
+reading_is : (format : Format) (mode : Round) (text : List ℕ) (negative : Bool) (digits : ℕ) (exponent : ℤ)
+    (value : Datum) (status : ℕ) → Spells text negative digits exponent
+    → IsDecimalReading format mode text value status
+    → IsDecimalDelivery format mode negative digits exponent value status
+reading_is format mode text negative digits exponent value status x (inl r) =
+    let same = text_once (behind_mark text) r.digits digits r.exponent exponent r.is_text x.is_text in
+    rw (x.sign, sym same.0, sym same.1) r.delivered
+reading_is format mode text negative digits exponent value status x (inr r) =
+    absurd (none-some NoLiteral
+    (sym (meaning_no_fault text r.meaning r.means) ∙ no_other_meaning text digits exponent x.is_text))
+
+pub text_read : (format : Format) (mode : Round) (text : List ℕ) (answer : Result (StatusAnd Datum) ParseError)
+    (negative : Bool) (digits : ℕ) (exponent : ℤ) → Spells text negative digits exponent
+    → IsDecimalRead format mode text answer
+    → IsOkAnd answer (Gives (IsDecimalDelivery format mode negative digits exponent))
+text_read format mode text (Ok answer) negative digits exponent x r =
+    reading_is format mode text negative digits exponent answer.value (bits_of answer.status) x r
+text_read format mode text (Err error) negative digits exponent x r =
+    none-some r.fault (sym (no_fault_of text digits exponent x.is_text) ∙ r.is_first)
+
+-- ---- texts that are read as decimals
+
+make : Bool → ℕ → ℤ → Decimal
+make negative digits exponent = record { negative = negative; digits = digits; exponent = exponent }
+
+same_decimal : (x y : Decimal) → x.negative ≡ y.negative → x.digits ≡ y.digits → x.exponent ≡ y.exponent
+    → x ≡ y
+unfolding make
+same_decimal x y n d e =
+    ap (λ (b : Bool). make b x.digits x.exponent) n ∙ ap (λ (k : ℕ). make y.negative k x.exponent) d
+    ∙ ap (λ (z : ℤ). make y.negative y.digits z) e
+
+pub text_parsed : (text : List ℕ) (x : Decimal) (answer : Result Decimal DecimalError) → IsStoredDecimal x
+    → Spells text x.negative x.digits x.exponent → IsParsed text answer → answer ≡ Ok x
+text_parsed text x (Ok y) stored spells r =
+    let same = text_once (behind_mark text) y.digits x.digits y.exponent x.exponent r.is_text spells.is_text in
+    ap (λ (d : Decimal). Ok d) (same_decimal y x (r.sign ∙ sym spells.sign) same.0 same.1)
+text_parsed text x (Err (NoDecimal error)) stored spells r =
+    absurd (none-some r.fault (sym (no_plain_fault text x.digits x.exponent spells.is_text) ∙ r.is_first))
+text_parsed text x (Err TooManyDigits) stored spells r =
+    let same = text_once (behind_mark text) r.digits x.digits r.exponent x.exponent r.is_text spells.is_text in
+    let many = r.many in
+    let few = stored.digits in
+    absurd (omega (arith, same.0))
+text_parsed text x (Err ExponentOutOfRange) stored spells r =
+    let same = text_once (behind_mark text) r.digits x.digits r.exponent x.exponent r.is_text spells.is_text in
+    let low = stored.exponent_low in
+    let high = stored.exponent_high in
+    ⊎_elim (λ (l : pos (2 ^ 31) ≤ℤ r.exponent). absurd (omega (arith, ints, same.1, l)))
+    (λ (l : r.exponent ≤ℤ neg_ℤ (pos (2 ^ 31 + 1))). absurd (omega (arith, ints, same.1, l))) r.far
