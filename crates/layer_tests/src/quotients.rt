@@ -4,8 +4,8 @@ ghost use Rattle.std.specs.Prelude.{◌*◌, ◌^◌, ◌<◌, ◌≤◌};
 
 use crate::asserts::same;
 use apfloat_base::sig::{
-    divide, divide_by_words, divide_short, divide_short_by_guess, divide_short_by_words, moved_rest,
-    short_moved_rest,
+    divide, divide_by_words, divide_short, divide_short_by_guess, divide_short_by_words,
+    moved_rest, short_moved_rest,
 };
 
 /// Whether the division by words returns what the division by single digits does.
