@@ -57,7 +57,7 @@ fn guess_agrees(distance: u64, dividend: u64, divisor: u64, places: u32) -> bool
     requires short { places ≤ 61 }
 {
     let single = divide_short(dividend, divisor, places);
-    let guess = (single.whole as u64).wrapping_add(distance);
+    let guess = ((single.whole % (1 << 64)) as u64).wrapping_add(distance);
     let guessed = divide_short_by_guess(guess, dividend, divisor, places);
     guessed.whole == single.whole && guessed.loss == single.loss
 }
