@@ -4,7 +4,7 @@ use Rattle.std.proofs.Common.{◌≡◌, ◌⊎◌, inl, inr, ℕ, ◌<◌, ◌�
 use Rattle.std.specs.Char.{is_ascii}
 use Rattle.std.proofs.lemmas.Bool.{and_parts, and_from, or_cases, cond_both, eqb-true, leb-true, lt-ltb, false≢true}
 use Rattle.apfloat_base.specs.texts.Digits.{every, same, begins, is_empty, is_decimal, is_hexadecimal, number}
-use Rattle.apfloat_base.specs.texts.Specials.{Meaning, infinity, not_a_number, hexadecimal, mark_of, behind_mark, is_minus, is_infinity, is_x, radix_of, behind_prefix, behind_plus, is_digit_of, base_of, payload_of_digits, plain_payload, inside, in_parentheses, payload_of, with_payload, is_nan_name, named_nan, is_s, nan_meaning, special_meaning, special_of}
+use Rattle.apfloat_base.specs.texts.Specials.{Meaning, infinity, not_a_number, hexadecimal, mark_of, after_mark, is_minus, is_infinity, is_x, radix_of, after_prefix, after_plus, is_digit_of, base_of, payload_of_digits, plain_payload, inside, in_parentheses, payload_of, with_payload, is_nan_name, named_nan, is_s, nan_meaning, special_meaning, special_of}
 use Rattle.apfloat_base.specs.texts.Texts.{IsHexadecimal, Means}
 use Rattle.apfloat_base.specs.declared.marks.Mark.{Mark}
 use Rattle.apfloat_base.specs.declared.marks.Mark.TheVariants.{Unmarked, Plus, Minus}
@@ -86,9 +86,9 @@ of_parts count text start rest =
     subst IsAllAscii (take-append-drop count text)
     (append-every is_ascii (take count text) (drop count text) start rest)
 
-behind_mark_ascii : (text : List ℕ) → IsAllAscii (behind_mark text) → IsAllAscii text
-behind_mark_ascii [] = λ h. refl
-behind_mark_ascii (c ∷ text) =
+after_mark_ascii : (text : List ℕ) → IsAllAscii (after_mark text) → IsAllAscii text
+after_mark_ascii [] = λ h. refl
+after_mark_ascii (c ∷ text) =
     cond_both (eqb c 45 || eqb c 43) text (c ∷ text) (λ (t : List ℕ). IsAllAscii t → IsAllAscii (c ∷ text))
     (λ e h. with_first c text (is_either c 45 43 refl refl e) h) (λ e h. h)
 
@@ -108,21 +108,21 @@ digits_ascii radix digits =
     (and_parts _ _ (and_parts _ _ e).0).1)
     (λ e some. absurd (false≢true some))
 
-behind_plus_ascii : (text : List ℕ) → IsAllAscii (behind_plus text) → IsAllAscii text
-behind_plus_ascii [] = λ h. refl
-behind_plus_ascii (c ∷ text) =
+after_plus_ascii : (text : List ℕ) → IsAllAscii (after_plus text) → IsAllAscii text
+after_plus_ascii [] = λ h. refl
+after_plus_ascii (c ∷ text) =
     cond_both (eqb c 43) text (c ∷ text) (λ (t : List ℕ). IsAllAscii t → IsAllAscii (c ∷ text))
     (λ e h. with_first c text (is_one_of c 43 refl e) h) (λ e h. h)
 
-behind_prefix_ascii : (text : List ℕ) → IsAllAscii (behind_prefix (radix_of text) text) → IsAllAscii text
-behind_prefix_ascii [] = λ h. h
-behind_prefix_ascii (c ∷ []) = λ h. h
-behind_prefix_ascii (c ∷ d ∷ text) =
+after_prefix_ascii : (text : List ℕ) → IsAllAscii (after_prefix (radix_of text) text) → IsAllAscii text
+after_prefix_ascii [] = λ h. h
+after_prefix_ascii (c ∷ []) = λ h. h
+after_prefix_ascii (c ∷ d ∷ text) =
     cond_both (eqb c 48) (cond (is_x d) Sixteen Eight) Ten
-    (λ (r : Radix). IsAllAscii (behind_prefix r (c ∷ d ∷ text)) → IsAllAscii (c ∷ d ∷ text))
+    (λ (r : Radix). IsAllAscii (after_prefix r (c ∷ d ∷ text)) → IsAllAscii (c ∷ d ∷ text))
     (λ zero.
     cond_both (is_x d) Sixteen Eight
-    (λ (r : Radix). IsAllAscii (behind_prefix r (c ∷ d ∷ text)) → IsAllAscii (c ∷ d ∷ text))
+    (λ (r : Radix). IsAllAscii (after_prefix r (c ∷ d ∷ text)) → IsAllAscii (c ∷ d ∷ text))
     (λ x h.
     with_first c (d ∷ text) (is_one_of c 48 refl zero)
     (with_first d text (is_either d 120 88 refl refl x) h))
@@ -131,9 +131,9 @@ behind_prefix_ascii (c ∷ d ∷ text) =
 
 plain_ascii : (text : List ℕ) → HasAscii text (plain_payload text)
 plain_ascii text some =
-    let behind = behind_prefix (radix_of text) text in
-    behind_prefix_ascii text
-    (behind_plus_ascii behind (digits_ascii (radix_of text) (behind_plus behind) some))
+    let digits = after_prefix (radix_of text) text in
+    after_prefix_ascii text
+    (after_plus_ascii digits (digits_ascii (radix_of text) (after_plus digits) some))
 
 payload_ascii : (text : List ℕ) → HasAscii text (payload_of text)
 payload_ascii [] = λ some. refl
@@ -201,8 +201,8 @@ special_body_ascii mark body =
 
 special_ascii : (text : List ℕ) (meaning : Meaning) → special_of text ≡ Some meaning → IsAllAscii text
 special_ascii text meaning h =
-    behind_mark_ascii text
-    (special_body_ascii (mark_of text) (behind_mark text) (ap (λ (o : Option Meaning). is_some o) h))
+    after_mark_ascii text
+    (special_body_ascii (mark_of text) (after_mark text) (ap (λ (o : Option Meaning). is_some o) h))
 
 -- ---- hexadecimal numbers
 
@@ -220,8 +220,8 @@ literal_ascii : (body : List ℕ) (h f : ℕ) (e : ℤ) → IsHexadecimal body h
 literal_ascii body h f e x =
     let digits = every-append is_ascii x.whole x.fraction
     (every_weaker is_hexadecimal is_ascii hexadecimal_ascii (x.whole ++ x.fraction) x.are_digits) in
-    let exponent = behind_mark_ascii x.exponent
-    (every_weaker is_decimal is_ascii decimal_ascii (behind_mark x.exponent) x.are_exponent_digits) in
+    let exponent = after_mark_ascii x.exponent
+    (every_weaker is_decimal is_ascii decimal_ascii (after_mark x.exponent) x.are_exponent_digits) in
     let prefix = either_spelled x.prefix (codes "0x") (codes "0X") refl refl x.is_prefix in
     let letter = either_spelled x.letter (codes "p") (codes "P") refl refl x.is_letter in
     let point = point_ascii x.point x.fraction x.is_point in
@@ -237,4 +237,4 @@ meaningful_ascii text (infinity negative) means = special_ascii text (infinity n
 meaningful_ascii text (not_a_number negative signaling payload) means =
     special_ascii text (not_a_number negative signaling payload) means
 meaningful_ascii text (hexadecimal negative h f e) means =
-    behind_mark_ascii text (literal_ascii (behind_mark text) h f e means.1)
+    after_mark_ascii text (literal_ascii (after_mark text) h f e means.1)

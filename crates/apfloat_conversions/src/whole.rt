@@ -108,7 +108,7 @@ fn round_fraction(
 pub(crate) fn round_at_dot(shape: Shape, x: Unpacked, exponent: ExpInt, round: Round) -> Whole
     requires normal { IsNormal shape x }
     requires last { exponent ≡ x.exponent -ℤ pos (shape.precision - 1) }
-    requires behind { (exponent +ℤ pos 1) ≤ℤ pos 0 }
+    requires small { (exponent +ℤ pos 1) ≤ℤ pos 0 }
     ensures bound { result.magnitude ≤ 2 ^ (shape.precision - 1) }
     ensures picked { IsPicked round x.negative (quanta_of shape x) (2 ^ (format_at shape).scale)
         result }

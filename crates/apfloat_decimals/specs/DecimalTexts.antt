@@ -8,11 +8,11 @@ use Rattle.apfloat_base.specs.declared.status.StatusAnd.{StatusAnd}
 use Rattle.apfloat_base.specs.formats.Format.{Format}
 use Rattle.apfloat_base.specs.formats.Datum.{Datum}
 use Rattle.apfloat_base.specs.rounding.Flags.{Gives}
-use Rattle.apfloat_base.specs.texts.Digits.{every, begins, is_empty, run, behind_run, is_decimal, number}
-use Rattle.apfloat_base.specs.texts.Faults.{words, is_dot, begins_literal, exponent_fault, behind_prefix_fault}
+use Rattle.apfloat_base.specs.texts.Digits.{every, begins, is_empty, run, after_run, is_decimal, number}
+use Rattle.apfloat_base.specs.texts.Faults.{words, is_dot, begins_literal, exponent_fault, after_prefix_fault}
 use Rattle.apfloat_base.specs.texts.Literals.{exponent_number}
 use Rattle.apfloat_base.specs.texts.Readings.{IsReading}
-use Rattle.apfloat_base.specs.texts.Specials.{mark_of, behind_mark, is_minus, special_of}
+use Rattle.apfloat_base.specs.texts.Specials.{mark_of, after_mark, is_minus, special_of}
 use Rattle.apfloat_decimals.specs.Decimals.{IsDecimalDelivery}
 
 -- ---- the grammar
@@ -24,7 +24,7 @@ is_e c = eqb c 101 || eqb c 69
 abbrev pub IsWrittenExponent : List ℕ → ℤ → Type 0
 IsWrittenExponent [] e = e ≡ pos 0
 IsWrittenExponent (letter ∷ exponent) e =
-    IsTrue (is_e letter) × IsTrue (every is_decimal (behind_mark exponent)) × (1 ≤ length (behind_mark exponent))
+    IsTrue (is_e letter) × IsTrue (every is_decimal (after_mark exponent)) × (1 ≤ length (after_mark exponent))
     × (e ≡ exponent_number exponent)
 
 -- digits with at most one dot, and an exponent: the text of digits * 10 ^ exponent
@@ -49,12 +49,12 @@ pub record IsDecimalText (body : List ℕ) (digits : ℕ) (exponent : ℤ) : Typ
 abbrev pub fraction_in : List ℕ → List ℕ
 fraction_in rest = if begins is_dot rest then run is_decimal (drop 1 rest) else []
 
-abbrev pub behind_fraction : List ℕ → List ℕ
-behind_fraction rest = if begins is_dot rest then behind_run is_decimal (drop 1 rest) else rest
+abbrev pub after_fraction : List ℕ → List ℕ
+after_fraction rest = if begins is_dot rest then after_run is_decimal (drop 1 rest) else rest
 
 abbrev pub written_fault : List ℕ → Option Fault
 written_fault [] = None
-written_fault (letter ∷ exponent) = exponent_fault (behind_mark exponent)
+written_fault (letter ∷ exponent) = exponent_fault (after_mark exponent)
 
 -- the fault in what follows the digits on both sides of a dot; `some` says whether there is one
 abbrev pub fault_after : Bool → List ℕ → Option Fault
@@ -66,19 +66,19 @@ fault_after some tail =
 
 -- the digits of a text without a sign, on both sides of the dot
 abbrev pub all_digits : List ℕ → List ℕ
-all_digits body = run is_decimal body ++ fraction_in (behind_run is_decimal body)
+all_digits body = run is_decimal body ++ fraction_in (after_run is_decimal body)
 
 abbrev pub body_fault : List ℕ → Option Fault
-body_fault body = fault_after (not (is_empty (all_digits body))) (behind_fraction (behind_run is_decimal body))
+body_fault body = fault_after (not (is_empty (all_digits body))) (after_fraction (after_run is_decimal body))
 
 -- the first fault of a text from the left, or none if the text is a special, a hexadecimal or a decimal number
 abbrev pub decimal_fault_of : List ℕ → Option Fault
 decimal_fault_of text =
     if is_empty text then Some EmptyText
-    else (if is_empty (behind_mark text) then Some LoneMark
+    else (if is_empty (after_mark text) then Some LoneMark
     else (if is_some (special_of text) then None
-    else (if begins_literal (behind_mark text) then behind_prefix_fault (drop 2 (behind_mark text))
-    else body_fault (behind_mark text))))
+    else (if begins_literal (after_mark text) then after_prefix_fault (drop 2 (after_mark text))
+    else body_fault (after_mark text))))
 
 -- ---- results
 
@@ -93,7 +93,7 @@ pub record IsSpelled (f : Format) (mode : Round) (negative : Bool) (body : List 
 -- a decimal text is read as its number; infinities, NaNs and hexadecimal texts as `from_str_r` reads them
 abbrev pub IsDecimalReading : Format → Round → List ℕ → Datum → ℕ → Type 0
 IsDecimalReading f mode text value status =
-    IsSpelled f mode (is_minus (mark_of text)) (behind_mark text) value status ⊎ IsReading f mode text value status
+    IsSpelled f mode (is_minus (mark_of text)) (after_mark text) value status ⊎ IsReading f mode text value status
 
 -- a refusal has the words for the text's first fault
 pub record IsDecimalRefusal (text said : List ℕ) : Type 0 where

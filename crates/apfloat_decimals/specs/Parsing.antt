@@ -4,7 +4,7 @@ use Rattle.apfloat_base.specs.declared.parse_error.Fault.{Fault}
 use Rattle.apfloat_base.specs.declared.parse_error.Fault.TheVariants.{EmptyText, LoneMark}
 use Rattle.apfloat_base.specs.texts.Digits.{is_empty}
 use Rattle.apfloat_base.specs.texts.Faults.{words}
-use Rattle.apfloat_base.specs.texts.Specials.{mark_of, behind_mark, is_minus}
+use Rattle.apfloat_base.specs.texts.Specials.{mark_of, after_mark, is_minus}
 use Rattle.apfloat_decimals.specs.declared.decimal.Decimal.{Decimal}
 use Rattle.apfloat_decimals.specs.declared.parsing.DecimalError.{DecimalError}
 use Rattle.apfloat_decimals.specs.declared.parsing.DecimalError.TheVariants.{NoDecimal, TooManyDigits, ExponentOutOfRange}
@@ -13,13 +13,13 @@ use Rattle.apfloat_decimals.specs.DecimalTexts.{IsDecimalText, body_fault}
 -- the text spells digits * 10 ^ exponent with that sign
 pub record Spells (text : List ℕ) (negative : Bool) (digits : ℕ) (exponent : ℤ) : Type 0 where
   pub sign : negative ≡ is_minus (mark_of text)
-  pub is_text : IsDecimalText (behind_mark text) digits exponent
+  pub is_text : IsDecimalText (after_mark text) digits exponent
 
 -- the first fault of a text from the left, or none if the text is a decimal
 abbrev pub plain_fault_of : List ℕ → Option Fault
 plain_fault_of text =
     if is_empty text then Some EmptyText
-    else (if is_empty (behind_mark text) then Some LoneMark else body_fault (behind_mark text))
+    else (if is_empty (after_mark text) then Some LoneMark else body_fault (after_mark text))
 
 -- a refusal has the words for the first fault
 pub record IsRefusedFor (first : Option Fault) (said : List ℕ) : Type 0 where
@@ -57,5 +57,5 @@ IsParsedBody negative body (Err ExponentOutOfRange) = HasFarExponent body
 abbrev pub IsParsed : List ℕ → Result Decimal DecimalError → Type 0
 IsParsed text (Ok decimal) = Spells text decimal.negative decimal.digits decimal.exponent
 IsParsed text (Err (NoDecimal error)) = IsRefusedFor (plain_fault_of text) error.0.now
-IsParsed text (Err TooManyDigits) = HasTooManyDigits (behind_mark text)
-IsParsed text (Err ExponentOutOfRange) = HasFarExponent (behind_mark text)
+IsParsed text (Err TooManyDigits) = HasTooManyDigits (after_mark text)
+IsParsed text (Err ExponentOutOfRange) = HasFarExponent (after_mark text)

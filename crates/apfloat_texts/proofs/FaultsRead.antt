@@ -8,7 +8,7 @@ use Rattle.apfloat_base.specs.declared.status.StatusAnd.{StatusAnd}
 use Rattle.apfloat_base.specs.rounding.Bounds.{IsWithin}
 use Rattle.apfloat_base.specs.rounding.Flags.{bits_of}
 use Rattle.apfloat_base.specs.texts.Digits.{is_empty}
-use Rattle.apfloat_base.specs.texts.Faults.{behind_prefix_fault}
+use Rattle.apfloat_base.specs.texts.Faults.{after_prefix_fault}
 use Rattle.apfloat_base.specs.texts.Literals.{digits_number, exponent_number}
 use Rattle.apfloat_base.specs.texts.Readings.{IsScaledDelivery}
 use Rattle.apfloat_unpacked.specs.declared.shape.Shape.{Shape}
@@ -17,20 +17,20 @@ use Rattle.apfloat_unpacked.specs.Shapes.{format_at}
 use Rattle.apfloat_unpacked.specs.Stored.{IsStored, datum_at}
 use Rattle.apfloat_texts.specs.declared.significand.Scan.{Scan}
 use Rattle.apfloat_texts.specs.Scans.{IsScanned}
-use Rattle.apfloat_texts.specs.Saturation.{count_bound, fault_behind}
+use Rattle.apfloat_texts.specs.Saturation.{count_bound, fault_after}
 use Rattle.apfloat_texts.specs.LiteralParts.{IsLiteralRead}
 
 -- ---- the number after the prefix
 
 -- what was scanned, followed by an exponent, has no fault
 fault_free : (rest tail : List ℕ) (scan : Scan) → is_empty rest ≡ false
-    → IsScanned rest tail scan → fault_behind scan.some tail ≡ None → behind_prefix_fault rest ≡ None
+    → IsScanned rest tail scan → fault_after scan.some tail ≡ None → after_prefix_fault rest ≡ None
 fault_free rest tail scan n s f = rw (n, s.one_dot, s.empty_is, s.tail_is) f
 
 -- the number after the prefix, where no fault was found
 pub literal_read : (shape : Shape) (mode : Round) (negative : Bool) (rest tail : List ℕ) (scan : Scan)
     (answer : StatusAnd Unpacked)
-    → is_empty rest ≡ false → IsScanned rest tail scan → fault_behind scan.some tail ≡ None
+    → is_empty rest ≡ false → IsScanned rest tail scan → fault_after scan.some tail ≡ None
     → IsStored shape answer.value
     → IsScaledDelivery (format_at shape) mode negative (digits_number rest)
     ((exponent_number (drop 1 tail) -ℤ pos (4 * scan.places)) +ℤ pos (format_at shape).scale)

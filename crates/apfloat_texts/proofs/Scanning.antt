@@ -3,7 +3,7 @@ use Rattle.std.proofs.Common.{◌≡◌, ℕ, ◌+◌, Bool, true, false, not, i
 use Rattle.std.proofs.Math.Bool.{and-true}
 use Rattle.std.specs.Prelude.{Result, Ok, Err, IsErrAnd, MatchResult}
 use Rattle.apfloat_base.specs.texts.Digits.{begins}
-use Rattle.apfloat_base.specs.texts.Faults.{is_digit_or_dot, significand_of, behind_significand}
+use Rattle.apfloat_base.specs.texts.Faults.{is_digit_or_dot, significand_of, after_significand}
 use Rattle.apfloat_texts.specs.declared.significand.Scan.{Scan}
 use Rattle.apfloat_texts.specs.Scans.{IsKept, IsScan, IsScanned}
 
@@ -30,7 +30,7 @@ ended [] h = refl
 ended (c ∷ left) h = rw h refl
 
 -- a text that begins with neither a digit nor a dot is all after the significand
-unmoved : (left : List ℕ) → begins is_digit_or_dot left ≡ false → behind_significand left ≡ left
+unmoved : (left : List ℕ) → begins is_digit_or_dot left ≡ false → after_significand left ≡ left
 unmoved [] h = refl
 unmoved (c ∷ left) h = rw h refl
 

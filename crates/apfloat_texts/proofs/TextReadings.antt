@@ -8,10 +8,10 @@ use Rattle.apfloat_base.specs.declared.kinds.Round.{Round}
 use Rattle.apfloat_base.specs.declared.status.StatusAnd.{StatusAnd}
 use Rattle.apfloat_base.specs.rounding.Flags.{bits_of}
 use Rattle.apfloat_base.specs.texts.Digits.{is_empty}
-use Rattle.apfloat_base.specs.texts.Specials.{hexadecimal, mark_of, behind_mark, is_minus, special_meaning, special_of}
+use Rattle.apfloat_base.specs.texts.Specials.{hexadecimal, mark_of, after_mark, is_minus, special_meaning, special_of}
 use Rattle.apfloat_base.specs.texts.Texts.{Means}
-use Rattle.apfloat_base.specs.texts.Faults.{begins_literal, behind_prefix_fault, fault_of}
-use Rattle.apfloat_base.specs.texts.Literals.{digits_number, places_behind_dot, exponent_text, exponent_number}
+use Rattle.apfloat_base.specs.texts.Faults.{begins_literal, after_prefix_fault, fault_of}
+use Rattle.apfloat_base.specs.texts.Literals.{digits_number, places_after_dot, exponent_text, exponent_number}
 use Rattle.apfloat_base.specs.texts.Readings.{IsMeant}
 use Rattle.apfloat_base.proofs.texts.EachText.{begun_of}
 use Rattle.apfloat_base.proofs.texts.LiteralMeanings.{literal_meaning}
@@ -67,9 +67,9 @@ no_capital_special Plus rest = refl
 no_capital_special Minus rest = refl
 
 -- a text with a literal's prefix after its mark is no special value
-no_special : (text : List ℕ) → begins_literal (behind_mark text) ≡ true → special_of text ≡ None
+no_special : (text : List ℕ) → begins_literal (after_mark text) ≡ true → special_of text ≡ None
 no_special text b =
-    let body = behind_mark text in
+    let body = after_mark text in
     let rest = drop 2 body in
     let meaning = λ (t : List ℕ). special_meaning (mark_of text) t in
     ⊎_elim
@@ -78,22 +78,22 @@ no_special text b =
     (begun_of body b)
 
 -- the fault of a literal is that of what follows its prefix
-literal_fault_is : (text : List ℕ) → is_empty text ≡ false → is_empty (behind_mark text) ≡ false
-    → special_of text ≡ None → begins_literal (behind_mark text) ≡ true
-    → fault_of text ≡ behind_prefix_fault (drop 2 (behind_mark text))
+literal_fault_is : (text : List ℕ) → is_empty text ≡ false → is_empty (after_mark text) ≡ false
+    → special_of text ≡ None → begins_literal (after_mark text) ≡ true
+    → fault_of text ≡ after_prefix_fault (drop 2 (after_mark text))
 literal_fault_is text t b s l = rw (t, b, s, l) refl
 
 -- a text whose literal was read was read
 text_of_literal : (shape : Shape) (mode : Round) (text : List ℕ) (answer : StatusAnd Unpacked)
-    → begins_literal (behind_mark text) ≡ true
-    → IsLiteralRead shape mode (is_minus (mark_of text)) (drop 2 (behind_mark text)) answer
+    → begins_literal (after_mark text) ≡ true
+    → IsLiteralRead shape mode (is_minus (mark_of text)) (drop 2 (after_mark text)) answer
     → IsTextRead shape mode text answer
 text_of_literal shape mode text answer l r =
-    let rest = drop 2 (behind_mark text) in
+    let rest = drop 2 (after_mark text) in
     record {
       stored = r.stored;
       reading = record {
-        meaning = hexadecimal (is_minus (mark_of text)) (digits_number rest) (places_behind_dot rest)
+        meaning = hexadecimal (is_minus (mark_of text)) (digits_number rest) (places_after_dot rest)
             (exponent_number (exponent_text rest));
         means = literal_meaning text l r.no_fault;
         is_meant = r.delivered;
@@ -103,10 +103,10 @@ text_of_literal shape mode text answer l r =
 -- a number, or the first fault after the prefix
 pub literal_text : (shape : Shape) (mode : Round) (text rest : List ℕ) (negative : Bool)
     (result : Result (StatusAnd Unpacked) Fault)
-    → is_empty text ≡ false → is_empty (behind_mark text) ≡ false → begins_literal (behind_mark text) ≡ true
-    → rest ≡ drop 2 (behind_mark text) → negative ≡ is_minus (mark_of text)
+    → is_empty text ≡ false → is_empty (after_mark text) ≡ false → begins_literal (after_mark text) ≡ true
+    → rest ≡ drop 2 (after_mark text) → negative ≡ is_minus (mark_of text)
     → MatchResult result (λ answer. IsLiteralRead shape mode negative rest answer)
-    (λ fault. behind_prefix_fault rest ≡ Some fault)
+    (λ fault. after_prefix_fault rest ≡ Some fault)
     → MatchResult result (λ answer. IsTextRead shape mode text answer)
     (λ fault. fault_of text ≡ Some fault)
 literal_text shape mode text rest negative (Ok answer) t b l r n h =

@@ -2,8 +2,8 @@
 use Rattle.std.specs.Prelude.{◌≡◌, ◌*◌, pos, ◌+ℤ◌, ◌-ℤ◌, ℕ, Bool, List, None}
 use Rattle.apfloat_base.specs.declared.kinds.Round.{Round}
 use Rattle.apfloat_base.specs.declared.status.StatusAnd.{StatusAnd}
-use Rattle.apfloat_base.specs.texts.Faults.{behind_prefix_fault}
-use Rattle.apfloat_base.specs.texts.Literals.{digits_number, places_behind_dot, exponent_text, exponent_number}
+use Rattle.apfloat_base.specs.texts.Faults.{after_prefix_fault}
+use Rattle.apfloat_base.specs.texts.Literals.{digits_number, places_after_dot, exponent_text, exponent_number}
 use Rattle.apfloat_base.specs.texts.Readings.{IsScaledDelivery}
 use Rattle.apfloat_unpacked.specs.declared.shape.Shape.{Shape}
 use Rattle.apfloat_unpacked.specs.declared.unpacked.Unpacked.{Unpacked}
@@ -13,8 +13,8 @@ use Rattle.apfloat_unpacked.specs.Stored.{IsStored, GivesAt}
 -- it has no fault, and is rounded once
 pub record IsLiteralRead (shape : Shape) (mode : Round) (negative : Bool) (rest : List ℕ)
     (answer : StatusAnd Unpacked) : Type 0 where
-  pub no_fault : behind_prefix_fault rest ≡ None
+  pub no_fault : after_prefix_fault rest ≡ None
   pub stored : IsStored shape answer.value
   pub delivered : GivesAt shape (IsScaledDelivery (format_at shape) mode negative (digits_number rest)
-      ((exponent_number (exponent_text rest) -ℤ pos (4 * places_behind_dot rest)) +ℤ pos (format_at shape).scale))
+      ((exponent_number (exponent_text rest) -ℤ pos (4 * places_after_dot rest)) +ℤ pos (format_at shape).scale))
       answer

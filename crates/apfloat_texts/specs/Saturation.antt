@@ -36,8 +36,8 @@ pub record IsCounted (digits left : List ℕ) (counted : ℕ) : Type 0 where
   pub every_is : every is_decimal digits ≡ every is_decimal left
 
 -- the fault in what follows a significand; `some` says whether that has a digit
-abbrev pub fault_behind : Bool → List ℕ → Option Fault
-fault_behind some tail =
+abbrev pub fault_after : Bool → List ℕ → Option Fault
+fault_after some tail =
     if not (is_empty tail) && not (begins is_p tail) then Some WrongInSignificand
     else (if not some then Some NoDigits
     else tail_fault tail)

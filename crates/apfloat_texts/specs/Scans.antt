@@ -3,8 +3,8 @@ use Rattle.std.specs.Prelude.{◌≡◌, ◌⊎◌, ℕ, ◌+◌, ◌*◌, ◌^�
 use Rattle.apfloat_base.specs.declared.sig.loss.Loss.{Loss}
 use Rattle.apfloat_base.specs.declared.sig.loss.Loss.TheVariants.{ExactlyZero}
 use Rattle.apfloat_base.specs.texts.Digits.{is_empty, is_hexadecimal, digit_value}
-use Rattle.apfloat_base.specs.texts.Faults.{is_dot, significand_of, behind_significand}
-use Rattle.apfloat_base.specs.texts.Literals.{digits_number, places_behind_dot}
+use Rattle.apfloat_base.specs.texts.Faults.{is_dot, significand_of, after_significand}
+use Rattle.apfloat_base.specs.texts.Literals.{digits_number, places_after_dot}
 use Rattle.apfloat_base.specs.rounding.Standing.{StandsFor}
 use Rattle.apfloat_texts.specs.declared.significand.Digits.{Digits}
 use Rattle.apfloat_texts.specs.declared.significand.Scan.{Scan}
@@ -28,22 +28,22 @@ pub record IsScan (rest left : List ℕ) (scan : Scan) : Type 0 where
   pub read : ℕ
   pub kept : IsKept read scan.digits
   pub number_is : digits_number rest ≡ number_from read (filter is_hexadecimal (significand_of left))
-  pub places_is : places_behind_dot rest ≡ scan.places
-      + (if scan.pointed then length (significand_of left) else places_behind_dot left)
+  pub places_is : places_after_dot rest ≡ scan.places
+      + (if scan.pointed then length (significand_of left) else places_after_dot left)
   pub dots_are : length (filter is_dot (significand_of rest))
       ≡ (if scan.pointed then 1 else 0) + length (filter is_dot (significand_of left))
   pub empty_is : is_empty (filter is_hexadecimal (significand_of rest))
       ≡ (not scan.some && is_empty (filter is_hexadecimal (significand_of left)))
-  pub tail_is : behind_significand rest ≡ behind_significand left
+  pub tail_is : after_significand rest ≡ after_significand left
   pub cut_fits : scan.digits.cut + length left ≤ length rest
   pub places_fit : scan.places + length left ≤ length rest
 
 -- The significand that precedes `tail`.
 pub record IsScanned (rest tail : List ℕ) (scan : Scan) : Type 0 where
   pub kept : IsKept (digits_number rest) scan.digits
-  pub places_are : places_behind_dot rest ≡ scan.places
+  pub places_are : places_after_dot rest ≡ scan.places
   pub one_dot : ltb 1 (length (filter is_dot (significand_of rest))) ≡ false
   pub empty_is : is_empty (filter is_hexadecimal (significand_of rest)) ≡ not scan.some
-  pub tail_is : behind_significand rest ≡ tail
+  pub tail_is : after_significand rest ≡ tail
   pub cut_fits : scan.digits.cut ≤ length rest
   pub places_fit : scan.places ≤ length rest

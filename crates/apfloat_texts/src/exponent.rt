@@ -3,10 +3,10 @@
 ghost use Rattle.std.specs.Prelude.{◌≡◌, ℕ, ◌+◌, ◌*◌, ◌<◌, ℤ, pos, ◌+ℤ◌, ◌-ℤ◌, ◌≤ℤ◌, drop, Some, None, MatchResult};
 ghost use Rattle.apfloat_base.specs.rounding.Bounds.{IsWithin, text_bound};
 ghost use Rattle.apfloat_base.specs.texts.Digits.{number};
-ghost use Rattle.apfloat_base.specs.texts.Specials.{behind_mark};
+ghost use Rattle.apfloat_base.specs.texts.Specials.{after_mark};
 ghost use Rattle.apfloat_base.specs.texts.Faults.{exponent_fault};
 ghost use Rattle.apfloat_base.specs.texts.Literals.{exponent_number};
-ghost use Rattle.apfloat_texts.specs.Saturation.{IsSaturated, IsNear, count_bound, far_bound, fault_behind};
+ghost use Rattle.apfloat_texts.specs.Saturation.{IsSaturated, IsNear, count_bound, far_bound, fault_after};
 
 use crate::characters::{digit_value, is_decimal};
 use crate::mark::split_mark;
@@ -48,12 +48,12 @@ fn magnitude(digits: &[u8]) -> Result<u128, Fault>
     }
     let mut number = 0;
     let mut left = digits;
-    while let [byte, behind @ ..] = left {
+    while let [byte, tail @ ..] = left {
         if !is_decimal(*byte) {
             return Err(Fault::WrongInExponent);
         }
         number = with_digit(number, digit_value(*byte));
-        left = behind;
+        left = tail;
     }
     Ok(number)
 }
@@ -63,8 +63,8 @@ fn magnitude(digits: &[u8]) -> Result<u128, Fault>
 fn signed(text: &[u8]) -> Result<i128, Fault>
     ensures { MatchResult result (λ e. IsNear far_bound (exponent_number text.now) e
         × IsWithin count_bound e
-        × (exponent_fault (behind_mark text.now) ≡ None))
-        (λ fault. exponent_fault (behind_mark text.now) ≡ Some fault) }
+        × (exponent_fault (after_mark text.now) ≡ None))
+        (λ fault. exponent_fault (after_mark text.now) ≡ Some fault) }
 {
     let (mark, digits) = split_mark(text);
     let magnitude = magnitude(digits)? as i128;
@@ -81,8 +81,8 @@ fn signed(text: &[u8]) -> Result<i128, Fault>
 pub fn exponent_in(tail: &[u8], some: bool) -> Result<i128, Fault>
     ensures { MatchResult result (λ e. IsNear far_bound (exponent_number (drop 1 tail.now)) e
         × IsWithin count_bound e
-        × (fault_behind some tail.now ≡ None))
-        (λ fault. fault_behind some tail.now ≡ Some fault) }
+        × (fault_after some tail.now ≡ None))
+        (λ fault. fault_after some tail.now ≡ Some fault) }
 {
     match tail {
         [b'p' | b'P', exponent @ ..] if some => signed(exponent),

@@ -1,7 +1,7 @@
 //! Hexadecimal numbers, after their prefix.
 
 ghost use Rattle.std.specs.Prelude.{◌≡◌, Some, None, MatchResult};
-ghost use Rattle.apfloat_base.specs.texts.Faults.{behind_prefix_fault};
+ghost use Rattle.apfloat_base.specs.texts.Faults.{after_prefix_fault};
 ghost use Rattle.apfloat_texts.specs.LiteralParts.{IsLiteralRead};
 
 use crate::exponent::exponent_in;
@@ -21,7 +21,7 @@ pub fn read_literal(
     round: Round,
 ) -> Result<StatusAnd<Unpacked>, Fault>
     ensures { MatchResult result (λ answer. IsLiteralRead shape round negative rest.now answer)
-        (λ fault. behind_prefix_fault rest.now ≡ Some fault) }
+        (λ fault. after_prefix_fault rest.now ≡ Some fault) }
 {
     if rest.is_empty() {
         return Err(Fault::LonePrefix);

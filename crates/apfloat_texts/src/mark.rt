@@ -1,7 +1,7 @@
 //! The sign in front of a text or of an exponent.
 
 ghost use Rattle.std.specs.Prelude.{◌≡◌};
-ghost use Rattle.apfloat_base.specs.texts.Specials.{mark_of, behind_mark};
+ghost use Rattle.apfloat_base.specs.texts.Specials.{mark_of, after_mark};
 
 use apfloat_base::marks::Mark;
 
@@ -23,7 +23,7 @@ fn mark_of(text: &[u8]) -> Mark
 #[inline(always)]
 pub fn split_mark(text: &[u8]) -> (Mark, &[u8])
     ensures mark { result.0 ≡ mark_of text.now }
-    ensures behind { result.1.now ≡ behind_mark text.now }
+    ensures rest { result.1.now ≡ after_mark text.now }
 {
     let mark = mark_of(text);
     let marks = match mark {

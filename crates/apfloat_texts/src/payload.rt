@@ -1,7 +1,7 @@
 //! Payloads of NaNs.
 
 ghost use Rattle.std.specs.Prelude.{◌≡◌, ◌<◌, ◌^◌};
-ghost use Rattle.apfloat_base.specs.texts.Specials.{radix_of, behind_prefix, behind_plus, is_digit_of, payload_of_digits, plain_payload, payload_of};
+ghost use Rattle.apfloat_base.specs.texts.Specials.{radix_of, after_prefix, after_plus, is_digit_of, payload_of_digits, plain_payload, payload_of};
 ghost use Rattle.apfloat_texts.specs.Payloads.{next};
 
 use crate::characters::{digit_value, is_decimal, is_hexadecimal, is_octal};
@@ -22,7 +22,7 @@ fn is_digit_of(radix: Radix, byte: u8) -> bool
 /// The base given by the prefix, and what follows it: `0x`, or else a 0 followed by something, or else no prefix.
 fn split_radix(text: &[u8]) -> (Radix, &[u8])
     ensures radix { result.0 ≡ radix_of text.now }
-    ensures behind { result.1.now ≡ behind_prefix (radix_of text.now) text.now }
+    ensures rest { result.1.now ≡ after_prefix (radix_of text.now) text.now }
 {
     match text {
         [b'0', b'x' | b'X', digits @ ..] => (Radix::Sixteen, digits),
@@ -33,10 +33,10 @@ fn split_radix(text: &[u8]) -> (Radix, &[u8])
 
 /// The text after an optional plus.
 fn skip_plus(text: &[u8]) -> &[u8]
-    ensures { result.now ≡ behind_plus text.now }
+    ensures { result.now ≡ after_plus text.now }
 {
     match text {
-        [b'+', behind @ ..] => behind,
+        [b'+', tail @ ..] => tail,
         _ => text,
     }
 }
@@ -64,9 +64,9 @@ fn number_of(radix: Radix, digits: &[u8]) -> Option<u128>
     }
     let mut number = 0;
     let mut left = digits;
-    while let [byte, behind @ ..] = left {
+    while let [byte, tail @ ..] = left {
         number = with_digit(radix, number, *byte)?;
-        left = behind;
+        left = tail;
     }
     Some(number)
 }

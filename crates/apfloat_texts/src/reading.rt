@@ -37,7 +37,7 @@ fn special_value(shape: Shape, negative: bool, special: Special) -> Unpacked
 
 /// The text after the prefix of a hexadecimal number.
 #[inline(always)]
-fn behind_prefix(body: &[u8]) -> Option<&[u8]>
+fn after_prefix(body: &[u8]) -> Option<&[u8]>
     ensures { MatchOption result (begins_literal body.now ≡ false)
         (λ rest. (begins_literal body.now ≡ true) × (rest.now ≡ drop 2 body.now)) }
 {
@@ -60,7 +60,7 @@ fn read_bytes(shape: Shape, text: &[u8], round: Round) -> Result<StatusAnd<Unpac
     if body.is_empty() {
         return Err(Fault::LoneMark);
     }
-    if let Some(rest) = behind_prefix(body) {
+    if let Some(rest) = after_prefix(body) {
         return read_literal(shape, mark.is_minus(), rest, round);
     }
     match special_of(mark, body) {

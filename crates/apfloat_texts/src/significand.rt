@@ -3,8 +3,8 @@
 ghost use Rattle.std.specs.Prelude.{◌≡◌, ℕ, ◌+◌, ◌*◌, ◌^◌, ◌<◌, ◌≤◌, true, false, ltb, length, filter, MatchResult, IsTrue};
 ghost use Rattle.apfloat_base.specs.rounding.Standing.{StandsFor};
 ghost use Rattle.apfloat_base.specs.texts.Digits.{is_hexadecimal, digit_value};
-ghost use Rattle.apfloat_base.specs.texts.Faults.{is_dot, is_digit_or_dot, significand_of, behind_significand};
-ghost use Rattle.apfloat_base.specs.texts.Literals.{digits_number, places_behind_dot};
+ghost use Rattle.apfloat_base.specs.texts.Faults.{is_dot, is_digit_or_dot, significand_of, after_significand};
+ghost use Rattle.apfloat_base.specs.texts.Literals.{digits_number, places_after_dot};
 ghost use Rattle.apfloat_texts.specs.Scans.{IsKept, IsScan, IsScanned};
 ghost use Rattle.apfloat_base.specs.declared.parse_error.Fault.TheVariants.{SecondDot};
 
@@ -25,7 +25,7 @@ pub struct Digits {
 
 /// The loss with one more digit cut off, after others were cut off.
 #[inline(always)]
-fn loss_behind(loss: Loss, digit: u8) -> Loss
+fn loss_after(loss: Loss, digit: u8) -> Loss
     requires { digit < 16 }
     ensures { (number significand half : ℕ) → 0 < half
         → StandsFor significand loss number (2 * half)
@@ -85,7 +85,7 @@ impl Digits {
         let loss = if self.cut == 0 {
             loss_of_rest(u128::from(digit), 8, Loss::ExactlyZero)
         } else {
-            loss_behind(self.loss, digit)
+            loss_after(self.loss, digit)
         };
         Digits {
             significand: self.significand,
@@ -177,13 +177,13 @@ impl Scan {
     {
         let mut scan = self;
         let mut left = text;
-        while let [byte, behind @ ..] = left
+        while let [byte, tail @ ..] = left
             && scan.digits.significand < 1 << 124
             && is_hexadecimal(*byte)
         {
             let next = scan.with_digit(*byte);
             scan = next.remade();
-            left = behind;
+            left = tail;
         }
         (scan.remade(), left)
     }
@@ -235,15 +235,15 @@ pub fn scanned(rest: &[u8]) -> Result<(Scan, &[u8]), Fault>
         × (ltb 1 (length (filter is_dot (significand_of rest.now))) ≡ true)) }
 {
     let (mut scan, mut left) = Scan::none().with_digits(rest);
-    if let [b'.', behind @ ..] = left {
-        (scan, left) = scan.with_dot()?.with_digits(behind);
+    if let [b'.', tail @ ..] = left {
+        (scan, left) = scan.with_dot()?.with_digits(tail);
     }
-    while let [byte, behind @ ..] = left
+    while let [byte, tail @ ..] = left
         && is_digit_or_dot(*byte)
     {
         let next = scan.with(*byte)?;
         scan = next.remade();
-        left = behind;
+        left = tail;
     }
     Ok((scan, left))
 }

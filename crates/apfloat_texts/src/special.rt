@@ -40,12 +40,12 @@ fn names_infinity(mark: Mark, body: &[u8]) -> bool
 }
 
 /// The payload after the name of a NaN.
-fn payload_behind_name(text: &[u8]) -> Option<u128>
+fn payload_after_name(text: &[u8]) -> Option<u128>
     ensures { result ≡ named_payload text.now }
 {
     match text {
-        [b'n', b'a', b'n', behind @ ..] => payload(behind),
-        [b'N', b'a', b'N', behind @ ..] => payload(behind),
+        [b'n', b'a', b'n', tail @ ..] => payload(tail),
+        [b'N', b'a', b'N', tail @ ..] => payload(tail),
         _ => None,
     }
 }
@@ -57,8 +57,8 @@ fn nan(body: &[u8]) -> Option<Special>
         negative false body.now) }
 {
     match body {
-        [b's' | b'S', name @ ..] => Some(Special::Signaling(payload_behind_name(name)?)),
-        _ => Some(Special::Quiet(payload_behind_name(body)?)),
+        [b's' | b'S', name @ ..] => Some(Special::Signaling(payload_after_name(name)?)),
+        _ => Some(Special::Quiet(payload_after_name(body)?)),
     }
 }
 

@@ -297,7 +297,7 @@ fn expect_fault<R: Abort + Clock + AllocGlobal>(rt: &R, line: &str, fault: &str)
 
 /// A malformed line takes precedence over one that differs.
 #[test]
-fn goes_on_behind_bytes_that_are_no_text(rt: HostRuntime) {
+fn goes_on_after_bytes_that_are_no_text(rt: HostRuntime) {
     expect(
         &rt,
         b"\xff\nhalf int even 464\t5f41 OK\n",

@@ -43,12 +43,12 @@ digits_more : (number rest place digit : ℕ) (text : List ℕ) → place < 32 �
     → drop (32 - (place + 1)) (set text (31 - place) digit) ≡ hexadecimal_text number (place + 1)
 digits_more number rest place digit text within so_far digit_is =
     let here : 32 - (place + 1) ≡ 31 - place = omega arith in
-    let behind : 31 - place + 1 ≡ 32 - place = omega arith in
+    let step : 31 - place + 1 ≡ 32 - place = omega arith in
     let size = so_far.size in
     let inside : 31 - place < length text = omega arith in
     ap (λ n. drop n (set text (31 - place) digit)) here
     ∙ drop-set text (31 - place) digit inside
-    ∙ ap (λ n. digit ∷ drop n text) behind
+    ∙ ap (λ n. digit ∷ drop n text) step
     ∙ ap (λ l. digit ∷ l) so_far.digits
     ∙ ap (λ d. d ∷ hexadecimal_text number place) (digit_is ∙ ap (λ n. hexadecimal_digit (n % 16)) so_far.rest_is)
     ∙ sym (text_more number place)
@@ -68,11 +68,11 @@ unfolding hexadecimal_text
 length-text number zero = refl
 length-text number (suc digits) = ap suc (length-text number digits)
 
--- the last digits are what stands behind the others
+-- the last digits are what follows the others
 pub last_digits : (number digits : ℕ) (text : List ℕ) → digits ≤ 32
     → drop (32 - digits) text ≡ hexadecimal_text number digits
     → take (32 - (32 - digits)) (drop (32 - digits) text) ≡ hexadecimal_text number digits
-last_digits number digits text within behind =
+last_digits number digits text within last =
     let size = length-text number digits in
     let whole : length (hexadecimal_text number digits) ≤ 32 - (32 - digits) = omega arith in
-    ap (take (32 - (32 - digits))) behind ∙ take_all _ (hexadecimal_text number digits) whole
+    ap (take (32 - (32 - digits))) last ∙ take_all _ (hexadecimal_text number digits) whole

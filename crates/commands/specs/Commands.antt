@@ -60,8 +60,8 @@ has kind Text = true
 -- ---- operands
 
 -- 1 to 32 hexadecimal digits, after 0x or without it, of a number below 2 ^ width
-abbrev pub behind_0x : List ℕ → List ℕ
-behind_0x word = if same (take 2 word) (codes "0x") then drop 2 word else word
+abbrev pub after_0x : List ℕ → List ℕ
+after_0x word = if same (take 2 word) (codes "0x") then drop 2 word else word
 
 abbrev pub are_bits : ℕ → List ℕ → Bool
 are_bits width digits =
@@ -72,7 +72,7 @@ abbrev pub bits_of_digits : ℕ → List ℕ → Option ℕ
 bits_of_digits width digits = if are_bits width digits then Some (number 16 digits) else None
 
 abbrev pub bits_of_word : ℕ → List ℕ → Option ℕ
-bits_of_word width word = bits_of_digits width (behind_0x word)
+bits_of_word width word = bits_of_digits width (after_0x word)
 
 -- one or more digits of a number below 2 ^ 128
 abbrev pub is_number : Radix → List ℕ → Bool

@@ -32,13 +32,13 @@ pub read_more : (bytes : List ℕ) (number byte place : ℕ) → place < length 
     → IsReadDown bytes (number * 256 + byte) (place + 1)
 read_more bytes number byte place within so_far is small =
     let here : length bytes - (place + 1) ≡ length bytes - 1 - place = omega arith in
-    let behind : length bytes - 1 - place + 1 ≡ length bytes - place = omega arith in
+    let step : length bytes - 1 - place + 1 ≡ length bytes - place = omega arith in
     let inside : length bytes - 1 - place < length bytes = omega arith in
     let split : drop (length bytes - (place + 1)) bytes ≡ byte ∷ drop (length bytes - place) bytes =
     ap (λ n. drop n bytes) here
     ∙ drop_more bytes (length bytes - 1 - place) 0 inside
     ∙ ap (λ b. b ∷ drop (length bytes - 1 - place + 1) bytes) (sym is)
-    ∙ ap (λ n. byte ∷ drop n bytes) behind in
+    ∙ ap (λ n. byte ∷ drop n bytes) step in
     let told : number_of (drop (length bytes - (place + 1)) bytes)
     ≡ byte + 256 * number_of (drop (length bytes - place) bytes) =
     ap number_of split in

@@ -4,7 +4,7 @@ use Rattle.std.proofs.Common.{◌≡◌, ◌⊎◌, ℕ, true, false, cond, refl
 use Rattle.std.specs.Prelude.{slice_get}
 use Rattle.std.proofs.lemmas.Bool.{and_parts, and_from, cases_Bool, false≢true}
 use Rattle.std.proofs.lemmas.List.{take_all}
-use Rattle.apfloat_base.specs.texts.Digits.{every, begins, run, behind_run, is_empty}
+use Rattle.apfloat_base.specs.texts.Digits.{every, begins, run, after_run, is_empty}
 
 -- ---- members that pass
 
@@ -45,21 +45,21 @@ run_through test (c ∷ xs) rest h b =
     rw p.0 (ap (λ (t : List ℕ). c ∷ t) (run_through test xs rest p.1 b))
 
 -- what follows the run is that second list
-pub behind_run_through : (test : ℕ → Bool) (xs rest : List ℕ) → every test xs ≡ true → begins test rest ≡ false
-    → behind_run test (xs ++ rest) ≡ rest
-behind_run_through test [] [] h b = refl
-behind_run_through test [] (c ∷ rest) h b = rw b refl
-behind_run_through test (c ∷ xs) rest h b =
+pub after_run_through : (test : ℕ → Bool) (xs rest : List ℕ) → every test xs ≡ true → begins test rest ≡ false
+    → after_run test (xs ++ rest) ≡ rest
+after_run_through test [] [] h b = refl
+after_run_through test [] (c ∷ rest) h b = rw b refl
+after_run_through test (c ∷ xs) rest h b =
     let p = and_parts (test c) (every test xs) h in
-    rw p.0 (behind_run_through test xs rest p.1 b)
+    rw p.0 (after_run_through test xs rest p.1 b)
 
 -- a list is its run and what follows it
-pub split_run : (test : ℕ → Bool) (xs : List ℕ) → xs ≡ run test xs ++ behind_run test xs
+pub split_run : (test : ℕ → Bool) (xs : List ℕ) → xs ≡ run test xs ++ after_run test xs
 split_run test [] = refl
 split_run test (c ∷ xs) = go (test c) (split_run test xs)
   where
-    go : (passes : Bool) → xs ≡ run test xs ++ behind_run test xs
-        → c ∷ xs ≡ cond passes (c ∷ run test xs) [] ++ cond passes (behind_run test xs) (c ∷ xs)
+    go : (passes : Bool) → xs ≡ run test xs ++ after_run test xs
+        → c ∷ xs ≡ cond passes (c ∷ run test xs) [] ++ cond passes (after_run test xs) (c ∷ xs)
     go true e = ap (λ (t : List ℕ). c ∷ t) e
     go false e = refl
 
@@ -74,24 +74,24 @@ run_passes test (c ∷ xs) = go (cases_Bool (test c)) (run_passes test xs)
     go (inr e) h = rw e refl
 
 -- and what follows it does not begin with an item that passes
-pub run_stops : (test : ℕ → Bool) (xs : List ℕ) → begins test (behind_run test xs) ≡ false
+pub run_stops : (test : ℕ → Bool) (xs : List ℕ) → begins test (after_run test xs) ≡ false
 run_stops test [] = refl
 run_stops test (c ∷ xs) = go (cases_Bool (test c)) (run_stops test xs)
   where
-    go : (test c ≡ true) ⊎ (test c ≡ false) → begins test (behind_run test xs) ≡ false
-        → begins test (cond (test c) (behind_run test xs) (c ∷ xs)) ≡ false
+    go : (test c ≡ true) ⊎ (test c ≡ false) → begins test (after_run test xs) ≡ false
+        → begins test (cond (test c) (after_run test xs) (c ∷ xs)) ≡ false
     go (inl e) h = rw e h
     go (inr e) h = rw e e
 
 -- what follows a run passes each test that the whole list passes
-pub behind_passes : (test other : ℕ → Bool) (xs : List ℕ) → every other xs ≡ true
-    → every other (behind_run test xs) ≡ true
-behind_passes test other [] h = refl
-behind_passes test other (c ∷ xs) h =
-    go (test c) (behind_passes test other xs (and_parts (other c) (every other xs) h).1)
+pub after_passes : (test other : ℕ → Bool) (xs : List ℕ) → every other xs ≡ true
+    → every other (after_run test xs) ≡ true
+after_passes test other [] h = refl
+after_passes test other (c ∷ xs) h =
+    go (test c) (after_passes test other xs (and_parts (other c) (every other xs) h).1)
   where
-    go : (passes : Bool) → every other (behind_run test xs) ≡ true
-        → every other (cond passes (behind_run test xs) (c ∷ xs)) ≡ true
+    go : (passes : Bool) → every other (after_run test xs) ≡ true
+        → every other (cond passes (after_run test xs) (c ∷ xs)) ≡ true
     go true g = g
     go false g = h
 

@@ -10,7 +10,7 @@ use Rattle.apfloat_base.specs.bits.Layout.{IsEncodedBy}
 use Rattle.apfloat_base.specs.formats.Lawful.{Constants, format_with, layout_with}
 use Rattle.apfloat_base.specs.formats.Formats.{half_constants, e4m3fn_constants, e4m3fnuz_constants}
 use Rattle.apfloat_base.specs.texts.Digits.{every, is_decimal, is_hexadecimal, number}
-use Rattle.apfloat_base.specs.texts.Specials.{not_a_number, hexadecimal, mark_of, behind_mark}
+use Rattle.apfloat_base.specs.texts.Specials.{not_a_number, hexadecimal, mark_of, after_mark}
 use Rattle.apfloat_base.specs.texts.Texts.{marked, IsHexadecimal}
 use Rattle.apfloat_base.specs.texts.Readings.{IsReading, IsRefusal}
 use Rattle.apfloat_base.proofs.rows.RowsIn.{half, single, e4m3fnuz, in_half, in_single, in_e4m3fnuz, answer, rounded}
@@ -54,9 +54,9 @@ nan_of_e4m3fnuz = record { below = lit< tt; canonical = refl; is = refl }
 with_dot : {body : List ℕ} (whole fraction exponent : List ℕ)
     → body ≡ codes "0x" ++ (whole ++ (codes "." ++ (fraction ++ (codes "p" ++ exponent))))
     → IsTrue (every is_hexadecimal (whole ++ fraction)) → 1 ≤ length (whole ++ fraction)
-    → IsTrue (every is_decimal (behind_mark exponent)) → 1 ≤ length (behind_mark exponent)
+    → IsTrue (every is_decimal (after_mark exponent)) → 1 ≤ length (after_mark exponent)
     → IsHexadecimal body (number 16 (whole ++ fraction)) (length fraction)
-    (marked (mark_of exponent) (number 10 (behind_mark exponent)))
+    (marked (mark_of exponent) (number 10 (after_mark exponent)))
 with_dot whole fraction exponent spelled digits some exponent_digits some_exponent = record {
   prefix = codes "0x";
   whole = whole;
@@ -80,8 +80,8 @@ with_dot whole fraction exponent spelled digits some exponent_digits some_expone
 -- and so is a body with these parts and no dot
 without_dot : {body : List ℕ} (whole exponent : List ℕ) → body ≡ codes "0x" ++ (whole ++ (codes "p" ++ exponent))
     → IsTrue (every is_hexadecimal (whole ++ [])) → 1 ≤ length (whole ++ [])
-    → IsTrue (every is_decimal (behind_mark exponent)) → 1 ≤ length (behind_mark exponent)
-    → IsHexadecimal body (number 16 (whole ++ [])) 0 (marked (mark_of exponent) (number 10 (behind_mark exponent)))
+    → IsTrue (every is_decimal (after_mark exponent)) → 1 ≤ length (after_mark exponent)
+    → IsHexadecimal body (number 16 (whole ++ [])) 0 (marked (mark_of exponent) (number 10 (after_mark exponent)))
 without_dot whole exponent spelled digits some exponent_digits some_exponent = record {
   prefix = codes "0x";
   whole = whole;

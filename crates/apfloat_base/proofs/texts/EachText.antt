@@ -8,12 +8,12 @@ use Rattle.std.specs.Bool.{⊤}
 use Rattle.std.proofs.lemmas.Bool.{and_parts, and_from, or_cases, eqb-true, ltb-false, false≢true, cases_Bool, cond_both, not-false}
 use Rattle.std.proofs.lemmas.List.Elements.{filter-append}
 use Rattle.std.proofs.lemmas.Option.{none-some}
-use Rattle.apfloat_base.specs.texts.Digits.{every, begins, run, behind_run, is_empty, is_decimal, is_hexadecimal, number}
-use Rattle.apfloat_base.specs.texts.Specials.{Meaning, infinity, not_a_number, hexadecimal, mark_of, behind_mark, is_minus, is_infinity, is_s, payload_of, with_payload, is_nan_name, named_nan, nan_meaning, special_meaning, special_of}
+use Rattle.apfloat_base.specs.texts.Digits.{every, begins, run, after_run, is_empty, is_decimal, is_hexadecimal, number}
+use Rattle.apfloat_base.specs.texts.Specials.{Meaning, infinity, not_a_number, hexadecimal, mark_of, after_mark, is_minus, is_infinity, is_s, payload_of, with_payload, is_nan_name, named_nan, nan_meaning, special_meaning, special_of}
 use Rattle.apfloat_base.specs.texts.Texts.{IsHexadecimal, Means, marked}
-use Rattle.apfloat_base.specs.texts.Faults.{is_dot, is_p, is_digit_or_dot, significand_of, behind_significand, begins_literal, tail_fault, literal_fault, behind_prefix_fault, fault_of}
+use Rattle.apfloat_base.specs.texts.Faults.{is_dot, is_p, is_digit_or_dot, significand_of, after_significand, begins_literal, tail_fault, literal_fault, after_prefix_fault, fault_of}
 use Rattle.apfloat_base.proofs.texts.OneMeaning.{digit_is_no_dot, significand_parts}
-use Rattle.apfloat_base.proofs.general.ListLaws.{append-every, filter_none, regroup, split_run, run_passes, run_stops, behind_passes, some_length}
+use Rattle.apfloat_base.proofs.general.ListLaws.{append-every, filter_none, regroup, split_run, run_passes, run_stops, after_passes, some_length}
 use Rattle.apfloat_base.proofs.general.Choices.{left_none}
 
 -- ---- no special text is a hexadecimal one
@@ -128,13 +128,13 @@ pointed : (significand : List ℕ) → every is_digit_or_dot significand ≡ tru
     → ltb 1 (length (filter is_dot significand)) ≡ false → IsPointed significand
 pointed significand p d =
     let whole = run is_hexadecimal significand in
-    let rest = behind_run is_hexadecimal significand in
+    let rest = after_run is_hexadecimal significand in
     let e = split_run is_hexadecimal significand in
     let w = run_passes is_hexadecimal significand in
     let f : filter is_dot significand ≡ filter is_dot rest =
     ap (filter is_dot) e ∙ filter-append is_dot whole rest ∙
     ap (λ (t : List ℕ). t ++ filter is_dot rest) (filter_none is_hexadecimal is_dot digit_is_no_dot whole w) in
-    pointed_by significand whole rest e w (behind_passes is_hexadecimal is_digit_or_dot significand p)
+    pointed_by significand whole rest e w (after_passes is_hexadecimal is_digit_or_dot significand p)
     (run_stops is_hexadecimal significand) (rw f at d)
 
 -- ---- the literal
@@ -144,8 +144,8 @@ record IsLetter (tail : List ℕ) : Type 0 where
   exponent : List ℕ
   spelled : tail ≡ letter ++ exponent
   is_letter : (letter ≡ codes "p") ⊎ (letter ≡ codes "P")
-  digits : every is_decimal (behind_mark exponent) ≡ true
-  some_digit : 1 ≤ length (behind_mark exponent)
+  digits : every is_decimal (after_mark exponent) ≡ true
+  some_digit : 1 ≤ length (after_mark exponent)
 
 -- a tail without a fault is a letter, and an exponent with digits
 letter_of : (tail : List ℕ) → (not (is_empty tail) && not (begins is_p tail)) ≡ false → tail_fault tail ≡ None
@@ -153,9 +153,9 @@ letter_of : (tail : List ℕ) → (not (is_empty tail) && not (begins is_p tail)
 letter_of [] b d = absurd (none-some _ (sym d))
 letter_of (x ∷ exponent) b d =
     let every_one =
-    left_none (not (every is_decimal (behind_mark exponent))) WrongInExponent
-    (cond (is_empty (behind_mark exponent)) (Some NoExponentDigits) None) d in
-    let some_one = left_none (is_empty (behind_mark exponent)) NoExponentDigits None every_one.1 in
+    left_none (not (every is_decimal (after_mark exponent))) WrongInExponent
+    (cond (is_empty (after_mark exponent)) (Some NoExponentDigits) None) d in
+    let some_one = left_none (is_empty (after_mark exponent)) NoExponentDigits None every_one.1 in
     record {
       letter = x ∷ [];
       exponent = exponent;
@@ -165,8 +165,8 @@ letter_of (x ∷ exponent) b d =
           (λ (p : eqb x 112 ≡ true). inl (ap (λ (c : ℕ). c ∷ []) (eqb-true x 112 p)))
           (λ (p : eqb x 80 ≡ true). inr (ap (λ (c : ℕ). c ∷ []) (eqb-true x 80 p)))
           (or_cases (eqb x 112) (eqb x 80) (not-false (is_p x) b));
-      digits = not-false (every is_decimal (behind_mark exponent)) every_one.0;
-      some_digit = some_length (behind_mark exponent) some_one.0;
+      digits = not-false (every is_decimal (after_mark exponent)) every_one.0;
+      some_digit = some_length (after_mark exponent) some_one.0;
     }
 
 pub record IsAnyHexadecimal (body : List ℕ) : Type 0 where
@@ -184,10 +184,10 @@ rejoined rest significand tail whole point fraction letter exponent a b c =
 
 -- what follows the prefix and has no fault is a hexadecimal number
 pub literal_from : (body prefix rest : List ℕ) → body ≡ prefix ++ rest
-    → (prefix ≡ codes "0x") ⊎ (prefix ≡ codes "0X") → behind_prefix_fault rest ≡ None → IsAnyHexadecimal body
+    → (prefix ≡ codes "0x") ⊎ (prefix ≡ codes "0X") → after_prefix_fault rest ≡ None → IsAnyHexadecimal body
 literal_from body prefix rest begun is_prefix h =
     let significand = significand_of rest in
-    let tail = behind_significand rest in
+    let tail = after_significand rest in
     let a = left_none (is_empty rest) LonePrefix (literal_fault significand tail) h in
     let b = left_none (ltb 1 (length (filter is_dot significand))) SecondDot
     (cond (not (is_empty tail) && not (begins is_p tail)) (Some WrongInSignificand)
@@ -203,7 +203,7 @@ literal_from body prefix rest begun is_prefix h =
     record {
       h = number 16 (p.whole ++ p.fraction);
       f = length p.fraction;
-      e = marked (mark_of x.exponent) (number 10 (behind_mark x.exponent));
+      e = marked (mark_of x.exponent) (number 10 (after_mark x.exponent));
       is = record {
         prefix = prefix;
         whole = p.whole;
@@ -251,26 +251,26 @@ begun_of (c ∷ d ∷ rest) h =
     (or_cases (eqb c 48 && (eqb d 120 && true)) (eqb c 48 && (eqb d 88 && true)) h)
 
 -- a text whose body is a hexadecimal number has a meaning
-means_hexadecimal : (text : List ℕ) → IsAnyHexadecimal (behind_mark text) → (meaning : Meaning) × Means text meaning
+means_hexadecimal : (text : List ℕ) → IsAnyHexadecimal (after_mark text) → (meaning : Meaning) × Means text meaning
 means_hexadecimal text x = (hexadecimal (is_minus (mark_of text)) x.h x.f x.e, (refl, x.is))
 
 -- a text that begins like a literal and has no fault has a meaning
-body_means : (text body : List ℕ) → behind_mark text ≡ body → begins_literal body ≡ true
-    → behind_prefix_fault (drop 2 body) ≡ None → (meaning : Meaning) × Means text meaning
+body_means : (text body : List ℕ) → after_mark text ≡ body → begins_literal body ≡ true
+    → after_prefix_fault (drop 2 body) ≡ None → (meaning : Meaning) × Means text meaning
 body_means text body p b h =
     ⊎_elim
     (λ (q : body ≡ codes "0x" ++ drop 2 body).
-    means_hexadecimal text (literal_from (behind_mark text) (codes "0x") (drop 2 body) (p ∙ q) (inl refl) h))
+    means_hexadecimal text (literal_from (after_mark text) (codes "0x") (drop 2 body) (p ∙ q) (inl refl) h))
     (λ (q : body ≡ codes "0X" ++ drop 2 body).
-    means_hexadecimal text (literal_from (behind_mark text) (codes "0X") (drop 2 body) (p ∙ q) (inr refl) h))
+    means_hexadecimal text (literal_from (after_mark text) (codes "0X") (drop 2 body) (p ∙ q) (inr refl) h))
     (begun_of body b)
 
 -- a nonempty text without a fault has a meaning
 text_means : (text : List ℕ) → is_empty text ≡ false → fault_of text ≡ None → (meaning : Meaning) × Means text meaning
 text_means text n h =
-    let body = behind_mark text in
+    let body = after_mark text in
     let special = special_of text in
-    let last = cond (not (begins_literal body)) (Some NoLiteral) (behind_prefix_fault (drop 2 body)) in
+    let last = cond (not (begins_literal body)) (Some NoLiteral) (after_prefix_fault (drop 2 body)) in
     let a = left_none (is_empty text) EmptyText
     (cond (is_empty body) (Some LoneMark) (cond (is_some special) None last)) h in
     let b = left_none (is_empty body) LoneMark (cond (is_some special) None last) a.1 in
@@ -278,7 +278,7 @@ text_means text n h =
     (λ (s : is_some special ≡ true). means_special text special (special_not (mark_of text) body) refl s)
     (λ (s : is_some special ≡ false).
     let c : last ≡ None = rw s at b.1 in
-    let d = left_none (not (begins_literal body)) NoLiteral (behind_prefix_fault (drop 2 body)) c in
+    let d = left_none (not (begins_literal body)) NoLiteral (after_prefix_fault (drop 2 body)) c in
     body_means text body refl (not-false (begins_literal body) d.0) d.1)
     (cases_Bool (is_some special))
 

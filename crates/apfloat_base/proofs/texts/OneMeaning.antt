@@ -8,12 +8,12 @@ use Rattle.std.proofs.Common.{◌≡◌, ◌⊎◌, ℕ, ◌≤◌, true, false,
 use Rattle.std.proofs.lemmas.Bool.{ne_eqb, false≢true, or_left}
 use Rattle.std.proofs.lemmas.List.Elements.{filter-append}
 use Rattle.std.proofs.lemmas.Option.{none-some, same_Some}
-use Rattle.apfloat_base.specs.texts.Digits.{every, behind_run, is_empty, is_decimal, is_hexadecimal, number}
-use Rattle.apfloat_base.specs.texts.Specials.{Meaning, infinity, not_a_number, hexadecimal, mark_of, behind_mark, special_meaning, special_of}
-use Rattle.apfloat_base.specs.texts.Literals.{digits_number, places_behind_dot, exponent_text, exponent_number}
+use Rattle.apfloat_base.specs.texts.Digits.{every, after_run, is_empty, is_decimal, is_hexadecimal, number}
+use Rattle.apfloat_base.specs.texts.Specials.{Meaning, infinity, not_a_number, hexadecimal, mark_of, after_mark, special_meaning, special_of}
+use Rattle.apfloat_base.specs.texts.Literals.{digits_number, places_after_dot, exponent_text, exponent_number}
 use Rattle.apfloat_base.specs.texts.Texts.{IsHexadecimal, Means, marked}
-use Rattle.apfloat_base.specs.texts.Faults.{is_dot, is_p, is_digit_or_dot, begins_literal, exponent_fault, behind_prefix_fault, fault_of}
-use Rattle.apfloat_base.proofs.general.ListLaws.{every-append, append-every, every_weaker, run_through, behind_run_through, filter_all, filter_none, regroup, not_empty, not_empty_through}
+use Rattle.apfloat_base.specs.texts.Faults.{is_dot, is_p, is_digit_or_dot, begins_literal, exponent_fault, after_prefix_fault, fault_of}
+use Rattle.apfloat_base.proofs.general.ListLaws.{every-append, append-every, every_weaker, run_through, after_run_through, filter_all, filter_none, regroup, not_empty, not_empty_through}
 
 -- ---- digits
 
@@ -32,7 +32,7 @@ pub record IsSignificand (whole point fraction : List ℕ) : Type 0 where
   pub passes : every is_digit_or_dot (whole ++ (point ++ fraction)) ≡ true
   pub digits : filter is_hexadecimal (whole ++ (point ++ fraction)) ≡ whole ++ fraction
   pub dots : filter is_dot (whole ++ (point ++ fraction)) ≡ point
-  pub places : length (drop 1 (behind_run is_hexadecimal (whole ++ (point ++ fraction)))) ≡ length fraction
+  pub places : length (drop 1 (after_run is_hexadecimal (whole ++ (point ++ fraction)))) ≡ length fraction
 
 -- digits, at most one dot, and digits: what the model reads of them
 pub significand_parts : (whole point fraction : List ℕ) → (point ≡ codes ".") ⊎ ((point ≡ []) × (fraction ≡ []))
@@ -48,7 +48,7 @@ significand_parts whole point fraction (inl e) w f =
         filter_none is_hexadecimal is_dot digit_is_no_dot whole w,
       )
           (ap (λ (t : List ℕ). 46 ∷ t) (filter_none is_hexadecimal is_dot digit_is_no_dot fraction f));
-      places = rw (behind_run_through is_hexadecimal whole (46 ∷ fraction) w refl) refl;
+      places = rw (after_run_through is_hexadecimal whole (46 ∷ fraction) w refl) refl;
     })
 significand_parts whole point fraction (inr e) w f =
     let l = every_weaker is_hexadecimal is_digit_or_dot digit_is_digit_or_dot in
@@ -56,7 +56,7 @@ significand_parts whole point fraction (inr e) w f =
       passes = append-every is_digit_or_dot whole [] (l whole w) refl;
       digits = rw (filter-append is_hexadecimal whole [], filter_all is_hexadecimal whole w) refl;
       dots = rw (filter-append is_dot whole [], filter_none is_hexadecimal is_dot digit_is_no_dot whole w) refl;
-      places = rw (behind_run_through is_hexadecimal whole [] w refl) refl;
+      places = rw (after_run_through is_hexadecimal whole [] w refl) refl;
     })
 
 -- such a significand has no second dot
@@ -68,18 +68,18 @@ point_short point fraction (inr e) = rw e.0 refl
 -- what follows the prefix has no fault, and these digits, places and exponent
 pub record IsLiteral (rest : List ℕ) (h f : ℕ) (e : ℤ) : Type 0 where
   pub h_is : h ≡ digits_number rest
-  pub f_is : f ≡ places_behind_dot rest
+  pub f_is : f ≡ places_after_dot rest
   pub e_is : e ≡ exponent_number (exponent_text rest)
-  pub no_fault : behind_prefix_fault rest ≡ None
+  pub no_fault : after_prefix_fault rest ≡ None
 
 -- an exponent: a mark or none, and at least one digit
 record IsExponent (exponent : List ℕ) : Type 0 where
-  digits : every is_decimal (behind_mark exponent) ≡ true
-  some_digit : 1 ≤ length (behind_mark exponent)
+  digits : every is_decimal (after_mark exponent) ≡ true
+  some_digit : 1 ≤ length (after_mark exponent)
 
 -- such an exponent has no fault
-no_exponent_fault : (exponent : List ℕ) → IsExponent exponent → exponent_fault (behind_mark exponent) ≡ None
-no_exponent_fault exponent x = rw (x.digits, not_empty (behind_mark exponent) x.some_digit) refl
+no_exponent_fault : (exponent : List ℕ) → IsExponent exponent → exponent_fault (after_mark exponent) ≡ None
+no_exponent_fault exponent x = rw (x.digits, not_empty (after_mark exponent) x.some_digit) refl
 
 -- reading a literal gives its parts back, with the exponent after a p
 literal_parts : (whole point fraction exponent : List ℕ) (c : ℕ) → is_p c ≡ true → is_digit_or_dot c ≡ false
@@ -87,12 +87,12 @@ literal_parts : (whole point fraction exponent : List ℕ) (c : ℕ) → is_p c 
     → 1 ≤ length (whole ++ fraction)
     → IsExponent exponent
     → IsLiteral (whole ++ (point ++ (fraction ++ (c ∷ exponent)))) (number 16 (whole ++ fraction)) (length fraction)
-    (marked (mark_of exponent) (number 10 (behind_mark exponent)))
+    (marked (mark_of exponent) (number 10 (after_mark exponent)))
 literal_parts whole point fraction exponent c letter stops is_point digits some x =
     let w = every-append is_hexadecimal whole fraction digits in
     let s = significand_parts whole point fraction is_point w.0 w.1 in
     let a = run_through is_digit_or_dot (whole ++ (point ++ fraction)) (c ∷ exponent) s.passes stops in
-    let b = behind_run_through is_digit_or_dot (whole ++ (point ++ fraction)) (c ∷ exponent) s.passes stops in
+    let b = after_run_through is_digit_or_dot (whole ++ (point ++ fraction)) (c ∷ exponent) s.passes stops in
     rw (regroup whole point fraction (c ∷ exponent)) (record {
       h_is = rw (a, s.digits) refl;
       f_is = rw (a, s.places) refl;
@@ -116,7 +116,7 @@ literal_with : (whole point fraction letter exponent : List ℕ) → (letter ≡
     → 1 ≤ length (whole ++ fraction)
     → IsExponent exponent
     → IsLiteral (whole ++ (point ++ (fraction ++ (letter ++ exponent)))) (number 16 (whole ++ fraction))
-    (length fraction) (marked (mark_of exponent) (number 10 (behind_mark exponent)))
+    (length fraction) (marked (mark_of exponent) (number 10 (after_mark exponent)))
 literal_with whole point fraction letter exponent (inl p) is_point digits some x =
     rw p (literal_parts whole point fraction exponent 112 refl refl is_point digits some x)
 literal_with whole point fraction letter exponent (inr p) is_point digits some x =
@@ -148,7 +148,7 @@ body_of body h f e x =
           x.is_prefix x.spelled;
       literal = same_literal (x.whole ++ (x.point ++ (x.fraction ++ (x.letter ++ x.exponent))))
           (number 16 (x.whole ++ x.fraction)) (length x.fraction) h f
-          (marked (mark_of x.exponent) (number 10 (behind_mark x.exponent))) e x.h_is x.f_is x.e_is
+          (marked (mark_of x.exponent) (number 10 (after_mark x.exponent))) e x.h_is x.f_is x.e_is
           (literal_with x.whole x.point x.fraction x.letter x.exponent x.is_letter x.is_point x.are_digits
           x.has_digits
           (record { digits = x.are_exponent_digits; some_digit = x.has_exponent_digits }));
@@ -162,10 +162,10 @@ fault_by empty mark body =
     (cond (is_empty body) (Some LoneMark)
     (cond (is_some (special_meaning mark body)) None
     (cond (not (begins_literal body)) (Some NoLiteral)
-    (behind_prefix_fault (drop 2 body)))))
+    (after_prefix_fault (drop 2 body)))))
 
 -- the fault of a text, from its mark and what follows it
-fault_at : (text body : List ℕ) → behind_mark text ≡ body → is_empty body ≡ false
+fault_at : (text body : List ℕ) → after_mark text ≡ body → is_empty body ≡ false
     → fault_of text ≡ fault_by false (mark_of text) body
 fault_at [] body p h = absurd (false≢true (sym (rw (← p) at h)))
 fault_at (c ∷ text) body p h = ap (λ (b : List ℕ). fault_by false (mark_of (c ∷ text)) b) p
@@ -177,25 +177,25 @@ no_special Plus d rest = refl
 no_special Minus d rest = refl
 
 -- after the prefix `0x`, the fault is that of the literal
-fault_small : (mark : Mark) (rest : List ℕ) → fault_by false mark (48 ∷ 120 ∷ rest) ≡ behind_prefix_fault rest
+fault_small : (mark : Mark) (rest : List ℕ) → fault_by false mark (48 ∷ 120 ∷ rest) ≡ after_prefix_fault rest
 fault_small Unmarked rest = refl
 fault_small Plus rest = refl
 fault_small Minus rest = refl
 
 -- and after `0X` too
-fault_capital : (mark : Mark) (rest : List ℕ) → fault_by false mark (48 ∷ 88 ∷ rest) ≡ behind_prefix_fault rest
+fault_capital : (mark : Mark) (rest : List ℕ) → fault_by false mark (48 ∷ 88 ∷ rest) ≡ after_prefix_fault rest
 fault_capital Unmarked rest = refl
 fault_capital Plus rest = refl
 fault_capital Minus rest = refl
 
 -- a text with a prefix has the fault of its literal
-begun_fault : (text rest : List ℕ) → (behind_mark text ≡ 48 ∷ 120 ∷ rest) ⊎ (behind_mark text ≡ 48 ∷ 88 ∷ rest)
-    → fault_of text ≡ behind_prefix_fault rest
+begun_fault : (text rest : List ℕ) → (after_mark text ≡ 48 ∷ 120 ∷ rest) ⊎ (after_mark text ≡ 48 ∷ 88 ∷ rest)
+    → fault_of text ≡ after_prefix_fault rest
 begun_fault text rest (inl p) = fault_at text (48 ∷ 120 ∷ rest) p refl ∙ fault_small (mark_of text) rest
 begun_fault text rest (inr p) = fault_at text (48 ∷ 88 ∷ rest) p refl ∙ fault_capital (mark_of text) rest
 
 -- and is not special
-begun_special : (text rest : List ℕ) → (behind_mark text ≡ 48 ∷ 120 ∷ rest) ⊎ (behind_mark text ≡ 48 ∷ 88 ∷ rest)
+begun_special : (text rest : List ℕ) → (after_mark text ≡ 48 ∷ 120 ∷ rest) ⊎ (after_mark text ≡ 48 ∷ 88 ∷ rest)
     → special_of text ≡ None
 begun_special text rest (inl p) = ap (λ (b : List ℕ). special_meaning (mark_of text) b) p ∙
     no_special (mark_of text) 120 rest
@@ -217,7 +217,7 @@ special_by mark (c ∷ body) meaning h = rw h refl
 -- nor does a special text
 special_no_fault : (text : List ℕ) (meaning : Meaning) → special_of text ≡ Some meaning → fault_of text ≡ None
 special_no_fault [] meaning h = absurd (none-some _ h)
-special_no_fault (c ∷ text) meaning h = special_by (mark_of (c ∷ text)) (behind_mark (c ∷ text)) meaning h
+special_no_fault (c ∷ text) meaning h = special_by (mark_of (c ∷ text)) (after_mark (c ∷ text)) meaning h
 
 -- a text that has a meaning has no fault
 pub meaning_no_fault : (text : List ℕ) (meaning : Meaning) → Means text meaning → fault_of text ≡ None
@@ -225,7 +225,7 @@ meaning_no_fault text (infinity negative) h = special_no_fault text (infinity ne
 meaning_no_fault text (not_a_number negative signaling payload) h =
     special_no_fault text (not_a_number negative signaling payload) h
 meaning_no_fault text (hexadecimal negative h f e) m =
-    let b = body_of (behind_mark text) h f e m.1 in
+    let b = body_of (after_mark text) h f e m.1 in
     begun_fault text b.rest b.begun ∙ b.literal.no_fault
 
 -- ---- a text has at most one meaning
@@ -252,17 +252,17 @@ same_hexadecimal negative negative2 h f h2 f2 e e2 n rest l m =
     rw (n, l.h_is, l.f_is, l.e_is, m.h_is, m.f_is, m.e_is) refl
 
 -- a hexadecimal number is not special
-hexadecimal_no_special : (text : List ℕ) (h f : ℕ) (e : ℤ) → IsHexadecimal (behind_mark text) h f e
+hexadecimal_no_special : (text : List ℕ) (h f : ℕ) (e : ℤ) → IsHexadecimal (after_mark text) h f e
     → special_of text ≡ None
 hexadecimal_no_special text h f e x =
-    let b = body_of (behind_mark text) h f e x in begun_special text b.rest b.begun
+    let b = body_of (after_mark text) h f e x in begun_special text b.rest b.begun
 
 -- no text has two meanings
 pub one_meaning : (text : List ℕ) (first second : Meaning) → Means text first → Means text second → first ≡ second
 one_meaning text (hexadecimal b h f e) (hexadecimal b2 h2 f2 e2) x y =
-    same_hexadecimal b b2 h f h2 f2 e e2 (x.0 ∙ sym y.0) (drop 2 (behind_mark text))
-    (literal_of_hexadecimal (behind_mark text) h f e x.1)
-    (literal_of_hexadecimal (behind_mark text) h2 f2 e2 y.1)
+    same_hexadecimal b b2 h f h2 f2 e e2 (x.0 ∙ sym y.0) (drop 2 (after_mark text))
+    (literal_of_hexadecimal (after_mark text) h f e x.1)
+    (literal_of_hexadecimal (after_mark text) h2 f2 e2 y.1)
 one_meaning text (hexadecimal b h f e) (infinity c) x y =
     absurd (none-some _ (sym (hexadecimal_no_special text h f e x.1) ∙ y))
 one_meaning text (hexadecimal b h f e) (not_a_number c s p) x y =

@@ -2,8 +2,8 @@
 use Rattle.std.specs.Prelude.{ℕ, Bool, not, ◌&&◌, ◌||◌, ltb, eqb, if◌then◌else◌, List, [], ◌∷◌, length, take, drop, filter, codes, Option, Some, None, is_some}
 use Rattle.apfloat_base.specs.declared.parse_error.Fault.{Fault}
 use Rattle.apfloat_base.specs.declared.parse_error.Fault.TheVariants.{EmptyText, LoneMark, NoLiteral, LonePrefix, SecondDot, WrongInSignificand, NoDigits, WrongInExponent, NoExponentDigits, NoExponent}
-use Rattle.apfloat_base.specs.texts.Digits.{same, every, begins, is_empty, run, behind_run, is_decimal, is_hexadecimal}
-use Rattle.apfloat_base.specs.texts.Specials.{behind_mark, special_of}
+use Rattle.apfloat_base.specs.texts.Digits.{same, every, begins, is_empty, run, after_run, is_decimal, is_hexadecimal}
+use Rattle.apfloat_base.specs.texts.Specials.{after_mark, special_of}
 
 -- the words of the refusal
 abbrev pub words : Fault → List ℕ
@@ -34,8 +34,8 @@ is_digit_or_dot c = is_hexadecimal c || is_dot c
 abbrev pub significand_of : List ℕ → List ℕ
 significand_of rest = run is_digit_or_dot rest
 
-abbrev pub behind_significand : List ℕ → List ℕ
-behind_significand rest = behind_run is_digit_or_dot rest
+abbrev pub after_significand : List ℕ → List ℕ
+after_significand rest = after_run is_digit_or_dot rest
 
 abbrev pub exponent_fault : List ℕ → Option Fault
 exponent_fault digits =
@@ -45,7 +45,7 @@ exponent_fault digits =
 -- the fault in what follows the significand
 abbrev pub tail_fault : List ℕ → Option Fault
 tail_fault [] = Some NoExponent
-tail_fault (letter ∷ exponent) = exponent_fault (behind_mark exponent)
+tail_fault (letter ∷ exponent) = exponent_fault (after_mark exponent)
 
 -- the first fault from the left, after the prefix
 abbrev pub literal_fault : List ℕ → List ℕ → Option Fault
@@ -55,15 +55,15 @@ literal_fault significand tail =
     else (if is_empty (filter is_hexadecimal significand) then Some NoDigits
     else tail_fault tail))
 
-abbrev pub behind_prefix_fault : List ℕ → Option Fault
-behind_prefix_fault rest =
-    if is_empty rest then Some LonePrefix else literal_fault (significand_of rest) (behind_significand rest)
+abbrev pub after_prefix_fault : List ℕ → Option Fault
+after_prefix_fault rest =
+    if is_empty rest then Some LonePrefix else literal_fault (significand_of rest) (after_significand rest)
 
 -- the first fault of a text, or none if the text has a meaning
 abbrev pub fault_of : List ℕ → Option Fault
 fault_of text =
     if is_empty text then Some EmptyText
-    else (if is_empty (behind_mark text) then Some LoneMark
+    else (if is_empty (after_mark text) then Some LoneMark
     else (if is_some (special_of text) then None
-    else (if not (begins_literal (behind_mark text)) then Some NoLiteral
-    else behind_prefix_fault (drop 2 (behind_mark text)))))
+    else (if not (begins_literal (after_mark text)) then Some NoLiteral
+    else after_prefix_fault (drop 2 (after_mark text)))))

@@ -17,9 +17,9 @@ abbrev pub mark_of : List ℕ → Mark
 mark_of [] = Unmarked
 mark_of (c ∷ text) = if eqb c 45 then Minus else (if eqb c 43 then Plus else Unmarked)
 
-abbrev pub behind_mark : List ℕ → List ℕ
-behind_mark [] = []
-behind_mark (c ∷ text) = if eqb c 45 || eqb c 43 then text else c ∷ text
+abbrev pub after_mark : List ℕ → List ℕ
+after_mark [] = []
+after_mark (c ∷ text) = if eqb c 45 || eqb c 43 then text else c ∷ text
 
 abbrev pub is_minus : Mark → Bool
 is_minus Unmarked = false
@@ -40,15 +40,15 @@ radix_of [] = Ten
 radix_of (c ∷ []) = Ten
 radix_of (c ∷ d ∷ text) = if eqb c 48 then (if is_x d then Sixteen else Eight) else Ten
 
-abbrev pub behind_prefix : Radix → List ℕ → List ℕ
-behind_prefix Sixteen text = drop 2 text
-behind_prefix Eight text = drop 1 text
-behind_prefix Ten text = text
+abbrev pub after_prefix : Radix → List ℕ → List ℕ
+after_prefix Sixteen text = drop 2 text
+after_prefix Eight text = drop 1 text
+after_prefix Ten text = text
 
 -- one plus may follow the prefix
-abbrev pub behind_plus : List ℕ → List ℕ
-behind_plus [] = []
-behind_plus (c ∷ text) = if eqb c 43 then text else c ∷ text
+abbrev pub after_plus : List ℕ → List ℕ
+after_plus [] = []
+after_plus (c ∷ text) = if eqb c 43 then text else c ∷ text
 
 abbrev pub is_digit_of : Radix → ℕ → Bool
 is_digit_of Sixteen c = is_hexadecimal c
@@ -68,7 +68,7 @@ payload_of_digits radix digits =
     else None
 
 abbrev pub plain_payload : List ℕ → Option ℕ
-plain_payload text = payload_of_digits (radix_of text) (behind_plus (behind_prefix (radix_of text) text))
+plain_payload text = payload_of_digits (radix_of text) (after_plus (after_prefix (radix_of text) text))
 
 -- the text without its first and last characters
 abbrev pub inside : List ℕ → List ℕ
@@ -110,4 +110,4 @@ special_meaning mark body = if is_infinity mark body then Some (infinity (is_min
 
 -- the infinity or the NaN of a text
 abbrev pub special_of : List ℕ → Option Meaning
-special_of text = special_meaning (mark_of text) (behind_mark text)
+special_of text = special_meaning (mark_of text) (after_mark text)

@@ -3,7 +3,7 @@ use Rattle.std.specs.Prelude.{◌≡◌, ◌⊎◌, ℕ, ◌≤◌, ℤ, pos, ne
 use Rattle.apfloat_base.specs.declared.marks.Mark.{Mark}
 use Rattle.apfloat_base.specs.declared.marks.Mark.TheVariants.{Unmarked, Plus, Minus}
 use Rattle.apfloat_base.specs.texts.Digits.{every, is_decimal, is_hexadecimal, number}
-use Rattle.apfloat_base.specs.texts.Specials.{Meaning, infinity, not_a_number, hexadecimal, mark_of, behind_mark, is_minus, special_of}
+use Rattle.apfloat_base.specs.texts.Specials.{Meaning, infinity, not_a_number, hexadecimal, mark_of, after_mark, is_minus, special_of}
 
 -- a whole number with the sign of its mark
 abbrev pub marked : Mark → ℕ → ℤ
@@ -26,11 +26,11 @@ pub record IsHexadecimal (body : List ℕ) (h f : ℕ) (e : ℤ) : Type 0 where
   pub is_letter : (letter ≡ codes "p") ⊎ (letter ≡ codes "P")
   pub are_digits : IsTrue (every is_hexadecimal (whole ++ fraction))
   pub has_digits : 1 ≤ length (whole ++ fraction)
-  pub are_exponent_digits : IsTrue (every is_decimal (behind_mark exponent))
-  pub has_exponent_digits : 1 ≤ length (behind_mark exponent)
+  pub are_exponent_digits : IsTrue (every is_decimal (after_mark exponent))
+  pub has_exponent_digits : 1 ≤ length (after_mark exponent)
   pub h_is : h ≡ number 16 (whole ++ fraction)
   pub f_is : f ≡ length fraction
-  pub e_is : e ≡ marked (mark_of exponent) (number 10 (behind_mark exponent))
+  pub e_is : e ≡ marked (mark_of exponent) (number 10 (after_mark exponent))
 
 -- the text has that meaning
 abbrev pub Means : List ℕ → Meaning → Type 0
@@ -38,4 +38,4 @@ Means text (infinity negative) = special_of text ≡ Some (infinity negative)
 Means text (not_a_number negative signaling payload) =
     special_of text ≡ Some (not_a_number negative signaling payload)
 Means text (hexadecimal negative h f e) =
-    (negative ≡ is_minus (mark_of text)) × IsHexadecimal (behind_mark text) h f e
+    (negative ≡ is_minus (mark_of text)) × IsHexadecimal (after_mark text) h f e

@@ -7,21 +7,21 @@ use Rattle.apfloat_base.specs.declared.parse_error.Fault.{Fault}
 use Rattle.apfloat_base.specs.declared.parse_error.Fault.TheVariants.{EmptyText, LoneMark, NoLiteral, SecondDot, WrongInSignificand, NoDigits, WrongInExponent, NoExponentDigits}
 use Rattle.apfloat_base.specs.formats.Format.{Format}
 use Rattle.apfloat_base.specs.formats.Datum.{Datum}
-use Rattle.apfloat_base.specs.texts.Digits.{every, begins, is_empty, run, behind_run, is_decimal, number}
-use Rattle.apfloat_base.specs.texts.Faults.{is_dot, begins_literal, behind_prefix_fault, fault_of}
+use Rattle.apfloat_base.specs.texts.Digits.{every, begins, is_empty, run, after_run, is_decimal, number}
+use Rattle.apfloat_base.specs.texts.Faults.{is_dot, begins_literal, after_prefix_fault, fault_of}
 use Rattle.apfloat_base.specs.texts.Literals.{exponent_number}
-use Rattle.apfloat_base.specs.texts.Specials.{behind_mark, special_of}
+use Rattle.apfloat_base.specs.texts.Specials.{after_mark, special_of}
 use Rattle.apfloat_base.proofs.general.Choices.{left_none}
 use Rattle.apfloat_base.proofs.general.ListLaws.{append-every, split_run, run_passes, some_length}
 use Rattle.apfloat_decimals.specs.Decimals.{IsDecimalDelivery}
-use Rattle.apfloat_decimals.specs.DecimalTexts.{is_e, IsWrittenExponent, IsDecimalText, IsSpelled, fraction_in, behind_fraction, written_fault, fault_after, body_fault, decimal_fault_of}
+use Rattle.apfloat_decimals.specs.DecimalTexts.{is_e, IsWrittenExponent, IsDecimalText, IsSpelled, fraction_in, after_fraction, written_fault, fault_after, body_fault, decimal_fault_of}
 
 -- ---- the parts of a text
 
 -- what follows the first digits
 record IsSplit (rest : List ℕ) : Type 0 where
   point : List ℕ
-  spelled : rest ≡ point ++ (fraction_in rest ++ behind_fraction rest)
+  spelled : rest ≡ point ++ (fraction_in rest ++ after_fraction rest)
   is_point : (point ≡ codes ".") ⊎ ((point ≡ []) × (fraction_in rest ≡ []))
   digits : every is_decimal (fraction_in rest) ≡ true
 
@@ -57,19 +57,19 @@ written : (tail : List ℕ) → (not (is_empty tail) && not (begins is_e tail)) 
 written [] b d = refl
 written (letter ∷ exponent) b d =
     let every_one =
-    left_none (not (every is_decimal (behind_mark exponent))) WrongInExponent
-    (cond (is_empty (behind_mark exponent)) (Some NoExponentDigits) None) d in
-    let some_one = left_none (is_empty (behind_mark exponent)) NoExponentDigits None every_one.1 in (
+    left_none (not (every is_decimal (after_mark exponent))) WrongInExponent
+    (cond (is_empty (after_mark exponent)) (Some NoExponentDigits) None) d in
+    let some_one = left_none (is_empty (after_mark exponent)) NoExponentDigits None every_one.1 in (
       not-false (is_e letter) b,
-      not-false (every is_decimal (behind_mark exponent)) every_one.0,
-      some_length (behind_mark exponent) some_one.0,
+      not-false (every is_decimal (after_mark exponent)) every_one.0,
+      some_length (after_mark exponent) some_one.0,
       refl,
     )
 
 -- a text without a fault spells its digits times a power of ten
 pub body_text : (body whole rest fraction tail : List ℕ) (some : Bool) → whole ≡ run is_decimal body
-    → rest ≡ behind_run is_decimal body
-    → fraction ≡ fraction_in rest → tail ≡ behind_fraction rest → some ≡ not (is_empty (whole ++ fraction))
+    → rest ≡ after_run is_decimal body
+    → fraction ≡ fraction_in rest → tail ≡ after_fraction rest → some ≡ not (is_empty (whole ++ fraction))
     → fault_after some tail ≡ None
     → IsDecimalText body (number 10 (whole ++ fraction)) (exponent_number (drop 1 tail) -ℤ pos (length fraction))
 body_text body whole rest fraction tail some w r f t n h =
@@ -106,8 +106,8 @@ body_text body whole rest fraction tail some w r f t n h =
 -- and its value is that number, rounded once
 pub body_spelled : (format : Format) (mode : Round) (negative : Bool) (body whole rest fraction tail : List ℕ)
     (some : Bool) (value : Datum) (status : ℕ) → whole ≡ run is_decimal body
-    → rest ≡ behind_run is_decimal body
-    → fraction ≡ fraction_in rest → tail ≡ behind_fraction rest → some ≡ not (is_empty (whole ++ fraction))
+    → rest ≡ after_run is_decimal body
+    → fraction ≡ fraction_in rest → tail ≡ after_fraction rest → some ≡ not (is_empty (whole ++ fraction))
     → fault_after some tail ≡ None
     → IsDecimalDelivery format mode negative (number 10 (whole ++ fraction))
     (exponent_number (drop 1 tail) -ℤ pos (length fraction)) value status
@@ -123,18 +123,18 @@ body_spelled format mode negative body whole rest fraction tail some value statu
 -- the fault of a text by its parts
 pub body_faulted : (body whole rest fraction tail : List ℕ) (some : Bool) (fault : Fault)
     → whole ≡ run is_decimal body
-    → rest ≡ behind_run is_decimal body → fraction ≡ fraction_in rest → tail ≡ behind_fraction rest
+    → rest ≡ after_run is_decimal body → fraction ≡ fraction_in rest → tail ≡ after_fraction rest
     → some ≡ not (is_empty (whole ++ fraction)) → fault_after some tail ≡ Some fault
     → body_fault body ≡ Some fault
 body_faulted body whole rest fraction tail some fault w r f t n h =
     let h' : fault_after (not (is_empty (whole ++ fraction))) tail ≡ Some fault =
     subst (λ (b : Bool). fault_after b tail ≡ Some fault) n h in
-    let t' : tail ≡ behind_fraction (behind_run is_decimal body) = t ∙ ap behind_fraction r in
-    let f' : fraction ≡ fraction_in (behind_run is_decimal body) = f ∙ ap fraction_in r in
-    let d : whole ++ fraction ≡ run is_decimal body ++ fraction_in (behind_run is_decimal body) =
+    let t' : tail ≡ after_fraction (after_run is_decimal body) = t ∙ ap after_fraction r in
+    let f' : fraction ≡ fraction_in (after_run is_decimal body) = f ∙ ap fraction_in r in
+    let d : whole ++ fraction ≡ run is_decimal body ++ fraction_in (after_run is_decimal body) =
     ap (λ (x : List ℕ). x ++ fraction) w ∙ ap (λ (x : List ℕ). run is_decimal body ++ x) f' in
     subst (λ (x : List ℕ).
-    fault_after (not (is_empty x)) (behind_fraction (behind_run is_decimal body)) ≡ Some fault) d
+    fault_after (not (is_empty x)) (after_fraction (after_run is_decimal body)) ≡ Some fault) d
     (subst (λ (x : List ℕ). fault_after (not (is_empty (whole ++ fraction))) x ≡ Some fault) t' h')
 
 -- ---- texts that are not empty
@@ -157,11 +157,11 @@ some_first (c ∷ first) second h = refl
 
 -- with nothing after the sign, or the prefix of a hexadecimal number, it is that of any text
 pub same_fault : (text : List ℕ)
-    → (not (is_empty (behind_mark text)) && not (begins_literal (behind_mark text))) ≡ false
+    → (not (is_empty (after_mark text)) && not (begins_literal (after_mark text))) ≡ false
     → decimal_fault_of text ≡ fault_of text
 same_fault text h =
-    go (is_empty text) (is_empty (behind_mark text)) (is_some (special_of text)) (begins_literal (behind_mark text))
-    (behind_prefix_fault (drop 2 (behind_mark text))) (body_fault (behind_mark text)) h
+    go (is_empty text) (is_empty (after_mark text)) (is_some (special_of text)) (begins_literal (after_mark text))
+    (after_prefix_fault (drop 2 (after_mark text))) (body_fault (after_mark text)) h
   where
     go : (a b s l : Bool) (x y : Option Fault) → (not b && not l) ≡ false
         → cond a (Some EmptyText) (cond b (Some LoneMark) (cond s None (cond l x y)))
@@ -174,13 +174,13 @@ same_fault text h =
 
 -- otherwise the first fault is that of any text
 pub other_fault : (text : List ℕ) (fault : Fault)
-    → (not (is_empty (behind_mark text)) && not (begins_literal (behind_mark text))) ≡ false
+    → (not (is_empty (after_mark text)) && not (begins_literal (after_mark text))) ≡ false
     → fault_of text ≡ Some fault → decimal_fault_of text ≡ Some fault
 other_fault [] fault h first = first
 other_fault (c ∷ text) fault h first =
-    go (is_empty (behind_mark (c ∷ text))) (is_some (special_of (c ∷ text)))
-    (begins_literal (behind_mark (c ∷ text)))
-    (behind_prefix_fault (drop 2 (behind_mark (c ∷ text)))) (body_fault (behind_mark (c ∷ text))) h first
+    go (is_empty (after_mark (c ∷ text))) (is_some (special_of (c ∷ text)))
+    (begins_literal (after_mark (c ∷ text)))
+    (after_prefix_fault (drop 2 (after_mark (c ∷ text)))) (body_fault (after_mark (c ∷ text))) h first
   where
     go : (b s l : Bool) (x y : Option Fault) → (not b && not l) ≡ false
         → cond b (Some LoneMark) (cond s None (cond (not l) (Some NoLiteral) x)) ≡ Some fault
@@ -192,14 +192,14 @@ other_fault (c ∷ text) fault h first =
 
 -- in another text that is refused, it is that of what follows the sign
 pub plain_fault : (text : List ℕ) (fault other : Fault)
-    → (not (is_empty (behind_mark text)) && not (begins_literal (behind_mark text))) ≡ true
-    → fault_of text ≡ Some other → body_fault (behind_mark text) ≡ Some fault
+    → (not (is_empty (after_mark text)) && not (begins_literal (after_mark text))) ≡ true
+    → fault_of text ≡ Some other → body_fault (after_mark text) ≡ Some fault
     → decimal_fault_of text ≡ Some fault
 plain_fault [] fault other h first body = absurd (false≢true h)
 plain_fault (c ∷ text) fault other h first body =
-    go (is_empty (behind_mark (c ∷ text))) (is_some (special_of (c ∷ text)))
-    (begins_literal (behind_mark (c ∷ text)))
-    (behind_prefix_fault (drop 2 (behind_mark (c ∷ text)))) (body_fault (behind_mark (c ∷ text))) h first body
+    go (is_empty (after_mark (c ∷ text))) (is_some (special_of (c ∷ text)))
+    (begins_literal (after_mark (c ∷ text)))
+    (after_prefix_fault (drop 2 (after_mark (c ∷ text)))) (body_fault (after_mark (c ∷ text))) h first body
   where
     go : (b s l : Bool) (x y : Option Fault) → (not b && not l) ≡ true
         → cond b (Some LoneMark) (cond s None (cond (not l) (Some NoLiteral) x)) ≡ Some other → y ≡ Some fault

@@ -6,12 +6,12 @@ use Rattle.apfloat_base.specs.declared.marks.Mark.{Mark}
 use Rattle.apfloat_base.specs.declared.marks.Mark.TheVariants.{Unmarked, Plus, Minus}
 use Rattle.apfloat_base.specs.declared.parse_error.Fault.{Fault}
 use Rattle.apfloat_base.specs.declared.parse_error.Fault.TheVariants.{NoLiteral, WrongInSignificand}
-use Rattle.apfloat_base.specs.texts.Digits.{same, every, begins, is_empty, run, behind_run, is_decimal, number}
+use Rattle.apfloat_base.specs.texts.Digits.{same, every, begins, is_empty, run, after_run, is_decimal, number}
 use Rattle.apfloat_base.specs.texts.Faults.{is_dot, begins_literal, fault_of}
 use Rattle.apfloat_base.specs.texts.Literals.{exponent_number}
-use Rattle.apfloat_base.specs.texts.Specials.{infinity, mark_of, behind_mark, is_minus, is_infinity, is_s, is_nan_name, with_payload, payload_of, named_nan, nan_meaning, special_of, special_meaning}
-use Rattle.apfloat_base.proofs.general.ListLaws.{every-append, run_through, behind_run_through, not_empty}
-use Rattle.apfloat_decimals.specs.DecimalTexts.{is_e, IsWrittenExponent, IsDecimalText, fraction_in, behind_fraction, written_fault, all_digits, body_fault, decimal_fault_of}
+use Rattle.apfloat_base.specs.texts.Specials.{infinity, mark_of, after_mark, is_minus, is_infinity, is_s, is_nan_name, with_payload, payload_of, named_nan, nan_meaning, special_of, special_meaning}
+use Rattle.apfloat_base.proofs.general.ListLaws.{every-append, run_through, after_run_through, not_empty}
+use Rattle.apfloat_decimals.specs.DecimalTexts.{is_e, IsWrittenExponent, IsDecimalText, fraction_in, after_fraction, written_fault, all_digits, body_fault, decimal_fault_of}
 use Rattle.apfloat_decimals.specs.Parsing.{plain_fault_of}
 
 -- ---- the exponent
@@ -46,7 +46,7 @@ tail_of (letter ∷ exponent) written h =
       no_digit = kind.0;
       no_dot = kind.1;
       begins_e = rw h.0 refl;
-      faultless = rw (h.1, not_empty (behind_mark exponent) h.2) refl;
+      faultless = rw (h.1, not_empty (after_mark exponent) h.2) refl;
       number_is = h.3;
     }
 
@@ -54,29 +54,29 @@ tail_of (letter ∷ exponent) written h =
 
 record IsParted (body whole fraction tail : List ℕ) : Type 0 where
   whole_is : run is_decimal body ≡ whole
-  fraction_is : fraction_in (behind_run is_decimal body) ≡ fraction
-  tail_is : behind_fraction (behind_run is_decimal body) ≡ tail
+  fraction_is : fraction_in (after_run is_decimal body) ≡ fraction
+  tail_is : after_fraction (after_run is_decimal body) ≡ tail
 
 parted_at_dot : (whole fraction tail : List ℕ) → every is_decimal whole ≡ true
     → every is_decimal fraction ≡ true
     → begins is_decimal tail ≡ false → IsParted (whole ++ (46 ∷ (fraction ++ tail))) whole fraction tail
 parted_at_dot whole fraction tail w f t =
-    let rest : behind_run is_decimal (whole ++ (46 ∷ (fraction ++ tail))) ≡ 46 ∷ (fraction ++ tail) =
-    behind_run_through is_decimal whole (46 ∷ (fraction ++ tail)) w refl in
+    let rest : after_run is_decimal (whole ++ (46 ∷ (fraction ++ tail))) ≡ 46 ∷ (fraction ++ tail) =
+    after_run_through is_decimal whole (46 ∷ (fraction ++ tail)) w refl in
     record {
       whole_is = run_through is_decimal whole (46 ∷ (fraction ++ tail)) w refl;
       fraction_is = ap fraction_in rest ∙ run_through is_decimal fraction tail f t;
-      tail_is = ap behind_fraction rest ∙ behind_run_through is_decimal fraction tail f t;
+      tail_is = ap after_fraction rest ∙ after_run_through is_decimal fraction tail f t;
     }
 
 parted_at_tail : (whole tail : List ℕ) → every is_decimal whole ≡ true → begins is_decimal tail ≡ false
     → begins is_dot tail ≡ false → IsParted (whole ++ tail) whole [] tail
 parted_at_tail whole tail w t d =
-    let rest : behind_run is_decimal (whole ++ tail) ≡ tail = behind_run_through is_decimal whole tail w t in
+    let rest : after_run is_decimal (whole ++ tail) ≡ tail = after_run_through is_decimal whole tail w t in
     record {
       whole_is = run_through is_decimal whole tail w t;
       fraction_is = ap fraction_in rest ∙ rw d refl;
-      tail_is = ap behind_fraction rest ∙ rw d refl;
+      tail_is = ap after_fraction rest ∙ rw d refl;
     }
 
 parts_of : (whole point fraction tail : List ℕ) → (point ≡ codes ".") ⊎ ((point ≡ []) × (fraction ≡ []))
@@ -91,8 +91,8 @@ parts_of whole point fraction tail (inr none) w f t d = rw (none.0, none.1) (par
 pub record IsOnlyText (body : List ℕ) (digits : ℕ) (exponent : ℤ) : Type 0 where
   pub digits_are : digits ≡ number 10 (all_digits body)
   pub exponent_is : exponent
-      ≡ exponent_number (drop 1 (behind_fraction (behind_run is_decimal body)))
-      -ℤ pos (length (fraction_in (behind_run is_decimal body)))
+      ≡ exponent_number (drop 1 (after_fraction (after_run is_decimal body)))
+      -ℤ pos (length (fraction_in (after_run is_decimal body)))
   pub faultless : body_fault body ≡ None
   pub some : is_empty body ≡ false
 
@@ -105,7 +105,7 @@ only_text body digits exponent x =
     let q : IsParted body x.whole x.fraction x.tail =
     subst (λ (t : List ℕ). IsParted t x.whole x.fraction x.tail) (sym x.spelled) p in
     let all : all_digits body ≡ x.whole ++ x.fraction =
-    ap (λ (t : List ℕ). t ++ fraction_in (behind_run is_decimal body)) q.whole_is
+    ap (λ (t : List ℕ). t ++ fraction_in (after_run is_decimal body)) q.whole_is
     ∙ ap (λ (t : List ℕ). x.whole ++ t) q.fraction_is in
     let some : is_empty (x.whole ++ x.fraction) ≡ false = not_empty (x.whole ++ x.fraction) x.has_digits in
     record {
@@ -211,11 +211,11 @@ no_special_text mark body [] point fraction tail e (inr none) h l =
 
 -- a decimal text has no other meaning
 pub no_other_meaning : (text : List ℕ) (digits : ℕ) (exponent : ℤ)
-    → IsDecimalText (behind_mark text) digits exponent → fault_of text ≡ Some NoLiteral
+    → IsDecimalText (after_mark text) digits exponent → fault_of text ≡ Some NoLiteral
 no_other_meaning [] digits exponent x =
     absurd (false≢true (sym (only_text [] digits exponent x).some))
 no_other_meaning (c ∷ text) digits exponent x =
-    let body = behind_mark (c ∷ text) in
+    let body = after_mark (c ∷ text) in
     let only = only_text body digits exponent x in
     let none : special_of (c ∷ text) ≡ None =
     no_special_text (mark_of (c ∷ text)) body x.whole x.point x.fraction x.tail x.spelled x.is_point x.are_digits
@@ -225,12 +225,12 @@ no_other_meaning (c ∷ text) digits exponent x =
     rw (only.some, special, literal) refl
 
 -- nor has it a fault
-pub no_fault_of : (text : List ℕ) (digits : ℕ) (exponent : ℤ) → IsDecimalText (behind_mark text) digits exponent
+pub no_fault_of : (text : List ℕ) (digits : ℕ) (exponent : ℤ) → IsDecimalText (after_mark text) digits exponent
     → decimal_fault_of text ≡ None
 no_fault_of [] digits exponent x = absurd (false≢true (sym (only_text [] digits exponent x).some))
 no_fault_of (c ∷ text) digits exponent x =
-    let only = only_text (behind_mark (c ∷ text)) digits exponent x in
-    rw (only.some, no_literal (behind_mark (c ∷ text)) only.faultless, only.faultless)
+    let only = only_text (after_mark (c ∷ text)) digits exponent x in
+    rw (only.some, no_literal (after_mark (c ∷ text)) only.faultless, only.faultless)
     (cond_same (is_some (special_of (c ∷ text))) None)
   where
     cond_same : (b : Bool) (o : Option Fault) → cond b o o ≡ o
@@ -238,8 +238,8 @@ no_fault_of (c ∷ text) digits exponent x =
     cond_same false o = refl
 
 pub no_plain_fault : (text : List ℕ) (digits : ℕ) (exponent : ℤ)
-    → IsDecimalText (behind_mark text) digits exponent → plain_fault_of text ≡ None
+    → IsDecimalText (after_mark text) digits exponent → plain_fault_of text ≡ None
 no_plain_fault [] digits exponent x = absurd (false≢true (sym (only_text [] digits exponent x).some))
 no_plain_fault (c ∷ text) digits exponent x =
-    let only = only_text (behind_mark (c ∷ text)) digits exponent x in
+    let only = only_text (after_mark (c ∷ text)) digits exponent x in
     rw only.some only.faultless

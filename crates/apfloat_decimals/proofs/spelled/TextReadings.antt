@@ -10,7 +10,7 @@ use Rattle.apfloat_base.specs.declared.status.StatusAnd.{StatusAnd}
 use Rattle.apfloat_base.specs.formats.Datum.{Datum}
 use Rattle.apfloat_base.specs.formats.Format.{Format}
 use Rattle.apfloat_base.specs.rounding.Flags.{Gives, bits_of}
-use Rattle.apfloat_base.specs.texts.Specials.{behind_mark}
+use Rattle.apfloat_base.specs.texts.Specials.{after_mark}
 use Rattle.apfloat_base.proofs.texts.OneMeaning.{meaning_no_fault}
 use Rattle.apfloat_decimals.specs.Decimals.{IsDecimalDelivery}
 use Rattle.apfloat_decimals.specs.DecimalTexts.{IsDecimalText, IsDecimalRead, IsDecimalReading}
@@ -35,7 +35,7 @@ reading_is : (format : Format) (mode : Round) (text : List ℕ) (negative : Bool
     → IsDecimalReading format mode text value status
     → IsDecimalDelivery format mode negative digits exponent value status
 reading_is format mode text negative digits exponent value status x (inl r) =
-    let same = text_once (behind_mark text) r.digits digits r.exponent exponent r.is_text x.is_text in
+    let same = text_once (after_mark text) r.digits digits r.exponent exponent r.is_text x.is_text in
     rw (x.sign, sym same.0, sym same.1) r.delivered
 reading_is format mode text negative digits exponent value status x (inr r) =
     absurd (none-some NoLiteral
@@ -65,17 +65,17 @@ same_decimal x y n d e =
 pub text_parsed : (text : List ℕ) (x : Decimal) (answer : Result Decimal DecimalError) → IsStoredDecimal x
     → Spells text x.negative x.digits x.exponent → IsParsed text answer → answer ≡ Ok x
 text_parsed text x (Ok y) stored spells r =
-    let same = text_once (behind_mark text) y.digits x.digits y.exponent x.exponent r.is_text spells.is_text in
+    let same = text_once (after_mark text) y.digits x.digits y.exponent x.exponent r.is_text spells.is_text in
     ap (λ (d : Decimal). Ok d) (same_decimal y x (r.sign ∙ sym spells.sign) same.0 same.1)
 text_parsed text x (Err (NoDecimal error)) stored spells r =
     absurd (none-some r.fault (sym (no_plain_fault text x.digits x.exponent spells.is_text) ∙ r.is_first))
 text_parsed text x (Err TooManyDigits) stored spells r =
-    let same = text_once (behind_mark text) r.digits x.digits r.exponent x.exponent r.is_text spells.is_text in
+    let same = text_once (after_mark text) r.digits x.digits r.exponent x.exponent r.is_text spells.is_text in
     let many = r.many in
     let few = stored.digits in
     absurd (omega (arith, same.0))
 text_parsed text x (Err ExponentOutOfRange) stored spells r =
-    let same = text_once (behind_mark text) r.digits x.digits r.exponent x.exponent r.is_text spells.is_text in
+    let same = text_once (after_mark text) r.digits x.digits r.exponent x.exponent r.is_text spells.is_text in
     let low = stored.exponent_low in
     let high = stored.exponent_high in
     ⊎_elim (λ (l : pos (2 ^ 31) ≤ℤ r.exponent). absurd (omega (arith, ints, same.1, l)))

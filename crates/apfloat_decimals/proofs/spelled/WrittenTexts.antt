@@ -8,7 +8,7 @@ use Rattle.std.specs.Fmt.{decimal, signed_decimal}
 use Rattle.apfloat_base.specs.declared.marks.Mark.TheVariants.{Unmarked}
 use Rattle.apfloat_base.specs.arithmetic.Exact.{up, down}
 use Rattle.apfloat_base.specs.texts.Digits.{every, is_decimal, digit_value, number}
-use Rattle.apfloat_base.specs.texts.Specials.{mark_of, behind_mark}
+use Rattle.apfloat_base.specs.texts.Specials.{mark_of, after_mark}
 use Rattle.apfloat_base.proofs.general.ListLaws.{append-every}
 use Rattle.apfloat_decimals.specs.declared.decimal.Decimal.{Decimal}
 use Rattle.apfloat_decimals.specs.DecimalTexts.{IsWrittenExponent, IsDecimalText}
@@ -116,7 +116,7 @@ padded_number places n some below few =
 
 -- a text that begins with a digit has no sign
 unmarked : (digits rest : List ℕ) → every is_decimal digits ≡ true → 1 ≤ length digits
-    → (mark_of (digits ++ rest) ≡ Unmarked) × (behind_mark (digits ++ rest) ≡ digits ++ rest)
+    → (mark_of (digits ++ rest) ≡ Unmarked) × (after_mark (digits ++ rest) ≡ digits ++ rest)
 unmarked [] rest h l = absurd (omega (arith, l))
 unmarked (c ∷ digits) rest h l =
     let digit = (and_parts (is_decimal c) (every is_decimal digits) h).0 in
@@ -137,8 +137,8 @@ exponent_written (pos m) low high =
     let none = append_none (decimal m) in
     let mark = unmarked (decimal m) [] x.are_digits x.some in
     let plain : mark_of (decimal m) ≡ Unmarked = rw none at mark.0 in
-    let behind : behind_mark (decimal m) ≡ decimal m = rw none at mark.1 in
-    (refl, rw behind x.are_digits, rw behind x.some, rw (plain, behind, x.number_is) refl)
+    let unmarked : after_mark (decimal m) ≡ decimal m = rw none at mark.1 in
+    (refl, rw unmarked x.are_digits, rw unmarked x.some, rw (plain, unmarked, x.number_is) refl)
 exponent_written (negsuc m) low high =
     let few : suc m < 10 ^ 64 = omega (arith, ints, low) in
     let x = number_of_decimal (suc m) few in
@@ -204,7 +204,7 @@ undotted n tail written few exponent =
 record IsMagnitude (text : List ℕ) (digits : ℕ) (exponent : ℤ) : Type 0 where
   is_text : IsDecimalText text digits exponent
   no_mark : mark_of text ≡ Unmarked
-  no_sign : behind_mark text ≡ text
+  no_sign : after_mark text ≡ text
 
 -- a text that begins with the digits of a number
 begun : (m n : ℕ) (e : ℤ) (rest text : List ℕ) → m < 2 ^ 128 → text ≡ decimal m ++ rest

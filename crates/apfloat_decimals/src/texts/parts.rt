@@ -2,12 +2,12 @@
 
 ghost use Rattle.std.specs.Prelude.{◌≡◌, ℕ, ◌+◌, ◌*◌, ◌<◌, pos, ◌-ℤ◌, ℤ, drop, ◌++◌, not, ◌&&◌, IsTrue, Some, None, MatchResult};
 ghost use Rattle.apfloat_base.specs.rounding.Bounds.{IsWithin};
-ghost use Rattle.apfloat_base.specs.texts.Digits.{run, behind_run, is_decimal, is_empty, number};
-ghost use Rattle.apfloat_base.specs.texts.Specials.{mark_of, behind_mark};
+ghost use Rattle.apfloat_base.specs.texts.Digits.{run, after_run, is_decimal, is_empty, number};
+ghost use Rattle.apfloat_base.specs.texts.Specials.{mark_of, after_mark};
 ghost use Rattle.apfloat_base.specs.texts.Faults.{begins_literal, exponent_fault};
 ghost use Rattle.apfloat_base.specs.texts.Literals.{exponent_number};
 ghost use Rattle.apfloat_texts.specs.Saturation.{IsSaturated, IsNear, count_bound, far_bound};
-ghost use Rattle.apfloat_decimals.specs.DecimalTexts.{fraction_in, behind_fraction, fault_after};
+ghost use Rattle.apfloat_decimals.specs.DecimalTexts.{fraction_in, after_fraction, fault_after};
 
 use apfloat_base::marks::Mark;
 use apfloat_base::parse_error::Fault;
@@ -25,11 +25,11 @@ fn is_decimal(byte: u8) -> bool
 /// The sign, and what follows it.
 pub fn split_mark(text: &[u8]) -> (Mark, &[u8])
     ensures mark { result.0 ≡ mark_of text.now }
-    ensures behind { result.1.now ≡ behind_mark text.now }
+    ensures rest { result.1.now ≡ after_mark text.now }
 {
     match text {
-        [b'-', behind @ ..] => (Mark::Minus, behind),
-        [b'+', behind @ ..] => (Mark::Plus, behind),
+        [b'-', tail @ ..] => (Mark::Minus, tail),
+        [b'+', tail @ ..] => (Mark::Plus, tail),
         _ => (Mark::Unmarked, text),
     }
 }
@@ -59,7 +59,7 @@ pub fn has_some(first: &[u8], second: &[u8]) -> bool
 /// The digits at the start of a text, and what follows them.
 pub fn split_digits(text: &[u8]) -> (&[u8], &[u8])
     ensures digits { result.0.now ≡ run is_decimal text.now }
-    ensures behind { result.1.now ≡ behind_run is_decimal text.now }
+    ensures rest { result.1.now ≡ after_run is_decimal text.now }
 {
     let mut count = 0;
     while count < text.len() && is_decimal(text[count]) {
@@ -71,10 +71,10 @@ pub fn split_digits(text: &[u8]) -> (&[u8], &[u8])
 /// The digits after a dot, if the text begins with one, and what follows them.
 pub fn split_fraction(rest: &[u8]) -> (&[u8], &[u8])
     ensures digits { result.0.now ≡ fraction_in rest.now }
-    ensures behind { result.1.now ≡ behind_fraction rest.now }
+    ensures rest { result.1.now ≡ after_fraction rest.now }
 {
     match rest {
-        [b'.', behind @ ..] => split_digits(behind),
+        [b'.', tail @ ..] => split_digits(tail),
         _ => (&[], rest),
     }
 }
@@ -106,12 +106,12 @@ fn magnitude(digits: &[u8]) -> Result<u128, Fault>
     }
     let mut number = 0;
     let mut left = digits;
-    while let [byte, behind @ ..] = left {
+    while let [byte, tail @ ..] = left {
         if !is_decimal(*byte) {
             return Err(Fault::WrongInExponent);
         }
         number = with_digit(number, *byte - b'0');
-        left = behind;
+        left = tail;
     }
     Ok(number)
 }
@@ -120,8 +120,8 @@ fn magnitude(digits: &[u8]) -> Result<u128, Fault>
 fn signed(text: &[u8]) -> Result<i128, Fault>
     ensures { MatchResult result (λ e. IsNear far_bound (exponent_number text.now) e
         × IsWithin count_bound e
-        × (exponent_fault (behind_mark text.now) ≡ None))
-        (λ fault. exponent_fault (behind_mark text.now) ≡ Some fault) }
+        × (exponent_fault (after_mark text.now) ≡ None))
+        (λ fault. exponent_fault (after_mark text.now) ≡ Some fault) }
 {
     let (mark, digits) = split_mark(text);
     let magnitude = magnitude(digits)? as i128;

@@ -53,8 +53,8 @@ round_at_dot-whole-requires-clause-last c =
     rw (to_z-of_z w32 c.last_exponent-exponent.result (record { sfits = c.last_exponent-exponent.type_inv }))
     (rw e at c.last_exponent-exponent.ensures.value)
 
-pub round_at_dot-whole-requires-clause-behind : goal.round_at_dot-whole-requires-clause-behind
-round_at_dot-whole-requires-clause-behind c = let g = c.if-exponent-ge0.false in omega (arith, ints, g)
+pub round_at_dot-whole-requires-clause-small : goal.round_at_dot-whole-requires-clause-small
+round_at_dot-whole-requires-clause-small c = let g = c.if-exponent-ge0.false in omega (arith, ints, g)
 
 pub from_quanta-requires-clause-fits : goal.from_quanta-requires-clause-fits
 from_quanta-requires-clause-fits c =

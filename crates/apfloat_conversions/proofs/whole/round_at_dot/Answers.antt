@@ -10,7 +10,7 @@ use Rattle.apfloat_conversions.proofs.whole.round_at_dot.Goals as goal
 
 pub round_fraction-requires : goal.round_fraction-requires
 round_fraction-requires c =
-    let b = c.requires.behind in
+    let b = c.requires.small in
     let k = rw (to_z-of_z w32 c.args.exponent c.ranges.exponent) at c.steps_between.ensures in
     record {
       precise = c.args.shape.parameters.precision_high;
@@ -21,7 +21,7 @@ round_fraction-requires c =
 pub returns-clause-bound : goal.returns-clause-bound
 returns-clause-bound c =
     let three = c.args.shape.parameters.precision_low in
-    let b = c.requires.behind in
+    let b = c.requires.small in
     let k = rw (to_z-of_z w32 c.args.exponent c.ranges.exponent) at c.steps_between.ensures in
     let l : 1 ≤ c.steps_between.result = omega (arith, ints, b, k) in
     whole_fits c.args.shape.precision c.args.x.significand c.steps_between.result c.round_fraction.result.magnitude

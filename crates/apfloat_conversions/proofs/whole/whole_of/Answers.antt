@@ -85,8 +85,8 @@ round_at_dot-requires-clause-last c =
     rw (to_z-of_z w32 c.last_exponent-exponent.result (record { sfits = c.last_exponent-exponent.type_inv }))
     (rw e at c.last_exponent-exponent.ensures.value)
 
-pub round_at_dot-requires-clause-behind : goal.round_at_dot-requires-clause-behind
-round_at_dot-requires-clause-behind c = let g = c.if-exponent-ge0.false in omega (arith, ints, g)
+pub round_at_dot-requires-clause-small : goal.round_at_dot-requires-clause-small
+round_at_dot-requires-clause-small c = let g = c.if-exponent-ge0.false in omega (arith, ints, g)
 
 pub returns : goal.returns
 returns c = c.round_at_dot.ensures.picked

@@ -23,8 +23,8 @@ spelled : (c : After-digits_of) → IsDecimalText c.args.body.now
     (exponent_number (drop 1 c.split_fraction.result.1.now) -ℤ pos (length c.split_fraction.result.0.now))
 spelled c =
     body_text c.args.body.now c.split_digits.result.0.now c.split_digits.result.1.now c.split_fraction.result.0.now
-    c.split_fraction.result.1.now c.has_some.result c.split_digits.ensures.digits c.split_digits.ensures.behind
-    c.split_fraction.ensures.digits c.split_fraction.ensures.behind c.has_some.ensures c.in-Ok.ensures.2
+    c.split_fraction.result.1.now c.has_some.result c.split_digits.ensures.digits c.split_digits.ensures.rest
+    c.split_fraction.ensures.digits c.split_fraction.ensures.rest c.has_some.ensures c.in-Ok.ensures.2
 
 -- the exponent that was counted is near it
 near : (c : After-digits_of) → IsNear far_bound (exponent_number (drop 1 c.split_fraction.result.1.now))

@@ -21,8 +21,8 @@ returns-in_err-exponent g c =
     refused_by c.from_residual.result c.in_err-exponent.field-0.0 _ _ c.from_residual.ensures.1
     (body_faulted c.args.body.now c.split_digits.result.0.now c.split_digits.result.1.now
     c.split_fraction.result.0.now c.split_fraction.result.1.now c.has_some.result c.in_err-exponent.field-0.0
-    c.split_digits.ensures.digits c.split_digits.ensures.behind c.split_fraction.ensures.digits
-    c.split_fraction.ensures.behind c.has_some.ensures c.in_err-exponent.ensures)
+    c.split_digits.ensures.digits c.split_digits.ensures.rest c.split_fraction.ensures.digits
+    c.split_fraction.ensures.rest c.has_some.ensures c.in_err-exponent.ensures)
 
 pub returns : goal.returns
 returns g c =
@@ -34,7 +34,7 @@ returns g c =
     let unit = to_z-of_z w128 c.unit_of-unit.result (record { sfits = c.unit_of-unit.type_inv }) in
     body_spelled (format_of g.S.Semantics) c.args.round c.args.negative c.args.body.now whole
     c.split_digits.result.1.now fraction tail c.has_some.result c.value_of.result.value
-    (bits_of c.value_of.result.status) c.split_digits.ensures.digits c.split_digits.ensures.behind
-    c.split_fraction.ensures.digits c.split_fraction.ensures.behind c.has_some.ensures e.2
+    (bits_of c.value_of.result.status) c.split_digits.ensures.digits c.split_digits.ensures.rest
+    c.split_fraction.ensures.digits c.split_fraction.ensures.rest c.has_some.ensures e.2
     (c.value_of.ensures (exponent_number (drop 1 tail) -ℤ pos (length fraction))
     (rw unit (c.unit_of-unit.ensures.near (exponent_number (drop 1 tail)) (rw exponent e.0))))

@@ -5,8 +5,8 @@ use Rattle.apfloat_decimals.proofs.texts.read_decimal.Goals as goal
 pub returns-then-not-is_plain : goal.returns-then-not-is_plain
 returns-then-not-is_plain g c =
     let refused = c.in-Err-from_str_r.ensures in
-    let behind = rw c.as_bytes.ensures.value at c.split_mark-mark.ensures.behind in
-    let plain = rw behind at c.if-not-is_plain.ensures in
+    let rest = rw c.as_bytes.ensures.value at c.split_mark-mark.ensures.rest in
+    let plain = rw rest at c.if-not-is_plain.ensures in
     record {
       fault = refused.fault;
       is_first = other_fault c.args.text.now refused.fault (sym plain) refused.is_first;
@@ -16,9 +16,9 @@ returns-then-not-is_plain g c =
 pub returns-else-not-is_plain : goal.returns-else-not-is_plain
 returns-else-not-is_plain g c =
     let refused = c.in-Err-from_str_r.ensures in
-    let behind = rw c.as_bytes.ensures.value at c.split_mark-mark.ensures.behind in
-    let plain = rw behind at c.if-not-is_plain.ensures in
-    let body = rw behind at c.in-Err.ensures in
+    let rest = rw c.as_bytes.ensures.value at c.split_mark-mark.ensures.rest in
+    let plain = rw rest at c.if-not-is_plain.ensures in
+    let body = rw rest at c.in-Err.ensures in
     record {
       fault = c.in-Err.fault;
       is_first = plain_fault c.args.text.now c.in-Err.fault refused.fault (sym plain) refused.is_first body;

@@ -16,32 +16,32 @@ named_is : (negative signaling : Bool) (text : List ℕ)
     → named_nan negative signaling text ≡ with_payload negative signaling (named_payload text)
 named_is negative signaling text = meant (is_nan_name (take 3 text)) negative signaling (payload_of (drop 3 text))
 
-pub returns-in_err-payload_behind_name-in-115 : goal.returns-in_err-payload_behind_name-in-115
-returns-in_err-payload_behind_name-in-115 c = λ negative.
+pub returns-in_err-payload_after_name-in-115 : goal.returns-in_err-payload_after_name-in-115
+returns-in_err-payload_after_name-in-115 c = λ negative.
     let s : begins is_s c.args.body.now ≡ true = search rules in
-    let p = rw (take_rest c.args.body.now 1) at c.in_err-payload_behind_name-in-115.ensures in
+    let p = rw (take_rest c.args.body.now 1) at c.in_err-payload_after_name-in-115.ensures in
     rw (s, c.from_residual.ensures, named_is negative true (drop 1 c.args.body.now), ← p) refl
 
-pub returns-in_err-payload_behind_name-in_default : goal.returns-in_err-payload_behind_name-in_default
-returns-in_err-payload_behind_name-in_default c = λ negative.
+pub returns-in_err-payload_after_name-in_default : goal.returns-in_err-payload_after_name-in_default
+returns-in_err-payload_after_name-in_default c = λ negative.
     let s : begins is_s c.args.body.now ≡ false = search rules in
-    let p : None ≡ named_payload c.args.body.now = c.in_err-payload_behind_name-in_default.ensures in
+    let p : None ≡ named_payload c.args.body.now = c.in_err-payload_after_name-in_default.ensures in
     rw (
       s,
-      c.from_residual-in_err-payload_behind_name-in_default.ensures,
+      c.from_residual-in_err-payload_after_name-in_default.ensures,
       named_is negative false c.args.body.now,
       ← p,
     ) refl
 
-pub returns-in_ok-payload_behind_name-in-115 : goal.returns-in_ok-payload_behind_name-in-115
-returns-in_ok-payload_behind_name-in-115 c = λ negative.
+pub returns-in_ok-payload_after_name-in-115 : goal.returns-in_ok-payload_after_name-in-115
+returns-in_ok-payload_after_name-in-115 c = λ negative.
     let s : begins is_s c.args.body.now ≡ true = search rules in
-    let p = rw (take_rest c.args.body.now 1) at c.in_ok-payload_behind_name-in-115.ensures in
+    let p = rw (take_rest c.args.body.now 1) at c.in_ok-payload_after_name-in-115.ensures in
     rw (s, named_is negative true (drop 1 c.args.body.now), ← p) refl
 
-pub returns-in_ok-payload_behind_name-in_default : goal.returns-in_ok-payload_behind_name-in_default
-returns-in_ok-payload_behind_name-in_default c = λ negative.
+pub returns-in_ok-payload_after_name-in_default : goal.returns-in_ok-payload_after_name-in_default
+returns-in_ok-payload_after_name-in_default c = λ negative.
     let s : begins is_s c.args.body.now ≡ false = search rules in
-    let p : Some c.in_ok-payload_behind_name-in_default.field-0 ≡ named_payload c.args.body.now =
-    c.in_ok-payload_behind_name-in_default.ensures in
+    let p : Some c.in_ok-payload_after_name-in_default.field-0 ≡ named_payload c.args.body.now =
+    c.in_ok-payload_after_name-in_default.ensures in
     rw (s, named_is negative false c.args.body.now, ← p) refl

@@ -19,8 +19,8 @@ returns-clause-digits c =
     ∙ (digits_until c.args.text.now c.loop-count.count c.loop-count.invariant.digits
     (stops (goal.at.returns-clause-digits c).After-split_at)).0
 
-pub returns-clause-behind : goal.returns-clause-behind
-returns-clause-behind c =
+pub returns-clause-rest : goal.returns-clause-rest
+returns-clause-rest c =
     c.split_at.ensures.back
     ∙ (digits_until c.args.text.now c.loop-count.count c.loop-count.invariant.digits
-    (stops (goal.at.returns-clause-behind c).After-split_at)).1
+    (stops (goal.at.returns-clause-rest c).After-split_at)).1

@@ -13,6 +13,6 @@ returns-clause-kept c number k =
           w.loss_of_rest-loss.ensures)
       | else-self-eq0 w ↦
           rw w.loss-is (with_next_cut number c.args.self.significand c.args.digit c.args.self.cut c.args.self.loss
-          w.loss_behind-loss.result (pos_of_ne-zero w.if-self-eq0.false) c.if-self.false k
-          (w.loss_behind-loss.ensures number c.args.self.significand))
+          w.loss_after-loss.result (pos_of_ne-zero w.if-self-eq0.false) c.if-self.false k
+          (w.loss_after-loss.ensures number c.args.self.significand))
     ]
