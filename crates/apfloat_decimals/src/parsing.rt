@@ -20,9 +20,10 @@ ghost use Rattle.apfloat_decimals.specs.Shortest.{IsSameNumber};
 ghost use Rattle.apfloat_decimals.specs.Texts.{decimal_text};
 
 use crate::decimal::Decimal;
-use crate::texts::parts::{exponent_in, has_some, split_digits, split_fraction, split_mark};
+use crate::texts::parts::{exponent_in, has_some, split_digits, split_fraction};
 use apfloat_base::parse_error::Fault;
 use apfloat_base::{ExpInt, ParseError};
+use apfloat_texts::split_mark;
 use std::str::FromStr;
 
 /// Why a text gives no `Decimal`.

@@ -58,9 +58,10 @@ fn magnitude(digits: &[u8]) -> Result<u128, Fault>
     Ok(number)
 }
 
-/// The exponent written after the letter, which counts from the dot.
+/// The number that a text spells with decimal digits, after a sign if there is one; past `2^96`, some number that far on
+/// its side.
 #[inline(always)]
-fn signed(text: &[u8]) -> Result<i128, Fault>
+pub fn signed_number(text: &[u8]) -> Result<i128, Fault>
     ensures { MatchResult result (λ e. IsNear far_bound (exponent_number text.now) e
         × IsWithin count_bound e
         × (exponent_fault (after_mark text.now) ≡ None))
@@ -85,7 +86,7 @@ pub fn exponent_in(tail: &[u8], some: bool) -> Result<i128, Fault>
         (λ fault. fault_after some tail.now ≡ Some fault) }
 {
     match tail {
-        [b'p' | b'P', exponent @ ..] if some => signed(exponent),
+        [b'p' | b'P', exponent @ ..] if some => signed_number(exponent),
         [b'p' | b'P', ..] => Err(Fault::NoDigits),
         [_, ..] => Err(Fault::WrongInSignificand),
         [] if some => Err(Fault::NoExponent),

@@ -15,4 +15,7 @@ mod reading;
 mod significand;
 mod special;
 
+pub use characters::is_decimal;
+pub use exponent::signed_number;
+pub use mark::split_mark;
 pub use reading::read;
