@@ -13,7 +13,7 @@ ghost use Rattle.apfloat_c.specs.Decimals.{HasDecimals, IsDecimalOutcome, IsKind
 use crate::ascii::text_of;
 use crate::codes::{ANSWERED, NO_SUCH_OPERATION, REFUSED_TEXT, UNKNOWN_FORMAT, UNKNOWN_MODE};
 use crate::data::{Answer, Halves};
-use crate::line::{CAPACITY, Line, line_of};
+use apfloat_decimals::line::{CAPACITY, Line, line_of};
 use apfloat_decimals::{read_decimal, shortest};
 use dispatch::{BuiltInKind, FlaggedFormat, FlaggedKind, InFormat, InKind, mode_coded};
 use pair_decimals::read_decimal_pair;

@@ -16,6 +16,5 @@ mod decimals;
 mod elements;
 mod exported_call;
 mod exports;
-mod line;
 mod maps;
 mod operations;

@@ -1,4 +1,5 @@
 pub mod FarTexts
+pub mod Lines
 pub mod ParsedNumbers
 pub mod SpelledTexts
 pub mod TextFronts

@@ -9,7 +9,7 @@
 //!
 //! `read_decimal` reads a text of any length (`texts`), `shortest` finds the shortest decimal that reads back as a
 //! value (`search`, `quick_search`), `rounded` gives a value to a count of digits (`rounding`), both by its first
-//! digits (`leading_digits`), and `Display` of a `Decimal` writes it (`writing`). `FromStr` of a `Decimal` reads its
+//! digits (`leading_digits`). `line` has the text of a `Decimal`, and its `Display` writes that (`writing`). `FromStr` of a `Decimal` reads its
 //! text (`parsing`), and `exact` finds the decimal that equals a value (`exact_decimal`). `round_trips` has what holds
 //! of values that are read back.
 #![tactic(auto)]
@@ -18,6 +18,7 @@ mod decimal;
 mod exact_decimal;
 mod large;
 mod leading_digits;
+pub mod line;
 mod narrow;
 mod parsing;
 mod powers;
