@@ -1,11 +1,13 @@
 -- Numbers of units that are rounded to odd.
-use Rattle.std.proofs.Common.{◌≡◌, ℕ, zero, suc, ◌+◌, ◌-◌, ◌*◌, ◌%◌, ◌^◌, ◌<◌, ◌≤◌, sym, refl, ap, inl, inr, arith}
+use Rattle.std.proofs.Common.{◌≡◌, ℕ, zero, suc, ◌+◌, ◌-◌, ◌*◌, ◌/◌, ◌%◌, ◌^◌, ◌<◌, ◌≤◌, Bool, true, false, cond, eqb, sym, refl, ap, subst, inl, inr, ⊎_elim, arith}
 use Rattle.std.proofs.Math.Nat.{mul-le-mul_right, mul-le-mul_left, mul-lt-mul_of_pos_right, eq_of_mul-eq-mul_right, lt_of_mul-lt-mul_right, pow-le-pow_right}
+use Rattle.std.proofs.lemmas.Nat.{div-add-mod', mod_below}
+use Rattle.std.proofs.lemmas.Bool.{cases_lt, eq-eqb, ne_eqb}
 use Rattle.apfloat_base.proofs.general.Powers.{two_pos}
 use Rattle.apfloat_base.specs.declared.sig.loss.Loss.{Loss}
 use Rattle.apfloat_base.specs.declared.sig.loss.Loss.TheVariants.{ExactlyZero, LessThanHalf, ExactlyHalf, MoreThanHalf}
 use Rattle.apfloat_base.specs.rounding.Standing.{StandsFor}
-use Rattle.apfloat_base.specs.rounding.RoundingToOdd.{IsRoundedToOdd}
+use Rattle.apfloat_base.specs.rounding.RoundingToOdd.{IsRoundedToOdd, odd_for_rest, odd_quotient}
 
 -- ---- a number that is cut
 
@@ -71,6 +73,64 @@ lost_to_odd least q loss amount u l p n h =
         below = t;
       }),
     )
+
+-- ---- a quotient
+
+at_least : (b : Bool) (q : ℕ) → q ≤ cond b q (q + 1 - q % 2)
+at_least true q = omega arith
+at_least false q = omega arith
+
+pub odd_at_least : (q rest : ℕ) → q ≤ odd_for_rest q rest
+odd_at_least q rest = at_least (eqb rest 0) q
+
+at_most : (b : Bool) (q : ℕ) → cond b q (q + 1 - q % 2) ≤ q + 1 - q % 2
+at_most true q = omega arith
+at_most false q = omega arith
+
+pub odd_at_most : (q rest : ℕ) → odd_for_rest q rest ≤ q + 1 - q % 2
+odd_at_most q rest = at_most (eqb rest 0) q
+
+-- a whole quotient below which something is left
+left_to_odd : (least n d q : ℕ) → least ≤ q → q * d < n → n < (q + 1) * d
+    → IsRoundedToOdd least (q + 1 - q % 2) n d
+left_to_odd least n d q l a b =
+    ⊎_elim
+    (λ (e : q % 2 < 1).
+    let s : q + 1 - q % 2 ≡ q + 1 = omega arith in
+    let k : (q + 1 - q % 2) * d ≡ (q + 1) * d = ap (λ (x : ℕ). x * d) s in
+    let k' : (q + 1 - q % 2 + 1) * d ≡ (q + 1 + 1) * d = ap (λ (x : ℕ). (x + 1) * d) s in
+    inr (record {
+      long = omega arith;
+      odd = omega arith;
+      above = omega (arith, k, a);
+      below = omega (arith, k', b);
+    }))
+    (λ (o : 1 ≤ q % 2).
+    let s : q + 1 - q % 2 ≡ q = omega arith in
+    let k : (q + 1 - q % 2) * d ≡ q * d = ap (λ (x : ℕ). x * d) s in
+    let k' : (q + 1 - q % 2 + 1) * d ≡ (q + 1) * d = ap (λ (x : ℕ). (x + 1) * d) s in
+    inr (record {
+      long = omega arith;
+      odd = omega arith;
+      above = omega (arith, k, a, b);
+      below = omega (arith, k', b);
+    }))
+    (cases_lt (q % 2) 1)
+
+pub quotient_to_odd : (least n d : ℕ) → 0 < d → least ≤ n / d → IsRoundedToOdd least (odd_quotient n d) n d
+quotient_to_odd least n d p l =
+    let e : n / d * d + n % d ≡ n = div-add-mod' n d in
+    let m : n % d < d = mod_below n d p in
+    ⊎_elim
+    (λ (z : n % d < 1).
+    let b : eqb (n % d) 0 ≡ true = eq-eqb (n % d) 0 (omega arith) in
+    subst (λ (x : Bool). IsRoundedToOdd least (cond x (n / d) (n / d + 1 - n / d % 2)) n d) (sym b)
+    (inl (omega (arith, e))))
+    (λ (z : 1 ≤ n % d).
+    let b : eqb (n % d) 0 ≡ false = ne_eqb (n % d) 0 (λ y. omega (arith, y)) in
+    subst (λ (x : Bool). IsRoundedToOdd least (cond x (n / d) (n / d + 1 - n / d % 2)) n d) (sym b)
+    (left_to_odd least n d (n / d) l (omega (arith, e)) (omega (arith, e, m))))
+    (cases_lt (n % d) 1)
 
 -- ---- units
 
