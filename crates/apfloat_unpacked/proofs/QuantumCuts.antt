@@ -17,7 +17,7 @@ use Rattle.apfloat_base.proofs.formats.Ranges.{half_within}
 use Rattle.apfloat_base.proofs.general.Powers.{two_pos, twice_half, exponent_below, pow3}
 use Rattle.apfloat_base.proofs.arithmetic.LongDivisions.{whole_quotient}
 use Rattle.apfloat_base.proofs.rounding.Deliveries.{tiny_before, tiny_after, delivered_exactly, delivered_inexactly, exact_if, inexact_if}
-use Rattle.apfloat_base.proofs.rounding.KeptDigits.{kept_stands, stands_cancel, stands_times, fits_cut, enclosed_from}
+use Rattle.apfloat_base.proofs.rounding.KeptDigits.{kept_stands, stands_cancel, stands_times, fits_cut, full_cut, enclosed_from}
 use Rattle.apfloat_base.proofs.rounding.Laws.{exact_delivered}
 use Rattle.apfloat_base.proofs.rounding.Losses.{cut_at}
 use Rattle.apfloat_base.proofs.rounding.OddRoundings.{to_odd_cancel, to_odd_times}
@@ -286,6 +286,29 @@ quarters_stand least s amount unit u (inr o) =
     let one : amount * 1 ≡ amount = omega arith in
     subst (λ (x : ℕ). StandsFor (s / 4) (loss_at (s % 4) 2) x (4 * unit)) one
     (odd_rest (s / 4) 1 s (s % 4) amount unit 1 (lit< tt) o.odd d b o.above o.below)
+
+-- which are cut off
+pub quarters_fit : (precision s : ℕ) → s < 2 ^ (precision + 2) → s / 4 < 2 ^ precision
+quarters_fit precision s f = fits_cut s (precision + 2) 2 precision f (omega arith)
+
+pub quarters_full : (precision s : ℕ) → 0 < precision → 2 ^ (precision + 1) ≤ s → 2 ^ (precision - 1) ≤ s / 4
+quarters_full precision s p f =
+    full_cut s (precision + 2) 2 precision p
+    (λ _. let e : precision + 1 ≡ precision + 2 - 1 = omega arith in
+    subst (λ (x : ℕ). 2 ^ x ≤ s) e f) (omega arith)
+
+pub quarters_cut : (precision s up down place amount parts : ℕ) → 0 < precision → s < 2 ^ (precision + 2)
+    → 2 ^ (precision + 1) ≤ s → 2 + up ≡ place + down → 0 < parts
+    → IsRoundedToOdd (2 ^ (precision + 1)) s (amount * 2 ^ down) (parts * 2 ^ up)
+    → IsEnclosed precision (2 ^ (precision - 1)) (s / 4) place amount parts
+    × StandsFor (s / 4) (loss_at (s % 4) 2) amount (2 ^ place * parts)
+quarters_cut precision s up down place amount parts z f l e p h =
+    let q = quarters_stand (2 ^ (precision + 1)) s (amount * 2 ^ down) (parts * 2 ^ up) (mul-pos p (pow_pos up)) h in
+    let k = kept_stands (s / 4) (loss_at (s % 4) 2) amount parts 2 up down place e q in (
+      enclosed_from precision (s / 4) place (loss_at (s % 4) 2) amount parts z p (quarters_fit precision s f)
+          (inr (quarters_full precision s z l)) k,
+      k,
+    )
 
 -- ---- a whole number of quanta
 

@@ -105,6 +105,32 @@ pub(super) fn odd_for(significand: u64, loss: Loss) -> u64
     }
 }
 
+/// Cuts off the last two digits of a significand that was rounded to odd, two more than the precision.
+#[inline(always)]
+fn cut_quarters(precision: u32, significand: u64, unit: ExpInt) -> Cut
+    requires some { 0 < precision }
+    requires short { precision ≤ 59 }
+    requires fits { significand < 2 ^ (precision + 2) }
+    requires full { 2 ^ (precision + 1) ≤ significand }
+    requires within { IsWithin unit_bound unit }
+    requires above { pos 0 ≤ℤ (unit +ℤ pos 2) }
+    ensures fits { result.significand < 2 ^ precision }
+    ensures full { 2 ^ (precision - 1) ≤ result.significand }
+    ensures near { result.place < place_bound }
+    ensures rest { result.rest < 2 * result.half }
+    ensures cut { (amount parts : ℕ) → 0 < parts
+        → IsRoundedToOdd (2 ^ (precision + 1)) significand (amount * 2 ^ down unit)
+        (parts * 2 ^ up unit)
+        → IsCutOff precision result amount parts }
+{
+    Cut {
+        significand: u128::from(significand / 4),
+        place: full_place(precision, precision + 2, unit),
+        rest: significand % 4,
+        half: 2,
+    }
+}
+
 /// Delivers `significand * 2^exponent`, which was rounded to odd and has two digits more than the format keeps, with the
 /// last two digits as a `Loss`.
 #[inline(always)]
@@ -156,13 +182,19 @@ pub fn deliver_odd_digits(
         → GivesAt shape (IsDelivered (format_at shape) mode negative amount parts) result }
 {
     let unit = unit_place(shape, exponent);
-    let digits = shape.precision + 2;
     if unit >= -2 {
-        let cut = cut_odd(shape.precision, significand, digits, unit);
+        let cut = cut_quarters(shape.precision, significand, unit);
         return round_cut(shape, cut, mode, negative);
     }
     if shape.ieee_flags {
         return deliver_quarters(shape, significand, exponent, mode, negative);
     }
-    round_odd_denormal(shape, significand, digits, unit, mode, negative)
+    round_odd_denormal(
+        shape,
+        significand,
+        shape.precision + 2,
+        unit,
+        mode,
+        negative,
+    )
 }

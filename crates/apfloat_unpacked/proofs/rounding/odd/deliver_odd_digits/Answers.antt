@@ -13,7 +13,7 @@ returns-then-unit-geminus2-clause-delivered c = λ amount parts u h.
     to_z-of_z w32 unit (record { sfits = c.unit_place-unit.type_inv }) in
     let h' = subst (λ (x : ℤ). IsRoundedToOdd (2 ^ (c.args.shape.precision + 1)) c.args.significand
     (amount * 2 ^ down x) (parts * 2 ^ up x)) (sym v ∙ sym w) h in
-    c.round_cut.ensures.delivered amount parts u (c.cut_odd-cut.ensures.cut amount parts u h')
+    c.round_cut.ensures.delivered amount parts u (c.cut_quarters-cut.ensures.cut amount parts u h')
 
 pub returns-then-shape-clause-delivered : goal.returns-then-shape-clause-delivered
 returns-then-shape-clause-delivered c =
