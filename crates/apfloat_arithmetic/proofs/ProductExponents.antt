@@ -5,7 +5,10 @@ use Rattle.std.proofs.lemmas.Nat.{pow_pos, pow-add}
 use Rattle.apfloat_base.specs.declared.sig.loss.Loss.{Loss}
 use Rattle.apfloat_base.specs.rounding.Bounds.{IsWithin, number_bound}
 use Rattle.apfloat_base.specs.rounding.Standing.{StandsFor, up, down}
-use Rattle.apfloat_base.proofs.arithmetic.Fractions.{product_stands, quotient_stands}
+use Rattle.apfloat_base.specs.rounding.RoundingToOdd.{IsRoundedToOdd}
+use Rattle.apfloat_base.proofs.arithmetic.Fractions.{product_stands, quotient_carries}
+use Rattle.apfloat_base.proofs.rounding.KeptDigits.{stands_cancel, stands_times}
+use Rattle.apfloat_base.proofs.rounding.OddRoundings.{to_odd_times, to_odd_cancel}
 use Rattle.apfloat_unpacked.specs.declared.shape.Shape.{Shape}
 use Rattle.apfloat_unpacked.specs.Shapes.{format_at}
 use Rattle.apfloat_unpacked.specs.Stored.{IsNormalAt, quanta_at}
@@ -83,6 +86,22 @@ raised_product_is shape x y e r m n p moved hx hy v g l =
     omega arith in
     a ∙ d ∙ f ∙ ap (λ (z : ℕ). z * (2 ^ scale * 2 ^ up unit)) (sym v)
 
+-- what is said of the quotient of the significands is so of the quotient of the numbers
+quotient_says : (shape : Shape) (Says : ℕ → ℕ → Type 0) (x y r : ℤ) (places m n : ℕ)
+    → ((amount unit w : ℕ) → 0 < w → Says amount unit → Says (amount * w) (unit * w))
+    → ((amount unit w : ℕ) → 0 < w → Says (amount * w) (unit * w) → Says amount unit)
+    → IsNormalAt shape m x → IsNormalAt shape n y → r ≡ ((x -ℤ y) -ℤ pos places) → Says (m * 2 ^ places) n
+    → Says (quanta_at shape.min_exp m x * 2 ^ (format_at shape).scale * 2 ^ down (r +ℤ pos (format_at shape).scale))
+    (quanta_at shape.min_exp n y * 2 ^ up (r +ℤ pos (format_at shape).scale))
+quotient_says shape Says x y r places m n times cancel hx hy e h =
+    let unit : ℤ = r +ℤ pos (format_at shape).scale in
+    quotient_carries Says m n (quanta_at shape.min_exp m x)
+    (quanta_at shape.min_exp n y) places (up (x -ℤ shape.min_exp))
+    (up (y -ℤ shape.min_exp)) (down (x -ℤ shape.min_exp)) (down (y -ℤ shape.min_exp)) (format_at shape).scale (up unit)
+    (down unit) times cancel
+    hx.whole hy.whole (balanced_quotient shape.precision places (format_at shape).scale shape.min_exp x y r
+    shape.parameters.precision_low (scale_is shape) e) h
+
 -- the quotient of the significands stands for the quotient of the numbers
 pub quotient_is : (shape : Shape) (x y r : ℤ) (places q : ℕ) (loss : Loss) (m n : ℕ)
     → IsNormalAt shape m x
@@ -90,13 +109,18 @@ pub quotient_is : (shape : Shape) (x y r : ℤ) (places q : ℕ) (loss : Loss) (
     → StandsFor q loss (quanta_at shape.min_exp m x * 2 ^ (format_at shape).scale * 2 ^ down
     (r +ℤ pos (format_at shape).scale)) (quanta_at shape.min_exp n y * 2 ^ up (r +ℤ pos (format_at shape).scale))
 quotient_is shape x y r places q loss m n hx hy e h =
-    let unit : ℤ = r +ℤ pos (format_at shape).scale in
-    quotient_stands q loss m n (quanta_at shape.min_exp m x)
-    (quanta_at shape.min_exp n y) places (up (x -ℤ shape.min_exp))
-    (up (y -ℤ shape.min_exp)) (down (x -ℤ shape.min_exp)) (down (y -ℤ shape.min_exp)) (format_at shape).scale (up unit)
-    (down unit)
-    hx.whole hy.whole (balanced_quotient shape.precision places (format_at shape).scale shape.min_exp x y r
-    shape.parameters.precision_low (scale_is shape) e) h
+    quotient_says shape (λ (a : ℕ) (u : ℕ). StandsFor q loss a u) x y r places m n
+    (λ a u w p k. stands_times q loss a u w p k) (λ a u w p k. stands_cancel q loss a u w p k) hx hy e h
+
+-- and is rounded to odd as that is
+pub odd_quotient_is : (shape : Shape) (x y r : ℤ) (places least q m n : ℕ)
+    → IsNormalAt shape m x
+    → IsNormalAt shape n y → r ≡ ((x -ℤ y) -ℤ pos places) → IsRoundedToOdd least q (m * 2 ^ places) n
+    → IsRoundedToOdd least q (quanta_at shape.min_exp m x * 2 ^ (format_at shape).scale * 2 ^ down
+    (r +ℤ pos (format_at shape).scale)) (quanta_at shape.min_exp n y * 2 ^ up (r +ℤ pos (format_at shape).scale))
+odd_quotient_is shape x y r places least q m n hx hy e h =
+    quotient_says shape (λ (a : ℕ) (u : ℕ). IsRoundedToOdd least q a u) x y r places m n
+    (λ a u w p k. to_odd_times least q a u w p k) (λ a u w p k. to_odd_cancel least q a u w p k) hx hy e h
 
 -- the significand of a stored number is above 0
 pub normal_some : (shape : Shape) (m : ℕ) (e : ℤ) → IsNormalAt shape m e → 0 < m

@@ -1,12 +1,12 @@
 //! Quotients.
 
-ghost use Rattle.std.specs.Prelude.{◌≡◌, ◌+◌, ◌-◌, ◌*◌, ◌/◌, ◌^◌, ◌<◌, ◌≤◌, pos, ◌-ℤ◌};
+ghost use Rattle.std.specs.Prelude.{◌≡◌, ◌+◌, ◌-◌, ◌*◌, ◌^◌, ◌<◌, ◌≤◌, pos, ◌-ℤ◌};
 ghost use Rattle.apfloat_base.specs.rounding.Answer.{IsAnswer};
 ghost use Rattle.apfloat_base.specs.formats.Constants.{infinity_of};
 ghost use Rattle.apfloat_base.specs.arithmetic.Exact.{product_sign};
 ghost use Rattle.apfloat_base.specs.rounding.Bounds.{IsWithin, number_bound, exponent_bound};
 ghost use Rattle.apfloat_base.specs.rounding.Rounding.{IsDelivered};
-ghost use Rattle.apfloat_base.specs.rounding.Standing.{StandsFor};
+ghost use Rattle.apfloat_base.specs.rounding.RoundingToOdd.{odd_quotient};
 ghost use Rattle.apfloat_base.specs.arithmetic.Quotients.{IsQuotient, div_by_zero_bit};
 ghost use Rattle.apfloat_unpacked.specs.Shapes.{format_at};
 ghost use Rattle.apfloat_unpacked.specs.Stored.{IsStored, IsNormal, quanta_of, datum_at, GivesAt};
@@ -15,13 +15,13 @@ use crate::classes::are_normal;
 use crate::exact::{exact_infinity, exact_zero};
 use crate::products::product_sign;
 use apfloat_base::sig::{
-    NEAR_LIMIT, Quotient, SHORT_LIMIT, divide_by_words, divide_short_by_guess, divide_word,
+    NEAR_LIMIT, SHORT_LIMIT, divide_by_words, divide_short_by_guess, divide_word,
     divide_word_by_guess, guess_quotient,
 };
 use apfloat_base::{Category, ExpInt, Round, Status, StatusAnd};
 use apfloat_unpacked::nans::{invalid, propagated, propagated_left};
 use apfloat_unpacked::rounding::deliver;
-use apfloat_unpacked::rounding::odd::deliver_short;
+use apfloat_unpacked::rounding::odd::deliver_odd_digits;
 use apfloat_unpacked::shape::Shape;
 use apfloat_unpacked::unpacked::{Unpacked, infinity_of, remade};
 
@@ -38,21 +38,28 @@ fn quotient_exponent(left: ExpInt, right: ExpInt, places: u32) -> ExpInt
     left - right - places as ExpInt
 }
 
-/// The quotient of two significands of few digits, with two places more: by a machine division of 32 digits if they
-/// suffice, and by a guess otherwise.
+/// By how many places a dividend is moved up to be at least the divisor.
 #[inline(always)]
-fn short_quotient_of(precision: u32, dividend: u128, divisor: u128) -> Quotient
+fn places_up(dividend: u64, divisor: u64) -> u32
+    ensures less { dividend < divisor → result ≡ 1 }
+    ensures close { divisor ≤ dividend → result ≡ 0 }
+    ensures bound { result ≤ 1 }
+{
+    u32::from(dividend < divisor)
+}
+
+/// The quotient of two significands of few digits, with one place more than the precision, rounded to odd: by a machine
+/// division of 32 digits if they suffice, and by a guess otherwise.
+#[inline(always)]
+fn short_quotient_of(precision: u32, dividend: u64, divisor: u64) -> u64
     requires some { 0 < precision }
     requires short { precision ≤ 59 }
-    requires dividend_fits { dividend < 2 ^ precision }
+    requires close { dividend < 2 * divisor }
     requires divisor_fits { divisor < 2 ^ precision }
     requires divisor_full { 2 ^ (precision - 1) ≤ divisor }
-    ensures quotient { result.whole ≡ dividend * 2 ^ (precision + 2) / divisor }
-    ensures stands { StandsFor result.whole result.loss (dividend * 2 ^ (precision + 2)) divisor }
+    ensures { result ≡ odd_quotient (dividend * 2 ^ (precision + 1)) divisor }
 {
-    let dividend = dividend as u64;
-    let divisor = divisor as u64;
-    let places = precision + 2;
+    let places = precision + 1;
     if precision <= 15 {
         return divide_word(dividend, divisor, places);
     }
@@ -64,8 +71,8 @@ fn short_quotient_of(precision: u32, dividend: u128, divisor: u128) -> Quotient
     }
 }
 
-/// The quotient of two nonzero numbers with few digits, rounded once. Two places more than the precision always give
-/// two digits more than the format has.
+/// The quotient of two nonzero numbers with few digits, rounded once. If the dividend is moved up by a place where it is
+/// less than the divisor, one place more than the precision always gives two digits more than the format has.
 #[inline(always)]
 fn divide_short_numbers(shape: Shape, x: Unpacked, y: Unpacked, round: Round) -> StatusAnd<Unpacked>
     requires short { shape.precision ≤ 59 }
@@ -76,13 +83,14 @@ fn divide_short_numbers(shape: Shape, x: Unpacked, y: Unpacked, round: Round) ->
         (product_sign x.negative y.negative) (quanta_of shape x * 2 ^ (format_at shape).scale)
         (quanta_of shape y)) result }
 {
-    let places = shape.precision + 2;
-    let quotient = short_quotient_of(shape.precision, x.significand, y.significand);
-    deliver_short(
+    let dividend = x.significand as u64;
+    let divisor = y.significand as u64;
+    let up = places_up(dividend, divisor);
+    let places = shape.precision + 1 + up;
+    deliver_odd_digits(
         shape,
-        quotient.whole as u64,
+        short_quotient_of(shape.precision, dividend << up, divisor),
         quotient_exponent(x.exponent, y.exponent, places),
-        quotient.loss,
         round,
         product_sign(x.negative, y.negative),
     )

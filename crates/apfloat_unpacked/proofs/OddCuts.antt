@@ -1,5 +1,5 @@
 -- The cut of a significand that was rounded to odd.
-use Rattle.std.proofs.Common.{◌≡◌, ℕ, zero, suc, ℤ, pos, negsuc, ◌+ℤ◌, ◌≤ℤ◌, ◌+◌, ◌-◌, ◌*◌, ◌/◌, ◌%◌, ◌^◌, ◌<◌, ◌≤◌, ◌⊎◌, sym, refl, ap, ◌∙◌, subst, inl, inr, ⊎_elim, arith}
+use Rattle.std.proofs.Common.{◌≡◌, ℕ, zero, suc, ℤ, pos, negsuc, ◌+ℤ◌, ◌≤ℤ◌, unsigned_abs, ◌+◌, ◌-◌, ◌*◌, ◌/◌, ◌%◌, ◌^◌, ◌<◌, ◌≤◌, ◌⊎◌, sym, refl, ap, ◌∙◌, subst, inl, inr, ⊎_elim, arith}
 use Rattle.std.proofs.Math.Path.{subst₂}
 use Rattle.std.proofs.Math.Nat.{mul-le-mul_right, mul-lt-mul_of_pos_right, mul-pos, div-add-mod'}
 use Rattle.std.proofs.lemmas.Bool.{cases_lt}
@@ -220,19 +220,22 @@ no_up (pos zero) h = refl
 no_up (pos (suc n)) h = absurd (omega (arith, ints, h))
 no_up (negsuc n) h = refl
 
+-- one that is not negative has no negative part
+pub no_down : (z : ℤ) → pos 0 ≤ℤ z → (up z ≡ unsigned_abs z) × (down z ≡ 0)
+no_down (pos n) h = (refl, refl)
+no_down (negsuc n) h = absurd (omega (arith, ints, h))
+
 -- with a unit below the quantum, a whole number of quanta is not rounded
 pub exact_below : (s digits precision amount : ℕ) (unit : ℤ) → precision ≤ 59
-    → (s ≡ 0) ⊎ ((s < 2 ^ digits) × ((unit +ℤ pos digits) ≤ℤ pos precision))
+    → (s < 2 ^ digits) × ((s ≡ 0) ⊎ ((unit +ℤ pos (digits + 1)) ≤ℤ pos precision))
     → IsRoundedToOdd (2 ^ (precision + 1)) s (amount * 2 ^ down unit) (1 * 2 ^ up unit)
     → StandsFor s ExactlyZero (amount * 2 ^ down unit) (1 * 2 ^ up unit)
 exact_below s digits precision amount unit l d (inl e) = e
-exact_below s digits precision amount unit l (inl z) (inr o) =
+exact_below s digits precision amount unit l (f, inl z) (inr o) =
     let m = o.long in
     let k = pow_pos (precision + 1) in
     absurd (omega (arith, m, z, k))
-exact_below s digits precision amount unit l (inr d) (inr o) =
-    let f = d.0 in
-    let g = d.1 in
+exact_below s digits precision amount unit l (f, inr g) (inr o) =
     let m = o.long in
     let n : 2 ^ (precision + 1) < 2 ^ digits = omega (arith, f, m) in
     let p : precision + 1 < digits = exponent_below (precision + 1) digits n in

@@ -1,9 +1,9 @@
 -- A significand of one word that is cut where no more than a half may be left of it: at the quantum, or at a dot.
-use Rattle.std.proofs.Common.{◌≡◌, ℕ, ◌+◌, ◌-◌, ◌*◌, ◌/◌, ◌%◌, ◌^◌, ◌<◌, ◌≤◌, Bool, true, false, cond, eqb, sym, refl, ap, ◌∙◌, subst, inl, inr, ⊎_elim, arith}
+use Rattle.std.proofs.Common.{◌≡◌, ℕ, ◌+◌, ◌-◌, ◌*◌, ◌/◌, ◌%◌, ◌^◌, ◌<◌, ◌≤◌, Bool, true, false, cond, eqb, sym, refl, ap, ◌∙◌, subst, inl, inr, ⊎_elim, ltb, ◌||◌, arith, lit<}
 use Rattle.std.proofs.Math.Path.{subst₂}
 use Rattle.std.proofs.Math.Nat.{div-eq_of_lt, mul-le-mul_right, mul-lt-mul_of_pos_right, mul-pos, pow-le-pow_right, div-add-mod'}
 use Rattle.std.proofs.lemmas.Nat.{pow-add, pow_pos, mod_below, mod-mul-add}
-use Rattle.std.proofs.lemmas.Bool.{cases_lt, le-ltb}
+use Rattle.std.proofs.lemmas.Bool.{cases_lt, lt-ltb, le-ltb}
 use Rattle.apfloat_base.specs.declared.kinds.Round.{Round}
 use Rattle.apfloat_base.specs.declared.sig.loss.Loss.{Loss}
 use Rattle.apfloat_base.specs.declared.sig.loss.Loss.TheVariants.{ExactlyZero, LessThanHalf, ExactlyHalf, MoreThanHalf}
@@ -14,9 +14,11 @@ use Rattle.apfloat_base.specs.rounding.Rounding.{IsDelivered, is_tiny, signed_qu
 use Rattle.apfloat_base.specs.rounding.RoundingToOdd.{IsRoundedToOdd}
 use Rattle.apfloat_base.specs.rounding.Standing.{StandsFor}
 use Rattle.apfloat_base.proofs.formats.Ranges.{half_within}
-use Rattle.apfloat_base.proofs.general.Powers.{two_pos, exponent_below, pow3}
-use Rattle.apfloat_base.proofs.rounding.Deliveries.{delivered_exactly, delivered_inexactly, exact_if, inexact_if}
-use Rattle.apfloat_base.proofs.rounding.KeptDigits.{kept_stands, stands_cancel, fits_cut, enclosed_from}
+use Rattle.apfloat_base.proofs.general.Powers.{two_pos, twice_half, exponent_below, pow3}
+use Rattle.apfloat_base.proofs.arithmetic.LongDivisions.{whole_quotient}
+use Rattle.apfloat_base.proofs.rounding.Deliveries.{tiny_before, tiny_after, delivered_exactly, delivered_inexactly, exact_if, inexact_if}
+use Rattle.apfloat_base.proofs.rounding.KeptDigits.{kept_stands, stands_cancel, stands_times, fits_cut, full_cut, enclosed_from}
+use Rattle.apfloat_base.proofs.rounding.Laws.{exact_delivered}
 use Rattle.apfloat_base.proofs.rounding.Losses.{cut_at}
 use Rattle.apfloat_base.proofs.rounding.OddRoundings.{to_odd_cancel, to_odd_times}
 use Rattle.apfloat_unpacked.specs.Cuts.{loss_at}
@@ -255,7 +257,133 @@ folded_odd s least k up down up' down' amount parts e h =
     to_odd_cancel least s (amount * 2 ^ down') (parts * 2 ^ up') (2 ^ down) (pow_pos down)
     (subst₂ (λ (x : ℕ) (y : ℕ). IsRoundedToOdd least s x y) a (b ∙ b' ∙ b'') t)
 
+-- the unit of a significand of which the last digits are a loss
+pub folded_stands : (s : ℕ) (loss : Loss) (k up down up' down' amount parts : ℕ) → k + up + down' ≡ up' + down
+    → StandsFor s loss (amount * 2 ^ down) (2 ^ k * (parts * 2 ^ up))
+    → StandsFor s loss (amount * 2 ^ down') (parts * 2 ^ up')
+folded_stands s loss k up down up' down' amount parts e h =
+    let t = stands_times s loss (amount * 2 ^ down) (2 ^ k * (parts * 2 ^ up)) (2 ^ down') (pow_pos down') h in
+    let a : amount * 2 ^ down * 2 ^ down' ≡ amount * 2 ^ down' * 2 ^ down = omega arith in
+    let p : 2 ^ k * 2 ^ up * 2 ^ down' ≡ 2 ^ up' * 2 ^ down =
+    sym (pow3 k up down') ∙ ap (λ (x : ℕ). 2 ^ x) e ∙ pow-add 2 up' down in
+    let b : 2 ^ k * (parts * 2 ^ up) * 2 ^ down' ≡ parts * (2 ^ k * 2 ^ up * 2 ^ down') = omega arith in
+    let b' : parts * (2 ^ k * 2 ^ up * 2 ^ down') ≡ parts * (2 ^ up' * 2 ^ down) = ap (λ (x : ℕ). parts * x) p in
+    let b'' : parts * (2 ^ up' * 2 ^ down) ≡ parts * 2 ^ up' * 2 ^ down = omega arith in
+    stands_cancel s loss (amount * 2 ^ down') (parts * 2 ^ up') (2 ^ down) (pow_pos down)
+    (subst₂ (λ (x : ℕ) (y : ℕ). StandsFor s loss x y) a (b ∙ b' ∙ b'') t)
+
+-- the last two digits of a significand that was rounded to odd, as a loss
+pub quarters_stand : (least s amount unit : ℕ) → 0 < unit → IsRoundedToOdd least s amount unit
+    → StandsFor (s / 4) (loss_at (s % 4) 2) amount (4 * unit)
+quarters_stand least s amount unit u (inl e) =
+    let d : s / 4 * (2 * 2) + s % 4 ≡ s = omega arith in
+    let d' : (s / 4 * (2 * 2) + s % 4) * unit ≡ s * unit = ap (λ (x : ℕ). x * unit) d in
+    let b : s % 4 < 2 * 2 = omega arith in
+    rest_stands (s / 4) 2 (s % 4) amount unit u b (omega (arith, e, d'))
+quarters_stand least s amount unit u (inr o) =
+    let d : s * 1 ≡ s / 4 * (2 * (2 * 1 * 1)) + s % 4 = omega arith in
+    let b : s % 4 < 2 * (2 * 1 * 1) = omega arith in
+    let one : amount * 1 ≡ amount = omega arith in
+    subst (λ (x : ℕ). StandsFor (s / 4) (loss_at (s % 4) 2) x (4 * unit)) one
+    (odd_rest (s / 4) 1 s (s % 4) amount unit 1 (lit< tt) o.odd d b o.above o.below)
+
+-- which are cut off
+pub quarters_fit : (precision s : ℕ) → s < 2 ^ (precision + 2) → s / 4 < 2 ^ precision
+quarters_fit precision s f = fits_cut s (precision + 2) 2 precision f (omega arith)
+
+pub quarters_full : (precision s : ℕ) → 0 < precision → 2 ^ (precision + 1) ≤ s → 2 ^ (precision - 1) ≤ s / 4
+quarters_full precision s p f =
+    full_cut s (precision + 2) 2 precision p
+    (λ _. let e : precision + 1 ≡ precision + 2 - 1 = omega arith in
+    subst (λ (x : ℕ). 2 ^ x ≤ s) e f) (omega arith)
+
+pub quarters_cut : (precision s up down place amount parts : ℕ) → 0 < precision → s < 2 ^ (precision + 2)
+    → 2 ^ (precision + 1) ≤ s → 2 + up ≡ place + down → 0 < parts
+    → IsRoundedToOdd (2 ^ (precision + 1)) s (amount * 2 ^ down) (parts * 2 ^ up)
+    → IsEnclosed precision (2 ^ (precision - 1)) (s / 4) place amount parts
+    × StandsFor (s / 4) (loss_at (s % 4) 2) amount (2 ^ place * parts)
+quarters_cut precision s up down place amount parts z f l e p h =
+    let q = quarters_stand (2 ^ (precision + 1)) s (amount * 2 ^ down) (parts * 2 ^ up) (mul-pos p (pow_pos up)) h in
+    let k = kept_stands (s / 4) (loss_at (s % 4) 2) amount parts 2 up down place e q in (
+      enclosed_from precision (s / 4) place (loss_at (s % 4) 2) amount parts z p (quarters_fit precision s f)
+          (inr (quarters_full precision s z l)) k,
+      k,
+    )
+
+-- ---- a whole number of quanta
+
+-- in a finer unit
+pub whole_down : (s shift places amount : ℕ) → s < 2 ^ 64 → (places ≤ 63 → shift ≡ places)
+    → (63 < places → shift ≡ 63) → amount * 2 ^ places ≡ s → s / 2 ^ shift ≡ amount
+whole_down s shift places amount l n f e =
+    ⊎_elim
+    (λ (a : 63 < places).
+    let a' : 64 ≤ places = omega arith in
+    let w : 2 ^ 64 ≤ 2 ^ places = pow-le-pow_right two_pos a' in
+    let z : amount ≡ 0 =
+    ⊎_elim
+    (λ (b : amount < 1). omega arith)
+    (λ (b : 1 ≤ amount).
+    let k : 1 * 2 ^ places ≤ amount * 2 ^ places = mul-le-mul_right (2 ^ places) b in
+    absurd (omega (arith, k, w, l, e)))
+    (cases_lt amount 1) in
+    let k : amount * 2 ^ places ≡ 0 * 2 ^ places = ap (λ (x : ℕ). x * 2 ^ places) z in
+    let y : s ≡ 0 = omega (arith, k, e) in
+    let p : 0 < 2 ^ shift = pow_pos shift in
+    div-eq_of_lt (omega (arith, y, p)) ∙ sym z)
+    (λ (a : places ≤ 63).
+    ap (λ (x : ℕ). s / 2 ^ x) (n a)
+    ∙ sym (whole_quotient amount (2 ^ places) 0 s (omega (arith, e)) (pow_pos places)))
+    (cases_lt 63 places)
+
+-- fewer than those of the smallest normalized value
+pub whole_below : (precision s digits places shift : ℕ) → 0 < precision → s < 2 ^ digits → s < 2 ^ 64
+    → digits + 1 ≤ precision + places → (places ≤ 63 → shift ≡ places) → (63 < places → shift ≡ 63)
+    → s / 2 ^ shift ≤ 2 ^ (precision - 1)
+whole_below precision s digits places shift p f l b n g =
+    ⊎_elim
+    (λ (a : 63 < places).
+    let q : s / 2 ^ shift < 2 ^ 1 = fits_cut s 64 shift 1 l (omega (arith, g a)) in
+    let w : 1 ≤ 2 ^ (precision - 1) = pow_pos (precision - 1) in
+    omega (arith, q, w))
+    (λ (a : places ≤ 63).
+    let q : s / 2 ^ shift < 2 ^ (precision - 1) =
+    fits_cut s digits shift (precision - 1) f (omega (arith, n a, b, p)) in
+    omega (arith, q))
+    (cases_lt 63 places)
+
+-- which is delivered as it is
+pub whole_delivered : (format : Format) (mode : Round) (negative : Bool) (quanta amount : ℕ) (value : Datum)
+    (status : ℕ) → 3 ≤ format.precision → quanta ≤ 2 ^ (format.precision - 1) → quanta ≡ amount
+    → value ≡ signed_quanta format.nonfinite negative quanta → status ≡ ok_bits
+    → IsDelivered format mode negative amount 1 value status
+whole_delivered format mode negative quanta amount value status s f e v o =
+    let t : 2 * 2 ^ (format.precision - 1) ≡ 2 ^ format.precision = twice_half format.precision (omega (arith, s)) in
+    let p : 0 < 2 ^ (format.precision - 1) = pow_pos (format.precision - 1) in
+    let h = half_within format s in
+    subst₂ (λ (x : Datum) (y : ℕ). IsDelivered format mode negative amount 1 x y) (sym v) (sym o)
+    (exact_delivered format mode negative quanta amount 1 (lit< tt)
+    (record { significand = quanta; place = 0; fits = omega (arith, f, t, p); is = omega arith })
+    (omega (arith, f, h)) (omega (arith, e)))
+
 -- ---- the point that is picked, and its status
+
+-- where no exponent is unbounded, the significands alone tell which results are tiny
+plain_choice : (b i x y z w : Bool) → i ≡ false → x ≡ true → z ≡ w → cond b x (cond i y z) ≡ (b || w)
+plain_choice true i x y z w e f g = f
+plain_choice false true x y z w e f g = cc
+plain_choice false false x y z w e f g = g
+
+pub plainly_tiny : (format : Format) (mode : Round) (negative : Bool) (m amount parts next : ℕ) → 0 < parts
+    → format.ieee_flags ≡ false → m < 2 ^ (format.precision - 1)
+    → IsEnclosed format.precision (2 ^ (format.precision - 1)) m 0 amount parts
+    → is_tiny format mode negative amount parts (next * 2 ^ 0)
+    ≡ (format.tiny_before_rounding || ltb next (2 ^ (format.precision - 1)))
+plainly_tiny format mode negative m amount parts next p e l i =
+    let half = 2 ^ (format.precision - 1) in
+    plain_choice format.tiny_before_rounding format.ieee_flags _ _ _ _ e
+    (sym (tiny_before format.precision half m 0 amount parts p i) ∙ lt-ltb m half l)
+    (sym (tiny_after half next 0 (inl refl)))
 
 moved_at_most : (moved : Bool) (m : ℕ) → cond moved (m + 1) m ≤ m + 1
 moved_at_most true m = omega arith

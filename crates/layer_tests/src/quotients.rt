@@ -4,7 +4,7 @@ ghost use Rattle.std.specs.Prelude.{◌*◌, ◌^◌, ◌<◌, ◌≤◌};
 
 use crate::asserts::same;
 use apfloat_base::sig::{
-    divide, divide_by_words, divide_short, divide_short_by_guess, divide_short_by_words,
+    divide, divide_by_words, divide_short, divide_short_by_guess, divide_short_by_words, is_exact,
     moved_rest, short_moved_rest,
 };
 
@@ -49,7 +49,7 @@ fn short_agree(dividend: u64, divisor: u64, places: u32) -> bool
     words.whole == single.whole && words.loss == single.loss
 }
 
-/// Whether the division by a guess at that distance from the quotient returns what the division by single digits does.
+/// Whether the division by a guess at that distance from the quotient returns that quotient, rounded to odd.
 fn guess_agrees(distance: u64, dividend: u64, divisor: u64, places: u32) -> bool
     requires some { 0 < divisor }
     requires narrow { divisor < 2 ^ 62 }
@@ -57,9 +57,10 @@ fn guess_agrees(distance: u64, dividend: u64, divisor: u64, places: u32) -> bool
     requires short { places ≤ 61 }
 {
     let single = divide_short(dividend, divisor, places);
-    let guess = ((single.whole % (1 << 64)) as u64).wrapping_add(distance);
-    let guessed = divide_short_by_guess(guess, dividend, divisor, places);
-    guessed.whole == single.whole && guessed.loss == single.loss
+    let whole = (single.whole % (1 << 64)) as u64;
+    let more = u64::from(!is_exact(single.loss) & (whole % 2 == 0));
+    let guess = whole.wrapping_add(distance);
+    divide_short_by_guess(guess, dividend, divisor, places) == whole.wrapping_add(more)
 }
 
 /// Whether guesses agree that are right, or too great or too small by 1, 2 and much.

@@ -2,9 +2,6 @@
 use Rattle.std.proofs.Common.{◌≡◌, ℕ, ◌+◌, ◌-◌, ◌*◌, ◌/◌, ◌^◌, ◌<◌, ◌≤◌, sym, ap, ◌∙◌, subst, arith}
 use Rattle.std.proofs.Math.Nat.{mul-le-mul_left, pow-le-pow_right, eq_of_mul-eq-mul_right, mul-pos, le-div_iff_mul-le, mul-le-mul_right}
 use Rattle.std.proofs.lemmas.Nat.{pow_pos}
-use Rattle.apfloat_base.specs.declared.sig.loss.Loss.{Loss}
-use Rattle.apfloat_base.specs.rounding.Standing.{StandsFor}
-use Rattle.apfloat_base.proofs.rounding.KeptDigits.{stands_cancel, stands_times}
 use Rattle.apfloat_base.proofs.general.Powers.{pow3, pow4, pow22, two_pos}
 
 -- the significands and the powers of a product, each grouped together
@@ -27,16 +24,19 @@ product_stands sx sy a b ui uj di dj scale u d hx hy e =
     eq_of_mul-eq-mul_right (2 ^ di * 2 ^ dj) (mul-pos (pow_pos di) (pow_pos dj)) (a * b * 2 ^ d)
     (sx * sy * (2 ^ scale * 2 ^ u)) (l ∙ m ∙ regroup_product sx sy (2 ^ ui) (2 ^ uj) (2 ^ d) ∙ k ∙ r)
 
--- the quotient of two numbers of quanta, from the quotient of their significands
-pub quotient_stands : (q : ℕ) (loss : Loss) (sx sy a b places ui uj di dj scale u d : ℕ) → a * 2 ^ di ≡ sx * 2 ^ ui
-    → b * 2 ^ dj ≡ sy * 2 ^ uj → di + places + uj + u ≡ scale + d + (dj + ui)
-    → StandsFor q loss (sx * 2 ^ places) sy → StandsFor q loss (a * 2 ^ scale * 2 ^ d) (b * 2 ^ u)
-quotient_stands q loss sx sy a b places ui uj di dj scale u d hx hy e h =
+-- what is said of the quotient of two significands, and does not depend on its unit, is so of the quotient of the
+-- numbers of quanta
+pub quotient_carries : (Says : ℕ → ℕ → Type 0) (sx sy a b places ui uj di dj scale u d : ℕ)
+    → ((amount unit w : ℕ) → 0 < w → Says amount unit → Says (amount * w) (unit * w))
+    → ((amount unit w : ℕ) → 0 < w → Says (amount * w) (unit * w) → Says amount unit)
+    → a * 2 ^ di ≡ sx * 2 ^ ui → b * 2 ^ dj ≡ sy * 2 ^ uj
+    → di + places + uj + u ≡ scale + d + (dj + ui)
+    → Says (sx * 2 ^ places) sy → Says (a * 2 ^ scale * 2 ^ d) (b * 2 ^ u)
+quotient_carries Says sx sy a b places ui uj di dj scale u d times cancel hx hy e h =
     let p : 2 ^ di * 2 ^ places * 2 ^ uj * 2 ^ u ≡ 2 ^ scale * 2 ^ d * (2 ^ dj * 2 ^ ui) =
     sym (pow4 di places uj u) ∙ ap (λ (x : ℕ). 2 ^ x) e ∙ pow22 scale d dj ui in
-    let w : ℕ = 2 ^ ui * 2 ^ uj * 2 ^ u in
-    let s : StandsFor q loss (sx * 2 ^ places * (2 ^ ui * 2 ^ uj * 2 ^ u)) (sy * (2 ^ ui * 2 ^ uj * 2 ^ u)) =
-    stands_times q loss (sx * 2 ^ places) sy (2 ^ ui * 2 ^ uj * 2 ^ u)
+    let s : Says (sx * 2 ^ places * (2 ^ ui * 2 ^ uj * 2 ^ u)) (sy * (2 ^ ui * 2 ^ uj * 2 ^ u)) =
+    times (sx * 2 ^ places) sy (2 ^ ui * 2 ^ uj * 2 ^ u)
     (mul-pos (mul-pos (pow_pos ui) (pow_pos uj)) (pow_pos u)) h in
     let l₁ : sx * 2 ^ places * (2 ^ ui * 2 ^ uj * 2 ^ u) ≡ sx * 2 ^ ui * (2 ^ places * 2 ^ uj * 2 ^ u) =
     omega arith in
@@ -50,10 +50,10 @@ quotient_stands q loss sx sy a b places ui uj di dj scale u d hx hy e h =
     let r₂ : sy * 2 ^ uj * (2 ^ ui * 2 ^ u) ≡ b * 2 ^ dj * (2 ^ ui * 2 ^ u) =
     ap (λ (x : ℕ). x * (2 ^ ui * 2 ^ u)) (sym hy) in
     let r₃ : b * 2 ^ dj * (2 ^ ui * 2 ^ u) ≡ b * 2 ^ u * (2 ^ dj * 2 ^ ui) = omega arith in
-    let t : StandsFor q loss (a * 2 ^ scale * 2 ^ d * (2 ^ dj * 2 ^ ui)) (b * 2 ^ u * (2 ^ dj * 2 ^ ui)) =
-    subst (λ (x : ℕ). StandsFor q loss x (b * 2 ^ u * (2 ^ dj * 2 ^ ui))) (l₁ ∙ l₂ ∙ l₃ ∙ l₄ ∙ l₅)
-    (subst (λ (x : ℕ). StandsFor q loss (sx * 2 ^ places * (2 ^ ui * 2 ^ uj * 2 ^ u)) x) (r₁ ∙ r₂ ∙ r₃) s) in
-    stands_cancel q loss (a * 2 ^ scale * 2 ^ d) (b * 2 ^ u) (2 ^ dj * 2 ^ ui) (mul-pos (pow_pos dj) (pow_pos ui)) t
+    let t : Says (a * 2 ^ scale * 2 ^ d * (2 ^ dj * 2 ^ ui)) (b * 2 ^ u * (2 ^ dj * 2 ^ ui)) =
+    subst (λ (x : ℕ). Says x (b * 2 ^ u * (2 ^ dj * 2 ^ ui))) (l₁ ∙ l₂ ∙ l₃ ∙ l₄ ∙ l₅)
+    (subst (λ (x : ℕ). Says (sx * 2 ^ places * (2 ^ ui * 2 ^ uj * 2 ^ u)) x) (r₁ ∙ r₂ ∙ r₃) s) in
+    cancel (a * 2 ^ scale * 2 ^ d) (b * 2 ^ u) (2 ^ dj * 2 ^ ui) (mul-pos (pow_pos dj) (pow_pos ui)) t
 
 -- a quotient with more places than the precision has all the digits of the format
 pub quotient_full : (q n d precision places : ℕ) → 0 < d → 2 ^ (precision - 1) ≤ n → d < 2 ^ precision

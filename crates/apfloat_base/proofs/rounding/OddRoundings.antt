@@ -1,11 +1,13 @@
 -- Numbers of units that are rounded to odd.
-use Rattle.std.proofs.Common.{◌≡◌, ℕ, zero, suc, ◌+◌, ◌-◌, ◌*◌, ◌%◌, ◌^◌, ◌<◌, ◌≤◌, sym, refl, ap, inl, inr, arith}
+use Rattle.std.proofs.Common.{◌≡◌, ℕ, zero, suc, ◌+◌, ◌-◌, ◌*◌, ◌/◌, ◌%◌, ◌^◌, ◌<◌, ◌≤◌, Bool, true, false, cond, eqb, sym, refl, ap, subst, inl, inr, ⊎_elim, arith}
 use Rattle.std.proofs.Math.Nat.{mul-le-mul_right, mul-le-mul_left, mul-lt-mul_of_pos_right, eq_of_mul-eq-mul_right, lt_of_mul-lt-mul_right, pow-le-pow_right}
+use Rattle.std.proofs.lemmas.Nat.{div-add-mod', mod_below}
+use Rattle.std.proofs.lemmas.Bool.{cases_lt, eq-eqb, ne_eqb}
 use Rattle.apfloat_base.proofs.general.Powers.{two_pos}
 use Rattle.apfloat_base.specs.declared.sig.loss.Loss.{Loss}
 use Rattle.apfloat_base.specs.declared.sig.loss.Loss.TheVariants.{ExactlyZero, LessThanHalf, ExactlyHalf, MoreThanHalf}
 use Rattle.apfloat_base.specs.rounding.Standing.{StandsFor}
-use Rattle.apfloat_base.specs.rounding.RoundingToOdd.{IsRoundedToOdd}
+use Rattle.apfloat_base.specs.rounding.RoundingToOdd.{IsRoundedToOdd, odd_for_rest, odd_quotient}
 
 -- ---- a number that is cut
 
@@ -36,11 +38,31 @@ stays_odd n u q a b o = inr (record {
   below = omega (arith, b);
 })
 
--- what is cut off as a whole leaves 1, if it is not 0
-pub beyond_to_odd : (n k : ℕ) → 64 ≤ k → n < 2 ^ 64 → 0 < n → IsRoundedToOdd 1 1 n (2 ^ k)
-beyond_to_odd n k l h p =
-    let w : 2 ^ 64 ≤ 2 ^ k = pow-le-pow_right two_pos l in
-    inr (record { long = omega arith; odd = refl; above = omega (arith, p); below = omega (arith, w, h) })
+-- what is cut off as a whole leaves 1, if it is not 0, however far the unit is above it
+beyond_to_odd : (n k places r : ℕ) → n < 2 ^ k → k ≤ places → IsRoundedToOdd 1 r n (2 ^ k)
+    → IsRoundedToOdd 1 r n (2 ^ places)
+beyond_to_odd n k places zero f l (inl e) = inl (omega (arith, e))
+beyond_to_odd n k places (suc r) f l (inl e) = absurd (omega (arith, e, f))
+beyond_to_odd n k places r f l (inr b) =
+    let w : 2 ^ k ≤ 2 ^ places = pow-le-pow_right two_pos l in
+    let m = b.long in
+    let o = b.odd in
+    let a = b.above in
+    let q : r < 2 = lt_of_mul-lt-mul_right (2 ^ k) (omega (arith, a, f)) in
+    let s : r ≡ 1 = omega (arith, m, q) in
+    let t : r * 2 ^ k ≡ 1 * 2 ^ k = ap (λ (x : ℕ). x * 2 ^ k) s in
+    let t' : r * 2 ^ places ≡ 1 * 2 ^ places = ap (λ (x : ℕ). x * 2 ^ places) s in
+    inr (record { long = m; odd = o; above = omega (arith, a, t, t'); below = omega (arith, t', w, f) })
+
+pub within_to_odd : (n k places r : ℕ) → n < 2 ^ 63 → (places ≤ 63 → k ≡ places) → (63 < places → k ≡ 63)
+    → IsRoundedToOdd 1 r n (2 ^ k) → IsRoundedToOdd 1 r n (2 ^ places)
+within_to_odd n k places r l near far h =
+    ⊎_elim
+    (λ (a : 63 < places).
+    beyond_to_odd n 63 places r l (omega (arith, a))
+    (subst (λ (x : ℕ). IsRoundedToOdd 1 r n (2 ^ x)) (far a) h))
+    (λ (a : places ≤ 63). subst (λ (x : ℕ). IsRoundedToOdd 1 r n (2 ^ x)) (near a) h)
+    (cases_lt 63 places)
 
 -- a significand that is at least one bound is at least any lower one
 pub to_odd_least : (least lower s amount u : ℕ) → lower ≤ least → IsRoundedToOdd least s amount u
@@ -71,6 +93,64 @@ lost_to_odd least q loss amount u l p n h =
         below = t;
       }),
     )
+
+-- ---- a quotient
+
+at_least : (b : Bool) (q : ℕ) → q ≤ cond b q (q + 1 - q % 2)
+at_least true q = omega arith
+at_least false q = omega arith
+
+pub odd_at_least : (q rest : ℕ) → q ≤ odd_for_rest q rest
+odd_at_least q rest = at_least (eqb rest 0) q
+
+at_most : (b : Bool) (q : ℕ) → cond b q (q + 1 - q % 2) ≤ q + 1 - q % 2
+at_most true q = omega arith
+at_most false q = omega arith
+
+pub odd_at_most : (q rest : ℕ) → odd_for_rest q rest ≤ q + 1 - q % 2
+odd_at_most q rest = at_most (eqb rest 0) q
+
+-- a whole quotient below which something is left
+left_to_odd : (least n d q : ℕ) → least ≤ q → q * d < n → n < (q + 1) * d
+    → IsRoundedToOdd least (q + 1 - q % 2) n d
+left_to_odd least n d q l a b =
+    ⊎_elim
+    (λ (e : q % 2 < 1).
+    let s : q + 1 - q % 2 ≡ q + 1 = omega arith in
+    let k : (q + 1 - q % 2) * d ≡ (q + 1) * d = ap (λ (x : ℕ). x * d) s in
+    let k' : (q + 1 - q % 2 + 1) * d ≡ (q + 1 + 1) * d = ap (λ (x : ℕ). (x + 1) * d) s in
+    inr (record {
+      long = omega arith;
+      odd = omega arith;
+      above = omega (arith, k, a);
+      below = omega (arith, k', b);
+    }))
+    (λ (o : 1 ≤ q % 2).
+    let s : q + 1 - q % 2 ≡ q = omega arith in
+    let k : (q + 1 - q % 2) * d ≡ q * d = ap (λ (x : ℕ). x * d) s in
+    let k' : (q + 1 - q % 2 + 1) * d ≡ (q + 1) * d = ap (λ (x : ℕ). (x + 1) * d) s in
+    inr (record {
+      long = omega arith;
+      odd = omega arith;
+      above = omega (arith, k, a, b);
+      below = omega (arith, k', b);
+    }))
+    (cases_lt (q % 2) 1)
+
+pub quotient_to_odd : (least n d : ℕ) → 0 < d → least ≤ n / d → IsRoundedToOdd least (odd_quotient n d) n d
+quotient_to_odd least n d p l =
+    let e : n / d * d + n % d ≡ n = div-add-mod' n d in
+    let m : n % d < d = mod_below n d p in
+    ⊎_elim
+    (λ (z : n % d < 1).
+    let b : eqb (n % d) 0 ≡ true = eq-eqb (n % d) 0 (omega arith) in
+    subst (λ (x : Bool). IsRoundedToOdd least (cond x (n / d) (n / d + 1 - n / d % 2)) n d) (sym b)
+    (inl (omega (arith, e))))
+    (λ (z : 1 ≤ n % d).
+    let b : eqb (n % d) 0 ≡ false = ne_eqb (n % d) 0 (λ y. omega (arith, y)) in
+    subst (λ (x : Bool). IsRoundedToOdd least (cond x (n / d) (n / d + 1 - n / d % 2)) n d) (sym b)
+    (left_to_odd least n d (n / d) l (omega (arith, e)) (omega (arith, e, m))))
+    (cases_lt (n % d) 1)
 
 -- ---- units
 

@@ -1,6 +1,6 @@
 -- Rounding to odd: a magnitude that is not a whole number of units becomes the odd one of its two neighbours. If enough
 -- digits are left, the result can be rounded again as the magnitude itself would be.
-use Rattle.std.specs.Prelude.{◌≡◌, ℕ, ◌+◌, ◌*◌, ◌%◌, ◌<◌, ◌≤◌, ◌⊎◌}
+use Rattle.std.specs.Prelude.{◌≡◌, ℕ, ◌+◌, ◌-◌, ◌*◌, ◌/◌, ◌%◌, ◌<◌, ◌≤◌, ◌⊎◌, eqb, if◌then◌else◌}
 
 -- `amount` is less than one unit away from `significand` units, which is odd, and at least `least`
 pub record IsNearOdd (least significand amount unit : ℕ) : Type 0 where
@@ -13,3 +13,11 @@ pub record IsNearOdd (least significand amount unit : ℕ) : Type 0 where
 abbrev pub IsRoundedToOdd : ℕ → ℕ → ℕ → ℕ → Type 0
 IsRoundedToOdd least significand amount unit =
     (amount ≡ significand * unit) ⊎ IsNearOdd least significand amount unit
+
+-- a whole quotient and its rest: if there is one, the odd one of the two neighbours
+abbrev pub odd_for_rest : ℕ → ℕ → ℕ
+odd_for_rest quotient rest = if eqb rest 0 then quotient else quotient + 1 - quotient % 2
+
+-- the quotient of two numbers, rounded to odd
+abbrev pub odd_quotient : ℕ → ℕ → ℕ
+odd_quotient dividend divisor = odd_for_rest (dividend / divisor) (dividend % divisor)

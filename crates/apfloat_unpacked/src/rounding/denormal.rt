@@ -6,8 +6,9 @@
 //! digit. No case of a count, of a `Loss` or of a zero is told from another by a jump, which the processor could not
 //! predict.
 
-ghost use Rattle.std.specs.Prelude.{◌≡◌, ◌⊎◌, ℕ, ◌+◌, ◌-◌, ◌*◌, ◌^◌, ◌<◌, ◌≤◌, pos, ◌+ℤ◌, ◌≤ℤ◌};
+ghost use Rattle.std.specs.Prelude.{◌≡◌, ◌⊎◌, ℕ, ◌+◌, ◌-◌, ◌*◌, ◌%◌, ◌^◌, ◌<◌, ◌≤◌, eqb, pos, ◌+ℤ◌, ◌≤ℤ◌, if◌then◌else◌, false};
 ghost use Rattle.apfloat_base.specs.rounding.Bounds.{IsWithin, unit_bound};
+ghost use Rattle.apfloat_base.specs.rounding.Enclosure.{rounds_up};
 ghost use Rattle.apfloat_base.specs.rounding.Rounding.{IsDelivered};
 ghost use Rattle.apfloat_base.specs.rounding.RoundingToOdd.{IsRoundedToOdd};
 ghost use Rattle.apfloat_base.specs.rounding.Standing.{up, down};
@@ -85,6 +86,27 @@ fn in_word(given: Given, digits: u32) -> Word
     }
 }
 
+/// `significand * 2^unit` quanta below the smallest normalized value, if that is a whole number.
+#[inline(always)]
+pub(super) fn whole_quanta(precision: u32, significand: u64, digits: u32, unit: ExpInt) -> u64
+    requires some { 0 < precision }
+    requires short { precision ≤ 59 }
+    requires fits { significand < 2 ^ digits }
+    requires within { IsWithin unit_bound unit }
+    requires below { (significand ≡ 0) ⊎ ((unit +ℤ pos (digits + 1)) ≤ℤ pos precision) }
+    ensures few { result ≤ 2 ^ (precision - 1) }
+    ensures quanta { (amount : ℕ) → amount * 2 ^ down unit ≡ significand * 2 ^ up unit
+        → result ≡ amount }
+{
+    if unit < 0 {
+        significand >> places_below(unit)
+    } else if significand == 0 {
+        0
+    } else {
+        significand << unit as u32
+    }
+}
+
 /// Cuts the digits of a word at the quantum.
 #[inline(always)]
 fn cut_at_quantum(precision: u32, word: Word) -> Cut
@@ -113,7 +135,7 @@ fn cut_at_quantum(precision: u32, word: Word) -> Cut
 
 /// The loss of a rest, in units of which the lowest kept digit is `2 * half`.
 #[inline(always)]
-fn loss_of(rest: u64, half: u64) -> Loss
+pub(super) fn loss_of(rest: u64, half: u64) -> Loss
     ensures { result ≡ loss_at rest half }
 {
     if rest == 0 {
@@ -125,6 +147,22 @@ fn loss_of(rest: u64, half: u64) -> Loss
     } else {
         Loss::MoreThanHalf
     }
+}
+
+/// What is kept at the quantum, moved up if the mode demands it for the rest below.
+#[inline(always)]
+fn next_at_quantum(precision: u32, cut: Cut, mode: Round, negative: bool) -> u64
+    requires some { 0 < precision }
+    requires short { precision ≤ 62 }
+    requires fits { cut.significand < 2 ^ (precision - 1) }
+    requires rest { cut.rest < 2 * cut.half }
+    ensures value { result ≡ (if rounds_up mode negative (loss_at cut.rest cut.half)
+        (eqb (cut.significand % 2) 1) then cut.significand + 1 else cut.significand) }
+    ensures few { result ≤ 2 ^ (precision - 1) }
+{
+    let odd = cut.significand % 2 == 1;
+    let moved = moves_past(mode, negative, cut.rest, cut.half, odd);
+    next_if(precision - 1, cut.significand, moved) as u64
 }
 
 /// Rounds what is kept at the quantum, with the rest below it, to a value of the format.
@@ -147,9 +185,7 @@ fn round_at_quantum(
         → IsCutOff shape.precision cut amount parts
         → GivesAt shape (IsDelivered (format_at shape) mode negative amount parts) result }
 {
-    let odd = cut.significand % 2 == 1;
-    let moved = moves_past(mode, negative, cut.rest, cut.half, odd);
-    let next = next_if(shape.precision, cut.significand, moved) as u64;
+    let next = next_at_quantum(shape.precision, cut, mode, negative);
     let kept = Kept {
         significand: cut.significand,
         place: cut.place,
@@ -183,4 +219,39 @@ pub(super) fn round_denormal(
 {
     let cut = cut_at_quantum(shape.precision, in_word(given, digits));
     round_at_quantum(shape, given, cut, mode, negative)
+}
+
+/// Rounds a significand that was rounded to odd, with `digits` digits, whose magnitude is below the smallest normalized
+/// value, where tininess depends on the significands alone.
+#[inline(always)]
+pub(super) fn round_odd_denormal(
+    shape: Shape,
+    significand: u64,
+    digits: u32,
+    unit: ExpInt,
+    mode: Round,
+    negative: bool,
+) -> StatusAnd<Unpacked>
+    requires plain { shape.ieee_flags ≡ false }
+    requires precise { shape.precision ≤ 59 }
+    requires short { digits ≤ 62 }
+    requires fits { significand < 2 ^ digits }
+    requires within { IsWithin unit_bound unit }
+    requires fine { (unit +ℤ pos 1) ≤ℤ pos 0 }
+    requires below { (unit +ℤ pos (digits + 1)) ≤ℤ pos shape.precision }
+    ensures stored { IsStored shape result.value }
+    ensures delivered { (amount parts : ℕ) → 0 < parts
+        → IsRoundedToOdd (2 ^ (shape.precision + 1)) significand (amount * 2 ^ down unit)
+        (parts * 2 ^ up unit)
+        → GivesAt shape (IsDelivered (format_at shape) mode negative amount parts) result }
+{
+    let word = Word {
+        significand,
+        digits,
+        unit,
+    };
+    let cut = cut_at_quantum(shape.precision, word);
+    let next = next_at_quantum(shape.precision, cut, mode, negative);
+    let tiny = shape.tiny_before_rounding | (u128::from(next) < shape.integer_bit());
+    status_of_rest(cut.rest, tiny).and(from_few_quanta(shape, negative, next))
 }

@@ -13,11 +13,12 @@ ghost use Rattle.apfloat_unpacked.specs.Cuts.{IsCutOff};
 ghost use Rattle.apfloat_unpacked.specs.Shapes.{format_at};
 ghost use Rattle.apfloat_unpacked.specs.Stored.{IsStored, GivesAt};
 
+use super::denormal::{loss_of, round_odd_denormal, whole_quanta};
 use super::{Cut, deliver_apart, full_place, low_of_word, round_cut, unit_place, word_power};
 use crate::shape::Shape;
-use crate::unpacked::Unpacked;
+use crate::unpacked::{Unpacked, from_few_quanta};
 use apfloat_base::sig::{Loss, digits, is_exact};
-use apfloat_base::{ExpInt, Round, StatusAnd};
+use apfloat_base::{ExpInt, Round, Status, StatusAnd};
 
 /// A significand with `digits` digits, moved up until it has 64.
 #[inline(always)]
@@ -84,14 +85,8 @@ pub fn deliver_odd(
         let cut = cut_odd(shape.precision, significand, digits, unit);
         return round_cut(shape, cut, mode, negative);
     }
-    deliver_apart(
-        shape,
-        u128::from(significand),
-        exponent,
-        Loss::ExactlyZero,
-        mode,
-        negative,
-    )
+    let quanta = whole_quanta(shape.precision, significand, digits, unit);
+    Status::OK.and(from_few_quanta(shape, negative, quanta))
 }
 
 /// A significand that is rounded to odd for what was lost below it.
@@ -110,38 +105,95 @@ pub(super) fn odd_for(significand: u64, loss: Loss) -> u64
     }
 }
 
-/// Delivers a short significand with at least two digits more than the format keeps, and what was lost below it. It is
-/// `deliver`, and faster.
+/// Cuts off the last two digits of a significand that was rounded to odd, two more than the precision.
 #[inline(always)]
-pub fn deliver_short(
+fn cut_quarters(precision: u32, significand: u64, unit: ExpInt) -> Cut
+    requires some { 0 < precision }
+    requires short { precision ≤ 59 }
+    requires fits { significand < 2 ^ (precision + 2) }
+    requires full { 2 ^ (precision + 1) ≤ significand }
+    requires within { IsWithin unit_bound unit }
+    requires above { pos 0 ≤ℤ (unit +ℤ pos 2) }
+    ensures fits { result.significand < 2 ^ precision }
+    ensures full { 2 ^ (precision - 1) ≤ result.significand }
+    ensures near { result.place < place_bound }
+    ensures rest { result.rest < 2 * result.half }
+    ensures cut { (amount parts : ℕ) → 0 < parts
+        → IsRoundedToOdd (2 ^ (precision + 1)) significand (amount * 2 ^ down unit)
+        (parts * 2 ^ up unit)
+        → IsCutOff precision result amount parts }
+{
+    Cut {
+        significand: u128::from(significand / 4),
+        place: full_place(precision, precision + 2, unit),
+        rest: significand % 4,
+        half: 2,
+    }
+}
+
+/// Delivers `significand * 2^exponent`, which was rounded to odd and has two digits more than the format keeps, with the
+/// last two digits as a `Loss`.
+#[inline(always)]
+fn deliver_quarters(
     shape: Shape,
     significand: u64,
     exponent: ExpInt,
-    loss: Loss,
+    mode: Round,
+    negative: bool,
+) -> StatusAnd<Unpacked>
+    requires full { 2 ^ (shape.precision + 1) ≤ significand }
+    requires within { IsWithin exponent_bound (exponent +ℤ pos 2) }
+    ensures stored { IsStored shape result.value }
+    ensures delivered { let unit = exponent +ℤ pos (format_at shape).scale in (amount parts : ℕ)
+        → 0 < parts
+        → IsRoundedToOdd (2 ^ (shape.precision + 1)) significand (amount * 2 ^ down unit)
+        (parts * 2 ^ up unit)
+        → GivesAt shape (IsDelivered (format_at shape) mode negative amount parts) result }
+{
+    deliver_apart(
+        shape,
+        u128::from(significand / 4),
+        exponent + 2,
+        loss_of(significand % 4, 2),
+        mode,
+        negative,
+    )
+}
+
+/// Delivers `significand * 2^exponent`, which was rounded to odd and has two digits more than the format keeps, rounded
+/// once.
+#[inline(always)]
+pub fn deliver_odd_digits(
+    shape: Shape,
+    significand: u64,
+    exponent: ExpInt,
     mode: Round,
     negative: bool,
 ) -> StatusAnd<Unpacked>
     requires short { shape.precision ≤ 59 }
-    requires room { significand < 2 ^ 63 }
-    requires long { 2 ^ (shape.precision + 1) ≤ significand }
+    requires fits { significand < 2 ^ (shape.precision + 2) }
+    requires full { 2 ^ (shape.precision + 1) ≤ significand }
     requires within { IsWithin exponent_bound exponent }
     ensures stored { IsStored shape result.value }
     ensures delivered { let unit = exponent +ℤ pos (format_at shape).scale in (amount parts : ℕ)
-        → 0 < parts → StandsFor significand loss (amount * 2 ^ down unit) (parts * 2 ^ up unit)
+        → 0 < parts
+        → IsRoundedToOdd (2 ^ (shape.precision + 1)) significand (amount * 2 ^ down unit)
+        (parts * 2 ^ up unit)
         → GivesAt shape (IsDelivered (format_at shape) mode negative amount parts) result }
 {
     let unit = unit_place(shape, exponent);
-    let odd = odd_for(significand, loss);
-    let digits = digits(u128::from(odd));
-    if unit + digits as ExpInt >= shape.precision as ExpInt {
-        let cut = cut_odd(shape.precision, odd, digits, unit);
+    if unit >= -2 {
+        let cut = cut_quarters(shape.precision, significand, unit);
         return round_cut(shape, cut, mode, negative);
     }
-    deliver_apart(
+    if shape.ieee_flags {
+        return deliver_quarters(shape, significand, exponent, mode, negative);
+    }
+    round_odd_denormal(
         shape,
-        u128::from(significand),
-        exponent,
-        loss,
+        significand,
+        shape.precision + 2,
+        unit,
         mode,
         negative,
     )

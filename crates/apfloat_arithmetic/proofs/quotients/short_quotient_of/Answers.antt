@@ -1,6 +1,6 @@
-use Rattle.std.proofs.Common.{ℕ, ◌+◌, ◌^◌, ◌<◌, ◌≤◌, arith}
+use Rattle.std.proofs.Common.{◌≡◌, ℕ, ◌+◌, ◌*◌, ◌^◌, ◌<◌, ◌≤◌, arith}
 use Rattle.std.proofs.Math.Nat.{pow-le-pow_right}
-use Rattle.apfloat_base.proofs.general.Powers.{two_pos}
+use Rattle.apfloat_base.proofs.general.Powers.{two_pos, twice_power}
 use Rattle.apfloat_base.proofs.rounding.KeptDigits.{fits_shifted}
 use Rattle.apfloat_arithmetic.proofs.quotients.short_quotient_of.Goals as goal
 
@@ -10,6 +10,13 @@ fits_within : (significand precision bound : ℕ) → significand < 2 ^ precisio
 fits_within significand precision bound fits l =
     let a : 2 ^ precision ≤ 2 ^ bound = pow-le-pow_right two_pos l in
     omega (arith, a, fits)
+
+-- a dividend below twice such a divisor, moved up, fits in a word
+moved_within : (dividend divisor precision : ℕ) → dividend < 2 * divisor → divisor < 2 ^ precision → precision ≤ 31
+    → dividend * 2 ^ (precision + 1) < 2 ^ 64
+moved_within dividend divisor precision close fits l =
+    let t : 2 ^ (precision + 1) ≡ 2 * 2 ^ precision = twice_power precision in
+    fits_shifted dividend (precision + 1) (precision + 1) 64 (omega (arith, close, fits, t)) (omega (arith, l))
 
 pub divide_short_by_guess-requires-clause-narrow : goal.divide_short_by_guess-requires-clause-narrow
 divide_short_by_guess-requires-clause-narrow c =
@@ -23,13 +30,12 @@ divide_word_by_guess-requires-clause-narrow c =
 
 pub divide_word_by_guess-requires-clause-fits : goal.divide_word_by_guess-requires-clause-fits
 divide_word_by_guess-requires-clause-fits c =
-    fits_shifted c.args.dividend c.args.precision (c.args.precision + 2) 64 c.requires.dividend_fits (omega arith)
-
-pub divide_word-requires-clause-narrow : goal.divide_word-requires-clause-narrow
-divide_word-requires-clause-narrow c =
-    let s = c.if-precision-le15.true in
-    fits_within c.args.divisor c.args.precision 62 c.requires.divisor_fits (omega (arith, s))
+    let s = c.if-precision-le-NEAR_LIMIT.true in
+    moved_within c.args.dividend c.args.divisor c.args.precision c.requires.close c.requires.divisor_fits
+    (omega (arith, s))
 
 pub divide_word-requires-clause-fits : goal.divide_word-requires-clause-fits
 divide_word-requires-clause-fits c =
-    fits_shifted c.args.dividend c.args.precision (c.args.precision + 2) 64 c.requires.dividend_fits (omega arith)
+    let s = c.if-precision-le15.true in
+    moved_within c.args.dividend c.args.divisor c.args.precision c.requires.close c.requires.divisor_fits
+    (omega (arith, s))

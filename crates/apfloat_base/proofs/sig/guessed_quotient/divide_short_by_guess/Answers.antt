@@ -1,10 +1,9 @@
-use Rattle.std.proofs.Common.{◌≡◌, ℕ, ◌+◌, ◌*◌, ◌/◌, ◌%◌, ◌^◌, ◌<◌, ◌≤◌, ◌∙◌, ap, sym, subst, arith}
+use Rattle.std.proofs.Common.{◌≡◌, ℕ, ◌*◌, ◌/◌, ◌%◌, ◌^◌, ◌<◌, ◌≤◌, ◌∙◌, ap, arith}
 use Rattle.std.proofs.Math.Nat.{mod-eq_of_lt, pow-le-pow_right, mul-le-mul_left, mul-lt-mul_of_pos_right}
-use Rattle.std.proofs.lemmas.Nat.{div-add-mod', pow_pos}
-use Rattle.apfloat_base.specs.rounding.Standing.{StandsFor}
+use Rattle.std.proofs.lemmas.Nat.{pow_pos}
+use Rattle.apfloat_base.specs.rounding.RoundingToOdd.{odd_for_rest}
 use Rattle.apfloat_base.proofs.general.Powers.{two_pos}
 use Rattle.apfloat_base.proofs.rounding.KeptDigits.{fits_shifted}
-use Rattle.apfloat_base.proofs.sig.guessed_quotient.divide_short_by_guess.Goals.{After-from, After-rest_of_divisor}
 use Rattle.apfloat_base.proofs.sig.guessed_quotient.divide_short_by_guess.Goals as goal
 
 -- the dividend moved up, which fits in two words
@@ -25,29 +24,14 @@ checked_division-division-requires-clause-fits c =
     rw (moved c.args.dividend c.args.divisor c.args.places c.from.result c.from.ensures c.requires.close
     c.requires.narrow c.requires.short) (omega (arith, l, k))
 
-moved_up : (state : After-from)
-    → state.from.result * 2 ^ state.args.places % 2 ^ 128 ≡ state.args.dividend * 2 ^ state.args.places
-moved_up c =
-    moved c.args.dividend c.args.divisor c.args.places c.from.result c.from.ensures c.requires.close
-    c.requires.narrow c.requires.short
-
-pub returns-clause-quotient : goal.returns-clause-quotient
-returns-clause-quotient c =
-    let m = moved_up (goal.at.returns-clause-quotient c).After-from in
-    c.from-2.ensures ∙ c.checked_division-division.ensures.quotient ∙ ap (λ (x : ℕ). x / c.args.divisor) m
-
-pub returns-clause-stands : goal.returns-clause-stands
-returns-clause-stands c =
-    let m = moved_up (goal.at.returns-clause-stands c).After-from in
+pub returns : goal.returns
+returns c =
     let n = c.args.dividend * 2 ^ c.args.places in
-    let d : ℕ = c.args.divisor in
-    let loss = c.rest_of_divisor.result in
-    let q : c.from-2.result ≡ n / d =
-    c.from-2.ensures ∙ c.checked_division-division.ensures.quotient ∙ ap (λ (x : ℕ). x / d) m in
-    let r : c.from-3.result ≡ n % d =
-    c.from-3.ensures ∙ c.checked_division-division.ensures.rest ∙ ap (λ (x : ℕ). x % d) m in
-    let h = subst (λ (x : ℕ). StandsFor (n / d) loss (n / d * x + c.from-3.result) x) c.from-4.ensures
-    (c.rest_of_divisor.ensures (n / d)) in
-    let k = subst (λ (x : ℕ). StandsFor (n / d) loss (n / d * d + x) d) r h in
-    subst (λ (x : ℕ). StandsFor x loss n d) (sym q)
-    (subst (λ (x : ℕ). StandsFor (n / d) loss x d) (div-add-mod' n d) k)
+    let d = c.args.divisor in
+    let m = moved c.args.dividend c.args.divisor c.args.places c.from.result c.from.ensures c.requires.close
+    c.requires.narrow c.requires.short in
+    let division = c.checked_division-division in
+    let q : division.result.quotient ≡ n / d = division.ensures.quotient ∙ ap (λ (x : ℕ). x / d) m in
+    let k : division.result.rest ≡ n % d = division.ensures.rest ∙ ap (λ (x : ℕ). x % d) m in
+    c.odd_for_rest.ensures ∙ ap (λ (x : ℕ). odd_for_rest x division.result.rest) q
+    ∙ ap (λ (x : ℕ). odd_for_rest (n / d) x) k

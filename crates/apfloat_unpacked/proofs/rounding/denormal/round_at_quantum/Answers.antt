@@ -1,7 +1,9 @@
-use Rattle.std.proofs.Common.{◌*◌, ◌^◌, sym, ap, ◌∙◌, subst, inl, refl}
+use Rattle.std.proofs.Common.{◌*◌, ◌%◌, ◌^◌, eqb, sym, ap, ◌∙◌, subst, inl, refl}
 use Rattle.apfloat_base.specs.declared.sig.loss.Loss.{Loss}
+use Rattle.apfloat_base.specs.rounding.Enclosure.{rounds_up}
 use Rattle.apfloat_base.specs.rounding.Flags.{bits_of}
 use Rattle.apfloat_base.specs.rounding.Standing.{StandsFor}
+use Rattle.apfloat_unpacked.specs.Cuts.{loss_at}
 use Rattle.apfloat_unpacked.specs.Shapes.{format_at}
 use Rattle.apfloat_unpacked.specs.Stored.{datum_at}
 use Rattle.apfloat_unpacked.proofs.QuantumCuts.{delivered_low}
@@ -12,12 +14,13 @@ returns-clause-delivered c = λ amount parts p g h.
     let f = format_at c.args.shape in
     let m = c.args.cut.significand in
     let place = c.args.cut.place in
-    let next = c.next_if-next.result in
+    let next = c.next_at_quantum-next.result in
     let k = subst (λ (x : Loss). StandsFor m x amount (2 ^ place * parts)) (sym c.loss_of.ensures) h.1 in
     let t = rw c.from.ensures at (c.is_tiny-tiny.ensures amount parts 0 p g (h.0, k) (inl refl)) in
     let s = ap bits_of c.and.ensures.status in
     delivered_low f c.args.mode c.args.negative m place amount parts next c.args.cut.rest c.args.cut.half
-    c.moves_past-moved.result c.is_tiny-tiny.result _ _ p c.args.shape.parameters.precision_low c.requires.place
-    c.requires.fits c.moves_past-moved.ensures c.next_if-next.ensures.value h.0 h.1 t
+    (rounds_up c.args.mode c.args.negative (loss_at c.args.cut.rest c.args.cut.half) (eqb (m % 2) 1))
+    c.is_tiny-tiny.result _ _ p c.args.shape.parameters.precision_low c.requires.place
+    c.requires.fits refl c.next_at_quantum-next.ensures.value h.0 h.1 t
     (ap (datum_at c.args.shape) c.and.ensures.value ∙ c.from_few_quanta.ensures.datum)
     (λ z. s ∙ c.status_of_rest.ensures.exact z) (λ n. s ∙ c.status_of_rest.ensures.inexact n)

@@ -1,0 +1,32 @@
+use Rattle.std.proofs.Common.{◌≡◌, ℤ, ◌+◌, ◌*◌, ◌^◌, sym, ◌∙◌, subst, to_z, of_z, w32}
+use Rattle.std.proofs.lemmas.Int.{to_z-of_z}
+use Rattle.apfloat_base.specs.rounding.RoundingToOdd.{IsRoundedToOdd}
+use Rattle.apfloat_base.specs.rounding.Standing.{up, down}
+use Rattle.apfloat_unpacked.proofs.rounding.odd.deliver_odd_digits.Goals as goal
+
+pub returns-then-unit-geminus2-clause-delivered : goal.returns-then-unit-geminus2-clause-delivered
+returns-then-unit-geminus2-clause-delivered c = λ amount parts u h.
+    let unit = c.unit_place-unit.result in
+    let e = to_z-of_z w32 c.args.exponent c.ranges.exponent in
+    let v = rw e at c.unit_place-unit.ensures.value in
+    let w : to_z w32 (of_z w32 unit) ≡ unit =
+    to_z-of_z w32 unit (record { sfits = c.unit_place-unit.type_inv }) in
+    let h' = subst (λ (x : ℤ). IsRoundedToOdd (2 ^ (c.args.shape.precision + 1)) c.args.significand
+    (amount * 2 ^ down x) (parts * 2 ^ up x)) (sym v ∙ sym w) h in
+    c.round_cut.ensures.delivered amount parts u (c.cut_quarters-cut.ensures.cut amount parts u h')
+
+pub returns-then-shape-clause-delivered : goal.returns-then-shape-clause-delivered
+returns-then-shape-clause-delivered c =
+    let e = to_z-of_z w32 c.args.exponent c.ranges.exponent in
+    rw e at c.deliver_quarters.ensures.delivered
+
+pub returns-clause-delivered : goal.returns-clause-delivered
+returns-clause-delivered c = λ amount parts u h.
+    let unit = c.unit_place-unit.result in
+    let e = to_z-of_z w32 c.args.exponent c.ranges.exponent in
+    let v = rw e at c.unit_place-unit.ensures.value in
+    let w : to_z w32 (of_z w32 unit) ≡ unit =
+    to_z-of_z w32 unit (record { sfits = c.unit_place-unit.type_inv }) in
+    let h' = subst (λ (x : ℤ). IsRoundedToOdd (2 ^ (c.args.shape.precision + 1)) c.args.significand
+    (amount * 2 ^ down x) (parts * 2 ^ up x)) (sym v ∙ sym w) h in
+    c.round_odd_denormal.ensures.delivered amount parts u h'
