@@ -38,31 +38,11 @@ stays_odd n u q a b o = inr (record {
   below = omega (arith, b);
 })
 
--- what is cut off as a whole leaves 1, if it is not 0, however far the unit is above it
-beyond_to_odd : (n k places r : ℕ) → n < 2 ^ k → k ≤ places → IsRoundedToOdd 1 r n (2 ^ k)
-    → IsRoundedToOdd 1 r n (2 ^ places)
-beyond_to_odd n k places zero f l (inl e) = inl (omega (arith, e))
-beyond_to_odd n k places (suc r) f l (inl e) = absurd (omega (arith, e, f))
-beyond_to_odd n k places r f l (inr b) =
-    let w : 2 ^ k ≤ 2 ^ places = pow-le-pow_right two_pos l in
-    let m = b.long in
-    let o = b.odd in
-    let a = b.above in
-    let q : r < 2 = lt_of_mul-lt-mul_right (2 ^ k) (omega (arith, a, f)) in
-    let s : r ≡ 1 = omega (arith, m, q) in
-    let t : r * 2 ^ k ≡ 1 * 2 ^ k = ap (λ (x : ℕ). x * 2 ^ k) s in
-    let t' : r * 2 ^ places ≡ 1 * 2 ^ places = ap (λ (x : ℕ). x * 2 ^ places) s in
-    inr (record { long = m; odd = o; above = omega (arith, a, t, t'); below = omega (arith, t', w, f) })
-
-pub within_to_odd : (n k places r : ℕ) → n < 2 ^ 63 → (places ≤ 63 → k ≡ places) → (63 < places → k ≡ 63)
-    → IsRoundedToOdd 1 r n (2 ^ k) → IsRoundedToOdd 1 r n (2 ^ places)
-within_to_odd n k places r l near far h =
-    ⊎_elim
-    (λ (a : 63 < places).
-    beyond_to_odd n 63 places r l (omega (arith, a))
-    (subst (λ (x : ℕ). IsRoundedToOdd 1 r n (2 ^ x)) (far a) h))
-    (λ (a : places ≤ 63). subst (λ (x : ℕ). IsRoundedToOdd 1 r n (2 ^ x)) (near a) h)
-    (cases_lt 63 places)
+-- what is cut off as a whole leaves 1, if it is not 0
+pub beyond_to_odd : (n k : ℕ) → 64 ≤ k → n < 2 ^ 64 → 0 < n → IsRoundedToOdd 1 1 n (2 ^ k)
+beyond_to_odd n k l h p =
+    let w : 2 ^ 64 ≤ 2 ^ k = pow-le-pow_right two_pos l in
+    inr (record { long = omega arith; odd = refl; above = omega (arith, p); below = omega (arith, w, h) })
 
 -- a significand that is at least one bound is at least any lower one
 pub to_odd_least : (least lower s amount u : ℕ) → lower ≤ least → IsRoundedToOdd least s amount u
