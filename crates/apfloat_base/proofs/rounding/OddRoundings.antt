@@ -1,5 +1,5 @@
 -- Numbers of units that are rounded to odd.
-use Rattle.std.proofs.Common.{◌≡◌, ℕ, zero, suc, ◌+◌, ◌-◌, ◌*◌, ◌%◌, ◌^◌, ◌<◌, ◌≤◌, sym, refl, ap, inl, inr, arith}
+use Rattle.std.proofs.Common.{◌≡◌, ℕ, zero, suc, ◌+◌, ◌-◌, ◌*◌, ◌%◌, ◌^◌, ◌<◌, ◌≤◌, sym, refl, ap, subst, inl, inr, arith}
 use Rattle.std.proofs.Math.Nat.{mul-le-mul_right, mul-le-mul_left, mul-lt-mul_of_pos_right, eq_of_mul-eq-mul_right, lt_of_mul-lt-mul_right, pow-le-pow_right}
 use Rattle.apfloat_base.proofs.general.Powers.{two_pos}
 use Rattle.apfloat_base.specs.declared.sig.loss.Loss.{Loss}
@@ -37,10 +37,28 @@ stays_odd n u q a b o = inr (record {
 })
 
 -- what is cut off as a whole leaves 1, if it is not 0
-pub beyond_to_odd : (n k : ℕ) → 64 ≤ k → n < 2 ^ 64 → 0 < n → IsRoundedToOdd 1 1 n (2 ^ k)
-beyond_to_odd n k l h p =
-    let w : 2 ^ 64 ≤ 2 ^ k = pow-le-pow_right two_pos l in
+pub beyond_to_odd : (n digits k : ℕ) → digits ≤ k → n < 2 ^ digits → 0 < n → IsRoundedToOdd 1 1 n (2 ^ k)
+beyond_to_odd n digits k l h p =
+    let w : 2 ^ digits ≤ 2 ^ k = pow-le-pow_right two_pos l in
     inr (record { long = omega arith; odd = refl; above = omega (arith, p); below = omega (arith, w, h) })
+
+-- nor is it cut otherwise by fewer places that leave nothing of it
+pub nothing_left : (n r digits near places : ℕ) → n < 2 ^ digits → digits ≤ near → near ≤ places
+    → IsRoundedToOdd 1 r n (2 ^ near) → IsRoundedToOdd 1 r n (2 ^ places)
+nothing_left n zero digits near places h d l (inl e) = inl (omega (arith, e))
+nothing_left n (suc r) digits near places h d l (inl e) =
+    let w : 2 ^ digits ≤ 2 ^ near = pow-le-pow_right two_pos d in
+    absurd (omega (arith, e, h, w))
+nothing_left n r digits near places h d l (inr b) =
+    let w : 2 ^ digits ≤ 2 ^ near = pow-le-pow_right two_pos d in
+    let v : 2 ^ near ≤ 2 ^ places = pow-le-pow_right two_pos l in
+    let a = b.above in
+    let o = b.odd in
+    let t : r < 2 = lt_of_mul-lt-mul_right (2 ^ near) (omega (arith, a, h, w)) in
+    let e : r ≡ 1 = omega (arith, t, o) in
+    let a' : 1 * 2 ^ near < n + 2 ^ near = subst (λ (x : ℕ). x * 2 ^ near < n + 2 ^ near) e a in
+    subst (λ (x : ℕ). IsRoundedToOdd 1 x n (2 ^ places)) (sym e)
+    (inr (record { long = omega arith; odd = refl; above = omega (arith, a'); below = omega (arith, h, w, v) }))
 
 -- a significand that is at least one bound is at least any lower one
 pub to_odd_least : (least lower s amount u : ℕ) → lower ≤ least → IsRoundedToOdd least s amount u

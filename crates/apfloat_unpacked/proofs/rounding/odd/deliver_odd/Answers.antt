@@ -9,7 +9,7 @@ use Rattle.apfloat_unpacked.proofs.rounding.odd.deliver_odd.Goals as goal
 
 pub cut_odd-cut-requires-clause-word : goal.cut_odd-cut-requires-clause-word
 cut_odd-cut-requires-clause-word c =
-    word_digits c.from.result c.digits-digits.result (rw c.from.ensures c.ranges.significand.fits)
+    word_digits 64 c.from.result c.digits-digits.result (rw c.from.ensures c.ranges.significand.fits)
     c.digits-digits.ensures.full
 
 pub returns-then-unit-digits-clause-delivered : goal.returns-then-unit-digits-clause-delivered
@@ -58,7 +58,7 @@ returns-clause-delivered c = λ amount h.
     subst (λ (x : ℤ). IsRoundedToOdd (2 ^ (c.args.shape.precision + 1)) c.args.significand (amount * 2 ^ down x)
     (1 * 2 ^ up x)) (sym v) h in
     let g : StandsFor c.args.significand ExactlyZero (amount * 2 ^ down u) (1 * 2 ^ up u) =
-    exact_below c.args.significand c.digits-digits.result c.args.shape.precision amount u c.requires.short d h' in
+    exact_below c.args.significand c.digits-digits.result c.args.shape.precision amount u d h' in
     let r = rw (e, c.from-2.ensures) at c.deliver_apart.ensures.delivered in
     r amount 1 (omega arith)
     (subst (λ (x : ℤ). StandsFor c.args.significand ExactlyZero (amount * 2 ^ down x) (1 * 2 ^ up x)) v g)

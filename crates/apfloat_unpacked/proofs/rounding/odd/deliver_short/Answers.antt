@@ -10,7 +10,7 @@ pub cut_odd-cut-requires-clause-word : goal.cut_odd-cut-requires-clause-word
 cut_odd-cut-requires-clause-word c =
     let b = c.odd_for-odd.ensures.bound in
     let r = c.requires.room in
-    word_digits c.from.result c.digits-digits.result (rw c.from.ensures (omega (arith, b, r)))
+    word_digits 64 c.from.result c.digits-digits.result (rw c.from.ensures (omega (arith, b, r)))
     c.digits-digits.ensures.full
 
 pub returns-then-unit-digits-clause-delivered : goal.returns-then-unit-digits-clause-delivered
