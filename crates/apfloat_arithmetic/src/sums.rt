@@ -129,6 +129,30 @@ fn add_long_numbers(shape: Shape, x: Unpacked, y: Unpacked, round: Round) -> Sta
     deliver_long_odd(shape, total.significand, total.exponent, round, negative)
 }
 
+/// The sum of two nonzero numbers of any precision. Kept out of line, for the few precisions that no faster way takes.
+#[cold]
+#[inline(never)]
+fn add_other_numbers(shape: Shape, x: Unpacked, y: Unpacked, round: Round) -> StatusAnd<Unpacked>
+    requires x_normal { IsNormal shape x }
+    requires y_normal { IsNormal shape y }
+    ensures stored { IsStored shape result.value }
+    ensures delivered { GivesAt shape (IsRounded (format_at shape) round
+        (zero_sum_sign round x.negative y.negative)
+        (signed x.negative (quanta_of shape x) +ℤ signed y.negative (quanta_of shape y)) 1) result }
+{
+    let total = add_terms(term_of(shape, x), term_of(shape, y));
+    let of_zero = sign_of_zero(round, x.negative, y.negative);
+    let negative = sign_of_total(total, of_zero);
+    deliver(
+        shape,
+        total.significand,
+        total.exponent,
+        total.loss,
+        round,
+        negative,
+    )
+}
+
 /// The sum of two nonzero numbers.
 #[inline(always)]
 fn add_numbers(shape: Shape, x: Unpacked, y: Unpacked, round: Round) -> StatusAnd<Unpacked>
@@ -145,17 +169,7 @@ fn add_numbers(shape: Shape, x: Unpacked, y: Unpacked, round: Round) -> StatusAn
     if shape.precision >= 64 && shape.precision <= LONG_LIMIT {
         return add_long_numbers(shape, x, y, round);
     }
-    let total = add_terms(term_of(shape, x), term_of(shape, y));
-    let of_zero = sign_of_zero(round, x.negative, y.negative);
-    let negative = sign_of_total(total, of_zero);
-    deliver(
-        shape,
-        total.significand,
-        total.exponent,
-        total.loss,
-        round,
-        negative,
-    )
+    remade(add_other_numbers(shape.remade(), x.remade(), y.remade(), round))
 }
 
 /// The sum of an infinity and any value.

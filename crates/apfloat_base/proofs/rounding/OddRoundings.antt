@@ -1,6 +1,8 @@
 -- Numbers of units that are rounded to odd.
-use Rattle.std.proofs.Common.{◌≡◌, ℕ, zero, suc, ◌+◌, ◌-◌, ◌*◌, ◌%◌, ◌^◌, ◌<◌, ◌≤◌, sym, refl, ap, subst, inl, inr, arith}
-use Rattle.std.proofs.Math.Nat.{mul-le-mul_right, mul-le-mul_left, mul-lt-mul_of_pos_right, eq_of_mul-eq-mul_right, lt_of_mul-lt-mul_right, pow-le-pow_right}
+use Rattle.std.proofs.Common.{◌≡◌, ℕ, zero, suc, ◌+◌, ◌-◌, ◌*◌, ◌/◌, ◌%◌, ◌^◌, ◌<◌, ◌≤◌, Bool, true, false, cond, sym, refl, ap, ◌∙◌, subst, inl, inr, ⊎_elim, arith}
+use Rattle.std.proofs.Math.Nat.{div-add-mod', div-eq_of_lt, mul-le-mul_right, mul-le-mul_left, mul-lt-mul_of_pos_right, eq_of_mul-eq-mul_right, lt_of_mul-lt-mul_right, pow-le-pow_right}
+use Rattle.std.proofs.lemmas.Bool.{cases_lt}
+use Rattle.std.proofs.lemmas.Nat.{mod_below, pow_pos}
 use Rattle.apfloat_base.proofs.general.Powers.{two_pos}
 use Rattle.apfloat_base.specs.declared.sig.loss.Loss.{Loss}
 use Rattle.apfloat_base.specs.declared.sig.loss.Loss.TheVariants.{ExactlyZero, LessThanHalf, ExactlyHalf, MoreThanHalf}
@@ -42,23 +44,43 @@ beyond_to_odd n digits k l h p =
     let w : 2 ^ digits ≤ 2 ^ k = pow-le-pow_right two_pos l in
     inr (record { long = omega arith; odd = refl; above = omega (arith, p); below = omega (arith, w, h) })
 
--- nor is it cut otherwise by fewer places that leave nothing of it
-pub nothing_left : (n r digits near places : ℕ) → n < 2 ^ digits → digits ≤ near → near ≤ places
-    → IsRoundedToOdd 1 r n (2 ^ near) → IsRoundedToOdd 1 r n (2 ^ places)
-nothing_left n zero digits near places h d l (inl e) = inl (omega (arith, e))
-nothing_left n (suc r) digits near places h d l (inl e) =
-    let w : 2 ^ digits ≤ 2 ^ near = pow-le-pow_right two_pos d in
-    absurd (omega (arith, e, h, w))
-nothing_left n r digits near places h d l (inr b) =
-    let w : 2 ^ digits ≤ 2 ^ near = pow-le-pow_right two_pos d in
-    let v : 2 ^ near ≤ 2 ^ places = pow-le-pow_right two_pos l in
-    let a = b.above in
-    let o = b.odd in
-    let t : r < 2 = lt_of_mul-lt-mul_right (2 ^ near) (omega (arith, a, h, w)) in
-    let e : r ≡ 1 = omega (arith, t, o) in
-    let a' : 1 * 2 ^ near < n + 2 ^ near = subst (λ (x : ℕ). x * 2 ^ near < n + 2 ^ near) e a in
+-- a number without its lowest digits, with the last digit that is left set if they are not all 0
+pub set_if_lost : (n places : ℕ) (lost : Bool) → (lost ≡ true → 0 < n % 2 ^ places)
+    → (lost ≡ false → n % 2 ^ places ≡ 0)
+    → IsRoundedToOdd 1 (cond lost (n / 2 ^ places + (1 - n / 2 ^ places % 2)) (n / 2 ^ places)) n (2 ^ places)
+set_if_lost n places false f g =
+    let z = g refl in
+    let d = div-add-mod' n (2 ^ places) in
+    inl (omega (arith, z, d))
+set_if_lost n places true f g =
+    let q = n / 2 ^ places in
+    let p = f refl in
+    let d : q * 2 ^ places + n % 2 ^ places ≡ n = div-add-mod' n (2 ^ places) in
+    let m : n % 2 ^ places < 2 ^ places = mod_below n (2 ^ places) (pow_pos places) in
+    ⊎_elim
+    (λ (l : q % 2 < 1).
+    let e : q + (1 - q % 2) ≡ q + 1 = omega arith in
     subst (λ (x : ℕ). IsRoundedToOdd 1 x n (2 ^ places)) (sym e)
-    (inr (record { long = omega arith; odd = refl; above = omega (arith, a'); below = omega (arith, h, w, v) }))
+    (raised_to_odd n (2 ^ places) q (omega (arith, d, p)) (omega (arith, d, m)) (omega arith)))
+    (λ (l : 1 ≤ q % 2).
+    let e : q + (1 - q % 2) ≡ q = omega arith in
+    subst (λ (x : ℕ). IsRoundedToOdd 1 x n (2 ^ places)) (sym e)
+    (stays_odd n (2 ^ places) q (omega (arith, d)) (omega (arith, d, m)) (omega (arith, l))))
+    (cases_lt (q % 2) 1)
+
+-- as many places as the number has digits leave nothing of it, as more do
+pub nothing_left : (n digits limit near places : ℕ) → n < 2 ^ digits → digits ≤ limit
+    → (places ≤ limit → near ≡ places) → (limit < places → near ≡ limit) → n / 2 ^ near ≡ n / 2 ^ places
+nothing_left n digits limit near places h d f g =
+    ⊎_elim
+    (λ (l : limit < places).
+    let w : 2 ^ digits ≤ 2 ^ limit = pow-le-pow_right two_pos d in
+    let v : 2 ^ limit ≤ 2 ^ places = pow-le-pow_right two_pos (omega arith) in
+    let a : n / 2 ^ limit ≡ 0 = div-eq_of_lt (omega (arith, h, w)) in
+    let b : n / 2 ^ places ≡ 0 = div-eq_of_lt (omega (arith, h, w, v)) in
+    ap (λ (x : ℕ). n / 2 ^ x) (g l) ∙ a ∙ sym b)
+    (λ (l : places ≤ limit). ap (λ (x : ℕ). n / 2 ^ x) (f l))
+    (cases_lt limit places)
 
 -- a significand that is at least one bound is at least any lower one
 pub to_odd_least : (least lower s amount u : ℕ) → lower ≤ least → IsRoundedToOdd least s amount u

@@ -39,6 +39,15 @@ combine_long-total-requires-clause-high_free c =
     rw c.long_moved_up.ensures
     (moved_free c.in_order_of_exponents.result.high.significand c.args.precision 126 (room c.args.precision c.requires.long))
 
+pub combine_long-total-requires-clause-low_some : goal.combine_long-total-requires-clause-low_some
+combine_long-total-requires-clause-low_some c =
+    let f = of_low (λ (t : Term). 2 ^ (c.args.precision - 1) ≤ t.significand) c.in_order_of_exponents.result.high
+    c.in_order_of_exponents.result.low c.args.x c.args.y c.in_order_of_exponents.ensures.same c.requires.x_full
+    c.requires.y_full in
+    let g = moved_full c.in_order_of_exponents.result.low.significand c.args.precision 126 c.requires.some
+    (room c.args.precision c.requires.long) f in
+    rw c.long_moved_up-2.ensures (omega (arith, g))
+
 pub combine_long-total-requires-clause-low_fits : goal.combine_long-total-requires-clause-low_fits
 combine_long-total-requires-clause-low_fits c =
     let f = of_low (λ (t : Term). t.significand < 2 ^ c.args.precision) c.in_order_of_exponents.result.high
