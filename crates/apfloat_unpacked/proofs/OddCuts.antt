@@ -142,7 +142,8 @@ pub top_cut_full : (width precision s digits top place rest half up down : ℕ)
     → 2 ^ (precision - 1) ≤ top / 2 ^ (width - precision)
 top_cut_full width precision s digits top place rest half up down i =
     let l = i.short in
-    let f : 2 ^ (width - 1) ≤ top = subst (λ (x : ℕ). 2 ^ (width - 1) ≤ x) (sym i.top_is) (top_full width s digits i.any i.word i.full) in
+    let f : 2 ^ (width - 1) ≤ top =
+    subst (λ (x : ℕ). 2 ^ (width - 1) ≤ x) (sym i.top_is) (top_full width s digits i.any i.word i.full) in
     full_cut top width (width - precision) precision i.some (λ _. f) (omega (arith, l))
 
 -- the cut in units of the significand
@@ -175,7 +176,8 @@ top_stands width precision s digits top place rest half up down amount unit i u 
     let n : 2 ^ (precision + 1) < 2 ^ digits = omega (arith, f, m) in
     let p : precision + 1 < digits = exponent_below (precision + 1) digits n in
     let g = 2 ^ (width - 2 - precision - (width - digits)) in
-    let x : 1 + (width - 2 - precision - (width - digits)) + (width - digits) ≡ width - precision - 1 = omega (arith, l, p) in
+    let x : 1 + (width - 2 - precision - (width - digits)) + (width - digits) ≡ width - precision - 1 =
+    omega (arith, l, p) in
     let c : half ≡ 2 * g * w = i.half_is ∙ ap (λ (x : ℕ). 2 ^ x) (sym x) ∙
     pow3 1 (width - 2 - precision - (width - digits)) (width - digits) in
     let v' : s * w ≡ q * (2 * (2 * g * w)) + rest = subst (λ (x : ℕ). s * w ≡ q * (2 * x) + rest) c v in

@@ -20,7 +20,8 @@ all_zero n (suc k) f =
 one_within : (n lowest places : ℕ) → n / 2 ^ lowest % 2 ≡ 1 → lowest < places → 0 < n % 2 ^ places
 one_within n lowest places o l =
     let e : places - (1 + lowest) + (1 + lowest) ≡ places = omega arith in
-    let a : n % 2 ^ places ≡ n / 2 ^ (1 + lowest) % 2 ^ (places - (1 + lowest)) * 2 ^ (1 + lowest) + n % 2 ^ (1 + lowest) =
+    let a : n % 2 ^ places
+    ≡ n / 2 ^ (1 + lowest) % 2 ^ (places - (1 + lowest)) * 2 ^ (1 + lowest) + n % 2 ^ (1 + lowest) =
     ap (λ (x : ℕ). n % 2 ^ x) (sym e) ∙ mod-pow-add n (places - (1 + lowest)) (1 + lowest) in
     let b : n % 2 ^ (1 + lowest) ≡ n / 2 ^ lowest % 2 ^ 1 * 2 ^ lowest + n % 2 ^ lowest = mod-pow-add n 1 lowest in
     let w : n / 2 ^ lowest % 2 ^ 1 * 2 ^ lowest ≡ 1 * 2 ^ lowest = ap (λ (x : ℕ). x * 2 ^ lowest) o in

@@ -1,7 +1,7 @@
 //! The rounding of a long significand that was rounded to odd before.
 //!
-//! What `odd` does in a word of 64 digits, in a `u128`. Below a format of at least 64 digits the rest that is cut off at
-//! the top still is one word.
+//! This is what `odd` does in a word of 64 digits. The significand is moved up to the top of a `u128`, so that the rest
+//! below a format of at least 64 digits is one word.
 
 ghost use Rattle.std.specs.Prelude.{◌≡◌, ℕ, ◌+◌, ◌-◌, ◌*◌, ◌%◌, ◌^◌, ◌<◌, ◌≤◌, pos, ◌+ℤ◌, ◌≤ℤ◌};
 ghost use Rattle.apfloat_base.specs.rounding.Bounds.{IsWithin, exponent_bound, unit_bound, place_bound};

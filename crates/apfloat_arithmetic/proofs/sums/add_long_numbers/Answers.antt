@@ -71,8 +71,8 @@ returns-clause-delivered c =
     c.args.shape.parameters.min_exp_high) refl c.requires.x_normal.whole c.requires.y_normal.whole g in
     let z = rw c.sign_of_zero-of_zero.ensures at c.sign_of_long_odd_total-negative.ensures.zero in
     let e : c.sign_of_long_odd_total-negative.result ≡ sign_of of_zero exact =
-    read_odd_sign (2 ^ 124) of_zero exact unit total.negative c.sign_of_long_odd_total-negative.result total.significand r z
-    c.sign_of_long_odd_total-negative.ensures.other in
+    read_odd_sign (2 ^ 124) of_zero exact unit total.negative c.sign_of_long_odd_total-negative.result total.significand r
+    z c.sign_of_long_odd_total-negative.ensures.other in
     subst (λ (b : Bool). IsDelivered (format_at c.args.shape) c.args.round b (magnitude exact) 1
     (datum_at c.args.shape c.deliver_long_odd.result.value) (bits_of c.deliver_long_odd.result.status)) e
     (d (magnitude exact)

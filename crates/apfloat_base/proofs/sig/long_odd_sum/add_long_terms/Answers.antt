@@ -24,7 +24,8 @@ combine_long-total-requires-clause-high_full c =
     c.in_order_of_exponents.result.low c.args.x c.args.y c.in_order_of_exponents.ensures.same c.requires.x_full
     c.requires.y_full in
     rw c.long_moved_up.ensures
-    (moved_full c.in_order_of_exponents.result.high.significand c.args.precision 126 c.requires.some (room c.args.precision c.requires.long) f)
+    (moved_full c.in_order_of_exponents.result.high.significand c.args.precision 126 c.requires.some
+    (room c.args.precision c.requires.long) f)
 
 pub combine_long-total-requires-clause-high_fits : goal.combine_long-total-requires-clause-high_fits
 combine_long-total-requires-clause-high_fits c =
@@ -32,12 +33,14 @@ combine_long-total-requires-clause-high_fits c =
     c.in_order_of_exponents.result.low c.args.x c.args.y c.in_order_of_exponents.ensures.same c.requires.x_fits
     c.requires.y_fits in
     rw c.long_moved_up.ensures
-    (moved_fits c.in_order_of_exponents.result.high.significand c.args.precision 126 (room c.args.precision c.requires.long) f)
+    (moved_fits c.in_order_of_exponents.result.high.significand c.args.precision 126
+    (room c.args.precision c.requires.long) f)
 
 pub combine_long-total-requires-clause-high_free : goal.combine_long-total-requires-clause-high_free
 combine_long-total-requires-clause-high_free c =
     rw c.long_moved_up.ensures
-    (moved_free c.in_order_of_exponents.result.high.significand c.args.precision 126 (room c.args.precision c.requires.long))
+    (moved_free c.in_order_of_exponents.result.high.significand c.args.precision 126
+    (room c.args.precision c.requires.long))
 
 pub combine_long-total-requires-clause-low_some : goal.combine_long-total-requires-clause-low_some
 combine_long-total-requires-clause-low_some c =
@@ -54,12 +57,14 @@ combine_long-total-requires-clause-low_fits c =
     c.in_order_of_exponents.result.low c.args.x c.args.y c.in_order_of_exponents.ensures.same c.requires.x_fits
     c.requires.y_fits in
     rw c.long_moved_up-2.ensures
-    (moved_fits c.in_order_of_exponents.result.low.significand c.args.precision 126 (room c.args.precision c.requires.long) f)
+    (moved_fits c.in_order_of_exponents.result.low.significand c.args.precision 126
+    (room c.args.precision c.requires.long) f)
 
 pub combine_long-total-requires-clause-low_free : goal.combine_long-total-requires-clause-low_free
 combine_long-total-requires-clause-low_free c =
     rw c.long_moved_up-2.ensures
-    (moved_free c.in_order_of_exponents.result.low.significand c.args.precision 126 (room c.args.precision c.requires.long))
+    (moved_free c.in_order_of_exponents.result.low.significand c.args.precision 126
+    (room c.args.precision c.requires.long))
 
 pub returns-clause-exponent : goal.returns-clause-exponent
 returns-clause-exponent c =

@@ -5,8 +5,8 @@ use Rattle.apfloat_base.proofs.sig.long_odd_sum.combine_long.Goals as goal
 pub returns-then-unlike-clause-apart : goal.returns-then-unlike-clause-apart
 returns-then-unlike-clause-apart c = λ u.
     let r = apart_to_odd 126 c.args.high c.args.low c.cut_long_to_odd-low.result c.args.gap _ (omega arith)
-    c.requires.high_full c.requires.high_free c.requires.low_fits c.requires.low_free c.cut_long_to_odd-low.ensures.rounded
-    (ap (λ (b : Bool). b && ltb c.args.high c.cut_long_to_odd-low.result) u) in
+    c.requires.high_full c.requires.high_free c.requires.low_fits c.requires.low_free
+    c.cut_long_to_odd-low.ensures.rounded (ap (λ (b : Bool). b && ltb c.args.high c.cut_long_to_odd-low.result) u) in
     rw (c.either-greater.ensures, c.either-lesser.ensures) r
 
 pub returns-else-unlike-clause-together : goal.returns-else-unlike-clause-together

@@ -24,7 +24,8 @@ combine-total-requires-clause-high_full c =
     c.in_order_of_exponents.result.low c.args.x c.args.y c.in_order_of_exponents.ensures.same c.requires.x_full
     c.requires.y_full in
     rw c.moved_up.ensures
-    (moved_full c.in_order_of_exponents.result.high.significand c.args.precision 62 c.requires.some (room c.args.precision c.requires.short) f)
+    (moved_full c.in_order_of_exponents.result.high.significand c.args.precision 62 c.requires.some
+    (room c.args.precision c.requires.short) f)
 
 pub combine-total-requires-clause-high_fits : goal.combine-total-requires-clause-high_fits
 combine-total-requires-clause-high_fits c =
@@ -32,12 +33,14 @@ combine-total-requires-clause-high_fits c =
     c.in_order_of_exponents.result.low c.args.x c.args.y c.in_order_of_exponents.ensures.same c.requires.x_fits
     c.requires.y_fits in
     rw c.moved_up.ensures
-    (moved_fits c.in_order_of_exponents.result.high.significand c.args.precision 62 (room c.args.precision c.requires.short) f)
+    (moved_fits c.in_order_of_exponents.result.high.significand c.args.precision 62
+    (room c.args.precision c.requires.short) f)
 
 pub combine-total-requires-clause-high_free : goal.combine-total-requires-clause-high_free
 combine-total-requires-clause-high_free c =
     rw c.moved_up.ensures
-    (moved_free c.in_order_of_exponents.result.high.significand c.args.precision 62 (room c.args.precision c.requires.short))
+    (moved_free c.in_order_of_exponents.result.high.significand c.args.precision 62
+    (room c.args.precision c.requires.short))
 
 pub combine-total-requires-clause-low_fits : goal.combine-total-requires-clause-low_fits
 combine-total-requires-clause-low_fits c =
@@ -45,12 +48,14 @@ combine-total-requires-clause-low_fits c =
     c.in_order_of_exponents.result.low c.args.x c.args.y c.in_order_of_exponents.ensures.same c.requires.x_fits
     c.requires.y_fits in
     rw c.moved_up-2.ensures
-    (moved_fits c.in_order_of_exponents.result.low.significand c.args.precision 62 (room c.args.precision c.requires.short) f)
+    (moved_fits c.in_order_of_exponents.result.low.significand c.args.precision 62
+    (room c.args.precision c.requires.short) f)
 
 pub combine-total-requires-clause-low_free : goal.combine-total-requires-clause-low_free
 combine-total-requires-clause-low_free c =
     rw c.moved_up-2.ensures
-    (moved_free c.in_order_of_exponents.result.low.significand c.args.precision 62 (room c.args.precision c.requires.short))
+    (moved_free c.in_order_of_exponents.result.low.significand c.args.precision 62
+    (room c.args.precision c.requires.short))
 
 pub returns-clause-exponent : goal.returns-clause-exponent
 returns-clause-exponent c =

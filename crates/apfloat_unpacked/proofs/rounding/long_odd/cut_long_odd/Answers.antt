@@ -47,8 +47,8 @@ returns-clause-rest c =
 pub returns-clause-cut : goal.returns-clause-cut
 returns-clause-cut c = λ amount parts p h.
     let i = split (goal.at.returns-clause-cut c).After-word_power in (
-      top_cut_encloses 128 c.args.precision c.args.significand c.args.digits c.at_long_top-top.result c.full_place.result
-          c.low_word.result c.word_power.result (up c.args.unit) (down c.args.unit) amount parts i p h,
+      top_cut_encloses 128 c.args.precision c.args.significand c.args.digits c.at_long_top-top.result
+          c.full_place.result c.low_word.result c.word_power.result (up c.args.unit) (down c.args.unit) amount parts i p h,
       top_cut_stands 128 c.args.precision c.args.significand c.args.digits c.at_long_top-top.result c.full_place.result
           c.low_word.result c.word_power.result (up c.args.unit) (down c.args.unit) amount parts i p h,
     )
