@@ -243,20 +243,21 @@ read_odd_sign least of_zero exact unit negative answer (suc n) r f g =
     let k = λ (x : suc n ≡ 0). absurd (omega arith) in g k ∙ r.other_sign k
 
 -- the two numbers and the sum of their terms
-pub odd_sum_read : (least : ℕ) (of_zero : Bool) (precision scale : ℕ) (min xe ye tx ty e unit : ℤ)
+pub odd_sum_read : (least digits : ℕ) (of_zero : Bool) (precision scale : ℕ) (min xe ye tx ty e unit : ℤ)
     (left right negative : Bool) (mx my m n q : ℕ)
     → ((min +ℤ pos 1) -ℤ pos precision) ≤ℤ xe → ((min +ℤ pos 1) -ℤ pos precision) ≤ℤ ye
     → (tx +ℤ pos precision) ≡ (xe +ℤ pos 1) → (ty +ℤ pos precision) ≡ (ye +ℤ pos 1)
     → (pos scale +ℤ min) +ℤ pos 1 ≡ pos precision → unit ≡ (e +ℤ pos scale) → IsQuantaAt min mx xe m
     → IsQuantaAt min my ye n
-    → ((base : ℤ) → (base +ℤ pos 62) ≤ℤ tx → (base +ℤ pos 62) ≤ℤ ty
+    → ((base : ℤ) → (base +ℤ pos digits) ≤ℤ tx → (base +ℤ pos digits) ≤ℤ ty
     → IsSignedToOdd least base (counted base left tx mx +ℤ counted base right ty my) negative e q)
     → IsRepresentedToOdd least of_zero (signed left m +ℤ signed right n) negative unit q
-odd_sum_read least of_zero precision scale min xe ye tx ty e unit s t negative mx my m n q lx ly ax ay w u ix iy f =
-    let base = ((min -ℤ pos precision) -ℤ pos precision) -ℤ pos 64 in
-    let k = precision + 65 in
-    let bx : (base +ℤ pos 62) ≤ℤ tx = omega (arith, ints) in
-    let by : (base +ℤ pos 62) ≤ℤ ty = omega (arith, ints) in
+odd_sum_read least digits of_zero precision scale min xe ye tx ty e unit s t negative mx my m n q lx ly ax ay w u ix
+    iy f =
+    let base = ((min -ℤ pos precision) -ℤ pos precision) -ℤ pos (digits + 2) in
+    let k = precision + digits + 3 in
+    let bx : (base +ℤ pos digits) ≤ℤ tx = omega (arith, ints) in
+    let by : (base +ℤ pos digits) ≤ℤ ty = omega (arith, ints) in
     let x : mx * 2 ^ up (tx -ℤ base) ≡ m * 2 ^ k =
     quanta_counted min xe tx base k mx m (omega (arith, ints)) (omega (arith, ints)) ix in
     let y : my * 2 ^ up (ty -ℤ base) ≡ n * 2 ^ k =

@@ -11,11 +11,13 @@ ghost use Rattle.apfloat_unpacked.specs.Stored.{IsNormal, IsStored, datum_at, nu
 use crate::classes::are_normal;
 use crate::signs::negated;
 use apfloat_base::sig::{
-    Loss, OddTotal, SHORT_LIMIT, Term, Total, add_short_terms, add_terms, is_zero,
+    LONG_LIMIT, LongOddTotal, Loss, OddTotal, SHORT_LIMIT, Term, Total, add_long_terms,
+    add_short_terms, add_terms, is_zero,
 };
 use apfloat_base::{Category, Round, Status, StatusAnd};
 use apfloat_unpacked::nans::{invalid, propagated, propagated_left};
 use apfloat_unpacked::rounding::deliver;
+use apfloat_unpacked::rounding::long_odd::deliver_long_odd;
 use apfloat_unpacked::rounding::odd::deliver_odd;
 use apfloat_unpacked::shape::{Shape, last_exponent};
 use apfloat_unpacked::unpacked::{Unpacked, remade, zero_of};
@@ -79,6 +81,19 @@ fn sign_of_odd_total(total: OddTotal, of_zero: bool) -> bool
     }
 }
 
+/// The sign of a long total that was rounded to odd; `of_zero` if it is zero, which it is only exactly.
+#[inline(always)]
+fn sign_of_long_odd_total(total: LongOddTotal, of_zero: bool) -> bool
+    ensures zero { total.significand ≡ 0 → result ≡ of_zero }
+    ensures other { (total.significand ≡ 0 → ⊥) → result ≡ total.negative }
+{
+    if total.significand == 0 {
+        of_zero
+    } else {
+        total.negative
+    }
+}
+
 /// The sum of two nonzero numbers with few digits: their total fits in one word.
 #[inline(always)]
 fn add_short_numbers(shape: Shape, x: Unpacked, y: Unpacked, round: Round) -> StatusAnd<Unpacked>
@@ -96,6 +111,48 @@ fn add_short_numbers(shape: Shape, x: Unpacked, y: Unpacked, round: Round) -> St
     deliver_odd(shape, total.significand, total.exponent, round, negative)
 }
 
+/// The sum of two nonzero numbers with many digits: their total fits in one `u128`.
+#[inline(always)]
+fn add_long_numbers(shape: Shape, x: Unpacked, y: Unpacked, round: Round) -> StatusAnd<Unpacked>
+    requires long { 64 ≤ shape.precision }
+    requires short { shape.precision ≤ 123 }
+    requires x_normal { IsNormal shape x }
+    requires y_normal { IsNormal shape y }
+    ensures stored { IsStored shape result.value }
+    ensures delivered { GivesAt shape (IsRounded (format_at shape) round
+        (zero_sum_sign round x.negative y.negative)
+        (signed x.negative (quanta_of shape x) +ℤ signed y.negative (quanta_of shape y)) 1) result }
+{
+    let total = add_long_terms(shape.precision, term_of(shape, x), term_of(shape, y));
+    let of_zero = sign_of_zero(round, x.negative, y.negative);
+    let negative = sign_of_long_odd_total(total, of_zero);
+    deliver_long_odd(shape, total.significand, total.exponent, round, negative)
+}
+
+/// The sum of two nonzero numbers of any precision. Kept out of line, for the few precisions that no faster way takes.
+#[cold]
+#[inline(never)]
+fn add_other_numbers(shape: Shape, x: Unpacked, y: Unpacked, round: Round) -> StatusAnd<Unpacked>
+    requires x_normal { IsNormal shape x }
+    requires y_normal { IsNormal shape y }
+    ensures stored { IsStored shape result.value }
+    ensures delivered { GivesAt shape (IsRounded (format_at shape) round
+        (zero_sum_sign round x.negative y.negative)
+        (signed x.negative (quanta_of shape x) +ℤ signed y.negative (quanta_of shape y)) 1) result }
+{
+    let total = add_terms(term_of(shape, x), term_of(shape, y));
+    let of_zero = sign_of_zero(round, x.negative, y.negative);
+    let negative = sign_of_total(total, of_zero);
+    deliver(
+        shape,
+        total.significand,
+        total.exponent,
+        total.loss,
+        round,
+        negative,
+    )
+}
+
 /// The sum of two nonzero numbers.
 #[inline(always)]
 fn add_numbers(shape: Shape, x: Unpacked, y: Unpacked, round: Round) -> StatusAnd<Unpacked>
@@ -109,17 +166,10 @@ fn add_numbers(shape: Shape, x: Unpacked, y: Unpacked, round: Round) -> StatusAn
     if shape.precision <= SHORT_LIMIT {
         return add_short_numbers(shape, x, y, round);
     }
-    let total = add_terms(term_of(shape, x), term_of(shape, y));
-    let of_zero = sign_of_zero(round, x.negative, y.negative);
-    let negative = sign_of_total(total, of_zero);
-    deliver(
-        shape,
-        total.significand,
-        total.exponent,
-        total.loss,
-        round,
-        negative,
-    )
+    if shape.precision >= 64 && shape.precision <= LONG_LIMIT {
+        return add_long_numbers(shape, x, y, round);
+    }
+    remade(add_other_numbers(shape.remade(), x.remade(), y.remade(), round))
 }
 
 /// The sum of an infinity and any value.

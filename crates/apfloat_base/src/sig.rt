@@ -6,6 +6,7 @@
 //! Products of long significands, and sums with them, take two words (`Wide`) until they are cut to one.
 
 pub mod guessed_quotient;
+pub mod long_odd_sum;
 pub mod long_product;
 pub mod long_quotient;
 pub mod loss;
@@ -25,6 +26,7 @@ pub mod wide_sum;
 pub use guessed_quotient::{
     NEAR_LIMIT, divide_short_by_guess, divide_word_by_guess, guess_quotient,
 };
+pub use long_odd_sum::{LONG_LIMIT, LongOddTotal, add_long_terms};
 pub use long_product::wide_product;
 pub use long_quotient::{Digits, LongDivisor, divide_by_words, long_divisor, next_digits};
 pub use loss::{Loss, is_exact, loss_of_rest};

@@ -18,33 +18,37 @@ use Rattle.apfloat_unpacked.proofs.CutRests.{loss_less, loss_more, rest_stands, 
 
 -- ---- a significand at the top of a word
 
--- a number below 2 ^ 64 has at most 64 digits
-pub word_digits : (n digits : ℕ) → n < 2 ^ 64 → (0 < digits → 2 ^ (digits - 1) ≤ n) → digits ≤ 64
-word_digits n zero h f = omega arith
-word_digits n (suc d) h f =
+-- a number below 2 ^ width has at most that many digits
+pub word_digits : (width n digits : ℕ) → n < 2 ^ width → (0 < digits → 2 ^ (digits - 1) ≤ n) → digits ≤ width
+word_digits width n zero h f = omega arith
+word_digits width n (suc d) h f =
     let l : 2 ^ (suc d - 1) ≤ n = f (omega arith) in
     let e : suc d - 1 ≡ d = omega arith in
     let k : 2 ^ d ≤ n = subst (λ (x : ℕ). 2 ^ x ≤ n) e l in
-    let b : d < 64 = exponent_below d 64 (omega (arith, k, h)) in
+    let b : d < width = exponent_below d width (omega (arith, k, h)) in
     omega arith
 
--- moved up to 64 digits, it stays in the word
-pub top_fits : (n digits : ℕ) → digits ≤ 64 → n < 2 ^ digits → n * 2 ^ (64 - digits) < 2 ^ 64
-top_fits n digits l h =
-    let k : 0 < 2 ^ (64 - digits) = pow_pos (64 - digits) in
-    let e : digits + (64 - digits) ≡ 64 = omega arith in
-    let w : 2 ^ 64 ≡ 2 ^ digits * 2 ^ (64 - digits) = ap (λ (x : ℕ). 2 ^ x) (sym e) ∙ pow-add 2 digits (64 - digits) in
+-- moved up to all digits of the word, it stays in the word
+pub top_fits : (width n digits : ℕ) → digits ≤ width → n < 2 ^ digits → n * 2 ^ (width - digits) < 2 ^ width
+top_fits width n digits l h =
+    let k : 0 < 2 ^ (width - digits) = pow_pos (width - digits) in
+    let e : digits + (width - digits) ≡ width = omega arith in
+    let w : 2 ^ width ≡ 2 ^ digits * 2 ^ (width - digits) = ap (λ (x : ℕ). 2 ^ x) (sym e) ∙
+    pow-add 2 digits (width - digits) in
     let h' : n + 1 ≤ 2 ^ digits = omega (arith, h) in
-    let d : (n + 1) * 2 ^ (64 - digits) ≤ 2 ^ digits * 2 ^ (64 - digits) = mul-le-mul_right (2 ^ (64 - digits)) h' in
+    let d : (n + 1) * 2 ^ (width - digits) ≤ 2 ^ digits * 2 ^ (width - digits) =
+    mul-le-mul_right (2 ^ (width - digits)) h' in
     omega (arith, d, w, k)
 
 -- and has its highest digit at the top
-pub top_full : (n digits : ℕ) → 0 < digits → digits ≤ 64 → 2 ^ (digits - 1) ≤ n → 2 ^ 63 ≤ n * 2 ^ (64 - digits)
-top_full n digits p l h =
-    let e : (digits - 1) + (64 - digits) ≡ 63 = omega arith in
-    let w : 2 ^ 63 ≡ 2 ^ (digits - 1) * 2 ^ (64 - digits) = ap (λ (x : ℕ). 2 ^ x) (sym e) ∙
-    pow-add 2 (digits - 1) (64 - digits) in
-    let d : 2 ^ (digits - 1) * 2 ^ (64 - digits) ≤ n * 2 ^ (64 - digits) = mul-le-mul_right (2 ^ (64 - digits)) h in
+pub top_full : (width n digits : ℕ) → 0 < digits → digits ≤ width → 2 ^ (digits - 1) ≤ n
+    → 2 ^ (width - 1) ≤ n * 2 ^ (width - digits)
+top_full width n digits p l h =
+    let e : (digits - 1) + (width - digits) ≡ width - 1 = omega arith in
+    let w : 2 ^ (width - 1) ≡ 2 ^ (digits - 1) * 2 ^ (width - digits) = ap (λ (x : ℕ). 2 ^ x) (sym e) ∙
+    pow-add 2 (digits - 1) (width - digits) in
+    let d : 2 ^ (digits - 1) * 2 ^ (width - digits) ≤ n * 2 ^ (width - digits) =
+    mul-le-mul_right (2 ^ (width - digits)) h in
     omega (arith, d, w)
 
 -- ---- the rest of an odd significand
@@ -114,50 +118,51 @@ odd_rest q g t rest amount u w k o e l a b =
 -- ---- a cut to the precision
 
 -- how a significand with that many digits, moved up to the top of a word, is cut to the precision
-pub record IsTopSplit (precision s digits top place rest half up down : ℕ) : Type 0 where
+pub record IsTopSplit (width precision s digits top place rest half up down : ℕ) : Type 0 where
   pub some : 0 < precision
-  pub short : precision ≤ 59
-  pub word : digits ≤ 64
+  pub short : precision + 5 ≤ width
+  pub word : digits ≤ width
   pub any : 0 < digits
   pub fits : s < 2 ^ digits
   pub full : 2 ^ (digits - 1) ≤ s
-  pub top_is : top ≡ s * 2 ^ (64 - digits)
-  pub half_is : half ≡ 2 ^ (64 - precision - 1)
-  pub rest_is : rest ≡ top % 2 ^ (64 - precision)
+  pub top_is : top ≡ s * 2 ^ (width - digits)
+  pub half_is : half ≡ 2 ^ (width - precision - 1)
+  pub rest_is : rest ≡ top % 2 ^ (width - precision)
   pub place_is : digits + up ≡ place + precision + down
 
-pub top_cut_fits : (precision s digits top place rest half up down : ℕ)
-    → IsTopSplit precision s digits top place rest half up down → top / 2 ^ (64 - precision) < 2 ^ precision
-top_cut_fits precision s digits top place rest half up down i =
+pub top_cut_fits : (width precision s digits top place rest half up down : ℕ)
+    → IsTopSplit width precision s digits top place rest half up down → top / 2 ^ (width - precision) < 2 ^ precision
+top_cut_fits width precision s digits top place rest half up down i =
     let l = i.short in
-    let f : top < 2 ^ 64 = subst (λ (x : ℕ). x < 2 ^ 64) (sym i.top_is) (top_fits s digits i.word i.fits) in
-    fits_cut top 64 (64 - precision) precision f (omega (arith, l))
+    let f : top < 2 ^ width = subst (λ (x : ℕ). x < 2 ^ width) (sym i.top_is) (top_fits width s digits i.word i.fits) in
+    fits_cut top width (width - precision) precision f (omega (arith, l))
 
-pub top_cut_full : (precision s digits top place rest half up down : ℕ)
-    → IsTopSplit precision s digits top place rest half up down
-    → 2 ^ (precision - 1) ≤ top / 2 ^ (64 - precision)
-top_cut_full precision s digits top place rest half up down i =
+pub top_cut_full : (width precision s digits top place rest half up down : ℕ)
+    → IsTopSplit width precision s digits top place rest half up down
+    → 2 ^ (precision - 1) ≤ top / 2 ^ (width - precision)
+top_cut_full width precision s digits top place rest half up down i =
     let l = i.short in
-    let f : 2 ^ 63 ≤ top = subst (λ (x : ℕ). 2 ^ 63 ≤ x) (sym i.top_is) (top_full s digits i.any i.word i.full) in
-    full_cut top 64 (64 - precision) precision i.some (λ _. f) (omega (arith, l))
+    let f : 2 ^ (width - 1) ≤ top =
+    subst (λ (x : ℕ). 2 ^ (width - 1) ≤ x) (sym i.top_is) (top_full width s digits i.any i.word i.full) in
+    full_cut top width (width - precision) precision i.some (λ _. f) (omega (arith, l))
 
 -- the cut in units of the significand
-top_stands : (precision s digits top place rest half up down amount unit : ℕ)
-    → IsTopSplit precision s digits top place rest half up down → 0 < unit
+top_stands : (width precision s digits top place rest half up down amount unit : ℕ)
+    → IsTopSplit width precision s digits top place rest half up down → 0 < unit
     → IsRoundedToOdd (2 ^ (precision + 1)) s amount unit
-    → StandsFor (top / 2 ^ (64 - precision)) (loss_at rest half) (amount * 2 ^ (64 - digits))
-    (2 ^ (64 - precision) * unit)
-top_stands precision s digits top place rest half up down amount unit i u h =
+    → StandsFor (top / 2 ^ (width - precision)) (loss_at rest half) (amount * 2 ^ (width - digits))
+    (2 ^ (width - precision) * unit)
+top_stands width precision s digits top place rest half up down amount unit i u h =
     let l = i.short in
-    let k : 0 < 64 - precision = omega (arith, l) in
-    let q = top / 2 ^ (64 - precision) in
-    let w = 2 ^ (64 - digits) in
-    let t : 2 * 2 ^ (64 - precision - 1) ≡ 2 ^ (64 - precision) = twice_half (64 - precision) k in
-    let t' : 2 * half ≡ 2 ^ (64 - precision) = ap (λ (x : ℕ). 2 * x) i.half_is ∙ t in
-    let b : rest < 2 * half = rest_below top (64 - precision) half rest k i.half_is i.rest_is in
+    let k : 0 < width - precision = omega (arith, l) in
+    let q = top / 2 ^ (width - precision) in
+    let w = 2 ^ (width - digits) in
+    let t : 2 * 2 ^ (width - precision - 1) ≡ 2 ^ (width - precision) = twice_half (width - precision) k in
+    let t' : 2 * half ≡ 2 ^ (width - precision) = ap (λ (x : ℕ). 2 * x) i.half_is ∙ t in
+    let b : rest < 2 * half = rest_below top (width - precision) half rest k i.half_is i.rest_is in
     let d : q * (2 * half) + rest ≡ top =
-    ap (λ (x : ℕ). q * x + rest) t' ∙ ap (λ (x : ℕ). q * 2 ^ (64 - precision) + x) i.rest_is
-    ∙ div-add-mod' top (2 ^ (64 - precision)) in
+    ap (λ (x : ℕ). q * x + rest) t' ∙ ap (λ (x : ℕ). q * 2 ^ (width - precision) + x) i.rest_is
+    ∙ div-add-mod' top (2 ^ (width - precision)) in
     let v : s * w ≡ q * (2 * half) + rest = sym i.top_is ∙ sym d in
     subst (λ (x : ℕ). StandsFor q (loss_at rest half) (amount * w) (x * unit)) t'
     (⊎_elim
@@ -170,47 +175,48 @@ top_stands precision s digits top place rest half up down amount unit i u h =
     let m = o.long in
     let n : 2 ^ (precision + 1) < 2 ^ digits = omega (arith, f, m) in
     let p : precision + 1 < digits = exponent_below (precision + 1) digits n in
-    let g = 2 ^ (62 - precision - (64 - digits)) in
-    let x : 1 + (62 - precision - (64 - digits)) + (64 - digits) ≡ 64 - precision - 1 = omega (arith, l, p) in
+    let g = 2 ^ (width - 2 - precision - (width - digits)) in
+    let x : 1 + (width - 2 - precision - (width - digits)) + (width - digits) ≡ width - precision - 1 =
+    omega (arith, l, p) in
     let c : half ≡ 2 * g * w = i.half_is ∙ ap (λ (x : ℕ). 2 ^ x) (sym x) ∙
-    pow3 1 (62 - precision - (64 - digits)) (64 - digits) in
+    pow3 1 (width - 2 - precision - (width - digits)) (width - digits) in
     let v' : s * w ≡ q * (2 * (2 * g * w)) + rest = subst (λ (x : ℕ). s * w ≡ q * (2 * x) + rest) c v in
     let b' : rest < 2 * (2 * g * w) = subst (λ (x : ℕ). rest < 2 * x) c b in
     subst (λ (x : ℕ). StandsFor q (loss_at rest x) (amount * w) (2 * x * unit)) (sym c)
-    (odd_rest q g s rest amount unit w (pow_pos (64 - digits)) o.odd v' b' o.above o.below))
+    (odd_rest q g s rest amount unit w (pow_pos (width - digits)) o.odd v' b' o.above o.below))
     h)
 
 -- what is kept stands for the amount in quanta
-pub top_cut_stands : (precision s digits top place rest half up down amount parts : ℕ)
-    → IsTopSplit precision s digits top place rest half up down → 0 < parts
+pub top_cut_stands : (width precision s digits top place rest half up down amount parts : ℕ)
+    → IsTopSplit width precision s digits top place rest half up down → 0 < parts
     → IsRoundedToOdd (2 ^ (precision + 1)) s (amount * 2 ^ down) (parts * 2 ^ up)
-    → StandsFor (top / 2 ^ (64 - precision)) (loss_at rest half) amount (2 ^ place * parts)
-top_cut_stands precision s digits top place rest half up down amount parts i p h =
+    → StandsFor (top / 2 ^ (width - precision)) (loss_at rest half) amount (2 ^ place * parts)
+top_cut_stands width precision s digits top place rest half up down amount parts i p h =
     let l = i.short in
     let w = i.word in
     let d = i.place_is in
-    let e : 64 - precision + up ≡ place + (down + (64 - digits)) = omega (arith, l, w, d) in
-    let a : amount * 2 ^ down * 2 ^ (64 - digits) ≡ amount * 2 ^ (down + (64 - digits)) =
-    let x : 2 ^ (down + (64 - digits)) ≡ 2 ^ down * 2 ^ (64 - digits) = pow-add 2 down (64 - digits) in
-    let y : amount * 2 ^ (down + (64 - digits)) ≡ amount * (2 ^ down * 2 ^ (64 - digits)) =
+    let e : width - precision + up ≡ place + (down + (width - digits)) = omega (arith, l, w, d) in
+    let a : amount * 2 ^ down * 2 ^ (width - digits) ≡ amount * 2 ^ (down + (width - digits)) =
+    let x : 2 ^ (down + (width - digits)) ≡ 2 ^ down * 2 ^ (width - digits) = pow-add 2 down (width - digits) in
+    let y : amount * 2 ^ (down + (width - digits)) ≡ amount * (2 ^ down * 2 ^ (width - digits)) =
     ap (λ (z : ℕ). amount * z) x in
     omega (arith, y) in
-    kept_stands (top / 2 ^ (64 - precision)) (loss_at rest half) amount parts (64 - precision) up
-    (down + (64 - digits)) place e
-    (subst (λ (x : ℕ). StandsFor (top / 2 ^ (64 - precision)) (loss_at rest half) x
-    (2 ^ (64 - precision) * (parts * 2 ^ up))) a
-    (top_stands precision s digits top place rest half up down (amount * 2 ^ down) (parts * 2 ^ up) i
+    kept_stands (top / 2 ^ (width - precision)) (loss_at rest half) amount parts (width - precision) up
+    (down + (width - digits)) place e
+    (subst (λ (x : ℕ). StandsFor (top / 2 ^ (width - precision)) (loss_at rest half) x
+    (2 ^ (width - precision) * (parts * 2 ^ up))) a
+    (top_stands width precision s digits top place rest half up down (amount * 2 ^ down) (parts * 2 ^ up) i
     (mul-pos p (pow_pos up)) h))
 
-pub top_cut_encloses : (precision s digits top place rest half up down amount parts : ℕ)
-    → IsTopSplit precision s digits top place rest half up down → 0 < parts
+pub top_cut_encloses : (width precision s digits top place rest half up down amount parts : ℕ)
+    → IsTopSplit width precision s digits top place rest half up down → 0 < parts
     → IsRoundedToOdd (2 ^ (precision + 1)) s (amount * 2 ^ down) (parts * 2 ^ up)
-    → IsEnclosed precision (2 ^ (precision - 1)) (top / 2 ^ (64 - precision)) place amount parts
-top_cut_encloses precision s digits top place rest half up down amount parts i p h =
-    enclosed_from precision (top / 2 ^ (64 - precision)) place (loss_at rest half) amount parts i.some p
-    (top_cut_fits precision s digits top place rest half up down i)
-    (inr (top_cut_full precision s digits top place rest half up down i))
-    (top_cut_stands precision s digits top place rest half up down amount parts i p h)
+    → IsEnclosed precision (2 ^ (precision - 1)) (top / 2 ^ (width - precision)) place amount parts
+top_cut_encloses width precision s digits top place rest half up down amount parts i p h =
+    enclosed_from precision (top / 2 ^ (width - precision)) place (loss_at rest half) amount parts i.some p
+    (top_cut_fits width precision s digits top place rest half up down i)
+    (inr (top_cut_full width precision s digits top place rest half up down i))
+    (top_cut_stands width precision s digits top place rest half up down amount parts i p h)
 
 -- ---- below the last place
 
@@ -226,20 +232,22 @@ no_down (pos n) h = (refl, refl)
 no_down (negsuc n) h = absurd (omega (arith, ints, h))
 
 -- with a unit below the quantum, a whole number of quanta is not rounded
-pub exact_below : (s digits precision amount : ℕ) (unit : ℤ) → precision ≤ 59
-    → (s < 2 ^ digits) × ((s ≡ 0) ⊎ ((unit +ℤ pos (digits + 1)) ≤ℤ pos precision))
+pub exact_below : (s digits precision amount : ℕ) (unit : ℤ)
+    → (s ≡ 0) ⊎ ((s < 2 ^ digits) × ((unit +ℤ pos digits) ≤ℤ pos precision))
     → IsRoundedToOdd (2 ^ (precision + 1)) s (amount * 2 ^ down unit) (1 * 2 ^ up unit)
     → StandsFor s ExactlyZero (amount * 2 ^ down unit) (1 * 2 ^ up unit)
-exact_below s digits precision amount unit l d (inl e) = e
-exact_below s digits precision amount unit l (f, inl z) (inr o) =
+exact_below s digits precision amount unit d (inl e) = e
+exact_below s digits precision amount unit (inl z) (inr o) =
     let m = o.long in
     let k = pow_pos (precision + 1) in
     absurd (omega (arith, m, z, k))
-exact_below s digits precision amount unit l (f, inr g) (inr o) =
+exact_below s digits precision amount unit (inr d) (inr o) =
+    let f = d.0 in
+    let g = d.1 in
     let m = o.long in
     let n : 2 ^ (precision + 1) < 2 ^ digits = omega (arith, f, m) in
     let p : precision + 1 < digits = exponent_below (precision + 1) digits n in
-    let z : up unit ≡ 0 = no_up unit (omega (arith, ints, g, p, l)) in
+    let z : up unit ≡ 0 = no_up unit (omega (arith, ints, g, p)) in
     let e : 1 * 2 ^ up unit ≡ 1 = ap (λ (x : ℕ). 1 * 2 ^ x) z in
     let h : IsRoundedToOdd (2 ^ (precision + 1)) s (amount * 2 ^ down unit * 1) 1 =
     subst₂ (λ (x : ℕ) (y : ℕ). IsRoundedToOdd (2 ^ (precision + 1)) s x y) (omega arith) e (inr o) in

@@ -26,6 +26,7 @@ ghost use Rattle.apfloat_unpacked.specs.Shapes.{format_at};
 ghost use Rattle.apfloat_unpacked.specs.Stored.{IsStored, GivesAt};
 
 mod denormal;
+pub mod long_odd;
 pub mod odd;
 
 use self::denormal::round_denormal;

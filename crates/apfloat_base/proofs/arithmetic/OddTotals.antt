@@ -15,36 +15,38 @@ use Rattle.apfloat_base.proofs.arithmetic.Signs.{swapped_sum}
 use Rattle.apfloat_base.proofs.arithmetic.Totals.{raised, like_signs, unlike_signs, balances_times}
 use Rattle.apfloat_base.proofs.rounding.OddRoundings.{whole_to_odd, to_odd_times, odd_together, odd_apart}
 
--- ---- significands that are moved up to 62 digits
+-- ---- significands that are moved up, with at least three free digits below them
 
-pub moved_fits : (m precision : ℕ) → precision ≤ 59 → m < 2 ^ precision → m * 2 ^ (62 - precision) < 2 ^ 62
-moved_fits m precision l h =
-    let k : 0 < 2 ^ (62 - precision) = pow_pos (62 - precision) in
-    let e : precision + (62 - precision) ≡ 62 = omega arith in
-    let w : 2 ^ 62 ≡ 2 ^ precision * 2 ^ (62 - precision) = ap (λ (x : ℕ). 2 ^ x) (sym e) ∙
-    pow-add 2 precision (62 - precision) in
+pub moved_fits : (m precision digits : ℕ) → precision + 3 ≤ digits → m < 2 ^ precision
+    → m * 2 ^ (digits - precision) < 2 ^ digits
+moved_fits m precision digits l h =
+    let k : 0 < 2 ^ (digits - precision) = pow_pos (digits - precision) in
+    let e : precision + (digits - precision) ≡ digits = omega arith in
+    let w : 2 ^ digits ≡ 2 ^ precision * 2 ^ (digits - precision) = ap (λ (x : ℕ). 2 ^ x) (sym e) ∙
+    pow-add 2 precision (digits - precision) in
     let h' : m + 1 ≤ 2 ^ precision = omega (arith, h) in
-    let d : (m + 1) * 2 ^ (62 - precision) ≤ 2 ^ precision * 2 ^ (62 - precision) =
-    mul-le-mul_right (2 ^ (62 - precision)) h' in
+    let d : (m + 1) * 2 ^ (digits - precision) ≤ 2 ^ precision * 2 ^ (digits - precision) =
+    mul-le-mul_right (2 ^ (digits - precision)) h' in
     omega (arith, d, w, k)
 
-pub moved_full : (m precision : ℕ) → 0 < precision → precision ≤ 59 → 2 ^ (precision - 1) ≤ m
-    → 2 ^ 61 ≤ m * 2 ^ (62 - precision)
-moved_full m precision p l h =
-    let e : (precision - 1) + (62 - precision) ≡ 61 = omega arith in
-    let w : 2 ^ 61 ≡ 2 ^ (precision - 1) * 2 ^ (62 - precision) = ap (λ (x : ℕ). 2 ^ x) (sym e) ∙
-    pow-add 2 (precision - 1) (62 - precision) in
-    let d : 2 ^ (precision - 1) * 2 ^ (62 - precision) ≤ m * 2 ^ (62 - precision) =
-    mul-le-mul_right (2 ^ (62 - precision)) h in
+pub moved_full : (m precision digits : ℕ) → 0 < precision → precision + 3 ≤ digits → 2 ^ (precision - 1) ≤ m
+    → 2 ^ (digits - 1) ≤ m * 2 ^ (digits - precision)
+moved_full m precision digits p l h =
+    let e : (precision - 1) + (digits - precision) ≡ digits - 1 = omega arith in
+    let w : 2 ^ (digits - 1) ≡ 2 ^ (precision - 1) * 2 ^ (digits - precision) = ap (λ (x : ℕ). 2 ^ x) (sym e) ∙
+    pow-add 2 (precision - 1) (digits - precision) in
+    let d : 2 ^ (precision - 1) * 2 ^ (digits - precision) ≤ m * 2 ^ (digits - precision) =
+    mul-le-mul_right (2 ^ (digits - precision)) h in
     omega (arith, d, w)
 
 -- their last three digits are zero
-pub moved_free : (m precision : ℕ) → precision ≤ 59 → m * 2 ^ (62 - precision) % 8 ≡ 0
-moved_free m precision l =
-    let e : (59 - precision) + 3 ≡ 62 - precision = omega arith in
-    let w : 2 ^ (62 - precision) ≡ 2 ^ (59 - precision) * 8 = ap (λ (x : ℕ). 2 ^ x) (sym e) ∙
-    pow-add 2 (59 - precision) 3 in
-    let d : m * 2 ^ (62 - precision) ≡ m * 2 ^ (59 - precision) * 8 = ap (λ (x : ℕ). m * x) w ∙ omega arith in
+pub moved_free : (m precision digits : ℕ) → precision + 3 ≤ digits → m * 2 ^ (digits - precision) % 8 ≡ 0
+moved_free m precision digits l =
+    let e : (digits - precision - 3) + 3 ≡ digits - precision = omega arith in
+    let w : 2 ^ (digits - precision) ≡ 2 ^ (digits - precision - 3) * 8 = ap (λ (x : ℕ). 2 ^ x) (sym e) ∙
+    pow-add 2 (digits - precision - 3) 3 in
+    let d : m * 2 ^ (digits - precision) ≡ m * 2 ^ (digits - precision - 3) * 8 =
+    ap (λ (x : ℕ). m * x) w ∙ omega arith in
     omega (arith, d)
 
 -- ---- together and apart, in one unit
@@ -60,9 +62,9 @@ free_cut low j gap f l h =
     (subst (λ (x : ℕ). IsRoundedToOdd 1 j x (2 ^ gap)) k h))
 
 -- and a cut of more leaves little of it
-far_cut : (low j gap : ℕ) → low < 2 ^ 62 → 4 ≤ gap → IsRoundedToOdd 1 j low (2 ^ gap) → j ≤ 2 ^ 58
-far_cut low zero gap f l h = omega arith
-far_cut low (suc i) gap f l h =
+far_cut : (low j gap few : ℕ) → low < few * 16 → 4 ≤ gap → IsRoundedToOdd 1 j low (2 ^ gap) → j ≤ few
+far_cut low zero gap few f l h = omega arith
+far_cut low (suc i) gap few f l h =
     let k : 2 ^ 4 ≤ 2 ^ gap = pow-le-pow_right two_pos l in
     let m : i * 2 ^ 4 ≤ i * 2 ^ gap = mul-le-mul_left i k in
     let a : i * 2 ^ gap < low =
@@ -73,9 +75,9 @@ far_cut low (suc i) gap f l h =
     omega (arith, m, a, f)
 
 -- an exact difference
-exact_apart : (high low j gap : ℕ) (flipped : Bool) → low ≡ j * 2 ^ gap → flipped ≡ ltb high j
-    → IsApartToOdd (2 ^ 60) (high * 2 ^ gap) low flipped (cond flipped j high - cond flipped high j) (2 ^ gap)
-exact_apart high low j gap flipped e f =
+exact_apart : (least high low j gap : ℕ) (flipped : Bool) → low ≡ j * 2 ^ gap → flipped ≡ ltb high j
+    → IsApartToOdd least (high * 2 ^ gap) low flipped (cond flipped j high - cond flipped high j) (2 ^ gap)
+exact_apart least high low j gap flipped e f =
     ⊎_elim
     (λ (l : high < j).
     let g : flipped ≡ true = f ∙ lt-ltb high j l in
@@ -97,43 +99,66 @@ exact_apart high low j gap flipped e f =
     }))
     (cases_lt high j)
 
-pub apart_to_odd : (high low j gap : ℕ) (flipped : Bool) → 2 ^ 61 ≤ high → high % 8 ≡ 0 → low < 2 ^ 62
-    → low % 8 ≡ 0 → IsRoundedToOdd 1 j low (2 ^ gap) → flipped ≡ ltb high j
-    → IsApartToOdd (2 ^ 60) (high * 2 ^ gap) low flipped (cond flipped j high - cond flipped high j) (2 ^ gap)
-apart_to_odd high low j gap flipped full even fits free h f =
+-- the sixteenth part of a power of two, by the halves and quarters of it
+sixteenths : (digits : ℕ) → 4 ≤ digits
+    → (2 ^ digits ≡ 2 ^ (digits - 4) * 16) × (2 ^ (digits - 1) ≡ 2 ^ (digits - 4) * 8)
+    × (2 ^ (digits - 2) ≡ 2 ^ (digits - 4) * 4)
+sixteenths digits l =
+    let a : (digits - 4) + 4 ≡ digits = omega arith in
+    let b : (digits - 4) + 3 ≡ digits - 1 = omega arith in
+    let c : (digits - 4) + 2 ≡ digits - 2 = omega arith in (
+      ap (λ (x : ℕ). 2 ^ x) (sym a) ∙ pow-add 2 (digits - 4) 4,
+      ap (λ (x : ℕ). 2 ^ x) (sym b) ∙ pow-add 2 (digits - 4) 3,
+      ap (λ (x : ℕ). 2 ^ x) (sym c) ∙ pow-add 2 (digits - 4) 2,
+    )
+
+pub apart_to_odd : (digits high low j gap : ℕ) (flipped : Bool) → 4 ≤ digits → 2 ^ (digits - 1) ≤ high
+    → high % 8 ≡ 0 → low < 2 ^ digits → low % 8 ≡ 0 → IsRoundedToOdd 1 j low (2 ^ gap) → flipped ≡ ltb high j
+    → IsApartToOdd (2 ^ (digits - 2)) (high * 2 ^ gap) low flipped (cond flipped j high - cond flipped high j)
+    (2 ^ gap)
+apart_to_odd digits high low j gap flipped some full even fits free h f =
+    let least = 2 ^ (digits - 2) in
+    let few = 2 ^ (digits - 4) in
+    let p : 0 < 2 ^ (digits - 4) = pow_pos (digits - 4) in
+    let w = sixteenths digits some in
+    let a = w.0 in
+    let b = w.1 in
+    let c = w.2 in
     ⊎_elim
-    (λ (l : gap < 4). exact_apart high low j gap flipped (free_cut low j gap free (omega arith) h) f)
+    (λ (l : gap < 4). exact_apart least high low j gap flipped (free_cut low j gap free (omega arith) h) f)
     (λ (l : 4 ≤ gap).
-    let s : j ≤ 2 ^ 58 = far_cut low j gap fits l h in
-    let g : flipped ≡ false = f ∙ le-ltb high j (omega (arith, s, full)) in
-    let r = odd_apart (2 ^ 60) high low j (2 ^ gap) (omega (arith, even)) (omega (arith, s, full)) h in
-    let b = r.0 in
-    rw g (record { amount = high * 2 ^ gap - low; balances = omega (arith, b); rounded = r.1 }))
+    let s : j ≤ few = far_cut low j gap few (omega (arith, fits, a)) l h in
+    let g : flipped ≡ false = f ∙ le-ltb high j (omega (arith, s, full, b)) in
+    let r = odd_apart least high low j (2 ^ gap) (omega (arith, even)) (omega (arith, s, full, b, c, p)) h in
+    let d = r.0 in
+    rw g (record { amount = high * 2 ^ gap - low; balances = omega (arith, d); rounded = r.1 }))
     (cases_lt gap 4)
 
-pub together_to_odd : (high low j gap : ℕ) (flipped : Bool) → 2 ^ 61 ≤ high → high % 8 ≡ 0
+pub together_to_odd : (digits high low j gap : ℕ) (flipped : Bool) → 2 ^ (digits - 1) ≤ high → high % 8 ≡ 0
     → IsRoundedToOdd 1 j low (2 ^ gap) → flipped ≡ false
-    → (flipped ≡ false) × IsRoundedToOdd (2 ^ 60) (cond flipped j high + cond flipped high j)
+    → (flipped ≡ false) × IsRoundedToOdd (2 ^ (digits - 2)) (cond flipped j high + cond flipped high j)
     (high * 2 ^ gap + low) (2 ^ gap)
-together_to_odd high low j gap flipped full even h f =
-    (f, rw f (odd_together (2 ^ 60) high low j (2 ^ gap) (omega (arith, even)) (omega (arith, full)) h))
+together_to_odd digits high low j gap flipped full even h f =
+    let k : 2 ^ (digits - 2) ≤ 2 ^ (digits - 1) = pow-le-pow_right two_pos (omega arith) in
+    (f, rw f (odd_together (2 ^ (digits - 2)) high low j (2 ^ gap) (omega (arith, even)) (omega (arith, full, k)) h))
 
-pub combined_fits : (high j : ℕ) (flipped : Bool) → high < 2 ^ 62 → j < 2 ^ 62
-    → (cond flipped j high - cond flipped high j < 2 ^ 63) × (cond flipped j high + cond flipped high j < 2 ^ 63)
-combined_fits high j true h k = (omega (arith, h, k), omega (arith, h, k))
-combined_fits high j false h k = (omega (arith, h, k), omega (arith, h, k))
+pub combined_fits : (room high j : ℕ) (flipped : Bool) → high < room → j < room
+    → (cond flipped j high - cond flipped high j < 2 * room)
+    × (cond flipped j high + cond flipped high j < 2 * room)
+combined_fits room high j true h k = (omega (arith, h, k), omega (arith, h, k))
+combined_fits room high j false h k = (omega (arith, h, k), omega (arith, h, k))
 
 -- ---- two terms with signs
 
 -- the total of two terms whose significands were moved up by `room` places
-pub total_to_odd : (base eh el e : ℤ) (s t unlike flipped : Bool) (mh ml room gap q : ℕ)
-    → (base +ℤ pos 62) ≤ℤ el → room ≤ 62 → (el +ℤ pos gap) ≡ eh → (e +ℤ pos room) ≡ eh
+pub total_to_odd : (base eh el e : ℤ) (s t unlike flipped : Bool) (least digits mh ml room gap q : ℕ)
+    → (base +ℤ pos digits) ≤ℤ el → room ≤ digits → (el +ℤ pos gap) ≡ eh → (e +ℤ pos room) ≡ eh
     → (unlike ≡ false → s ≡ t) → (unlike ≡ true → s ≡ t → ⊥)
     → (unlike ≡ false → (flipped ≡ false)
-    × IsRoundedToOdd (2 ^ 60) q (mh * 2 ^ room * 2 ^ gap + ml * 2 ^ room) (2 ^ gap))
-    → (unlike ≡ true → IsApartToOdd (2 ^ 60) (mh * 2 ^ room * 2 ^ gap) (ml * 2 ^ room) flipped q (2 ^ gap))
-    → IsSignedToOdd (2 ^ 60) base (counted base s eh mh +ℤ counted base t el ml) (cond flipped t s) e q
-total_to_odd base eh el e s t false flipped mh ml room gap q l r g d like unlike together apart =
+    × IsRoundedToOdd least q (mh * 2 ^ room * 2 ^ gap + ml * 2 ^ room) (2 ^ gap))
+    → (unlike ≡ true → IsApartToOdd least (mh * 2 ^ room * 2 ^ gap) (ml * 2 ^ room) flipped q (2 ^ gap))
+    → IsSignedToOdd least base (counted base s eh mh +ℤ counted base t el ml) (cond flipped t s) e q
+total_to_odd base eh el e s t false flipped least digits mh ml room gap q l r g d like unlike together apart =
     let lowest = el -ℤ pos room in
     let w = 2 ^ up (lowest -ℤ base) in
     let a = raised base lowest e gap (omega (arith, ints)) (omega (arith, ints)) in
@@ -152,11 +177,11 @@ total_to_odd base eh el e s t false flipped mh ml room gap q l r g d like unlike
           ap (λ (x : ℕ). signed s x) k ∙ like_signs s (mh * 2 ^ up (eh -ℤ base)) (ml * 2 ^ up (el -ℤ base)) ∙
           ap (λ (x : Bool). counted base s eh mh +ℤ counted base x el ml) (like refl);
       rounded =
-          subst (λ (x : ℕ). IsRoundedToOdd (2 ^ 60) q ((mh * 2 ^ room * 2 ^ gap + ml * 2 ^ room) * w) x) (sym a.1)
-          (to_odd_times (2 ^ 60) q (mh * 2 ^ room * 2 ^ gap + ml * 2 ^ room) (2 ^ gap) w
+          subst (λ (x : ℕ). IsRoundedToOdd least q ((mh * 2 ^ room * 2 ^ gap + ml * 2 ^ room) * w) x) (sym a.1)
+          (to_odd_times least q (mh * 2 ^ room * 2 ^ gap + ml * 2 ^ room) (2 ^ gap) w
           (pow_pos (up (lowest -ℤ base))) h.1);
     }
-total_to_odd base eh el e s t true flipped mh ml room gap q l r g d like unlike together apart =
+total_to_odd base eh el e s t true flipped least digits mh ml room gap q l r g d like unlike together apart =
     let lowest = el -ℤ pos room in
     let w = 2 ^ up (lowest -ℤ base) in
     let a = raised base lowest e gap (omega (arith, ints)) (omega (arith, ints)) in
@@ -175,8 +200,8 @@ total_to_odd base eh el e s t true flipped mh ml room gap q l r g d like unlike 
       is = unlike_signs s t flipped (mh * 2 ^ up (eh -ℤ base)) (ml * 2 ^ up (el -ℤ base)) (h.amount * w)
           (unlike refl) k;
       rounded =
-          subst (λ (x : ℕ). IsRoundedToOdd (2 ^ 60) q (h.amount * w) x) (sym a.1)
-          (to_odd_times (2 ^ 60) q h.amount (2 ^ gap) w (pow_pos (up (lowest -ℤ base))) h.rounded);
+          subst (λ (x : ℕ). IsRoundedToOdd least q (h.amount * w) x) (sym a.1)
+          (to_odd_times least q h.amount (2 ^ gap) w (pow_pos (up (lowest -ℤ base))) h.rounded);
     }
 
 -- in which order the terms are does not matter

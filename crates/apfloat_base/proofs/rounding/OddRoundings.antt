@@ -1,7 +1,7 @@
 -- Numbers of units that are rounded to odd.
-use Rattle.std.proofs.Common.{◌≡◌, ℕ, zero, suc, ◌+◌, ◌-◌, ◌*◌, ◌/◌, ◌%◌, ◌^◌, ◌<◌, ◌≤◌, Bool, true, false, cond, eqb, sym, refl, ap, subst, inl, inr, ⊎_elim, arith}
-use Rattle.std.proofs.Math.Nat.{mul-le-mul_right, mul-le-mul_left, mul-lt-mul_of_pos_right, eq_of_mul-eq-mul_right, lt_of_mul-lt-mul_right, pow-le-pow_right}
-use Rattle.std.proofs.lemmas.Nat.{div-add-mod', mod_below}
+use Rattle.std.proofs.Common.{◌≡◌, ℕ, zero, suc, ◌+◌, ◌-◌, ◌*◌, ◌/◌, ◌%◌, ◌^◌, ◌<◌, ◌≤◌, Bool, true, false, cond, eqb, sym, refl, ap, ◌∙◌, subst, inl, inr, ⊎_elim, arith}
+use Rattle.std.proofs.Math.Nat.{div-eq_of_lt, mul-le-mul_right, mul-le-mul_left, mul-lt-mul_of_pos_right, eq_of_mul-eq-mul_right, lt_of_mul-lt-mul_right, pow-le-pow_right}
+use Rattle.std.proofs.lemmas.Nat.{div-add-mod', mod_below, pow_pos}
 use Rattle.std.proofs.lemmas.Bool.{cases_lt, eq-eqb, ne_eqb}
 use Rattle.apfloat_base.proofs.general.Powers.{two_pos}
 use Rattle.apfloat_base.specs.declared.sig.loss.Loss.{Loss}
@@ -39,10 +39,48 @@ stays_odd n u q a b o = inr (record {
 })
 
 -- what is cut off as a whole leaves 1, if it is not 0
-pub beyond_to_odd : (n k : ℕ) → 64 ≤ k → n < 2 ^ 64 → 0 < n → IsRoundedToOdd 1 1 n (2 ^ k)
-beyond_to_odd n k l h p =
-    let w : 2 ^ 64 ≤ 2 ^ k = pow-le-pow_right two_pos l in
+pub beyond_to_odd : (n digits k : ℕ) → digits ≤ k → n < 2 ^ digits → 0 < n → IsRoundedToOdd 1 1 n (2 ^ k)
+beyond_to_odd n digits k l h p =
+    let w : 2 ^ digits ≤ 2 ^ k = pow-le-pow_right two_pos l in
     inr (record { long = omega arith; odd = refl; above = omega (arith, p); below = omega (arith, w, h) })
+
+-- a number without its lowest digits, with the last digit that is left set if they are not all 0
+pub set_if_lost : (n places : ℕ) (lost : Bool) → (lost ≡ true → 0 < n % 2 ^ places)
+    → (lost ≡ false → n % 2 ^ places ≡ 0)
+    → IsRoundedToOdd 1 (cond lost (n / 2 ^ places + (1 - n / 2 ^ places % 2)) (n / 2 ^ places)) n (2 ^ places)
+set_if_lost n places false f g =
+    let z = g refl in
+    let d = div-add-mod' n (2 ^ places) in
+    inl (omega (arith, z, d))
+set_if_lost n places true f g =
+    let q = n / 2 ^ places in
+    let p = f refl in
+    let d : q * 2 ^ places + n % 2 ^ places ≡ n = div-add-mod' n (2 ^ places) in
+    let m : n % 2 ^ places < 2 ^ places = mod_below n (2 ^ places) (pow_pos places) in
+    ⊎_elim
+    (λ (l : q % 2 < 1).
+    let e : q + (1 - q % 2) ≡ q + 1 = omega arith in
+    subst (λ (x : ℕ). IsRoundedToOdd 1 x n (2 ^ places)) (sym e)
+    (raised_to_odd n (2 ^ places) q (omega (arith, d, p)) (omega (arith, d, m)) (omega arith)))
+    (λ (l : 1 ≤ q % 2).
+    let e : q + (1 - q % 2) ≡ q = omega arith in
+    subst (λ (x : ℕ). IsRoundedToOdd 1 x n (2 ^ places)) (sym e)
+    (stays_odd n (2 ^ places) q (omega (arith, d)) (omega (arith, d, m)) (omega (arith, l))))
+    (cases_lt (q % 2) 1)
+
+-- as many places as the number has digits leave nothing of it, as more do
+pub nothing_left : (n digits limit near places : ℕ) → n < 2 ^ digits → digits ≤ limit
+    → (places ≤ limit → near ≡ places) → (limit < places → near ≡ limit) → n / 2 ^ near ≡ n / 2 ^ places
+nothing_left n digits limit near places h d f g =
+    ⊎_elim
+    (λ (l : limit < places).
+    let w : 2 ^ digits ≤ 2 ^ limit = pow-le-pow_right two_pos d in
+    let v : 2 ^ limit ≤ 2 ^ places = pow-le-pow_right two_pos (omega arith) in
+    let a : n / 2 ^ limit ≡ 0 = div-eq_of_lt (omega (arith, h, w)) in
+    let b : n / 2 ^ places ≡ 0 = div-eq_of_lt (omega (arith, h, w, v)) in
+    ap (λ (x : ℕ). n / 2 ^ x) (g l) ∙ a ∙ sym b)
+    (λ (l : places ≤ limit). ap (λ (x : ℕ). n / 2 ^ x) (f l))
+    (cases_lt limit places)
 
 -- a significand that is at least one bound is at least any lower one
 pub to_odd_least : (least lower s amount u : ℕ) → lower ≤ least → IsRoundedToOdd least s amount u

@@ -1,6 +1,6 @@
-use Rattle.std.proofs.Common.{◌≡◌, ◌+◌, ◌-◌, ◌*◌, ◌^◌, ◌<◌, ◌≤◌, ◌+ℤ◌, Bool, pos, subst, refl, to_z, of_z, w32, arith}
+use Rattle.std.proofs.Common.{◌≡◌, ◌+◌, ◌^◌, ◌≤◌, ◌+ℤ◌, Bool, pos, subst, refl, to_z, of_z, w32, arith}
 use Rattle.std.proofs.Math.Nat.{pow-le-pow_right}
-use Rattle.std.proofs.lemmas.Int.{ints, to_z-of_z}
+use Rattle.std.proofs.lemmas.Int.{ints}
 use Rattle.apfloat_base.specs.arithmetic.Exact.{signed, sign_of, magnitude}
 use Rattle.apfloat_base.specs.rounding.Flags.{bits_of}
 use Rattle.apfloat_base.specs.rounding.Rounding.{IsDelivered}
@@ -62,7 +62,7 @@ returns-clause-delivered c =
       c.term_of-2.ensures.negative,
       c.term_of-2.ensures.significand,
     ) at c.add_short_terms-total.ensures.rounded in
-    let r = odd_sum_read (2 ^ 60) of_zero c.args.shape.precision (format_at c.args.shape).scale
+    let r = odd_sum_read (2 ^ 60) 62 of_zero c.args.shape.precision (format_at c.args.shape).scale
     c.args.shape.min_exp c.args.x.exponent c.args.y.exponent c.term_of.result.exponent c.term_of-2.result.exponent
     total.exponent unit c.args.x.negative c.args.y.negative total.negative c.args.x.significand
     c.args.y.significand m n total.significand c.requires.x_normal.operand.least c.requires.y_normal.operand.least

@@ -1,10 +1,13 @@
-use Rattle.std.proofs.Common.{◌≡◌, ◌-◌, ◌^◌, ◌<◌, ◌≤◌, ◌+ℤ◌, ◌≤ℤ◌, pos, to_z, of_z, w32, arith}
+use Rattle.std.proofs.Common.{◌≡◌, ℕ, ◌+◌, ◌-◌, ◌^◌, ◌<◌, ◌≤◌, ◌+ℤ◌, ◌≤ℤ◌, pos, to_z, of_z, w32, arith}
 use Rattle.std.proofs.lemmas.Int.{to_z-of_z, ints}
 use Rattle.apfloat_base.specs.declared.sig.sum.Term.{Term}
 use Rattle.apfloat_base.specs.rounding.Bounds.{IsWithin, exponent_bound}
 use Rattle.apfloat_base.proofs.arithmetic.OddTotals.{moved_fits, moved_full, moved_free, total_to_odd, ordered_to_odd, unlike_false, unlike_true}
 use Rattle.apfloat_base.proofs.arithmetic.Orders.{greater_first, of_high, of_low}
 use Rattle.apfloat_base.proofs.sig.odd_sum.add_short_terms.Goals as goal
+
+room : (precision : ℕ) → precision ≤ 59 → precision + 3 ≤ 62
+room precision l = omega arith
 
 pub moved_up-requires : goal.moved_up-requires
 moved_up-requires c = record {
@@ -21,7 +24,8 @@ combine-total-requires-clause-high_full c =
     c.in_order_of_exponents.result.low c.args.x c.args.y c.in_order_of_exponents.ensures.same c.requires.x_full
     c.requires.y_full in
     rw c.moved_up.ensures
-    (moved_full c.in_order_of_exponents.result.high.significand c.args.precision c.requires.some c.requires.short f)
+    (moved_full c.in_order_of_exponents.result.high.significand c.args.precision 62 c.requires.some
+    (room c.args.precision c.requires.short) f)
 
 pub combine-total-requires-clause-high_fits : goal.combine-total-requires-clause-high_fits
 combine-total-requires-clause-high_fits c =
@@ -29,12 +33,14 @@ combine-total-requires-clause-high_fits c =
     c.in_order_of_exponents.result.low c.args.x c.args.y c.in_order_of_exponents.ensures.same c.requires.x_fits
     c.requires.y_fits in
     rw c.moved_up.ensures
-    (moved_fits c.in_order_of_exponents.result.high.significand c.args.precision c.requires.short f)
+    (moved_fits c.in_order_of_exponents.result.high.significand c.args.precision 62
+    (room c.args.precision c.requires.short) f)
 
 pub combine-total-requires-clause-high_free : goal.combine-total-requires-clause-high_free
 combine-total-requires-clause-high_free c =
     rw c.moved_up.ensures
-    (moved_free c.in_order_of_exponents.result.high.significand c.args.precision c.requires.short)
+    (moved_free c.in_order_of_exponents.result.high.significand c.args.precision 62
+    (room c.args.precision c.requires.short))
 
 pub combine-total-requires-clause-low_fits : goal.combine-total-requires-clause-low_fits
 combine-total-requires-clause-low_fits c =
@@ -42,12 +48,14 @@ combine-total-requires-clause-low_fits c =
     c.in_order_of_exponents.result.low c.args.x c.args.y c.in_order_of_exponents.ensures.same c.requires.x_fits
     c.requires.y_fits in
     rw c.moved_up-2.ensures
-    (moved_fits c.in_order_of_exponents.result.low.significand c.args.precision c.requires.short f)
+    (moved_fits c.in_order_of_exponents.result.low.significand c.args.precision 62
+    (room c.args.precision c.requires.short) f)
 
 pub combine-total-requires-clause-low_free : goal.combine-total-requires-clause-low_free
 combine-total-requires-clause-low_free c =
     rw c.moved_up-2.ensures
-    (moved_free c.in_order_of_exponents.result.low.significand c.args.precision c.requires.short)
+    (moved_free c.in_order_of_exponents.result.low.significand c.args.precision 62
+    (room c.args.precision c.requires.short))
 
 pub returns-clause-exponent : goal.returns-clause-exponent
 returns-clause-exponent c =
@@ -81,7 +89,7 @@ returns-clause-rounded c = λ base lx ly.
     let g : (low.exponent +ℤ pos gap) ≡ high.exponent =
     let k = rw (eh, el) at c.steps_between.ensures in omega (arith, ints, k) in
     let t = total_to_odd base high.exponent low.exponent c.moved_exponent.result high.negative low.negative _
-    c.combine-total.result.flipped high.significand low.significand (62 - c.args.precision) gap
+    c.combine-total.result.flipped (2 ^ 60) 62 high.significand low.significand (62 - c.args.precision) gap
     c.combine-total.result.significand b (omega arith) g e (unlike_false high.negative low.negative)
     (unlike_true high.negative low.negative)
     (rw (c.moved_up.ensures, c.moved_up-2.ensures) at c.combine-total.ensures.together)

@@ -5,5 +5,5 @@ use Rattle.apfloat_unpacked.proofs.rounding.odd.at_top.Goals as goal
 
 pub returns : goal.returns
 returns c =
-    let f = top_fits c.args.significand c.args.digits c.requires.word c.requires.fits in
+    let f = top_fits 64 c.args.significand c.args.digits c.requires.word c.requires.fits in
     mod-eq_of_lt (omega (arith, f))

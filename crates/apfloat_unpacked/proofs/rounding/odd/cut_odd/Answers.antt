@@ -9,13 +9,13 @@ use Rattle.apfloat_unpacked.proofs.rounding.odd.cut_odd.Goals as goal
 
 -- the facts that all clauses share
 split : (c : After-word_power)
-    → IsTopSplit c.args.precision c.args.significand c.args.digits c.at_top-top.result c.full_place.result
+    → IsTopSplit 64 c.args.precision c.args.significand c.args.digits c.at_top-top.result c.full_place.result
     c.low_of_word.result c.word_power.result (up c.args.unit) (down c.args.unit)
 split c =
     let e = to_z-of_z w32 c.args.unit (fits_in w32 c.args.unit (omega (arith, ints, c.requires.within))) in
     record {
       some = c.requires.some;
-      short = c.requires.short;
+      short = let s = c.requires.short in omega (arith, s);
       word = c.requires.word;
       any = c.requires.any;
       fits = c.requires.fits;
@@ -29,14 +29,14 @@ split c =
 pub returns-clause-fits : goal.returns-clause-fits
 returns-clause-fits c =
     rw c.from.ensures
-    (top_cut_fits c.args.precision c.args.significand c.args.digits c.at_top-top.result c.full_place.result
+    (top_cut_fits 64 c.args.precision c.args.significand c.args.digits c.at_top-top.result c.full_place.result
     c.low_of_word.result c.word_power.result (up c.args.unit) (down c.args.unit)
     (split (goal.at.returns-clause-fits c).After-word_power))
 
 pub returns-clause-full : goal.returns-clause-full
 returns-clause-full c =
     rw c.from.ensures
-    (top_cut_full c.args.precision c.args.significand c.args.digits c.at_top-top.result c.full_place.result
+    (top_cut_full 64 c.args.precision c.args.significand c.args.digits c.at_top-top.result c.full_place.result
     c.low_of_word.result c.word_power.result (up c.args.unit) (down c.args.unit)
     (split (goal.at.returns-clause-full c).After-word_power))
 
@@ -50,8 +50,8 @@ pub returns-clause-cut : goal.returns-clause-cut
 returns-clause-cut c = λ amount parts p h.
     let i = split (goal.at.returns-clause-cut c).After-word_power in
     rw c.from.ensures (
-      top_cut_encloses c.args.precision c.args.significand c.args.digits c.at_top-top.result c.full_place.result
+      top_cut_encloses 64 c.args.precision c.args.significand c.args.digits c.at_top-top.result c.full_place.result
           c.low_of_word.result c.word_power.result (up c.args.unit) (down c.args.unit) amount parts i p h,
-      top_cut_stands c.args.precision c.args.significand c.args.digits c.at_top-top.result c.full_place.result
+      top_cut_stands 64 c.args.precision c.args.significand c.args.digits c.at_top-top.result c.full_place.result
           c.low_of_word.result c.word_power.result (up c.args.unit) (down c.args.unit) amount parts i p h,
     )

@@ -13,7 +13,7 @@ use Rattle.apfloat_unpacked.proofs.rounding.odd.deliver_odd.Goals as goal
 
 pub cut_odd-cut-requires-clause-word : goal.cut_odd-cut-requires-clause-word
 cut_odd-cut-requires-clause-word c =
-    word_digits c.from.result c.digits-digits.result (rw c.from.ensures c.ranges.significand.fits)
+    word_digits 64 c.from.result c.digits-digits.result (rw c.from.ensures c.ranges.significand.fits)
     c.digits-digits.ensures.full
 
 pub returns-then-unit-digits-clause-delivered : goal.returns-then-unit-digits-clause-delivered
@@ -60,10 +60,12 @@ returns-clause-delivered c = λ amount h.
     let f = c.from.ensures in
     let b = c.digits-digits.ensures.below in
     let s : c.args.significand < 2 ^ c.digits-digits.result = rw f at b in
-    let l : (c.args.significand ≡ 0)
-    ⊎ ((u +ℤ pos (c.digits-digits.result + 1)) ≤ℤ pos c.args.shape.precision) =
+    let d : (c.args.significand ≡ 0)
+    ⊎ ((c.args.significand < 2 ^ c.digits-digits.result)
+    × ((u +ℤ pos c.digits-digits.result) ≤ℤ pos c.args.shape.precision)) =
     elim c.else-digits-gt0.branch [
       | else-digits-gt0-via-then-digits-gt0+else-unit-digits w ↦ inr (
+          s,
           omega (
             arith,
             ints,
@@ -82,7 +84,7 @@ returns-clause-delivered c = λ amount h.
     subst (λ (x : ℤ). IsRoundedToOdd (2 ^ (c.args.shape.precision + 1)) c.args.significand (amount * 2 ^ down x)
     (1 * 2 ^ up x)) (sym v) h in
     let g : StandsFor c.args.significand ExactlyZero (amount * 2 ^ down u) (1 * 2 ^ up u) =
-    exact_below c.args.significand c.digits-digits.result c.args.shape.precision amount u c.requires.short (s, l) h' in
+    exact_below c.args.significand c.digits-digits.result c.args.shape.precision amount u d h' in
     let w : to_z w32 (of_z w32 u) ≡ u = to_z-of_z w32 u (record { sfits = c.unit_place-unit.type_inv }) in
     let q = (rw w at c.whole_quanta-quanta.ensures.quanta) amount (omega (arith, g)) in
     whole_delivered (format_at c.args.shape) c.args.mode c.args.negative c.whole_quanta-quanta.result amount _ _

@@ -7,7 +7,7 @@ use Rattle.apfloat_base.specs.arithmetic.Sums.{zero_sum_sign}
 use Rattle.apfloat_unpacked.specs.Shapes.{format_at}
 use Rattle.apfloat_unpacked.specs.Stored.{quanta_at, datum_at}
 use Rattle.apfloat_arithmetic.proofs.Additions.{IsRepresented, read_negative, sum_read, scale_is, roomy, sum_full, fine_if}
-use Rattle.apfloat_arithmetic.proofs.sums.add_numbers.Goals as goal
+use Rattle.apfloat_arithmetic.proofs.sums.add_other_numbers.Goals as goal
 
 pub term_of-requires : goal.term_of-requires
 term_of-requires c = c.requires.x_normal

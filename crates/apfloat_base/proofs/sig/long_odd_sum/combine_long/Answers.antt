@@ -1,0 +1,25 @@
+use Rattle.std.proofs.Common.{◌^◌, Bool, ltb, ap, ◌&&◌, arith}
+use Rattle.apfloat_base.proofs.arithmetic.OddTotals.{apart_to_odd, together_to_odd, combined_fits}
+use Rattle.apfloat_base.proofs.sig.long_odd_sum.combine_long.Goals as goal
+
+pub returns-then-unlike-clause-apart : goal.returns-then-unlike-clause-apart
+returns-then-unlike-clause-apart c = λ u.
+    let r = apart_to_odd 126 c.args.high c.args.low c.cut_long_to_odd-low.result c.args.gap _ (omega arith)
+    c.requires.high_full c.requires.high_free c.requires.low_fits c.requires.low_free
+    c.cut_long_to_odd-low.ensures.rounded (ap (λ (b : Bool). b && ltb c.args.high c.cut_long_to_odd-low.result) u) in
+    rw (c.either-greater.ensures, c.either-lesser.ensures) r
+
+pub returns-else-unlike-clause-together : goal.returns-else-unlike-clause-together
+returns-else-unlike-clause-together c = λ u.
+    let r = together_to_odd 126 c.args.high c.args.low c.cut_long_to_odd-low.result c.args.gap _ c.requires.high_full
+    c.requires.high_free c.cut_long_to_odd-low.ensures.rounded
+    (ap (λ (b : Bool). b && ltb c.args.high c.cut_long_to_odd-low.result) u) in
+    rw (c.either-greater.ensures, c.either-lesser.ensures) r
+
+pub returns-then-unlike-clause-fits : goal.returns-then-unlike-clause-fits
+returns-then-unlike-clause-fits c =
+    let b = c.cut_long_to_odd-low.ensures.bound in
+    let l = c.requires.low_fits in
+    let r = combined_fits (2 ^ 126) c.args.high c.cut_long_to_odd-low.result
+    (c.args.unlike && ltb c.args.high c.cut_long_to_odd-low.result) c.requires.high_fits (omega (arith, b, l)) in
+    rw (c.either-greater.ensures, c.either-lesser.ensures) r.0

@@ -1,0 +1,104 @@
+//! The rounding of a long significand that was rounded to odd before.
+//!
+//! This is what `odd` does in a word of 64 digits. The significand is moved up to the top of a `u128`, so that the rest
+//! below a format of at least 64 digits is one word.
+
+ghost use Rattle.std.specs.Prelude.{◌≡◌, ℕ, ◌+◌, ◌-◌, ◌*◌, ◌%◌, ◌^◌, ◌<◌, ◌≤◌, pos, ◌+ℤ◌, ◌≤ℤ◌};
+ghost use Rattle.apfloat_base.specs.rounding.Bounds.{IsWithin, exponent_bound, unit_bound, place_bound};
+ghost use Rattle.apfloat_base.specs.rounding.Rounding.{IsDelivered};
+ghost use Rattle.apfloat_base.specs.rounding.RoundingToOdd.{IsRoundedToOdd};
+ghost use Rattle.apfloat_base.specs.rounding.Standing.{up, down};
+ghost use Rattle.apfloat_unpacked.specs.Cuts.{IsCutOff};
+ghost use Rattle.apfloat_unpacked.specs.Shapes.{format_at};
+ghost use Rattle.apfloat_unpacked.specs.Stored.{IsStored, GivesAt};
+
+use super::{Cut, deliver_apart, full_place, round_cut, unit_place, word_power};
+use crate::shape::Shape;
+use crate::unpacked::Unpacked;
+use apfloat_base::sig::{Loss, digits, low_digits};
+use apfloat_base::{ExpInt, Round, StatusAnd};
+
+/// A significand with `digits` digits, moved up until it has 128.
+#[inline(always)]
+fn at_long_top(significand: u128, digits: u32) -> u128
+    requires word { digits ≤ 128 }
+    requires any { 0 < digits }
+    requires fits { significand < 2 ^ digits }
+    ensures { result ≡ significand * 2 ^ (128 - digits) }
+{
+    significand << (128 - digits)
+}
+
+/// The lowest `places` binary digits of a number, in a word.
+#[inline(always)]
+fn low_word(number: u128, places: u32) -> u64
+    requires { places ≤ 64 }
+    ensures { result ≡ number % 2 ^ places }
+{
+    low_digits(number, places) as u64
+}
+
+/// Cuts a significand with `digits` digits, which was rounded to odd, to the precision.
+#[inline(always)]
+fn cut_long_odd(precision: u32, significand: u128, digits: u32, unit: ExpInt) -> Cut
+    requires long { 64 ≤ precision }
+    requires short { precision ≤ 123 }
+    requires word { digits ≤ 128 }
+    requires any { 0 < digits }
+    requires fits { significand < 2 ^ digits }
+    requires full { 2 ^ (digits - 1) ≤ significand }
+    requires within { IsWithin unit_bound unit }
+    requires above { pos precision ≤ℤ (unit +ℤ pos digits) }
+    ensures fits { result.significand < 2 ^ precision }
+    ensures full { 2 ^ (precision - 1) ≤ result.significand }
+    ensures near { result.place < place_bound }
+    ensures rest { result.rest < 2 * result.half }
+    ensures cut { (amount parts : ℕ) → 0 < parts
+        → IsRoundedToOdd (2 ^ (precision + 1)) significand (amount * 2 ^ down unit)
+        (parts * 2 ^ up unit)
+        → IsCutOff precision result amount parts }
+{
+    let top = at_long_top(significand, digits);
+    let places = 128 - precision;
+    Cut {
+        significand: top >> places,
+        place: full_place(precision, digits, unit),
+        rest: low_word(top, places),
+        half: word_power(places - 1),
+    }
+}
+
+/// Delivers `significand * 2^exponent`, which was rounded to odd, rounded once: where it is odd it may be less than one
+/// unit from the exact result.
+#[inline(always)]
+pub fn deliver_long_odd(
+    shape: Shape,
+    significand: u128,
+    exponent: ExpInt,
+    mode: Round,
+    negative: bool,
+) -> StatusAnd<Unpacked>
+    requires long { 64 ≤ shape.precision }
+    requires short { shape.precision ≤ 123 }
+    requires within { IsWithin exponent_bound exponent }
+    ensures stored { IsStored shape result.value }
+    ensures delivered { let unit = exponent +ℤ pos (format_at shape).scale in (amount : ℕ)
+        → IsRoundedToOdd (2 ^ (shape.precision + 1)) significand (amount * 2 ^ down unit)
+        (1 * 2 ^ up unit)
+        → GivesAt shape (IsDelivered (format_at shape) mode negative amount 1) result }
+{
+    let unit = unit_place(shape, exponent);
+    let digits = digits(significand);
+    if digits > 0 && unit + digits as ExpInt >= shape.precision as ExpInt {
+        let cut = cut_long_odd(shape.precision, significand, digits, unit);
+        return round_cut(shape, cut, mode, negative);
+    }
+    deliver_apart(
+        shape,
+        significand,
+        exponent,
+        Loss::ExactlyZero,
+        mode,
+        negative,
+    )
+}
