@@ -12,7 +12,7 @@ use Rattle.rustc_apfloat.specs.Determined.{Determines, DeterminesBoth}
 use Rattle.rustc_apfloat.specs.Exponents.{IsExactInverse}
 use Rattle.rustc_apfloat.specs.Roots.{IsRoot}
 use Rattle.rustc_apfloat.specs.PairFormats.{wide}
-use Rattle.rustc_apfloat.specs.Pairs.{Pair, pair_of}
+use Rattle.rustc_apfloat.specs.Pairs.{Pair}
 use Rattle.rustc_apfloat.specs.PairAnswers.{OncePair}
 use Rattle.rustc_apfloat.specs.PairCalls.{IsPairExactInverse}
 use Rattle.rustc_apfloat.specs.PairRoots.{IsPairRoot}
@@ -120,25 +120,27 @@ module _ {A : Type 0} (of_type : Relations A) (inverts : A → Option A → Type
       let given = same_answer x.given y.given same.0 (x.no_flags ∙ sym y.no_flags) in
       written_once x.given y.given x.exponent y.exponent a b given same.1 x.is_written y.is_written
 
-  -- a call on values of a type has one answer
-  type_once : (call : ExportedCall) → OnceAnswer (IsTypeAnswer of_type mode call)
-  type_once (OfTwo arithmetic x y) = λ a b h k. absurd h
-  type_once (FusedSum x y z) = λ a b h k. absurd h
-  type_once (SquareRoot x) = λ a b h k. absurd h
-  type_once (FromUnsigned number) = value_once _ (once.of_unsigned number)
-  type_once (FromSigned number) = value_once _ (once.of_signed number)
-  type_once (ToUnsigned x bits) = unsigned_once _ (once.to_unsigned _ bits)
-  type_once (ToSigned x bits) = signed_once _ (once.to_signed _ bits)
-  type_once (RoundToIntegral x) = value_once _ (once.integral _)
-  type_once (Scaling x power) = untold_once _ (once.scaled _ power)
-  type_once (Fraction x) = fraction_once _ (once.fraction _)
-  type_once (Exponent x) = number_once _ (once.exponent _)
-  type_once (NextUp x) = value_once _ (once.above _)
-  type_once (NextDown x) = value_once _ (once.below _)
-  type_once (Comparison x y) = given_once _
-  type_once (Class x) = given_once _
-  type_once (Conversion x target) = λ a b h k. absurd h
-  type_once (Text text) = value_once _ (λ a b h k. once.reading text.now (Ok a) (Ok b) h k)
+  -- a call on values of a type, each of which has one square root, has one answer
+  type_once : ((x : A) → Determines (of_type.takes_root x mode)) → (call : ExportedCall)
+      → OnceAnswer (IsTypeAnswer of_type mode call)
+  type_once root (OfTwo arithmetic x y) =
+      value_once _ (of_two_once of_type inverts mode precision width once arithmetic _ _)
+  type_once root (FusedSum x y z) = λ a b h k. absurd h
+  type_once root (SquareRoot x) = value_once _ (root _)
+  type_once root (FromUnsigned number) = value_once _ (once.of_unsigned number)
+  type_once root (FromSigned number) = value_once _ (once.of_signed number)
+  type_once root (ToUnsigned x bits) = unsigned_once _ (once.to_unsigned _ bits)
+  type_once root (ToSigned x bits) = signed_once _ (once.to_signed _ bits)
+  type_once root (RoundToIntegral x) = value_once _ (once.integral _)
+  type_once root (Scaling x power) = untold_once _ (once.scaled _ power)
+  type_once root (Fraction x) = fraction_once _ (once.fraction _)
+  type_once root (Exponent x) = number_once _ (once.exponent _)
+  type_once root (NextUp x) = value_once _ (once.above _)
+  type_once root (NextDown x) = value_once _ (once.below _)
+  type_once root (Comparison x y) = given_once _
+  type_once root (Class x) = given_once _
+  type_once root (Conversion x target) = λ a b h k. absurd h
+  type_once root (Text text) = value_once _ (λ a b h k. once.reading text.now (Ok a) (Ok b) h k)
 
 -- ---- the kinds of the codes
 
@@ -219,29 +221,17 @@ pair_root_once mode x = wide_answer_once (IsRoot wide mode) (root_once wide mode
 -- a call on values of any kind has one answer
 kind_once : (kind : Kind) → KindHasLaw kind → (mode : Round) (call : ExportedCall)
     → OnceAnswer (IsKindAnswer kind mode call)
-kind_once (of_format c) has mode (OfTwo arithmetic x y) =
-    let once = format_determined c has mode in
-    value_once (in_format c) (IsExactInverse (format_with c)) mode c.precision c.bits has.wide once _
-    (of_two_once (in_format c) (IsExactInverse (format_with c)) mode c.precision c.bits once arithmetic _ _)
 kind_once (of_format c) has mode (FusedSum x y z) =
     value_once (in_format c) (IsExactInverse (format_with c)) mode c.precision c.bits has.wide
     (format_determined c has mode) _
     (gives_once _ (fused_sum_once (format_with c) mode (value_of c x) (value_of c y) (value_of c z)))
-kind_once (of_format c) has mode (SquareRoot x) =
-    value_once (in_format c) (IsExactInverse (format_with c)) mode c.precision c.bits has.wide
-    (format_determined c has mode) _ (gives_once _ (root_once (format_with c) mode (value_of c x)))
 kind_once (of_format c) has mode (Conversion x target) = conversion_answer_once c mode (value_of c x) target
 kind_once (of_format c) has mode call =
     type_once (in_format c) (IsExactInverse (format_with c)) mode c.precision c.bits has.wide
-    (format_determined c has mode) call
-kind_once of_pairs has mode (OfTwo arithmetic x y) =
-    value_once in_pairs IsPairExactInverse mode 106 128 (lit< tt) (pairs_determined mode) _
-    (of_two_once in_pairs IsPairExactInverse mode 106 128 (pairs_determined mode) arithmetic _ _)
-kind_once of_pairs has mode (SquareRoot x) =
-    value_once in_pairs IsPairExactInverse mode 106 128 (lit< tt) (pairs_determined mode) _
-    (gives_once _ (pair_root_once mode (pair_of x)))
+    (format_determined c has mode) (λ x. gives_once _ (root_once (format_with c) mode x)) call
 kind_once of_pairs has mode call =
-    type_once in_pairs IsPairExactInverse mode 106 128 (lit< tt) (pairs_determined mode) call
+    type_once in_pairs IsPairExactInverse mode 106 128 (lit< tt) (pairs_determined mode)
+    (λ x. gives_once _ (pair_root_once mode x)) call
 
 -- an answer that is left as it was
 unchanged : (old first second : Answer) → first ≡ old → second ≡ old → SameAnswer first second

@@ -13,7 +13,9 @@ use Rattle.rustc_apfloat.specs.Members.{IsMember}
 use Rattle.rustc_apfloat.specs.PairFormats.{double}
 use Rattle.rustc_apfloat.specs.Pairs.{Pair, pair_of}
 use Rattle.apfloat_pair_theory.proofs.pairs.PairBits.{double_is_lawful}
+use Rattle.apfloat_base.proofs.texts.EachText.{no_fault_meaning}
 use Rattle.apfloat_c.proofs.ExponentWords.{frexp_fits}
+use Rattle.apfloat_c.proofs.MeaningfulTexts.{meaningful_ascii}
 use Rattle.dispatch.specs.Relations.{in_format, in_pairs}
 use Rattle.dispatch.specs.ValueKinds.{Kind, value_of}
 use Rattle.apfloat_c.specs.declared.data.Answer.{Answer}
@@ -34,10 +36,11 @@ pub refused_unless : (holds : Bool) (error : ℕ) (Holds : Answer → Type 0) (o
 refused_unless true error Holds old e = absurd (true≢false e)
 refused_unless false error Holds old e = (refl, refl)
 
--- ASCII bytes without a fault are a text
-pub text_without_fault : (bytes : List ℕ) → every is_ascii bytes ≡ true → fault_of bytes ≡ None
-    → is_text bytes ≡ true
-text_without_fault bytes ascii none = rw (ascii, none) refl
+-- bytes without a fault have a meaning, so they are ASCII, and a text
+pub text_without_fault : (bytes : List ℕ) → fault_of bytes ≡ None → is_text bytes ≡ true
+text_without_fault bytes none =
+    let meant = no_fault_meaning bytes none in
+    rw (meaningful_ascii bytes meant.0 meant.1, none) refl
 
 -- bytes with a fault are none
 pub text_with_fault : (bytes : List ℕ) (fault : Fault) → fault_of bytes ≡ Some fault → is_text bytes ≡ false

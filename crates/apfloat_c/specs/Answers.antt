@@ -10,9 +10,6 @@ use Rattle.rustc_apfloat.specs.declared.StatusAnd.{StatusAnd}
 use Rattle.rustc_apfloat.specs.Flags.{Gives, bits_of}
 use Rattle.rustc_apfloat.specs.Datum.{Datum}
 use Rattle.rustc_apfloat.specs.FusedSums.{IsFusedSum}
-use Rattle.rustc_apfloat.specs.Roots.{IsRoot}
-use Rattle.rustc_apfloat.specs.Pairs.{pair_of}
-use Rattle.rustc_apfloat.specs.PairRoots.{IsPairRoot}
 use Rattle.rustc_apfloat.specs.Conversions.{IsConversion}
 use Rattle.rustc_apfloat.specs.Lawful.{Constants, format_with}
 use Rattle.apfloat_c.specs.declared.data.Halves.{Halves}
@@ -110,11 +107,13 @@ pub record IsFractionOf {A : Type 0} (of_type : Relations A) (Holds : A → ℤ 
 abbrev pub class_of : {A : Type 0} → Relations A → A → ℤ
 class_of of_type x = class_code (of_type.category x) (of_type.sign x) (of_type.denormal x) (of_type.signals x)
 
--- operations on two values, fused sums, square roots and conversions, which are not calls of a type, have no result
+-- fused sums and conversions, which are not calls of a type, have no result
 abbrev pub IsTypeAnswer : {A : Type 0} → Relations A → Round → ExportedCall → Answer → Type 0
-IsTypeAnswer of_type mode (OfTwo arithmetic x y) answer = ⊥
+IsTypeAnswer of_type mode (OfTwo arithmetic x y) answer =
+    IsValue of_type (IsOfTwo of_type arithmetic mode (of_type.value_of_bits x) (of_type.value_of_bits y)) answer
 IsTypeAnswer of_type mode (FusedSum x y z) answer = ⊥
-IsTypeAnswer of_type mode (SquareRoot x) answer = ⊥
+IsTypeAnswer of_type mode (SquareRoot x) answer =
+    IsValue of_type (of_type.takes_root (of_type.value_of_bits x) mode) answer
 IsTypeAnswer of_type mode (FromUnsigned number) answer =
     IsValue of_type (of_type.converts_unsigned number mode) answer
 IsTypeAnswer of_type mode (FromSigned number) answer = IsValue of_type (of_type.converts_signed number mode) answer
@@ -166,22 +165,14 @@ IsConverted c mode x (Some target) answer = IsConvertedInto c mode x (flagged_ki
 
 -- ---- of any kind
 
--- each kind has the operations on two values and the square root; formats have the fused sum, and are converted
+-- formats have the fused sum, and are converted
 abbrev pub IsKindAnswer : Kind → Round → ExportedCall → Answer → Type 0
-IsKindAnswer (of_format c) mode (OfTwo arithmetic x y) answer =
-    IsValue (in_format c) (IsOfTwo (in_format c) arithmetic mode (value_of c x) (value_of c y)) answer
 IsKindAnswer (of_format c) mode (FusedSum x y z) answer =
     IsValue (in_format c)
     (λ given. Gives (IsFusedSum (format_with c) mode (value_of c x) (value_of c y) (value_of c z)) given)
     answer
-IsKindAnswer (of_format c) mode (SquareRoot x) answer =
-    IsValue (in_format c) (λ given. Gives (IsRoot (format_with c) mode (value_of c x)) given) answer
 IsKindAnswer (of_format c) mode (Conversion x target) answer = IsConverted c mode (value_of c x) target answer
 IsKindAnswer (of_format c) mode call answer = IsTypeAnswer (in_format c) mode call answer
-IsKindAnswer of_pairs mode (OfTwo arithmetic x y) answer =
-    IsValue in_pairs (IsOfTwo in_pairs arithmetic mode (pair_of x) (pair_of y)) answer
-IsKindAnswer of_pairs mode (SquareRoot x) answer =
-    IsValue in_pairs (λ given. Gives (IsPairRoot mode (pair_of x)) given) answer
 IsKindAnswer of_pairs mode call answer = IsTypeAnswer in_pairs mode call answer
 
 -- what a call leaves: the code 0 and an answer if nothing is refused, otherwise the code of the error and what was

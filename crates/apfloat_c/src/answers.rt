@@ -9,91 +9,80 @@ ghost use Rattle.dispatch.specs.ValueKinds.{of_format, of_pairs, value_of};
 ghost use Rattle.apfloat_c.specs.declared.exported_call.ExportedCall.TheVariants.{OfTwo, FusedSum, SquareRoot, FromUnsigned, FromSigned, ToUnsigned, ToSigned, RoundToIntegral, Scaling, Fraction, Conversion, Text};
 ghost use Rattle.apfloat_c.specs.Answers.{FractionFits, IsConvertedInto, IsKindAnswer, IsLeft, IsNumber, IsTypeAnswer, IsTypeLeft, IsValue, IsWritten, class_of, order_code};
 
-use crate::ascii::text_of;
 use crate::codes::{
     ANSWERED, NO_SUCH_OPERATION, REFUSED_TEXT, UNKNOWN_FORMAT, WRONG_WIDTH, class_code, is_width,
     one_if, order_code,
 };
 use crate::data::Answer;
-use dispatch::{Arithmetic, FillsInFormat, FlaggedKind};
+use dispatch::{FillsInFormat, FlaggedKind, ValueType};
 use rustc_apfloat::ieee::{Flagged, IeeeFloat};
-use rustc_apfloat::ppc::DoubleDouble;
 use rustc_apfloat::{Float, FloatConvert, Round, Status, StatusAnd};
 use std::marker::PhantomData;
 
 /// A sum.
 #[inline(never)]
-pub fn sum<S: Flagged>(answer: &mut Answer, round: Round, x: u128, y: u128)
-    requires { S.PRECISION < S.BITS }
-    ensures { let kind = of_format (constants_of S.Flagged) in
-        IsKindAnswer kind round (OfTwo Sum x y) answer.new }
+pub fn sum<F: ValueType>(answer: &mut Answer, round: Round, x: u128, y: u128)
+    requires { F.PRECISION < F.BITS }
+    ensures { let of_type = relations_of F.Float.own F.partial_cmp F.takes_root in
+        IsTypeAnswer of_type round (OfTwo Sum x y) answer.new }
 {
-    let (x, y) = (IeeeFloat::<S>::from_bits(x), IeeeFloat::<S>::from_bits(y));
+    let (x, y) = (F::from_bits(x), F::from_bits(y));
     *answer = written(x.add_r(y, round));
 }
 
 /// A difference.
 #[inline(never)]
-pub fn difference<S: Flagged>(answer: &mut Answer, round: Round, x: u128, y: u128)
-    requires { S.PRECISION < S.BITS }
-    ensures { let kind = of_format (constants_of S.Flagged) in
-        IsKindAnswer kind round (OfTwo Difference x y) answer.new }
+pub fn difference<F: ValueType>(answer: &mut Answer, round: Round, x: u128, y: u128)
+    requires { F.PRECISION < F.BITS }
+    ensures { let of_type = relations_of F.Float.own F.partial_cmp F.takes_root in
+        IsTypeAnswer of_type round (OfTwo Difference x y) answer.new }
 {
-    let (x, y) = (IeeeFloat::<S>::from_bits(x), IeeeFloat::<S>::from_bits(y));
+    let (x, y) = (F::from_bits(x), F::from_bits(y));
     *answer = written(x.sub_r(y, round));
 }
 
-/// A product, however many digits the format has.
+/// A product, however many digits the type has.
 #[inline(never)]
-pub fn product<S: Flagged>(answer: &mut Answer, round: Round, x: u128, y: u128)
-    requires { S.PRECISION < S.BITS }
-    ensures { let kind = of_format (constants_of S.Flagged) in
-        IsKindAnswer kind round (OfTwo Product x y) answer.new }
+pub fn product<F: ValueType>(answer: &mut Answer, round: Round, x: u128, y: u128)
+    requires { F.PRECISION < F.BITS }
+    ensures { let of_type = relations_of F.Float.own F.partial_cmp F.takes_root in
+        IsTypeAnswer of_type round (OfTwo Product x y) answer.new }
 {
-    let (x, y) = (IeeeFloat::<S>::from_bits(x), IeeeFloat::<S>::from_bits(y));
+    let (x, y) = (F::from_bits(x), F::from_bits(y));
     *answer = written(x.wide_mul_r(y, round));
 }
 
 /// A quotient.
 #[inline(never)]
-pub fn quotient<S: Flagged>(answer: &mut Answer, round: Round, x: u128, y: u128)
-    requires { S.PRECISION < S.BITS }
-    ensures { let kind = of_format (constants_of S.Flagged) in
-        IsKindAnswer kind round (OfTwo Quotient x y) answer.new }
+pub fn quotient<F: ValueType>(answer: &mut Answer, round: Round, x: u128, y: u128)
+    requires { F.PRECISION < F.BITS }
+    ensures { let of_type = relations_of F.Float.own F.partial_cmp F.takes_root in
+        IsTypeAnswer of_type round (OfTwo Quotient x y) answer.new }
 {
-    let (x, y) = (IeeeFloat::<S>::from_bits(x), IeeeFloat::<S>::from_bits(y));
+    let (x, y) = (F::from_bits(x), F::from_bits(y));
     *answer = written(x.div_r(y, round));
 }
 
 /// The remainder by the whole number nearest to the quotient.
 #[inline(never)]
-pub fn nearest_remainder<S: Flagged>(answer: &mut Answer, round: Round, x: u128, y: u128)
-    requires { S.PRECISION < S.BITS }
-    ensures { let kind = of_format (constants_of S.Flagged) in
-        IsKindAnswer kind round (OfTwo NearestRemainder x y) answer.new }
+pub fn nearest_remainder<F: ValueType>(answer: &mut Answer, round: Round, x: u128, y: u128)
+    requires { F.PRECISION < F.BITS }
+    ensures { let of_type = relations_of F.Float.own F.partial_cmp F.takes_root in
+        IsTypeAnswer of_type round (OfTwo NearestRemainder x y) answer.new }
 {
-    let (x, y) = (IeeeFloat::<S>::from_bits(x), IeeeFloat::<S>::from_bits(y));
+    let (x, y) = (F::from_bits(x), F::from_bits(y));
     *answer = written(x.ieee_rem(y));
 }
 
 /// The remainder by the quotient cut toward zero.
 #[inline(never)]
-pub fn truncated_remainder<S: Flagged>(answer: &mut Answer, round: Round, x: u128, y: u128)
-    requires { S.PRECISION < S.BITS }
-    ensures { let kind = of_format (constants_of S.Flagged) in
-        IsKindAnswer kind round (OfTwo TruncatedRemainder x y) answer.new }
+pub fn truncated_remainder<F: ValueType>(answer: &mut Answer, round: Round, x: u128, y: u128)
+    requires { F.PRECISION < F.BITS }
+    ensures { let of_type = relations_of F.Float.own F.partial_cmp F.takes_root in
+        IsTypeAnswer of_type round (OfTwo TruncatedRemainder x y) answer.new }
 {
-    let (x, y) = (IeeeFloat::<S>::from_bits(x), IeeeFloat::<S>::from_bits(y));
+    let (x, y) = (F::from_bits(x), F::from_bits(y));
     *answer = written(x.c_fmod(y));
-}
-
-/// An operation on two pairs of doubles.
-#[inline(never)]
-pub fn of_two_pairs(round: Round, arithmetic: Arithmetic, x: u128, y: u128, answer: &mut Answer)
-    ensures { IsKindAnswer of_pairs round (OfTwo arithmetic x y) answer.new }
-{
-    let (x, y) = (DoubleDouble::from_bits(x), DoubleDouble::from_bits(y));
-    *answer = written(arithmetic.answer(x, y, round));
 }
 
 /// A product plus a third value, rounded once.
@@ -111,51 +100,42 @@ pub fn fused_sum<S: Flagged>(answer: &mut Answer, round: Round, x: u128, y: u128
     *answer = written(x.wide_mul_add_r(y, z, round));
 }
 
-/// The square root of a value of a format.
+/// The square root of a value.
 #[inline(never)]
-pub fn root<S: Flagged>(answer: &mut Answer, round: Round, x: u128)
-    requires { S.PRECISION < S.BITS }
-    ensures { let kind = of_format (constants_of S.Flagged) in
-        IsKindAnswer kind round (SquareRoot x) answer.new }
+pub fn root<F: ValueType>(answer: &mut Answer, round: Round, x: u128)
+    requires { F.PRECISION < F.BITS }
+    ensures { let of_type = relations_of F.Float.own F.partial_cmp F.takes_root in
+        IsTypeAnswer of_type round (SquareRoot x) answer.new }
 {
-    *answer = written(IeeeFloat::<S>::from_bits(x).sqrt_r(round));
-}
-
-/// The square root of a pair of doubles.
-#[inline(never)]
-pub fn pair_root(round: Round, x: u128, answer: &mut Answer)
-    ensures { IsKindAnswer of_pairs round (SquareRoot x) answer.new }
-{
-    *answer = written(DoubleDouble::from_bits(x).sqrt_r(round));
+    *answer = written(F::from_bits(x).sqrt_r(round));
 }
 
 /// A whole number.
 #[inline(never)]
-pub fn from_unsigned<F: Float>(answer: &mut Answer, round: Round, number: u128)
+pub fn from_unsigned<F: ValueType>(answer: &mut Answer, round: Round, number: u128)
     requires { F.PRECISION < F.BITS }
-    ensures { IsTypeAnswer (relations_of F.Float.own F.partial_cmp) round (FromUnsigned number)
-        answer.new }
+    ensures { let of_type = relations_of F.Float.own F.partial_cmp F.takes_root in
+        IsTypeAnswer of_type round (FromUnsigned number) answer.new }
 {
     *answer = written(F::from_u128_r(number, round));
 }
 
 /// A whole number with a sign.
 #[inline(never)]
-pub fn from_signed<F: Float>(answer: &mut Answer, round: Round, number: i128)
+pub fn from_signed<F: ValueType>(answer: &mut Answer, round: Round, number: i128)
     requires { F.PRECISION < F.BITS }
-    ensures { IsTypeAnswer (relations_of F.Float.own F.partial_cmp) round (FromSigned number)
-        answer.new }
+    ensures { let of_type = relations_of F.Float.own F.partial_cmp F.takes_root in
+        IsTypeAnswer of_type round (FromSigned number) answer.new }
 {
     *answer = written(F::from_i128_r(number, round));
 }
 
 /// A value as a whole number.
 #[inline(never)]
-pub fn to_unsigned<F: Float>(answer: &mut Answer, round: Round, x: u128, width: u32) -> u32
+pub fn to_unsigned<F: ValueType>(answer: &mut Answer, round: Round, x: u128, width: u32) -> u32
     requires { F.PRECISION < F.BITS }
-    ensures { IsTypeLeft (relations_of F.Float.own F.partial_cmp) round
-        (ToUnsigned x width) answer.old answer.new
-        result }
+    ensures { let of_type = relations_of F.Float.own F.partial_cmp F.takes_root in
+        IsTypeLeft of_type round (ToUnsigned x width) answer.old answer.new result }
 {
     if !is_width(1, width) {
         return WRONG_WIDTH;
@@ -168,11 +148,10 @@ pub fn to_unsigned<F: Float>(answer: &mut Answer, round: Round, x: u128, width: 
 
 /// A value as a whole number with a sign.
 #[inline(never)]
-pub fn to_signed<F: Float>(answer: &mut Answer, round: Round, x: u128, width: u32) -> u32
+pub fn to_signed<F: ValueType>(answer: &mut Answer, round: Round, x: u128, width: u32) -> u32
     requires { F.PRECISION < F.BITS }
-    ensures { IsTypeLeft (relations_of F.Float.own F.partial_cmp) round
-        (ToSigned x width) answer.old answer.new
-        result }
+    ensures { let of_type = relations_of F.Float.own F.partial_cmp F.takes_root in
+        IsTypeLeft of_type round (ToSigned x width) answer.old answer.new result }
 {
     if !is_width(2, width) {
         return WRONG_WIDTH;
@@ -185,20 +164,20 @@ pub fn to_signed<F: Float>(answer: &mut Answer, round: Round, x: u128, width: u3
 
 /// A value rounded to an integral value.
 #[inline(never)]
-pub fn round_to_integral<F: Float>(answer: &mut Answer, round: Round, x: u128)
+pub fn round_to_integral<F: ValueType>(answer: &mut Answer, round: Round, x: u128)
     requires { F.PRECISION < F.BITS }
-    ensures { IsTypeAnswer (relations_of F.Float.own F.partial_cmp) round (RoundToIntegral x)
-        answer.new }
+    ensures { let of_type = relations_of F.Float.own F.partial_cmp F.takes_root in
+        IsTypeAnswer of_type round (RoundToIntegral x) answer.new }
 {
     *answer = written(F::from_bits(x).round_to_integral(round));
 }
 
 /// A value times a power of two.
 #[inline(never)]
-pub fn scaled<F: Float>(answer: &mut Answer, round: Round, x: u128, power: i32)
+pub fn scaled<F: ValueType>(answer: &mut Answer, round: Round, x: u128, power: i32)
     requires { F.PRECISION < F.BITS }
-    ensures { IsTypeAnswer (relations_of F.Float.own F.partial_cmp) round (Scaling x power)
-        answer.new }
+    ensures { let of_type = relations_of F.Float.own F.partial_cmp F.takes_root in
+        IsTypeAnswer of_type round (Scaling x power) answer.new }
 {
     let scaled = F::from_bits(x).scalbn_r(power, round);
     *answer = written(Status::OK.and(scaled));
@@ -206,11 +185,12 @@ pub fn scaled<F: Float>(answer: &mut Answer, round: Round, x: u128, power: i32)
 
 /// The fraction of a value and its exponent.
 #[inline(never)]
-pub fn fraction<F: Float>(answer: &mut Answer, round: Round, x: u128)
+pub fn fraction<F: ValueType>(answer: &mut Answer, round: Round, x: u128)
     requires written { F.PRECISION < F.BITS }
-    requires fits { FractionFits (relations_of F.Float.own F.partial_cmp) (Fraction x) }
-    ensures { IsTypeAnswer (relations_of F.Float.own F.partial_cmp) round (Fraction x)
-        answer.new }
+    requires fits { let of_type = relations_of F.Float.own F.partial_cmp F.takes_root in
+        FractionFits of_type (Fraction x) }
+    ensures { let of_type = relations_of F.Float.own F.partial_cmp F.takes_root in
+        IsTypeAnswer of_type round (Fraction x) answer.new }
 {
     let mut exponent = 0;
     let fraction = F::from_bits(x).frexp_r(&mut exponent, round);
@@ -228,20 +208,20 @@ pub fn exponent<F: Float>(answer: &mut Answer, x: u128)
 
 /// The least value above.
 #[inline(never)]
-pub fn next_up<F: Float>(answer: &mut Answer, x: u128)
+pub fn next_up<F: ValueType>(answer: &mut Answer, x: u128)
     requires { F.PRECISION < F.BITS }
-    ensures { IsValue (relations_of F.Float.own F.partial_cmp)
-        (F.steps_up (F.value_of_bits x)) answer.new }
+    ensures { let of_type = relations_of F.Float.own F.partial_cmp F.takes_root in
+        IsValue of_type (F.steps_up (F.value_of_bits x)) answer.new }
 {
     *answer = written(F::from_bits(x).next_up());
 }
 
 /// The greatest value below.
 #[inline(never)]
-pub fn next_down<F: Float>(answer: &mut Answer, x: u128)
+pub fn next_down<F: ValueType>(answer: &mut Answer, x: u128)
     requires { F.PRECISION < F.BITS }
-    ensures { IsValue (relations_of F.Float.own F.partial_cmp)
-        (F.steps_down (F.value_of_bits x)) answer.new }
+    ensures { let of_type = relations_of F.Float.own F.partial_cmp F.takes_root in
+        IsValue of_type (F.steps_down (F.value_of_bits x)) answer.new }
 {
     *answer = written(F::from_bits(x).next_down());
 }
@@ -259,9 +239,9 @@ pub fn comparison<F: Float>(answer: &mut Answer, x: u128, y: u128)
 
 /// The class of a value.
 #[inline(never)]
-pub fn class<F: Float>(answer: &mut Answer, x: u128)
+pub fn class<F: ValueType>(answer: &mut Answer, x: u128)
     requires { F.PRECISION < F.BITS }
-    ensures { let of_type = relations_of F.Float.own F.partial_cmp in
+    ensures { let of_type = relations_of F.Float.own F.partial_cmp F.takes_root in
         IsNumber (λ n. n ≡ class_of of_type (F.value_of_bits x)) answer.new }
 {
     let x = F::from_bits(x);
@@ -334,14 +314,14 @@ fn converted_to<S: Flagged, T: Flagged>(answer: &mut Answer, round: Round, x: u1
     *answer = shown(given, one_if(loses_info));
 }
 
-/// The value of a text in a format. A text that has a value is ASCII, so its bytes are looked at once.
+/// The value of a text. One that has a value is ASCII, so its bytes are looked at once.
 #[inline(never)]
-pub fn read<S: Flagged>(answer: &mut Answer, round: Round, bytes: &[u8]) -> u32
-    requires { S.PRECISION < S.BITS }
-    ensures { IsLeft (of_format (constants_of S.Flagged)) round (Text bytes.entry)
-        answer.old answer.new result }
+pub fn read<F: ValueType>(answer: &mut Answer, round: Round, bytes: &[u8]) -> u32
+    requires { F.PRECISION < F.BITS }
+    ensures { let of_type = relations_of F.Float.own F.partial_cmp F.takes_root in
+        IsTypeLeft of_type round (Text bytes.entry) answer.old answer.new result }
 {
-    match IeeeFloat::<S>::from_ascii_r(bytes, round) {
+    match F::from_ascii_r(bytes, round) {
         Ok(read) => {
             *answer = written(read);
             ANSWERED
@@ -350,35 +330,22 @@ pub fn read<S: Flagged>(answer: &mut Answer, round: Round, bytes: &[u8]) -> u32
     }
 }
 
-/// The value of a text as a pair of doubles.
-#[inline(never)]
-pub fn read_pair(answer: &mut Answer, round: Round, bytes: &[u8]) -> u32
-    ensures { IsLeft of_pairs round (Text bytes.entry) answer.old answer.new result }
-{
-    let Some(text) = text_of(bytes) else {
-        return REFUSED_TEXT;
-    };
-    let Ok(read) = DoubleDouble::from_str_r(text, round) else {
-        return REFUSED_TEXT;
-    };
-    *answer = written(read);
-    ANSWERED
-}
-
 /// A value with its flags.
 #[inline(always)]
-fn written<F: Float>(answer: StatusAnd<F>) -> Answer
+fn written<F: ValueType>(answer: StatusAnd<F>) -> Answer
     requires { F.PRECISION < F.BITS }
-    ensures { IsWritten (relations_of F.Float.own F.partial_cmp) answer (pos 0) result }
+    ensures { let of_type = relations_of F.Float.own F.partial_cmp F.takes_root in
+        IsWritten of_type answer (pos 0) result }
 {
     shown(answer, 0)
 }
 
 /// A value with its flags and a number.
 #[inline(always)]
-fn shown<F: Float>(answer: StatusAnd<F>, number: i32) -> Answer
+fn shown<F: ValueType>(answer: StatusAnd<F>, number: i32) -> Answer
     requires { F.PRECISION < F.BITS }
-    ensures { IsWritten (relations_of F.Float.own F.partial_cmp) answer number result }
+    ensures { let of_type = relations_of F.Float.own F.partial_cmp F.takes_root in
+        IsWritten of_type answer number result }
 {
     Answer::of(answer.value.to_bits(), answer.status, number)
 }

@@ -13,13 +13,12 @@ ghost use Rattle.apfloat_c.specs.KnownCalls.{known_in};
 
 use crate::answers::{
     class, comparison, converted, difference, exponent, fraction, from_signed, from_unsigned,
-    fused_sum, nearest_remainder, next_down, next_up, of_two_pairs, pair_root, product, quotient,
-    read, read_pair, root, round_to_integral, scaled, sum, to_signed, to_unsigned,
-    truncated_remainder,
+    fused_sum, nearest_remainder, next_down, next_up, product, quotient, read, root,
+    round_to_integral, scaled, sum, to_signed, to_unsigned, truncated_remainder,
 };
 use crate::codes::{ANSWERED, NO_SUCH_OPERATION, UNKNOWN_FORMAT, UNKNOWN_MODE};
 use crate::data::Answer;
-use dispatch::{Arithmetic, FillsInFormat, FillsInKind, FlaggedKind, mode_coded};
+use dispatch::{FillsInFormat, FillsInKind, FlaggedKind, mode_coded};
 use rustc_apfloat::ieee::{Flagged, IeeeFloat};
 use rustc_apfloat::ppc::DoubleDouble;
 use rustc_apfloat::{Float, Round};
@@ -90,13 +89,13 @@ impl Operation for SumCall {
 
     #[inline(always)]
     fn in_format<S: Flagged>(self, round: Round, answer: &mut Answer) -> u32 {
-        sum::<S>(answer, round, self.x, self.y);
+        sum::<IeeeFloat<S>>(answer, round, self.x, self.y);
         ANSWERED
     }
 
     #[inline(always)]
     fn in_pairs(self, round: Round, answer: &mut Answer) -> u32 {
-        of_two_pairs(round, Arithmetic::Sum, self.x, self.y, answer);
+        sum::<DoubleDouble>(answer, round, self.x, self.y);
         ANSWERED
     }
 }
@@ -115,13 +114,13 @@ impl Operation for DifferenceCall {
 
     #[inline(always)]
     fn in_format<S: Flagged>(self, round: Round, answer: &mut Answer) -> u32 {
-        difference::<S>(answer, round, self.x, self.y);
+        difference::<IeeeFloat<S>>(answer, round, self.x, self.y);
         ANSWERED
     }
 
     #[inline(always)]
     fn in_pairs(self, round: Round, answer: &mut Answer) -> u32 {
-        of_two_pairs(round, Arithmetic::Difference, self.x, self.y, answer);
+        difference::<DoubleDouble>(answer, round, self.x, self.y);
         ANSWERED
     }
 }
@@ -140,13 +139,13 @@ impl Operation for ProductCall {
 
     #[inline(always)]
     fn in_format<S: Flagged>(self, round: Round, answer: &mut Answer) -> u32 {
-        product::<S>(answer, round, self.x, self.y);
+        product::<IeeeFloat<S>>(answer, round, self.x, self.y);
         ANSWERED
     }
 
     #[inline(always)]
     fn in_pairs(self, round: Round, answer: &mut Answer) -> u32 {
-        of_two_pairs(round, Arithmetic::Product, self.x, self.y, answer);
+        product::<DoubleDouble>(answer, round, self.x, self.y);
         ANSWERED
     }
 }
@@ -165,13 +164,13 @@ impl Operation for QuotientCall {
 
     #[inline(always)]
     fn in_format<S: Flagged>(self, round: Round, answer: &mut Answer) -> u32 {
-        quotient::<S>(answer, round, self.x, self.y);
+        quotient::<IeeeFloat<S>>(answer, round, self.x, self.y);
         ANSWERED
     }
 
     #[inline(always)]
     fn in_pairs(self, round: Round, answer: &mut Answer) -> u32 {
-        of_two_pairs(round, Arithmetic::Quotient, self.x, self.y, answer);
+        quotient::<DoubleDouble>(answer, round, self.x, self.y);
         ANSWERED
     }
 }
@@ -190,13 +189,13 @@ impl Operation for NearestRemainderCall {
 
     #[inline(always)]
     fn in_format<S: Flagged>(self, round: Round, answer: &mut Answer) -> u32 {
-        nearest_remainder::<S>(answer, round, self.x, self.y);
+        nearest_remainder::<IeeeFloat<S>>(answer, round, self.x, self.y);
         ANSWERED
     }
 
     #[inline(always)]
     fn in_pairs(self, round: Round, answer: &mut Answer) -> u32 {
-        of_two_pairs(round, Arithmetic::NearestRemainder, self.x, self.y, answer);
+        nearest_remainder::<DoubleDouble>(answer, round, self.x, self.y);
         ANSWERED
     }
 }
@@ -215,19 +214,13 @@ impl Operation for TruncatedRemainderCall {
 
     #[inline(always)]
     fn in_format<S: Flagged>(self, round: Round, answer: &mut Answer) -> u32 {
-        truncated_remainder::<S>(answer, round, self.x, self.y);
+        truncated_remainder::<IeeeFloat<S>>(answer, round, self.x, self.y);
         ANSWERED
     }
 
     #[inline(always)]
     fn in_pairs(self, round: Round, answer: &mut Answer) -> u32 {
-        of_two_pairs(
-            round,
-            Arithmetic::TruncatedRemainder,
-            self.x,
-            self.y,
-            answer,
-        );
+        truncated_remainder::<DoubleDouble>(answer, round, self.x, self.y);
         ANSWERED
     }
 }
@@ -270,13 +263,13 @@ impl Operation for SquareRootCall {
 
     #[inline(always)]
     fn in_format<S: Flagged>(self, round: Round, answer: &mut Answer) -> u32 {
-        root::<S>(answer, round, self.x);
+        root::<IeeeFloat<S>>(answer, round, self.x);
         ANSWERED
     }
 
     #[inline(always)]
     fn in_pairs(self, round: Round, answer: &mut Answer) -> u32 {
-        pair_root(round, self.x, answer);
+        root::<DoubleDouble>(answer, round, self.x);
         ANSWERED
     }
 }
@@ -603,11 +596,11 @@ impl Operation for TextCall<'_> {
 
     #[inline(always)]
     fn in_format<S: Flagged>(self, round: Round, answer: &mut Answer) -> u32 {
-        read::<S>(answer, round, self.text)
+        read::<IeeeFloat<S>>(answer, round, self.text)
     }
 
     #[inline(always)]
     fn in_pairs(self, round: Round, answer: &mut Answer) -> u32 {
-        read_pair(answer, round, self.text)
+        read::<DoubleDouble>(answer, round, self.text)
     }
 }

@@ -2,9 +2,7 @@
 
 ghost use Rattle.std.specs.Prelude.{◌≡◌, ◌≤◌, ◌<◌, true};
 ghost use Rattle.rustc_apfloat.specs.Types.{constants_of};
-ghost use Rattle.dispatch.specs.OfTwo.{has_operation};
 ghost use Rattle.dispatch.specs.Relations.{in_format, relations_of};
-ghost use Rattle.dispatch.specs.TextReadings.{ReadsTexts};
 ghost use Rattle.commands.specs.Commands.{calculation, commanded, provided, type_has, with_operands, with_text, with_three, with_two, with_whole_number};
 ghost use Rattle.commands.specs.Operands.{words_of};
 ghost use Rattle.commands.specs.Replies.{IsFormatReply, IsLineOf, IsOnly, IsReplyIn, IsReplyTo, digit_count, reply_of};
@@ -12,7 +10,7 @@ ghost use Rattle.commands.specs.Replies.{IsFormatReply, IsLineOf, IsOnly, IsRepl
 use crate::operation::Operation;
 use crate::reply::Reply;
 use crate::words::{bits_of, number_of};
-use dispatch::{Arithmetic, InFormat, InKind};
+use dispatch::{Arithmetic, InFormat, InKind, ValueType};
 use rustc_apfloat::ieee::{IeeeFloat, Semantics};
 use rustc_apfloat::ppc::DoubleDouble;
 use rustc_apfloat::{FUSED_LIMIT, Float, Round, StatusAnd};
@@ -69,14 +67,14 @@ impl<'a> InKind for Calculation<'a> {
 }
 
 /// The reply in values of a type, which has no fused sum.
-fn in_type<'a, F: Float>(it: Calculation<'a>) -> Reply<'a>
+fn in_type<'a, F: ValueType>(it: Calculation<'a>) -> Reply<'a>
     requires written { F.PRECISION < F.BITS }
     requires narrow { F.BITS ≤ 128 }
-    requires reads { ReadsTexts F.reads }
     ensures reply { let words = words_of it.entry.operands in
         let wanted = provided (type_has F.MULTIPLIES it.entry.operation) it.entry.name.now
         (with_operands F.BITS it.entry.operation words) in IsOnly
-        (IsReplyIn (relations_of F.Float.own F.partial_cmp) F.BITS it.entry.round wanted)
+        (IsReplyIn (relations_of F.Float.own F.partial_cmp F.takes_root) F.BITS
+        it.entry.round wanted)
         (reply_of result) }
     ensures short { digit_count (reply_of result) ≤ 32 }
 {
@@ -96,7 +94,7 @@ fn in_type<'a, F: Float>(it: Calculation<'a>) -> Reply<'a>
 }
 
 /// An operation on two values.
-fn of_two<'a, F: Float>(
+fn of_two<'a, F: ValueType>(
     operation: Arithmetic,
     round: Round,
     left: &'a str,
@@ -104,9 +102,8 @@ fn of_two<'a, F: Float>(
 ) -> Reply<'a>
     requires written { F.PRECISION < F.BITS }
     requires narrow { F.BITS ≤ 128 }
-    requires supported { has_operation F.MULTIPLIES operation ≡ true }
     ensures reply { let wanted = with_two F.BITS operation left.now right.now in IsOnly
-        (IsReplyIn (relations_of F.Float.own F.partial_cmp) F.BITS round wanted)
+        (IsReplyIn (relations_of F.Float.own F.partial_cmp F.takes_root) F.BITS round wanted)
         (reply_of result) }
     ensures short { digit_count (reply_of result) ≤ 32 }
 {
@@ -147,11 +144,11 @@ fn fused_sum<'a, S: Semantics>(
 }
 
 /// A whole number, rounded to the type.
-fn from_whole_number<'a, F: Float>(round: Round, word: &'a str) -> Reply<'a>
+fn from_whole_number<'a, F: ValueType>(round: Round, word: &'a str) -> Reply<'a>
     requires written { F.PRECISION < F.BITS }
     requires narrow { F.BITS ≤ 128 }
     ensures reply { IsOnly
-        (IsReplyIn (relations_of F.Float.own F.partial_cmp) F.BITS round
+        (IsReplyIn (relations_of F.Float.own F.partial_cmp F.takes_root) F.BITS round
         (with_whole_number word.now))
         (reply_of result) }
     ensures short { digit_count (reply_of result) ≤ 32 }
@@ -163,12 +160,12 @@ fn from_whole_number<'a, F: Float>(round: Round, word: &'a str) -> Reply<'a>
 }
 
 /// The value that a text means.
-fn from_text<'a, F: Float>(round: Round, text: &'a str) -> Reply<'a>
+fn from_text<'a, F: ValueType>(round: Round, text: &'a str) -> Reply<'a>
     requires written { F.PRECISION < F.BITS }
     requires narrow { F.BITS ≤ 128 }
-    requires reads { ReadsTexts F.reads }
     ensures reply { IsOnly
-        (IsReplyIn (relations_of F.Float.own F.partial_cmp) F.BITS round (with_text text.now))
+        (IsReplyIn (relations_of F.Float.own F.partial_cmp F.takes_root) F.BITS round
+        (with_text text.now))
         (reply_of result) }
     ensures short { digit_count (reply_of result) ≤ 32 }
 {
@@ -179,11 +176,11 @@ fn from_text<'a, F: Float>(round: Round, text: &'a str) -> Reply<'a>
 }
 
 /// The bits and the flags of an answer.
-fn line<'a, F: Float>(answer: StatusAnd<F>) -> Reply<'a>
+fn line<'a, F: ValueType>(answer: StatusAnd<F>) -> Reply<'a>
     requires written { F.PRECISION < F.BITS }
     requires narrow { F.BITS ≤ 128 }
     ensures line { IsOnly
-        (IsLineOf (relations_of F.Float.own F.partial_cmp) F.BITS answer)
+        (IsLineOf (relations_of F.Float.own F.partial_cmp F.takes_root) F.BITS answer)
         (reply_of result) }
     ensures short { digit_count (reply_of result) ≤ 32 }
 {

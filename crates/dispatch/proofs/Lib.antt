@@ -1,2 +1,1 @@
-pub mod TextsRead
 pub mod OfTwoOnce

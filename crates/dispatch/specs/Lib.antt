@@ -6,4 +6,5 @@ pub mod Modes
 pub mod Relations
 pub mod OfTwo
 pub mod TextReadings
+pub mod TextsRead
 pub mod Once

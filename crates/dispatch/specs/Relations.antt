@@ -12,6 +12,7 @@ use Rattle.rustc_apfloat.specs.Datum.{Datum}
 use Rattle.rustc_apfloat.specs.Sums.{IsSum, IsDifference}
 use Rattle.rustc_apfloat.specs.Products.{IsProduct}
 use Rattle.rustc_apfloat.specs.Quotients.{IsQuotient}
+use Rattle.rustc_apfloat.specs.Roots.{IsRoot}
 use Rattle.rustc_apfloat.specs.Remainders.{IsNearestRemainder, IsTruncatedRemainder}
 use Rattle.rustc_apfloat.specs.WholeNumbers.{IsFromUnsigned, IsFromSigned, IsRoundToIntegral}
 use Rattle.rustc_apfloat.specs.WholeNumbersOut.{IsToUnsigned, IsToSigned}
@@ -27,6 +28,7 @@ use Rattle.rustc_apfloat.specs.Lawful.{Constants, format_with, layout_with}
 use Rattle.rustc_apfloat.specs.Pairs.{Pair, pair_category, pair_of, IsPairEncodedBy}
 use Rattle.rustc_apfloat.specs.PairSums.{IsPairSum, IsPairDifference}
 use Rattle.rustc_apfloat.specs.PairProducts.{IsPairProduct}
+use Rattle.rustc_apfloat.specs.PairRoots.{IsPairRoot}
 use Rattle.rustc_apfloat.specs.PairParts.{compared_pairs, is_denormal_pair, is_negative_pair, is_signaling_pair, IsPairFraction, IsPairIlogb, IsPairScaling}
 use Rattle.rustc_apfloat.specs.PairCalls.{IsPairFromSigned, IsPairFromUnsigned, IsPairNearestRemainder, IsPairNextDown, IsPairNextUp, IsPairQuotient, IsPairRead, IsPairRoundToIntegral, IsPairToSigned, IsPairToUnsigned, IsPairTruncatedRemainder}
 
@@ -45,6 +47,7 @@ pub record Relations (A : Type 0) : Type 1 where
   pub converts_to_unsigned : A → ℕ → Round → StatusAnd ℕ → Bool → Type 0
   pub converts_to_signed : A → ℕ → Round → StatusAnd ℤ → Bool → Type 0
   pub rounds_to_integral : A → Round → StatusAnd A → Type 0
+  pub takes_root : A → Round → StatusAnd A → Type 0
   pub scales : A → ℤ → Round → A → Type 0
   pub has_fraction : A → Round → A → ℤ → Type 0
   pub has_exponent : A → ℤ → Type 0
@@ -57,9 +60,10 @@ pub record Relations (A : Type 0) : Type 1 where
   pub signals : A → Bool
   pub reads : List ℕ → Round → Result (StatusAnd A) ParseError → Type 0
 
--- as the ghost members of `Float` say it, and of `PartialOrd` the order
-abbrev pub relations_of : {X : Type 0} → Ghosts X → (X → X → Option Ordering) → Relations X
-relations_of g order =
+-- as the ghost members of `Float` say it, of `PartialOrd` the order, and of `ValueType` the square root
+abbrev pub relations_of : {X : Type 0} → Ghosts X → (X → X → Option Ordering)
+    → (X → Round → StatusAnd X → Type 0) → Relations X
+relations_of g order takes_root =
     record {
       value_of_bits = g.value_of_bits;
       writes_bits = g.writes_bits;
@@ -74,6 +78,7 @@ relations_of g order =
       converts_to_unsigned = g.converts_to_unsigned;
       converts_to_signed = g.converts_to_signed;
       rounds_to_integral = g.rounds_to_integral;
+      takes_root = takes_root;
       scales = g.scales;
       has_fraction = g.has_fraction;
       has_exponent = g.has_exponent;
@@ -106,6 +111,7 @@ in_format c =
       converts_to_signed = λ x width mode answer exact.
           IsToSigned (format_with c) mode width x answer.value (bits_of answer.status) exact;
       rounds_to_integral = λ x mode answer. Gives (IsRoundToIntegral (format_with c) mode x) answer;
+      takes_root = λ x mode answer. Gives (IsRoot (format_with c) mode x) answer;
       scales = λ x places mode value. IsScaling (format_with c) mode x places value;
       has_fraction = λ x mode value exponent. IsFrexp (format_with c) x value exponent;
       has_exponent = λ x exponent. IsIlogb (format_with c) x exponent;
@@ -138,6 +144,7 @@ in_pairs =
       converts_to_signed = λ x width mode answer exact.
           IsPairToSigned mode width x answer.value (bits_of answer.status) exact;
       rounds_to_integral = λ x mode answer. Gives (IsPairRoundToIntegral mode x) answer;
+      takes_root = λ x mode answer. Gives (IsPairRoot mode x) answer;
       scales = λ x places mode value. IsPairScaling mode x places value;
       has_fraction = λ x mode value exponent. IsPairFraction mode x value exponent;
       has_exponent = IsPairIlogb;

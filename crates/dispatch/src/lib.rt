@@ -7,6 +7,7 @@ mod built_in;
 mod flagged;
 mod in_kind;
 mod modes;
+mod value_type;
 
 pub use arithmetic::Arithmetic;
 pub use built_in::{BUILT_IN_KINDS, BuiltInFormat, BuiltInKind};
@@ -16,3 +17,4 @@ pub use flagged::{
 };
 pub use in_kind::{InFormat, InKind};
 pub use modes::{mode_coded, mode_named};
+pub use value_type::ValueType;

@@ -145,7 +145,7 @@ fn computed<S: Semantics>(
 ) -> StatusAnd<IeeeFloat<S>> {
     match operation {
         Operation::Value => Status::OK.and(x),
-        Operation::OfTwo(arithmetic) => arithmetic.answer_in_format(x, y, round),
+        Operation::OfTwo(arithmetic) => arithmetic.answer(x, y, round),
         Operation::FusedSum => x.wide_mul_add_r(y, z, round),
         Operation::SquareRoot => x.sqrt_r(round),
     }

@@ -1,15 +1,10 @@
 use Rattle.std.proofs.Math.Path.{subst₂}
-use Rattle.rustc_apfloat.specs.FlaggedTypes.{constants_of}
-use Rattle.dispatch.specs.declared.Arithmetic.TheVariants.{NearestRemainder}
-use Rattle.dispatch.specs.OfTwo.{IsOfTwo}
-use Rattle.dispatch.specs.Relations.{in_format}
 use Rattle.apfloat_c.proofs.answers.nearest_remainder.Goals as goal
 
 pub returns : goal.returns
 returns g c = record {
   given = c.ieee_rem.result;
-  holds = subst₂
-      (λ x y. IsOfTwo (in_format (constants_of g.S.Flagged)) NearestRemainder c.args.round x y c.ieee_rem.result)
-      c.from_bits-x.ensures.read c.from_bits-y.ensures.read c.ieee_rem.ensures;
+  holds = subst₂ (λ x y. g.F.Float.leaves_nearest x y c.ieee_rem.result) c.from_bits-x.ensures
+      c.from_bits-y.ensures c.ieee_rem.ensures;
   is_written = c.written.ensures;
 }

@@ -1,5 +1,4 @@
-use Rattle.apfloat_base.proofs.texts.OneMeaning.{meaning_no_fault}
-use Rattle.apfloat_c.proofs.MeaningfulTexts.{meaningful_ascii}
+use Rattle.std.proofs.Common.{Ok}
 use Rattle.apfloat_c.proofs.WrittenAnswers.{answered_if, refused_unless, text_with_fault, text_without_fault}
 use Rattle.apfloat_c.specs.KnownCalls.{is_text, refused_text}
 use Rattle.apfloat_c.proofs.answers.read.Goals as goal
@@ -7,14 +6,12 @@ use Rattle.apfloat_c.proofs.answers.read.Goals as goal
 pub returns-in-Ok : goal.returns-in-Ok
 returns-in-Ok g c =
     let bytes = c.args.bytes.now in
-    let reading = c.in-Ok.ensures in
-    answered_if (is_text bytes) refused_text _ _ _
-    (text_without_fault bytes (meaningful_ascii bytes reading.meaning reading.means)
-    (meaning_no_fault bytes reading.meaning reading.means))
-    (record { given = c.in-Ok.read; holds = reading; is_written = c.written.ensures })
+    let none = g.met.F.ValueType.reads_texts bytes c.args.round (Ok c.in-Ok.read) c.in-Ok.ensures in
+    answered_if (is_text bytes) refused_text _ _ _ (text_without_fault bytes none)
+    (record { given = c.in-Ok.read; holds = c.in-Ok.ensures; is_written = c.written.ensures })
 
 pub returns-in-Err : goal.returns-in-Err
 returns-in-Err g c =
     let bytes = c.args.bytes.now in
-    let refusal = c.in-Err.ensures in
+    let refusal = g.met.F.ValueType.reads_texts bytes c.args.round _ c.in-Err.ensures in
     refused_unless (is_text bytes) refused_text _ _ (text_with_fault bytes refusal.fault refusal.is_first)

@@ -1,15 +1,10 @@
 use Rattle.std.proofs.Math.Path.{subst₂}
-use Rattle.rustc_apfloat.specs.FlaggedTypes.{constants_of}
-use Rattle.dispatch.specs.declared.Arithmetic.TheVariants.{Sum}
-use Rattle.dispatch.specs.OfTwo.{IsOfTwo}
-use Rattle.dispatch.specs.Relations.{in_format}
 use Rattle.apfloat_c.proofs.answers.sum.Goals as goal
 
 pub returns : goal.returns
 returns g c = record {
   given = c.add_r.result;
-  holds = subst₂
-      (λ x y. IsOfTwo (in_format (constants_of g.S.Flagged)) Sum c.args.round x y c.add_r.result)
-      c.from_bits-x.ensures.read c.from_bits-y.ensures.read c.add_r.ensures.sum;
+  holds = subst₂ (λ x y. g.F.Float.adds x y c.args.round c.add_r.result) c.from_bits-x.ensures
+      c.from_bits-y.ensures c.add_r.ensures;
   is_written = c.written.ensures;
 }

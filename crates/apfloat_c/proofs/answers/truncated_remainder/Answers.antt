@@ -1,15 +1,10 @@
 use Rattle.std.proofs.Math.Path.{subst₂}
-use Rattle.rustc_apfloat.specs.FlaggedTypes.{constants_of}
-use Rattle.dispatch.specs.declared.Arithmetic.TheVariants.{TruncatedRemainder}
-use Rattle.dispatch.specs.OfTwo.{IsOfTwo}
-use Rattle.dispatch.specs.Relations.{in_format}
 use Rattle.apfloat_c.proofs.answers.truncated_remainder.Goals as goal
 
 pub returns : goal.returns
 returns g c = record {
   given = c.c_fmod.result;
-  holds = subst₂
-      (λ x y. IsOfTwo (in_format (constants_of g.S.Flagged)) TruncatedRemainder c.args.round x y c.c_fmod.result)
-      c.from_bits-x.ensures.read c.from_bits-y.ensures.read c.c_fmod.ensures;
+  holds = subst₂ (λ x y. g.F.Float.leaves x y c.c_fmod.result) c.from_bits-x.ensures
+      c.from_bits-y.ensures c.c_fmod.ensures;
   is_written = c.written.ensures;
 }

@@ -1,10 +1,6 @@
-use Rattle.dispatch.proofs.TextsRead.{pairs_read}
 use Rattle.commands.specs.Operands.{words_of}
 use Rattle.commands.proofs.RepliesOnce.{only_in_pairs}
 use Rattle.commands.proofs.calculation.CalculationInKind.in_pairs.Goals as goal
-
-pub in_type-requires-clause-reads : goal.in_type-requires-clause-reads
-in_type-requires-clause-reads c = pairs_read
 
 pub returns : goal.returns
 returns c =
