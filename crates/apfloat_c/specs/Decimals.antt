@@ -1,5 +1,5 @@
 -- Decimals: texts as values, and the texts of values.
-use Rattle.std.specs.Prelude.{⊤, ◌≡◌, ◌⊎◌, ℕ, ◌-◌, ◌<◌, IsTrue, List, ◌++◌, codes, length, replicate, Option, Some, None, is_some, ok_or, Result, Ok, Err}
+use Rattle.std.specs.Prelude.{◌≡◌, ◌⊎◌, ℕ, ◌-◌, ◌<◌, IsTrue, List, ◌++◌, codes, length, replicate, Option, Some, None, is_some, ok_or, Result, Ok, Err}
 use Rattle.std.specs.Char.{is_ascii}
 use Rattle.rustc_apfloat.specs.declared.Round.{Round}
 use Rattle.rustc_apfloat.specs.Datum.{Datum, finite, infinite, nan}
@@ -9,7 +9,7 @@ use Rattle.rustc_apfloat.specs.Format.{Format}
 use Rattle.rustc_apfloat.specs.Lawful.{Constants, format_with}
 use Rattle.apfloat_decimals.specs.declared.decimal.Decimal.{Decimal}
 use Rattle.apfloat_decimals.specs.DecimalTexts.{IsDecimalReading, decimal_fault_of}
-use Rattle.apfloat_decimals.specs.ShortestSearch.{IsShortestOf, IsWithinQuad}
+use Rattle.apfloat_decimals.specs.ShortestSearch.{IsShortestOf}
 use Rattle.apfloat_decimals.specs.Texts.{decimal_text, sign_text}
 use Rattle.pair_decimals.specs.PairReadings.{IsPairDecimalReading}
 use Rattle.dispatch.specs.declared.BuiltInFormat.{BuiltInFormat}
@@ -26,11 +26,6 @@ use Rattle.apfloat_c.specs.declared.data.Answer.{Answer}
 use Rattle.apfloat_c.specs.declared.decimals.DecimalText.{DecimalText}
 use Rattle.apfloat_c.specs.Answers.{IsValue}
 use Rattle.apfloat_c.specs.KnownCalls.{◌>>=◌, answered, no_such_operation, refused_text, unknown_format, unknown_mode}
-
--- a format has at most the digits and the exponents of binary128
-abbrev pub HasDecimals : Kind → Type 0
-HasDecimals (of_format c) = IsWithinQuad (format_with c)
-HasDecimals of_pairs = ⊤
 
 -- ---- reading
 

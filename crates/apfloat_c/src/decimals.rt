@@ -1,14 +1,16 @@
 //! Decimal texts as values, and the text of a value's shortest decimal, for C programs.
 
 ghost use Rattle.std.specs.Prelude.{◌≡◌, ◌<◌, ◌++◌, codes, length, pos, if◌then◌else◌};
+ghost use Rattle.rustc_apfloat.specs.Lawful.{format_with};
 ghost use Rattle.rustc_apfloat.specs.Types.{constants_of, format_of};
 ghost use Rattle.apfloat_decimals.specs.ShortestSearch.{IsWithinQuad};
 ghost use Rattle.apfloat_decimals.specs.Texts.{sign_text};
 ghost use Rattle.dispatch.specs.FlaggedKinds.{flagged_kind_coded};
+ghost use Rattle.dispatch.specs.FormatKinds.{IfFormat};
 ghost use Rattle.dispatch.specs.Modes.{mode_coded};
 ghost use Rattle.dispatch.specs.Relations.{in_format, in_pairs};
 ghost use Rattle.apfloat_c.specs.Answers.{IsWritten, whole};
-ghost use Rattle.apfloat_c.specs.Decimals.{HasDecimals, IsDecimalOutcome, IsKindText, IsParsed, IsShortestWritten, IsText, IsValueText, decimal_kind, known_reading, text_format};
+ghost use Rattle.apfloat_c.specs.Decimals.{IsDecimalOutcome, IsKindText, IsParsed, IsShortestWritten, IsText, IsValueText, decimal_kind, known_reading, text_format};
 
 use crate::ascii::text_of;
 use crate::codes::{ANSWERED, NO_SUCH_OPERATION, REFUSED_TEXT, UNKNOWN_FORMAT, UNKNOWN_MODE};
@@ -105,7 +107,7 @@ struct DecimalReading<'a> {
 impl InFormat for DecimalReading<'_> {
     type Output = Option<Answer>;
 
-    ghost can = { λ _ kind. HasDecimals kind };
+    ghost can = { λ _ kind. IfFormat kind (λ c. IsWithinQuad (format_with c)) };
 
     ghost gives = { λ it kind answer. IsDecimalOutcome kind it.round it.text.now answer };
 
@@ -156,7 +158,7 @@ struct Writing {
 impl InFormat for Writing {
     type Output = DecimalText;
 
-    ghost can = { λ _ kind. HasDecimals kind };
+    ghost can = { λ _ kind. IfFormat kind (λ c. IsWithinQuad (format_with c)) };
 
     ghost gives = { λ it kind text. IsKindText kind it.bits text };
 

@@ -1,4 +1,5 @@
 pub mod ValueKinds
+pub mod FormatKinds
 pub mod Limits
 pub mod BuiltIns
 pub mod FlaggedKinds

@@ -5,7 +5,8 @@
 //! tells whether something lies above.
 
 ghost use Rattle.std.specs.Prelude.{◌<◌};
-ghost use Rattle.explain.specs.Formats.{HasShortest};
+ghost use Rattle.dispatch.specs.FormatKinds.{IfFormat};
+ghost use Rattle.rustc_apfloat.specs.Lawful.{format_with};
 ghost use Rattle.rustc_apfloat.specs.Types.{format_of};
 ghost use Rattle.apfloat_decimals.specs.ShortestSearch.{IsWithinQuad};
 
@@ -28,7 +29,7 @@ pub struct Computation<'a> {
 impl<'a> InFormat for Computation<'a> {
     type Output = Result<Explanation, &'a str>;
 
-    ghost can = { λ _ kind. HasShortest kind };
+    ghost can = { λ _ kind. IfFormat kind (λ c. IsWithinQuad (format_with c)) };
 
     fn in_format<S: Semantics>(self) -> Result<Explanation, &'a str> {
         explained::<S>(self.question)

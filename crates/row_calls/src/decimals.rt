@@ -4,7 +4,8 @@
 
 ghost use Rattle.rustc_apfloat.specs.Types.{format_of};
 ghost use Rattle.apfloat_decimals.specs.ShortestSearch.{IsWithinQuad};
-ghost use Rattle.row_calls.specs.Formats.{HasShortest};
+ghost use Rattle.dispatch.specs.FormatKinds.{IfFormat};
+ghost use Rattle.rustc_apfloat.specs.Lawful.{format_with};
 
 use crate::of_type::{Answered, Request, value_of};
 use apfloat_decimals::{Decimal, exact, read_decimal, rounded, shortest};
@@ -40,7 +41,7 @@ struct InDecimals<'a> {
 impl InFormat for InDecimals<'_> {
     type Output = Answered;
 
-    ghost can = { λ _ kind. HasShortest kind };
+    ghost can = { λ _ kind. IfFormat kind (λ c. IsWithinQuad (format_with c)) };
 
     fn in_format<S: Semantics>(self) -> Answered {
         match self.call {

@@ -1,19 +1,13 @@
 //! The calls of rows in their formats, and those that only some types have.
 
-ghost use Rattle.std.specs.Prelude.{◌≡◌, true};
-ghost use Rattle.rustc_apfloat.specs.PairParts.{CanComparePairMagnitudes};
-
 use crate::decimals::in_decimals;
 use crate::of_type::{Answered, Request, of_type, two_values, value_of};
 use dispatch::InFormat;
-use row_columns::{
-    CallFault, ExtraField, Operand, Operands, Quanta, Returned, RowAnswer, ValueField,
-};
-use row_names::{Call, CallInFormat, ConversionCall, OneTypeCall, RowFormat};
-use rustc_apfloat::ieee::{Double, Flagged, IeeeFloat, Semantics};
+use row_columns::{CallFault, ExtraField, Operands, Returned, RowAnswer};
+use row_names::{Call, CallInFormat, ConversionCall, FormatCall, RowFormat};
+use rustc_apfloat::ieee::{Flagged, IeeeFloat, Semantics};
 use rustc_apfloat::ppc::{DoubleDouble, FallbackS};
-use rustc_apfloat::{Category, FUSED_LIMIT, Float, FloatConvert, Round, StatusAnd};
-use std::cmp::Ordering;
+use rustc_apfloat::{FUSED_LIMIT, Float, FloatConvert, Round, StatusAnd};
 use std::fmt::Debug;
 use std::marker::PhantomData;
 
@@ -68,7 +62,7 @@ impl Formats {
 /// What the call of a row returns in its formats. The text is its operand, if that is one.
 pub fn answered(formats: Formats, request: Request, text: &str) -> Answered {
     match formats {
-        Formats::Pairs => of_pairs(request, text),
+        Formats::Pairs => of_type::<DoubleDouble>(request, text),
         Formats::One(format) => in_one_format(format, request, text),
         Formats::FromPairs => from::<DoubleDouble, IeeeFloat<FallbackS>>(request),
         Formats::ToPairs => from::<IeeeFloat<FallbackS>, DoubleDouble>(request),
@@ -163,18 +157,17 @@ impl<S: Flagged> CallInFormat for ToFormat<S> {
 /// What a call returns in a format.
 fn of_format<S: Flagged>(request: Request, text: &str) -> Answered {
     match request.call {
-        Call::OfOneType(call) => of_one_format::<S>(call, request),
+        Call::OfFormat(call) => of_format_alone::<S>(call, request),
         _ => of_type::<IeeeFloat<S>>(request, text),
     }
 }
 
 /// What a call returns that only formats have.
-fn of_one_format<S: Flagged>(call: OneTypeCall, request: Request) -> Answered {
+fn of_format_alone<S: Flagged>(call: FormatCall, request: Request) -> Answered {
     match call {
-        OneTypeCall::CmpAbsNormal => order_of_magnitudes::<S>(request.operands),
-        OneTypeCall::CFmodSteps => remainder_steps::<S>(request),
+        FormatCall::CFmodSteps => remainder_steps::<S>(request),
         _ => match rounded_once::<S>(call, request) {
-            Ok(answer) => Ok(rounded_in(answer, request.stated)),
+            Ok(answer) => Ok(RowAnswer::of(Returned::Rounded(answer), request.stated)),
             Err(fault) => Err(fault),
         },
     }
@@ -182,7 +175,7 @@ fn of_one_format<S: Flagged>(call: OneTypeCall, request: Request) -> Answered {
 
 /// What a call returns that rounds once in a format of any precision, or a fused sum.
 fn rounded_once<S: Flagged>(
-    call: OneTypeCall,
+    call: FormatCall,
     request: Request,
 ) -> Result<StatusAnd<IeeeFloat<S>>, CallFault> {
     let Request {
@@ -191,49 +184,20 @@ fn rounded_once<S: Flagged>(
         ..
     } = request;
     match call {
-        OneTypeCall::Sqrt => square_root(operands, None),
-        OneTypeCall::SqrtR => square_root(operands, Some(round)),
-        OneTypeCall::WideMulR => wide_product(operands, round),
-        OneTypeCall::WideMulAddR => wide_fused_sum(operands, round),
-        OneTypeCall::MulAdd => fused_sum(operands, None),
-        OneTypeCall::MulAddR => fused_sum(operands, Some(round)),
-        OneTypeCall::CFmodSteps | OneTypeCall::CmpAbsNormal => Err(CallFault::Support),
-    }
-}
-
-/// The value that an operand stands for.
-fn value_in<S: Flagged>(operand: Operand) -> Option<IeeeFloat<S>> {
-    value_of(operand)
-}
-
-/// The columns for a value and its flags.
-fn rounded_in<S: Flagged>(answer: StatusAnd<IeeeFloat<S>>, stated: Option<Quanta>) -> RowAnswer {
-    RowAnswer::of(Returned::Rounded(answer), stated)
-}
-
-/// The values of two operands.
-fn two_in<S: Flagged>(operands: Operands) -> Option<(IeeeFloat<S>, IeeeFloat<S>)> {
-    match (value_in(operands.first), value_in(operands.second)) {
-        (Some(x), Some(y)) => Some((x, y)),
-        _ => None,
+        FormatCall::WideMulR => wide_product(operands, round),
+        FormatCall::WideMulAddR => wide_fused_sum(operands, round),
+        FormatCall::MulAdd => fused_sum(operands, None),
+        FormatCall::MulAddR => fused_sum(operands, Some(round)),
+        FormatCall::CFmodSteps => Err(CallFault::Support),
     }
 }
 
 /// What a call returns, with its status.
 type RoundedIn<S> = Result<StatusAnd<IeeeFloat<S>>, CallFault>;
 
-/// A square root, in the mode if there is one.
-fn square_root<S: Flagged>(operands: Operands, mode: Option<Round>) -> RoundedIn<S> {
-    match (value_in::<S>(operands.first), mode) {
-        (None, _) => Err(CallFault::Operand),
-        (Some(x), None) => Ok(x.sqrt()),
-        (Some(x), Some(round)) => Ok(x.sqrt_r(round)),
-    }
-}
-
 /// A product in a format of any precision.
 fn wide_product<S: Flagged>(operands: Operands, round: Round) -> RoundedIn<S> {
-    match two_in::<S>(operands) {
+    match two_values::<IeeeFloat<S>>(operands) {
         Some((x, y)) => Ok(x.wide_mul_r(y, round)),
         None => Err(CallFault::Operand),
     }
@@ -241,7 +205,10 @@ fn wide_product<S: Flagged>(operands: Operands, round: Round) -> RoundedIn<S> {
 
 /// A product plus a third value, rounded once, in a format of any precision.
 fn wide_fused_sum<S: Flagged>(operands: Operands, round: Round) -> RoundedIn<S> {
-    match (two_in::<S>(operands), value_in(operands.third)) {
+    match (
+        two_values::<IeeeFloat<S>>(operands),
+        value_of(operands.third),
+    ) {
         (Some((x, y)), Some(z)) => Ok(x.wide_mul_add_r(y, z, round)),
         _ => Err(CallFault::Operand),
     }
@@ -252,7 +219,11 @@ fn fused_sum<S: Flagged>(operands: Operands, mode: Option<Round>) -> RoundedIn<S
     if S::PRECISION > FUSED_LIMIT {
         return Err(CallFault::Support);
     }
-    match (two_in::<S>(operands), value_in(operands.third), mode) {
+    match (
+        two_values::<IeeeFloat<S>>(operands),
+        value_of(operands.third),
+        mode,
+    ) {
         (Some((x, y)), Some(z), None) => Ok(x.mul_add(y, z)),
         (Some((x, y)), Some(z), Some(round)) => Ok(x.mul_add_r(y, z, round)),
         _ => Err(CallFault::Operand),
@@ -261,27 +232,13 @@ fn fused_sum<S: Flagged>(operands: Operands, mode: Option<Round>) -> RoundedIn<S
 
 /// A remainder, with the steps that it takes and how many they are at most.
 fn remainder_steps<S: Flagged>(request: Request) -> Answered {
-    let Some((x, y)) = two_in::<S>(request.operands) else {
+    let Some((x, y)) = two_values::<IeeeFloat<S>>(request.operands) else {
         return Err(CallFault::Operand);
     };
     let (answer, taken) = x.c_fmod_steps(y);
     let bound = x.ilogb().saturating_sub(y.ilogb()).saturating_add(1).max(0);
-    let columns = rounded_in(answer, request.stated);
+    let columns = RowAnswer::of(Returned::Rounded(answer), request.stated);
     Ok(columns.with(ExtraField::Steps(taken, bound)))
-}
-
-/// The order of two magnitudes.
-fn order_of_magnitudes<S: Flagged>(operands: Operands) -> Answered {
-    let Some((x, y)) = two_in::<S>(operands) else {
-        return Err(CallFault::Operand);
-    };
-    match (x.category(), y.category()) {
-        (Category::Normal, Category::Normal) => {
-            let order = x.cmp_abs_normal(y);
-            Ok(RowAnswer::told(ValueField::Order(Some(order))))
-        }
-        _ => Err(CallFault::Support),
-    }
 }
 
 /// A value converted to another format, and whether that loses information.
@@ -291,7 +248,7 @@ fn converted<S: Flagged, T: Flagged>(request: Request) -> Answered {
         Call::Conversion(ConversionCall::ConvertR) => Some(request.round),
         _ => return Err(CallFault::Support),
     };
-    let Some(x) = value_in::<S>(request.operands.first) else {
+    let Some(x) = value_of::<IeeeFloat<S>>(request.operands.first) else {
         return Err(CallFault::Operand);
     };
     let mut loses_info = false;
@@ -299,7 +256,8 @@ fn converted<S: Flagged, T: Flagged>(request: Request) -> Answered {
         None => x.convert(&mut loses_info),
         Some(round) => x.convert_r(round, &mut loses_info),
     };
-    Ok(rounded_in(answer, request.stated).with(ExtraField::LosesInfo(loses_info)))
+    let columns = RowAnswer::of(Returned::Rounded(answer), request.stated);
+    Ok(columns.with(ExtraField::LosesInfo(loses_info)))
 }
 
 /// A pair as a wide value, or a wide value as a pair.
@@ -311,58 +269,4 @@ fn from<F: Float + Debug, T: Float + Debug + From<F>>(request: Request) -> Answe
         Some(x) => Ok(RowAnswer::of(Returned::Value(T::from(x)), request.stated)),
         None => Err(CallFault::Operand),
     }
-}
-
-/// What a call returns in pairs of doubles.
-fn of_pairs(request: Request, text: &str) -> Answered {
-    match request.call {
-        Call::OfOneType(OneTypeCall::Sqrt) => square_root_of_pair(request, None),
-        Call::OfOneType(OneTypeCall::SqrtR) => square_root_of_pair(request, Some(request.round)),
-        Call::OfOneType(OneTypeCall::CmpAbsNormal) => order_of_pair_magnitudes(request.operands),
-        _ => of_type::<DoubleDouble>(request, text),
-    }
-}
-
-/// The square root of a pair, in the mode if there is one.
-fn square_root_of_pair(request: Request, mode: Option<Round>) -> Answered {
-    let Some(x) = value_of::<DoubleDouble>(request.operands.first) else {
-        return Err(CallFault::Operand);
-    };
-    let answer = match mode {
-        None => x.sqrt(),
-        Some(round) => x.sqrt_r(round),
-    };
-    Ok(RowAnswer::of(Returned::Rounded(answer), request.stated))
-}
-
-/// The order of the magnitudes of two pairs.
-fn order_of_pair_magnitudes(operands: Operands) -> Answered {
-    let Some((x, y)) = two_values::<DoubleDouble>(operands) else {
-        return Err(CallFault::Operand);
-    };
-    if !can_compare_magnitudes(x, y) {
-        return Err(CallFault::Support);
-    }
-    Ok(RowAnswer::told(ValueField::Order(Some(x.cmp_abs_normal(y)))))
-}
-
-/// Whether the high parts are nonzero numbers, and the low parts too if the magnitudes of the high ones are equal.
-fn can_compare_magnitudes(x: DoubleDouble, y: DoubleDouble) -> bool
-    ensures { result ≡ true → CanComparePairMagnitudes x y }
-{
-    let (a, aa) = parts_of(x);
-    let (c, cc) = parts_of(y);
-    if !a.is_finite_non_zero() || !c.is_finite_non_zero() {
-        return false;
-    }
-    a.cmp_abs_normal(c) != Ordering::Equal || (aa.is_finite_non_zero() && cc.is_finite_non_zero())
-}
-
-/// The high part and the low one.
-fn parts_of(x: DoubleDouble) -> (Double, Double)
-    ensures high { result.0 ≡ x.high }
-    ensures low { result.1 ≡ x.low }
-{
-    let bits = x.to_bits();
-    (Double::from_bits(bits), Double::from_bits(bits >> 64))
 }

@@ -7,6 +7,7 @@ mod call_row;
 mod decimals;
 mod fault;
 mod formats;
+mod magnitudes;
 mod of_type;
 mod reading;
 

@@ -1,7 +1,9 @@
-//! The calls that every floating-point type has.
+//! The calls that every type of values has.
 
 ghost use Rattle.std.specs.Prelude.{◌≤◌};
 
+use crate::magnitudes::Magnitudes;
+use dispatch::ValueType;
 use row_columns::{
     CallFault, ExtraField, Operand, Operands, Quanta, Returned, RowAnswer, Text, ValueField, mask,
     shown,
@@ -30,7 +32,7 @@ pub struct Request {
 }
 
 /// What a call returns. The text is its operand, if that is one.
-pub fn of_type<F: Float + Debug>(request: Request, text: &str) -> Answered {
+pub fn of_type<F: ValueType + Magnitudes + Debug>(request: Request, text: &str) -> Answered {
     match request.call {
         Call::Constant(constant) => Ok(constant_of::<F>(constant, request.stated)),
         Call::OfOneValue(call) => of_one_value::<F>(call, request),
@@ -40,7 +42,7 @@ pub fn of_type<F: Float + Debug>(request: Request, text: &str) -> Answered {
         Call::OfValueAndInteger(call) => of_value_and_integer::<F>(call, request),
         Call::OfWord(call) => of_word::<F>(call, request),
         Call::OfText(call) => Ok(of_text::<F>(call, text, request.round, request.stated)),
-        Call::OfOneType(_) | Call::OfDecimal(_) | Call::Conversion(_) => Err(CallFault::Support),
+        Call::OfFormat(_) | Call::OfDecimal(_) | Call::Conversion(_) => Err(CallFault::Support),
     }
 }
 
@@ -83,7 +85,7 @@ fn constant_of<F: Float + Debug>(constant: Constant, stated: Option<Quanta>) -> 
 }
 
 /// What a call of one value returns.
-fn of_one_value<F: Float + Debug>(call: OneValueCall, request: Request) -> Answered {
+fn of_one_value<F: ValueType + Debug>(call: OneValueCall, request: Request) -> Answered {
     let Some(x) = value_of::<F>(request.operands.first) else {
         return Err(CallFault::Operand);
     };
@@ -94,10 +96,16 @@ fn of_one_value<F: Float + Debug>(call: OneValueCall, request: Request) -> Answe
 }
 
 /// What a call of one value returns, if the type has it.
-fn returned_of<F: Float + Debug>(call: OneValueCall, x: F, round: Round) -> Option<Returned<F>> {
+fn returned_of<F: ValueType + Debug>(
+    call: OneValueCall,
+    x: F,
+    round: Round,
+) -> Option<Returned<F>> {
     let mut exponent = 0;
     let returned = match call {
         OneValueCall::RoundToIntegral => Returned::Rounded(x.round_to_integral(round)),
+        OneValueCall::Sqrt => Returned::Rounded(x.sqrt()),
+        OneValueCall::SqrtR => Returned::Rounded(x.sqrt_r(round)),
         OneValueCall::NextUp => Returned::Rounded(x.next_up()),
         OneValueCall::NextDown => Returned::Rounded(x.next_down()),
         OneValueCall::Neg => Returned::Value(-x),
@@ -144,7 +152,7 @@ fn has_property<F: Float>(property: Property, operand: Operand) -> Answered {
 }
 
 /// What a call of two values returns.
-fn of_two_values<F: Float + Debug>(call: TwoValuesCall, request: Request) -> Answered {
+fn of_two_values<F: Magnitudes + Debug>(call: TwoValuesCall, request: Request) -> Answered {
     let Some((x, y)) = two_values::<F>(request.operands) else {
         return Err(CallFault::Operand);
     };
@@ -155,7 +163,12 @@ fn of_two_values<F: Float + Debug>(call: TwoValuesCall, request: Request) -> Ans
 }
 
 /// What a call of two values returns, if the type has it.
-fn returned_of_two<F: Float>(call: TwoValuesCall, x: F, y: F, round: Round) -> Option<Returned<F>> {
+fn returned_of_two<F: Magnitudes>(
+    call: TwoValuesCall,
+    x: F,
+    y: F,
+    round: Round,
+) -> Option<Returned<F>> {
     match call {
         TwoValuesCall::CopySign => Some(Returned::Value(x.copy_sign(y))),
         TwoValuesCall::Min => Some(Returned::Value(x.min(y))),
@@ -165,6 +178,11 @@ fn returned_of_two<F: Float>(call: TwoValuesCall, x: F, y: F, round: Round) -> O
         TwoValuesCall::Eq => Some(Returned::Field(ValueField::Truth(x == y))),
         TwoValuesCall::BitwiseEq => Some(Returned::Field(ValueField::Truth(x.bitwise_eq(y)))),
         TwoValuesCall::PartialCmp => { Some(Returned::Field(ValueField::Order(x.partial_cmp(&y)))) }
+        TwoValuesCall::CmpAbsNormal if !x.is_comparable(y) => None,
+        TwoValuesCall::CmpAbsNormal => {
+            let order = x.cmp_abs_normal(y);
+            Some(Returned::Field(ValueField::Order(Some(order))))
+        }
         _ => match computed(call, x, y, round) {
             Some(answer) => Some(Returned::Rounded(answer)),
             None => None,

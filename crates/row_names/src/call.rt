@@ -24,8 +24,8 @@ pub enum Call {
     OfText(TextCall),
     /// A decimal, or a value that is written as one.
     OfDecimal(DecimalCall),
-    /// Values of a type that has the call by itself, and not by a trait.
-    OfOneType(OneTypeCall),
+    /// Values of a format, which alone has the call.
+    OfFormat(FormatCall),
     /// A value of another type.
     Conversion(ConversionCall),
 }
@@ -51,6 +51,8 @@ pub enum Constant {
 #[derive(Clone, Copy)]
 pub enum OneValueCall {
     RoundToIntegral,
+    Sqrt,
+    SqrtR,
     NextUp,
     NextDown,
     Neg,
@@ -110,6 +112,7 @@ pub enum TwoValuesCall {
     Eq,
     BitwiseEq,
     PartialCmp,
+    CmpAbsNormal,
 }
 
 /// An assigning operator.
@@ -160,17 +163,14 @@ pub enum DecimalCall {
     Exact,
 }
 
-/// A call that some types have by themselves.
+/// A call that only formats have.
 #[derive(Clone, Copy)]
-pub enum OneTypeCall {
-    Sqrt,
-    SqrtR,
+pub enum FormatCall {
     WideMulR,
     WideMulAddR,
     MulAdd,
     MulAddR,
     CFmodSteps,
-    CmpAbsNormal,
 }
 
 /// A conversion from another type.
@@ -202,6 +202,8 @@ static CALLS: &[(&str, Call)] = &[
         "round_to_integral",
         Call::OfOneValue(OneValueCall::RoundToIntegral),
     ),
+    ("sqrt", Call::OfOneValue(OneValueCall::Sqrt)),
+    ("sqrt_r", Call::OfOneValue(OneValueCall::SqrtR)),
     ("next_up", Call::OfOneValue(OneValueCall::NextUp)),
     ("next_down", Call::OfOneValue(OneValueCall::NextDown)),
     ("neg", Call::OfOneValue(OneValueCall::Neg)),
@@ -260,6 +262,10 @@ static CALLS: &[(&str, Call)] = &[
     ("eq", Call::OfTwoValues(TwoValuesCall::Eq)),
     ("bitwise_eq", Call::OfTwoValues(TwoValuesCall::BitwiseEq)),
     ("partial_cmp", Call::OfTwoValues(TwoValuesCall::PartialCmp)),
+    (
+        "cmp_abs_normal",
+        Call::OfTwoValues(TwoValuesCall::CmpAbsNormal),
+    ),
     ("+=", Call::Assigning(AssigningOperator::Add)),
     ("-=", Call::Assigning(AssigningOperator::Sub)),
     ("*=", Call::Assigning(AssigningOperator::Mul)),
@@ -283,14 +289,11 @@ static CALLS: &[(&str, Call)] = &[
     ("shortest", Call::OfDecimal(DecimalCall::Shortest)),
     ("rounded", Call::OfDecimal(DecimalCall::Rounded)),
     ("exact", Call::OfDecimal(DecimalCall::Exact)),
-    ("sqrt", Call::OfOneType(OneTypeCall::Sqrt)),
-    ("sqrt_r", Call::OfOneType(OneTypeCall::SqrtR)),
-    ("wide_mul_r", Call::OfOneType(OneTypeCall::WideMulR)),
-    ("wide_mul_add_r", Call::OfOneType(OneTypeCall::WideMulAddR)),
-    ("mul_add", Call::OfOneType(OneTypeCall::MulAdd)),
-    ("mul_add_r", Call::OfOneType(OneTypeCall::MulAddR)),
-    ("c_fmod_steps", Call::OfOneType(OneTypeCall::CFmodSteps)),
-    ("cmp_abs_normal", Call::OfOneType(OneTypeCall::CmpAbsNormal)),
+    ("wide_mul_r", Call::OfFormat(FormatCall::WideMulR)),
+    ("wide_mul_add_r", Call::OfFormat(FormatCall::WideMulAddR)),
+    ("mul_add", Call::OfFormat(FormatCall::MulAdd)),
+    ("mul_add_r", Call::OfFormat(FormatCall::MulAddR)),
+    ("c_fmod_steps", Call::OfFormat(FormatCall::CFmodSteps)),
     ("convert", Call::Conversion(ConversionCall::Convert)),
     ("convert_r", Call::Conversion(ConversionCall::ConvertR)),
     ("from", Call::Conversion(ConversionCall::From)),
@@ -310,7 +313,7 @@ impl Call {
             Call::OfTwoValues(_) | Call::Assigning(_) => Form::TwoValues,
             Call::OfValueAndInteger(call) => call.form(),
             Call::OfWord(call) => call.form(),
-            Call::OfOneType(call) => call.form(),
+            Call::OfFormat(call) => call.form(),
             Call::OfText(_) => Form::Text,
             Call::OfDecimal(call) => call.form(),
         }
@@ -338,15 +341,14 @@ impl WordCall {
     }
 }
 
-impl OneTypeCall {
+impl FormatCall {
     /// What its operands are.
     fn form(self) -> Form {
         match self {
-            OneTypeCall::Sqrt | OneTypeCall::SqrtR => Form::OneValue,
-            OneTypeCall::WideMulAddR | OneTypeCall::MulAdd | OneTypeCall::MulAddR => {
+            FormatCall::WideMulAddR | FormatCall::MulAdd | FormatCall::MulAddR => {
                 Form::ThreeValues
             }
-            _ => Form::TwoValues,
+            FormatCall::WideMulR | FormatCall::CFmodSteps => Form::TwoValues,
         }
     }
 }

@@ -8,7 +8,7 @@ mod row_format;
 mod table;
 
 pub use call::{
-    AssigningOperator, Call, Constant, ConversionCall, DecimalCall, IntegerCall, OneTypeCall,
+    AssigningOperator, Call, Constant, ConversionCall, DecimalCall, FormatCall, IntegerCall,
     OneValueCall, Property, TextCall, TwoValuesCall, WordCall,
 };
 pub use form::Form;

@@ -1,0 +1,44 @@
+//! Whether two magnitudes can be compared.
+
+ghost use Rattle.std.specs.Prelude.{◌≡◌, true};
+
+use rustc_apfloat::Float;
+use rustc_apfloat::ieee::{Double, Flagged, IeeeFloat};
+use rustc_apfloat::ppc::DoubleDouble;
+use std::cmp::Ordering;
+
+/// A type with a test for what `cmp_abs_normal` requires.
+pub trait Magnitudes: Float {
+    /// Whether the magnitudes can be compared.
+    fn is_comparable(self, rhs: Self) -> bool
+        ensures { result ≡ true → Self.can_compare_magnitudes self rhs };
+}
+
+impl<S: Flagged> Magnitudes for IeeeFloat<S> {
+    /// Whether both are nonzero numbers.
+    fn is_comparable(self, rhs: Self) -> bool {
+        self.is_finite_non_zero() && rhs.is_finite_non_zero()
+    }
+}
+
+impl Magnitudes for DoubleDouble {
+    /// Whether the high parts are nonzero numbers, and the low parts too if the magnitudes of the high ones are equal.
+    fn is_comparable(self, rhs: Self) -> bool {
+        let (a, aa) = parts_of(self);
+        let (c, cc) = parts_of(rhs);
+        if !a.is_finite_non_zero() || !c.is_finite_non_zero() {
+            return false;
+        }
+        a.cmp_abs_normal(c) != Ordering::Equal
+            || (aa.is_finite_non_zero() && cc.is_finite_non_zero())
+    }
+}
+
+/// The high part and the low one.
+fn parts_of(x: DoubleDouble) -> (Double, Double)
+    ensures high { result.0 ≡ x.high }
+    ensures low { result.1 ≡ x.low }
+{
+    let bits = x.to_bits();
+    (Double::from_bits(bits), Double::from_bits(bits >> 64))
+}
