@@ -4,7 +4,7 @@ use Rattle.std.proofs.Common.{◌≡◌, ◌⊎◌, inl, inr, ℕ, ◌<◌, ◌�
 use Rattle.std.specs.Char.{is_ascii}
 use Rattle.std.proofs.lemmas.Bool.{and_parts, and_from, or_cases, cond_both, eqb-true, leb-true, lt-ltb, false≢true}
 use Rattle.apfloat_base.specs.texts.Digits.{every, same, begins, is_empty, is_decimal, is_hexadecimal, number}
-use Rattle.apfloat_base.specs.texts.Specials.{Meaning, infinity, not_a_number, hexadecimal, mark_of, after_mark, is_minus, is_infinity, is_x, radix_of, after_prefix, after_plus, is_digit_of, base_of, payload_of_digits, plain_payload, inside, in_parentheses, payload_of, with_payload, is_nan_name, named_nan, is_s, nan_meaning, special_meaning, special_of}
+use Rattle.apfloat_base.specs.texts.Specials.{Meaning, infinity, not_a_number, hexadecimal, mark_of, after_mark, is_minus, is_infinity, is_x, radix_of, after_prefix, after_plus, is_digit_of, base_of, number_of_digits, plain_payload, inside, in_parentheses, payload_of, with_payload, is_nan_name, named_nan, is_s, nan_meaning, special_meaning, special_of}
 use Rattle.apfloat_base.specs.texts.Texts.{IsHexadecimal, Means}
 use Rattle.apfloat_base.specs.declared.marks.Mark.{Mark}
 use Rattle.apfloat_base.specs.declared.marks.Mark.TheVariants.{Unmarked, Plus, Minus}
@@ -98,7 +98,7 @@ after_mark_ascii (c ∷ text) =
 abbrev HasAscii : {A : Type 0} → List ℕ → Option A → Type 0
 HasAscii {A} text found = is_some found ≡ true → IsAllAscii text
 
-digits_ascii : (radix : Radix) (digits : List ℕ) → HasAscii digits (payload_of_digits radix digits)
+digits_ascii : (radix : Radix) (digits : List ℕ) → HasAscii digits (number_of_digits radix digits)
 digits_ascii radix digits =
     cond_both
     (not (is_empty digits) && every (is_digit_of radix) digits && ltb (number (base_of radix) digits) (2 ^ 128))

@@ -4,7 +4,7 @@ use Rattle.std.proofs.lemmas.Bool.{le-ltb, ltb-false, ltb-true}
 use Rattle.apfloat_base.specs.declared.marks.Radix.{Radix}
 use Rattle.apfloat_base.specs.declared.marks.Radix.TheVariants.{Sixteen, Eight, Ten}
 use Rattle.apfloat_base.specs.texts.Digits.{every}
-use Rattle.apfloat_base.specs.texts.Specials.{is_digit_of, payload_of_digits}
+use Rattle.apfloat_base.specs.texts.Specials.{is_digit_of, number_of_digits}
 use Rattle.apfloat_base.proofs.general.Choices.{first_holds, first_fails, last_fails}
 use Rattle.apfloat_texts.specs.Payloads.{longer, next, read_on, IsPayloadRead}
 
@@ -55,7 +55,7 @@ goes radix n c m digits true true p q e =
 
 -- a character that is no digit, or one too many, leaves no payload
 pub payload_stops : (radix : Radix) (digits left : List ℕ) (n c : ℕ) → IsPayloadRead radix digits (c ∷ left) n
-    → next radix n c ≡ None → payload_of_digits radix digits ≡ None
+    → next radix n c ≡ None → number_of_digits radix digits ≡ None
 payload_stops radix digits left n c i e = i.read ∙ stops radix n c left _ _ refl refl e
 
 -- another one is read

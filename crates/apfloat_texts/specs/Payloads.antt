@@ -23,7 +23,7 @@ read_on radix n digits =
 -- a payload, in terms of the digits read so far and those that are left
 pub record IsPayloadRead (radix : Radix) (digits left : List ℕ) (number : ℕ) : Type 0 where
   pub small : number < 2 ^ 128
-  pub read : model.payload_of_digits radix digits ≡ read_on radix number left
+  pub read : model.number_of_digits radix digits ≡ read_on radix number left
 
 -- the payload after the name of a NaN
 abbrev pub named_payload : List ℕ → Option ℕ

@@ -6,6 +6,7 @@
 #![tactic(auto)]
 
 mod characters;
+mod digits;
 mod exponent;
 mod literal;
 mod mark;
@@ -16,6 +17,7 @@ mod significand;
 mod special;
 
 pub use characters::is_decimal;
+pub use digits::number_of_digits;
 pub use exponent::signed_number;
 pub use mark::split_mark;
 pub use reading::read;

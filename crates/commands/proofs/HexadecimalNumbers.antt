@@ -1,14 +1,14 @@
 -- At most 32 hexadecimal digits stand for a number below 2 ^ 128.
-use Rattle.std.proofs.Common.{◌≡◌, ℕ, ◌+◌, ◌*◌, ◌^◌, ◌<◌, ◌≤◌, ◌==◌, Bool, true, false, not, ◌&&◌, nat_lt, nat_le, if◌then◌else◌, List, [], ◌∷◌, length, get_or, fold, Option, Some, None, refl, sym, ap, subst, arith, lit<}
+use Rattle.std.proofs.Common.{◌≡◌, ℕ, ◌+◌, ◌*◌, ◌^◌, ◌<◌, ◌≤◌, Bool, true, false, not, ◌&&◌, nat_lt, nat_le, if◌then◌else◌, List, [], ◌∷◌, length, fold, Some, None, refl, sym, subst, arith, lit<}
 use Rattle.std.proofs.lemmas.Bool.{false≢true, lt-ltb, le-leb}
 use Rattle.std.proofs.lemmas.Bool.Decides.{nat_tests}
 use Rattle.std.proofs.Math.Nat.{pow-le-pow_right}
 use Rattle.apfloat_base.proofs.general.MoreDigits.{digit_more}
 use Rattle.apfloat_base.specs.declared.marks.Radix.TheVariants.{Sixteen}
 use Rattle.rustc_apfloat.specs.Digits.{every, is_empty, is_hexadecimal, digit_value, number}
-use Rattle.commands.specs.Commands.{bits_of_digits, number_of_digits}
-use Rattle.apfloat_base.specs.texts.Specials.{is_digit_of}
-use Rattle.commands.proofs.Numerals.{IsReadTo, longer, read_goes, read_none, read_stops}
+use Rattle.apfloat_base.specs.texts.Specials.{number_of_digits}
+use Rattle.apfloat_texts.specs.Payloads.{longer}
+use Rattle.commands.specs.Commands.{bits_of_digits}
 
 -- ---- the bound
 
@@ -81,73 +81,3 @@ has_bits width digits n few e within =
     bits_by (not (is_empty digits)) (nat_le (length digits) 32) (every is_hexadecimal digits)
     (nat_lt (number 16 digits) (2 ^ 128)) (number 16 digits) n (λ k. nat_lt k (2 ^ width))
     (le-leb _ _ few) within e
-
--- ---- one by one
-
--- the digits before the place say n, which has no more places
-pub record IsHexadecimalTo (digits : List ℕ) (n place : ℕ) : Type 0 where
-  pub read : IsReadTo Sixteen digits n place
-  pub below : n < 16 ^ place
-
--- what a character says
-abbrev pub digit : ℕ → Option ℕ
-digit c = if is_digit_of Sixteen c then Some (digit_value c) else None
-
--- before the first place of one or more digits they say 0
-pub hexadecimal_none : (digits : List ℕ) → (length digits == 0) ≡ false → IsHexadecimalTo digits 0 0
-hexadecimal_none digits some = record { read = read_none Sixteen digits some; below = lit< tt }
-
--- there is room for one more digit before the 32nd
-pub room : (digits : List ℕ) (n place : ℕ) → length digits ≤ 32 → place < length digits
-    → IsHexadecimalTo digits n place → n * 16 + 15 < 2 ^ 128
-room digits n place few within so_far =
-    let more : n * 16 + 15 < 16 ^ (place + 1) = digit_more 16 n 15 place so_far.below (lit< tt) in
-    let base : 0 < 16 = lit< tt in
-    let places : place + 1 ≤ 32 = omega arith in
-    let wide : 16 ^ (place + 1) ≤ 2 ^ 128 = pow-le-pow_right base places in
-    omega arith
-
-no_next : (is_digit fits : Bool) (d n : ℕ) → (if is_digit then Some d else None) ≡ None
-    → (if is_digit && fits then Some n else None) ≡ None
-no_next true fits d n e = cc
-no_next false fits d n e = refl
-
--- a character that is no digit ends the reading
-pub hexadecimal_stops : (digits : List ℕ) (n place : ℕ) → place < length digits → IsHexadecimalTo digits n place
-    → digit (get_or digits place 0) ≡ None → number_of_digits Sixteen digits ≡ None
-hexadecimal_stops digits n place within so_far e =
-    let c = get_or digits place 0 in
-    read_stops Sixteen digits n place within so_far.read
-    (no_next (is_digit_of Sixteen c) (nat_lt (longer Sixteen n c) (2 ^ 128)) (digit_value c) (longer Sixteen n c) e)
-
-is_said : (is_digit : Bool) (d m : ℕ) → (if is_digit then Some d else None) ≡ Some m → (is_digit ≡ true) × (d ≡ m)
-is_said true d m e = (refl, cc)
-is_said false d m e = cc
-
--- a digit leads to a number that fits
-pub hexadecimal_fits : (digits : List ℕ) (n d place : ℕ) → length digits ≤ 32 → place < length digits
-    → IsHexadecimalTo digits n place → digit (get_or digits place 0) ≡ Some d → n * 16 + d < 2 ^ 128
-hexadecimal_fits digits n d place few within so_far e =
-    let c = get_or digits place 0 in
-    let said = is_said (is_digit_of Sixteen c) (digit_value c) d e in
-    let value : digit_value c ≡ d = said.1 in
-    let small : d < 16 = subst (λ v. v < 16) value (digit_below c said.0) in
-    let spare = room digits n place few within so_far in
-    omega arith
-
--- and is read
-pub hexadecimal_goes : (digits : List ℕ) (n d place : ℕ) → length digits ≤ 32 → place < length digits
-    → IsHexadecimalTo digits n place → digit (get_or digits place 0) ≡ Some d
-    → IsHexadecimalTo digits (n * 16 + d) (place + 1)
-hexadecimal_goes digits n d place few within so_far e =
-    let c = get_or digits place 0 in
-    let said = is_said (is_digit_of Sixteen c) (digit_value c) d e in
-    let value : digit_value c ≡ d = said.1 in
-    let small : d < 16 = subst (λ v. v < 16) value (digit_below c said.0) in
-    let fits = hexadecimal_fits digits n d place few within so_far e in
-    let tested : nat_lt (n * 16 + digit_value c) (2 ^ 128) ≡ true = lt-ltb _ _ (rw value fits) in
-    record {
-      read = read_goes Sixteen digits n (n * 16 + d) place within so_far.read
-          (rw (said.0, tested) (ap (λ v. Some (n * 16 + v)) value));
-      below = digit_more 16 n d place so_far.below small;
-    }

@@ -1,4 +1,3 @@
-pub mod Numerals
 pub mod HexadecimalNumbers
 pub mod Hexadecimals
 pub mod FlagNames

@@ -2,9 +2,8 @@
 use Rattle.std.specs.Prelude.{ℕ, ◌^◌, Bool, false, true, not, ◌&&◌, ◌==◌, nat_lt, nat_le, if◌then◌else◌, List, [], ◌∷◌, length, take, drop, slice_index_or, codes, Option, Some, None, ok_or, Result, Ok, Err}
 use Rattle.rustc_apfloat.specs.declared.Round.{Round}
 use Rattle.rustc_apfloat.specs.Digits.{same, every, is_empty, is_hexadecimal, number}
-use Rattle.apfloat_base.specs.declared.marks.Radix.{Radix}
 use Rattle.apfloat_base.specs.declared.marks.Radix.TheVariants.{Ten}
-use Rattle.apfloat_base.specs.texts.Specials.{base_of, is_digit_of}
+use Rattle.apfloat_base.specs.texts.Specials.{number_of_digits}
 use Rattle.apfloat_base.specs.declared.parse_error.Fault.{Fault}
 use Rattle.rustc_apfloat.specs.Faults.{fault_of, words}
 use Rattle.dispatch.specs.declared.Arithmetic.{Arithmetic}
@@ -73,14 +72,6 @@ bits_of_digits width digits = if are_bits width digits then Some (number 16 digi
 
 abbrev pub bits_of_word : ℕ → List ℕ → Option ℕ
 bits_of_word width word = bits_of_digits width (after_0x word)
-
--- one or more digits of a number below 2 ^ 128
-abbrev pub is_number : Radix → List ℕ → Bool
-is_number radix digits =
-    not (is_empty digits) && every (is_digit_of radix) digits && nat_lt (number (base_of radix) digits) (2 ^ 128)
-
-abbrev pub number_of_digits : Radix → List ℕ → Option ℕ
-number_of_digits radix digits = if is_number radix digits then Some (number (base_of radix) digits) else None
 
 -- decimal digits
 abbrev pub whole_number_of : List ℕ → Option ℕ

@@ -1,14 +1,12 @@
 //! The words of a command: names, whole numbers, and bits.
 
-ghost use Rattle.std.specs.Prelude.{◌≡◌, ◌≤◌, Some, None, Ok, Err, ◌+◌, ◌*◌, ◌^◌, ◌&&◌, length, nat_lt, if◌then◌else◌};
+ghost use Rattle.std.specs.Prelude.{◌≡◌, Ok, Err, ◌^◌, nat_lt};
 ghost use Rattle.std.specs.Result.{MatchResult};
-ghost use Rattle.rustc_apfloat.specs.Digits.{digit_value};
-ghost use Rattle.apfloat_base.specs.declared.marks.Radix.TheVariants.{Sixteen};
-ghost use Rattle.apfloat_base.specs.texts.Specials.{base_of, is_digit_of};
-ghost use Rattle.commands.specs.Commands.{bits_of_digits, bits_of_word, found, named, number_of_digits, operations, whole_number_of};
+ghost use Rattle.commands.specs.Commands.{bits_of_digits, bits_of_word, found, named, operations, whole_number_of};
 
 use crate::operation::Operation;
 use apfloat_base::marks::Radix;
+use apfloat_texts::number_of_digits;
 use dispatch::{Arithmetic, mode_named};
 use rustc_apfloat::Round;
 
@@ -78,7 +76,7 @@ fn bits_of_digits(digits: &[u8], width: usize) -> Option<u128>
     if digits.len() > 32 {
         return None;
     }
-    let bits = hexadecimal_number(digits)?;
+    let bits = number_of_digits(Radix::Sixteen, digits)?;
     if is_within(bits, width) {
         Some(bits)
     } else {
@@ -91,59 +89,4 @@ fn is_within(number: u128, width: usize) -> bool
     ensures { result ≡ nat_lt number (2 ^ width) }
 {
     width >= 128 || number < 1 << width
-}
-
-/// The number that 1 to 32 hexadecimal digits stand for.
-fn hexadecimal_number(digits: &[u8]) -> Option<u128>
-    requires { length digits.now ≤ 32 }
-    ensures { result ≡ number_of_digits Sixteen digits.now }
-{
-    if digits.is_empty() {
-        return None;
-    }
-    let mut number = 0;
-    for byte in digits {
-        let digit = digit_of(Radix::Sixteen, *byte)?;
-        // 32 digits fill a u128.
-        number = number * 16 + u128::from(digit);
-    }
-    Some(number)
-}
-
-/// The whole number that one or more digits stand for, if it is below 2^128.
-fn number_of_digits(radix: Radix, digits: &[u8]) -> Option<u128>
-    ensures { result ≡ number_of_digits radix digits.now }
-{
-    if digits.is_empty() {
-        return None;
-    }
-    let mut number = 0;
-    for byte in digits {
-        number = with_digit(radix, number, *byte)?;
-    }
-    Some(number)
-}
-
-/// A whole number followed by one more digit, if that is below 2^128.
-fn with_digit(radix: Radix, number: u128, byte: u8) -> Option<u128>
-    ensures { let longer = number * base_of radix + digit_value byte in
-        result ≡ (if is_digit_of radix byte && nat_lt longer (2 ^ 128) then Some longer else None) }
-{
-    let digit = digit_of(radix, byte)?;
-    number
-        .checked_mul(radix.base())?
-        .checked_add(u128::from(digit))
-}
-
-/// The value of a digit.
-fn digit_of(radix: Radix, byte: u8) -> Option<u8>
-    ensures { result ≡ (if is_digit_of radix byte then Some (digit_value byte) else None) }
-{
-    match (radix, byte) {
-        (Radix::Sixteen, b'A'..=b'F') => Some(byte - b'A' + 10),
-        (Radix::Sixteen, b'a'..=b'f') => Some(byte - b'a' + 10),
-        (Radix::Sixteen | Radix::Ten, b'0'..=b'9') => Some(byte - b'0'),
-        (Radix::Eight, b'0'..=b'7') => Some(byte - b'0'),
-        _ => None,
-    }
 }

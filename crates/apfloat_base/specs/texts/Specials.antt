@@ -61,14 +61,14 @@ base_of Eight = 8
 base_of Ten = 10
 
 -- one or more digits, of a whole number below 2 ^ 128
-abbrev pub payload_of_digits : Radix → List ℕ → Option ℕ
-payload_of_digits radix digits =
+abbrev pub number_of_digits : Radix → List ℕ → Option ℕ
+number_of_digits radix digits =
     if not (is_empty digits) && every (is_digit_of radix) digits && ltb (number (base_of radix) digits) (2 ^ 128)
     then Some (number (base_of radix) digits)
     else None
 
 abbrev pub plain_payload : List ℕ → Option ℕ
-plain_payload text = payload_of_digits (radix_of text) (after_plus (after_prefix (radix_of text) text))
+plain_payload text = number_of_digits (radix_of text) (after_plus (after_prefix (radix_of text) text))
 
 -- the text without its first and last characters
 abbrev pub inside : List ℕ → List ℕ

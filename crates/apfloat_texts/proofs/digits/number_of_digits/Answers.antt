@@ -2,7 +2,7 @@ use Rattle.std.proofs.Common.{◌∙◌, List, ℕ, sym}
 use Rattle.apfloat_texts.specs.Payloads.{IsPayloadRead}
 use Rattle.apfloat_base.proofs.general.ListLaws.{parted}
 use Rattle.apfloat_texts.proofs.Payloads.{payload_stops, payload_goes}
-use Rattle.apfloat_texts.proofs.payload.number_of.Goals as goal
+use Rattle.apfloat_texts.proofs.digits.number_of_digits.Goals as goal
 
 pub returns-in_err-number : goal.returns-in_err-number
 returns-in_err-number c =

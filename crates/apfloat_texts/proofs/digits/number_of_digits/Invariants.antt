@@ -1,6 +1,6 @@
 use Rattle.std.proofs.Common.{length}
 use Rattle.apfloat_texts.specs.Payloads.{IsPayloadRead}
-use Rattle.apfloat_texts.proofs.payload.number_of.Given as goal
+use Rattle.apfloat_texts.proofs.digits.number_of_digits.Given as goal
 
 abbrev pub invariant-loop-left : goal.invariant-loop-left
 invariant-loop-left l = IsPayloadRead l.radix l.digits l.left l.number
