@@ -5,7 +5,7 @@ ghost use Rattle.std.specs.Prelude.{◌≡◌, ◌<◌, pos};
 ghost use Rattle.rustc_apfloat.specs.FlaggedTypes.{constants_of};
 ghost use Rattle.dispatch.specs.declared.Arithmetic.TheVariants.{Sum, Difference, Product, Quotient, NearestRemainder, TruncatedRemainder};
 ghost use Rattle.dispatch.specs.Relations.{relations_of};
-ghost use Rattle.dispatch.specs.ValueKinds.{of_format, of_pairs, value_of};
+ghost use Rattle.dispatch.specs.ValueKinds.{of_format, value_of};
 ghost use Rattle.apfloat_c.specs.declared.exported_call.ExportedCall.TheVariants.{OfTwo, FusedSum, SquareRoot, FromUnsigned, FromSigned, ToUnsigned, ToSigned, RoundToIntegral, Scaling, Fraction, Conversion, Text};
 ghost use Rattle.apfloat_c.specs.Answers.{FractionFits, IsConvertedInto, IsKindAnswer, IsLeft, IsNumber, IsTypeAnswer, IsTypeLeft, IsValue, IsWritten, class_of, order_code};
 

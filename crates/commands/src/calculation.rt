@@ -1,6 +1,6 @@
 //! Calculates the operation of a command in the values of a kind.
 
-ghost use Rattle.std.specs.Prelude.{◌≡◌, ◌≤◌, ◌<◌, true};
+ghost use Rattle.std.specs.Prelude.{◌≡◌, ◌≤◌, ◌<◌};
 ghost use Rattle.rustc_apfloat.specs.Types.{constants_of};
 ghost use Rattle.dispatch.specs.Relations.{in_format, relations_of};
 ghost use Rattle.commands.specs.Commands.{calculation, commanded, provided, type_has, with_operands, with_text, with_three, with_two, with_whole_number};

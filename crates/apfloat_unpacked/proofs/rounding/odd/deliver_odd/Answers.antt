@@ -65,16 +65,16 @@ returns-clause-delivered c = λ amount h.
     × ((u +ℤ pos c.digits-digits.result) ≤ℤ pos c.args.shape.precision)) =
     elim c.else-digits-gt0.branch [
       | else-digits-gt0-via-then-digits-gt0+else-unit-digits w ↦ inr (
-          s,
-          omega (
-            arith,
-            ints,
-            w.if-unit-digits.false,
-            c.args.shape.parameters,
-            c.unit_place-unit.ensures.within,
-            c.digits-digits.ensures.bound,
-          )
-          )
+        s,
+        omega (
+          arith,
+          ints,
+          w.if-unit-digits.false,
+          c.args.shape.parameters,
+          c.unit_place-unit.ensures.within,
+          c.digits-digits.ensures.bound,
+        ),
+      )
       | else-digits-gt0-via-else-digits-gt0 w ↦
           let z : c.digits-digits.result ≡ 0 = omega (arith, w.if-digits-gt0.false) in
           let k : c.args.significand < 2 ^ 0 = subst (λ (x : ℕ). c.args.significand < 2 ^ x) z s in
