@@ -17,12 +17,12 @@ use Rattle.apfloat_base.proofs.texts.EachText.{no_fault_meaning}
 use Rattle.apfloat_c.proofs.ExponentWords.{frexp_fits}
 use Rattle.apfloat_c.proofs.MeaningfulTexts.{meaningful_ascii}
 use Rattle.dispatch.specs.Relations.{in_format, in_pairs}
-use Rattle.dispatch.specs.ValueKinds.{Kind, value_of}
+use Rattle.dispatch.specs.ValueKinds.{Kind, of_format, of_pairs, value_of}
 use Rattle.apfloat_c.specs.declared.data.Answer.{Answer}
 use Rattle.apfloat_c.specs.declared.exported_call.ExportedCall.{ExportedCall}
-use Rattle.apfloat_c.specs.declared.exported_call.ExportedCall.TheVariants.{Fraction}
+use Rattle.apfloat_c.specs.declared.exported_call.ExportedCall.TheVariants.{Conversion, Fraction, FusedSum}
 use Rattle.apfloat_c.specs.KnownCalls.{answered, is_text, unless, without}
-use Rattle.apfloat_c.specs.Answers.{FractionFits, IsKindAnswer, IsLeftBy, IsReturned}
+use Rattle.apfloat_c.specs.Answers.{FractionFits, IsKindAnswer, IsLeft, IsLeftBy, IsReturned, IsTypeLeft}
 
 -- where the test holds, a call leaves an answer
 pub answered_if : (holds : Bool) (error : ℕ) (Holds : Answer → Type 0) (old answer : Answer)
@@ -52,6 +52,21 @@ pub left_returned : (fault : Option ℕ) (kind : Kind) (mode : Round) (call : Ex
     → IsReturned (without fault (record { kind = kind; mode = mode; call = call })) old new code
 left_returned None kind mode call old new code left = left
 left_returned (Some fault) kind mode call old new code left = left
+
+-- what a call of every type leaves in a format
+pub left_in_format : (constants : Constants) (mode : Round) (call : ExportedCall) (old new : Answer) (code : ℕ)
+    → IsTypeLeft (in_format constants) mode call old new code
+    → IsLeft (of_format constants) mode call old new code
+left_in_format constants mode (FusedSum x y z) old new code left = absurd left.1
+left_in_format constants mode (Conversion x target) old new code left = absurd left.1
+left_in_format constants mode call old new code left = left
+
+-- and in pairs
+pub left_in_pairs : (mode : Round) (call : ExportedCall) (old new : Answer) (code : ℕ)
+    → IsTypeLeft in_pairs mode call old new code → IsLeft of_pairs mode call old new code
+left_in_pairs mode (FusedSum x y z) old new code left = absurd left.1
+left_in_pairs mode (Conversion x target) old new code left = absurd left.1
+left_in_pairs mode call old new code left = left
 
 -- ---- fractions
 

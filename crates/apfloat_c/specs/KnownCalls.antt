@@ -7,7 +7,7 @@ use Rattle.rustc_apfloat.specs.Faults.{fault_of}
 use Rattle.dispatch.specs.declared.FlaggedKind.{FlaggedKind}
 use Rattle.dispatch.specs.declared.FlaggedKind.TheVariants.{OfFormat, Pairs}
 use Rattle.dispatch.specs.FlaggedKinds.{flagged_kind_of}
-use Rattle.dispatch.specs.ValueKinds.{Kind, of_format}
+use Rattle.dispatch.specs.ValueKinds.{Kind, of_format, of_pairs}
 use Rattle.apfloat_c.specs.declared.exported_call.ExportedCall.{ExportedCall}
 use Rattle.apfloat_c.specs.declared.exported_call.ExportedCall.TheVariants.{FusedSum, ToUnsigned, ToSigned, Conversion, Text}
 
@@ -54,19 +54,19 @@ abbrev pub unknown_target : Option FlaggedKind → ℕ
 unknown_target None = unknown_format
 unknown_target (Some target) = no_such_operation
 
--- what a type refuses: no type has fused sums, and none is converted
+-- what a type refuses; fused sums and conversions are not calls of a type
 abbrev pub type_fault : ExportedCall → Option ℕ
-type_fault (FusedSum x y z) = Some no_such_operation
 type_fault (ToUnsigned x width) = width_fault 1 width
 type_fault (ToSigned x width) = width_fault 2 width
-type_fault (Conversion x target) = Some (unknown_target target)
 type_fault (Text text) = unless (is_text text.now) refused_text
 type_fault call = None
 
--- formats have the fused sum, and are converted to formats
+-- formats have the fused sum, and are converted to formats; pairs have neither
 abbrev pub fault_in : Kind → ExportedCall → Option ℕ
 fault_in (of_format c) (FusedSum x y z) = None
 fault_in (of_format c) (Conversion x target) = target_fault target
+fault_in of_pairs (FusedSum x y z) = Some no_such_operation
+fault_in of_pairs (Conversion x target) = Some (unknown_target target)
 fault_in kind call = type_fault call
 
 -- ---- what is asked

@@ -7,13 +7,27 @@ ghost use Rattle.apfloat_c.specs.Answers.{IsReturned};
 
 use crate::codes::UNKNOWN_FORMAT;
 use crate::data::Answer;
-use crate::operations::{InMode, Operation};
+use crate::operations::{InMode, InType, KindOperation, Operation};
 use dispatch::FlaggedKind;
 
 /// Computes a call in the values of a code, and returns 0 or the code of the first error; on an error the answer is
 /// unchanged.
 #[inline(always)]
 pub fn reply<O: Operation>(format: u32, mode: u32, operation: O, answer: &mut Answer) -> u32
+    ensures { IsReturned (known_call (flagged_kind_coded format) (mode_coded mode)
+        (O.call operation)) answer.old answer.new result }
+{
+    reply_in_kind(format, mode, InType { operation }, answer)
+}
+
+/// Computes a call that differs in formats and in pairs of doubles, as `reply` does those that every type has.
+#[inline(always)]
+pub fn reply_in_kind<O: KindOperation>(
+    format: u32,
+    mode: u32,
+    operation: O,
+    answer: &mut Answer,
+) -> u32
     ensures { IsReturned (known_call (flagged_kind_coded format) (mode_coded mode)
         (O.call operation)) answer.old answer.new result }
 {

@@ -10,7 +10,7 @@ ghost use Rattle.dispatch.specs.Modes.{mode_coded};
 ghost use Rattle.apfloat_c.specs.KnownCalls.{known_call};
 ghost use Rattle.apfloat_c.specs.Answers.{IsReturned, whole};
 
-use crate::by_code::reply;
+use crate::by_code::{reply, reply_in_kind};
 use crate::codes::NEAREST_EVEN;
 use crate::data::{Answer, Halves};
 use crate::operations::{
@@ -166,7 +166,7 @@ pub extern "C" fn apfloat_fma(
         IsReturned (known_call (flagged_kind_coded format) (mode_coded mode) call)
         answer.old answer.new result }
 {
-    reply(
+    reply_in_kind(
         format,
         mode,
         FusedSumCall {
@@ -201,7 +201,7 @@ pub extern "C" fn apfloat_convert(
         IsReturned (known_call (flagged_kind_coded format) (mode_coded mode) call)
         answer.old answer.new result }
 {
-    reply(format, mode, ConversionCall { x: x.number(), to }, answer)
+    reply_in_kind(format, mode, ConversionCall { x: x.number(), to }, answer)
 }
 
 /// A whole number as a value, rounded once.
@@ -354,7 +354,7 @@ pub extern "C" fn apfloat_frexp(format: u32, mode: u32, x: Halves, answer: &mut 
         IsReturned (known_call (flagged_kind_coded format) (mode_coded mode) call)
         answer.old answer.new result }
 {
-    reply(format, mode, FractionCall { x: x.number() }, answer)
+    reply_in_kind(format, mode, FractionCall { x: x.number() }, answer)
 }
 
 /// The least value above the operand.

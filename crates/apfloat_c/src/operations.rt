@@ -4,11 +4,12 @@ ghost use Rattle.std.specs.Prelude.{◌<◌};
 ghost use Rattle.rustc_apfloat.specs.FlaggedTypes.{constants_of};
 ghost use Rattle.dispatch.specs.FlaggedKinds.{flagged_kind_coded};
 ghost use Rattle.dispatch.specs.Modes.{mode_coded};
+ghost use Rattle.dispatch.specs.Relations.{relations_of};
 ghost use Rattle.dispatch.specs.ValueKinds.{of_format, of_pairs};
 ghost use Rattle.dispatch.specs.declared.Arithmetic.TheVariants.{Sum, Difference, Product, Quotient, NearestRemainder, TruncatedRemainder};
 ghost use Rattle.apfloat_c.specs.declared.exported_call.ExportedCall.{ExportedCall};
 ghost use Rattle.apfloat_c.specs.declared.exported_call.ExportedCall.TheVariants.{OfTwo, FusedSum, SquareRoot, FromUnsigned, FromSigned, ToUnsigned, ToSigned, RoundToIntegral, Scaling, Fraction, Exponent, NextUp, NextDown, Comparison, Class, Conversion, Text};
-ghost use Rattle.apfloat_c.specs.Answers.{IsLeft, IsReturned};
+ghost use Rattle.apfloat_c.specs.Answers.{IsLeft, IsReturned, IsTypeLeft};
 ghost use Rattle.apfloat_c.specs.KnownCalls.{known_in};
 
 use crate::answers::{
@@ -18,13 +19,25 @@ use crate::answers::{
 };
 use crate::codes::{ANSWERED, NO_SUCH_OPERATION, UNKNOWN_FORMAT, UNKNOWN_MODE};
 use crate::data::Answer;
-use dispatch::{FillsInFormat, FillsInKind, FlaggedKind, mode_coded};
+use dispatch::{FillsInFormat, FillsInKind, FlaggedKind, ValueType, mode_coded};
 use rustc_apfloat::ieee::{Flagged, IeeeFloat};
 use rustc_apfloat::ppc::DoubleDouble;
 use rustc_apfloat::{Float, Round};
 
-/// A call with its operands.
+/// A call with its operands, which every type of values has.
 pub trait Operation: Copy {
+    // Which call it is.
+    ghost call: { Self → ExportedCall };
+
+    /// Makes the call in the values of a type.
+    fn made_in<V: ValueType>(self, round: Round, answer: &mut Answer) -> u32
+        requires { V.PRECISION < V.BITS }
+        ensures { let of_type = relations_of V.Float.own V.partial_cmp V.takes_root in
+            IsTypeLeft of_type round (call self) answer.old answer.new result };
+}
+
+/// A call with its operands, which differs in formats and in pairs of doubles.
+pub trait KindOperation: Copy {
     // Which call it is.
     ghost call: { Self → ExportedCall };
 
@@ -39,6 +52,27 @@ pub trait Operation: Copy {
         ensures { IsLeft of_pairs round (call self) answer.old answer.new result };
 }
 
+/// A call of every type of values, in the type that a kind of values has.
+#[derive(Clone, Copy)]
+pub struct InType<O> {
+    /// The call.
+    pub operation: O,
+}
+
+impl<O: Operation> KindOperation for InType<O> {
+    ghost call = { λ it. O.call it.operation };
+
+    #[inline(always)]
+    fn in_format<S: Flagged>(self, round: Round, answer: &mut Answer) -> u32 {
+        self.operation.made_in::<IeeeFloat<S>>(round, answer)
+    }
+
+    #[inline(always)]
+    fn in_pairs(self, round: Round, answer: &mut Answer) -> u32 {
+        self.operation.made_in::<DoubleDouble>(round, answer)
+    }
+}
+
 /// A call with the code of its rounding mode.
 #[derive(Clone, Copy)]
 pub struct InMode<O> {
@@ -48,7 +82,7 @@ pub struct InMode<O> {
     pub operation: O,
 }
 
-impl<O: Operation> FillsInFormat for InMode<O> {
+impl<O: KindOperation> FillsInFormat for InMode<O> {
     type Place = Answer;
 
     type Output = u32;
@@ -65,7 +99,7 @@ impl<O: Operation> FillsInFormat for InMode<O> {
     }
 }
 
-impl<O: Operation> FillsInKind for InMode<O> {
+impl<O: KindOperation> FillsInKind for InMode<O> {
     #[inline(always)]
     fn fill_in_pairs(self, answer: &mut Answer) -> u32 {
         match mode_coded(self.mode) {
@@ -88,14 +122,8 @@ impl Operation for SumCall {
     ghost call = { λ it. OfTwo Sum it.x it.y };
 
     #[inline(always)]
-    fn in_format<S: Flagged>(self, round: Round, answer: &mut Answer) -> u32 {
-        sum::<IeeeFloat<S>>(answer, round, self.x, self.y);
-        ANSWERED
-    }
-
-    #[inline(always)]
-    fn in_pairs(self, round: Round, answer: &mut Answer) -> u32 {
-        sum::<DoubleDouble>(answer, round, self.x, self.y);
+    fn made_in<V: ValueType>(self, round: Round, answer: &mut Answer) -> u32 {
+        sum::<V>(answer, round, self.x, self.y);
         ANSWERED
     }
 }
@@ -113,14 +141,8 @@ impl Operation for DifferenceCall {
     ghost call = { λ it. OfTwo Difference it.x it.y };
 
     #[inline(always)]
-    fn in_format<S: Flagged>(self, round: Round, answer: &mut Answer) -> u32 {
-        difference::<IeeeFloat<S>>(answer, round, self.x, self.y);
-        ANSWERED
-    }
-
-    #[inline(always)]
-    fn in_pairs(self, round: Round, answer: &mut Answer) -> u32 {
-        difference::<DoubleDouble>(answer, round, self.x, self.y);
+    fn made_in<V: ValueType>(self, round: Round, answer: &mut Answer) -> u32 {
+        difference::<V>(answer, round, self.x, self.y);
         ANSWERED
     }
 }
@@ -138,14 +160,8 @@ impl Operation for ProductCall {
     ghost call = { λ it. OfTwo Product it.x it.y };
 
     #[inline(always)]
-    fn in_format<S: Flagged>(self, round: Round, answer: &mut Answer) -> u32 {
-        product::<IeeeFloat<S>>(answer, round, self.x, self.y);
-        ANSWERED
-    }
-
-    #[inline(always)]
-    fn in_pairs(self, round: Round, answer: &mut Answer) -> u32 {
-        product::<DoubleDouble>(answer, round, self.x, self.y);
+    fn made_in<V: ValueType>(self, round: Round, answer: &mut Answer) -> u32 {
+        product::<V>(answer, round, self.x, self.y);
         ANSWERED
     }
 }
@@ -163,14 +179,8 @@ impl Operation for QuotientCall {
     ghost call = { λ it. OfTwo Quotient it.x it.y };
 
     #[inline(always)]
-    fn in_format<S: Flagged>(self, round: Round, answer: &mut Answer) -> u32 {
-        quotient::<IeeeFloat<S>>(answer, round, self.x, self.y);
-        ANSWERED
-    }
-
-    #[inline(always)]
-    fn in_pairs(self, round: Round, answer: &mut Answer) -> u32 {
-        quotient::<DoubleDouble>(answer, round, self.x, self.y);
+    fn made_in<V: ValueType>(self, round: Round, answer: &mut Answer) -> u32 {
+        quotient::<V>(answer, round, self.x, self.y);
         ANSWERED
     }
 }
@@ -188,14 +198,8 @@ impl Operation for NearestRemainderCall {
     ghost call = { λ it. OfTwo NearestRemainder it.x it.y };
 
     #[inline(always)]
-    fn in_format<S: Flagged>(self, round: Round, answer: &mut Answer) -> u32 {
-        nearest_remainder::<IeeeFloat<S>>(answer, round, self.x, self.y);
-        ANSWERED
-    }
-
-    #[inline(always)]
-    fn in_pairs(self, round: Round, answer: &mut Answer) -> u32 {
-        nearest_remainder::<DoubleDouble>(answer, round, self.x, self.y);
+    fn made_in<V: ValueType>(self, round: Round, answer: &mut Answer) -> u32 {
+        nearest_remainder::<V>(answer, round, self.x, self.y);
         ANSWERED
     }
 }
@@ -213,14 +217,8 @@ impl Operation for TruncatedRemainderCall {
     ghost call = { λ it. OfTwo TruncatedRemainder it.x it.y };
 
     #[inline(always)]
-    fn in_format<S: Flagged>(self, round: Round, answer: &mut Answer) -> u32 {
-        truncated_remainder::<IeeeFloat<S>>(answer, round, self.x, self.y);
-        ANSWERED
-    }
-
-    #[inline(always)]
-    fn in_pairs(self, round: Round, answer: &mut Answer) -> u32 {
-        truncated_remainder::<DoubleDouble>(answer, round, self.x, self.y);
+    fn made_in<V: ValueType>(self, round: Round, answer: &mut Answer) -> u32 {
+        truncated_remainder::<V>(answer, round, self.x, self.y);
         ANSWERED
     }
 }
@@ -236,7 +234,7 @@ pub struct FusedSumCall {
     pub z: u128,
 }
 
-impl Operation for FusedSumCall {
+impl KindOperation for FusedSumCall {
     ghost call = { λ it. FusedSum it.x it.y it.z };
 
     #[inline(always)]
@@ -262,14 +260,8 @@ impl Operation for SquareRootCall {
     ghost call = { λ it. SquareRoot it.x };
 
     #[inline(always)]
-    fn in_format<S: Flagged>(self, round: Round, answer: &mut Answer) -> u32 {
-        root::<IeeeFloat<S>>(answer, round, self.x);
-        ANSWERED
-    }
-
-    #[inline(always)]
-    fn in_pairs(self, round: Round, answer: &mut Answer) -> u32 {
-        root::<DoubleDouble>(answer, round, self.x);
+    fn made_in<V: ValueType>(self, round: Round, answer: &mut Answer) -> u32 {
+        root::<V>(answer, round, self.x);
         ANSWERED
     }
 }
@@ -285,14 +277,8 @@ impl Operation for FromUnsignedCall {
     ghost call = { λ it. FromUnsigned it.number };
 
     #[inline(always)]
-    fn in_format<S: Flagged>(self, round: Round, answer: &mut Answer) -> u32 {
-        from_unsigned::<IeeeFloat<S>>(answer, round, self.number);
-        ANSWERED
-    }
-
-    #[inline(always)]
-    fn in_pairs(self, round: Round, answer: &mut Answer) -> u32 {
-        from_unsigned::<DoubleDouble>(answer, round, self.number);
+    fn made_in<V: ValueType>(self, round: Round, answer: &mut Answer) -> u32 {
+        from_unsigned::<V>(answer, round, self.number);
         ANSWERED
     }
 }
@@ -308,14 +294,8 @@ impl Operation for FromSignedCall {
     ghost call = { λ it. FromSigned it.number };
 
     #[inline(always)]
-    fn in_format<S: Flagged>(self, round: Round, answer: &mut Answer) -> u32 {
-        from_signed::<IeeeFloat<S>>(answer, round, self.number);
-        ANSWERED
-    }
-
-    #[inline(always)]
-    fn in_pairs(self, round: Round, answer: &mut Answer) -> u32 {
-        from_signed::<DoubleDouble>(answer, round, self.number);
+    fn made_in<V: ValueType>(self, round: Round, answer: &mut Answer) -> u32 {
+        from_signed::<V>(answer, round, self.number);
         ANSWERED
     }
 }
@@ -333,13 +313,8 @@ impl Operation for ToUnsignedCall {
     ghost call = { λ it. ToUnsigned it.x it.width };
 
     #[inline(always)]
-    fn in_format<S: Flagged>(self, round: Round, answer: &mut Answer) -> u32 {
-        to_unsigned::<IeeeFloat<S>>(answer, round, self.x, self.width)
-    }
-
-    #[inline(always)]
-    fn in_pairs(self, round: Round, answer: &mut Answer) -> u32 {
-        to_unsigned::<DoubleDouble>(answer, round, self.x, self.width)
+    fn made_in<V: ValueType>(self, round: Round, answer: &mut Answer) -> u32 {
+        to_unsigned::<V>(answer, round, self.x, self.width)
     }
 }
 
@@ -356,13 +331,8 @@ impl Operation for ToSignedCall {
     ghost call = { λ it. ToSigned it.x it.width };
 
     #[inline(always)]
-    fn in_format<S: Flagged>(self, round: Round, answer: &mut Answer) -> u32 {
-        to_signed::<IeeeFloat<S>>(answer, round, self.x, self.width)
-    }
-
-    #[inline(always)]
-    fn in_pairs(self, round: Round, answer: &mut Answer) -> u32 {
-        to_signed::<DoubleDouble>(answer, round, self.x, self.width)
+    fn made_in<V: ValueType>(self, round: Round, answer: &mut Answer) -> u32 {
+        to_signed::<V>(answer, round, self.x, self.width)
     }
 }
 
@@ -377,14 +347,8 @@ impl Operation for RoundToIntegralCall {
     ghost call = { λ it. RoundToIntegral it.x };
 
     #[inline(always)]
-    fn in_format<S: Flagged>(self, round: Round, answer: &mut Answer) -> u32 {
-        round_to_integral::<IeeeFloat<S>>(answer, round, self.x);
-        ANSWERED
-    }
-
-    #[inline(always)]
-    fn in_pairs(self, round: Round, answer: &mut Answer) -> u32 {
-        round_to_integral::<DoubleDouble>(answer, round, self.x);
+    fn made_in<V: ValueType>(self, round: Round, answer: &mut Answer) -> u32 {
+        round_to_integral::<V>(answer, round, self.x);
         ANSWERED
     }
 }
@@ -402,14 +366,8 @@ impl Operation for ScalingCall {
     ghost call = { λ it. Scaling it.x it.power };
 
     #[inline(always)]
-    fn in_format<S: Flagged>(self, round: Round, answer: &mut Answer) -> u32 {
-        scaled::<IeeeFloat<S>>(answer, round, self.x, self.power);
-        ANSWERED
-    }
-
-    #[inline(always)]
-    fn in_pairs(self, round: Round, answer: &mut Answer) -> u32 {
-        scaled::<DoubleDouble>(answer, round, self.x, self.power);
+    fn made_in<V: ValueType>(self, round: Round, answer: &mut Answer) -> u32 {
+        scaled::<V>(answer, round, self.x, self.power);
         ANSWERED
     }
 }
@@ -421,7 +379,7 @@ pub struct FractionCall {
     pub x: u128,
 }
 
-impl Operation for FractionCall {
+impl KindOperation for FractionCall {
     ghost call = { λ it. Fraction it.x };
 
     #[inline(always)]
@@ -452,14 +410,8 @@ impl Operation for ExponentCall {
     ghost call = { λ it. Exponent it.x };
 
     #[inline(always)]
-    fn in_format<S: Flagged>(self, round: Round, answer: &mut Answer) -> u32 {
-        exponent::<IeeeFloat<S>>(answer, self.x);
-        ANSWERED
-    }
-
-    #[inline(always)]
-    fn in_pairs(self, round: Round, answer: &mut Answer) -> u32 {
-        exponent::<DoubleDouble>(answer, self.x);
+    fn made_in<V: ValueType>(self, round: Round, answer: &mut Answer) -> u32 {
+        exponent::<V>(answer, self.x);
         ANSWERED
     }
 }
@@ -475,14 +427,8 @@ impl Operation for NextUpCall {
     ghost call = { λ it. NextUp it.x };
 
     #[inline(always)]
-    fn in_format<S: Flagged>(self, round: Round, answer: &mut Answer) -> u32 {
-        next_up::<IeeeFloat<S>>(answer, self.x);
-        ANSWERED
-    }
-
-    #[inline(always)]
-    fn in_pairs(self, round: Round, answer: &mut Answer) -> u32 {
-        next_up::<DoubleDouble>(answer, self.x);
+    fn made_in<V: ValueType>(self, round: Round, answer: &mut Answer) -> u32 {
+        next_up::<V>(answer, self.x);
         ANSWERED
     }
 }
@@ -498,14 +444,8 @@ impl Operation for NextDownCall {
     ghost call = { λ it. NextDown it.x };
 
     #[inline(always)]
-    fn in_format<S: Flagged>(self, round: Round, answer: &mut Answer) -> u32 {
-        next_down::<IeeeFloat<S>>(answer, self.x);
-        ANSWERED
-    }
-
-    #[inline(always)]
-    fn in_pairs(self, round: Round, answer: &mut Answer) -> u32 {
-        next_down::<DoubleDouble>(answer, self.x);
+    fn made_in<V: ValueType>(self, round: Round, answer: &mut Answer) -> u32 {
+        next_down::<V>(answer, self.x);
         ANSWERED
     }
 }
@@ -523,14 +463,8 @@ impl Operation for ComparisonCall {
     ghost call = { λ it. Comparison it.x it.y };
 
     #[inline(always)]
-    fn in_format<S: Flagged>(self, round: Round, answer: &mut Answer) -> u32 {
-        comparison::<IeeeFloat<S>>(answer, self.x, self.y);
-        ANSWERED
-    }
-
-    #[inline(always)]
-    fn in_pairs(self, round: Round, answer: &mut Answer) -> u32 {
-        comparison::<DoubleDouble>(answer, self.x, self.y);
+    fn made_in<V: ValueType>(self, round: Round, answer: &mut Answer) -> u32 {
+        comparison::<V>(answer, self.x, self.y);
         ANSWERED
     }
 }
@@ -546,14 +480,8 @@ impl Operation for ClassCall {
     ghost call = { λ it. Class it.x };
 
     #[inline(always)]
-    fn in_format<S: Flagged>(self, round: Round, answer: &mut Answer) -> u32 {
-        class::<IeeeFloat<S>>(answer, self.x);
-        ANSWERED
-    }
-
-    #[inline(always)]
-    fn in_pairs(self, round: Round, answer: &mut Answer) -> u32 {
-        class::<DoubleDouble>(answer, self.x);
+    fn made_in<V: ValueType>(self, round: Round, answer: &mut Answer) -> u32 {
+        class::<V>(answer, self.x);
         ANSWERED
     }
 }
@@ -567,7 +495,7 @@ pub struct ConversionCall {
     pub to: u32,
 }
 
-impl Operation for ConversionCall {
+impl KindOperation for ConversionCall {
     ghost call = { λ it. Conversion it.x (flagged_kind_coded it.to) };
 
     #[inline(always)]
@@ -595,12 +523,7 @@ impl Operation for TextCall<'_> {
     ghost call = { λ it. Text it.text };
 
     #[inline(always)]
-    fn in_format<S: Flagged>(self, round: Round, answer: &mut Answer) -> u32 {
-        read::<IeeeFloat<S>>(answer, round, self.text)
-    }
-
-    #[inline(always)]
-    fn in_pairs(self, round: Round, answer: &mut Answer) -> u32 {
-        read::<DoubleDouble>(answer, round, self.text)
+    fn made_in<V: ValueType>(self, round: Round, answer: &mut Answer) -> u32 {
+        read::<V>(answer, round, self.text)
     }
 }

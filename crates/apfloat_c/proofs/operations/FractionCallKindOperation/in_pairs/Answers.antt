@@ -1,7 +1,7 @@
 use Rattle.std.proofs.Common.{refl}
 use Rattle.apfloat_c.specs.declared.exported_call.ExportedCall.TheVariants.{Fraction}
 use Rattle.apfloat_c.proofs.WrittenAnswers.{pair_fraction_fits}
-use Rattle.apfloat_c.proofs.operations.FractionCallOperation.in_pairs.Goals as goal
+use Rattle.apfloat_c.proofs.operations.FractionCallKindOperation.in_pairs.Goals as goal
 
 pub fraction-requires-clause-fits : goal.fraction-requires-clause-fits
 fraction-requires-clause-fits c =

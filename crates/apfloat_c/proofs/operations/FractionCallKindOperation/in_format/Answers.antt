@@ -2,7 +2,7 @@ use Rattle.std.proofs.Common.{refl}
 use Rattle.apfloat_c.specs.declared.exported_call.ExportedCall.TheVariants.{Fraction}
 use Rattle.rustc_apfloat.specs.FlaggedTypes.{constants_of}
 use Rattle.apfloat_c.proofs.WrittenAnswers.{fraction_fits}
-use Rattle.apfloat_c.proofs.operations.FractionCallOperation.in_format.Goals as goal
+use Rattle.apfloat_c.proofs.operations.FractionCallKindOperation.in_format.Goals as goal
 
 pub fraction-requires-clause-fits : goal.fraction-requires-clause-fits
 fraction-requires-clause-fits g c =
