@@ -1,0 +1,353 @@
+#!/usr/bin/env python3
+"""Shows that each mistake with a name gives a wrong result on a row that tells it apart. It needs `rt`.
+
+    python3 evidence/mistakes.py [--jobs N] [--list] [MISTAKE..]
+
+Each mistake is one or more edits of a crate, `crates/CRATE/must-fail/MISTAKE*.edit`, one for each way that a built-in
+format takes to the result. Each edit is made in a copy of the checkout, where the programs `vectors` and `check_vectors`
+then compute a row without a proof (`rt try`). It prints the mistake, the edit, the row, the right result and the wrong
+one, and how many seconds that took. The right results are also computed by the model (`exact`), first of all. The
+status is 1 if a result with an edit is the right one, or if there is none; --list only prints the rows.
+
+A result "none" means that the program stopped, for example at an overflow.
+"""
+
+import argparse
+import queue
+import re
+import shutil
+import subprocess
+import sys
+import tempfile
+import time
+from concurrent.futures import ThreadPoolExecutor
+from pathlib import Path
+
+import rows
+
+TOP = Path(__file__).resolve().parent.parent
+
+# A tie of the least number of half, but for a digit after forty zeros.
+JUST_ABOVE_TIE = "half parse even 0x1." + "0" * 40 + "1p-25\t0001 UNDERFLOW|INEXACT"
+# 2^127 + 2^103 + 1, just above the midpoint of two singles.
+LONG_INTEGER = "single int even 170141193601674033557522515689509748737\t7f000001 INEXACT"
+
+THIRD = "half div even 3c00 4200\t3555 INEXACT"
+FIVE_THIRDS = "single div even 40a00000 40400000\t3fd55555 INEXACT"
+LONG_THIRD = "double div even 3ff0000000000000 4008000000000000\t3fd5555555555555 INEXACT"
+PAST_LARGEST = "half add zero 7bff 4c00\t7bff INEXACT"
+HALF_QUANTUM = "half mul even 0001 3800\t0000 UNDERFLOW|INEXACT"
+FUSED = "half fma down 0d89 09c8 8001\t0000 UNDERFLOW|INEXACT"
+CANCELLED = "half fma down 3c00 3c00 bc00\t8000 OK"
+PAIRS_PAST_LARGEST = (
+    "dd add even f9500000000000007fefffffffffffff 00000000000000007c90000000000000\t"
+    "7c8ffffffffffffe7fefffffffffffff INEXACT"
+)
+
+
+def quad(top, rest=""):
+    """The bits of a quad that begin and end with these digits."""
+    return top + "0" * (32 - len(top) - len(rest)) + rest
+
+
+def call(*columns):
+    """A row of a call: its seven columns."""
+    return "\t".join(columns)
+
+
+def wide_fused(mode, operands, value, status):
+    """A row of a fused sum in quad."""
+    return call("wide_mul_add_r", "quad", mode, " ".join(operands), value, status, "-")
+
+
+ONE = quad("3fff")
+QUAD_THIRD = f"quad div even {ONE} {quad('40008')}\t3ffd{'5' * 28} INEXACT"
+# 2^-8247 times 1.5 * 2^-8247, which is one and a half quanta, less a quantum
+QUAD_FUSED = wide_fused(
+    "down", (quad("1fc8"), quad("1fc88"), quad("8", "1")), quad(""), "UNDERFLOW|INEXACT"
+)
+QUAD_CANCELLED = wide_fused("down", (ONE, ONE, quad("bfff")), quad("8"), "OK")
+QUAD_PRODUCT = call(
+    "wide_mul_r", "quad", "even", f"{quad('3fff', '1')} {quad('3fff', '3')}", quad("3fff", "4"), "INEXACT", "-"
+)
+TO_HALF = call("convert_r", "single>half", "even", "33000001", "0001", "UNDERFLOW|INEXACT", "loses_info=true")
+STEPS = call("c_fmod_steps", "half", "-", "7bff 0001", "0000", "OK", "steps=11 bound=40")
+
+# The crate, the edit and its row, for each mistake.
+MISTAKES = {
+    "fused-sum-rounds-twice": [
+        ("apfloat_arithmetic", "", FUSED),
+        ("apfloat_arithmetic", "-wide", QUAD_FUSED),
+    ],
+    "one-guard-bit-no-sticky": [
+        ("apfloat_texts", "", JUST_ABOVE_TIE),
+        ("apfloat_unpacked", "-kernel", JUST_ABOVE_TIE),
+        ("apfloat_unpacked", "-low-word", LONG_INTEGER),
+    ],
+    "overflow-always-infinity": [("apfloat_unpacked", "", PAST_LARGEST)],
+    "underflow-before-rounding": [
+        ("apfloat_unpacked", "", "half mul even 0400 3bff\t0400 INEXACT"),
+        ("apfloat_unpacked", "-odd", "half div up 07fe 3fff\t0400 INEXACT"),
+    ],
+    "exact-zero-keeps-left-sign": [
+        ("apfloat_arithmetic", "", "half sub down 3c00 3c00\t8000 OK"),
+        ("apfloat_arithmetic", "-short-sum", "half sub down 3c00 3c00\t8000 OK"),
+        ("apfloat_arithmetic", "-long-sum", f"quad sub down {ONE} {ONE}\t{quad('8')} OK"),
+        ("apfloat_arithmetic", "-fused-sum", CANCELLED),
+        ("apfloat_arithmetic", "-wide-fused-sum", QUAD_CANCELLED),
+    ],
+    "remainder-rounds-quotient": [("apfloat_arithmetic", "", "half rem even 7bff 4200\tbc00 OK")],
+    "conversion-drops-or-rounds-twice": [
+        ("apfloat_conversions", "", TO_HALF),
+        ("apfloat_conversions", "-rounding", TO_HALF),
+    ],
+    "nan-only-overflow-ignores-sign": [
+        (
+            "apfloat_unpacked",
+            "",
+            call("convert_r", "single>e4m3fn", "up", "c3f00000", "fe", "INEXACT", "loses_info=true"),
+        )
+    ],
+    "text-refuses-everything": [("apfloat_texts", "", "half parse even 0x1.ffep+15\t7c00 OVERFLOW|INEXACT")],
+    "text-reads-32-digits": [("apfloat_texts", "", JUST_ABOVE_TIE)],
+    "text-one-refusal-for-all": [
+        ("apfloat_base", "", "single parse even 0x1\trefused: Hex strings require an exponent")
+    ],
+    "one-quiet-nan-pattern": [("apfloat_unpacked", "", "half add even 7e01 7d00\t7e01 INVALID_OP")],
+    "quotient-rest-more-than-half": [
+        ("apfloat_base", "-few-digits", THIRD),
+        ("apfloat_base", "-guessed-word", FIVE_THIRDS),
+        ("apfloat_base", "-guessed", LONG_THIRD),
+        ("apfloat_arithmetic", "-many-digits", QUAD_THIRD),
+    ],
+    "integer-always-truncates": [
+        ("apfloat_conversions", "", call("to_u128_r", "single", "even", "437f8000 8", "255", "INVALID_OP", "-")),
+        (
+            "apfloat_conversions",
+            "-minus-half-invalid",
+            call("to_u128_r", "single", "zero", "bf000000 8", "0", "INEXACT", "-"),
+        ),
+    ],
+    "always-nan-or-left-operand": [
+        ("apfloat_arithmetic", "-sum", PAST_LARGEST),
+        ("apfloat_arithmetic", "-sum-nan", PAST_LARGEST),
+        ("apfloat_arithmetic", "-product", HALF_QUANTUM),
+        ("apfloat_arithmetic", "-product-nan", HALF_QUANTUM),
+        ("apfloat_arithmetic", "-wide-product", QUAD_PRODUCT),
+        ("apfloat_arithmetic", "-wide-product-nan", QUAD_PRODUCT),
+        ("apfloat_arithmetic", "-quotient", THIRD),
+        ("apfloat_arithmetic", "-quotient-nan", THIRD),
+        ("apfloat_arithmetic", "-fused-sum", FUSED),
+        ("apfloat_arithmetic", "-fused-sum-nan", FUSED),
+        ("apfloat_arithmetic", "-wide-fused-sum", QUAD_FUSED),
+        ("apfloat_arithmetic", "-wide-fused-sum-nan", QUAD_FUSED),
+    ],
+    "status-always-ok": [
+        ("apfloat_unpacked", "", "half parse even 0x1p-25\t0000 UNDERFLOW|INEXACT"),
+        ("apfloat_unpacked", "-cut", THIRD),
+        ("apfloat_unpacked", "-rest", HALF_QUANTUM),
+        ("apfloat_arithmetic", "-sum", PAST_LARGEST),
+        ("apfloat_arithmetic", "-product", HALF_QUANTUM),
+        ("apfloat_arithmetic", "-wide-product", QUAD_PRODUCT),
+        ("apfloat_arithmetic", "-quotient", THIRD),
+        ("apfloat_arithmetic", "-fused-sum", FUSED),
+        ("apfloat_arithmetic", "-wide-fused-sum", QUAD_FUSED),
+    ],
+    # On the row of the next mistake it would take 2^40 steps.
+    "remainder-subtracts-divisor-itself": [
+        ("apfloat_arithmetic", "", call("c_fmod_steps", "e4m3fn", "-", "7e 3f", "3e", "OK", "steps=6 bound=9"))
+    ],
+    "step-count-zero-or-bound": [
+        ("apfloat_arithmetic", "", STEPS),
+        ("apfloat_arithmetic", "-the-bound", STEPS),
+    ],
+    "conversion-drops-payload": [
+        (
+            "apfloat_conversions",
+            "",
+            call("convert_r", "half>single", "even", "7c01", "7fc02000", "INVALID_OP", "loses_info=false"),
+        )
+    ],
+    "pair-sum-drops-error": [
+        (
+            "apfloat_pairs",
+            "",
+            "dd add even 3ff0000000000000 3c90000000000000\t3c900000000000003ff0000000000000 INEXACT",
+        ),
+        ("apfloat_pairs", "-anew", PAIRS_PAST_LARGEST),
+    ],
+    "split-low-part-zero": [
+        (
+            "apfloat_pairs",
+            "",
+            "dd div even 3ff0000000000000 4008000000000000\t3c755555555555563fd5555555555555 INEXACT",
+        )
+    ],
+    "command-refuses-everything": [("commands", "", "half int even 464\t5f40 OK")],
+    "keeps-negative-zero": [
+        ("apfloat_unpacked", "", "e4m3fnuz parse even -0x1p-30\t00 UNDERFLOW|INEXACT"),
+        ("apfloat_unpacked", "-few-quanta", "e4m3fnuz mul even 81 30\t00 UNDERFLOW|INEXACT"),
+        ("apfloat_arithmetic", "-product", "e4m3fnuz mul even 00 81\t00 OK"),
+        ("apfloat_arithmetic", "-negation", call("neg", "e4m3fnuz", "-", "00", "00", "-", "-")),
+        (
+            "apfloat_conversions",
+            "-conversion",
+            call("convert_r", "half>e4m3fnuz", "even", "8000", "00", "INEXACT", "loses_info=true"),
+        ),
+        ("apfloat_texts", "-text", "e4m3fnuz parse even -0x0p0\t00 OK"),
+    ],
+    "pair-product-drops-low-cross-term": [
+        (
+            "apfloat_pairs",
+            "",
+            "dd mul even 3c755555555555563fd5555555555555 4008000000000000\t"
+            "00000000000000003ff0000000000000 INEXACT",
+        )
+    ],
+    "pair-sum-skips-closing-step": [
+        (
+            "apfloat_pairs",
+            "",
+            "dd add even 3ca00000000000003ff0000000000000 3c80000000000000bfefffffffffffff\t"
+            "00000000000000003cb2000000000000 OK",
+        ),
+        ("apfloat_pairs", "-anew", PAIRS_PAST_LARGEST),
+    ],
+}
+
+
+class Fault(Exception):
+    """A try that shows nothing."""
+
+
+def split(row):
+    """The question of a row, and its result."""
+    columns = row.split("\t")
+    if len(columns) == 2:
+        return columns
+    question, result = columns[:4], [column for column in columns[4:] if column != "-"]
+    return " ".join(column for column in question if column != "-"), " ".join(result)
+
+
+def edited(path, text):
+    """The text of a file with an edit made."""
+    lines = path.read_text(encoding="utf-8").split("\n")
+    olds = [line.removeprefix("old: ") for line in lines if line.startswith("old: ")]
+    news = [line.removeprefix("new:").removeprefix(" ") for line in lines if line.startswith("new:")]
+    for old, new in zip(olds, news, strict=True):
+        if text.count(old) != 1:
+            raise Fault(f"an old text stands {text.count(old)} times in its file: {old.strip()}")
+        text = text.replace(old, new)
+    return text
+
+
+def computed(copy, row):
+    """What the programs of a copy compute for a row."""
+    columns = row.split("\t")
+    if len(columns) == 2:
+        folder, words, given = "vectors", ["--", *columns[0].split(" ")], ""
+    else:
+        folder, words, given = "check_vectors", [], row + "\n"
+    ran = subprocess.run(
+        ["rt", "try", *words],
+        cwd=copy / "crates" / folder,
+        input=given,
+        stdout=subprocess.PIPE,
+        stderr=subprocess.STDOUT,
+        text=True,
+        errors="replace",
+        check=False,
+    )
+    said = ran.stdout
+    if "\nrun=ended " not in "\n" + said:
+        if "\nrun=" in "\n" + said and "run=none" not in said:
+            return "none"
+        raise Fault("rt try gave no result:\n" + said[-1500:])
+    if len(columns) == 2:
+        return said.split("\nchecked: ")[0].strip()
+    found = re.search(r"^  given: (.*)$", said, re.MULTILINE)
+    if found:
+        return " ".join(word for word in found.group(1).split("\t") if word != "-")
+    if "1 rows agree, 0 differ" in said:
+        return split(row)[1]
+    raise Fault("check_vectors gave no result:\n" + said[-1500:])
+
+
+def tried(copies, mistake, crate, suffix, row):
+    """The result of a row with an edit made, or the fault of the try; and the seconds that it took."""
+    edit = TOP / "crates" / crate / "must-fail" / f"{mistake}{suffix}.edit"
+    begun = time.monotonic()
+    copy = copies.get()
+    try:
+        lines = edit.read_text(encoding="utf-8").split("\n")
+        names = {line.removeprefix("file: ").strip() for line in lines if line.startswith("file: ")}
+        if len(names) != 1:
+            raise Fault("it edits several files")
+        file = copy / "crates" / crate / names.pop()
+        text = file.read_text(encoding="utf-8")
+        file.write_text(edited(edit, text), encoding="utf-8")
+        try:
+            result = computed(copy, row)
+        finally:
+            file.write_text(text, encoding="utf-8")
+    except (Fault, OSError) as fault:
+        result = fault
+    finally:
+        copies.put(copy)
+    return result, time.monotonic() - begun
+
+
+def without_rows(names):
+    """The edits of these mistakes that have no row."""
+    listed = {f"{crate}/{name}{suffix}" for name in names for crate, suffix, _ in MISTAKES[name]}
+    for name in names:
+        for edit in sorted(TOP.glob(f"crates/*/must-fail/{name}*.edit")):
+            if f"{edit.parts[-3]}/{edit.stem}" not in listed:
+                yield f"{edit.parts[-3]}/{edit.stem}"
+
+
+def main():
+    """Tries the edits, and prints a table."""
+    parser = argparse.ArgumentParser(description=__doc__, formatter_class=argparse.RawDescriptionHelpFormatter)
+    parser.add_argument("mistakes", nargs="*", metavar="MISTAKE")
+    parser.add_argument("--jobs", type=int, default=1, help="how many copies are used at the same time")
+    parser.add_argument("--list", action="store_true", help="only print the rows")
+    words = parser.parse_args()
+    unknown = [name for name in words.mistakes if name not in MISTAKES]
+    if unknown:
+        parser.error(f"no such mistake: {unknown[0]}")
+    names = words.mistakes or list(MISTAKES)
+    tries = [(name, *one) for name in names for one in MISTAKES[name]]
+    failed = 0
+    for row in dict.fromkeys(row for *_, row in tries):
+        if rows.answered(row) != row:
+            failed += 1
+            print(f"the model has another result: {rows.answered(row)}")
+    for edit in without_rows(names):
+        failed += 1
+        print(f"{edit}: no row")
+    if words.list:
+        for name, crate, suffix, row in tries:
+            print(" | ".join([name, f"{crate}{suffix}", *split(row)]))
+        return 1 if failed else 0
+    with tempfile.TemporaryDirectory(prefix="mistakes-") as room:
+        copies = queue.Queue()
+        for number in range(words.jobs):
+            copy = Path(room) / str(number)
+            shutil.copytree(TOP, copy, symlinks=True, ignore=shutil.ignore_patterns(".git", "out"))
+            copies.put(copy)
+        with ThreadPoolExecutor(words.jobs) as pool:
+            results = pool.map(lambda one: tried(copies, *one), tries)
+            print("mistake | crate and way | row | right | wrong | seconds")
+            for (name, crate, suffix, row), (result, seconds) in zip(tries, results, strict=True):
+                question, right = split(row)
+                is_shown = not isinstance(result, Fault | OSError) and result != right
+                failed += not is_shown
+                mark = "" if is_shown else " | NOT SHOWN"
+                print(f"{name} | {crate}{suffix} | {question} | {right} | {result} | {seconds:.0f}{mark}", flush=True)
+    print(f"{len(tries)} edits of {len(names)} mistakes, {failed} failed")
+    return 1 if failed else 0
+
+
+if __name__ == "__main__":
+    sys.exit(main())
