@@ -84,7 +84,10 @@ MISTAKES = {
         ("apfloat_unpacked", "-kernel", JUST_ABOVE_TIE),
         ("apfloat_unpacked", "-low-word", LONG_INTEGER),
     ],
-    "overflow-always-infinity": [("apfloat_unpacked", "", PAST_LARGEST)],
+    "overflow-always-infinity": [
+        ("apfloat_unpacked", "", "e4m3fn int zero 480\t7e INEXACT"),
+        ("apfloat_unpacked", "-past-largest", PAST_LARGEST),
+    ],
     "underflow-before-rounding": [
         ("apfloat_unpacked", "", "half mul even 0400 3bff\t0400 INEXACT"),
         ("apfloat_unpacked", "-odd", "half div up 07fe 3fff\t0400 INEXACT"),
