@@ -4,8 +4,8 @@
     python3 evidence/mistakes.py [--jobs N] [--list] [MISTAKE..]
 
 Each mistake is one or more edits of a crate, `crates/CRATE/must-fail/MISTAKE*.edit`, one for each way that a built-in
-format takes to the result. Each edit is made in a copy of the checkout, where the programs `vectors` and `check_vectors`
-then compute a row without a proof (`rt try`). It prints the mistake, the edit, the row, the right result and the wrong
+format takes to the result. Each edit is made in a copy of the checkout, where the program `vectors` or `check_vectors`
+then computes a row without a proof (`rt try`). It prints the mistake, the edit, the row, the right result and the wrong
 one, and how many seconds that took. The right results are also computed by the model (`exact`), first of all. The
 status is 1 if a result with an edit is the right one, or if there is none; --list only prints the rows.
 
