@@ -8,11 +8,11 @@ ghost use Rattle.apfloat_base.specs.rounding.Bounds.{IsWithin, exponent_bound, u
 ghost use Rattle.apfloat_base.specs.rounding.Rounding.{IsDelivered};
 ghost use Rattle.apfloat_base.specs.rounding.RoundingToOdd.{IsRoundedToOdd};
 ghost use Rattle.apfloat_base.specs.rounding.Standing.{up, down};
-ghost use Rattle.apfloat_unpacked.specs.Cuts.{IsCutOff};
+ghost use Rattle.apfloat_unpacked.specs.Cuts.{IsCut};
 ghost use Rattle.apfloat_unpacked.specs.Shapes.{format_at};
 ghost use Rattle.apfloat_unpacked.specs.Stored.{IsStored, GivesAt};
 
-use super::{Cut, deliver_apart, full_place, round_cut, split, unit_place};
+use super::{Cut, Known, deliver_apart, full_place, round, split, unit_place};
 use crate::shape::Shape;
 use crate::unpacked::Unpacked;
 use apfloat_base::sig::{Loss, digits};
@@ -47,7 +47,7 @@ fn cut_long_odd(precision: u32, significand: u128, digits: u32, unit: ExpInt) ->
     ensures cut { (amount parts : ℕ) → 0 < parts
         → IsRoundedToOdd (2 ^ (precision + 1)) significand (amount * 2 ^ down unit)
         (parts * 2 ^ up unit)
-        → IsCutOff precision result amount parts }
+        → IsCut precision result amount parts }
 {
     let pieces = split(at_long_top(significand, digits), 128, 128 - precision);
     Cut {
@@ -79,7 +79,7 @@ pub fn deliver_long_odd(
     let digits = digits(significand);
     if digits > 0 && unit + digits as ExpInt >= shape.precision as ExpInt {
         let cut = cut_long_odd(shape.precision, significand, digits, unit);
-        return round_cut(shape, cut, mode, negative);
+        return round(shape, Known::Normal, cut, mode, negative);
     }
     deliver_apart(
         shape,
