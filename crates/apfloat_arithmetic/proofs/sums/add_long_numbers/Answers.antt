@@ -21,8 +21,8 @@ term_of-requires-2 c = c.requires.y_normal
 pub returns-clause-stored : goal.returns-clause-stored
 returns-clause-stored c = c.deliver_long_odd.ensures.stored
 
-pub deliver_long_odd-requires-clause-within : goal.deliver_long_odd-requires-clause-within
-deliver_long_odd-requires-clause-within c =
+pub deliver_long_odd-requires : goal.deliver_long_odd-requires
+deliver_long_odd-requires c =
     let l = c.args.shape.parameters in
     let x = c.term_of.ensures.exponent in
     let y = c.term_of-2.ensures.exponent in
@@ -30,8 +30,10 @@ deliver_long_odd-requires-clause-within c =
     let n = c.requires.y_normal.operand in
     let g = c.add_long_terms-total.ensures.exponent.one in
     record {
-      low = omega (arith, ints, l, x, y, m, n, g);
-      high = omega (arith, ints, l, x, y, m, n, g);
+      within = record {
+        low = omega (arith, ints, l, x, y, m, n, g);
+        high = omega (arith, ints, l, x, y, m, n, g);
+      };
     }
 
 pub returns-clause-delivered : goal.returns-clause-delivered
