@@ -1,5 +1,6 @@
 pub mod FarTexts
 pub mod Lines
+pub mod OneReading
 pub mod ParsedNumbers
 pub mod SpelledTexts
 pub mod TextFronts

@@ -5,6 +5,7 @@ pub mod DecimalTexts
 pub mod Decimals
 pub mod ExactDecimals
 pub mod LeadingDigits
+pub mod OneReading
 pub mod Parsing
 pub mod Reach
 pub mod ReadBack

@@ -34,7 +34,7 @@ mod writing;
 
 pub use decimal::{Decimal, built_in_formats, from_decimal};
 pub use exact_decimal::{exact, exact_once};
-pub use parsing::{DecimalError, decimal_text_once, written_text};
+pub use parsing::{DecimalError, decimal_text_once, one_reading, written_text};
 pub use round_trips::shortest_reads_back;
 pub use rounding::{rounded, rounded_once};
 pub use search::{shortest, shortest_once};

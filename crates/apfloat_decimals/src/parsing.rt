@@ -14,6 +14,7 @@ ghost use Rattle.apfloat_decimals.specs.declared.decimal.Decimal.{Decimal};
 ghost use Rattle.apfloat_decimals.specs.Decimals.{IsDecimalDelivery};
 ghost use Rattle.apfloat_decimals.specs.DecimalTexts.{IsDecimalText, IsDecimalRead, body_fault};
 ghost use Rattle.apfloat_decimals.specs.LeadingDigits.{number_from};
+ghost use Rattle.apfloat_decimals.specs.OneReading.{IsReadOnce, IsParsedOnce};
 ghost use Rattle.apfloat_decimals.specs.Parsing.{Spells, IsParsed, IsParsedBody, IsPast32Bits};
 ghost use Rattle.apfloat_decimals.specs.ReadBack.{IsStoredDecimal, written};
 ghost use Rattle.apfloat_decimals.specs.Shortest.{IsSameNumber};
@@ -146,6 +147,13 @@ pub fn decimal_text_once()
     ensures parsed { (text : List ℕ) (x : Decimal) (answer : Result Decimal DecimalError)
         → IsStoredDecimal x → Spells text x.negative x.digits x.exponent → IsParsed text answer
         → answer ≡ Ok x }
+{}
+
+/// A text is read in one way: what `read_decimal` and `FromStr` may return of it is one value or decimal, or refusals for
+/// one reason, with the same words.
+pub fn one_reading()
+    ensures read { IsReadOnce }
+    ensures parsed { IsParsedOnce }
 {}
 
 /// The text that `Display` writes of a decimal is a decimal text with its sign and of the same number.

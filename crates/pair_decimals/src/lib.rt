@@ -4,6 +4,7 @@
 #![tactic(auto)]
 
 ghost use Rattle.apfloat_pair_theory.specs.Pairs.{IsSplit};
+ghost use Rattle.pair_decimals.specs.OneReading.{IsPairReadOnce};
 ghost use Rattle.pair_decimals.specs.PairReadings.{IsPairDecimalRead};
 
 use apfloat_base::{ParseError, Round, StatusAnd};
@@ -24,6 +25,11 @@ pub fn read_decimal_pair(text: &str, round: Round) -> Result<StatusAnd<DoubleDou
         Err(error) => Err(error),
     }
 }
+
+/// A text is read as one pair, or refused with the same words.
+pub fn one_pair_reading()
+    ensures { IsPairReadOnce }
+{}
 
 /// A value of the wide format as a pair.
 fn pair_of_wide(x: IeeeFloat<FallbackS>) -> DoubleDouble

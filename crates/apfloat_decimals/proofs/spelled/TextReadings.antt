@@ -30,7 +30,7 @@ text_once body digits other exponent place x y =
     (one.digits_are ∙ sym two.digits_are, one.exponent_is ∙ sym two.exponent_is)
 
 -- a reading of the text is that of its number
-reading_is : (format : Format) (mode : Round) (text : List ℕ) (negative : Bool) (digits : ℕ) (exponent : ℤ)
+pub reading_is : (format : Format) (mode : Round) (text : List ℕ) (negative : Bool) (digits : ℕ) (exponent : ℤ)
     (value : Datum) (status : ℕ) → Spells text negative digits exponent
     → IsDecimalReading format mode text value status
     → IsDecimalDelivery format mode negative digits exponent value status

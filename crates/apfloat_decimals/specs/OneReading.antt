@@ -1,0 +1,51 @@
+-- A text is read in one way.
+use Rattle.std.specs.Prelude.{◌≡◌, ℕ, ⊤, List, Result, Ok, Err}
+use Rattle.apfloat_base.specs.declared.kinds.Round.{Round}
+use Rattle.apfloat_base.specs.declared.parse_error.ParseError.{ParseError}
+use Rattle.apfloat_base.specs.declared.status.StatusAnd.{StatusAnd}
+use Rattle.apfloat_base.specs.formats.Datum.{Datum}
+use Rattle.apfloat_base.specs.formats.Format.{Format}
+use Rattle.apfloat_base.specs.Determined.{AreOneReading}
+use Rattle.apfloat_decimals.specs.declared.decimal.Decimal.{Decimal}
+use Rattle.apfloat_decimals.specs.declared.parsing.DecimalError.{DecimalError}
+use Rattle.apfloat_decimals.specs.declared.parsing.DecimalError.TheVariants.{NoDecimal, TooManyDigits, ExponentOutOfRange}
+use Rattle.apfloat_decimals.specs.DecimalTexts.{IsDecimalRead}
+use Rattle.apfloat_decimals.specs.Parsing.{IsParsed}
+use Rattle.apfloat_decimals.specs.ReadBack.{IsStoredDecimal}
+
+-- ---- as a value
+
+-- whether special, hexadecimal or decimal, a text has one value with one status; a text with a fault has none, and is
+-- refused with the words for it
+abbrev pub IsReadOnce : Type 0
+IsReadOnce =
+    (f : Format) (mode : Round) (text : List ℕ) (answer other : Result (StatusAnd Datum) ParseError)
+    → IsDecimalRead f mode text answer → IsDecimalRead f mode text other → AreOneReading answer other
+
+-- ---- as a decimal
+
+-- A decimal that was read has numbers of its types. `IsParsed` alone doesn't say that: digits of 2 ^ 128 or more would
+-- be an answer, beside the refusal.
+abbrev pub IsStoredAnswer : Result Decimal DecimalError → Type 0
+IsStoredAnswer (Ok decimal) = IsStoredDecimal decimal
+IsStoredAnswer (Err error) = ⊤
+
+-- the same decimal, or refusals for the same reason, with the same words
+abbrev pub AreOneParsing : Result Decimal DecimalError → Result Decimal DecimalError → Type 0
+AreOneParsing (Ok x) (Ok y) = x ≡ y
+AreOneParsing (Ok x) (Err other) = ⊥
+AreOneParsing (Err error) (Ok y) = ⊥
+AreOneParsing (Err (NoDecimal error)) (Err (NoDecimal other)) = error.0.now ≡ other.0.now
+AreOneParsing (Err (NoDecimal error)) (Err TooManyDigits) = ⊥
+AreOneParsing (Err (NoDecimal error)) (Err ExponentOutOfRange) = ⊥
+AreOneParsing (Err TooManyDigits) (Err (NoDecimal other)) = ⊥
+AreOneParsing (Err TooManyDigits) (Err TooManyDigits) = ⊤
+AreOneParsing (Err TooManyDigits) (Err ExponentOutOfRange) = ⊥
+AreOneParsing (Err ExponentOutOfRange) (Err (NoDecimal other)) = ⊥
+AreOneParsing (Err ExponentOutOfRange) (Err TooManyDigits) = ⊥
+AreOneParsing (Err ExponentOutOfRange) (Err ExponentOutOfRange) = ⊤
+
+abbrev pub IsParsedOnce : Type 0
+IsParsedOnce =
+    (text : List ℕ) (answer other : Result Decimal DecimalError) → IsStoredAnswer answer → IsStoredAnswer other
+    → IsParsed text answer → IsParsed text other → AreOneParsing answer other
