@@ -1,4 +1,5 @@
 pub mod Agreements
+pub mod Aliases
 pub mod DecimalRoundTrips
 pub mod LawPremises
 pub mod Plain

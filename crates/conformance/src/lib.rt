@@ -4,6 +4,7 @@
 #![tactic(auto)]
 
 pub mod agreements;
+pub mod aliases;
 pub mod decimals;
 pub mod laws;
 pub mod pair_statuses;
