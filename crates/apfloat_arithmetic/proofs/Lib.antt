@@ -13,6 +13,7 @@ mod LongProducts
 mod LongTerms
 mod FusedCases
 mod SpecialRemainders
+mod SpecialProducts
 mod Additions
 mod SumCases
 mod StepBounds

@@ -2,3 +2,4 @@ pub mod Subtrahends
 pub mod Sides
 pub mod ExactInverseParts
 pub mod Magnitudes
+pub mod SpecialOperands

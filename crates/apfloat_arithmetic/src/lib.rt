@@ -15,6 +15,7 @@ pub mod quotients;
 pub mod remainders;
 pub mod roots;
 pub mod signs;
+mod specials;
 pub mod sums;
 pub mod wide_fused;
 pub mod wide_products;

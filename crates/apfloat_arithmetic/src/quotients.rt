@@ -1,29 +1,26 @@
 //! Quotients.
 
 ghost use Rattle.std.specs.Prelude.{◌≡◌, ◌+◌, ◌-◌, ◌*◌, ◌^◌, ◌<◌, ◌≤◌, pos, ◌-ℤ◌};
-ghost use Rattle.apfloat_base.specs.rounding.Answer.{IsAnswer};
-ghost use Rattle.apfloat_base.specs.formats.Constants.{infinity_of};
 ghost use Rattle.apfloat_base.specs.arithmetic.Exact.{product_sign};
 ghost use Rattle.apfloat_base.specs.rounding.Bounds.{IsWithin, number_bound, exponent_bound};
 ghost use Rattle.apfloat_base.specs.rounding.Rounding.{IsDelivered};
 ghost use Rattle.apfloat_base.specs.rounding.RoundingToOdd.{odd_quotient};
-ghost use Rattle.apfloat_base.specs.arithmetic.Quotients.{IsQuotient, div_by_zero_bit};
+ghost use Rattle.apfloat_base.specs.arithmetic.Quotients.{IsQuotient};
 ghost use Rattle.apfloat_unpacked.specs.Shapes.{format_at};
 ghost use Rattle.apfloat_unpacked.specs.Stored.{IsStored, IsNormal, quanta_of, datum_at, GivesAt};
 
 use crate::classes::are_normal;
-use crate::exact::{exact_infinity, exact_zero};
 use crate::products::product_sign;
+use crate::specials::{Operation, special};
 use apfloat_base::sig::{
     NEAR_LIMIT, SHORT_LIMIT, divide_by_words, divide_short_by_guess, divide_word,
     divide_word_by_guess, guess_quotient,
 };
-use apfloat_base::{Category, ExpInt, Round, Status, StatusAnd};
-use apfloat_unpacked::nans::{invalid, propagated, propagated_left};
+use apfloat_base::{ExpInt, Round, StatusAnd};
 use apfloat_unpacked::rounding::deliver;
 use apfloat_unpacked::rounding::odd::deliver_odd_digits;
 use apfloat_unpacked::shape::Shape;
-use apfloat_unpacked::unpacked::{Unpacked, infinity_of, remade};
+use apfloat_unpacked::unpacked::Unpacked;
 
 /// The exponent of the last digit of a quotient with `places` digits below the difference of the exponents of its
 /// operands' integer bits.
@@ -122,62 +119,6 @@ fn divide_numbers(shape: Shape, x: Unpacked, y: Unpacked, round: Round) -> Statu
     )
 }
 
-/// A nonzero number divided by a zero (7.3).
-#[inline(always)]
-fn divided_by_zero(shape: Shape, negative: bool) -> StatusAnd<Unpacked>
-    ensures stored { IsStored shape result.value }
-    ensures answer { GivesAt shape
-        (IsAnswer (infinity_of (format_at shape) negative) div_by_zero_bit) result }
-{
-    Status::DIV_BY_ZERO.and(infinity_of(shape, negative))
-}
-
-/// The quotient of any two values. Kept out of line, like `add_any`.
-#[cold]
-#[inline(never)]
-fn divide_any(shape: Shape, x: Unpacked, y: Unpacked, round: Round) -> StatusAnd<Unpacked>
-    requires left { IsStored shape x }
-    requires right { IsStored shape y }
-    ensures stored { IsStored shape result.value }
-    ensures delivered { GivesAt shape
-        (IsQuotient (format_at shape) round (datum_at shape x) (datum_at shape y)) result }
-{
-    let negative = product_sign(x.negative, y.negative);
-    match x.category {
-        Category::Normal => match y.category {
-            Category::Normal => divide_numbers(shape, x, y, round),
-            Category::Zero => divided_by_zero(shape, negative),
-            Category::Infinity => exact_zero(shape, negative),
-            Category::NaN => propagated(shape, y),
-        },
-        Category::Zero => match y.category {
-            Category::Normal => exact_zero(shape, negative),
-            Category::Zero => invalid(shape),
-            Category::Infinity => exact_zero(shape, negative),
-            Category::NaN => propagated(shape, y),
-        },
-        Category::Infinity => match y.category {
-            Category::Normal => exact_infinity(shape, negative),
-            Category::Zero => exact_infinity(shape, negative),
-            Category::Infinity => invalid(shape),
-            Category::NaN => propagated(shape, y),
-        },
-        Category::NaN => propagated_left(shape, x, y),
-    }
-}
-
-/// The quotient of any two values, as `divide_any` has it, rebuilt from its fields, like `multiply_others`.
-#[inline(always)]
-fn divide_others(shape: Shape, x: Unpacked, y: Unpacked, round: Round) -> StatusAnd<Unpacked>
-    requires left { IsStored shape x }
-    requires right { IsStored shape y }
-    ensures stored { IsStored shape result.value }
-    ensures delivered { GivesAt shape
-        (IsQuotient (format_at shape) round (datum_at shape x) (datum_at shape y)) result }
-{
-    remade(divide_any(shape.remade(), x.remade(), y.remade(), round))
-}
-
 /// The quotient of two values, rounded once (IEEE 754-2008 5.4.1, division).
 #[inline(always)]
 pub fn divide(shape: Shape, x: Unpacked, y: Unpacked, round: Round) -> StatusAnd<Unpacked>
@@ -190,6 +131,6 @@ pub fn divide(shape: Shape, x: Unpacked, y: Unpacked, round: Round) -> StatusAnd
     if are_normal(x, y) {
         divide_numbers(shape, x, y, round)
     } else {
-        divide_others(shape, x, y, round)
+        special(shape, Operation::Quotient(x.remade(), y.remade()))
     }
 }

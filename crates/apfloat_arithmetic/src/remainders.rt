@@ -6,21 +6,20 @@
 //! digit of the least number whose significand has all its digits.
 
 ghost use Rattle.std.specs.Prelude.{◌≡◌, ℕ, ◌+◌, ◌-◌, ◌*◌, ◌/◌, ◌%◌, ◌^◌, ◌<◌, ◌≤◌, ◌⊎◌, false, eqb, count_ones, cond, ℤ, pos, ◌≤ℤ◌, ◌+ℤ◌, ◌-ℤ◌};
-ghost use Rattle.apfloat_base.specs.declared.kinds.Category.{Category};
 ghost use Rattle.apfloat_base.specs.declared.kinds.Round.{Round};
 ghost use Rattle.apfloat_base.specs.rounding.Bounds.{place_bound};
 ghost use Rattle.apfloat_base.specs.rounding.Answer.{IsAnswer};
 ghost use Rattle.apfloat_base.specs.rounding.Rounding.{ok_bits, takes_above};
 ghost use Rattle.apfloat_base.specs.arithmetic.Exponents.{IsIlogb};
-ghost use Rattle.apfloat_base.specs.arithmetic.Remainders.{truncated_quotient, nearest_quotient, rest_of, IsRemainder, IsTruncatedRemainder, IsNearestRemainder, ones_of_quotient};
+ghost use Rattle.apfloat_base.specs.arithmetic.Remainders.{truncated_quotient, nearest_quotient, rest_of, IsTruncatedRemainder, IsNearestRemainder, ones_of_quotient};
 ghost use Rattle.apfloat_unpacked.specs.Shapes.{format_at};
 ghost use Rattle.apfloat_unpacked.specs.Stored.{IsOperand, IsNormal, IsStored, datum_at, quanta_of, GivesAt};
 ghost use Rattle.apfloat_arithmetic.specs.Magnitudes.{units_of, HasAllDigits};
 
 use crate::classes::are_normal;
+use crate::specials::{Operation, special};
 use apfloat_base::sig::{MovedRest, digits, moved_rest, short_moved_rest};
-use apfloat_base::{Category, ExpInt, Status, StatusAnd};
-use apfloat_unpacked::nans::{invalid, propagated, propagated_left};
+use apfloat_base::{ExpInt, Status, StatusAnd};
 use apfloat_unpacked::shape::Shape;
 use apfloat_unpacked::unpacked::{Unpacked, from_quanta};
 
@@ -401,48 +400,6 @@ fn nearest_number(shape: Shape, x: Unpacked, y: Unpacked) -> StatusAnd<Unpacked>
     ))
 }
 
-/// The remainder of a finite operand, if it is zero or the divisor is not a nonzero number.
-fn special_divisor(shape: Shape, x: Unpacked, y: Unpacked) -> StatusAnd<Unpacked>
-    requires x_stored { IsStored shape x }
-    requires y_stored { IsStored shape y }
-    requires finite { (x.category ≡ Category.Zero) ⊎ (x.category ≡ Category.Normal) }
-    requires special { x.category ≡ Category.Normal → y.category ≡ Category.Normal → ⊥ }
-    ensures stored { IsStored shape result.value }
-    ensures delivered { (quotient : ℕ → ℕ → ℕ) → ((n : ℕ) → 0 < n → quotient 0 n ≡ 0)
-        → GivesAt shape (IsRemainder (format_at shape) quotient (datum_at shape x)
-        (datum_at shape y)) result }
-{
-    match y.category {
-        Category::NaN => propagated(shape, y),
-        Category::Zero => invalid(shape),
-        Category::Infinity => Status::OK.and(x),
-        Category::Normal => Status::OK.and(x),
-    }
-}
-
-/// The remainder, if not both operands are nonzero numbers: the quotient does not matter.
-fn special_remainder(shape: Shape, x: Unpacked, y: Unpacked) -> StatusAnd<Unpacked>
-    requires x_stored { IsStored shape x }
-    requires y_stored { IsStored shape y }
-    requires special { x.category ≡ Category.Normal → y.category ≡ Category.Normal → ⊥ }
-    ensures stored { IsStored shape result.value }
-    ensures delivered { (quotient : ℕ → ℕ → ℕ) → ((n : ℕ) → 0 < n → quotient 0 n ≡ 0)
-        → GivesAt shape (IsRemainder (format_at shape) quotient (datum_at shape x)
-        (datum_at shape y)) result }
-{
-    match x.category {
-        Category::NaN => propagated_left(shape, x, y),
-        Category::Infinity => match y.category {
-            Category::NaN => propagated(shape, y),
-            Category::Infinity => invalid(shape),
-            Category::Zero => invalid(shape),
-            Category::Normal => invalid(shape),
-        },
-        Category::Zero => special_divisor(shape, x, y),
-        Category::Normal => special_divisor(shape, x, y),
-    }
-}
-
 /// The remainder by the quotient cut toward zero.
 pub fn truncated_remainder(shape: Shape, x: Unpacked, y: Unpacked) -> StatusAnd<Unpacked>
     requires x { IsStored shape x }
@@ -454,7 +411,7 @@ pub fn truncated_remainder(shape: Shape, x: Unpacked, y: Unpacked) -> StatusAnd<
     if are_normal(x, y) {
         truncated_number(shape, x, y)
     } else {
-        special_remainder(shape, x, y)
+        special(shape, Operation::Remainder(x, y))
     }
 }
 
@@ -476,7 +433,7 @@ pub fn counted_remainder(shape: Shape, x: Unpacked, y: Unpacked) -> Remainder
         counted_number(shape, x, y)
     } else {
         Remainder {
-            answer: special_remainder(shape, x, y),
+            answer: special(shape, Operation::Remainder(x, y)),
             steps: 0,
         }
     }
@@ -493,6 +450,6 @@ pub fn nearest_remainder(shape: Shape, x: Unpacked, y: Unpacked) -> StatusAnd<Un
     if are_normal(x, y) {
         nearest_number(shape, x, y)
     } else {
-        special_remainder(shape, x, y)
+        special(shape, Operation::Remainder(x, y))
     }
 }

@@ -6,12 +6,12 @@ ghost use Rattle.apfloat_base.specs.arithmetic.Roots.{IsDeliveredRoot, IsRoot};
 ghost use Rattle.apfloat_unpacked.specs.Shapes.{format_at};
 ghost use Rattle.apfloat_unpacked.specs.Stored.{IsStored, IsNormal, quanta_of, datum_at, GivesAt};
 
+use crate::specials::{Operation, special};
 use apfloat_base::sig::root_of;
-use apfloat_base::{Category, ExpInt, Round, Status, StatusAnd};
-use apfloat_unpacked::nans::{invalid, propagated};
+use apfloat_base::{Category, ExpInt, Round, StatusAnd};
 use apfloat_unpacked::rounding::deliver;
 use apfloat_unpacked::shape::Shape;
-use apfloat_unpacked::unpacked::{Unpacked, remade};
+use apfloat_unpacked::unpacked::Unpacked;
 
 /// Half of an exponent, rounded down, and 1 if it is odd.
 #[derive(Clone, Copy, Debug)]
@@ -67,41 +67,6 @@ fn root_of_number(shape: Shape, x: Unpacked, round: Round) -> StatusAnd<Unpacked
     deliver(shape, root.whole, last, root.loss, round, false)
 }
 
-/// The root of any value but a positive number. Kept out of line, like `add_any`.
-#[cold]
-#[inline(never)]
-fn root_of_special(shape: Shape, x: Unpacked, round: Round) -> StatusAnd<Unpacked>
-    requires stored { IsStored shape x }
-    requires special { x.category ≡ Category.Normal → x.negative ≡ true }
-    ensures stored { IsStored shape result.value }
-    ensures delivered { GivesAt shape (IsRoot (format_at shape) round (datum_at shape x)) result }
-{
-    match x.category {
-        Category::Normal => invalid(shape),
-        Category::Zero => Status::OK.and(x),
-        Category::Infinity => {
-            if x.negative {
-                invalid(shape)
-            } else {
-                Status::OK.and(x)
-            }
-        }
-        Category::NaN => propagated(shape, x),
-    }
-}
-
-/// The root of any value but a positive number, as `root_of_special` has it, rebuilt from its fields, like
-/// `multiply_others`.
-#[inline(always)]
-fn root_of_other(shape: Shape, x: Unpacked, round: Round) -> StatusAnd<Unpacked>
-    requires stored { IsStored shape x }
-    requires special { x.category ≡ Category.Normal → x.negative ≡ true }
-    ensures stored { IsStored shape result.value }
-    ensures delivered { GivesAt shape (IsRoot (format_at shape) round (datum_at shape x)) result }
-{
-    remade(root_of_special(shape.remade(), x.remade(), round))
-}
-
 /// Whether the value is a positive number, neither zero nor infinity.
 #[inline(always)]
 fn is_positive_number(x: Unpacked) -> bool
@@ -121,6 +86,6 @@ pub fn square_root(shape: Shape, x: Unpacked, round: Round) -> StatusAnd<Unpacke
     if is_positive_number(x) {
         root_of_number(shape, x, round)
     } else {
-        root_of_other(shape, x, round)
+        special(shape, Operation::Root(x.remade()))
     }
 }

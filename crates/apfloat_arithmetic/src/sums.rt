@@ -2,25 +2,24 @@
 
 ghost use Rattle.std.specs.Prelude.{◌≡◌, ◌≤◌, pos, ◌+ℤ◌};
 ghost use Rattle.apfloat_base.specs.arithmetic.Exact.{signed, IsRounded};
-ghost use Rattle.apfloat_base.specs.formats.Datum.{finite, infinite};
 ghost use Rattle.apfloat_base.specs.arithmetic.Sums.{zero_sum_sign, IsSum, IsDifference};
 ghost use Rattle.apfloat_arithmetic.specs.Subtrahends.{added};
 ghost use Rattle.apfloat_unpacked.specs.Shapes.{format_at};
-ghost use Rattle.apfloat_unpacked.specs.Stored.{IsNormal, IsStored, datum_at, number_of, quanta_of, GivesAt};
+ghost use Rattle.apfloat_unpacked.specs.Stored.{IsNormal, IsStored, datum_at, quanta_of, GivesAt};
 
 use crate::classes::are_normal;
 use crate::signs::negated;
+use crate::specials::{Operation, special};
 use apfloat_base::sig::{
     LONG_LIMIT, LongOddTotal, Loss, OddTotal, SHORT_LIMIT, Term, Total, add_long_terms,
     add_short_terms, add_terms, is_zero,
 };
-use apfloat_base::{Category, Round, Status, StatusAnd};
-use apfloat_unpacked::nans::{invalid, propagated, propagated_left};
+use apfloat_base::{Category, Round, StatusAnd};
 use apfloat_unpacked::rounding::deliver;
 use apfloat_unpacked::rounding::long_odd::deliver_long_odd;
 use apfloat_unpacked::rounding::odd::deliver_odd;
 use apfloat_unpacked::shape::{Shape, last_exponent};
-use apfloat_unpacked::unpacked::{Unpacked, remade, zero_of};
+use apfloat_unpacked::unpacked::{Unpacked, remade};
 
 /// The number as a term, with the exponent of its last digit.
 #[inline(always)]
@@ -172,86 +171,6 @@ fn add_numbers(shape: Shape, x: Unpacked, y: Unpacked, round: Round) -> StatusAn
     remade(add_other_numbers(shape.remade(), x.remade(), y.remade(), round))
 }
 
-/// The sum of an infinity and any value.
-#[inline(always)]
-fn add_to_infinity(shape: Shape, x: Unpacked, y: Unpacked) -> StatusAnd<Unpacked>
-    requires infinite { x.category ≡ Category.Infinity }
-    requires x_stored { IsStored shape x }
-    requires y_stored { IsStored shape y }
-    ensures stored { IsStored shape result.value }
-    ensures delivered { (mode : Round)
-        → GivesAt shape (IsSum (format_at shape) mode (infinite x.negative) (datum_at shape y))
-        result }
-{
-    match y.category {
-        Category::NaN => propagated(shape, y),
-        Category::Infinity => {
-            if x.negative == y.negative {
-                Status::OK.and(x)
-            } else {
-                invalid(shape)
-            }
-        }
-        Category::Normal => Status::OK.and(x),
-        Category::Zero => Status::OK.and(x),
-    }
-}
-
-/// The sum of a zero and any value.
-#[inline(always)]
-fn add_to_zero(shape: Shape, x: Unpacked, y: Unpacked, round: Round) -> StatusAnd<Unpacked>
-    requires { IsStored shape y }
-    ensures stored { IsStored shape result.value }
-    ensures delivered { GivesAt shape
-        (IsSum (format_at shape) round (finite x.negative 0) (datum_at shape y)) result }
-{
-    match y.category {
-        Category::NaN => propagated(shape, y),
-        Category::Infinity => Status::OK.and(y),
-        Category::Normal => Status::OK.and(y),
-        Category::Zero => {
-            let negative = sign_of_zero(round, x.negative, y.negative);
-            Status::OK.and(zero_of(shape, negative))
-        }
-    }
-}
-
-/// The sum of a nonzero number and any value.
-#[inline(always)]
-fn add_to_number(shape: Shape, x: Unpacked, y: Unpacked, round: Round) -> StatusAnd<Unpacked>
-    requires normal { x.category ≡ Category.Normal }
-    requires x_stored { IsStored shape x }
-    requires y_stored { IsStored shape y }
-    ensures stored { IsStored shape result.value }
-    ensures delivered { GivesAt shape (IsSum (format_at shape) round
-        (number_of shape x) (datum_at shape y)) result }
-{
-    match y.category {
-        Category::Normal => add_numbers(shape, x, y, round),
-        Category::Zero => Status::OK.and(x),
-        Category::Infinity => Status::OK.and(y),
-        Category::NaN => propagated(shape, y),
-    }
-}
-
-/// The sum of any two values. Kept out of line, so that only the finite case is inlined.
-#[cold]
-#[inline(never)]
-fn add_any(shape: Shape, x: Unpacked, y: Unpacked, round: Round) -> StatusAnd<Unpacked>
-    requires x_stored { IsStored shape x }
-    requires y_stored { IsStored shape y }
-    ensures stored { IsStored shape result.value }
-    ensures delivered { GivesAt shape
-        (IsSum (format_at shape) round (datum_at shape x) (datum_at shape y)) result }
-{
-    match x.category {
-        Category::Normal => add_to_number(shape, x, y, round),
-        Category::Zero => add_to_zero(shape, x, y, round),
-        Category::Infinity => add_to_infinity(shape, x, y),
-        Category::NaN => propagated_left(shape, x, y),
-    }
-}
-
 /// `x + y`, rounded once (IEEE 754-2008 5.4.1).
 #[inline(always)]
 pub fn add(shape: Shape, x: Unpacked, y: Unpacked, round: Round) -> StatusAnd<Unpacked>
@@ -264,7 +183,7 @@ pub fn add(shape: Shape, x: Unpacked, y: Unpacked, round: Round) -> StatusAnd<Un
     if are_normal(x, y) {
         add_numbers(shape, x, y, round)
     } else {
-        remade(add_any(shape.remade(), x.remade(), y.remade(), round))
+        special(shape, Operation::Sum(x.remade(), y.remade(), round))
     }
 }
 

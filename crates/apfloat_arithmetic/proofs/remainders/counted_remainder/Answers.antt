@@ -42,11 +42,11 @@ returns-then-are_normal-clause-few c = λ a b h k p.
     k (rw e at p))
 
 pub returns-else-are_normal-clause-stored : goal.returns-else-are_normal-clause-stored
-returns-else-are_normal-clause-stored c = c.special_remainder.ensures.stored
+returns-else-are_normal-clause-stored c = c.special.ensures.stored
 
 pub returns-else-are_normal-clause-delivered : goal.returns-else-are_normal-clause-delivered
 returns-else-are_normal-clause-delivered c =
-    c.special_remainder.ensures.delivered truncated_quotient (λ n p. zero-div n)
+    c.special.ensures.delivered truncated_quotient (λ n p. zero-div n)
 
 pub returns-else-are_normal-clause-steps : goal.returns-else-are_normal-clause-steps
 returns-else-are_normal-clause-steps c =

@@ -12,4 +12,4 @@ returns-then-are_normal-clause-delivered c =
     c.requires.y c.nearest_number.ensures.answer
 
 pub returns-else-are_normal-clause-stored : goal.returns-else-are_normal-clause-stored
-returns-else-are_normal-clause-stored c = c.special_remainder.ensures.stored
+returns-else-are_normal-clause-stored c = c.special.ensures.stored

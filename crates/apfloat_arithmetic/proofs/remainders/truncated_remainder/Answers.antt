@@ -26,8 +26,8 @@ returns-then-are_normal-clause-delivered c =
     c.requires.y c.truncated_number.ensures.answer
 
 pub returns-else-are_normal-clause-stored : goal.returns-else-are_normal-clause-stored
-returns-else-are_normal-clause-stored c = c.special_remainder.ensures.stored
+returns-else-are_normal-clause-stored c = c.special.ensures.stored
 
 pub returns-else-are_normal-clause-delivered : goal.returns-else-are_normal-clause-delivered
 returns-else-are_normal-clause-delivered c =
-    c.special_remainder.ensures.delivered truncated_quotient (λ n p. zero-div n)
+    c.special.ensures.delivered truncated_quotient (λ n p. zero-div n)

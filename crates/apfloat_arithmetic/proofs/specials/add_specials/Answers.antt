@@ -5,7 +5,7 @@ use Rattle.apfloat_base.specs.formats.Datum.{infinite}
 use Rattle.apfloat_unpacked.specs.Shapes.{format_at}
 use Rattle.apfloat_unpacked.specs.Stored.{datum_at}
 use Rattle.apfloat_arithmetic.proofs.SumCases.{same_sum, datum_is}
-use Rattle.apfloat_arithmetic.proofs.sums.add_any.Goals as goal
+use Rattle.apfloat_arithmetic.proofs.specials.add_specials.Goals as goal
 
 pub returns-in-Infinity-clause-delivered : goal.returns-in-Infinity-clause-delivered
 returns-in-Infinity-clause-delivered c =

@@ -2,7 +2,7 @@ use Rattle.std.proofs.Common.{sym, arith}
 use Rattle.apfloat_base.specs.declared.kinds.Category.TheVariants.{Normal, Zero, Infinity, NaN}
 use Rattle.apfloat_unpacked.specs.Stored.{quanta_at}
 use Rattle.apfloat_arithmetic.proofs.SumCases.{datum_is}
-use Rattle.apfloat_arithmetic.proofs.fused.multiply_add_any.Goals as goal
+use Rattle.apfloat_arithmetic.proofs.specials.multiply_add_specials.Goals as goal
 
 pub returns-in-Normal-category-clause-delivered : goal.returns-in-Normal-category-clause-delivered
 returns-in-Normal-category-clause-delivered c =

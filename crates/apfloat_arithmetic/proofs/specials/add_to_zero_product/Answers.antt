@@ -9,7 +9,7 @@ use Rattle.apfloat_unpacked.specs.Shapes.{format_at}
 use Rattle.apfloat_unpacked.specs.Stored.{datum_at, quanta_at}
 use Rattle.apfloat_arithmetic.proofs.SumCases.{number_stored, datum_is}
 use Rattle.apfloat_arithmetic.proofs.FusedCases.{zeros_rounded, same_fused}
-use Rattle.apfloat_arithmetic.proofs.fused.add_to_zero_product.Goals as goal
+use Rattle.apfloat_arithmetic.proofs.specials.add_to_zero_product.Goals as goal
 
 pub returns-in-Normal-clause-delivered : goal.returns-in-Normal-clause-delivered
 returns-in-Normal-clause-delivered c = λ b d l m e h.

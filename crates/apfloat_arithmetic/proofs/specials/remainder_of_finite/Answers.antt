@@ -1,6 +1,6 @@
 use Rattle.std.proofs.Common.{rules, refl}
 use Rattle.apfloat_arithmetic.proofs.SpecialRemainders.{of_zero}
-use Rattle.apfloat_arithmetic.proofs.remainders.special_divisor.Goals as goal
+use Rattle.apfloat_arithmetic.proofs.specials.remainder_of_finite.Goals as goal
 
 pub returns-in-Normal-clause-delivered : goal.returns-in-Normal-clause-delivered
 returns-in-Normal-clause-delivered c = λ quotient q.

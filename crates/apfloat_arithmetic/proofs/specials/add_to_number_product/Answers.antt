@@ -7,7 +7,7 @@ use Rattle.apfloat_unpacked.specs.Stored.{datum_at, quanta_at}
 use Rattle.apfloat_unpacked.proofs.StoredBack.{quanta_some}
 use Rattle.apfloat_arithmetic.proofs.SumCases.{datum_is}
 use Rattle.apfloat_arithmetic.proofs.FusedCases.{product_rounded, same_fused}
-use Rattle.apfloat_arithmetic.proofs.fused.add_to_number_product.Goals as goal
+use Rattle.apfloat_arithmetic.proofs.specials.add_to_number_product.Goals as goal
 
 pub returns-in-Zero-clause-delivered : goal.returns-in-Zero-clause-delivered
 returns-in-Zero-clause-delivered c =
@@ -17,10 +17,10 @@ returns-in-Zero-clause-delivered c =
     let z = c.args.z in
     let l = quanta_at s.min_exp x.significand x.exponent in
     let m = quanta_at s.min_exp y.significand y.exponent in
-    let v = datum_at s c.remade.result.value in
-    let i = bits_of c.remade.result.status in
+    let v = datum_at s c.wide_multiply_numbers.result.value in
+    let i = bits_of c.wide_multiply_numbers.result.status in
     same_fused (format_at s) c.args.round (finite x.negative l) (finite y.negative m) (datum_at s z) v
     (finite z.negative 0) v i i (datum_is Zero s z c.in-Zero.is) refl refl
     (product_rounded (format_at s) c.args.round x.negative y.negative z.negative l m v i
     (quanta_some s x.significand x.exponent c.requires.left)
-    (quanta_some s y.significand y.exponent c.requires.right) (rw c.remade.ensures c.rounded_product.ensures.delivered))
+    (quanta_some s y.significand y.exponent c.requires.right) c.wide_multiply_numbers.ensures.delivered)

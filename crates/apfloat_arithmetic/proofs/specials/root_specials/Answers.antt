@@ -6,14 +6,14 @@ use Rattle.apfloat_unpacked.specs.Stored.{IsStoredBy, IsNormalAt, quanta_at}
 use Rattle.apfloat_unpacked.proofs.StoredBack.{quanta_some}
 use Rattle.apfloat_arithmetic.proofs.SumCases.{datum_is}
 use Rattle.apfloat_arithmetic.proofs.RootCases.{negative_root}
-use Rattle.apfloat_arithmetic.proofs.roots.root_of_special.Goals as goal
+use Rattle.apfloat_arithmetic.proofs.specials.root_specials.Goals as goal
 
 pub returns-in-Normal-clause-delivered : goal.returns-in-Normal-clause-delivered
-returns-in-Normal-clause-delivered c =
+returns-in-Normal-clause-delivered c = λ mode.
     let s = c.args.shape in
     let x = c.args.x in
     let n : IsNormalAt s x.significand x.exponent =
     subst (λ (k : Category). IsStoredBy k s x) c.in-Normal.is c.requires.stored in
     rw (datum_is Normal s x c.in-Normal.is)
-    (negative_root (format_at s) c.args.round x.negative (quanta_at s.min_exp x.significand x.exponent) _ _
+    (negative_root (format_at s) mode x.negative (quanta_at s.min_exp x.significand x.exponent) _ _
     (quanta_some s x.significand x.exponent n) (c.requires.special c.in-Normal.is) c.invalid.ensures.delivered)

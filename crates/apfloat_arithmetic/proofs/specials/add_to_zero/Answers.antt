@@ -8,7 +8,7 @@ use Rattle.apfloat_base.proofs.arithmetic.Tables.{sum_zero_finite, sum_zeros}
 use Rattle.apfloat_unpacked.specs.Shapes.{format_at}
 use Rattle.apfloat_unpacked.specs.Stored.{datum_at, quanta_at}
 use Rattle.apfloat_arithmetic.proofs.SumCases.{number_stored, same_sum, datum_is}
-use Rattle.apfloat_arithmetic.proofs.sums.add_to_zero.Goals as goal
+use Rattle.apfloat_arithmetic.proofs.specials.add_to_zero.Goals as goal
 
 pub returns-in-Normal-clause-delivered : goal.returns-in-Normal-clause-delivered
 returns-in-Normal-clause-delivered c =

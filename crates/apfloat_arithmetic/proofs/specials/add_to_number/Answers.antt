@@ -7,7 +7,7 @@ use Rattle.apfloat_base.proofs.arithmetic.Tables.{sum_finite_zero}
 use Rattle.apfloat_unpacked.specs.Shapes.{format_at}
 use Rattle.apfloat_unpacked.specs.Stored.{datum_at, quanta_at}
 use Rattle.apfloat_arithmetic.proofs.SumCases.{number_stored, same_sum, datum_is}
-use Rattle.apfloat_arithmetic.proofs.sums.add_to_number.Goals as goal
+use Rattle.apfloat_arithmetic.proofs.specials.add_to_number.Goals as goal
 
 pub returns-in-Zero-clause-delivered : goal.returns-in-Zero-clause-delivered
 returns-in-Zero-clause-delivered c =

@@ -1,0 +1,85 @@
+-- Products with an infinity or a NaN among their factors, and sums with them.
+use Rattle.std.proofs.Common.{◌≡◌, ◌⊎◌, inl, inr, ℕ, Bool, true, false, eqb, sym, subst, refl}
+use Rattle.std.specs.Bool.{MatchBool}
+use Rattle.apfloat_base.specs.declared.kinds.Round.{Round}
+use Rattle.apfloat_base.specs.declared.kinds.Category.{Category}
+use Rattle.apfloat_base.specs.declared.kinds.Category.TheVariants.{Infinity, NaN, Normal}
+use Rattle.apfloat_base.specs.formats.Format.{Format}
+use Rattle.apfloat_base.specs.formats.Datum.{Datum, finite, infinite, nan}
+use Rattle.apfloat_base.specs.formats.Nan.{IsInvalid}
+use Rattle.apfloat_base.specs.rounding.Answer.{IsAnswer}
+use Rattle.apfloat_base.specs.rounding.Rounding.{ok_bits}
+use Rattle.apfloat_base.specs.arithmetic.Exact.{product_sign}
+use Rattle.apfloat_base.specs.arithmetic.Products.{IsProduct}
+use Rattle.apfloat_base.specs.arithmetic.Sums.{IsSum}
+use Rattle.apfloat_base.specs.arithmetic.FusedSums.{IsSumWithProduct}
+use Rattle.apfloat_base.specs.order.Classes.{is_finite}
+use Rattle.apfloat_unpacked.specs.declared.shape.Shape.{Shape}
+use Rattle.apfloat_unpacked.specs.declared.unpacked.Unpacked.{Unpacked}
+use Rattle.apfloat_unpacked.specs.Shapes.{format_at}
+use Rattle.apfloat_unpacked.specs.Stored.{datum_at, datum_by}
+
+-- an infinity or a NaN is not finite
+not_finite : (shape : Shape) (x : Unpacked) → (x.category ≡ Infinity) ⊎ (x.category ≡ NaN)
+    → is_finite (datum_at shape x) ≡ false
+not_finite shape x (inl e) = subst (λ (k : Category). is_finite (datum_by k shape x) ≡ false) (sym e) refl
+not_finite shape x (inr e) = subst (λ (k : Category). is_finite (datum_by k shape x) ≡ false) (sym e) refl
+
+-- what holds of both choices holds of the choice
+of_either : (R : Type 0) (test : Bool) (P Q : Type 0) → (P → R) → (Q → R) → MatchBool test P Q → R
+of_either R true P Q p q h = p h
+of_either R false P Q p q h = q h
+
+-- an answer that is not finite, with any flags
+is_given : (given value : Datum) (flags status : ℕ) → is_finite given ≡ false → IsAnswer given flags value status
+    → is_finite value ≡ false
+is_given given value flags status e h = rw h.value_is e
+
+-- where a number is multiplied by an infinity, the result is either NaN or infinity
+no_number : (format : Format) (negative : Bool) (test : Bool) (value : Datum) (status : ℕ)
+    → MatchBool test (IsInvalid format value status) (IsAnswer (infinite negative) ok_bits value status)
+    → is_finite value ≡ false
+no_number format b t value status h =
+    of_either (is_finite value ≡ false) t (IsInvalid format value status) (IsAnswer (infinite b) ok_bits value status)
+    (λ a. is_given _ value _ status refl a) (λ a. is_given _ value _ status refl a) h
+
+-- a product with such a factor is not finite
+product_of_special : (format : Format) (mode : Round) (x y value : Datum) (status : ℕ)
+    → (is_finite x ≡ false) ⊎ (is_finite y ≡ false) → IsProduct format mode x y value status
+    → is_finite value ≡ false
+product_of_special format mode (nan b s) y value status e h = is_given _ value _ status refl h
+product_of_special format mode (infinite b) (nan c t) value status e h = is_given _ value _ status refl h
+product_of_special format mode (infinite b) (infinite c) value status e h = is_given _ value _ status refl h
+product_of_special format mode (infinite b) (finite c n) value status e h =
+    no_number format (product_sign b c) (eqb n 0) value status h
+product_of_special format mode (finite b m) (nan c t) value status e h = is_given _ value _ status refl h
+product_of_special format mode (finite b m) (infinite c) value status e h =
+    no_number format (product_sign b c) (eqb m 0) value status h
+product_of_special format mode (finite b m) (finite c n) value status (inl e) h = cc
+product_of_special format mode (finite b m) (finite c n) value status (inr e) h = cc
+
+-- true is not false
+apart : true ≡ false → ⊥
+apart e = cc
+
+-- so it is stored as no number
+pub is_no_number : (shape : Shape) (mode : Round) (x y value : Unpacked) (status : ℕ)
+    → ((x.category ≡ Infinity) ⊎ (x.category ≡ NaN)) ⊎ ((y.category ≡ Infinity) ⊎ (y.category ≡ NaN))
+    → IsProduct (format_at shape) mode (datum_at shape x) (datum_at shape y) (datum_at shape value) status
+    → value.category ≡ Normal → ⊥
+is_no_number shape mode x y value status (inl k) h e =
+    apart (subst (λ (k : Category). is_finite (datum_by k shape value) ≡ false) e
+    (product_of_special (format_at shape) mode (datum_at shape x) (datum_at shape y) (datum_at shape value) status
+    (inl (not_finite shape x k)) h))
+is_no_number shape mode x y value status (inr k) h e =
+    apart (subst (λ (k : Category). is_finite (datum_by k shape value) ≡ false) e
+    (product_of_special (format_at shape) mode (datum_at shape x) (datum_at shape y) (datum_at shape value) status
+    (inr (not_finite shape y k)) h))
+
+-- a sum with a product that is known
+pub with_product : (format : Format) (mode : Round) (x y z value product : Datum) (status flags : ℕ)
+    → IsProduct format mode x y product flags
+    → MatchBool (eqb flags ok_bits) (IsSum format mode product z value status) (IsAnswer product flags value status)
+    → IsSumWithProduct format mode x y z value status
+with_product format mode x y z value product status flags p i =
+    record { product = product; flags = flags; is_product = p; is = i }

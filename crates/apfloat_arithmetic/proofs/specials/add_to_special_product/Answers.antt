@@ -1,0 +1,27 @@
+use Rattle.std.proofs.Common.{rules}
+use Rattle.apfloat_base.specs.rounding.Flags.{bits_of}
+use Rattle.apfloat_unpacked.specs.Shapes.{format_at}
+use Rattle.apfloat_unpacked.specs.Stored.{datum_at}
+use Rattle.apfloat_arithmetic.proofs.SpecialProducts.{is_no_number, with_product}
+use Rattle.apfloat_arithmetic.proofs.specials.add_to_special_product.Goals as goal
+
+pub add_specials-requires-clause-special : goal.add_specials-requires-clause-special
+add_specials-requires-clause-special c = λ e f.
+    is_no_number c.args.shape c.args.round c.args.x c.args.y c.multiply_specials-product.result.value _
+    c.requires.special (c.multiply_specials-product.ensures.delivered c.args.round) e
+
+pub returns-then-eq-clause-delivered : goal.returns-then-eq-clause-delivered
+returns-then-eq-clause-delivered c =
+    let s = c.args.shape in
+    let p = c.multiply_specials-product.result in
+    with_product (format_at s) c.args.round (datum_at s c.args.x) (datum_at s c.args.y) (datum_at s c.args.z)
+    (datum_at s c.add_specials.result.value) (datum_at s p.value) (bits_of c.add_specials.result.status)
+    (bits_of p.status) (c.multiply_specials-product.ensures.delivered c.args.round) (search rules)
+
+pub returns-else-eq-clause-delivered : goal.returns-else-eq-clause-delivered
+returns-else-eq-clause-delivered c =
+    let s = c.args.shape in
+    let p = c.multiply_specials-product.result in
+    with_product (format_at s) c.args.round (datum_at s c.args.x) (datum_at s c.args.y) (datum_at s c.args.z)
+    (datum_at s p.value) (datum_at s p.value) (bits_of p.status) (bits_of p.status)
+    (c.multiply_specials-product.ensures.delivered c.args.round) (search rules)

@@ -1,0 +1,57 @@
+-- Operations of which an operand is no nonzero number, and what each of them gives (IEEE 754-2008 6.1 to 6.3, 7.2, 7.3).
+use Rattle.std.specs.Prelude.{◌≡◌, ℕ, ◌<◌, true}
+use Rattle.apfloat_base.specs.declared.kinds.Category.TheVariants.{Normal}
+use Rattle.apfloat_base.specs.declared.kinds.Round.{Round}
+use Rattle.apfloat_base.specs.formats.Datum.{Datum}
+use Rattle.apfloat_base.specs.arithmetic.Sums.{IsSum}
+use Rattle.apfloat_base.specs.arithmetic.Products.{IsProduct}
+use Rattle.apfloat_base.specs.arithmetic.Quotients.{IsQuotient}
+use Rattle.apfloat_base.specs.arithmetic.FusedSums.{IsFusedSum}
+use Rattle.apfloat_base.specs.arithmetic.Roots.{IsRoot}
+use Rattle.apfloat_base.specs.arithmetic.Remainders.{IsRemainder}
+use Rattle.apfloat_unpacked.specs.declared.shape.Shape.{Shape}
+use Rattle.apfloat_unpacked.specs.declared.unpacked.Unpacked.{Unpacked}
+use Rattle.apfloat_unpacked.specs.Shapes.{format_at}
+use Rattle.apfloat_unpacked.specs.Stored.{IsStored, datum_at}
+use Rattle.apfloat_arithmetic.specs.declared.specials.Operation.{Operation}
+use Rattle.apfloat_arithmetic.specs.declared.specials.Operation.TheVariants.{Sum, Product, Quotient, FusedSum, Root, Remainder}
+
+-- two stored values, not both nonzero numbers
+pub record AreSpecial (s : Shape) (x y : Unpacked) : Type 0 where
+  pub left : IsStored s x
+  pub right : IsStored s y
+  pub special : x.category ≡ Normal → y.category ≡ Normal → ⊥
+
+-- three of them
+pub record AreSpecialTerms (s : Shape) (x y z : Unpacked) : Type 0 where
+  pub left : IsStored s x
+  pub right : IsStored s y
+  pub addend : IsStored s z
+  pub special : x.category ≡ Normal → y.category ≡ Normal → z.category ≡ Normal → ⊥
+
+-- a stored value, no positive number
+pub record IsSpecialRadicand (s : Shape) (x : Unpacked) : Type 0 where
+  pub stored : IsStored s x
+  pub special : x.category ≡ Normal → x.negative ≡ true
+
+abbrev pub HasSpecials : Shape → Operation → Type 0
+HasSpecials s (Sum x y mode) = AreSpecial s x y
+HasSpecials s (Product x y) = AreSpecial s x y
+HasSpecials s (Quotient x y) = AreSpecial s x y
+HasSpecials s (FusedSum x y z mode) = AreSpecialTerms s x y z
+HasSpecials s (Root x) = IsSpecialRadicand s x
+HasSpecials s (Remainder x y) = AreSpecial s x y
+
+-- Of a product, a quotient and a root the rounding mode does not matter, nor does the whole quotient of a remainder.
+abbrev pub IsResult : Shape → Operation → Datum → ℕ → Type 0
+IsResult s (Sum x y mode) value status = IsSum (format_at s) mode (datum_at s x) (datum_at s y) value status
+IsResult s (Product x y) value status =
+    (mode : Round) → IsProduct (format_at s) mode (datum_at s x) (datum_at s y) value status
+IsResult s (Quotient x y) value status =
+    (mode : Round) → IsQuotient (format_at s) mode (datum_at s x) (datum_at s y) value status
+IsResult s (FusedSum x y z mode) value status =
+    IsFusedSum (format_at s) mode (datum_at s x) (datum_at s y) (datum_at s z) value status
+IsResult s (Root x) value status = (mode : Round) → IsRoot (format_at s) mode (datum_at s x) value status
+IsResult s (Remainder x y) value status =
+    (quotient : ℕ → ℕ → ℕ) → ((n : ℕ) → 0 < n → quotient 0 n ≡ 0)
+    → IsRemainder (format_at s) quotient (datum_at s x) (datum_at s y) value status
