@@ -3,3 +3,5 @@ pub mod ConversionsBy
 pub mod FarNumbers
 pub mod Places
 pub mod WidthBounds
+pub mod PlacesOnce
+pub mod OneBlock

@@ -4,6 +4,7 @@ pub mod Saturation
 pub mod Values
 pub mod FarNumbers
 pub mod Blocks
+pub mod OneBlock
 pub mod Widths
 pub mod Calls
 pub mod Words

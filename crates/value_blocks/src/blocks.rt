@@ -5,6 +5,7 @@ ghost use Rattle.rustc_apfloat.specs.Types.{constants_of};
 ghost use Rattle.rustc_apfloat.specs.FlaggedTypes.{constants_of as flagged_constants_of};
 ghost use Rattle.value_blocks.specs.Values.{IsConvertedBy, IsConvertedValue};
 ghost use Rattle.value_blocks.specs.Blocks.{IsBlock};
+ghost use Rattle.value_blocks.specs.OneBlock.{IsBlockOnce};
 
 use crate::counts::Counts;
 use crate::far_numbers::far_answers_for;
@@ -65,3 +66,8 @@ pub fn convert_block_by<S: Flagged, T: Flagged>(
     }
     counts
 }
+
+/// A block of values is converted in one way: to the same bytes, with the same counts.
+pub fn one_block()
+    ensures { IsBlockOnce }
+{}
