@@ -120,7 +120,7 @@ odd_rest q g t rest amount u w k o e l a b =
 -- how a significand with that many digits, moved up to the top of a word, is cut to the precision
 pub record IsTopSplit (width precision s digits top place rest half up down : ℕ) : Type 0 where
   pub some : 0 < precision
-  pub short : precision + 5 ≤ width
+  pub short : precision + 3 ≤ width
   pub word : digits ≤ width
   pub any : 0 < digits
   pub fits : s < 2 ^ digits

@@ -1,9 +1,9 @@
 //! The rounding of a long significand that was rounded to odd before.
 //!
-//! This is what `odd` does in a word of 64 digits. The significand is moved up to the top of a `u128`, so that the rest
-//! below a format of at least 64 digits is one word.
+//! This is what `odd` does in a word of 64 digits. The significand is moved up to the top of a `u128`, so that the cut is
+//! at the same digit for each of them.
 
-ghost use Rattle.std.specs.Prelude.{◌≡◌, ℕ, ◌+◌, ◌-◌, ◌*◌, ◌%◌, ◌^◌, ◌<◌, ◌≤◌, pos, ◌+ℤ◌, ◌≤ℤ◌};
+ghost use Rattle.std.specs.Prelude.{◌≡◌, ℕ, ◌+◌, ◌-◌, ◌*◌, ◌^◌, ◌<◌, ◌≤◌, pos, ◌+ℤ◌, ◌≤ℤ◌};
 ghost use Rattle.apfloat_base.specs.rounding.Bounds.{IsWithin, exponent_bound, unit_bound, place_bound};
 ghost use Rattle.apfloat_base.specs.rounding.Rounding.{IsDelivered};
 ghost use Rattle.apfloat_base.specs.rounding.RoundingToOdd.{IsRoundedToOdd};
@@ -12,10 +12,10 @@ ghost use Rattle.apfloat_unpacked.specs.Cuts.{IsCutOff};
 ghost use Rattle.apfloat_unpacked.specs.Shapes.{format_at};
 ghost use Rattle.apfloat_unpacked.specs.Stored.{IsStored, GivesAt};
 
-use super::{Cut, deliver_apart, full_place, round_cut, unit_place, word_power};
+use super::{Cut, deliver_apart, full_place, round_cut, split, unit_place};
 use crate::shape::Shape;
 use crate::unpacked::Unpacked;
-use apfloat_base::sig::{Loss, digits, low_digits};
+use apfloat_base::sig::{Loss, digits};
 use apfloat_base::{ExpInt, Round, StatusAnd};
 
 /// A significand with `digits` digits, moved up until it has 128.
@@ -29,20 +29,11 @@ fn at_long_top(significand: u128, digits: u32) -> u128
     significand << (128 - digits)
 }
 
-/// The lowest `places` binary digits of a number, in a word.
-#[inline(always)]
-fn low_word(number: u128, places: u32) -> u64
-    requires { places ≤ 64 }
-    ensures { result ≡ number % 2 ^ places }
-{
-    low_digits(number, places) as u64
-}
-
 /// Cuts a significand with `digits` digits, which was rounded to odd, to the precision.
 #[inline(always)]
 fn cut_long_odd(precision: u32, significand: u128, digits: u32, unit: ExpInt) -> Cut
-    requires long { 64 ≤ precision }
-    requires short { precision ≤ 123 }
+    requires some { 0 < precision }
+    requires short { precision ≤ 125 }
     requires word { digits ≤ 128 }
     requires any { 0 < digits }
     requires fits { significand < 2 ^ digits }
@@ -58,13 +49,12 @@ fn cut_long_odd(precision: u32, significand: u128, digits: u32, unit: ExpInt) ->
         (parts * 2 ^ up unit)
         → IsCutOff precision result amount parts }
 {
-    let top = at_long_top(significand, digits);
-    let places = 128 - precision;
+    let pieces = split(at_long_top(significand, digits), 128, 128 - precision);
     Cut {
-        significand: top >> places,
+        significand: pieces.kept,
         place: full_place(precision, digits, unit),
-        rest: low_word(top, places),
-        half: word_power(places - 1),
+        rest: pieces.rest,
+        half: pieces.half,
     }
 }
 
@@ -78,8 +68,6 @@ pub fn deliver_long_odd(
     mode: Round,
     negative: bool,
 ) -> StatusAnd<Unpacked>
-    requires long { 64 ≤ shape.precision }
-    requires short { shape.precision ≤ 123 }
     requires within { IsWithin exponent_bound exponent }
     ensures stored { IsStored shape result.value }
     ensures delivered { let unit = exponent +ℤ pos (format_at shape).scale in (amount : ℕ)

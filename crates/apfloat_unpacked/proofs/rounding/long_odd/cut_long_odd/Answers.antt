@@ -1,54 +1,52 @@
-use Rattle.std.proofs.Common.{◌-◌, arith, w32}
+use Rattle.std.proofs.Common.{◌-◌, ◌*◌, ◌/◌, ◌%◌, ◌^◌, refl, sym, subst, arith, w32}
 use Rattle.std.proofs.lemmas.Int.{ints, to_z-of_z}
 use borrow.Author.Differences.{fits_in}
-use Rattle.apfloat_base.specs.rounding.Standing.{up, down}
-use Rattle.apfloat_unpacked.proofs.CutRests.{rest_below}
+use Rattle.apfloat_base.specs.declared.sig.loss.Loss.{Loss}
+use Rattle.apfloat_base.specs.rounding.Standing.{StandsFor, up, down}
 use Rattle.apfloat_unpacked.proofs.OddCuts.{IsTopSplit, top_cut_fits, top_cut_full, top_cut_stands, top_cut_encloses}
-use Rattle.apfloat_unpacked.proofs.rounding.long_odd.cut_long_odd.Goals.{After-word_power}
+use Rattle.apfloat_unpacked.proofs.rounding.long_odd.cut_long_odd.Goals.{After-full_place}
 use Rattle.apfloat_unpacked.proofs.rounding.long_odd.cut_long_odd.Goals as goal
 
 -- the facts that all clauses share
-split : (c : After-word_power)
-    → IsTopSplit 128 c.args.precision c.args.significand c.args.digits c.at_long_top-top.result c.full_place.result
-    c.low_word.result c.word_power.result (up c.args.unit) (down c.args.unit)
-split c =
+top_split : (c : After-full_place)
+    → IsTopSplit 128 c.args.precision c.args.significand c.args.digits c.at_long_top.result c.full_place.result
+    (c.at_long_top.result % 2 ^ (128 - c.args.precision)) (2 ^ (128 - c.args.precision - 1)) (up c.args.unit)
+    (down c.args.unit)
+top_split c =
     let e = to_z-of_z w32 c.args.unit (fits_in w32 c.args.unit (omega (arith, ints, c.requires.within))) in
     record {
-      some = let s = c.requires.long in omega (arith, s);
+      some = c.requires.some;
       short = let s = c.requires.short in omega (arith, s);
       word = c.requires.word;
       any = c.requires.any;
       fits = c.requires.fits;
       full = c.requires.full;
-      top_is = c.at_long_top-top.ensures;
-      half_is = c.word_power.ensures;
-      rest_is = c.low_word.ensures;
+      top_is = c.at_long_top.ensures;
+      half_is = refl;
+      rest_is = refl;
       place_is = rw e at c.full_place.ensures.reached;
     }
 
 pub returns-clause-fits : goal.returns-clause-fits
 returns-clause-fits c =
-    top_cut_fits 128 c.args.precision c.args.significand c.args.digits c.at_long_top-top.result c.full_place.result
-    c.low_word.result c.word_power.result (up c.args.unit) (down c.args.unit)
-    (split (goal.at.returns-clause-fits c).After-word_power)
+    rw c.split-pieces.ensures.kept
+    (top_cut_fits 128 c.args.precision c.args.significand c.args.digits c.at_long_top.result c.full_place.result _ _
+    (up c.args.unit) (down c.args.unit) (top_split (goal.at.returns-clause-fits c).After-full_place))
 
 pub returns-clause-full : goal.returns-clause-full
 returns-clause-full c =
-    top_cut_full 128 c.args.precision c.args.significand c.args.digits c.at_long_top-top.result c.full_place.result
-    c.low_word.result c.word_power.result (up c.args.unit) (down c.args.unit)
-    (split (goal.at.returns-clause-full c).After-word_power)
-
-pub returns-clause-rest : goal.returns-clause-rest
-returns-clause-rest c =
-    let l = c.requires.short in
-    rest_below c.at_long_top-top.result (128 - c.args.precision) c.word_power.result c.low_word.result
-    (omega (arith, l)) c.word_power.ensures c.low_word.ensures
+    rw c.split-pieces.ensures.kept
+    (top_cut_full 128 c.args.precision c.args.significand c.args.digits c.at_long_top.result c.full_place.result _ _
+    (up c.args.unit) (down c.args.unit) (top_split (goal.at.returns-clause-full c).After-full_place))
 
 pub returns-clause-cut : goal.returns-clause-cut
 returns-clause-cut c = λ amount parts p h.
-    let i = split (goal.at.returns-clause-cut c).After-word_power in (
-      top_cut_encloses 128 c.args.precision c.args.significand c.args.digits c.at_long_top-top.result
-          c.full_place.result c.low_word.result c.word_power.result (up c.args.unit) (down c.args.unit) amount parts i p h,
-      top_cut_stands 128 c.args.precision c.args.significand c.args.digits c.at_long_top-top.result c.full_place.result
-          c.low_word.result c.word_power.result (up c.args.unit) (down c.args.unit) amount parts i p h,
+    let i = top_split (goal.at.returns-clause-cut c).After-full_place in
+    rw c.split-pieces.ensures.kept (
+      top_cut_encloses 128 c.args.precision c.args.significand c.args.digits c.at_long_top.result c.full_place.result
+          _ _ (up c.args.unit) (down c.args.unit) amount parts i p h,
+      subst (λ (x : Loss). StandsFor (c.at_long_top.result / 2 ^ (128 - c.args.precision)) x amount
+          (2 ^ c.full_place.result * parts)) (sym c.split-pieces.ensures.rest)
+          (top_cut_stands 128 c.args.precision c.args.significand c.args.digits c.at_long_top.result
+          c.full_place.result _ _ (up c.args.unit) (down c.args.unit) amount parts i p h),
     )
