@@ -212,7 +212,8 @@ even_amount least zero amount unit z (inl e) = omega (arith, e)
 even_amount least zero amount unit z (inr b) = let o = b.odd in absurd (omega (arith, o))
 even_amount least (suc q) amount unit z h = absurd (omega (arith, z))
 
-read_odd_sum : (least : ℕ) (of_zero : Bool) (base e unit : ℤ) (k m n : ℕ) (left right negative : Bool) (q : ℕ)
+-- the sum of two terms that was rounded to odd, as the sum of their numbers of quanta
+pub read_odd_sum : (least : ℕ) (of_zero : Bool) (base e unit : ℤ) (k m n : ℕ) (left right negative : Bool) (q : ℕ)
     → e ≡ ((unit +ℤ base) +ℤ pos k)
     → IsSignedToOdd least base (signed left (m * 2 ^ k) +ℤ signed right (n * 2 ^ k)) negative e q
     → IsRepresentedToOdd least of_zero (signed left m +ℤ signed right n) negative unit q
@@ -274,22 +275,33 @@ scale_is precision min p h = omega (arith, ints)
 
 -- ---- room, and all digits
 
--- a significand of at most 125 digits is below 2 ^ 127
-pub roomy : (precision m s : ℕ) → precision ≤ 125 → s ≡ m → m < 2 ^ precision → s < 2 ^ 127
+-- a significand of at most 125 digits is below 2 ^ 250
+pub roomy : (precision m s : ℕ) → precision ≤ 125 → s ≡ m → m < 2 ^ precision → s < 2 ^ 250
 roomy precision m s p e h =
-    let l : precision ≤ 127 = omega arith in
-    let k : 2 ^ precision ≤ 2 ^ 127 = pow-le-pow_right two_pos l in
+    let l : precision ≤ 250 = omega arith in
+    let k : 2 ^ precision ≤ 2 ^ 250 = pow-le-pow_right two_pos l in
+    omega arith
+
+-- two significands with one count of digits are less than twice each other
+pub same_count : (precision mx my sx sy : ℕ) → 3 ≤ precision → sx ≡ mx → sy ≡ my → mx < 2 ^ precision
+    → 2 ^ (precision - 1) ≤ my → sx < 2 * sy
+same_count precision mx my sx sy p ex ey hx ly =
+    let t : 2 * 2 ^ (precision - 1) ≡ 2 ^ precision = twice_half precision (omega arith) in
     omega arith
 
 -- where a part of the sum of two numbers with all digits was lost, the sum has all digits
-pub sum_full : (precision mx my sx sy q : ℕ) (loss : Loss) → 3 ≤ precision → sx ≡ mx → sy ≡ my
+pub sum_full : (precision mx my sx sy q : ℕ) (loss : Loss) → 3 ≤ precision → precision ≤ 125 → sx ≡ mx → sy ≡ my
     → 2 ^ (precision - 1) ≤ mx → mx < 2 ^ precision → 2 ^ (precision - 1) ≤ my → my < 2 ^ precision
-    → ((half : ℕ) → half ≤ sx → half ≤ sy → sx < 2 * half → sy < 2 * half → (loss ≡ ExactlyZero) ⊎ (half ≤ q))
+    → ((half least : ℕ) → least ≤ half → least ≤ 2 ^ 127 → half ≤ sx → half ≤ sy → sx < 2 * half → sy < 2 * half
+    → (loss ≡ ExactlyZero) ⊎ (least ≤ q))
     → (loss ≡ ExactlyZero) ⊎ (2 ^ (precision - 1) ≤ q)
-sum_full precision mx my sx sy q loss p ex ey lx hx ly hy f =
+sum_full precision mx my sx sy q loss p r ex ey lx hx ly hy f =
     let p' : 0 < precision = omega arith in
     let t : 2 * 2 ^ (precision - 1) ≡ 2 ^ precision = twice_half precision p' in
-    f (2 ^ (precision - 1)) (omega arith) (omega arith) (omega arith) (omega arith)
+    let m : precision - 1 ≤ 127 = omega arith in
+    let k : 2 ^ (precision - 1) ≤ 2 ^ 127 = pow-le-pow_right two_pos m in
+    f (2 ^ (precision - 1)) (2 ^ (precision - 1)) (omega arith) k (omega arith) (omega arith) (omega arith)
+    (omega arith)
 
 -- one of two reasons is one of three
 pub fine_if : (loss : Loss) (A B : Type 0) → (loss ≡ ExactlyZero) ⊎ B → (loss ≡ ExactlyZero) ⊎ (A ⊎ B)

@@ -13,7 +13,7 @@ use crate::classes::are_normal;
 use crate::products::product_sign;
 use crate::specials::{Operation, special};
 use apfloat_base::sig::{
-    NEAR_LIMIT, SHORT_LIMIT, divide_by_words, divide_short_by_guess, divide_word,
+    NEAR_LIMIT, WORD_LIMIT, divide_by_words, divide_short_by_guess, divide_word,
     divide_word_by_guess, guess_quotient,
 };
 use apfloat_base::{ExpInt, Round, StatusAnd};
@@ -104,7 +104,7 @@ fn divide_numbers(shape: Shape, x: Unpacked, y: Unpacked, round: Round) -> Statu
         (product_sign x.negative y.negative) (quanta_of shape x * 2 ^ (format_at shape).scale)
         (quanta_of shape y)) result }
 {
-    if shape.precision <= SHORT_LIMIT {
+    if shape.precision <= WORD_LIMIT {
         return divide_short_numbers(shape, x, y, round);
     }
     let places = shape.precision + 1;

@@ -3,6 +3,7 @@
 ghost use Rattle.std.specs.Prelude.{◌≡◌, ◌≤◌, pos, ◌+ℤ◌};
 ghost use Rattle.apfloat_base.specs.arithmetic.Exact.{signed, IsRounded};
 ghost use Rattle.apfloat_base.specs.arithmetic.Sums.{zero_sum_sign, IsSum, IsDifference};
+ghost use Rattle.apfloat_base.specs.arithmetic.Wides.{whole};
 ghost use Rattle.apfloat_arithmetic.specs.Subtrahends.{added};
 ghost use Rattle.apfloat_unpacked.specs.Shapes.{format_at};
 ghost use Rattle.apfloat_unpacked.specs.Stored.{IsNormal, IsStored, datum_at, quanta_of, GivesAt};
@@ -11,8 +12,8 @@ use crate::classes::are_normal;
 use crate::signs::negated;
 use crate::specials::{Operation, special};
 use apfloat_base::sig::{
-    LONG_LIMIT, LongOddTotal, Loss, OddTotal, SHORT_LIMIT, Term, Total, add_long_terms,
-    add_short_terms, add_terms, is_zero,
+    Loss, Term, Total, U128_LIMIT, WORD_LIMIT, Wide, WideTerm, add_u128_terms, add_wide_terms,
+    add_word_terms, is_zero,
 };
 use apfloat_base::{Category, Round, StatusAnd};
 use apfloat_unpacked::rounding::deliver;
@@ -69,33 +70,16 @@ pub(crate) fn sign_of_total(total: Total, of_zero: bool) -> bool
 
 /// The sign of a total that was rounded to odd; `of_zero` if it is zero, which it is only exactly.
 #[inline(always)]
-fn sign_of_odd_total(total: OddTotal, of_zero: bool) -> bool
-    ensures zero { total.significand ≡ 0 → result ≡ of_zero }
-    ensures other { (total.significand ≡ 0 → ⊥) → result ≡ total.negative }
+pub(crate) fn sign_of_odd_total(significand: u128, negative: bool, of_zero: bool) -> bool
+    ensures zero { significand ≡ 0 → result ≡ of_zero }
+    ensures other { (significand ≡ 0 → ⊥) → result ≡ negative }
 {
-    if total.significand == 0 {
-        of_zero
-    } else {
-        total.negative
-    }
+    if significand == 0 { of_zero } else { negative }
 }
 
-/// The sign of a long total that was rounded to odd; `of_zero` if it is zero, which it is only exactly.
+/// The sum of two nonzero numbers with at most 59 digits, in one word.
 #[inline(always)]
-fn sign_of_long_odd_total(total: LongOddTotal, of_zero: bool) -> bool
-    ensures zero { total.significand ≡ 0 → result ≡ of_zero }
-    ensures other { (total.significand ≡ 0 → ⊥) → result ≡ total.negative }
-{
-    if total.significand == 0 {
-        of_zero
-    } else {
-        total.negative
-    }
-}
-
-/// The sum of two nonzero numbers with few digits: their total fits in one word.
-#[inline(always)]
-fn add_short_numbers(shape: Shape, x: Unpacked, y: Unpacked, round: Round) -> StatusAnd<Unpacked>
+fn add_word_numbers(shape: Shape, x: Unpacked, y: Unpacked, round: Round) -> StatusAnd<Unpacked>
     requires short { shape.precision ≤ 59 }
     requires x_normal { IsNormal shape x }
     requires y_normal { IsNormal shape y }
@@ -104,17 +88,16 @@ fn add_short_numbers(shape: Shape, x: Unpacked, y: Unpacked, round: Round) -> St
         (zero_sum_sign round x.negative y.negative)
         (signed x.negative (quanta_of shape x) +ℤ signed y.negative (quanta_of shape y)) 1) result }
 {
-    let total = add_short_terms(shape.precision, term_of(shape, x), term_of(shape, y));
+    let total = add_word_terms(shape.precision, term_of(shape, x), term_of(shape, y));
     let of_zero = sign_of_zero(round, x.negative, y.negative);
-    let negative = sign_of_odd_total(total, of_zero);
+    let negative = sign_of_odd_total(u128::from(total.significand), total.negative, of_zero);
     deliver_odd(shape, total.significand, total.exponent, round, negative)
 }
 
-/// The sum of two nonzero numbers with many digits: their total fits in one `u128`.
+/// The sum of two nonzero numbers with at most 124 digits, in one `u128`.
 #[inline(always)]
-fn add_long_numbers(shape: Shape, x: Unpacked, y: Unpacked, round: Round) -> StatusAnd<Unpacked>
-    requires long { 64 ≤ shape.precision }
-    requires short { shape.precision ≤ 123 }
+fn add_u128_numbers(shape: Shape, x: Unpacked, y: Unpacked, round: Round) -> StatusAnd<Unpacked>
+    requires short { shape.precision ≤ 124 }
     requires x_normal { IsNormal shape x }
     requires y_normal { IsNormal shape y }
     ensures stored { IsStored shape result.value }
@@ -122,16 +105,33 @@ fn add_long_numbers(shape: Shape, x: Unpacked, y: Unpacked, round: Round) -> Sta
         (zero_sum_sign round x.negative y.negative)
         (signed x.negative (quanta_of shape x) +ℤ signed y.negative (quanta_of shape y)) 1) result }
 {
-    let total = add_long_terms(shape.precision, term_of(shape, x), term_of(shape, y));
+    let total = add_u128_terms(shape.precision, term_of(shape, x), term_of(shape, y));
     let of_zero = sign_of_zero(round, x.negative, y.negative);
-    let negative = sign_of_long_odd_total(total, of_zero);
+    let negative = sign_of_odd_total(total.significand, total.negative, of_zero);
     deliver_long_odd(shape, total.significand, total.exponent, round, negative)
 }
 
-/// The sum of two nonzero numbers of any precision. Kept out of line, for the few precisions that no faster way takes.
+/// A term in two words.
+#[inline(always)]
+fn widened_term(term: Term) -> WideTerm
+    ensures negative { result.negative ≡ term.negative }
+    ensures exponent { result.exponent ≡ term.exponent }
+    ensures significand { whole result.significand ≡ term.significand }
+{
+    WideTerm {
+        negative: term.negative,
+        exponent: term.exponent,
+        significand: Wide {
+            high: 0,
+            low: term.significand,
+        },
+    }
+}
+
+/// The sum of two nonzero numbers of any precision, in two words. Kept out of line: only numbers of 125 digits take it.
 #[cold]
 #[inline(never)]
-fn add_other_numbers(shape: Shape, x: Unpacked, y: Unpacked, round: Round) -> StatusAnd<Unpacked>
+fn add_wide_numbers(shape: Shape, x: Unpacked, y: Unpacked, round: Round) -> StatusAnd<Unpacked>
     requires x_normal { IsNormal shape x }
     requires y_normal { IsNormal shape y }
     ensures stored { IsStored shape result.value }
@@ -139,7 +139,10 @@ fn add_other_numbers(shape: Shape, x: Unpacked, y: Unpacked, round: Round) -> St
         (zero_sum_sign round x.negative y.negative)
         (signed x.negative (quanta_of shape x) +ℤ signed y.negative (quanta_of shape y)) 1) result }
 {
-    let total = add_terms(term_of(shape, x), term_of(shape, y));
+    let total = add_wide_terms(
+        widened_term(term_of(shape, x)),
+        widened_term(term_of(shape, y)),
+    );
     let of_zero = sign_of_zero(round, x.negative, y.negative);
     let negative = sign_of_total(total, of_zero);
     deliver(
@@ -162,13 +165,13 @@ fn add_numbers(shape: Shape, x: Unpacked, y: Unpacked, round: Round) -> StatusAn
         (zero_sum_sign round x.negative y.negative)
         (signed x.negative (quanta_of shape x) +ℤ signed y.negative (quanta_of shape y)) 1) result }
 {
-    if shape.precision <= SHORT_LIMIT {
-        return add_short_numbers(shape, x, y, round);
+    if shape.precision <= WORD_LIMIT {
+        return add_word_numbers(shape, x, y, round);
     }
-    if shape.precision >= 64 && shape.precision <= LONG_LIMIT {
-        return add_long_numbers(shape, x, y, round);
+    if shape.precision <= U128_LIMIT {
+        return add_u128_numbers(shape, x, y, round);
     }
-    remade(add_other_numbers(shape.remade(), x.remade(), y.remade(), round))
+    remade(add_wide_numbers(shape.remade(), x.remade(), y.remade(), round))
 }
 
 /// `x + y`, rounded once (IEEE 754-2008 5.4.1).

@@ -1,7 +1,7 @@
 -- The cut of a significand that was rounded to odd.
 use Rattle.std.proofs.Common.{◌≡◌, ℕ, zero, suc, ℤ, pos, negsuc, ◌+ℤ◌, ◌≤ℤ◌, unsigned_abs, ◌+◌, ◌-◌, ◌*◌, ◌/◌, ◌%◌, ◌^◌, ◌<◌, ◌≤◌, ◌⊎◌, sym, refl, ap, ◌∙◌, subst, inl, inr, ⊎_elim, arith}
 use Rattle.std.proofs.Math.Path.{subst₂}
-use Rattle.std.proofs.Math.Nat.{mul-le-mul_right, mul-lt-mul_of_pos_right, mul-pos, div-add-mod'}
+use Rattle.std.proofs.Math.Nat.{pow-le-pow_right, mul-le-mul_right, mul-lt-mul_of_pos_right, mul-pos, div-add-mod'}
 use Rattle.std.proofs.lemmas.Bool.{cases_lt}
 use Rattle.std.proofs.lemmas.Int.{ints}
 use Rattle.std.proofs.lemmas.Nat.{pow-add, pow_pos}
@@ -10,7 +10,7 @@ use Rattle.apfloat_base.specs.declared.sig.loss.Loss.TheVariants.{ExactlyZero, L
 use Rattle.apfloat_base.specs.rounding.Enclosure.{IsEnclosed}
 use Rattle.apfloat_base.specs.rounding.RoundingToOdd.{IsRoundedToOdd}
 use Rattle.apfloat_base.specs.rounding.Standing.{StandsFor, up, down}
-use Rattle.apfloat_base.proofs.general.Powers.{twice_half, exponent_below, pow3}
+use Rattle.apfloat_base.proofs.general.Powers.{two_pos, twice_half, exponent_below, pow3}
 use Rattle.apfloat_base.proofs.rounding.KeptDigits.{kept_stands, fits_cut, full_cut, enclosed_from}
 use Rattle.apfloat_base.proofs.rounding.OddRoundings.{whole_to_odd}
 use Rattle.apfloat_unpacked.specs.Cuts.{loss_at}
@@ -230,6 +230,17 @@ no_up (negsuc n) h = refl
 pub no_down : (z : ℤ) → pos 0 ≤ℤ z → (up z ≡ unsigned_abs z) × (down z ≡ 0)
 no_down (pos n) h = (refl, refl)
 no_down (negsuc n) h = absurd (omega (arith, ints, h))
+
+-- a number of so few digits is not rounded
+pub few_digits : (s digits precision : ℕ) → s < 2 ^ digits → digits ≤ precision + 1 → s < 2 ^ (precision + 1)
+few_digits s digits precision f l =
+    let k : 2 ^ digits ≤ 2 ^ (precision + 1) = pow-le-pow_right two_pos l in
+    omega (arith, f, k)
+
+pub exact_if_short : (s precision amount unit : ℕ) → s < 2 ^ (precision + 1)
+    → IsRoundedToOdd (2 ^ (precision + 1)) s amount unit → StandsFor s ExactlyZero amount unit
+exact_if_short s precision amount unit f (inl e) = e
+exact_if_short s precision amount unit f (inr o) = let m = o.long in absurd (omega (arith, m, f))
 
 -- with a unit below the quantum, a whole number of quanta is not rounded
 pub exact_below : (s digits precision amount : ℕ) (unit : ℤ)

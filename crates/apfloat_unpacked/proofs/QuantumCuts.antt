@@ -16,7 +16,7 @@ use Rattle.apfloat_base.specs.rounding.Standing.{StandsFor}
 use Rattle.apfloat_base.proofs.formats.Ranges.{half_within}
 use Rattle.apfloat_base.proofs.general.Powers.{two_pos, twice_half, exponent_below, pow3}
 use Rattle.apfloat_base.proofs.arithmetic.LongDivisions.{whole_quotient}
-use Rattle.apfloat_base.proofs.rounding.KeptDigits.{kept_stands, stands_cancel, fits_cut, full_cut, enclosed_from}
+use Rattle.apfloat_base.proofs.rounding.KeptDigits.{kept_stands, stands_cancel, stands_times, fits_cut, full_cut, enclosed_from}
 use Rattle.apfloat_base.proofs.rounding.Laws.{exact_delivered}
 use Rattle.apfloat_base.proofs.rounding.Losses.{cut_at}
 use Rattle.apfloat_base.proofs.rounding.OddRoundings.{to_odd_cancel, to_odd_times}
@@ -356,6 +356,21 @@ folded_odd s least k up down up' down' amount parts e h =
     let b'' : parts * (2 ^ up' * 2 ^ down) ≡ parts * 2 ^ up' * 2 ^ down = omega arith in
     to_odd_cancel least s (amount * 2 ^ down') (parts * 2 ^ up') (2 ^ down) (pow_pos down)
     (subst₂ (λ (x : ℕ) (y : ℕ). IsRoundedToOdd least s x y) a (b ∙ b' ∙ b'') t)
+
+-- the same of what is left with a loss below it
+pub folded_stands : (s : ℕ) (loss : Loss) (k up down up' down' amount parts : ℕ) → k + up + down' ≡ up' + down
+    → StandsFor s loss (amount * 2 ^ down) (2 ^ k * (parts * 2 ^ up))
+    → StandsFor s loss (amount * 2 ^ down') (parts * 2 ^ up')
+folded_stands s loss k up down up' down' amount parts e h =
+    let t = stands_times s loss (amount * 2 ^ down) (2 ^ k * (parts * 2 ^ up)) (2 ^ down') (pow_pos down') h in
+    let a : amount * 2 ^ down * 2 ^ down' ≡ amount * 2 ^ down' * 2 ^ down = omega arith in
+    let p : 2 ^ k * 2 ^ up * 2 ^ down' ≡ 2 ^ up' * 2 ^ down =
+    sym (pow3 k up down') ∙ ap (λ (x : ℕ). 2 ^ x) e ∙ pow-add 2 up' down in
+    let b : 2 ^ k * (parts * 2 ^ up) * 2 ^ down' ≡ parts * (2 ^ k * 2 ^ up * 2 ^ down') = omega arith in
+    let b' : parts * (2 ^ k * 2 ^ up * 2 ^ down') ≡ parts * (2 ^ up' * 2 ^ down) = ap (λ (x : ℕ). parts * x) p in
+    let b'' : parts * (2 ^ up' * 2 ^ down) ≡ parts * 2 ^ up' * 2 ^ down = omega arith in
+    stands_cancel s loss (amount * 2 ^ down') (parts * 2 ^ up') (2 ^ down) (pow_pos down)
+    (subst₂ (λ (x : ℕ) (y : ℕ). StandsFor s loss x y) a (b ∙ b' ∙ b'') t)
 
 -- the last two digits of a significand that was rounded to odd, as a loss
 pub quarters_stand : (least s amount unit : ℕ) → 0 < unit → IsRoundedToOdd least s amount unit

@@ -33,7 +33,6 @@ use self::denormal::{cut_at_quantum, in_word};
 use crate::shape::Shape;
 use crate::unpacked::{
     Unpacked, from_few_quanta, from_full_quanta, from_rounded_quanta, infinity_of, largest_of,
-    remade,
 };
 use apfloat_base::sig::{Loss, digits, low_digits, power_of_two, shift_right};
 use apfloat_base::{ExpInt, Flags, Round, Status, StatusAnd};
@@ -527,27 +526,6 @@ fn deliver_any(
         → GivesAt shape (IsDelivered (format_at shape) mode negative amount parts) result }
 {
     deliver(shape, significand, exponent, loss, mode, negative)
-}
-
-/// What `deliver` returns, for results that are rare, rebuilt from its fields.
-#[inline(always)]
-fn deliver_apart(
-    shape: Shape,
-    significand: u128,
-    exponent: ExpInt,
-    loss: Loss,
-    mode: Round,
-    negative: bool,
-) -> StatusAnd<Unpacked>
-    requires within { IsWithin exponent_bound exponent }
-    requires fine { IsFineFor (format_at shape) significand
-        (exponent +ℤ pos (format_at shape).scale) loss }
-    ensures stored { IsStored shape result.value }
-    ensures delivered { let unit = exponent +ℤ pos (format_at shape).scale in (amount parts : ℕ)
-        → 0 < parts → StandsFor significand loss (amount * 2 ^ down unit) (parts * 2 ^ up unit)
-        → GivesAt shape (IsDelivered (format_at shape) mode negative amount parts) result }
-{
-    remade(deliver_any(shape.remade(), significand, exponent, loss, mode, negative))
 }
 
 // Most results have all digits of their format. If the significand's digits have been counted too, as those of a number

@@ -6,7 +6,7 @@ use Rattle.std.proofs.Math.Nat.{mul-le-mul_left, mul-le-mul_right, pow-le-pow_ri
 use Rattle.std.proofs.lemmas.Bool.{cases_lt, lt-ltb, le-ltb}
 use Rattle.std.proofs.lemmas.Nat.{pow-add, pow_pos}
 use Rattle.std.proofs.lemmas.Int.{ints}
-use Rattle.apfloat_base.specs.declared.sig.sum.Term.{Term}
+use Rattle.apfloat_base.specs.declared.sig.terms.Term.{Term}
 use Rattle.apfloat_base.specs.arithmetic.Exact.{up, signed}
 use Rattle.apfloat_base.specs.arithmetic.Totals.{counted, IsSignedToOdd, IsApartToOdd, Balances}
 use Rattle.apfloat_base.specs.rounding.RoundingToOdd.{IsRoundedToOdd}
@@ -15,9 +15,9 @@ use Rattle.apfloat_base.proofs.arithmetic.Signs.{swapped_sum}
 use Rattle.apfloat_base.proofs.arithmetic.Totals.{raised, like_signs, unlike_signs, balances_times}
 use Rattle.apfloat_base.proofs.rounding.OddRoundings.{whole_to_odd, to_odd_times, odd_together, odd_apart}
 
--- ---- significands that are moved up, with at least three free digits below them
+-- ---- significands that are moved up, with at least one free digit below them
 
-pub moved_fits : (m precision digits : ℕ) → precision + 3 ≤ digits → m < 2 ^ precision
+pub moved_fits : (m precision digits : ℕ) → precision + 1 ≤ digits → m < 2 ^ precision
     → m * 2 ^ (digits - precision) < 2 ^ digits
 moved_fits m precision digits l h =
     let k : 0 < 2 ^ (digits - precision) = pow_pos (digits - precision) in
@@ -29,7 +29,7 @@ moved_fits m precision digits l h =
     mul-le-mul_right (2 ^ (digits - precision)) h' in
     omega (arith, d, w, k)
 
-pub moved_full : (m precision digits : ℕ) → 0 < precision → precision + 3 ≤ digits → 2 ^ (precision - 1) ≤ m
+pub moved_full : (m precision digits : ℕ) → 0 < precision → precision + 1 ≤ digits → 2 ^ (precision - 1) ≤ m
     → 2 ^ (digits - 1) ≤ m * 2 ^ (digits - precision)
 moved_full m precision digits p l h =
     let e : (precision - 1) + (digits - precision) ≡ digits - 1 = omega arith in
@@ -39,40 +39,38 @@ moved_full m precision digits p l h =
     mul-le-mul_right (2 ^ (digits - precision)) h in
     omega (arith, d, w)
 
--- their last three digits are zero
-pub moved_free : (m precision digits : ℕ) → precision + 3 ≤ digits → m * 2 ^ (digits - precision) % 8 ≡ 0
+-- their last digit is zero
+pub moved_free : (m precision digits : ℕ) → precision + 1 ≤ digits → m * 2 ^ (digits - precision) % 2 ≡ 0
 moved_free m precision digits l =
-    let e : (digits - precision - 3) + 3 ≡ digits - precision = omega arith in
-    let w : 2 ^ (digits - precision) ≡ 2 ^ (digits - precision - 3) * 8 = ap (λ (x : ℕ). 2 ^ x) (sym e) ∙
-    pow-add 2 (digits - precision - 3) 3 in
-    let d : m * 2 ^ (digits - precision) ≡ m * 2 ^ (digits - precision - 3) * 8 =
+    let e : (digits - precision - 1) + 1 ≡ digits - precision = omega arith in
+    let w : 2 ^ (digits - precision) ≡ 2 ^ (digits - precision - 1) * 2 = ap (λ (x : ℕ). 2 ^ x) (sym e) ∙
+    pow-add 2 (digits - precision - 1) 1 in
+    let d : m * 2 ^ (digits - precision) ≡ m * 2 ^ (digits - precision - 1) * 2 =
     ap (λ (x : ℕ). m * x) w ∙ omega arith in
     omega (arith, d)
 
 -- ---- together and apart, in one unit
 
--- a number with three free digits loses nothing by a cut of at most three
-free_cut : (low j gap : ℕ) → low % 8 ≡ 0 → gap ≤ 3 → IsRoundedToOdd 1 j low (2 ^ gap) → low ≡ j * 2 ^ gap
+-- a number with a free digit loses nothing by a cut of at most one
+free_cut : (low j gap : ℕ) → low % 2 ≡ 0 → gap ≤ 1 → IsRoundedToOdd 1 j low (2 ^ gap) → low ≡ j * 2 ^ gap
 free_cut low j gap f l h =
-    let e : (3 - gap) + gap ≡ 3 = omega arith in
-    let w : 8 ≡ 2 ^ (3 - gap) * 2 ^ gap = ap (λ (x : ℕ). 2 ^ x) (sym e) ∙ pow-add 2 (3 - gap) gap in
-    let d : low ≡ low / 8 * 8 = omega (arith, f) in
-    let k : low ≡ low / 8 * 2 ^ (3 - gap) * 2 ^ gap = d ∙ ap (λ (x : ℕ). low / 8 * x) w ∙ omega arith in
-    k ∙ sym (whole_to_odd 1 j (low / 8 * 2 ^ (3 - gap)) (2 ^ gap)
+    let e : (1 - gap) + gap ≡ 1 = omega arith in
+    let w : 2 ≡ 2 ^ (1 - gap) * 2 ^ gap = ap (λ (x : ℕ). 2 ^ x) (sym e) ∙ pow-add 2 (1 - gap) gap in
+    let d : low ≡ low / 2 * 2 = omega (arith, f) in
+    let k : low ≡ low / 2 * 2 ^ (1 - gap) * 2 ^ gap = d ∙ ap (λ (x : ℕ). low / 2 * x) w ∙ omega arith in
+    k ∙ sym (whole_to_odd 1 j (low / 2 * 2 ^ (1 - gap)) (2 ^ gap)
     (subst (λ (x : ℕ). IsRoundedToOdd 1 j x (2 ^ gap)) k h))
 
--- and a cut of more leaves little of it
-far_cut : (low j gap few : ℕ) → low < few * 16 → 4 ≤ gap → IsRoundedToOdd 1 j low (2 ^ gap) → j ≤ few
-far_cut low zero gap few f l h = omega arith
-far_cut low (suc i) gap few f l h =
-    let k : 2 ^ 4 ≤ 2 ^ gap = pow-le-pow_right two_pos l in
-    let m : i * 2 ^ 4 ≤ i * 2 ^ gap = mul-le-mul_left i k in
-    let a : i * 2 ^ gap < low =
+-- and a cut of more leaves less than a quarter of a power of two above it
+far_cut : (low j gap few : ℕ) → low < few * 4 → few % 2 ≡ 0 → 2 ≤ gap → IsRoundedToOdd 1 j low (2 ^ gap) → j < few
+far_cut low zero gap few f even l h = omega arith
+far_cut low (suc i) gap few f even l h =
+    let k : 2 ^ 2 ≤ 2 ^ gap = pow-le-pow_right two_pos l in
+    let m : i * 2 ^ 2 ≤ i * 2 ^ gap = mul-le-mul_left i k in
     ⊎_elim
-    (λ (e : low ≡ suc i * 2 ^ gap). omega (arith, e, k))
-    (λ b. let a = b.above in omega (arith, a))
-    h in
-    omega (arith, m, a, f)
+    (λ (e : low ≡ suc i * 2 ^ gap). omega (arith, e, k, m, f))
+    (λ b. let a = b.above in let o = b.odd in omega (arith, a, o, m, f, even))
+    h
 
 -- an exact difference
 exact_apart : (least high low j gap : ℕ) (flipped : Bool) → low ≡ j * 2 ^ gap → flipped ≡ ltb high j
@@ -99,54 +97,46 @@ exact_apart least high low j gap flipped e f =
     }))
     (cases_lt high j)
 
--- the sixteenth part of a power of two, by the halves and quarters of it
-sixteenths : (digits : ℕ) → 4 ≤ digits
-    → (2 ^ digits ≡ 2 ^ (digits - 4) * 16) × (2 ^ (digits - 1) ≡ 2 ^ (digits - 4) * 8)
-    × (2 ^ (digits - 2) ≡ 2 ^ (digits - 4) * 4)
-sixteenths digits l =
-    let a : (digits - 4) + 4 ≡ digits = omega arith in
-    let b : (digits - 4) + 3 ≡ digits - 1 = omega arith in
-    let c : (digits - 4) + 2 ≡ digits - 2 = omega arith in (
-      ap (λ (x : ℕ). 2 ^ x) (sym a) ∙ pow-add 2 (digits - 4) 4,
-      ap (λ (x : ℕ). 2 ^ x) (sym b) ∙ pow-add 2 (digits - 4) 3,
-      ap (λ (x : ℕ). 2 ^ x) (sym c) ∙ pow-add 2 (digits - 4) 2,
+-- the quarter of a power of two, by the halves of it
+quarters : (digits : ℕ) → 3 ≤ digits
+    → (2 ^ digits ≡ 2 ^ (digits - 2) * 4) × (2 ^ (digits - 1) ≡ 2 ^ (digits - 2) * 2)
+    × (2 ^ (digits - 2) ≡ 2 ^ (digits - 3) * 2)
+quarters digits l =
+    let a : (digits - 2) + 2 ≡ digits = omega arith in
+    let b : (digits - 2) + 1 ≡ digits - 1 = omega arith in
+    let c : (digits - 3) + 1 ≡ digits - 2 = omega arith in (
+      ap (λ (x : ℕ). 2 ^ x) (sym a) ∙ pow-add 2 (digits - 2) 2,
+      ap (λ (x : ℕ). 2 ^ x) (sym b) ∙ pow-add 2 (digits - 2) 1,
+      ap (λ (x : ℕ). 2 ^ x) (sym c) ∙ pow-add 2 (digits - 3) 1,
     )
 
-pub apart_to_odd : (digits high low j gap : ℕ) (flipped : Bool) → 4 ≤ digits → 2 ^ (digits - 1) ≤ high
-    → high % 8 ≡ 0 → low < 2 ^ digits → low % 8 ≡ 0 → IsRoundedToOdd 1 j low (2 ^ gap) → flipped ≡ ltb high j
+pub apart_to_odd : (digits high low j gap : ℕ) (flipped : Bool) → 3 ≤ digits → 2 ^ (digits - 1) ≤ high
+    → high % 2 ≡ 0 → low < 2 ^ digits → low % 2 ≡ 0 → IsRoundedToOdd 1 j low (2 ^ gap) → flipped ≡ ltb high j
     → IsApartToOdd (2 ^ (digits - 2)) (high * 2 ^ gap) low flipped (cond flipped j high - cond flipped high j)
     (2 ^ gap)
 apart_to_odd digits high low j gap flipped some full even fits free h f =
-    let least = 2 ^ (digits - 2) in
-    let few = 2 ^ (digits - 4) in
-    let p : 0 < 2 ^ (digits - 4) = pow_pos (digits - 4) in
-    let w = sixteenths digits some in
+    let few = 2 ^ (digits - 2) in
+    let w = quarters digits some in
     let a = w.0 in
     let b = w.1 in
     let c = w.2 in
     ⊎_elim
-    (λ (l : gap < 4). exact_apart least high low j gap flipped (free_cut low j gap free (omega arith) h) f)
-    (λ (l : 4 ≤ gap).
-    let s : j ≤ few = far_cut low j gap few (omega (arith, fits, a)) l h in
+    (λ (l : gap < 2). exact_apart few high low j gap flipped (free_cut low j gap free (omega arith) h) f)
+    (λ (l : 2 ≤ gap).
+    let s : j < few = far_cut low j gap few (omega (arith, fits, a)) (omega (arith, c)) l h in
     let g : flipped ≡ false = f ∙ le-ltb high j (omega (arith, s, full, b)) in
-    let r = odd_apart least high low j (2 ^ gap) (omega (arith, even)) (omega (arith, s, full, b, c, p)) h in
+    let r = odd_apart few high low j (2 ^ gap) even (omega (arith, s, full, b)) h in
     let d = r.0 in
     rw g (record { amount = high * 2 ^ gap - low; balances = omega (arith, d); rounded = r.1 }))
-    (cases_lt gap 4)
+    (cases_lt gap 2)
 
-pub together_to_odd : (digits high low j gap : ℕ) (flipped : Bool) → 2 ^ (digits - 1) ≤ high → high % 8 ≡ 0
+pub together_to_odd : (digits high low j gap : ℕ) (flipped : Bool) → 2 ^ (digits - 1) ≤ high → high % 2 ≡ 0
     → IsRoundedToOdd 1 j low (2 ^ gap) → flipped ≡ false
     → (flipped ≡ false) × IsRoundedToOdd (2 ^ (digits - 2)) (cond flipped j high + cond flipped high j)
     (high * 2 ^ gap + low) (2 ^ gap)
 together_to_odd digits high low j gap flipped full even h f =
     let k : 2 ^ (digits - 2) ≤ 2 ^ (digits - 1) = pow-le-pow_right two_pos (omega arith) in
     (f, rw f (odd_together (2 ^ (digits - 2)) high low j (2 ^ gap) (omega (arith, even)) (omega (arith, full, k)) h))
-
-pub combined_fits : (room high j : ℕ) (flipped : Bool) → high < room → j < room
-    → (cond flipped j high - cond flipped high j < 2 * room)
-    × (cond flipped j high + cond flipped high j < 2 * room)
-combined_fits room high j true h k = (omega (arith, h, k), omega (arith, h, k))
-combined_fits room high j false h k = (omega (arith, h, k), omega (arith, h, k))
 
 -- ---- two terms with signs
 

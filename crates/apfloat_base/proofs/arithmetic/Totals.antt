@@ -1,6 +1,6 @@
 -- Sums and differences of magnitudes, and their signs.
-use Rattle.std.proofs.Common.{◌≡◌, ℕ, zero, suc, ℤ, pos, negsuc, ◌+ℤ◌, ◌-ℤ◌, ◌≤ℤ◌, ◌+◌, ◌-◌, ◌*◌, ◌^◌, ◌<◌, ◌≤◌, ◌⊎◌, Bool, true, false, cond, sym, refl, ap, ◌∙◌, subst, inl, inr, ⊎_elim, arith}
-use Rattle.std.proofs.Math.Nat.{mul-le-mul_right, mul-le-mul_left, pow-le-pow_right}
+use Rattle.std.proofs.Common.{◌≡◌, ℕ, zero, suc, ℤ, pos, negsuc, ◌+ℤ◌, ◌-ℤ◌, ◌≤ℤ◌, ◌+◌, ◌-◌, ◌*◌, ◌^◌, ◌<◌, ◌≤◌, ◌⊎◌, Bool, true, false, cond, sym, refl, ap, ◌∙◌, subst, ⊎_elim, arith}
+use Rattle.std.proofs.Math.Nat.{mul-le-mul_left, pow-le-pow_right}
 use Rattle.std.proofs.lemmas.Bool.{cases_lt}
 use Rattle.std.proofs.lemmas.Nat.{pow-add, pow_pos}
 use Rattle.std.proofs.lemmas.Int.{ints}
@@ -10,8 +10,7 @@ use Rattle.apfloat_base.specs.arithmetic.Exact.{up, down, signed}
 use Rattle.apfloat_base.specs.rounding.Standing.{StandsFor}
 use Rattle.apfloat_base.specs.arithmetic.Totals.{counted, StandsForSigned, Balances, IsApart}
 use Rattle.apfloat_base.proofs.general.Powers.{two_pos, twice_half}
-use Rattle.apfloat_base.proofs.arithmetic.Signs.{no_sign, swapped_sum}
-use Rattle.apfloat_base.proofs.rounding.Losses.{stands_from, stands_to}
+use Rattle.apfloat_base.proofs.rounding.Losses.{stands_from}
 use Rattle.apfloat_base.proofs.rounding.KeptDigits.{stands_times}
 
 -- ---- more units, and fewer
@@ -23,23 +22,6 @@ stands_more q high ExactlyZero amount unit h = omega (arith, h)
 stands_more q high LessThanHalf amount unit h = let a = h.0 in let b = h.1 in (omega (arith, a), omega (arith, b))
 stands_more q high ExactlyHalf amount unit h = omega (arith, h)
 stands_more q high MoreThanHalf amount unit h = let a = h.0 in let b = h.1 in (omega (arith, a), omega (arith, b))
-
--- whole units subtracted from an amount are subtracted from its significand
-pub stands_less : (q high left : ℕ) (loss : Loss) (amount rest unit : ℕ) → q ≡ high + left
-    → amount ≡ high * unit + rest → StandsFor q loss amount unit → StandsFor left loss rest unit
-stands_less q high left ExactlyZero amount rest unit e d h =
-    let h' : high * unit + rest ≡ (high + left) * unit = sym d ∙ h ∙ ap (λ (x : ℕ). x * unit) e in omega arith
-stands_less q high left LessThanHalf amount rest unit e d h =
-    let a = h.0 in let b = h.1 in
-    let k : q * unit ≡ (high + left) * unit = ap (λ (x : ℕ). x * unit) e in
-    (omega (arith, a), omega (arith, b))
-stands_less q high left ExactlyHalf amount rest unit e d h =
-    let k : q * unit ≡ (high + left) * unit = ap (λ (x : ℕ). x * unit) e in
-    omega (arith, h)
-stands_less q high left MoreThanHalf amount rest unit e d h =
-    let a = h.0 in let b = h.1 in
-    let k : q * unit ≡ (high + left) * unit = ap (λ (x : ℕ). x * unit) e in
-    (omega (arith, a), omega (arith, b))
 
 -- in units of 1 nothing is lost
 pub whole_exact : (q : ℕ) (loss : Loss) (amount : ℕ) → StandsFor q loss amount 1 → loss ≡ ExactlyZero
@@ -183,59 +165,6 @@ cut_alone s q k loss f =
     let d : 2 ^ k * 1 ≡ 2 ^ k = omega arith in
     subst (λ (x : ℕ). StandsFor q loss s x) d (f s 1 (omega arith) e)
 
--- the difference if nothing of the finer term was lost
-pub even_difference : (flipped : Bool) (n q high low gap : ℕ) (lost loss : Loss) → 0 < gap → lost ≡ ExactlyZero
-    → loss ≡ ExactlyZero → StandsFor q lost low (2 ^ (gap - 1)) → Balances flipped n (high * 2) q
-    → IsApart (high * 2 ^ gap) low flipped n loss (2 ^ (gap - 1))
-even_difference flipped n q high low gap lost loss p z e h b =
-    let h' : low ≡ q * 2 ^ (gap - 1) = subst (λ (x : Loss). StandsFor q x low (2 ^ (gap - 1))) z h in
-    let b' : Balances flipped (n * 2 ^ (gap - 1)) (high * 2 * 2 ^ (gap - 1)) (q * 2 ^ (gap - 1)) =
-    balances_times flipped n (high * 2) q (2 ^ (gap - 1)) b in
-    let b₁ : Balances flipped (n * 2 ^ (gap - 1)) (high * 2 ^ gap) (q * 2 ^ (gap - 1)) =
-    subst (λ (x : ℕ). Balances flipped (n * 2 ^ (gap - 1)) x (q * 2 ^ (gap - 1))) (doubled high gap p) b' in
-    exact_difference flipped n (high * 2 ^ gap) low (2 ^ (gap - 1)) loss e
-    (subst (λ (x : ℕ). Balances flipped (n * 2 ^ (gap - 1)) (high * 2 ^ gap) x) (sym h') b₁)
-
--- if something of the finer term was lost, one unit is borrowed
-pub borrowed_difference : (q high low gap : ℕ) (lost loss : Loss) → 0 < gap → (lost ≡ ExactlyZero → ⊥)
-    → q < high * 2 → StandsFor q lost low (2 ^ (gap - 1))
-    → ((quotient left amount rest unit : ℕ) → (lost ≡ ExactlyZero → ⊥) → StandsFor quotient lost amount unit
-    → amount + rest ≡ (quotient + left + 1) * unit → StandsFor left loss rest unit)
-    → IsApart (high * 2 ^ gap) low false (high * 2 - q - 1) loss (2 ^ (gap - 1))
-borrowed_difference q high low gap lost loss p n l h f =
-    let u : 0 < 2 ^ (gap - 1) = pow_pos (gap - 1) in
-    let t : low < (q + 1) * 2 ^ (gap - 1) = stands_to q lost low (2 ^ (gap - 1)) u h in
-    let l' : q + 1 ≤ high * 2 = omega arith in
-    let k : (q + 1) * 2 ^ (gap - 1) ≤ high * 2 * 2 ^ (gap - 1) = mul-le-mul_right (2 ^ (gap - 1)) l' in
-    let d : high * 2 * 2 ^ (gap - 1) ≡ high * 2 ^ gap = doubled high gap p in
-    let w : q + (high * 2 - q - 1) + 1 ≡ high * 2 = omega arith in
-    let w' : (q + (high * 2 - q - 1) + 1) * 2 ^ (gap - 1) ≡ high * 2 ^ gap = ap (λ (x : ℕ). x * 2 ^ (gap - 1)) w ∙
-    d in
-    let g : low ≤ high * 2 ^ gap = omega arith in
-    let r : low + (high * 2 ^ gap - low) ≡ high * 2 ^ gap = omega arith in
-    record {
-      amount = high * 2 ^ gap - low;
-      balances = sym r;
-      stands = f q (high * 2 - q - 1) low (high * 2 ^ gap - low) (2 ^ (gap - 1)) n h (r ∙ sym w');
-    }
-
--- the difference if the finer term is the greater
-pub reversed_difference : (q high low gap : ℕ) (lost : Loss) → 0 < gap → high * 2 ≤ q
-    → StandsFor q lost low (2 ^ (gap - 1)) → IsApart (high * 2 ^ gap) low true (q - high * 2) lost (2 ^ (gap - 1))
-reversed_difference q high low gap lost p l h =
-    let t : q * 2 ^ (gap - 1) ≤ low = stands_from q lost low (2 ^ (gap - 1)) h in
-    let k : high * 2 * 2 ^ (gap - 1) ≤ q * 2 ^ (gap - 1) = mul-le-mul_right (2 ^ (gap - 1)) l in
-    let d : high * 2 * 2 ^ (gap - 1) ≡ high * 2 ^ gap = doubled high gap p in
-    let r : low ≡ high * 2 ^ gap + (low - high * 2 ^ gap) = omega arith in
-    let r' : low ≡ high * 2 * 2 ^ (gap - 1) + (low - high * 2 ^ gap) = r ∙
-    ap (λ (x : ℕ). x + (low - high * 2 ^ gap)) (sym d) in
-    record {
-      amount = low - high * 2 ^ gap;
-      balances = r;
-      stands = stands_less q (high * 2) (q - high * 2) lost low (low - high * 2 ^ gap) (2 ^ (gap - 1)) (omega arith)
-          r' h;
-    }
-
 -- what is left of a number that lost a part is below half its bound
 pub lossy_small : (q k low half : ℕ) (loss : Loss) → (loss ≡ ExactlyZero → ⊥) → StandsFor q loss low (2 ^ k)
     → low < 2 * half → q < half
@@ -247,7 +176,7 @@ lossy_small q (suc k) low half loss n h l =
     let v : q * 2 ≤ q * 2 ^ suc k = mul-le-mul_left q m in
     omega arith
 
--- ---- exponents and signs of the result
+-- ---- the exponent of the result
 
 -- the exponent of a difference, from those of its terms
 pub exponent_is : (eh el er : ℤ) (gap : ℕ) → (el +ℤ pos gap) ≡ eh → (gap ≡ 0 → er ≡ eh)
@@ -257,26 +186,3 @@ exponent_is eh el er gap e f g =
     (λ (p : 0 < gap). let h : (er +ℤ pos 1) ≡ eh = g p in omega (arith, ints))
     (λ (p : gap ≤ 0). let z : gap ≡ 0 = omega arith in let h : er ≡ eh = f z in omega (arith, ints))
     (cases_lt 0 gap)
-
--- the sum in the other order; a zero sum may have either sign
-pub total_swapped : (base a b : ℤ) (negative other : Bool) (e : ℤ) (q : ℕ) (loss : Loss)
-    → (negative ≡ other) ⊎ ((q ≡ 0) × (loss ≡ ExactlyZero)) → StandsForSigned base (a +ℤ b) negative e q loss
-    → StandsForSigned base (b +ℤ a) other e q loss
-total_swapped base a b n t e q loss (inl d) h = record {
-  above = h.above;
-  amount = h.amount;
-  is = ap (λ (x : Bool). signed x h.amount) (sym d) ∙ h.is ∙ swapped_sum a b;
-  stands = h.stands;
-}
-total_swapped base a b n t e q loss (inr d) h =
-    let s : StandsFor 0 ExactlyZero h.amount (2 ^ up (e -ℤ base)) =
-    subst (λ (x : ℕ). StandsFor x ExactlyZero h.amount (2 ^ up (e -ℤ base))) d.0
-    (subst (λ (x : Loss). StandsFor q x h.amount (2 ^ up (e -ℤ base))) d.1 h.stands) in
-    let z : h.amount ≡ 0 = omega (arith, s) in
-    record {
-      above = h.above;
-      amount = h.amount;
-      is = ap (λ (x : ℕ). signed t x) z ∙ no_sign t ∙ sym (no_sign n) ∙ ap (λ (x : ℕ). signed n x) (sym z) ∙ h.is ∙
-          swapped_sum a b;
-      stands = h.stands;
-    }

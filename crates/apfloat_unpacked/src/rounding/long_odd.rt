@@ -8,13 +8,13 @@ ghost use Rattle.apfloat_base.specs.rounding.Bounds.{IsWithin, exponent_bound, u
 ghost use Rattle.apfloat_base.specs.rounding.Rounding.{IsDelivered};
 ghost use Rattle.apfloat_base.specs.rounding.RoundingToOdd.{IsRoundedToOdd};
 ghost use Rattle.apfloat_base.specs.rounding.Standing.{up, down};
-ghost use Rattle.apfloat_unpacked.specs.Cuts.{IsCut};
+ghost use Rattle.apfloat_unpacked.specs.Cuts.{IsCut, loss_at};
 ghost use Rattle.apfloat_unpacked.specs.Shapes.{format_at};
 ghost use Rattle.apfloat_unpacked.specs.Stored.{IsStored, GivesAt};
 
-use super::{Cut, Known, deliver_apart, full_place, round, split, unit_place};
+use super::{Cut, Known, deliver_any, full_place, round, split, unit_place};
 use crate::shape::Shape;
-use crate::unpacked::Unpacked;
+use crate::unpacked::{Unpacked, remade};
 use apfloat_base::sig::{Loss, digits};
 use apfloat_base::{ExpInt, Round, StatusAnd};
 
@@ -58,6 +58,64 @@ fn cut_long_odd(precision: u32, significand: u128, digits: u32, unit: ExpInt) ->
     }
 }
 
+/// The loss of a rest, in units of which the lowest kept digit is `2 * half`.
+#[inline(always)]
+fn loss_of(rest: u64, half: u64) -> Loss
+    ensures { result ≡ loss_at rest half }
+{
+    if rest == 0 {
+        Loss::ExactlyZero
+    } else if rest < half {
+        Loss::LessThanHalf
+    } else if rest == half {
+        Loss::ExactlyHalf
+    } else {
+        Loss::MoreThanHalf
+    }
+}
+
+/// Delivers `significand * 2^exponent`, which was rounded to odd, where it is below the smallest normalized value, or
+/// exact: digits below a quarter of the quantum matter only by whether they are all zero. Kept out of line, for results
+/// that are rare.
+#[cold]
+#[inline(never)]
+fn deliver_odd_below(
+    shape: Shape,
+    significand: u128,
+    exponent: ExpInt,
+    mode: Round,
+    negative: bool,
+) -> StatusAnd<Unpacked>
+    requires within { IsWithin exponent_bound exponent }
+    requires exact { pos 0 ≤ℤ ((exponent +ℤ pos (format_at shape).scale) +ℤ pos 2)
+        → significand < 2 ^ (shape.precision + 1) }
+    ensures stored { IsStored shape result.value }
+    ensures delivered { let unit = exponent +ℤ pos (format_at shape).scale in (amount parts : ℕ)
+        → 0 < parts
+        → IsRoundedToOdd (2 ^ (shape.precision + 1)) significand (amount * 2 ^ down unit)
+        (parts * 2 ^ up unit)
+        → GivesAt shape (IsDelivered (format_at shape) mode negative amount parts) result }
+{
+    if unit_place(shape, exponent) >= -2 {
+        return deliver_any(
+            shape,
+            significand,
+            exponent,
+            Loss::ExactlyZero,
+            mode,
+            negative,
+        );
+    }
+    deliver_any(
+        shape,
+        significand / 4,
+        exponent + 2,
+        loss_of((significand % 4) as u64, 2),
+        mode,
+        negative,
+    )
+}
+
 /// Delivers `significand * 2^exponent`, which was rounded to odd, rounded once: where it is odd it may be less than one
 /// unit from the exact result.
 #[inline(always)]
@@ -70,10 +128,11 @@ pub fn deliver_long_odd(
 ) -> StatusAnd<Unpacked>
     requires within { IsWithin exponent_bound exponent }
     ensures stored { IsStored shape result.value }
-    ensures delivered { let unit = exponent +ℤ pos (format_at shape).scale in (amount : ℕ)
+    ensures delivered { let unit = exponent +ℤ pos (format_at shape).scale in (amount parts : ℕ)
+        → 0 < parts
         → IsRoundedToOdd (2 ^ (shape.precision + 1)) significand (amount * 2 ^ down unit)
-        (1 * 2 ^ up unit)
-        → GivesAt shape (IsDelivered (format_at shape) mode negative amount 1) result }
+        (parts * 2 ^ up unit)
+        → GivesAt shape (IsDelivered (format_at shape) mode negative amount parts) result }
 {
     let unit = unit_place(shape, exponent);
     let digits = digits(significand);
@@ -81,12 +140,5 @@ pub fn deliver_long_odd(
         let cut = cut_long_odd(shape.precision, significand, digits, unit);
         return round(shape, Known::Normal, cut, mode, negative);
     }
-    deliver_apart(
-        shape,
-        significand,
-        exponent,
-        Loss::ExactlyZero,
-        mode,
-        negative,
-    )
+    remade(deliver_odd_below(shape.remade(), significand, exponent, mode, negative))
 }

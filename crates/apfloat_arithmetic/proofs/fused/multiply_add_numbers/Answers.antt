@@ -1,4 +1,5 @@
-use Rattle.std.proofs.Common.{◌≡◌, ◌-◌, ◌*◌, ◌^◌, ◌≤◌, ◌+ℤ◌, Bool, pos, subst, refl, to_z, of_z, w32, arith}
+use Rattle.std.proofs.Common.{◌≡◌, ◌+◌, ◌-◌, ◌*◌, ◌^◌, ◌≤◌, ◌+ℤ◌, Bool, pos, subst, refl, to_z, of_z, w32, arith}
+use Rattle.std.proofs.Math.Nat.{pow-le-pow_right}
 use Rattle.std.proofs.lemmas.Int.{ints}
 use Rattle.std.proofs.lemmas.Nat.{pow_pos}
 use Rattle.apfloat_base.specs.arithmetic.Exact.{product_sign, signed, sign_of, magnitude}
@@ -8,48 +9,24 @@ use Rattle.apfloat_base.specs.rounding.Rounding.{IsDelivered}
 use Rattle.apfloat_base.specs.arithmetic.Sums.{zero_sum_sign}
 use Rattle.apfloat_unpacked.specs.Shapes.{format_at}
 use Rattle.apfloat_unpacked.specs.Stored.{quanta_at, datum_at}
-use Rattle.apfloat_arithmetic.proofs.Additions.{IsRepresented, read_negative, fine_if}
-use Rattle.apfloat_arithmetic.proofs.WideTerms.{wide_room, wide_sum_full, fused_read, in_quanta}
+use Rattle.apfloat_base.proofs.general.Powers.{two_pos}
+use Rattle.apfloat_base.proofs.rounding.OddRoundings.{to_odd_least}
+use Rattle.apfloat_arithmetic.proofs.Additions.{IsRepresentedToOdd, read_odd_sign}
+use Rattle.apfloat_arithmetic.proofs.WideTerms.{odd_fused_read, odd_in_quanta}
 use Rattle.apfloat_arithmetic.proofs.fused.multiply_add_numbers.Goals as goal
 
-pub add_terms-total-requires-clause-x_room : goal.add_terms-total-requires-clause-x_room
-add_terms-total-requires-clause-x_room c =
-    wide_room c.args.shape.precision c.product_term-product.result.significand c.requires.short
-    c.product_term-product.ensures.fits
-
-pub add_terms-total-requires-clause-y_room : goal.add_terms-total-requires-clause-y_room
-add_terms-total-requires-clause-y_room c =
-    wide_room c.args.shape.precision c.addend_term.result.significand c.requires.short c.addend_term.ensures.fits
-
-pub add_terms-total-requires-clause-x : goal.add_terms-total-requires-clause-x
-add_terms-total-requires-clause-x c =
-    record {
-      low = omega (arith, ints, c.product_term-product.ensures.within);
-      high = omega (arith, ints, c.product_term-product.ensures.within);
-    }
-
-pub add_terms-total-requires-clause-y : goal.add_terms-total-requires-clause-y
-add_terms-total-requires-clause-y c =
-    record {
-      low = omega (arith, ints, c.addend_term.ensures.within);
-      high = omega (arith, ints, c.addend_term.ensures.within);
-    }
-
-pub deliver-requires-clause-within : goal.deliver-requires-clause-within
-deliver-requires-clause-within c =
-    let x = c.product_term-product.ensures.within in
-    let y = c.addend_term.ensures.within in
-    let near = c.add_terms-total.ensures.near in
-    let far = c.add_terms-total.ensures.far in
-    record { low = omega (arith, ints, x, y, near, far); high = omega (arith, ints, x, y, near, far) }
-
-pub deliver-requires-clause-fine : goal.deliver-requires-clause-fine
-deliver-requires-clause-fine c =
-    fine_if c.add_terms-total.result.loss _ (2 ^ (c.args.shape.precision - 1) ≤ c.add_terms-total.result.significand)
-    (wide_sum_full c.args.shape.precision c.product_term-product.result.significand c.addend_term.result.significand
-    c.add_terms-total.result.significand c.add_terms-total.result.loss c.args.shape.parameters.precision_low
-    c.product_term-product.ensures.full c.product_term-product.ensures.fits c.addend_term.ensures.full
-    c.addend_term.ensures.fits c.add_terms-total.ensures.full)
+pub deliver_long_odd-requires : goal.deliver_long_odd-requires
+deliver_long_odd-requires c =
+    let l = c.args.shape.parameters in
+    let s = c.requires.short in
+    let low = c.product_term-product.ensures.low in
+    let high = c.product_term-product.ensures.high in
+    let w = c.addend_term.ensures.exponent in
+    let x = c.requires.left.operand in
+    let y = c.requires.right.operand in
+    let z = c.requires.addend.operand in
+    let g = c.add_u128_terms-total.ensures.exponent.one in
+    record { within = record { low = omega (arith, ints, l, s, low, high, w, x, y, z, g); high = omega (arith, ints, l, s, low, high, w, x, y, z, g) } }
 
 pub returns-clause-delivered : goal.returns-clause-delivered
 returns-clause-delivered c =
@@ -57,7 +34,7 @@ returns-clause-delivered c =
     let x = c.args.x in
     let y = c.args.y in
     let z = c.args.z in
-    let t = c.add_terms-total.result in
+    let t = c.add_u128_terms-total.result in
     let sign = product_sign x.negative y.negative in
     let m = quanta_at s.min_exp x.significand x.exponent * quanta_at s.min_exp y.significand y.exponent in
     let n = quanta_at s.min_exp z.significand z.exponent * 2 ^ (format_at s).scale in
@@ -69,30 +46,38 @@ returns-clause-delivered c =
     omega (
       arith,
       ints,
-      c.add_terms-total.ensures.near,
-      c.add_terms-total.ensures.far,
-      c.product_term-product.ensures.within,
-      c.addend_term.ensures.within,
+      s.parameters,
+      c.requires.short,
+      c.product_term-product.ensures.low,
+      c.product_term-product.ensures.high,
+      c.addend_term.ensures.exponent,
+      c.requires.left.operand,
+      c.requires.right.operand,
+      c.requires.addend.operand,
+      c.add_u128_terms-total.ensures.exponent.one,
     ) in
-    let d = rw w at c.deliver.ensures.delivered in
+    let d = rw w at c.deliver_long_odd.ensures.delivered in
+    let few : s.precision + 1 ≤ 125 = let p = c.requires.short in omega (arith, p) in
+    let least : 2 ^ (s.precision + 1) ≤ 2 ^ 125 = pow-le-pow_right two_pos few in
     let g = rw (
       c.product_term-product.ensures.negative,
       c.addend_term.ensures.negative,
-    ) at c.add_terms-total.ensures.stands in
-    let r : IsRepresented of_zero exact t.negative fine t.significand t.loss =
-    fused_read of_zero (format_at s).scale exponent_bound c.product_term-product.result.exponent
+    ) at c.add_u128_terms-total.ensures.rounded in
+    let r : IsRepresentedToOdd (2 ^ 125) of_zero exact t.negative fine t.significand =
+    odd_fused_read (2 ^ 125) 127 of_zero (format_at s).scale exponent_bound c.product_term-product.result.exponent
     c.addend_term.result.exponent t.exponent fine sign z.negative t.negative
-    c.product_term-product.result.significand c.addend_term.result.significand m n t.significand t.loss
+    c.product_term-product.result.significand c.addend_term.result.significand m n t.significand
     c.product_term-product.ensures.within.low c.addend_term.ensures.within.low refl
     c.product_term-product.ensures.counted
     c.addend_term.ensures.counted g in
     let o = rw c.product_term-product.ensures.negative at c.sign_of_zero-of_zero.ensures in
-    let k = rw o at c.sign_of_total.ensures.zero in
-    let e : c.sign_of_total.result ≡ sign_of of_zero exact =
-    read_negative of_zero exact fine t.negative c.sign_of_total.result t.significand t.loss r k
-    c.sign_of_total.ensures.other in
-    let h = in_quanta t.significand t.loss (magnitude exact) (format_at s).scale unit fine (omega (arith, ints))
-    r.stands in
+    let k = rw o at c.sign_of_odd_total-negative.ensures.zero in
+    let e : c.sign_of_odd_total-negative.result ≡ sign_of of_zero exact =
+    read_odd_sign (2 ^ 125) of_zero exact fine t.negative c.sign_of_odd_total-negative.result t.significand r k
+    c.sign_of_odd_total-negative.ensures.other in
+    let h = odd_in_quanta (2 ^ 125) t.significand (magnitude exact) (format_at s).scale unit fine
+    (omega (arith, ints)) r.rounded in
     subst (λ (b : Bool). IsDelivered (format_at s) c.args.round b (magnitude exact) (2 ^ (format_at s).scale)
-    (datum_at s c.deliver.result.value) (bits_of c.deliver.result.status)) e
-    (d (magnitude exact) (2 ^ (format_at s).scale) (pow_pos (format_at s).scale) h)
+    (datum_at s c.deliver_long_odd.result.value) (bits_of c.deliver_long_odd.result.status)) e
+    (d (magnitude exact) (2 ^ (format_at s).scale) (pow_pos (format_at s).scale)
+    (to_odd_least (2 ^ 125) (2 ^ (s.precision + 1)) t.significand _ _ least h))

@@ -1,59 +1,53 @@
-use Rattle.std.proofs.Common.{◌≡◌, ℕ, ℤ, pos, ◌+ℤ◌, ◌≤ℤ◌, ◌+◌, ◌*◌, ◌^◌, ◌<◌, ◌⊎◌, sym, ◌∙◌, subst, inl, inr, to_z, of_z, w32, arith}
+use Rattle.std.proofs.Common.{◌≡◌, ℕ, ℤ, pos, ◌+ℤ◌, ◌≤ℤ◌, ◌+◌, ◌*◌, ◌^◌, ◌<◌, sym, ◌∙◌, subst, to_z, of_z, w32, arith}
 use Rattle.std.proofs.lemmas.Int.{ints, to_z-of_z}
 use Rattle.apfloat_base.specs.rounding.RoundingToOdd.{IsRoundedToOdd}
-use Rattle.apfloat_base.specs.declared.sig.loss.Loss.TheVariants.{ExactlyZero}
-use Rattle.apfloat_base.specs.rounding.Standing.{StandsFor, up, down}
+use Rattle.apfloat_base.specs.rounding.Standing.{up, down}
+use Rattle.apfloat_unpacked.specs.Shapes.{format_at}
 use Rattle.apfloat_unpacked.proofs.FineCuts.{all_kept}
-use Rattle.apfloat_unpacked.proofs.OddCuts.{exact_below}
+use Rattle.apfloat_unpacked.proofs.OddCuts.{few_digits}
 use Rattle.apfloat_unpacked.proofs.rounding.long_odd.deliver_long_odd.Goals.{else-digits-gt0-via-then-digits-gt0+else-unit-digits, else-digits-gt0-via-else-digits-gt0}
 use Rattle.apfloat_unpacked.proofs.rounding.long_odd.deliver_long_odd.Goals as goal
 
 pub returns-then-unit-digits-clause-delivered : goal.returns-then-unit-digits-clause-delivered
-returns-then-unit-digits-clause-delivered c = λ amount h.
+returns-then-unit-digits-clause-delivered c = λ amount parts p h.
     let e = to_z-of_z w32 c.args.exponent c.ranges.exponent in
     let v = rw e at c.unit_place-unit.ensures.value in
     let w : to_z w32 (of_z w32 c.unit_place-unit.result) ≡ c.unit_place-unit.result =
     to_z-of_z w32 c.unit_place-unit.result (record { sfits = c.unit_place-unit.type_inv }) in
     let h' : IsRoundedToOdd (2 ^ (c.args.shape.precision + 1)) c.args.significand
     (amount * 2 ^ down (to_z w32 (of_z w32 c.unit_place-unit.result)))
-    (1 * 2 ^ up (to_z w32 (of_z w32 c.unit_place-unit.result))) =
+    (parts * 2 ^ up (to_z w32 (of_z w32 c.unit_place-unit.result))) =
     subst (λ (x : ℤ). IsRoundedToOdd (2 ^ (c.args.shape.precision + 1)) c.args.significand (amount * 2 ^ down x)
-    (1 * 2 ^ up x))
+    (parts * 2 ^ up x))
     (sym v ∙ sym w) h in
-    c.round.ensures.delivered amount 1 (omega arith) (c.cut_long_odd-cut.ensures.cut amount 1 (omega arith) h')
-    (λ r. all_kept c.args.shape.precision c.cut_long_odd-cut.result amount 1 c.cut_long_odd-cut.ensures.full)
+    c.round.ensures.delivered amount parts p (c.cut_long_odd-cut.ensures.cut amount parts p h')
+    (λ r. all_kept c.args.shape.precision c.cut_long_odd-cut.result amount parts c.cut_long_odd-cut.ensures.full)
 
-pub returns-clause-delivered : goal.returns-clause-delivered
-returns-clause-delivered c = λ amount h.
+pub deliver_odd_below-requires-clause-exact : goal.deliver_odd_below-requires-clause-exact
+deliver_odd_below-requires-clause-exact c =
     let e = to_z-of_z w32 c.args.exponent c.ranges.exponent in
     let v = rw e at c.unit_place-unit.ensures.value in
-    let u = c.unit_place-unit.result in
     let s = c.digits-digits.ensures.below in
-    let d : (c.args.significand ≡ 0)
-    ⊎ ((c.args.significand < 2 ^ c.digits-digits.result)
-    × ((u +ℤ pos c.digits-digits.result) ≤ℤ pos c.args.shape.precision)) =
+    rw (c.remade.ensures, e) (λ (l : pos 0 ≤ℤ ((c.args.exponent +ℤ pos (format_at c.args.shape).scale) +ℤ pos 2)).
     elim c.else-digits-gt0.branch [
-      | else-digits-gt0-via-then-digits-gt0+else-unit-digits w ↦ inr (
-        s,
-        omega (
-          arith,
-          ints,
-          w.if-unit-digits.false,
-          c.args.shape.parameters,
-          c.unit_place-unit.ensures.within,
-          c.digits-digits.ensures.bound,
-        ),
-      )
-      | else-digits-gt0-via-else-digits-gt0 w ↦
-          let z : c.digits-digits.result ≡ 0 = omega (arith, w.if-digits-gt0.false) in
-          let k : c.args.significand < 2 ^ 0 = subst (λ (x : ℕ). c.args.significand < 2 ^ x) z s in
-          inl (omega (arith, k))
-    ] in
-    let h' : IsRoundedToOdd (2 ^ (c.args.shape.precision + 1)) c.args.significand (amount * 2 ^ down u) (1 * 2 ^ up u) =
-    subst (λ (x : ℤ). IsRoundedToOdd (2 ^ (c.args.shape.precision + 1)) c.args.significand (amount * 2 ^ down x)
-    (1 * 2 ^ up x)) (sym v) h in
-    let g : StandsFor c.args.significand ExactlyZero (amount * 2 ^ down u) (1 * 2 ^ up u) =
-    exact_below c.args.significand c.digits-digits.result c.args.shape.precision amount u d h' in
-    let r = rw e at c.deliver_apart.ensures.delivered in
-    r amount 1 (omega arith)
-    (subst (λ (x : ℤ). StandsFor c.args.significand ExactlyZero (amount * 2 ^ down x) (1 * 2 ^ up x)) v g)
+      | else-digits-gt0-via-then-digits-gt0+else-unit-digits w ↦ few_digits c.args.significand
+          c.digits-digits.result c.args.shape.precision s
+          (omega (
+            arith,
+            ints,
+            w.if-unit-digits.false,
+            c.args.shape.parameters,
+            c.unit_place-unit.ensures.within,
+            c.digits-digits.ensures.bound,
+            v,
+            l,
+          ))
+      | else-digits-gt0-via-else-digits-gt0 w ↦ few_digits c.args.significand c.digits-digits.result
+          c.args.shape.precision s (omega (arith, w.if-digits-gt0.false))
+    ])
+
+pub returns-clause-delivered : goal.returns-clause-delivered
+returns-clause-delivered c =
+    let e = to_z-of_z w32 c.args.exponent c.ranges.exponent in
+    let d = rw (c.remade.ensures, e) at c.deliver_odd_below.ensures.delivered in
+    rw c.remade-2.ensures d

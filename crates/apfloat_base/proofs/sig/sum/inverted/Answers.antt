@@ -1,5 +1,0 @@
-use Rattle.std.proofs.Common.{rules}
-use Rattle.apfloat_base.proofs.sig.sum.inverted.Goals as goal
-
-pub returns-in-LessThanHalf : goal.returns-in-LessThanHalf
-returns-in-LessThanHalf c = search rules steps 500000
