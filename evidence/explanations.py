@@ -2,13 +2,16 @@
 """Explains computations, as the program `explain` does: one command on each line of standard input.
 
     python3 evidence/explanations.py < tests/explanations/commands
+
+With the option --colour as on a terminal: the place of the exact result in green, the names of flags in yellow.
 """
 
+import re
 import sys
 from fractions import Fraction
 from math import isqrt
 
-from exact import arithmetic, bits, decimals, remainders, roots, status
+from exact import arithmetic, bits, decimals, remainders, roots, status, texts
 from exact.data import Finite, Infinite, is_signaling
 from exact.formats import PROGRAM_FORMATS
 from exact.rounding import Mode
@@ -49,30 +52,41 @@ CLAUSES = {
     status.UNDERFLOW: "UNDERFLOW: inexact, and below the smallest normal number (7.5)",
     status.INEXACT: "INEXACT: the result is not the exact one (7.6)",
 }
+NAMES = [text.split(":")[0] for text in CLAUSES.values()]
+HEXADECIMAL = re.compile(r"(?:0x)?([0-9a-fA-F]{1,32})")
+AS_BITS = "        read as bits; a number has a dot or ends in d"
+AS_NUMBER = "        read as a number; bits may begin with 0x"
 LINE = "        |---------------|---------------|---------------|---------------|"
 
 
 def main():
     """Explains each line."""
     for line in sys.stdin:
-        print("\n".join(explained(line.split())))
+        lines = explained(line.split())
+        print("\n".join(map(coloured, lines) if "--colour" in sys.argv[1:] else lines))
+
+
+def coloured(line):
+    """A line as it is written to a terminal."""
+    if line.strip() == "^":
+        return line.replace("^", "\033[1;32m^\033[0m")
+    return re.sub(rf"^(flags   |        )({'|'.join(NAMES)}):", "\\1\033[1;33m\\2\033[0m:", line)
 
 
 def explained(words):
     """The lines of a command's explanation."""
     format = FORMATS[words[0]]
     if len(words) == 2:
-        return shown(format, words[0], operand(format, words[1]))
+        return given(format, words[0], words[1])
     name, operation = OPERATIONS[words[1]]
     mode = Mode(words[2])
-    operands = [operand(format, word) for word in words[3:]]
-    data = [x for x, _ in operands]
+    data = [operand(format, word)[0] for word in words[3:]]
     lines = [f"{words[0]} {name}, {RULES[mode]}", ""]
-    for label, given in zip("ABC", operands):
-        lines += shown(format, label, given)
+    for label, word in zip("ABC", words[3:]):
+        lines += given(format, label, word)
     value, flags = computed(format, words[1], operation, data, mode)
     lines += ["", *placed(format, words[1], operation, data, mode, value, flags)]
-    lines += shown(format, "result", (value, False))
+    lines += shown(format, "result", value)
     raised = [text for flag, text in CLAUSES.items() if flags & flag] or ["none"]
     return lines + [("flags   " if i == 0 else "        ") + text for i, text in enumerate(raised)]
 
@@ -87,23 +101,50 @@ def computed(format, word, operation, data, mode):
 
 
 def operand(format, word):
-    """The value of a word, and whether it was rounded."""
-    digits = word.removeprefix("0x")
-    if all(c in "0123456789abcdefABCDEF" for c in digits) and int(digits, 16) < 1 << format.bits:
-        return bits.decoded(format, int(digits, 16)), False
-    value, flags = decimals.read(format, word, Mode.EVEN)
+    """The value of a word, whether it was rounded, and a note on how the word was read, if any.
+
+    A number that a d ends is that number, whatever else the word might be.
+    """
+    written = HEXADECIMAL.fullmatch(word)
+    number = number_of(format, word.removesuffix("d")) if word.endswith("d") else None
+    if number:
+        return *number, [AS_NUMBER] if written else []
+    number = number_of(format, word)
+    pattern = int(written[1], 16) if written else None
+    if written and pattern < 1 << format.bits:
+        return bits.decoded(format, pattern), False, [AS_BITS] if number else []
+    return *number, [AS_NUMBER] if written else []
+
+
+def number_of(format, word):
+    """The value of a number, and whether it was rounded; None for any other word."""
+    if decimals.literal(word):
+        value, flags = decimals.read(format, word, Mode.EVEN)
+    else:
+        try:
+            value, flags = texts.read(format, word, Mode.EVEN)
+        except texts.ParseError:
+            return None
     return value, bool(flags & status.INEXACT)
 
 
-def shown(format, label, given):
+def given(format, label, word):
+    """The lines of an operand."""
+    x, is_rounded, notes = operand(format, word)
+    return [
+        *shown(format, label, x),
+        *notes,
+        *["        the nearest value to what was given"] * is_rounded,
+    ]
+
+
+def shown(format, label, x):
     """The lines of a value."""
-    x, is_rounded = given
-    lines = [
+    return [
         *headed(format, label, x),
         f"        {fields(format, bits.encoded(format, x))}",
         f"        {meaning(format, x)}",
     ]
-    return lines + ["        the nearest value to what was given"] * is_rounded
 
 
 def headed(format, label, x):

@@ -10,7 +10,9 @@ ghost use Rattle.rustc_apfloat.specs.Lawful.{format_with};
 ghost use Rattle.rustc_apfloat.specs.Types.{format_of};
 ghost use Rattle.apfloat_decimals.specs.ShortestSearch.{IsWithinQuad};
 
-use crate::explanation::{Between, Exact, Explanation, Meaning, Place, Shown, Side, Widths};
+use crate::explanation::{
+    Between, Exact, Explanation, Meaning, Operand, Place, Reading, Shown, Side, Widths,
+};
 use crate::question::{Operation, Question};
 use apfloat_decimals::{read_decimal, shortest};
 use commands::bits_of;
@@ -38,8 +40,9 @@ impl<'a> InFormat for Computation<'a> {
 
 /// The value of a word.
 #[derive_where(Clone, Copy)]
-struct Operand<S: Semantics> {
+struct Given<S: Semantics> {
     value: IeeeFloat<S>,
+    reading: Reading,
     is_rounded: bool,
 }
 
@@ -61,40 +64,65 @@ fn explained<'a, S: Semantics>(question: Question<'a>) -> Result<Explanation, &'
 }
 
 /// The values of the words.
-fn values_of<'a, S: Semantics>(words: &'a [String]) -> Result<[Operand<S>; 3], &'a str>
+fn values_of<'a, S: Semantics>(words: &'a [String]) -> Result<[Given<S>; 3], &'a str>
     requires written { S.PRECISION < S.BITS }
     requires within { IsWithinQuad (format_of S.Semantics) }
 {
-    let mut found = [Operand {
+    let mut found = [Given {
         value: IeeeFloat::<S>::from_u128(0).value,
+        reading: Reading::Only,
         is_rounded: false,
     }; 3];
     for (place, word) in words.iter().enumerate() {
         let word = word.as_str();
-        let Some(operand) = value_of::<S>(word) else {
+        let Some(given) = value_of::<S>(word) else {
             return Err(word);
         };
         if place < 3 {
-            found[place] = operand;
+            found[place] = given;
         }
     }
     Ok(found)
 }
 
-/// The value of a word, its bits or a number.
-fn value_of<S: Semantics>(word: &str) -> Option<Operand<S>>
+/// The value of a word: a number that a `d` ends, bits, or any other number.
+fn value_of<S: Semantics>(word: &str) -> Option<Given<S>>
     requires written { S.PRECISION < S.BITS }
     requires within { IsWithinQuad (format_of S.Semantics) }
 {
-    if let Some(bits) = bits_of(word, S::BITS) {
-        return Some(Operand {
-            value: S::from_bits(bits),
-            is_rounded: false,
-        });
+    let reading = if bits_of(word, 128).is_some() {
+        Reading::Number
+    } else {
+        Reading::Only
+    };
+    if let Some(text) = word.strip_suffix('d') {
+        if let Some(number) = number_of::<S>(text, reading) {
+            return Some(number);
+        }
     }
-    match read_decimal::<S>(word, Round::NearestTiesToEven) {
-        Ok(answer) => Some(Operand {
+    let number = number_of::<S>(word, reading);
+    match bits_of(word, S::BITS) {
+        Some(bits) => Some(Given {
+            value: S::from_bits(bits),
+            reading: if number.is_some() {
+                Reading::Bits
+            } else {
+                Reading::Only
+            },
+            is_rounded: false,
+        }),
+        None => number,
+    }
+}
+
+/// The value nearest to the number that a text spells.
+fn number_of<S: Semantics>(text: &str, reading: Reading) -> Option<Given<S>>
+    requires within { IsWithinQuad (format_of S.Semantics) }
+{
+    match read_decimal::<S>(text, Round::NearestTiesToEven) {
+        Ok(answer) => Some(Given {
             value: answer.value,
+            reading,
             is_rounded: answer.status.intersects(Status::INEXACT),
         }),
         Err(_) => None,
@@ -105,9 +133,9 @@ fn value_of<S: Semantics>(word: &str) -> Option<Operand<S>>
 fn explanation<S: Semantics>(
     operation: Operation,
     round: Round,
-    first: Operand<S>,
-    second: Operand<S>,
-    third: Operand<S>,
+    first: Given<S>,
+    second: Given<S>,
+    third: Given<S>,
 ) -> Explanation
     requires written { S.PRECISION < S.BITS }
     requires within { IsWithinQuad (format_of S.Semantics) }
@@ -115,13 +143,13 @@ fn explanation<S: Semantics>(
     let (x, y, z) = (first.value, second.value, third.value);
     let StatusAnd { value, status } = computed(operation, x, y, z, round);
     let place = place(operation, x, y, z, value, status);
-    let a = shown(x, first.is_rounded);
-    let b = shown(y, second.is_rounded);
-    let c = shown(z, third.is_rounded);
+    let a = operand(first);
+    let b = operand(second);
+    let c = operand(third);
     Explanation {
         widths: widths::<S>(),
         operands: [a, b, c],
-        result: shown(value, false),
+        result: shown(value),
         status,
         place,
     }
@@ -152,8 +180,20 @@ fn computed<S: Semantics>(
     }
 }
 
+/// The value of a word as it is shown.
+fn operand<S: Semantics>(given: Given<S>) -> Operand
+    requires written { S.PRECISION < S.BITS }
+    requires within { IsWithinQuad (format_of S.Semantics) }
+{
+    Operand {
+        value: shown(given.value),
+        reading: given.reading,
+        is_rounded: given.is_rounded,
+    }
+}
+
 /// A value as it is shown.
-fn shown<S: Semantics>(x: IeeeFloat<S>, is_rounded: bool) -> Shown
+fn shown<S: Semantics>(x: IeeeFloat<S>) -> Shown
     requires written { S.PRECISION < S.BITS }
     requires within { IsWithinQuad (format_of S.Semantics) }
 {
@@ -163,7 +203,6 @@ fn shown<S: Semantics>(x: IeeeFloat<S>, is_rounded: bool) -> Shown
         meaning: meaning(x),
         decimal: shortest(x),
         is_denormal: x.is_denormal(),
-        is_rounded,
     }
 }
 
@@ -230,8 +269,8 @@ fn place<S: Semantics>(
     let way = way_between(widened(lower), widened(upper), &downward);
     Place::Between(Between {
         exact: exact_result(&downward),
-        lower: shown(lower, false),
-        upper: shown(upper, false),
+        lower: shown(lower),
+        upper: shown(upper),
         parts: way.parts,
         side: way.side,
         takes_upper: answer.bitwise_eq(upper),

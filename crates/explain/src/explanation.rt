@@ -42,7 +42,27 @@ pub struct Shown {
     pub decimal: Option<Decimal>,
     /// Whether it is denormal.
     pub is_denormal: bool,
-    /// Whether it is the value nearest to the text that was given, and not equal to it.
+}
+
+/// Which of its meanings a word was given.
+#[derive(Clone, Copy, Debug)]
+pub enum Reading {
+    /// The only one that it has.
+    Only,
+    /// Bits, though the word is also a number.
+    Bits,
+    /// A number, though the word consists of hexadecimal digits.
+    Number,
+}
+
+/// An operand.
+#[derive(Clone, Copy, Debug)]
+pub struct Operand {
+    /// Its value.
+    pub value: Shown,
+    /// How its word was read.
+    pub reading: Reading,
+    /// Whether the word is a number that the format lacks, and the value the nearest one.
     pub is_rounded: bool,
 }
 
@@ -104,7 +124,7 @@ pub struct Explanation {
     /// The widths of the format's fields.
     pub widths: Widths,
     /// The operands, the last one repeated if there are fewer than three.
-    pub operands: [Shown; 3],
+    pub operands: [Operand; 3],
     /// The result.
     pub result: Shown,
     /// Its flags.

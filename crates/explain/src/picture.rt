@@ -1,6 +1,8 @@
 //! Writes an explanation, in lines of at most 80 columns.
 
-use crate::explanation::{Between, Exact, Explanation, Meaning, Place, Shown, Side, Widths};
+use crate::explanation::{
+    Between, Exact, Explanation, Meaning, Operand, Place, Reading, Shown, Side, Widths,
+};
 use crate::question::{Operation, Question};
 use apfloat_decimals::Decimal;
 use dispatch::Arithmetic;
@@ -20,7 +22,7 @@ pub fn write_explanation<W: Write>(
 ) -> io::Result<()> {
     let widths = explanation.widths;
     if let Operation::Value = question.operation {
-        return write_shown(widths, question.format_word, &explanation.operands[0], out);
+        return write_operand(widths, question.format_word, &explanation.operands[0], out);
     }
     let (format, operation) = (question.format_word, name_of(question.operation));
     writeln!(out, "{format} {operation}, {}\n", rule_of(question.round))?;
@@ -37,14 +39,33 @@ fn write_operands<W: Write>(
     explanation: &Explanation,
     out: &mut W,
 ) -> io::Result<()> {
-    write_shown(widths, "A", &explanation.operands[0], out)?;
+    write_operand(widths, "A", &explanation.operands[0], out)?;
     if count > 1 {
-        write_shown(widths, "B", &explanation.operands[1], out)?;
+        write_operand(widths, "B", &explanation.operands[1], out)?;
     }
     if count > 2 {
-        write_shown(widths, "C", &explanation.operands[2], out)?;
+        write_operand(widths, "C", &explanation.operands[2], out)?;
     }
     writeln!(out)
+}
+
+/// Writes an operand: its value, and how its word was read.
+fn write_operand<W: Write>(
+    widths: Widths,
+    name: &str,
+    operand: &Operand,
+    out: &mut W,
+) -> io::Result<()> {
+    write_shown(widths, name, &operand.value, out)?;
+    match operand.reading {
+        Reading::Only => {}
+        Reading::Bits => writeln!(out, "        read as bits; a number has a dot or ends in d")?,
+        Reading::Number => writeln!(out, "        read as a number; bits may begin with 0x")?,
+    }
+    if operand.is_rounded {
+        writeln!(out, "        the nearest value to what was given")?;
+    }
+    Ok(())
 }
 
 /// The name of an operation.
@@ -80,9 +101,6 @@ fn write_shown<W: Write>(widths: Widths, name: &str, shown: &Shown, out: &mut W)
     write_fields(widths, shown.bits, out)?;
     write!(out, "\n        ")?;
     write_meaning(shown, out)?;
-    if shown.is_rounded {
-        write!(out, "\n        the nearest value to what was given")?;
-    }
     writeln!(out)
 }
 
