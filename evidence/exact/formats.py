@@ -126,6 +126,7 @@ OWN_FORMATS = (
     Format("expl14", 14, 5, 8, -14, 15, writes_integer_bit=True),
     Format("nan10", 10, 5, 5, -14, 16, NonFinite.NAN_ONLY),
     Format("halftbr", 16, 5, 11, -14, 15, tiny_before_rounding=True),
+    Format("fused63", 72, 9, 63, -254, 255),
 )
 
 

@@ -19,17 +19,17 @@ _FORMATS = ("quad", "x87", "fallback", "fallbackext", "lim125")
 _SLOW_FORMATS = ("wide128", "lim125deep")
 
 
-def questions(choices, call, cases, specials):
+def questions(choices, call, cases, specials, formats=_FORMATS, slow_formats=_SLOW_FORMATS):
     """Different questions without end, in rounds: each case in each format.
 
     The first round also has the special operands, and the slow formats.
     """
     seen = set()
     for turn in count():
-        for name in _FORMATS if turn else (*_FORMATS, *_SLOW_FORMATS):
+        for name in formats if turn else (*formats, *slow_formats):
             operands = Operands(choices, FORMATS[name])
             drawn = [case(operands) for case in cases]
-            if turn == 0 and name in _FORMATS:
+            if turn == 0 and name in formats:
                 drawn += specials(operands)
             for data in drawn:
                 yield from unseen(seen, asked(call, operands, data))

@@ -11,6 +11,11 @@ def questions(choices):
     return hard.questions(choices, "wide_mul_add_r", _CASES, specials)
 
 
+def questions_of_63_digits(choices):
+    """The same of `mul_add_r`, in the format with the most digits that has it."""
+    return hard.questions(choices, "mul_add_r", _CASES, specials, ("fused63",), ())
+
+
 def specials(operands):
     """Data of each kind, three at a time."""
     return operands.choices.sample(list(product(hard.kinds(operands), repeat=3)), 80)

@@ -36,6 +36,7 @@ SUBJECTS = {
     "hard_products": hard_products.questions,
     "hard_sums": hard_sums.questions,
     "hard_flags": hard_flags.questions,
+    "hard_sums_63": hard_sums.questions_of_63_digits,
 }
 
 

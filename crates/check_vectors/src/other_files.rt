@@ -229,3 +229,27 @@ fn agrees_with_lines_of_testfloat(rt: HostRuntime) {
 fn agrees_with_lines_of_fpgen(rt: HostRuntime) {
     expect_agreement(&rt, Lines::Fpgen(Fpgen::new()), FPGEN.as_bytes(), (20, 1));
 }
+
+/// Lines of FPgen, the first of them as messages have it.
+const SUMS: &str = "b32+ =0 +1.000000P0 +1.400000P1 -> +1.000000P2\n\
+    b64- > +1.8000000000000P0 -1.8000000000000P0 -> +1.8000000000000P1\n\
+    b32+ < +1.400000P0 +1.000000P0 -> +1.400000P1\n\
+    b32- =0 +1.000000P2 +1.400000P1 -> +1.000000P0";
+
+/// Other operands are no other group.
+#[test]
+fn counts_by_call_and_format(rt: HostRuntime) {
+    let task = Task {
+        lines: Lines::Fpgen(Fpgen::new()),
+        is_summary: true,
+        first: None,
+    };
+    let mut out = Vec::new(rt.alloc());
+    let mut err = Vec::new(rt.alloc());
+    let status = check_lines(&rt, "lines", &mut SUMS.as_bytes(), task, &mut out, &mut err);
+    assert_eq!(rt; status, 1);
+    let counts = "add_r\tsingle+ieee\t1 agree, 1 differ\n\
+        sub_r\tdouble+ieee\t1 agree, 0 differ\nsub_r\tsingle+ieee\t1 agree, 0 differ\n\
+        3 rows agree, 1 differ, 0 malformed; 0 lines skipped\n";
+    assert_eq!(rt; out.as_slice(), counts.as_bytes());
+}

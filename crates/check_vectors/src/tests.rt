@@ -7,7 +7,7 @@ use std::rt::Clock;
 use std::test::Fail;
 use std::time::Duration;
 use std::{fs, io};
-use vector_rows::{Check, check_input, run};
+use vector_rows::{Check, Task, check_lines, run};
 
 /// Asserts what the program writes for an input, and its exit status.
 fn expect<R: Abort + Clock + AllocGlobal>(
@@ -17,7 +17,7 @@ fn expect<R: Abort + Clock + AllocGlobal>(
 ) {
     let mut out = Vec::new(rt.alloc());
     let mut err = Vec::new(rt.alloc());
-    let answered = check_input(rt, "rows", &mut input, &mut out, &mut err);
+    let answered = check_lines(rt, "rows", &mut input, Task::rows(), &mut out, &mut err);
     assert_eq!(rt; out.as_slice(), on_out.as_bytes(), "{on_out}");
     assert_eq!(rt; err.as_slice(), on_err.as_bytes(), "{on_out}");
     assert_eq!(rt; answered, status, "{on_out}");
@@ -333,7 +333,14 @@ fn wants_a_row(rt: HostRuntime) {
     for (input, count) in [("", 0), ("\n", 1), ("# nothing\n \t\n#", 3)] {
         let mut out = Vec::new(rt.alloc());
         let mut err = Vec::new(rt.alloc());
-        let status = check_input(&rt, "rows", &mut input.as_bytes(), &mut out, &mut err);
+        let status = check_lines(
+            &rt,
+            "rows",
+            &mut input.as_bytes(),
+            Task::rows(),
+            &mut out,
+            &mut err,
+        );
         let text = format!(in rt.alloc();
             "0 rows agree, 0 differ, 0 malformed; {count} lines skipped\n"
         );
@@ -388,7 +395,7 @@ fn names_a_read_that_fails(rt: HostRuntime) -> Result<(), Fail> {
             let mut input = BufReader::new(rt.alloc(), Broken { rest, kind: *kind })?;
             let mut out = Vec::new(rt.alloc());
             let mut err = Vec::new(rt.alloc());
-            let answered = check_input(&rt, "rows", &mut input, &mut out, &mut err);
+            let answered = check_lines(&rt, "rows", &mut input, Task::rows(), &mut out, &mut err);
             assert_eq!(rt; answered, *status, "{count}");
             assert_eq!(rt; err.as_slice(), reason.as_bytes(), "{count}");
             let tally = if count == ROWS.len() {
@@ -441,7 +448,14 @@ fn answers_4_where_a_write_fails(rt: HostRuntime) {
     for room in 0..=whole.len() {
         let mut out = Failing::new(rt.alloc(), room);
         let mut err = Vec::new(rt.alloc());
-        let status = check_input(&rt, "rows", &mut ROWS.as_bytes(), &mut out, &mut err);
+        let status = check_lines(
+            &rt,
+            "rows",
+            &mut ROWS.as_bytes(),
+            Task::rows(),
+            &mut out,
+            &mut err,
+        );
         assert_eq!(rt; status, if room == whole.len() { 1 } else { 4 }, "{room}");
         assert_eq!(rt; out.taken.as_slice(), &whole.as_bytes()[..room], "{room}");
         assert_eq!(rt; err.is_empty(), room == whole.len(), "{room}");
@@ -450,7 +464,14 @@ fn answers_4_where_a_write_fails(rt: HostRuntime) {
     for room in 0..=said.len() {
         let mut out = Vec::new(rt.alloc());
         let mut err = Failing::new(rt.alloc(), room);
-        let status = check_input(&rt, "rows", &mut "".as_bytes(), &mut out, &mut err);
+        let status = check_lines(
+            &rt,
+            "rows",
+            &mut "".as_bytes(),
+            Task::rows(),
+            &mut out,
+            &mut err,
+        );
         assert_eq!(rt; status, if room == said.len() { 2 } else { 4 }, "{room}");
         assert_eq!(rt; err.taken.as_slice(), &said.as_bytes()[..room], "{room}");
     }
@@ -485,7 +506,7 @@ fn tells_how_far_it_is(rt: HostRuntime) -> Result<(), Fail> {
     };
     let mut out = Vec::new(rt.alloc());
     let mut err = Vec::new(rt.alloc());
-    let mut check = Check::new(rt.alloc());
+    let mut check = Check::new(Task::rows(), rt.alloc());
     let ended = check.take(
         &mut input.as_bytes(),
         rt.alloc(),

@@ -1,10 +1,11 @@
 //! Custom formats, declared as a user would declare them: each gives its constants and proves its law in one line.
 //!
-//! Rows of test vectors name them (`row_names`), and tests use them at the limits of the law (`conformance_tests`).
+//! Rows of test vectors name them (`vector_lines`), and tests use them at the limits of the law (`conformance_tests`).
 #![tactic(auto)]
 
 mod broad;
 mod deep;
+mod fused_limit;
 mod half_tiny_before;
 mod least;
 mod least_finite;
@@ -16,6 +17,7 @@ mod written_bit;
 
 pub use broad::{Broad, BroadS};
 pub use deep::{Deep, DeepS};
+pub use fused_limit::{FusedLimit, FusedLimitS};
 pub use half_tiny_before::HalfTinyBeforeS;
 pub use least::{Least, LeastS};
 pub use least_finite::{LeastFinite, LeastFiniteS};

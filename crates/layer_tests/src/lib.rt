@@ -1,4 +1,4 @@
-//! Tests of the layers below the public calls.
+//! Tests of the layers below the public calls, and of decimals.
 //!
 //! They are in a separate crate, since testing a crate proves the whole crate again.
 #![tactic(auto)]
@@ -6,9 +6,19 @@
 #[cfg(test)]
 mod asserts;
 #[cfg(test)]
+mod decimal_texts;
+#[cfg(test)]
+mod decimal_values;
+#[cfg(test)]
+mod decimals;
+#[cfg(test)]
 mod modes;
 #[cfg(test)]
 mod quotients;
+#[cfg(test)]
+mod rounded_decimals;
+#[cfg(test)]
+mod shortest_decimals;
 #[cfg(test)]
 mod statuses;
 #[cfg(test)]

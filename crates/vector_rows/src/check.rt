@@ -1,17 +1,17 @@
 //! Checks the lines of an input, one at a time, counts them, and reports how far it has come.
 
+use crate::asked::{agrees, write_answers};
+use crate::call_row::{CallRow, row_of};
 use crate::command_row::CommandRow;
 use crate::failure::Failure;
 use crate::other_files::{Fpgen, TestFloat};
 use crate::summary::Summary;
-use memchr::memchr;
-use row_calls::{CallRow, agrees, row_of, write_answers};
-use row_columns::RowError;
-use std::alloc::{Allocator, Global};
+use std::alloc::{AllocError, Allocator, Global};
 use std::io::{BufRead, ErrorKind, Write};
 use std::rt::Clock;
 use std::time::Instant;
 use std::{fmt, io, str};
+use vector_lines::RowError;
 
 /// How many seconds pass before the first message on how far the check has come, and between two of them.
 const SECONDS: u64 = 3;
@@ -73,16 +73,20 @@ impl Lines {
             Lines::Fpgen(fpgen) => Some(Lines::Fpgen(fpgen.with(option)?)),
         }
     }
+
+    /// Counts a line by its call and its format.
+    fn count(self, text: &str, agrees: bool, summary: &mut Summary) -> Result<(), AllocError> {
+        match self {
+            Lines::Rows => summary.count_row(text, agrees),
+            Lines::TestFloat(function) => function.count(agrees, summary),
+            Lines::Fpgen(fpgen) => fpgen.count(text, agrees, summary),
+        }
+    }
 }
 
 impl Check {
-    /// A check of no rows yet.
-    pub fn new(alloc: Global) -> Check {
-        Check::of(Task::rows(), alloc)
-    }
-
     /// A check of no lines yet.
-    pub fn of(task: Task, alloc: Global) -> Check {
+    pub fn new(task: Task, alloc: Global) -> Check {
         Check {
             alloc,
             tally: Tally::default(),
@@ -266,7 +270,7 @@ impl Check {
             increment(&mut self.tally.differing);
         }
         if self.task.is_summary {
-            self.summary.count(text, agrees)?;
+            self.task.lines.count(text, agrees, &mut self.summary)?;
             return Ok(false);
         }
         if !agrees {
@@ -303,7 +307,7 @@ fn read_line<R: BufRead, A: Allocator>(input: &mut R, line: &mut Vec<u8, A>) -> 
         },
     };
     // Most lines are in the buffer as a whole.
-    let Some(end) = memchr(b'\n', available) else {
+    let Some(end) = available.iter().position(|byte| *byte == b'\n') else {
         return input.read_until(b'\n', line);
     };
     line.extend_from_slice(&available[..=end])?;

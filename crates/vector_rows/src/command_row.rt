@@ -1,12 +1,12 @@
 //! Rows of commands: each gets a reply as from the program `vectors`, which is compared with that of the row.
 
+use crate::fault::width_of;
 use commands::{agrees, bits_of, run};
 use dispatch::{BuiltInKind, mode_named};
-use row_calls::width_of;
-use row_columns::{RowError, bits_error, mask, status_named};
 use rustc_apfloat::Flags;
 use std::alloc::{AllocError, Global};
 use std::{io, str};
+use vector_lines::{RowError, bits_error, mask, status_named};
 
 /// What a reply is, for messages.
 const REPLY: &str = "bits and flags, as `5f40 OK`, or `refused: ` and a word";

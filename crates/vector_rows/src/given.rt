@@ -1,9 +1,8 @@
 //! What the library returns for a line of another program's file, as numbers.
 
-use row_calls::Asked;
-use row_columns::{StatusField, ValueField};
+use crate::asked::Asked;
 use rustc_apfloat::{Flags, Status};
-use testfloat_lines::{Columns, LineCall};
+use vector_lines::{Columns, LineCall, StatusField, ValueField};
 
 /// What a call returns, if there is such a call with a status.
 pub fn given(call: &LineCall) -> Option<Columns> {

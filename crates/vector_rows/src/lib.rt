@@ -1,18 +1,27 @@
 //! Rows of test vectors, commands with their replies and calls with their results, and the program that checks them.
 //!
-//! `run` is the program `check_vectors`, given the arguments from the system; `docs/VECTORS.md` describes it. The calls
-//! of rows are made in `row_calls`. For the functions here only safety is proved.
+//! `run` is the program `check_vectors`, given the arguments from the system; `docs/VECTORS.md` describes it. Each call
+//! of a row is made in its format, and what it returns is compared with the row. For the functions here only safety is
+//! proved, and that a row's columns are those of its line.
 #![tactic(auto)]
 
+mod asked;
+mod call_row;
 mod check;
 mod command_row;
+mod decimals;
 mod failure;
+mod fault;
+mod formats;
 mod given;
+mod magnitudes;
+mod of_type;
 mod other_files;
 mod program;
+mod reading;
 mod summary;
 
 pub use check::{Check, Lines, Tally, Task};
 pub use failure::Failure;
 pub use other_files::{Fpgen, TestFloat};
-pub use program::{check_input, check_lines, run};
+pub use program::{check_lines, run};

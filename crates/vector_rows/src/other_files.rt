@@ -1,21 +1,23 @@
 //! Lines of other programs' files, and what the library returns for them.
 
 use crate::given::given;
-use row_columns::RowError;
+use crate::summary::Summary;
+use std::alloc::AllocError;
 use std::io;
 use std::io::Write;
+use vector_lines::RowError;
 
 /// A function of TestFloat, and how it rounds: what the lines of a file are about.
 #[derive(Clone, Copy)]
 pub struct TestFloat {
-    lines: testfloat_lines::TestFloat,
+    lines: vector_lines::TestFloat,
 }
 
 impl TestFloat {
     /// The function of this name. It rounds to the nearest, ties to even, and finds results tiny after rounding;
     /// integral values and integers do not raise the inexact flag, and each bit of a NaN matters.
     pub fn named(name: &str) -> Option<TestFloat> {
-        match testfloat_lines::TestFloat::named(name) {
+        match vector_lines::TestFloat::named(name) {
             Some(lines) => Some(TestFloat { lines }),
             None => None,
         }
@@ -41,6 +43,12 @@ impl TestFloat {
         }
     }
 
+    /// Counts a line by its call and its format.
+    pub fn count(self, agrees: bool, summary: &mut Summary) -> Result<(), AllocError> {
+        let format = self.lines.format();
+        summary.count(self.lines.call_name(), format.as_str(), agrees)
+    }
+
     /// Writes the result and the flags that the library returns for a line.
     pub fn write_given<W: Write>(self, line: &str, out: &mut W) -> io::Result<()> {
         let Ok((call, _)) = self.lines.read(line) else {
@@ -56,14 +64,14 @@ impl TestFloat {
 /// How lines of FPgen are read.
 #[derive(Clone, Copy)]
 pub struct Fpgen {
-    lines: testfloat_lines::Fpgen,
+    lines: vector_lines::Fpgen,
 }
 
 impl Fpgen {
     /// Lines whose results are found tiny after they are rounded.
     pub fn new() -> Fpgen {
         Fpgen {
-            lines: testfloat_lines::Fpgen::new(),
+            lines: vector_lines::Fpgen::new(),
         }
     }
 
@@ -84,7 +92,15 @@ impl Fpgen {
         };
         match given(&test.call) {
             Some(given) => Ok(Some(test.agrees(given))),
-            None => Err(testfloat_lines::Fpgen::no_call(line)),
+            None => Err(vector_lines::Fpgen::no_call(line)),
+        }
+    }
+
+    /// Counts a line by its call and its format.
+    pub fn count(self, line: &str, agrees: bool, summary: &mut Summary) -> Result<(), AllocError> {
+        match self.lines.call_in(line) {
+            Some((call, format)) => summary.count(call, format, agrees),
+            None => Ok(()),
         }
     }
 

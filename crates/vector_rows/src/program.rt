@@ -258,17 +258,6 @@ fn check_reader<R: Clock + AllocGlobal, I: Read + Drop, W: Write, V: Write>(
     }
 }
 
-/// Checks the rows of an input of this name. Returns the exit status.
-pub fn check_input<R: Clock + AllocGlobal, B: BufRead, W: Write, V: Write>(
-    rt: &R,
-    name: &str,
-    input: &mut B,
-    out: &mut W,
-    err: &mut V,
-) -> u8 {
-    check_lines(rt, name, input, Task::rows(), out, err)
-}
-
 /// Checks the lines of an input of this name. Returns the exit status.
 pub fn check_lines<R: Clock + AllocGlobal, B: BufRead, W: Write, V: Write>(
     rt: &R,
@@ -282,7 +271,7 @@ pub fn check_lines<R: Clock + AllocGlobal, B: BufRead, W: Write, V: Write>(
         Ok(out) => out,
         Err(error) => return report(name, &Failure::from(error), err),
     };
-    let mut check = Check::of(task, rt.alloc());
+    let mut check = Check::new(task, rt.alloc());
     let ended = check.take(input, rt.alloc(), rt, &mut out, err);
     if let Err(Failure::Output(error)) = ended {
         return report(name, &Failure::Output(error), err);

@@ -1,6 +1,7 @@
 //! How many rows of each call and format agree and differ.
 
 use std::alloc::{AllocError, Global};
+use std::collections::BTreeMap;
 use std::io;
 use std::io::Write;
 
@@ -11,6 +12,8 @@ pub struct Summary {
     groups: Vec<Group>,
     // The group of the last row, where the next one is looked for first.
     last: usize,
+    // Where the group of each call and format is, by both with a tab between them.
+    places: BTreeMap<String, usize>,
 }
 
 /// The rows of a call in a format.
@@ -29,36 +32,47 @@ impl Summary {
             alloc,
             groups: Vec::new(alloc),
             last: 0,
+            places: BTreeMap::new(alloc),
         }
     }
 
     /// Counts a row.
-    pub fn count(&mut self, text: &str, is_agreeing: bool) -> Result<(), AllocError> {
+    pub fn count_row(&mut self, text: &str, is_agreeing: bool) -> Result<(), AllocError> {
         let (call, format) = names_of(text);
-        let place = self.place_of(call, format);
-        if place == self.groups.len() {
-            self.groups.push(Group::new(self.alloc, call, format)?)?;
+        self.count(call, format, is_agreeing)
+    }
+
+    /// Counts a row of a call in a format.
+    pub fn count(&mut self, call: &str, format: &str, is_agreeing: bool) -> Result<(), AllocError> {
+        if !self.is_last(call, format) {
+            self.last = self.place_of(call, format)?;
         }
-        self.last = place;
-        if let Some(group) = self.groups.get_mut(place) {
+        if let Some(group) = self.groups.get_mut(self.last) {
             group.count(is_agreeing);
         }
         Ok(())
     }
 
-    /// Where the group of a call and a format is, or how many groups there are.
-    fn place_of(&self, call: &str, format: &str) -> usize {
-        if let Some(group) = self.groups.get(self.last)
-            && group.is_of(call, format)
-        {
-            return self.last;
+    /// Whether the last row was of a call in a format.
+    fn is_last(&self, call: &str, format: &str) -> bool {
+        match self.groups.get(self.last) {
+            Some(group) => group.is_of(call, format),
+            None => false,
         }
-        for place in 0..self.groups.len() {
-            if self.groups[place].is_of(call, format) {
-                return place;
-            }
+    }
+
+    /// Where the group of a call in a format is, which is added if there is none.
+    fn place_of(&mut self, call: &str, format: &str) -> Result<usize, AllocError> {
+        let mut name = String::from_str(self.alloc, call)?;
+        name.push('\t')?;
+        name.push_str(format)?;
+        if let Some(place) = self.places.get(name.as_str()) {
+            return Ok(*place);
         }
-        self.groups.len()
+        let place = self.groups.len();
+        self.groups.push(Group::new(self.alloc, call, format)?)?;
+        self.places.insert(name, place)?;
+        Ok(place)
     }
 
     /// Writes a line for each group.

@@ -2,8 +2,8 @@
 
 use crate::table::found;
 use custom_formats::{
-    BroadS, DeepS, HalfTinyBeforeS, LeastFiniteS, LeastS, PreciseS, SevenS, TenS, VastS,
-    WrittenBitS,
+    BroadS, DeepS, FusedLimitS, HalfTinyBeforeS, LeastFiniteS, LeastS, PreciseS, SevenS, TenS,
+    VastS, WrittenBitS,
 };
 use dispatch::{BuiltInFormat, BuiltInKind, FlaggedFormat, IeeeFormat, InFlaggedFormat, InFormat};
 use rustc_apfloat::ieee::{Flagged, Semantics};
@@ -62,6 +62,7 @@ pub enum OtherFormat {
     WrittenBit,
     Ten,
     HalfTinyBefore,
+    FusedLimit,
 }
 
 static OTHER_FORMATS: &[(&str, OtherFormat)] = &[
@@ -77,6 +78,7 @@ static OTHER_FORMATS: &[(&str, OtherFormat)] = &[
     ("expl14", OtherFormat::WrittenBit),
     ("nan10", OtherFormat::Ten),
     ("halftbr", OtherFormat::HalfTinyBefore),
+    ("fused63", OtherFormat::FusedLimit),
 ];
 
 impl RowFormat {
@@ -173,6 +175,7 @@ impl OtherFormat {
             OtherFormat::WrittenBit => call.made_in::<WrittenBitS>(),
             OtherFormat::Ten => call.made_in::<TenS>(),
             OtherFormat::HalfTinyBefore => call.made_in::<HalfTinyBeforeS>(),
+            OtherFormat::FusedLimit => call.made_in::<FusedLimitS>(),
         }
     }
 }

@@ -1,7 +1,6 @@
 //! The operands of a row, by what its call takes.
 
-use row_columns::{Operand, Operands};
-use row_names::Form;
+use vector_lines::{Form, Operand, Operands};
 
 /// The operands that a text has in a form; those that are texts stay in the row.
 pub fn operands_of(form: Form, text: &str) -> Option<Operands> {

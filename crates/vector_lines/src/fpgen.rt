@@ -1,22 +1,25 @@
-//! Lines of IBM's FPgen, as its files of tests have them: `b32+ =0 +1.000000P0 +1.800000P1 -> +1.000000P2`.
+//! Lines of IBM's FPgen, as its files of tests have them: `b32+ =0 +1.000000P0 +1.400000P1 -> +1.000000P2`.
 //!
 //! The first word is a format and an operation. After it come the rounding mode, which exceptions trap, the operands,
 //! an arrow, the result, and a letter for each flag. Flags are those that processors raise.
 
 use crate::columns::{Columns, LineCall, is_nan};
+use crate::row_error::RowError;
+use crate::table::found;
+use crate::text::Text;
+use crate::widths::mask;
 use commands::bits_of;
-use row_columns::{RowError, Text, mask};
-use row_names::found;
 use std::fmt::Write as _;
 use std::io;
 use std::io::Write;
 
 /// What a line is, for messages.
-const LINE: &str = "a line such as `b32+ =0 +1.000000P0 +1.800000P1 -> +1.000000P2`";
+const LINE: &str = "a line such as `b32+ =0 +1.000000P0 +1.400000P1 -> +1.000000P2`";
 
-/// What operands are, and results.
+/// What operands are, and results. The digits of a fraction are those of its bits as a number, so six for the 23 bits
+/// of `b32`.
 const NUMBERS: &str =
-    "numbers such as +1.800000P-3, +Zero, -Inf, Q or S, as many as the operation has";
+    "numbers such as +1.400000P-3 (1.5 * 2^-3 in b32), +Zero, -Inf, Q or S, as many as the operation has";
 
 /// A format of FPgen.
 #[derive(Clone, Copy)]
@@ -144,6 +147,17 @@ impl Fpgen {
             None => Err(RowError::Word("no mode", rounding, "=0 > < 0 or =^")),
             Some(_) if has_traps(words) => Ok(None),
             Some(mode) => operation.test(mode, words, right),
+        }
+    }
+
+    /// The name of the call of a line, and its format.
+    pub fn call_in(self, line: &str) -> Option<(&'static str, &'static str)> {
+        let Some((name, _, _)) = cut_line(line) else {
+            return None;
+        };
+        match self.operation_named(name) {
+            Ok(operation) => Some((operation.call, operation.word)),
+            Err(_) => None,
         }
     }
 
@@ -303,7 +317,7 @@ fn operands_of(words: &str, format: BinaryFormat) -> Option<Text> {
     Some(text)
 }
 
-/// The bits of a number, an infinity or a NaN: `+1.800000P-3`, `-0.000001P-126`, `+Zero`, `-Inf`, `Q`, `S`.
+/// The bits of a number, an infinity or a NaN: `+1.400000P-3`, `-0.000001P-126`, `+Zero`, `-Inf`, `Q`, `S`.
 fn bits_of_word(word: &str, format: BinaryFormat) -> Option<u128> {
     match word {
         "Q" => return Some(format.infinity | (unit_of(format) >> 1)),

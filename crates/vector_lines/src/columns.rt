@@ -1,6 +1,7 @@
 //! What lines of any of the programs say.
 
-use row_columns::{Text, mask};
+use crate::text::Text;
+use crate::widths::mask;
 
 /// A result and its flags, as numbers.
 #[derive(Clone, Copy)]

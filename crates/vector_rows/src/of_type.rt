@@ -4,16 +4,13 @@ ghost use Rattle.std.specs.Prelude.{◌≤◌};
 
 use crate::magnitudes::Magnitudes;
 use dispatch::ValueType;
-use row_columns::{
-    CallFault, ExtraField, Operand, Operands, Quanta, Returned, RowAnswer, Text, ValueField, mask,
-    shown,
-};
-use row_names::{
-    AssigningOperator, Call, Constant, IntegerCall, OneValueCall, Property, TextCall,
-    TwoValuesCall, WordCall,
-};
 use rustc_apfloat::{ExpInt, Float, Round, StatusAnd};
 use std::fmt::Debug;
+use vector_lines::{
+    AssigningOperator, Call, CallFault, Constant, ExtraField, IntegerCall, OneValueCall, Operand,
+    Operands, Property, Quanta, Returned, RowAnswer, Text, TextCall, TwoValuesCall, ValueField,
+    WordCall, mask, shown,
+};
 
 /// What the call of a row returns, or what is wrong with the row.
 pub type Answered = Result<RowAnswer, CallFault>;

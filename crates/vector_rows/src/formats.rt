@@ -3,13 +3,15 @@
 use crate::decimals::in_decimals;
 use crate::of_type::{Answered, Request, of_type, two_values, value_of};
 use dispatch::InFormat;
-use row_columns::{CallFault, ExtraField, Operands, Returned, RowAnswer};
-use row_names::{Call, CallInFormat, ConversionCall, FormatCall, RowFormat};
 use rustc_apfloat::ieee::{Flagged, IeeeFloat, Semantics};
 use rustc_apfloat::ppc::{DoubleDouble, FallbackS};
 use rustc_apfloat::{FUSED_LIMIT, Float, FloatConvert, Round, StatusAnd};
 use std::fmt::Debug;
 use std::marker::PhantomData;
+use vector_lines::{
+    Call, CallFault, CallInFormat, ConversionCall, ExtraField, FormatCall, Operands, Returned,
+    RowAnswer, RowFormat,
+};
 
 /// The formats of a row.
 #[derive(Clone, Copy)]

@@ -4,9 +4,11 @@
 //! Flags are those that processors raise, so the formats are those of IEEE 754-2008 with its rules of flags.
 
 use crate::columns::{Columns, LineCall, is_nan};
+use crate::row_error::RowError;
+use crate::table::found;
+use crate::text::{Text, shown};
+use crate::widths::mask;
 use commands::bits_of;
-use row_columns::{RowError, Text, mask, shown};
-use row_names::found;
 use std::fmt::Write as _;
 use std::io;
 use std::io::Write;
@@ -123,6 +125,11 @@ impl TestFloat {
         Some(TestFloat { mode, ..self })
     }
 
+    /// The name of the call that lines ask for.
+    pub fn call_name(self) -> &'static str {
+        self.call
+    }
+
     /// The call that a line asks for, and the result and the flags that it states.
     pub fn read(self, line: &str) -> Result<(LineCall, Columns), RowError<'_>> {
         let (operands, stated) = match self.cut(line) {
@@ -236,7 +243,7 @@ impl TestFloat {
     }
 
     /// The format of the row, or both formats of a conversion. The flags of a conversion are those of its target.
-    fn format(self) -> Text {
+    pub fn format(self) -> Text {
         let rule = if self.tiny_before_rounding {
             "+ieee+before"
         } else {

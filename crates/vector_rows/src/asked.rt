@@ -6,11 +6,10 @@ use crate::formats::{Formats, answered};
 use crate::of_type::{Answered, Request};
 use crate::reading::operands_of;
 use dispatch::mode_named;
-use row_columns::{CallFault, Operands, Quanta};
-use row_names::Call;
 use rustc_apfloat::Round;
 use std::io;
 use std::io::Write;
+use vector_lines::{Call, CallFault, Operands, Quanta};
 
 /// The modes, with what follows `given` where a row is shown in them.
 static MODES: &[(&str, Round)] = &[

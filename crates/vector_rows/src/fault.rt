@@ -3,8 +3,7 @@
 use crate::call_row::CallRow;
 use crate::formats::Formats;
 use commands::bits_of;
-use row_columns::{CallFault, Operand, RowError, bits_error};
-use row_names::{Call, Form};
+use vector_lines::{Call, CallFault, Form, Operand, RowError, bits_error};
 
 /// How a value is written, for messages.
 const VALUE: &str = "hexadecimal digits, or quanta as `+3q` in a format without bits";

@@ -10,11 +10,12 @@ ghost use Rattle.rustc_apfloat.specs.Lawful.{format_with};
 use crate::of_type::{Answered, Request, value_of};
 use apfloat_decimals::{Decimal, exact, read_decimal, rounded, shortest};
 use dispatch::{FlaggedFormat, InFormat};
-use row_columns::{CallFault, ExtraField, Operand, Returned, RowAnswer, Text, ValueField};
-use row_names::{DecimalCall, RowFormat};
 use rustc_apfloat::Round;
 use rustc_apfloat::ieee::{IeeeFloat, Semantics};
 use std::fmt::Write as _;
+use vector_lines::{
+    CallFault, DecimalCall, ExtraField, Operand, Returned, RowAnswer, RowFormat, Text, ValueField,
+};
 
 /// What a call of decimals returns in a format, if that is a built-in one with its own flags.
 pub fn in_decimals(format: RowFormat, call: DecimalCall, request: Request, text: &str) -> Answered {

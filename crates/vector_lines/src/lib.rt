@@ -1,0 +1,39 @@
+//! The lines of files of test vectors, as texts: what the columns of rows mean, and lines of Berkeley TestFloat and of
+//! IBM's FPgen, which are read as calls in the words of a row.
+//!
+//! A row names a call and a format; its operands, and what the call returns, are values, which are bits, or counts of
+//! quanta in a format without bits. What is wrong with a line is named here too. For the functions here only safety is
+//! proved.
+#![tactic(auto)]
+
+mod answer;
+mod call;
+mod call_fault;
+mod columns;
+mod form;
+mod fpgen;
+mod operands;
+mod quanta;
+mod row_error;
+mod row_format;
+mod table;
+mod testfloat;
+mod text;
+mod widths;
+
+pub use answer::{ExtraField, Returned, RowAnswer, StatusField, ValueField, status_named};
+pub use call::{
+    AssigningOperator, Call, Constant, ConversionCall, DecimalCall, FormatCall, IntegerCall,
+    OneValueCall, Property, TextCall, TwoValuesCall, WordCall,
+};
+pub use call_fault::CallFault;
+pub use columns::{Columns, LineCall};
+pub use form::Form;
+pub use fpgen::{Fpgen, FpgenTest};
+pub use operands::{Operand, Operands};
+pub use quanta::Quanta;
+pub use row_error::{RowError, bits_error};
+pub use row_format::{CallInFormat, OtherFormat, RowFormat};
+pub use testfloat::TestFloat;
+pub use text::{Text, shown};
+pub use widths::mask;
