@@ -5,7 +5,7 @@ use crate::nanoseconds::Nanoseconds;
 use crate::operand_set::OperandSet;
 use crate::operation::{FURTHER_OPERATIONS, OPERATIONS, Operation};
 use crate::task::Task;
-use dispatch::{BUILT_IN_KINDS, BuiltInKind};
+use dispatch::{BuiltInKind, built_in_kinds};
 use rustc_apfloat::Round;
 use std::alloc::AllocError;
 use std::io;
@@ -37,7 +37,7 @@ pub fn print_checksums(rt: &(impl Clock + Print + AllocGlobal)) -> io::Result<()
 
 /// Prints the checksums of some operations in all types.
 fn print_sums(rt: &(impl Clock + Print + AllocGlobal), operations: &[Operation]) -> io::Result<()> {
-    for kind in BUILT_IN_KINDS.iter() {
+    for kind in built_in_kinds().iter() {
         print_lines(rt, *kind, operations)?;
     }
     Ok(())
@@ -126,7 +126,7 @@ fn print_table(
 ) -> io::Result<()> {
     println!(rt; "Set {}, nanoseconds\n", set.name())?;
     println!(rt; "{head}")?;
-    for kind in BUILT_IN_KINDS.iter() {
+    for kind in built_in_kinds().iter() {
         print_row(rt, *kind, set, operations)?;
     }
     println!(rt; "")

@@ -1,5 +1,5 @@
 -- The built-in kinds of values, with their words and codes.
-use Rattle.std.specs.Prelude.{◌≡◌, ℕ, ◌==◌, nat_lt, Bool, true, if◌then◌else◌, List, [], ◌∷◌, codes, Option, Some, None}
+use Rattle.std.specs.Prelude.{◌≡◌, ℕ, ◌==◌, nat_lt, Bool, true, if◌then◌else◌, List, [], ◌∷◌, codes, map, Option, Some, None}
 use Rattle.std.proofs.Common.{refl}
 use Rattle.rustc_apfloat.specs.Digits.{same}
 use Rattle.rustc_apfloat.specs.Lawful.{Constants, IsLawful}
@@ -60,6 +60,10 @@ kinds =
     ∷ row (OfFormat X87) (codes "x87") 9
     ∷ row Pairs (codes "dd") 10
     ∷ []
+
+-- those of the rows, in their order
+abbrev pub all_kinds : List BuiltInKind
+all_kinds = map (λ (row : KindRow). row.kind) kinds
 
 -- the kind of the first row that passes the test
 abbrev pub first_kind : (KindRow → Bool) → List KindRow → Option BuiltInKind

@@ -2,7 +2,7 @@
 
 ghost use Rattle.std.specs.Prelude.{◌≡◌, Some};
 ghost use Rattle.dispatch.specs.ValueKinds.{of_format};
-ghost use Rattle.dispatch.specs.BuiltIns.{constants_in, format_in, kind_coded, kind_named, kind_of};
+ghost use Rattle.dispatch.specs.BuiltIns.{all_kinds, constants_in, format_in, kind_coded, kind_named, kind_of};
 
 use crate::flagged::{FillsInFormat, WritesInFormat};
 use crate::in_kind::{InFormat, InKind};
@@ -123,7 +123,11 @@ pub enum BuiltInKind {
 }
 
 /// All built-in kinds, in the order of their codes.
-pub static BUILT_IN_KINDS: &[BuiltInKind] = &each_format!(all_kinds());
+pub fn built_in_kinds() -> &'static [BuiltInKind]
+    ensures { result.now ≡ all_kinds }
+{
+    &each_format!(all_kinds())
+}
 
 impl BuiltInFormat {
     /// Makes a call in the format.

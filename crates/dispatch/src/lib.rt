@@ -10,7 +10,7 @@ mod modes;
 mod value_type;
 
 pub use arithmetic::Arithmetic;
-pub use built_in::{BUILT_IN_KINDS, BuiltInFormat, BuiltInKind};
+pub use built_in::{BuiltInFormat, BuiltInKind, built_in_kinds};
 pub use flagged::{
     FillsInFormat, FillsInKind, FlaggedFormat, FlaggedKind, IeeeFormat, InFlaggedFormat,
     InFlaggedKind, WritesInFormat,
