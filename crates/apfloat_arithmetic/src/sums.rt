@@ -17,8 +17,8 @@ use apfloat_base::sig::{
 use apfloat_base::{Category, Round, Status, StatusAnd};
 use apfloat_unpacked::nans::{invalid, propagated, propagated_left};
 use apfloat_unpacked::rounding::deliver;
-use apfloat_unpacked::rounding::long_odd::deliver_long_odd;
-use apfloat_unpacked::rounding::odd::deliver_odd;
+use apfloat_unpacked::rounding::from_u128::deliver_u128;
+use apfloat_unpacked::rounding::from_word::deliver_word;
 use apfloat_unpacked::shape::{Shape, last_exponent};
 use apfloat_unpacked::unpacked::{Unpacked, remade, zero_of};
 
@@ -108,7 +108,7 @@ fn add_short_numbers(shape: Shape, x: Unpacked, y: Unpacked, round: Round) -> St
     let total = add_short_terms(shape.precision, term_of(shape, x), term_of(shape, y));
     let of_zero = sign_of_zero(round, x.negative, y.negative);
     let negative = sign_of_odd_total(total, of_zero);
-    deliver_odd(shape, total.significand, total.exponent, round, negative)
+    deliver_word(shape, total.significand, total.exponent, round, negative)
 }
 
 /// The sum of two nonzero numbers with many digits: their total fits in one `u128`.
@@ -126,7 +126,7 @@ fn add_long_numbers(shape: Shape, x: Unpacked, y: Unpacked, round: Round) -> Sta
     let total = add_long_terms(shape.precision, term_of(shape, x), term_of(shape, y));
     let of_zero = sign_of_zero(round, x.negative, y.negative);
     let negative = sign_of_long_odd_total(total, of_zero);
-    deliver_long_odd(shape, total.significand, total.exponent, round, negative)
+    deliver_u128(shape, total.significand, total.exponent, round, negative)
 }
 
 /// The sum of two nonzero numbers of any precision. Kept out of line, for the few precisions that no faster way takes.

@@ -5,8 +5,8 @@ use Rattle.apfloat_base.specs.declared.sig.loss.Loss.TheVariants.{ExactlyZero}
 use Rattle.apfloat_base.specs.rounding.Standing.{StandsFor, up, down}
 use Rattle.apfloat_unpacked.proofs.FineCuts.{all_kept}
 use Rattle.apfloat_unpacked.proofs.OddCuts.{exact_below}
-use Rattle.apfloat_unpacked.proofs.rounding.long_odd.deliver_long_odd.Goals.{else-digits-gt0-via-then-digits-gt0+else-unit-digits, else-digits-gt0-via-else-digits-gt0}
-use Rattle.apfloat_unpacked.proofs.rounding.long_odd.deliver_long_odd.Goals as goal
+use Rattle.apfloat_unpacked.proofs.rounding.from_u128.deliver_u128.Goals.{else-digits-gt0-via-then-digits-gt0+else-unit-digits, else-digits-gt0-via-else-digits-gt0}
+use Rattle.apfloat_unpacked.proofs.rounding.from_u128.deliver_u128.Goals as goal
 
 pub returns-then-unit-digits-clause-delivered : goal.returns-then-unit-digits-clause-delivered
 returns-then-unit-digits-clause-delivered c = λ amount h.
@@ -20,8 +20,8 @@ returns-then-unit-digits-clause-delivered c = λ amount h.
     subst (λ (x : ℤ). IsRoundedToOdd (2 ^ (c.args.shape.precision + 1)) c.args.significand (amount * 2 ^ down x)
     (1 * 2 ^ up x))
     (sym v ∙ sym w) h in
-    c.round.ensures.delivered amount 1 (omega arith) (c.cut_long_odd-cut.ensures.cut amount 1 (omega arith) h')
-    (λ r. all_kept c.args.shape.precision c.cut_long_odd-cut.result amount 1 c.cut_long_odd-cut.ensures.full)
+    c.round.ensures.delivered amount 1 (omega arith) (c.cut_u128-cut.ensures.cut amount 1 (omega arith) h')
+    (λ r. all_kept c.args.shape.precision c.cut_u128-cut.result amount 1 c.cut_u128-cut.ensures.full)
 
 pub returns-clause-delivered : goal.returns-clause-delivered
 returns-clause-delivered c = λ amount h.
