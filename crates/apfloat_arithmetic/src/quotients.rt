@@ -18,7 +18,7 @@ use apfloat_base::sig::{
 };
 use apfloat_base::{ExpInt, Round, StatusAnd};
 use apfloat_unpacked::rounding::deliver;
-use apfloat_unpacked::rounding::odd::deliver_odd_digits;
+use apfloat_unpacked::rounding::from_word::deliver_word_digits;
 use apfloat_unpacked::shape::Shape;
 use apfloat_unpacked::unpacked::Unpacked;
 
@@ -84,7 +84,7 @@ fn divide_short_numbers(shape: Shape, x: Unpacked, y: Unpacked, round: Round) ->
     let divisor = y.significand as u64;
     let up = places_up(dividend, divisor);
     let places = shape.precision + 1 + up;
-    deliver_odd_digits(
+    deliver_word_digits(
         shape,
         short_quotient_of(shape.precision, dividend << up, divisor),
         quotient_exponent(x.exponent, y.exponent, places),

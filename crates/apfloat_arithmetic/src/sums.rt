@@ -17,8 +17,8 @@ use apfloat_base::sig::{
 };
 use apfloat_base::{Category, Round, StatusAnd};
 use apfloat_unpacked::rounding::deliver;
-use apfloat_unpacked::rounding::long_odd::deliver_long_odd;
-use apfloat_unpacked::rounding::odd::deliver_odd;
+use apfloat_unpacked::rounding::from_u128::deliver_u128;
+use apfloat_unpacked::rounding::from_word::deliver_word;
 use apfloat_unpacked::shape::{Shape, last_exponent};
 use apfloat_unpacked::unpacked::{Unpacked, remade};
 
@@ -91,7 +91,7 @@ fn add_word_numbers(shape: Shape, x: Unpacked, y: Unpacked, round: Round) -> Sta
     let total = add_word_terms(shape.precision, term_of(shape, x), term_of(shape, y));
     let of_zero = sign_of_zero(round, x.negative, y.negative);
     let negative = sign_of_odd_total(u128::from(total.significand), total.negative, of_zero);
-    deliver_odd(shape, total.significand, total.exponent, round, negative)
+    deliver_word(shape, total.significand, total.exponent, round, negative)
 }
 
 /// The sum of two nonzero numbers with at most 124 digits, in one `u128`.
@@ -108,7 +108,7 @@ fn add_u128_numbers(shape: Shape, x: Unpacked, y: Unpacked, round: Round) -> Sta
     let total = add_u128_terms(shape.precision, term_of(shape, x), term_of(shape, y));
     let of_zero = sign_of_zero(round, x.negative, y.negative);
     let negative = sign_of_odd_total(total.significand, total.negative, of_zero);
-    deliver_long_odd(shape, total.significand, total.exponent, round, negative)
+    deliver_u128(shape, total.significand, total.exponent, round, negative)
 }
 
 /// A term in two words.

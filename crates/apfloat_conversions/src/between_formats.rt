@@ -14,7 +14,7 @@ ghost use Rattle.apfloat_conversions.specs.Results.{ConvertsAt};
 use crate::held::{has, widened};
 use crate::payloads::converted_nan;
 use apfloat_base::{Category, NonfiniteBehavior, Round, Status, StatusAnd};
-use apfloat_unpacked::rounding::deliver_digits;
+use apfloat_unpacked::rounding::deliver_u128_digits;
 use apfloat_unpacked::shape::{Shape, last_exponent};
 use apfloat_unpacked::unpacked::{Unpacked, infinity_of, remade, significand_of, zero_of};
 
@@ -41,7 +41,7 @@ fn converted_number(from: Shape, into: Shape, x: Unpacked, round: Round) -> Conv
             loses_info: false,
         };
     }
-    let answer = deliver_digits(
+    let answer = deliver_u128_digits(
         into,
         significand_of(from, x),
         from.precision,

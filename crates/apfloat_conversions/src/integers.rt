@@ -12,7 +12,7 @@ ghost use Rattle.apfloat_conversions.specs.Results.{GivesWhole};
 use crate::whole::{Whole, whole_of};
 use apfloat_base::sig::digits;
 use apfloat_base::{Category, ExpInt, Round, Status, StatusAnd};
-use apfloat_unpacked::rounding::deliver_digits;
+use apfloat_unpacked::rounding::deliver_u128_digits;
 use apfloat_unpacked::shape::Shape;
 use apfloat_unpacked::unpacked::{Unpacked, zero_of};
 
@@ -49,7 +49,7 @@ pub fn from_unsigned(shape: Shape, number: u128, round: Round) -> StatusAnd<Unpa
         return Status::OK.and(zero_of(shape, false));
     }
     let significand = aligned(number, count);
-    deliver_digits(
+    deliver_u128_digits(
         shape,
         significand,
         128,

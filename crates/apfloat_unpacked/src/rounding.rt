@@ -6,11 +6,15 @@
 //!
 //! The idea: the place of the lowest kept digit is known before anything is cut. It follows from the length of the
 //! significand, its exponent and the format, and is never below the quantum, so denormals are not a special case. One
-//! shift to that place leaves the kept digits and a `Loss`: what was cut off, together with the incoming loss, in one
-//! of four cases, which is all that a mode needs. The mode adds one to the kept digits, or does not; a carry to the
-//! next power of two moves the place up by one. The point so picked decides the rest: overflow if it is past the
-//! largest value, otherwise the value, exact or inexact, tiny or not. Only one question needs the digits again: whether
-//! the magnitude would be below the smallest normalized value if exponents had no lower end.
+//! shift to that place leaves the kept digits and a rest, a `Cut`. How the rest compares with nothing and with half of
+//! the lowest kept digit is all that a mode needs: a `Loss` says no more, and nor does a number that was rounded to odd
+//! with two digits more. The mode adds one to the kept digits, or does not; a carry to the next power of two moves the
+//! place up by one. The point so picked decides the rest: overflow if it is past the largest value, otherwise the
+//! value, exact or inexact, tiny or not. Only one question needs a digit more: whether the magnitude would be below the
+//! smallest normalized value if exponents had no lower end.
+//!
+//! Each `deliver` makes a cut of what its caller has, in a word, in a `u128`, or with a `Loss`, and `round` rounds it.
+//! docs/ROUNDING.md has the picture.
 
 ghost use Rattle.std.specs.Prelude.{◌≡◌, ℕ, ◌+◌, ◌-◌, ◌*◌, ◌/◌, ◌%◌, ◌^◌, ◌<◌, ◌≤◌, ◌⊎◌, eqb, ltb, pos, neg_ℤ, ◌≤ℤ◌, ◌+ℤ◌, if◌then◌else◌, true, false};
 ghost use Rattle.apfloat_base.specs.rounding.Bounds.{IsWithin, exponent_bound, unit_bound, place_bound};
@@ -26,8 +30,8 @@ ghost use Rattle.apfloat_unpacked.specs.Shapes.{format_at};
 ghost use Rattle.apfloat_unpacked.specs.Stored.{IsStored, GivesAt, datum_at};
 
 mod denormal;
-pub mod long_odd;
-pub mod odd;
+pub mod from_u128;
+pub mod from_word;
 
 use self::denormal::{cut_at_quantum, in_word};
 use crate::shape::Shape;
@@ -660,7 +664,7 @@ fn split(significand: u128, digits: u32, places: u32) -> Pieces
 
 /// Cuts a significand with `digits` digits to the precision.
 #[inline(always)]
-fn cut_digits(precision: u32, significand: u128, digits: u32, unit: ExpInt) -> Cut
+fn cut_u128_digits(precision: u32, significand: u128, digits: u32, unit: ExpInt) -> Cut
     requires some { 0 < precision }
     requires precise { precision ≤ 125 }
     requires long { precision < digits }
@@ -689,7 +693,7 @@ fn cut_digits(precision: u32, significand: u128, digits: u32, unit: ExpInt) -> C
 /// Delivers `significand * 2^exponent`, rounded once, where the significand has exactly `digits` digits. It is
 /// `deliver` with nothing lost, and faster where the count of digits is a constant.
 #[inline(always)]
-pub fn deliver_digits(
+pub fn deliver_u128_digits(
     shape: Shape,
     significand: u128,
     digits: u32,
@@ -710,7 +714,7 @@ pub fn deliver_digits(
     let unit = unit_place(shape, exponent);
     if digits > shape.precision {
         if unit + digits as ExpInt >= shape.precision as ExpInt {
-            let cut = cut_digits(shape.precision, significand, digits, unit);
+            let cut = cut_u128_digits(shape.precision, significand, digits, unit);
             return round(shape, Known::Normal, cut, mode, negative);
         }
         if shape.precision <= 59 {

@@ -12,7 +12,7 @@ ghost use Rattle.apfloat_base.specs.rounding.RoundingToOdd.{IsRoundedToOdd};
 ghost use Rattle.apfloat_base.specs.rounding.Standing.{StandsFor, up, down};
 ghost use Rattle.apfloat_unpacked.specs.Cuts.{IsCut, IsCutFinely};
 
-use super::odd::odd_for;
+use super::from_word::odd_for;
 use super::{Cut, word_power};
 use apfloat_base::ExpInt;
 use apfloat_base::sig::{Loss, shift_right};

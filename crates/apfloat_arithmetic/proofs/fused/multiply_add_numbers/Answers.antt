@@ -15,8 +15,8 @@ use Rattle.apfloat_arithmetic.proofs.Additions.{IsRepresentedToOdd, read_odd_sig
 use Rattle.apfloat_arithmetic.proofs.WideTerms.{odd_fused_read, odd_in_quanta}
 use Rattle.apfloat_arithmetic.proofs.fused.multiply_add_numbers.Goals as goal
 
-pub deliver_long_odd-requires : goal.deliver_long_odd-requires
-deliver_long_odd-requires c =
+pub deliver_u128-requires : goal.deliver_u128-requires
+deliver_u128-requires c =
     let l = c.args.shape.parameters in
     let s = c.requires.short in
     let low = c.product_term-product.ensures.low in
@@ -56,7 +56,7 @@ returns-clause-delivered c =
       c.requires.addend.operand,
       c.add_u128_terms-total.ensures.exponent.one,
     ) in
-    let d = rw w at c.deliver_long_odd.ensures.delivered in
+    let d = rw w at c.deliver_u128.ensures.delivered in
     let few : s.precision + 1 ≤ 125 = let p = c.requires.short in omega (arith, p) in
     let least : 2 ^ (s.precision + 1) ≤ 2 ^ 125 = pow-le-pow_right two_pos few in
     let g = rw (
@@ -78,6 +78,6 @@ returns-clause-delivered c =
     let h = odd_in_quanta (2 ^ 125) t.significand (magnitude exact) (format_at s).scale unit fine
     (omega (arith, ints)) r.rounded in
     subst (λ (b : Bool). IsDelivered (format_at s) c.args.round b (magnitude exact) (2 ^ (format_at s).scale)
-    (datum_at s c.deliver_long_odd.result.value) (bits_of c.deliver_long_odd.result.status)) e
+    (datum_at s c.deliver_u128.result.value) (bits_of c.deliver_u128.result.status)) e
     (d (magnitude exact) (2 ^ (format_at s).scale) (pow_pos (format_at s).scale)
     (to_odd_least (2 ^ 125) (2 ^ (s.precision + 1)) t.significand _ _ least h))

@@ -19,10 +19,10 @@ pub term_of-requires-2 : goal.term_of-requires-2
 term_of-requires-2 c = c.requires.y_normal
 
 pub returns-clause-stored : goal.returns-clause-stored
-returns-clause-stored c = c.deliver_long_odd.ensures.stored
+returns-clause-stored c = c.deliver_u128.ensures.stored
 
-pub deliver_long_odd-requires : goal.deliver_long_odd-requires
-deliver_long_odd-requires c =
+pub deliver_u128-requires : goal.deliver_u128-requires
+deliver_u128-requires c =
     let l = c.args.shape.parameters in
     let x = c.term_of.ensures.exponent in
     let y = c.term_of-2.ensures.exponent in
@@ -55,7 +55,7 @@ returns-clause-delivered c =
       c.requires.x_normal.operand,
       c.requires.y_normal.operand,
     ) in
-    let d = rw w at c.deliver_long_odd.ensures.delivered in
+    let d = rw w at c.deliver_u128.ensures.delivered in
     let few : c.args.shape.precision + 1 ≤ 125 = let p = c.requires.short in omega (arith, p) in
     let least : 2 ^ (c.args.shape.precision + 1) ≤ 2 ^ 125 = pow-le-pow_right two_pos few in
     let g = rw (
@@ -76,6 +76,6 @@ returns-clause-delivered c =
     read_odd_sign (2 ^ 125) of_zero exact unit total.negative c.sign_of_odd_total-negative.result total.significand r
     z c.sign_of_odd_total-negative.ensures.other in
     subst (λ (b : Bool). IsDelivered (format_at c.args.shape) c.args.round b (magnitude exact) 1
-    (datum_at c.args.shape c.deliver_long_odd.result.value) (bits_of c.deliver_long_odd.result.status)) e
+    (datum_at c.args.shape c.deliver_u128.result.value) (bits_of c.deliver_u128.result.status)) e
     (d (magnitude exact) 1 (omega arith)
     (to_odd_least (2 ^ 125) (2 ^ (c.args.shape.precision + 1)) total.significand _ _ least r.rounded))

@@ -19,10 +19,10 @@ pub term_of-requires-2 : goal.term_of-requires-2
 term_of-requires-2 c = c.requires.y_normal
 
 pub returns-clause-stored : goal.returns-clause-stored
-returns-clause-stored c = c.deliver_odd.ensures.stored
+returns-clause-stored c = c.deliver_word.ensures.stored
 
-pub deliver_odd-requires-clause-within : goal.deliver_odd-requires-clause-within
-deliver_odd-requires-clause-within c =
+pub deliver_word-requires-clause-within : goal.deliver_word-requires-clause-within
+deliver_word-requires-clause-within c =
     let l = c.args.shape.parameters in
     let x = c.term_of.ensures.exponent in
     let y = c.term_of-2.ensures.exponent in
@@ -53,7 +53,7 @@ returns-clause-delivered c =
       c.requires.x_normal.operand,
       c.requires.y_normal.operand,
     ) in
-    let d = rw w at c.deliver_odd.ensures.delivered in
+    let d = rw w at c.deliver_word.ensures.delivered in
     let few : c.args.shape.precision + 1 ≤ 60 = let p = c.requires.short in omega (arith, p) in
     let least : 2 ^ (c.args.shape.precision + 1) ≤ 2 ^ 60 = pow-le-pow_right two_pos few in
     let g = rw (
@@ -75,6 +75,6 @@ returns-clause-delivered c =
     read_odd_sign (2 ^ 60) of_zero exact unit total.negative c.sign_of_odd_total-negative.result total.significand r z
     other in
     subst (λ (b : Bool). IsDelivered (format_at c.args.shape) c.args.round b (magnitude exact) 1
-    (datum_at c.args.shape c.deliver_odd.result.value) (bits_of c.deliver_odd.result.status)) e
+    (datum_at c.args.shape c.deliver_word.result.value) (bits_of c.deliver_word.result.status)) e
     (d (magnitude exact)
     (to_odd_least (2 ^ 60) (2 ^ (c.args.shape.precision + 1)) total.significand _ _ least r.rounded))

@@ -1,7 +1,6 @@
-//! The rounding of a long significand that was rounded to odd before.
+//! The rounding of a significand in a `u128` that was rounded to odd before.
 //!
-//! This is what `odd` does in a word of 64 digits. The significand is moved up to the top of a `u128`, so that the cut is
-//! at the same digit for each of them.
+//! The significand is moved up to the top of the `u128`, so that the cut is at the same digit for each of them.
 
 ghost use Rattle.std.specs.Prelude.{◌≡◌, ℕ, ◌+◌, ◌-◌, ◌*◌, ◌^◌, ◌<◌, ◌≤◌, pos, ◌+ℤ◌, ◌≤ℤ◌};
 ghost use Rattle.apfloat_base.specs.rounding.Bounds.{IsWithin, exponent_bound, unit_bound, place_bound};
@@ -20,7 +19,7 @@ use apfloat_base::{ExpInt, Round, StatusAnd};
 
 /// A significand with `digits` digits, moved up until it has 128.
 #[inline(always)]
-fn at_long_top(significand: u128, digits: u32) -> u128
+fn at_u128_top(significand: u128, digits: u32) -> u128
     requires word { digits ≤ 128 }
     requires any { 0 < digits }
     requires fits { significand < 2 ^ digits }
@@ -31,7 +30,7 @@ fn at_long_top(significand: u128, digits: u32) -> u128
 
 /// Cuts a significand with `digits` digits, which was rounded to odd, to the precision.
 #[inline(always)]
-fn cut_long_odd(precision: u32, significand: u128, digits: u32, unit: ExpInt) -> Cut
+fn cut_u128(precision: u32, significand: u128, digits: u32, unit: ExpInt) -> Cut
     requires some { 0 < precision }
     requires short { precision ≤ 125 }
     requires word { digits ≤ 128 }
@@ -49,7 +48,7 @@ fn cut_long_odd(precision: u32, significand: u128, digits: u32, unit: ExpInt) ->
         (parts * 2 ^ up unit)
         → IsCut precision result amount parts }
 {
-    let pieces = split(at_long_top(significand, digits), 128, 128 - precision);
+    let pieces = split(at_u128_top(significand, digits), 128, 128 - precision);
     Cut {
         significand: pieces.kept,
         place: full_place(precision, digits, unit),
@@ -79,7 +78,7 @@ fn loss_of(rest: u64, half: u64) -> Loss
 /// that are rare.
 #[cold]
 #[inline(never)]
-fn deliver_odd_below(
+fn deliver_u128_below(
     shape: Shape,
     significand: u128,
     exponent: ExpInt,
@@ -119,7 +118,7 @@ fn deliver_odd_below(
 /// Delivers `significand * 2^exponent`, which was rounded to odd, rounded once: where it is odd it may be less than one
 /// unit from the exact result.
 #[inline(always)]
-pub fn deliver_long_odd(
+pub fn deliver_u128(
     shape: Shape,
     significand: u128,
     exponent: ExpInt,
@@ -137,8 +136,8 @@ pub fn deliver_long_odd(
     let unit = unit_place(shape, exponent);
     let digits = digits(significand);
     if digits > 0 && unit + digits as ExpInt >= shape.precision as ExpInt {
-        let cut = cut_long_odd(shape.precision, significand, digits, unit);
+        let cut = cut_u128(shape.precision, significand, digits, unit);
         return round(shape, Known::Normal, cut, mode, negative);
     }
-    remade(deliver_odd_below(shape.remade(), significand, exponent, mode, negative))
+    remade(deliver_u128_below(shape.remade(), significand, exponent, mode, negative))
 }

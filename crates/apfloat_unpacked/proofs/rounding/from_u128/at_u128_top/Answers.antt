@@ -1,7 +1,7 @@
 use Rattle.std.proofs.Common.{arith}
 use Rattle.std.proofs.Math.Nat.{mod-eq_of_lt}
 use Rattle.apfloat_unpacked.proofs.OddCuts.{top_fits}
-use Rattle.apfloat_unpacked.proofs.rounding.long_odd.at_long_top.Goals as goal
+use Rattle.apfloat_unpacked.proofs.rounding.from_u128.at_u128_top.Goals as goal
 
 pub returns : goal.returns
 returns c =

@@ -9,11 +9,11 @@ use Rattle.apfloat_unpacked.specs.Stored.{datum_at}
 use Rattle.apfloat_unpacked.proofs.FineCuts.{all_kept}
 use Rattle.apfloat_unpacked.proofs.OddCuts.{word_digits, exact_below}
 use Rattle.apfloat_unpacked.proofs.QuantumCuts.{whole_delivered}
-use Rattle.apfloat_unpacked.proofs.rounding.odd.deliver_odd.Goals.{else-digits-gt0-via-then-digits-gt0+else-unit-digits, else-digits-gt0-via-else-digits-gt0}
-use Rattle.apfloat_unpacked.proofs.rounding.odd.deliver_odd.Goals as goal
+use Rattle.apfloat_unpacked.proofs.rounding.from_word.deliver_word.Goals.{else-digits-gt0-via-then-digits-gt0+else-unit-digits, else-digits-gt0-via-else-digits-gt0}
+use Rattle.apfloat_unpacked.proofs.rounding.from_word.deliver_word.Goals as goal
 
-pub cut_odd-cut-requires-clause-word : goal.cut_odd-cut-requires-clause-word
-cut_odd-cut-requires-clause-word c =
+pub cut_word-cut-requires-clause-word : goal.cut_word-cut-requires-clause-word
+cut_word-cut-requires-clause-word c =
     word_digits 64 c.from.result c.digits-digits.result (rw c.from.ensures c.ranges.significand.fits)
     c.digits-digits.ensures.full
 
@@ -29,8 +29,8 @@ returns-then-unit-digits-clause-delivered c = λ amount h.
     subst (λ (x : ℤ). IsRoundedToOdd (2 ^ (c.args.shape.precision + 1)) c.args.significand (amount * 2 ^ down x)
     (1 * 2 ^ up x))
     (sym v ∙ sym w) h in
-    c.round.ensures.delivered amount 1 (omega arith) (c.cut_odd-cut.ensures.cut amount 1 (omega arith) h')
-    (λ r. all_kept c.args.shape.precision c.cut_odd-cut.result amount 1 c.cut_odd-cut.ensures.full)
+    c.round.ensures.delivered amount 1 (omega arith) (c.cut_word-cut.ensures.cut amount 1 (omega arith) h')
+    (λ r. all_kept c.args.shape.precision c.cut_word-cut.result amount 1 c.cut_word-cut.ensures.full)
 
 pub whole_quanta-quanta-requires-clause-below : goal.whole_quanta-quanta-requires-clause-below
 whole_quanta-quanta-requires-clause-below c =

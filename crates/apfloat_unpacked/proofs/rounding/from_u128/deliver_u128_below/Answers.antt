@@ -8,7 +8,7 @@ use Rattle.apfloat_unpacked.specs.Cuts.{loss_at}
 use Rattle.apfloat_unpacked.specs.Shapes.{format_at}
 use Rattle.apfloat_unpacked.proofs.OddCuts.{exact_if_short}
 use Rattle.apfloat_unpacked.proofs.QuantumCuts.{folded_stands, quarters_stand}
-use Rattle.apfloat_unpacked.proofs.rounding.long_odd.deliver_odd_below.Goals as goal
+use Rattle.apfloat_unpacked.proofs.rounding.from_u128.deliver_u128_below.Goals as goal
 
 pub returns-then-unit_place-geminus2-clause-delivered : goal.returns-then-unit_place-geminus2-clause-delivered
 returns-then-unit_place-geminus2-clause-delivered c = λ amount parts p h.

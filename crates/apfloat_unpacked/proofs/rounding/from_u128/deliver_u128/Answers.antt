@@ -5,8 +5,8 @@ use Rattle.apfloat_base.specs.rounding.Standing.{up, down}
 use Rattle.apfloat_unpacked.specs.Shapes.{format_at}
 use Rattle.apfloat_unpacked.proofs.FineCuts.{all_kept}
 use Rattle.apfloat_unpacked.proofs.OddCuts.{few_digits}
-use Rattle.apfloat_unpacked.proofs.rounding.long_odd.deliver_long_odd.Goals.{else-digits-gt0-via-then-digits-gt0+else-unit-digits, else-digits-gt0-via-else-digits-gt0}
-use Rattle.apfloat_unpacked.proofs.rounding.long_odd.deliver_long_odd.Goals as goal
+use Rattle.apfloat_unpacked.proofs.rounding.from_u128.deliver_u128.Goals.{else-digits-gt0-via-then-digits-gt0+else-unit-digits, else-digits-gt0-via-else-digits-gt0}
+use Rattle.apfloat_unpacked.proofs.rounding.from_u128.deliver_u128.Goals as goal
 
 pub returns-then-unit-digits-clause-delivered : goal.returns-then-unit-digits-clause-delivered
 returns-then-unit-digits-clause-delivered c = λ amount parts p h.
@@ -20,11 +20,11 @@ returns-then-unit-digits-clause-delivered c = λ amount parts p h.
     subst (λ (x : ℤ). IsRoundedToOdd (2 ^ (c.args.shape.precision + 1)) c.args.significand (amount * 2 ^ down x)
     (parts * 2 ^ up x))
     (sym v ∙ sym w) h in
-    c.round.ensures.delivered amount parts p (c.cut_long_odd-cut.ensures.cut amount parts p h')
-    (λ r. all_kept c.args.shape.precision c.cut_long_odd-cut.result amount parts c.cut_long_odd-cut.ensures.full)
+    c.round.ensures.delivered amount parts p (c.cut_u128-cut.ensures.cut amount parts p h')
+    (λ r. all_kept c.args.shape.precision c.cut_u128-cut.result amount parts c.cut_u128-cut.ensures.full)
 
-pub deliver_odd_below-requires-clause-exact : goal.deliver_odd_below-requires-clause-exact
-deliver_odd_below-requires-clause-exact c =
+pub deliver_u128_below-requires-clause-exact : goal.deliver_u128_below-requires-clause-exact
+deliver_u128_below-requires-clause-exact c =
     let e = to_z-of_z w32 c.args.exponent c.ranges.exponent in
     let v = rw e at c.unit_place-unit.ensures.value in
     let s = c.digits-digits.ensures.below in
@@ -49,5 +49,5 @@ deliver_odd_below-requires-clause-exact c =
 pub returns-clause-delivered : goal.returns-clause-delivered
 returns-clause-delivered c =
     let e = to_z-of_z w32 c.args.exponent c.ranges.exponent in
-    let d = rw (c.remade.ensures, e) at c.deliver_odd_below.ensures.delivered in
+    let d = rw (c.remade.ensures, e) at c.deliver_u128_below.ensures.delivered in
     rw c.remade-2.ensures d

@@ -1,4 +1,4 @@
-//! The rounding of a short significand that was rounded to odd before.
+//! The rounding of a significand in one word that was rounded to odd before.
 //!
 //! It has at least two digits more than the format keeps, or it is exact. So the rest that is cut off is compared with
 //! none and with half as the exact rest would be, since these are even numbers of its units. The significand is moved
@@ -22,7 +22,7 @@ use apfloat_base::{ExpInt, Round, Status, StatusAnd};
 
 /// A significand with `digits` digits, moved up until it has 64.
 #[inline(always)]
-fn at_top(significand: u64, digits: u32) -> u64
+fn at_word_top(significand: u64, digits: u32) -> u64
     requires word { digits ≤ 64 }
     requires any { 0 < digits }
     requires fits { significand < 2 ^ digits }
@@ -33,7 +33,7 @@ fn at_top(significand: u64, digits: u32) -> u64
 
 /// Cuts a significand with `digits` digits, which was rounded to odd, to the precision.
 #[inline(always)]
-fn cut_odd(precision: u32, significand: u64, digits: u32, unit: ExpInt) -> Cut
+fn cut_word(precision: u32, significand: u64, digits: u32, unit: ExpInt) -> Cut
     requires some { 0 < precision }
     requires short { precision ≤ 59 }
     requires word { digits ≤ 64 }
@@ -51,7 +51,7 @@ fn cut_odd(precision: u32, significand: u64, digits: u32, unit: ExpInt) -> Cut
         (parts * 2 ^ up unit)
         → IsCut precision result amount parts }
 {
-    let top = at_top(significand, digits);
+    let top = at_word_top(significand, digits);
     let places = 64 - precision;
     Cut {
         significand: u128::from(top >> places),
@@ -64,7 +64,7 @@ fn cut_odd(precision: u32, significand: u64, digits: u32, unit: ExpInt) -> Cut
 /// Delivers `significand * 2^exponent`, which was rounded to odd, rounded once: where it is odd it may be less than one
 /// unit from the exact result.
 #[inline(always)]
-pub fn deliver_odd(
+pub fn deliver_word(
     shape: Shape,
     significand: u64,
     exponent: ExpInt,
@@ -82,7 +82,7 @@ pub fn deliver_odd(
     let unit = unit_place(shape, exponent);
     let digits = digits(u128::from(significand));
     if digits > 0 && unit + digits as ExpInt >= shape.precision as ExpInt {
-        let cut = cut_odd(shape.precision, significand, digits, unit);
+        let cut = cut_word(shape.precision, significand, digits, unit);
         return round(shape, Known::Normal, cut, mode, negative);
     }
     let quanta = whole_quanta(shape.precision, significand, digits, unit);
@@ -134,7 +134,7 @@ fn cut_quarters(precision: u32, significand: u64, unit: ExpInt) -> Cut
 /// Delivers `significand * 2^exponent`, which was rounded to odd and has two digits more than the format keeps, rounded
 /// once.
 #[inline(always)]
-pub fn deliver_odd_digits(
+pub fn deliver_word_digits(
     shape: Shape,
     significand: u64,
     exponent: ExpInt,

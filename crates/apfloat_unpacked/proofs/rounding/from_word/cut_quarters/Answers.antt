@@ -2,7 +2,7 @@ use Rattle.std.proofs.Common.{arith, w32}
 use Rattle.std.proofs.lemmas.Int.{to_z-of_z}
 use Rattle.apfloat_base.specs.rounding.Standing.{up, down}
 use Rattle.apfloat_unpacked.proofs.QuantumCuts.{quarters_fit, quarters_full, quarters_cut}
-use Rattle.apfloat_unpacked.proofs.rounding.odd.cut_quarters.Goals as goal
+use Rattle.apfloat_unpacked.proofs.rounding.from_word.cut_quarters.Goals as goal
 
 pub returns-clause-fits : goal.returns-clause-fits
 returns-clause-fits c = rw c.from.ensures (quarters_fit c.args.precision c.args.significand c.requires.fits)
