@@ -15,10 +15,11 @@ use apfloat_base::sig::{
     add_short_terms, add_terms, is_zero,
 };
 use apfloat_base::{Category, Round, StatusAnd};
+use apfloat_unpacked::exponents::last_exponent;
 use apfloat_unpacked::rounding::deliver;
 use apfloat_unpacked::rounding::long_odd::deliver_long_odd;
 use apfloat_unpacked::rounding::odd::deliver_odd;
-use apfloat_unpacked::shape::{Shape, last_exponent};
+use apfloat_unpacked::shape::Shape;
 use apfloat_unpacked::unpacked::{Unpacked, remade};
 
 /// The number as a term, with the exponent of its last digit.
