@@ -1,8 +1,7 @@
 //! Quotients.
 
-ghost use Rattle.std.specs.Prelude.{◌≡◌, ◌+◌, ◌-◌, ◌*◌, ◌^◌, ◌<◌, ◌≤◌, pos, ◌-ℤ◌};
+ghost use Rattle.std.specs.Prelude.{◌≡◌, ◌+◌, ◌-◌, ◌*◌, ◌^◌, ◌<◌, ◌≤◌};
 ghost use Rattle.apfloat_base.specs.arithmetic.Exact.{product_sign};
-ghost use Rattle.apfloat_base.specs.rounding.Bounds.{IsWithin, number_bound, exponent_bound};
 ghost use Rattle.apfloat_base.specs.rounding.Rounding.{IsDelivered};
 ghost use Rattle.apfloat_base.specs.rounding.RoundingToOdd.{odd_quotient};
 ghost use Rattle.apfloat_base.specs.arithmetic.Quotients.{IsQuotient};
@@ -16,24 +15,12 @@ use apfloat_base::sig::{
     NEAR_LIMIT, WORD_LIMIT, divide_by_words, divide_short_by_guess, divide_word,
     divide_word_by_guess, guess_quotient,
 };
-use apfloat_base::{ExpInt, Round, StatusAnd};
+use apfloat_base::{Round, StatusAnd};
+use apfloat_unpacked::exponents::quotient_exponent;
 use apfloat_unpacked::rounding::deliver;
 use apfloat_unpacked::rounding::from_word::deliver_word_digits;
 use apfloat_unpacked::shape::Shape;
 use apfloat_unpacked::unpacked::Unpacked;
-
-/// The exponent of the last digit of a quotient with `places` digits below the difference of the exponents of its
-/// operands' integer bits.
-#[inline(always)]
-fn quotient_exponent(left: ExpInt, right: ExpInt, places: u32) -> ExpInt
-    requires left { IsWithin number_bound left }
-    requires right { IsWithin number_bound right }
-    requires short { places ≤ 128 }
-    ensures value { result ≡ (left -ℤ right) -ℤ pos places }
-    ensures within { IsWithin exponent_bound result }
-{
-    left - right - places as ExpInt
-}
 
 /// By how many places a dividend is moved up to be at least the divisor.
 #[inline(always)]

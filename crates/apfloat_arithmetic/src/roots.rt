@@ -1,7 +1,7 @@
 //! Square roots.
 
-ghost use Rattle.std.specs.Prelude.{◌≡◌, ◌-◌, ◌*◌, ◌^◌, ◌<◌, ◌≤◌, pos, ◌+ℤ◌, ◌-ℤ◌, true, false};
-ghost use Rattle.apfloat_base.specs.rounding.Bounds.{IsWithin, number_bound, exponent_bound};
+ghost use Rattle.std.specs.Prelude.{◌≡◌, ◌-◌, ◌*◌, ◌^◌, ◌<◌, ◌≤◌, pos, ◌+ℤ◌, true, false};
+ghost use Rattle.apfloat_base.specs.rounding.Bounds.{IsWithin, number_bound};
 ghost use Rattle.apfloat_base.specs.arithmetic.Roots.{IsDeliveredRoot, IsRoot};
 ghost use Rattle.apfloat_unpacked.specs.Shapes.{format_at};
 ghost use Rattle.apfloat_unpacked.specs.Stored.{IsStored, IsNormal, quanta_of, datum_at, GivesAt};
@@ -9,6 +9,7 @@ ghost use Rattle.apfloat_unpacked.specs.Stored.{IsStored, IsNormal, quanta_of, d
 use crate::specials::{Operation, special};
 use apfloat_base::sig::root_of;
 use apfloat_base::{Category, ExpInt, Round, StatusAnd};
+use apfloat_unpacked::exponents::root_exponent;
 use apfloat_unpacked::rounding::deliver;
 use apfloat_unpacked::shape::Shape;
 use apfloat_unpacked::unpacked::Unpacked;
@@ -37,18 +38,6 @@ fn halves_of(exponent: ExpInt) -> Halves
         half: (raised / 2) as ExpInt - HALF_RAISE,
         odd: raised % 2,
     }
-}
-
-/// The exponent of the last digit of a root of `precision` digits, of which `half` is that of the integer bit.
-#[inline(always)]
-fn root_exponent(precision: u32, half: ExpInt) -> ExpInt
-    requires some { 0 < precision }
-    requires short { precision ≤ 128 }
-    requires within { IsWithin number_bound half }
-    ensures value { result ≡ half -ℤ pos (precision - 1) }
-    ensures within { IsWithin exponent_bound result }
-{
-    half - (precision - 1) as ExpInt
 }
 
 /// The root of a positive number, rounded once. Its significand is followed by as many zeros as it takes for a whole

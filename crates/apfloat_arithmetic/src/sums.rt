@@ -16,10 +16,11 @@ use apfloat_base::sig::{
     add_word_terms, is_zero,
 };
 use apfloat_base::{Category, Round, StatusAnd};
+use apfloat_unpacked::exponents::last_exponent;
 use apfloat_unpacked::rounding::deliver;
 use apfloat_unpacked::rounding::from_u128::deliver_u128;
 use apfloat_unpacked::rounding::from_word::deliver_word;
-use apfloat_unpacked::shape::{Shape, last_exponent};
+use apfloat_unpacked::shape::Shape;
 use apfloat_unpacked::unpacked::{Unpacked, remade};
 
 /// The number as a term, with the exponent of its last digit.

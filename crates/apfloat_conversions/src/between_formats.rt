@@ -14,8 +14,9 @@ ghost use Rattle.apfloat_conversions.specs.Results.{ConvertsAt};
 use crate::held::{has, widened};
 use crate::payloads::converted_nan;
 use apfloat_base::{Category, NonfiniteBehavior, Round, Status, StatusAnd};
+use apfloat_unpacked::exponents::last_exponent;
 use apfloat_unpacked::rounding::deliver_u128_digits;
-use apfloat_unpacked::shape::{Shape, last_exponent};
+use apfloat_unpacked::shape::Shape;
 use apfloat_unpacked::unpacked::{Unpacked, infinity_of, remade, significand_of, zero_of};
 
 /// A result in the other format, and whether information was lost.

@@ -10,8 +10,9 @@ ghost use Rattle.apfloat_unpacked.specs.Stored.{IsStored, IsNormal, quanta_of, d
 use crate::integers::status_of;
 use crate::whole::round_at_dot;
 use apfloat_base::{Category, Round, Status, StatusAnd};
+use apfloat_unpacked::exponents::last_exponent;
 use apfloat_unpacked::nans::propagated;
-use apfloat_unpacked::shape::{Shape, last_exponent};
+use apfloat_unpacked::shape::Shape;
 use apfloat_unpacked::unpacked::{Unpacked, from_quanta};
 
 /// A nonzero number, rounded to a whole number.

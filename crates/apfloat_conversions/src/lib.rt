@@ -6,7 +6,6 @@
 #![tactic(auto)]
 
 pub mod between_formats;
-pub mod exponents;
 mod held;
 pub mod integers;
 pub mod integral;

@@ -8,9 +8,9 @@ ghost use Rattle.apfloat_base.specs.arithmetic.NextUp.{IsNextGreater, IsNextLess
 ghost use Rattle.apfloat_unpacked.specs.Shapes.{format_at};
 ghost use Rattle.apfloat_unpacked.specs.Stored.{IsStored, IsNormal, quanta_of, datum_at, GivesAt};
 
-use crate::exponents::{lowered, raised};
 use apfloat_base::sig::{power_of_two, steps_between};
 use apfloat_base::{Category, ExpInt, Status, StatusAnd};
+use apfloat_unpacked::exponents::{one_higher, one_lower};
 use apfloat_unpacked::nans::{quiet_significand, signals};
 use apfloat_unpacked::shape::Shape;
 use apfloat_unpacked::unpacked::{Unpacked, infinity_of, largest_of, nan_of, smallest_of, zero_of};
@@ -70,7 +70,7 @@ fn next_greater(shape: Shape, x: Unpacked) -> Unpacked
     } else {
         Unpacked {
             significand: shape.integer_bit(),
-            exponent: raised(x.exponent),
+            exponent: one_higher(x.exponent),
             category: Category::Normal,
             negative: false,
         }
@@ -95,7 +95,7 @@ fn next_less(shape: Shape, x: Unpacked) -> Unpacked
     if x.exponent == least_exponent(shape) {
         return zero_of(shape, true);
     }
-    let exponent = lowered(x.exponent);
+    let exponent = one_lower(x.exponent);
     Unpacked {
         significand: power_of_two(shape.precision) - step(shape, exponent),
         exponent,

@@ -9,12 +9,12 @@ ghost use Rattle.apfloat_base.specs.arithmetic.Scaling.{IsScaling};
 ghost use Rattle.apfloat_unpacked.specs.Shapes.{format_at};
 ghost use Rattle.apfloat_unpacked.specs.Stored.{IsStored, IsNormal, quanta_of, datum_at, GivesAt};
 
-use crate::exponents::raised;
 use apfloat_base::sig::Loss;
 use apfloat_base::{Category, ExpInt, IEK_INF, IEK_NAN, IEK_ZERO, Round, StatusAnd};
+use apfloat_unpacked::exponents::{last_exponent, one_higher};
 use apfloat_unpacked::nans::propagated;
 use apfloat_unpacked::rounding::deliver;
-use apfloat_unpacked::shape::{Shape, last_exponent};
+use apfloat_unpacked::shape::Shape;
 use apfloat_unpacked::unpacked::Unpacked;
 
 /// More places than this change no result.
@@ -123,7 +123,7 @@ fn number_fraction(shape: Shape, x: Unpacked) -> Fraction
             category: Category::Normal,
             negative: x.negative,
         },
-        exponent: raised(x.exponent),
+        exponent: one_higher(x.exponent),
     }
 }
 

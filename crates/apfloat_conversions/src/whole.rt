@@ -10,8 +10,9 @@ use apfloat_base::sig::{
     Loss, Shifted, is_exact, loss_of_rest, low_digits, power_of_two, shift_right, steps_between,
 };
 use apfloat_base::{ExpInt, Round};
+use apfloat_unpacked::exponents::last_exponent;
 use apfloat_unpacked::rounding::moves_up;
-use apfloat_unpacked::shape::{Shape, last_exponent};
+use apfloat_unpacked::shape::Shape;
 use apfloat_unpacked::unpacked::Unpacked;
 
 /// The magnitude of a whole number, and whether nothing was rounded.

@@ -5,6 +5,7 @@
 #![tactic(auto)]
 
 pub mod bits;
+pub mod exponents;
 pub mod nans;
 pub mod rounding;
 pub mod shape;

@@ -1,9 +1,7 @@
 //! The constants of a format that rounding reads.
 
-ghost use Rattle.std.specs.Prelude.{◌≡◌, ◌-◌, ◌^◌, ◌<◌, ◌≤◌, pos, ◌-ℤ◌};
-ghost use Rattle.apfloat_base.specs.formats.Format.{greatest_significand};
 ghost use Rattle.apfloat_base.specs.formats.Lawful.{AreParameters};
-ghost use Rattle.apfloat_base.specs.rounding.Bounds.{IsWithin, span_bound, integer_bit_bound, exponent_bound};
+ghost use Rattle.apfloat_base.specs.rounding.Bounds.{span_bound};
 
 use apfloat_base::sig::power_of_two;
 use apfloat_base::{ExpInt, NonfiniteBehavior};
@@ -89,14 +87,4 @@ impl Shape {
             NonfiniteBehavior::NanNegativeZero => power_of_two(self.precision) - 1,
         }
     }
-}
-
-/// The exponent of a number's last digit, from that of its integer bit.
-#[inline(always)]
-pub fn last_exponent(shape: Shape, exponent: ExpInt) -> ExpInt
-    requires { IsWithin integer_bit_bound exponent }
-    ensures value { result ≡ exponent -ℤ pos (shape.precision - 1) }
-    ensures within { IsWithin exponent_bound result }
-{
-    exponent - (shape.precision - 1) as ExpInt
 }

@@ -14,8 +14,8 @@ step-requires-clause-greatest c = omega (arith, ints, c.requires.normal.operand.
 pub power_of_two-requires : goal.power_of_two-requires
 power_of_two-requires c = omega (arith, c.args.shape.parameters.precision_high)
 
-pub raised-requires : goal.raised-requires
-raised-requires c = omega (arith, ints, c.args.shape.parameters.max_exp_high, c.requires.normal.operand.greatest)
+pub one_higher-requires : goal.one_higher-requires
+one_higher-requires c = omega (arith, ints, c.args.shape.parameters.max_exp_high, c.requires.normal.operand.greatest)
 
 pub overflow_add-significand : goal.overflow_add-significand
 overflow_add-significand c =
@@ -51,30 +51,30 @@ returns-then-significand-power_of_two-clause-next c =
     rw ex (after_is s (quanta_at s.min_exp c.args.x.significand c.args.x.exponent)
     (c.args.x.significand + c.step.result) c.args.x.exponent (stays c))
 
-carries : (state : goal.After-raised)
+carries : (state : goal.After-one_higher)
     → IsAfter state.args.shape (quanta_at state.args.shape.min_exp state.args.x.significand state.args.x.exponent)
-    state.integer_bit.result state.raised.result
+    state.integer_bit.result state.one_higher.result
 carries c =
     let s = c.args.shape in
     let ex = exponent_word s c.args.x.significand c.args.x.exponent c.requires.normal in
     let f = c.if-significand-power_of_two.false in
     let e = c.power_of_two.ensures in
-    after_carries s c.args.x.significand c.step.result c.integer_bit.result c.args.x.exponent c.raised.result
+    after_carries s c.args.x.significand c.step.result c.integer_bit.result c.args.x.exponent c.one_higher.result
     c.requires.normal c.requires.below (rw ex at c.step.ensures) (omega (arith, f, e))
-    c.integer_bit.ensures (rw ex at c.raised.ensures)
+    c.integer_bit.ensures (rw ex at c.one_higher.ensures)
 
 pub returns-else-significand-power_of_two-clause-stored : goal.returns-else-significand-power_of_two-clause-stored
 returns-else-significand-power_of_two-clause-stored c =
     let s = c.args.shape in
-    let er : to_z w32 (of_z w32 c.raised.result) ≡ c.raised.result =
-    to_z-of_z w32 c.raised.result (record { sfits = c.raised.type_inv }) in
+    let er : to_z w32 (of_z w32 c.one_higher.result) ≡ c.one_higher.result =
+    to_z-of_z w32 c.one_higher.result (record { sfits = c.one_higher.type_inv }) in
     rw er (after_stored s (quanta_at s.min_exp c.args.x.significand c.args.x.exponent) c.integer_bit.result
-    c.raised.result c.requires.below (carries c))
+    c.one_higher.result c.requires.below (carries c))
 
 pub returns-else-significand-power_of_two-clause-next : goal.returns-else-significand-power_of_two-clause-next
 returns-else-significand-power_of_two-clause-next c =
     let s = c.args.shape in
-    let er : to_z w32 (of_z w32 c.raised.result) ≡ c.raised.result =
-    to_z-of_z w32 c.raised.result (record { sfits = c.raised.type_inv }) in
+    let er : to_z w32 (of_z w32 c.one_higher.result) ≡ c.one_higher.result =
+    to_z-of_z w32 c.one_higher.result (record { sfits = c.one_higher.type_inv }) in
     rw er (after_is s (quanta_at s.min_exp c.args.x.significand c.args.x.exponent) c.integer_bit.result
-    c.raised.result (carries c))
+    c.one_higher.result (carries c))

@@ -16,8 +16,8 @@ step-requires-clause-greatest c = omega (arith, ints, c.requires.operand.greates
 pub returns-then-x-least_exponent-clause-stored : goal.returns-then-x-least_exponent-clause-stored
 returns-then-x-least_exponent-clause-stored c = c.zero_of.ensures.stored
 
-pub lowered-exponent-requires : goal.lowered-exponent-requires
-lowered-exponent-requires c =
+pub one_lower-exponent-requires : goal.one_lower-exponent-requires
+one_lower-exponent-requires c =
     omega (
       arith,
       ints,
@@ -31,7 +31,7 @@ power_of_two-requires c = omega (arith, c.args.shape.parameters.precision_high)
 
 pub step-requires-2-clause-greatest : goal.step-requires-2-clause-greatest
 step-requires-2-clause-greatest c =
-    omega (arith, ints, c.requires.operand.greatest, c.lowered-exponent.ensures)
+    omega (arith, ints, c.requires.operand.greatest, c.one_lower-exponent.ensures)
 
 pub overflow_sub-result : goal.overflow_sub-result
 overflow_sub-result c =
@@ -82,11 +82,11 @@ returns-then-x-least_exponent-clause-next c =
     c.if-x-integer_bit.false c.integer_bit.ensures c.requires.operand.full) i)
 
 low : (state : goal.After-step-2)
-    → ((state.args.shape.min_exp +ℤ pos 1) -ℤ pos state.args.shape.precision) ≤ℤ state.lowered-exponent.result
+    → ((state.args.shape.min_exp +ℤ pos 1) -ℤ pos state.args.shape.precision) ≤ℤ state.one_lower-exponent.result
 low c =
     let s = c.args.shape in
     let ex = exponent_word s c.args.x.significand c.args.x.exponent c.requires in
-    let r = rw ex at c.lowered-exponent.ensures in
+    let r = rw ex at c.one_lower-exponent.ensures in
     let f = c.if-x-least_exponent.false in
     let n = c.least_exponent.ensures in
     subst (λ (z : ℤ). ((s.min_exp +ℤ pos 1) -ℤ pos s.precision) ≤ℤ z) (sym r)
@@ -97,39 +97,39 @@ pub overflow_sub-result-2 : goal.overflow_sub-result-2
 overflow_sub-result-2 c =
     let s = c.args.shape in
     let three = c.args.shape.parameters.precision_low in
-    let ey : to_z w32 (of_z w32 c.lowered-exponent.result) ≡ c.lowered-exponent.result =
-    to_z-of_z w32 c.lowered-exponent.result (record { sfits = c.lowered-exponent.type_inv }) in
+    let ey : to_z w32 (of_z w32 c.one_lower-exponent.result) ≡ c.one_lower-exponent.result =
+    to_z-of_z w32 c.one_lower-exponent.result (record { sfits = c.one_lower-exponent.type_inv }) in
     let p = c.power_of_two.ensures in
     let t = twice_half s.precision (omega (arith, three)) in
-    step_below s c.power_of_two.result c.step-2.result c.lowered-exponent.result (low c)
+    step_below s c.power_of_two.result c.step-2.result c.one_lower-exponent.result (low c)
     (omega (arith, p, t)) (rw ey at c.step-2.ensures)
 
 lowers : (state : goal.After-step-2)
     → IsBefore state.args.shape (quanta_at state.args.shape.min_exp state.args.x.significand state.args.x.exponent)
-    (state.power_of_two.result - state.step-2.result) state.lowered-exponent.result
+    (state.power_of_two.result - state.step-2.result) state.one_lower-exponent.result
 lowers c =
     let s = c.args.shape in
     let ex = exponent_word s c.args.x.significand c.args.x.exponent c.requires in
-    let ey : to_z w32 (of_z w32 c.lowered-exponent.result) ≡ c.lowered-exponent.result =
-    to_z-of_z w32 c.lowered-exponent.result (record { sfits = c.lowered-exponent.type_inv }) in
+    let ey : to_z w32 (of_z w32 c.one_lower-exponent.result) ≡ c.one_lower-exponent.result =
+    to_z-of_z w32 c.one_lower-exponent.result (record { sfits = c.one_lower-exponent.type_inv }) in
     before_lowers s c.args.x.significand c.power_of_two.result c.step-2.result c.args.x.exponent
-    c.lowered-exponent.result c.requires
+    c.one_lower-exponent.result c.requires
     (is_half c.args.x.significand c.integer_bit.result (2 ^ (s.precision - 1)) c.if-x-integer_bit.false
     c.integer_bit.ensures c.requires.operand.full) c.power_of_two.ensures
-    (rw ex at c.lowered-exponent.ensures) (low c) (rw ey at c.step-2.ensures)
+    (rw ex at c.one_lower-exponent.ensures) (low c) (rw ey at c.step-2.ensures)
 
 pub returns-clause-stored : goal.returns-clause-stored
 returns-clause-stored c =
     let s = c.args.shape in
-    let ey : to_z w32 (of_z w32 c.lowered-exponent.result) ≡ c.lowered-exponent.result =
-    to_z-of_z w32 c.lowered-exponent.result (record { sfits = c.lowered-exponent.type_inv }) in
+    let ey : to_z w32 (of_z w32 c.one_lower-exponent.result) ≡ c.one_lower-exponent.result =
+    to_z-of_z w32 c.one_lower-exponent.result (record { sfits = c.one_lower-exponent.type_inv }) in
     rw ey (before_stored s (quanta_at s.min_exp c.args.x.significand c.args.x.exponent)
-    (c.power_of_two.result - c.step-2.result) c.lowered-exponent.result c.requires.within (lowers c))
+    (c.power_of_two.result - c.step-2.result) c.one_lower-exponent.result c.requires.within (lowers c))
 
 pub returns-clause-next : goal.returns-clause-next
 returns-clause-next c =
     let s = c.args.shape in
-    let ey : to_z w32 (of_z w32 c.lowered-exponent.result) ≡ c.lowered-exponent.result =
-    to_z-of_z w32 c.lowered-exponent.result (record { sfits = c.lowered-exponent.type_inv }) in
+    let ey : to_z w32 (of_z w32 c.one_lower-exponent.result) ≡ c.one_lower-exponent.result =
+    to_z-of_z w32 c.one_lower-exponent.result (record { sfits = c.one_lower-exponent.type_inv }) in
     rw ey (before_is s (quanta_at s.min_exp c.args.x.significand c.args.x.exponent)
-    (c.power_of_two.result - c.step-2.result) c.lowered-exponent.result c.requires.within (lowers c))
+    (c.power_of_two.result - c.step-2.result) c.one_lower-exponent.result c.requires.within (lowers c))

@@ -17,16 +17,16 @@ returns-clause-fraction c =
     let s = c.args.shape in
     let m = c.args.x.significand in
     let ex = exponent_word s m c.args.x.exponent c.requires in
-    let er : to_z w32 (of_z w32 c.raised.result) ≡ c.raised.result =
-    to_z-of_z w32 c.raised.result (record { sfits = c.raised.type_inv }) in
-    let v = rw ex at c.raised.ensures in
+    let er : to_z w32 (of_z w32 c.one_higher.result) ≡ c.one_higher.result =
+    to_z-of_z w32 c.one_higher.result (record { sfits = c.one_higher.type_inv }) in
+    let v = rw ex at c.one_higher.ensures in
     let q = fraction_quanta s.min_exp m s.parameters.min_exp_high in
     let b = fraction_size s m c.args.x.exponent c.requires in
     rw er (record {
       fraction = m * 2 ^ up (negsuc 0 -ℤ s.min_exp);
       low = b.0;
       high = b.1;
-      same = fraction_same s.min_exp c.args.x.exponent c.raised.result m (quanta_at s.min_exp m c.args.x.exponent)
+      same = fraction_same s.min_exp c.args.x.exponent c.one_higher.result m (quanta_at s.min_exp m c.args.x.exponent)
           s.parameters.min_exp_high v c.requires.whole;
       is = rw (quanta_is s.min_exp m (negsuc 0) (m * 2 ^ up (negsuc 0 -ℤ s.min_exp)) q) refl;
     })
