@@ -80,17 +80,17 @@ MISTAKES = {
         ("apfloat_arithmetic", "-wide", QUAD_FUSED),
     ],
     "one-guard-bit-no-sticky": [
-        ("apfloat_texts", "", JUST_ABOVE_TIE),
-        ("apfloat_unpacked", "-kernel", JUST_ABOVE_TIE),
-        ("apfloat_unpacked", "-low-word", LONG_INTEGER),
+        ("apfloat_hex_texts", "", JUST_ABOVE_TIE),
+        ("apfloat_rounding", "-kernel", JUST_ABOVE_TIE),
+        ("apfloat_rounding", "-low-word", LONG_INTEGER),
     ],
     "overflow-always-infinity": [
-        ("apfloat_unpacked", "", "e4m3fn int zero 480\t7e INEXACT"),
-        ("apfloat_unpacked", "-past-largest", PAST_LARGEST),
+        ("apfloat_rounding", "", "e4m3fn int zero 480\t7e INEXACT"),
+        ("apfloat_rounding", "-past-largest", PAST_LARGEST),
     ],
     "underflow-before-rounding": [
-        ("apfloat_unpacked", "", "half mul even 0400 3bff\t0400 INEXACT"),
-        ("apfloat_unpacked", "-odd", "half div up 07fe 3fff\t0400 INEXACT"),
+        ("apfloat_rounding", "", "half mul even 0400 3bff\t0400 INEXACT"),
+        ("apfloat_rounding", "-odd", "half div up 07fe 3fff\t0400 INEXACT"),
     ],
     "exact-zero-keeps-left-sign": [
         ("apfloat_arithmetic", "", "half sub down 3c00 3c00\t8000 OK"),
@@ -106,21 +106,21 @@ MISTAKES = {
     ],
     "nan-only-overflow-ignores-sign": [
         (
-            "apfloat_unpacked",
+            "apfloat_rounding",
             "",
             call("convert_r", "single>e4m3fn", "up", "c3f00000", "fe", "INEXACT", "loses_info=true"),
         )
     ],
-    "text-refuses-everything": [("apfloat_texts", "", "half parse even 0x1.ffep+15\t7c00 OVERFLOW|INEXACT")],
-    "text-reads-32-digits": [("apfloat_texts", "", JUST_ABOVE_TIE)],
+    "text-refuses-everything": [("apfloat_hex_texts", "", "half parse even 0x1.ffep+15\t7c00 OVERFLOW|INEXACT")],
+    "text-reads-32-digits": [("apfloat_hex_texts", "", JUST_ABOVE_TIE)],
     "text-one-refusal-for-all": [
-        ("apfloat_base", "", "single parse even 0x1\trefused: Hex strings require an exponent")
+        ("apfloat_model", "", "single parse even 0x1\trefused: Hex strings require an exponent")
     ],
-    "one-quiet-nan-pattern": [("apfloat_unpacked", "", "half add even 7e01 7d00\t7e01 INVALID_OP")],
+    "one-quiet-nan-pattern": [("apfloat_rounding", "", "half add even 7e01 7d00\t7e01 INVALID_OP")],
     "quotient-rest-more-than-half": [
-        ("apfloat_base", "-few-digits", THIRD),
-        ("apfloat_base", "-guessed-word", FIVE_THIRDS),
-        ("apfloat_base", "-guessed", LONG_THIRD),
+        ("apfloat_words", "-few-digits", THIRD),
+        ("apfloat_words", "-guessed-word", FIVE_THIRDS),
+        ("apfloat_words", "-guessed", LONG_THIRD),
         ("apfloat_arithmetic", "-many-digits", QUAD_THIRD),
     ],
     "integer-always-truncates": [
@@ -146,9 +146,9 @@ MISTAKES = {
         ("apfloat_arithmetic", "-wide-fused-sum-nan", QUAD_FUSED),
     ],
     "status-always-ok": [
-        ("apfloat_unpacked", "", "half parse even 0x1p-25\t0000 UNDERFLOW|INEXACT"),
-        ("apfloat_unpacked", "-cut", THIRD),
-        ("apfloat_unpacked", "-rest", HALF_QUANTUM),
+        ("apfloat_rounding", "", "half parse even 0x1p-25\t0000 UNDERFLOW|INEXACT"),
+        ("apfloat_rounding", "-cut", THIRD),
+        ("apfloat_rounding", "-rest", HALF_QUANTUM),
         ("apfloat_arithmetic", "-sum", PAST_LARGEST),
         ("apfloat_arithmetic", "-product", HALF_QUANTUM),
         ("apfloat_arithmetic", "-wide-product", QUAD_PRODUCT),
@@ -188,8 +188,8 @@ MISTAKES = {
     ],
     "command-refuses-everything": [("commands", "", "half int even 464\t5f40 OK")],
     "keeps-negative-zero": [
-        ("apfloat_unpacked", "", "e4m3fnuz parse even -0x1p-30\t00 UNDERFLOW|INEXACT"),
-        ("apfloat_unpacked", "-few-quanta", "e4m3fnuz mul even 81 30\t00 UNDERFLOW|INEXACT"),
+        ("apfloat_rounding", "", "e4m3fnuz parse even -0x1p-30\t00 UNDERFLOW|INEXACT"),
+        ("apfloat_rounding", "-few-quanta", "e4m3fnuz mul even 81 30\t00 UNDERFLOW|INEXACT"),
         ("apfloat_arithmetic", "-product", "e4m3fnuz mul even 00 81\t00 OK"),
         ("apfloat_arithmetic", "-negation", call("neg", "e4m3fnuz", "-", "00", "00", "-", "-")),
         (
@@ -197,7 +197,7 @@ MISTAKES = {
             "-conversion",
             call("convert_r", "half>e4m3fnuz", "even", "8000", "00", "INEXACT", "loses_info=true"),
         ),
-        ("apfloat_texts", "-text", "e4m3fnuz parse even -0x0p0\t00 OK"),
+        ("apfloat_hex_texts", "-text", "e4m3fnuz parse even -0x0p0\t00 OK"),
     ],
     "pair-product-drops-low-cross-term": [
         (

@@ -5,18 +5,18 @@ use Rattle.std.proofs.Math.Path.{subst₂}
 use Rattle.std.proofs.Math.Nat.{eq_of_mul-eq-mul_right, pow-le-pow_right}
 use Rattle.std.proofs.lemmas.Nat.{pow-add, pow_pos}
 use Rattle.std.proofs.lemmas.Int.{ints}
-use Rattle.apfloat_base.specs.declared.sig.loss.Loss.{Loss}
-use Rattle.apfloat_base.specs.declared.sig.loss.Loss.TheVariants.{ExactlyZero}
-use Rattle.apfloat_base.specs.arithmetic.Exact.{up, down, signed, sign_of, magnitude}
-use Rattle.apfloat_base.specs.rounding.RoundingToOdd.{IsRoundedToOdd}
-use Rattle.apfloat_base.specs.rounding.Standing.{StandsFor}
-use Rattle.apfloat_base.specs.arithmetic.Totals.{counted, StandsForSigned, IsSignedToOdd}
-use Rattle.apfloat_base.proofs.general.Powers.{two_pos, twice_half}
-use Rattle.apfloat_base.proofs.rounding.Deliveries.{loss_cases}
-use Rattle.apfloat_base.proofs.rounding.KeptDigits.{stands_cancel, stands_times}
-use Rattle.apfloat_base.proofs.rounding.OddRoundings.{to_odd_times, to_odd_cancel}
-use Rattle.apfloat_base.proofs.arithmetic.Totals.{zero_stands, no_down}
-use Rattle.apfloat_unpacked.specs.Stored.{IsQuantaAt}
+use Rattle.apfloat_model.specs.declared.loss.Loss.{Loss}
+use Rattle.apfloat_model.specs.declared.loss.Loss.TheVariants.{ExactlyZero}
+use Rattle.apfloat_model.specs.arithmetic.Exact.{up, down, signed, sign_of, magnitude}
+use Rattle.apfloat_model.specs.rounding.RoundingToOdd.{IsRoundedToOdd}
+use Rattle.apfloat_model.specs.rounding.Standing.{StandsFor}
+use Rattle.apfloat_words.specs.Totals.{counted, StandsForSigned, IsSignedToOdd}
+use Rattle.apfloat_model.proofs.general.Powers.{two_pos, twice_half}
+use Rattle.apfloat_model.proofs.rounding.Deliveries.{loss_cases}
+use Rattle.apfloat_model.proofs.rounding.KeptDigits.{stands_cancel, stands_times}
+use Rattle.apfloat_model.proofs.rounding.OddRoundings.{to_odd_times, to_odd_cancel}
+use Rattle.apfloat_words.proofs.Totals.{zero_stands, no_down}
+use Rattle.apfloat_rounding.specs.Stored.{IsQuantaAt}
 
 -- ---- a finer count of quanta
 

@@ -11,17 +11,17 @@ use Rattle.std.proofs.lemmas.Int.{ints}
 use Rattle.std.proofs.lemmas.Nat.{pow_pos}
 use Rattle.std.proofs.lemmas.Bool.{and_parts, eqb-true, eq-eqb}
 use Rattle.std.proofs.Math.Nat.{mul-lt-mul_of_pos_right, lt_of_mul-lt-mul_right, pow-le-pow_right, two-pow-succ}
-use Rattle.apfloat_base.proofs.general.Powers.{two_pos}
-use Rattle.apfloat_base.proofs.general.Choices.{same_sign_is, same_sign_self, off_by}
-use Rattle.apfloat_base.specs.declared.kinds.Category.{Category}
-use Rattle.apfloat_base.specs.declared.kinds.Category.TheVariants.{Infinity, NaN, Normal, Zero}
-use Rattle.apfloat_base.specs.formats.Datum.{Datum, finite, infinite, nan}
-use Rattle.apfloat_base.specs.order.Classes.{is_nan, same_datum}
-use Rattle.apfloat_base.specs.order.Order.{number, compared, compared_magnitudes}
-use Rattle.apfloat_unpacked.specs.declared.shape.Shape.{Shape}
-use Rattle.apfloat_unpacked.specs.declared.unpacked.Unpacked.{Unpacked}
-use Rattle.apfloat_unpacked.specs.Stored.{IsNormal, IsNormalAt, IsStored, IsStoredBy, datum_at, datum_by, quanta_at, quanta_of, unpacked_of}
-use Rattle.apfloat_unpacked.proofs.StoredBack.{IsFull, top_of, full_low, full_high, normal_full, quanta_some, comes_back}
+use Rattle.apfloat_model.proofs.general.Powers.{two_pos}
+use Rattle.apfloat_model.proofs.general.Choices.{same_sign_is, same_sign_self, off_by}
+use Rattle.apfloat_model.specs.declared.kinds.Category.{Category}
+use Rattle.apfloat_model.specs.declared.kinds.Category.TheVariants.{Infinity, NaN, Normal, Zero}
+use Rattle.apfloat_model.specs.formats.Datum.{Datum, finite, infinite, nan}
+use Rattle.apfloat_model.specs.order.Classes.{is_nan, same_datum}
+use Rattle.apfloat_model.specs.order.Order.{number, compared, compared_magnitudes}
+use Rattle.apfloat_rounding.specs.declared.shape.Shape.{Shape}
+use Rattle.apfloat_rounding.specs.declared.unpacked.Unpacked.{Unpacked}
+use Rattle.apfloat_rounding.specs.Stored.{IsNormal, IsNormalAt, IsStored, IsStoredBy, datum_at, datum_by, quanta_at, quanta_of, unpacked_of}
+use Rattle.apfloat_rounding.proofs.StoredBack.{IsFull, top_of, full_low, full_high, normal_full, quanta_some, comes_back}
 use Rattle.apfloat_arithmetic.specs.Sides.{number_side, side}
 use Rattle.apfloat_arithmetic.proofs.SumCases.{datum_is}
 

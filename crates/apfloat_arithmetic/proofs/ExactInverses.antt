@@ -5,17 +5,17 @@ use Rattle.std.proofs.Math.Nat.{mul-le-mul_left, mul-le-mul_right, mul-lt-mul_of
 use Rattle.std.proofs.lemmas.Nat.{pow_pos, pow-add}
 use Rattle.std.proofs.lemmas.Int.{ints, by_lt_z, to_z-of_z}
 use borrow.Author.Differences.{fits_in}
-use Rattle.apfloat_base.specs.arithmetic.Exact.{up, down}
-use Rattle.apfloat_base.specs.formats.Format.{largest, greatest_significand}
-use Rattle.apfloat_base.specs.arithmetic.Exponents.{AreInverse, IsExactInverse}
-use Rattle.apfloat_base.specs.formats.Datum.{finite}
-use Rattle.apfloat_base.proofs.formats.Greatest.{greatest_fits, greatest_full}
-use Rattle.apfloat_base.proofs.general.Powers.{pow3, pow22, exponent_at_most, exponent_below, two_pos}
-use Rattle.apfloat_unpacked.specs.declared.shape.Shape.{Shape}
-use Rattle.apfloat_unpacked.specs.Shapes.{format_at}
-use Rattle.apfloat_unpacked.specs.Stored.{IsNormalAt, IsQuantaAt, quanta_at}
-use Rattle.apfloat_unpacked.proofs.ShapeExponents.{scale_is}
-use Rattle.apfloat_unpacked.proofs.StoredNumbers.{whole_is, above_zero}
+use Rattle.apfloat_model.specs.arithmetic.Exact.{up, down}
+use Rattle.apfloat_model.specs.formats.Format.{largest, greatest_significand}
+use Rattle.apfloat_model.specs.arithmetic.Exponents.{AreInverse, IsExactInverse}
+use Rattle.apfloat_model.specs.formats.Datum.{finite}
+use Rattle.apfloat_model.proofs.formats.Greatest.{greatest_fits, greatest_full}
+use Rattle.apfloat_model.proofs.general.Powers.{pow3, pow22, exponent_at_most, exponent_below, two_pos}
+use Rattle.apfloat_rounding.specs.declared.shape.Shape.{Shape}
+use Rattle.apfloat_rounding.specs.Shapes.{format_at}
+use Rattle.apfloat_rounding.specs.Stored.{IsNormalAt, IsQuantaAt, quanta_at}
+use Rattle.apfloat_rounding.proofs.ShapeExponents.{scale_is}
+use Rattle.apfloat_rounding.proofs.StoredNumbers.{whole_is, above_zero}
 use Rattle.apfloat_arithmetic.specs.ExactInverseParts.{IsInvertibleAt}
 use Rattle.apfloat_arithmetic.proofs.ProductExponents.{normal_near}
 use Rattle.apfloat_arithmetic.proofs.PowerFactors.{factor_of_power, power_with_digits}

@@ -2,14 +2,14 @@
 use Rattle.std.proofs.Common.{◌≡◌, ℕ, ◌+ℤ◌, ◌*◌, ◌^◌, ◌<◌, pos, Bool, ap, subst, ◌∙◌, arith}
 use Rattle.std.proofs.Math.Nat.{mul-pos}
 use Rattle.std.proofs.lemmas.Nat.{pow_pos}
-use Rattle.apfloat_base.specs.declared.kinds.Round.{Round}
-use Rattle.apfloat_base.specs.formats.Datum.{Datum, finite}
-use Rattle.apfloat_base.specs.formats.Format.{Format}
-use Rattle.apfloat_base.specs.arithmetic.Exact.{product_sign, signed}
-use Rattle.apfloat_base.specs.rounding.Rounding.{IsDelivered}
-use Rattle.apfloat_base.specs.arithmetic.Sums.{zero_sum_sign}
-use Rattle.apfloat_base.specs.arithmetic.FusedSums.{IsFusedSum}
-use Rattle.apfloat_base.proofs.arithmetic.Signs.{no_sign, and_zero, zero_and, rounded_signed}
+use Rattle.apfloat_model.specs.declared.kinds.Round.{Round}
+use Rattle.apfloat_model.specs.formats.Datum.{Datum, finite}
+use Rattle.apfloat_model.specs.formats.Format.{Format}
+use Rattle.apfloat_model.specs.arithmetic.Exact.{product_sign, signed}
+use Rattle.apfloat_model.specs.rounding.Rounding.{IsDelivered}
+use Rattle.apfloat_model.specs.arithmetic.Sums.{zero_sum_sign}
+use Rattle.apfloat_model.specs.arithmetic.FusedSums.{IsFusedSum}
+use Rattle.apfloat_model.proofs.arithmetic.Signs.{no_sign, and_zero, zero_and, rounded_signed}
 
 -- the exact sum where one of the two is zero
 product_alone : (left right : Bool) (m n : ℕ) → n ≡ 0 → (signed left m +ℤ signed right n) ≡ signed left m

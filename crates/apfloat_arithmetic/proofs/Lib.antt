@@ -18,3 +18,4 @@ mod Additions
 mod SumCases
 mod StepBounds
 pub mod ShortQuotients
+pub mod RootStandings

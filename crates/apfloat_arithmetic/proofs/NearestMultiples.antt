@@ -5,15 +5,15 @@ use Rattle.std.proofs.Math.Nat.{lt_of_mul-lt-mul_right, eq_of_mul-eq-mul_right, 
 use Rattle.std.proofs.lemmas.Bool.{cases_lt, le-ltb, lt-ltb, ne_eqb, false≢true}
 use Rattle.std.proofs.lemmas.Nat.{pow-add, pow_pos}
 use Rattle.std.proofs.lemmas.Int.{ints}
-use Rattle.apfloat_base.specs.declared.kinds.NonfiniteBehavior.{NonfiniteBehavior}
-use Rattle.apfloat_base.specs.declared.kinds.Round.TheVariants.{NearestTiesToEven}
-use Rattle.apfloat_base.specs.rounding.Rounding.{takes_above, signed_quanta}
-use Rattle.apfloat_base.specs.arithmetic.Remainders.{nearest_quotient, rest_of}
-use Rattle.apfloat_base.specs.arithmetic.Exact.{up, down}
-use Rattle.apfloat_base.proofs.rounding.Picks.{takes_less, takes_scaled}
-use Rattle.apfloat_base.proofs.general.Powers.{twice_power}
-use Rattle.apfloat_base.proofs.general.Scaled.{less_scaled}
-use Rattle.apfloat_base.proofs.general.Choices.{cond_same}
+use Rattle.apfloat_model.specs.declared.kinds.NonfiniteBehavior.{NonfiniteBehavior}
+use Rattle.apfloat_model.specs.declared.kinds.Round.TheVariants.{NearestTiesToEven}
+use Rattle.apfloat_model.specs.rounding.Rounding.{takes_above, signed_quanta}
+use Rattle.apfloat_model.specs.arithmetic.Remainders.{nearest_quotient, rest_of}
+use Rattle.apfloat_model.specs.arithmetic.Exact.{up, down}
+use Rattle.apfloat_model.proofs.rounding.Picks.{takes_less, takes_scaled}
+use Rattle.apfloat_model.proofs.general.Powers.{twice_power}
+use Rattle.apfloat_model.proofs.general.Scaled.{less_scaled}
+use Rattle.apfloat_model.proofs.general.Choices.{cond_same}
 use Rattle.apfloat_arithmetic.proofs.WholeQuotients.{below_divisor}
 
 -- whether the multiple above is the nearest

@@ -6,12 +6,12 @@ use Rattle.std.proofs.Math.Nat.{mul-le-mul_left}
 use Rattle.std.proofs.lemmas.Nat.{pow_pos}
 use Rattle.std.proofs.lemmas.Bool.{lt-ltb, le-ltb}
 use Rattle.std.proofs.lemmas.Int.{ints}
-use Rattle.apfloat_base.specs.formats.Datum.{finite}
-use Rattle.apfloat_base.specs.order.Classes.{is_denormal}
-use Rattle.apfloat_base.specs.formats.Format.{Format, smallest_normalized}
-use Rattle.apfloat_unpacked.specs.declared.shape.Shape.{Shape}
-use Rattle.apfloat_unpacked.specs.Stored.{IsNormalAt, quanta_at}
-use Rattle.apfloat_unpacked.proofs.StoredNumbers.{quanta_low_below, quanta_high}
+use Rattle.apfloat_model.specs.formats.Datum.{finite}
+use Rattle.apfloat_model.specs.order.Classes.{is_denormal}
+use Rattle.apfloat_model.specs.formats.Format.{Format, smallest_normalized}
+use Rattle.apfloat_rounding.specs.declared.shape.Shape.{Shape}
+use Rattle.apfloat_rounding.specs.Stored.{IsNormalAt, quanta_at}
+use Rattle.apfloat_rounding.proofs.StoredNumbers.{quanta_low_below, quanta_high}
 
 -- what a comparison of signed numbers returns
 pub compares_as : (less : Bool) (a b : ℤ) (holds : Bool) → lt_z a b ≡ less

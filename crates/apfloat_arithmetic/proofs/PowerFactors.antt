@@ -2,7 +2,7 @@
 use Rattle.std.proofs.Common.{refl, sym, ap, ◌∙◌, ◌≡◌, ℕ, zero, suc, ◌+◌, ◌-◌, ◌*◌, ◌/◌, ◌%◌, ◌^◌, ◌<◌, ◌≤◌, ◌⊎◌, inl, inr, ⊎_elim, arith}
 use Rattle.std.proofs.Math.Nat.{div-add-mod', mod-lt, pow-le-pow_right}
 use Rattle.std.proofs.lemmas.Bool.{cases_lt}
-use Rattle.apfloat_base.proofs.general.Powers.{twice_power, two_pos}
+use Rattle.apfloat_model.proofs.general.Powers.{twice_power, two_pos}
 
 pub record IsPower (n : ℕ) : Type 0 where
   pub place : ℕ

@@ -2,17 +2,17 @@
 use Rattle.std.proofs.Common.{◌≡◌, ℕ, ◌+◌, ◌-◌, ◌*◌, ◌^◌, ◌<◌, ◌≤◌, sym, ap, ◌∙◌, arith, ℤ, pos, ◌+ℤ◌, ◌-ℤ◌, to_z, of_z, w32}
 use Rattle.std.proofs.lemmas.Int.{ints}
 use Rattle.std.proofs.lemmas.Nat.{pow_pos, pow-add}
-use Rattle.apfloat_base.specs.declared.sig.loss.Loss.{Loss}
-use Rattle.apfloat_base.specs.rounding.Bounds.{IsWithin, number_bound}
-use Rattle.apfloat_base.specs.rounding.Standing.{StandsFor, up, down}
-use Rattle.apfloat_base.specs.rounding.RoundingToOdd.{IsRoundedToOdd}
-use Rattle.apfloat_base.proofs.arithmetic.Fractions.{product_stands, quotient_carries}
-use Rattle.apfloat_base.proofs.rounding.KeptDigits.{stands_cancel, stands_times}
-use Rattle.apfloat_base.proofs.rounding.OddRoundings.{to_odd_times, to_odd_cancel}
-use Rattle.apfloat_unpacked.specs.declared.shape.Shape.{Shape}
-use Rattle.apfloat_unpacked.specs.Shapes.{format_at}
-use Rattle.apfloat_unpacked.specs.Stored.{IsNormalAt, quanta_at}
-use Rattle.apfloat_unpacked.proofs.ShapeExponents.{scale_is, exponent_word}
+use Rattle.apfloat_model.specs.declared.loss.Loss.{Loss}
+use Rattle.apfloat_model.specs.rounding.Bounds.{IsWithin, number_bound}
+use Rattle.apfloat_model.specs.rounding.Standing.{StandsFor, up, down}
+use Rattle.apfloat_model.specs.rounding.RoundingToOdd.{IsRoundedToOdd}
+use Rattle.apfloat_model.proofs.arithmetic.Fractions.{product_stands, quotient_carries}
+use Rattle.apfloat_model.proofs.rounding.KeptDigits.{stands_cancel, stands_times}
+use Rattle.apfloat_model.proofs.rounding.OddRoundings.{to_odd_times, to_odd_cancel}
+use Rattle.apfloat_rounding.specs.declared.shape.Shape.{Shape}
+use Rattle.apfloat_rounding.specs.Shapes.{format_at}
+use Rattle.apfloat_rounding.specs.Stored.{IsNormalAt, quanta_at}
+use Rattle.apfloat_rounding.proofs.ShapeExponents.{scale_is, exponent_word}
 
 -- the exponent of a number that is stored
 pub record IsNear (e : ℤ) : Type 0 where

@@ -1,11 +1,11 @@
 -- Square roots of numbers, by their signs.
 use Rattle.std.proofs.Common.{◌≡◌, ℕ, ◌*◌, ◌^◌, ◌<◌, Bool, true, false, sym, subst, arith}
 use Rattle.std.proofs.lemmas.Bool.{ne_eqb}
-use Rattle.apfloat_base.specs.declared.kinds.Round.{Round}
-use Rattle.apfloat_base.specs.formats.Format.{Format}
-use Rattle.apfloat_base.specs.formats.Datum.{Datum, finite}
-use Rattle.apfloat_base.specs.formats.Nan.{IsInvalid}
-use Rattle.apfloat_base.specs.arithmetic.Roots.{IsDeliveredRoot, IsRootOfNumber, IsRoot}
+use Rattle.apfloat_model.specs.declared.kinds.Round.{Round}
+use Rattle.apfloat_model.specs.formats.Format.{Format}
+use Rattle.apfloat_model.specs.formats.Datum.{Datum, finite}
+use Rattle.apfloat_model.specs.formats.Nan.{IsInvalid}
+use Rattle.apfloat_model.specs.arithmetic.Roots.{IsDeliveredRoot, IsRootOfNumber, IsRoot}
 
 -- the root of a number that is not 0
 some_root : (format : Format) (mode : Round) (negative : Bool) (n : ℕ) (value : Datum) (status : ℕ) → 0 < n

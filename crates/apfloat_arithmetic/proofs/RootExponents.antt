@@ -3,11 +3,11 @@ use Rattle.std.proofs.Common.{◌≡◌, ℕ, ◌+◌, ◌-◌, ◌*◌, ◌^◌
 use Rattle.std.proofs.Math.Nat.{le_of_mul-le-mul_right}
 use Rattle.std.proofs.lemmas.Int.{ints}
 use Rattle.std.proofs.lemmas.Nat.{pow_pos, pow-add}
-use Rattle.apfloat_base.specs.rounding.Standing.{up, down}
-use Rattle.apfloat_unpacked.specs.declared.shape.Shape.{Shape}
-use Rattle.apfloat_unpacked.specs.Shapes.{format_at}
-use Rattle.apfloat_unpacked.specs.Stored.{IsNormalAt, quanta_at}
-use Rattle.apfloat_unpacked.proofs.ShapeExponents.{scale_is}
+use Rattle.apfloat_model.specs.rounding.Standing.{up, down}
+use Rattle.apfloat_rounding.specs.declared.shape.Shape.{Shape}
+use Rattle.apfloat_rounding.specs.Shapes.{format_at}
+use Rattle.apfloat_rounding.specs.Stored.{IsNormalAt, quanta_at}
+use Rattle.apfloat_rounding.proofs.ShapeExponents.{scale_is}
 
 -- a product with the square of a power of two
 power_of_both : (n x y : ℕ) → n * 2 ^ x * (2 ^ y * 2 ^ y) ≡ n * 2 ^ (x + (y + y))

@@ -3,9 +3,9 @@ use Rattle.std.proofs.Common.{◌≡◌, ℕ, ◌+◌, ◌-◌, ◌*◌, ◌/◌
 use Rattle.std.proofs.Math.Nat.{mod-eq_of_lt, pow-le-pow_right, mul-le-mul_right, mul-lt-mul_of_pos_right, le-div_iff_mul-le, div-lt_iff_lt-mul}
 use Rattle.std.proofs.lemmas.Nat.{pow-add, pow_pos}
 use Rattle.std.proofs.lemmas.Bool.{cases_lt}
-use Rattle.apfloat_base.specs.rounding.RoundingToOdd.{odd_quotient}
-use Rattle.apfloat_base.proofs.general.Powers.{two_pos, twice_half, twice_power}
-use Rattle.apfloat_base.proofs.rounding.OddRoundings.{odd_at_least, odd_at_most}
+use Rattle.apfloat_model.specs.rounding.RoundingToOdd.{odd_quotient}
+use Rattle.apfloat_model.proofs.general.Powers.{two_pos, twice_half, twice_power}
+use Rattle.apfloat_model.proofs.rounding.OddRoundings.{odd_at_least, odd_at_most}
 
 -- a dividend that is moved up where it is less than the divisor
 pub record IsClose (m n precision up : ℕ) : Type 0 where

@@ -1,23 +1,23 @@
 -- Products with an infinity or a NaN among their factors, and sums with them.
 use Rattle.std.proofs.Common.{◌≡◌, ◌⊎◌, inl, inr, ℕ, Bool, true, false, eqb, sym, subst, refl}
 use Rattle.std.specs.Bool.{MatchBool}
-use Rattle.apfloat_base.specs.declared.kinds.Round.{Round}
-use Rattle.apfloat_base.specs.declared.kinds.Category.{Category}
-use Rattle.apfloat_base.specs.declared.kinds.Category.TheVariants.{Infinity, NaN, Normal}
-use Rattle.apfloat_base.specs.formats.Format.{Format}
-use Rattle.apfloat_base.specs.formats.Datum.{Datum, finite, infinite, nan}
-use Rattle.apfloat_base.specs.formats.Nan.{IsInvalid}
-use Rattle.apfloat_base.specs.rounding.Answer.{IsAnswer}
-use Rattle.apfloat_base.specs.rounding.Rounding.{ok_bits}
-use Rattle.apfloat_base.specs.arithmetic.Exact.{product_sign}
-use Rattle.apfloat_base.specs.arithmetic.Products.{IsProduct}
-use Rattle.apfloat_base.specs.arithmetic.Sums.{IsSum}
-use Rattle.apfloat_base.specs.arithmetic.FusedSums.{IsSumWithProduct}
-use Rattle.apfloat_base.specs.order.Classes.{is_finite}
-use Rattle.apfloat_unpacked.specs.declared.shape.Shape.{Shape}
-use Rattle.apfloat_unpacked.specs.declared.unpacked.Unpacked.{Unpacked}
-use Rattle.apfloat_unpacked.specs.Shapes.{format_at}
-use Rattle.apfloat_unpacked.specs.Stored.{datum_at, datum_by}
+use Rattle.apfloat_model.specs.declared.kinds.Round.{Round}
+use Rattle.apfloat_model.specs.declared.kinds.Category.{Category}
+use Rattle.apfloat_model.specs.declared.kinds.Category.TheVariants.{Infinity, NaN, Normal}
+use Rattle.apfloat_model.specs.formats.Format.{Format}
+use Rattle.apfloat_model.specs.formats.Datum.{Datum, finite, infinite, nan}
+use Rattle.apfloat_model.specs.formats.Nan.{IsInvalid}
+use Rattle.apfloat_model.specs.rounding.Answer.{IsAnswer}
+use Rattle.apfloat_model.specs.rounding.Rounding.{ok_bits}
+use Rattle.apfloat_model.specs.arithmetic.Exact.{product_sign}
+use Rattle.apfloat_model.specs.arithmetic.Products.{IsProduct}
+use Rattle.apfloat_model.specs.arithmetic.Sums.{IsSum}
+use Rattle.apfloat_model.specs.arithmetic.FusedSums.{IsSumWithProduct}
+use Rattle.apfloat_model.specs.order.Classes.{is_finite}
+use Rattle.apfloat_rounding.specs.declared.shape.Shape.{Shape}
+use Rattle.apfloat_rounding.specs.declared.unpacked.Unpacked.{Unpacked}
+use Rattle.apfloat_rounding.specs.Shapes.{format_at}
+use Rattle.apfloat_rounding.specs.Stored.{datum_at, datum_by}
 
 -- an infinity or a NaN is not finite
 not_finite : (shape : Shape) (x : Unpacked) → (x.category ≡ Infinity) ⊎ (x.category ≡ NaN)

@@ -4,11 +4,11 @@ use Rattle.std.proofs.lemmas.Int.{ints}
 use Rattle.std.proofs.lemmas.Bool.{ne_eqb, cases_lt}
 use Rattle.std.proofs.lemmas.Nat.{pow-add, ones-le}
 use Rattle.std.proofs.Math.Nat.{mul-le-mul_left, pow-le-pow_right, div-lt_iff_lt-mul, div-eq_of_lt}
-use Rattle.apfloat_base.specs.formats.Format.{Format}
-use Rattle.apfloat_base.specs.formats.Datum.{Datum, finite, infinite, nan}
-use Rattle.apfloat_base.specs.arithmetic.Exponents.{IsIlogb, IsLogarithm}
-use Rattle.apfloat_base.specs.arithmetic.Remainders.{ones_of_quotient}
-use Rattle.apfloat_base.proofs.general.Powers.{two_pos}
+use Rattle.apfloat_model.specs.formats.Format.{Format}
+use Rattle.apfloat_model.specs.formats.Datum.{Datum, finite, infinite, nan}
+use Rattle.apfloat_model.specs.arithmetic.Exponents.{IsIlogb, IsLogarithm}
+use Rattle.apfloat_model.specs.arithmetic.Remainders.{ones_of_quotient}
+use Rattle.apfloat_model.proofs.general.Powers.{two_pos}
 
 -- a quotient below 1 has no ones
 none : (m n : ℕ) → m < n → 0 < count_ones (m / n) → ⊥

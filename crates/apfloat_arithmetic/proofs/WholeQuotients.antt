@@ -3,7 +3,7 @@ use Rattle.std.proofs.Common.{◌≡◌, ℕ, false, eqb, ◌+◌, ◌-◌, ◌*
 use lib.Count.{ones, ones_in}
 use Rattle.std.proofs.Math.Nat.{mul-le-mul_right, mul-le-mul_left, mul-lt-mul_of_pos_right, pow-le-pow_right, div-lt_iff_lt-mul, mod-eq_of_lt, div-eq_of_lt, mul-pos, add-mul-div_right, add-mul-mod_self_right}
 use Rattle.std.proofs.lemmas.Nat.{pow-add, pow_pos, ones_cat, ones-le}
-use Rattle.apfloat_base.proofs.general.Powers.{twice_power, two_pos, twice_half}
+use Rattle.apfloat_model.proofs.general.Powers.{twice_power, two_pos, twice_half}
 
 -- r less 2 ^ k times the divisor d is s
 pub record IsTurn (d r s k : ℕ) : Type 0 where

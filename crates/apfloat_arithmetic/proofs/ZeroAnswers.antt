@@ -3,19 +3,19 @@ use Rattle.std.proofs.Common.{sym, subst, ◌≡◌, ℕ, ◌*◌, ◌^◌, ◌<
 use Rattle.std.proofs.Math.Path.{subst₂}
 use Rattle.std.proofs.lemmas.Nat.{pow_pos}
 use Rattle.std.proofs.lemmas.Bool.{ne_eqb}
-use Rattle.apfloat_base.specs.declared.kinds.Round.{Round}
-use Rattle.apfloat_base.specs.declared.kinds.Category.{Category}
-use Rattle.apfloat_base.specs.formats.Format.{Format}
-use Rattle.apfloat_base.specs.formats.Datum.{Datum, finite, infinite}
-use Rattle.apfloat_base.specs.rounding.Answer.{IsAnswer}
-use Rattle.apfloat_base.specs.formats.Constants.{infinity_of}
-use Rattle.apfloat_base.specs.arithmetic.Exact.{product_sign}
-use Rattle.apfloat_base.specs.arithmetic.Products.{IsProduct}
-use Rattle.apfloat_base.specs.arithmetic.Quotients.{IsQuotient, div_by_zero_bit}
-use Rattle.apfloat_base.specs.rounding.Rounding.{IsDelivered, ok_bits}
-use Rattle.apfloat_unpacked.specs.declared.shape.Shape.{Shape}
-use Rattle.apfloat_unpacked.specs.declared.unpacked.Unpacked.{Unpacked}
-use Rattle.apfloat_unpacked.specs.Stored.{datum_at, datum_by}
+use Rattle.apfloat_model.specs.declared.kinds.Round.{Round}
+use Rattle.apfloat_model.specs.declared.kinds.Category.{Category}
+use Rattle.apfloat_model.specs.formats.Format.{Format}
+use Rattle.apfloat_model.specs.formats.Datum.{Datum, finite, infinite}
+use Rattle.apfloat_model.specs.rounding.Answer.{IsAnswer}
+use Rattle.apfloat_model.specs.formats.Constants.{infinity_of}
+use Rattle.apfloat_model.specs.arithmetic.Exact.{product_sign}
+use Rattle.apfloat_model.specs.arithmetic.Products.{IsProduct}
+use Rattle.apfloat_model.specs.arithmetic.Quotients.{IsQuotient, div_by_zero_bit}
+use Rattle.apfloat_model.specs.rounding.Rounding.{IsDelivered, ok_bits}
+use Rattle.apfloat_rounding.specs.declared.shape.Shape.{Shape}
+use Rattle.apfloat_rounding.specs.declared.unpacked.Unpacked.{Unpacked}
+use Rattle.apfloat_rounding.specs.Stored.{datum_at, datum_by}
 
 -- what holds of two data holds of values that stand for them
 pub by_categories : (P : Datum → Datum → Type 0) (shape : Shape) (x y : Unpacked) (first second : Category)

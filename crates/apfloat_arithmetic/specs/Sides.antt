@@ -1,6 +1,6 @@
 -- The position of a datum: below the numbers, among the negative ones, at zero, among the positive ones, above them.
 use Rattle.std.specs.Prelude.{ℕ, zero, suc, Bool, if◌then◌else◌}
-use Rattle.apfloat_base.specs.formats.Datum.{Datum, finite, infinite, nan}
+use Rattle.apfloat_model.specs.formats.Datum.{Datum, finite, infinite, nan}
 
 -- for a nonzero number
 abbrev pub number_side : Bool → ℕ

@@ -1,18 +1,18 @@
 -- Operations of which an operand is no nonzero number, and what each of them gives (IEEE 754-2008 6.1 to 6.3, 7.2, 7.3).
 use Rattle.std.specs.Prelude.{◌≡◌, ℕ, ◌<◌, true}
-use Rattle.apfloat_base.specs.declared.kinds.Category.TheVariants.{Normal}
-use Rattle.apfloat_base.specs.declared.kinds.Round.{Round}
-use Rattle.apfloat_base.specs.formats.Datum.{Datum}
-use Rattle.apfloat_base.specs.arithmetic.Sums.{IsSum}
-use Rattle.apfloat_base.specs.arithmetic.Products.{IsProduct}
-use Rattle.apfloat_base.specs.arithmetic.Quotients.{IsQuotient}
-use Rattle.apfloat_base.specs.arithmetic.FusedSums.{IsFusedSum}
-use Rattle.apfloat_base.specs.arithmetic.Roots.{IsRoot}
-use Rattle.apfloat_base.specs.arithmetic.Remainders.{IsRemainder}
-use Rattle.apfloat_unpacked.specs.declared.shape.Shape.{Shape}
-use Rattle.apfloat_unpacked.specs.declared.unpacked.Unpacked.{Unpacked}
-use Rattle.apfloat_unpacked.specs.Shapes.{format_at}
-use Rattle.apfloat_unpacked.specs.Stored.{IsStored, datum_at}
+use Rattle.apfloat_model.specs.declared.kinds.Category.TheVariants.{Normal}
+use Rattle.apfloat_model.specs.declared.kinds.Round.{Round}
+use Rattle.apfloat_model.specs.formats.Datum.{Datum}
+use Rattle.apfloat_model.specs.arithmetic.Sums.{IsSum}
+use Rattle.apfloat_model.specs.arithmetic.Products.{IsProduct}
+use Rattle.apfloat_model.specs.arithmetic.Quotients.{IsQuotient}
+use Rattle.apfloat_model.specs.arithmetic.FusedSums.{IsFusedSum}
+use Rattle.apfloat_model.specs.arithmetic.Roots.{IsRoot}
+use Rattle.apfloat_model.specs.arithmetic.Remainders.{IsRemainder}
+use Rattle.apfloat_rounding.specs.declared.shape.Shape.{Shape}
+use Rattle.apfloat_rounding.specs.declared.unpacked.Unpacked.{Unpacked}
+use Rattle.apfloat_rounding.specs.Shapes.{format_at}
+use Rattle.apfloat_rounding.specs.Stored.{IsStored, datum_at}
 use Rattle.apfloat_arithmetic.specs.declared.specials.Operation.{Operation}
 use Rattle.apfloat_arithmetic.specs.declared.specials.Operation.TheVariants.{Sum, Product, Quotient, FusedSum, Root, Remainder}
 

@@ -1,8 +1,8 @@
 -- What is added when a value is subtracted.
 use Rattle.std.specs.Prelude.{not}
-use Rattle.apfloat_base.specs.declared.kinds.NonfiniteBehavior.{NonfiniteBehavior}
-use Rattle.apfloat_base.specs.formats.Datum.{Datum, finite, infinite, nan}
-use Rattle.apfloat_base.specs.rounding.Negation.{negated}
+use Rattle.apfloat_model.specs.declared.kinds.NonfiniteBehavior.{NonfiniteBehavior}
+use Rattle.apfloat_model.specs.formats.Datum.{Datum, finite, infinite, nan}
+use Rattle.apfloat_model.specs.rounding.Negation.{negated}
 
 -- a NaN is not negated
 abbrev pub added : NonfiniteBehavior → Datum → Datum

@@ -1,14 +1,14 @@
 //! Classes of values (IEEE 754-2008 5.7.2).
 
 ghost use Rattle.std.specs.Prelude.{◌≡◌, ltb, true, false};
-ghost use Rattle.apfloat_base.specs.formats.Format.{smallest_normalized};
-ghost use Rattle.apfloat_base.specs.order.Classes.{is_denormal};
-ghost use Rattle.apfloat_unpacked.specs.Shapes.{format_at};
-ghost use Rattle.apfloat_unpacked.specs.Stored.{IsStored, IsNormal, quanta_of, datum_at};
+ghost use Rattle.apfloat_model.specs.formats.Format.{smallest_normalized};
+ghost use Rattle.apfloat_model.specs.order.Classes.{is_denormal};
+ghost use Rattle.apfloat_rounding.specs.Shapes.{format_at};
+ghost use Rattle.apfloat_rounding.specs.Stored.{IsStored, IsNormal, quanta_of, datum_at};
 
-use apfloat_base::Category;
-use apfloat_unpacked::shape::Shape;
-use apfloat_unpacked::unpacked::Unpacked;
+use apfloat_model::Category;
+use apfloat_rounding::shape::Shape;
+use apfloat_rounding::unpacked::Unpacked;
 
 /// Whether a number is below the smallest one whose significand has all digits.
 #[inline(always)]

@@ -1,17 +1,17 @@
 //! Results that need no rounding: zeros and infinities.
 
 ghost use Rattle.std.specs.Prelude.{◌≡◌, ℕ, ◌<◌};
-ghost use Rattle.apfloat_base.specs.declared.kinds.NonfiniteBehavior.TheVariants.{IEEE754};
-ghost use Rattle.apfloat_base.specs.declared.kinds.Round.{Round};
-ghost use Rattle.apfloat_base.specs.formats.Datum.{infinite};
-ghost use Rattle.apfloat_base.specs.rounding.Answer.{IsAnswer};
-ghost use Rattle.apfloat_base.specs.rounding.Rounding.{ok_bits, signed_quanta, IsDelivered};
-ghost use Rattle.apfloat_unpacked.specs.Shapes.{format_at};
-ghost use Rattle.apfloat_unpacked.specs.Stored.{IsStored, GivesAt};
+ghost use Rattle.apfloat_model.specs.declared.kinds.NonfiniteBehavior.TheVariants.{IEEE754};
+ghost use Rattle.apfloat_model.specs.declared.kinds.Round.{Round};
+ghost use Rattle.apfloat_model.specs.formats.Datum.{infinite};
+ghost use Rattle.apfloat_model.specs.rounding.Answer.{IsAnswer};
+ghost use Rattle.apfloat_model.specs.rounding.Rounding.{ok_bits, signed_quanta, IsDelivered};
+ghost use Rattle.apfloat_rounding.specs.Shapes.{format_at};
+ghost use Rattle.apfloat_rounding.specs.Stored.{IsStored, GivesAt};
 
-use apfloat_base::{Status, StatusAnd};
-use apfloat_unpacked::shape::Shape;
-use apfloat_unpacked::unpacked::{Unpacked, infinity_of, zero_of};
+use apfloat_model::{Status, StatusAnd};
+use apfloat_rounding::shape::Shape;
+use apfloat_rounding::unpacked::{Unpacked, infinity_of, zero_of};
 
 /// An exact zero, with that sign if the format has that zero.
 #[inline(always)]

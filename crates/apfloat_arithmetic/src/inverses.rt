@@ -2,14 +2,14 @@
 
 ghost use Rattle.std.specs.Prelude.{◌≡◌, Some, true, false};
 ghost use Rattle.std.specs.Option.{option_map};
-ghost use Rattle.apfloat_base.specs.arithmetic.Exponents.{IsExactInverse};
-ghost use Rattle.apfloat_unpacked.specs.Shapes.{format_at};
-ghost use Rattle.apfloat_unpacked.specs.Stored.{IsStored, IsNormal, datum_at};
+ghost use Rattle.apfloat_model.specs.arithmetic.Exponents.{IsExactInverse};
+ghost use Rattle.apfloat_rounding.specs.Shapes.{format_at};
+ghost use Rattle.apfloat_rounding.specs.Stored.{IsStored, IsNormal, datum_at};
 ghost use Rattle.apfloat_arithmetic.specs.ExactInverseParts.{IsInvertible};
 
-use apfloat_base::Category;
-use apfloat_unpacked::shape::Shape;
-use apfloat_unpacked::unpacked::Unpacked;
+use apfloat_model::Category;
+use apfloat_rounding::shape::Shape;
+use apfloat_rounding::unpacked::Unpacked;
 
 /// Whether a number is a power of two, and neither it nor its inverse is denormal or too large for the format.
 #[inline(always)]

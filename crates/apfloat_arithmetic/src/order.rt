@@ -3,14 +3,14 @@
 ghost use Rattle.std.specs.Prelude.{◌≡◌};
 ghost use Rattle.std.specs.Bool.{Decides};
 ghost use Rattle.std.specs.Ordering.{nat_cmp, int_cmp};
-ghost use Rattle.apfloat_base.specs.order.Classes.{is_nan, same_datum};
-ghost use Rattle.apfloat_base.specs.order.Order.{number, compared};
-ghost use Rattle.apfloat_unpacked.specs.declared.shape.Shape.{Shape};
-ghost use Rattle.apfloat_unpacked.specs.Stored.{IsNormal, IsStored, datum_at, quanta_of};
+ghost use Rattle.apfloat_model.specs.order.Classes.{is_nan, same_datum};
+ghost use Rattle.apfloat_model.specs.order.Order.{number, compared};
+ghost use Rattle.apfloat_rounding.specs.declared.shape.Shape.{Shape};
+ghost use Rattle.apfloat_rounding.specs.Stored.{IsNormal, IsStored, datum_at, quanta_of};
 ghost use Rattle.apfloat_arithmetic.specs.Sides.{side};
 
-use apfloat_base::Category;
-use apfloat_unpacked::unpacked::Unpacked;
+use apfloat_model::Category;
+use apfloat_rounding::unpacked::Unpacked;
 use std::cmp::Ordering;
 
 /// The order of the magnitudes of two nonzero numbers: their significands have all digits, so the exponents are

@@ -1,26 +1,26 @@
 //! Quotients.
 
 ghost use Rattle.std.specs.Prelude.{◌≡◌, ◌+◌, ◌-◌, ◌*◌, ◌^◌, ◌<◌, ◌≤◌};
-ghost use Rattle.apfloat_base.specs.arithmetic.Exact.{product_sign};
-ghost use Rattle.apfloat_base.specs.rounding.Rounding.{IsDelivered};
-ghost use Rattle.apfloat_base.specs.rounding.RoundingToOdd.{odd_quotient};
-ghost use Rattle.apfloat_base.specs.arithmetic.Quotients.{IsQuotient};
-ghost use Rattle.apfloat_unpacked.specs.Shapes.{format_at};
-ghost use Rattle.apfloat_unpacked.specs.Stored.{IsStored, IsNormal, quanta_of, datum_at, GivesAt};
+ghost use Rattle.apfloat_model.specs.arithmetic.Exact.{product_sign};
+ghost use Rattle.apfloat_model.specs.rounding.Rounding.{IsDelivered};
+ghost use Rattle.apfloat_model.specs.rounding.RoundingToOdd.{odd_quotient};
+ghost use Rattle.apfloat_model.specs.arithmetic.Quotients.{IsQuotient};
+ghost use Rattle.apfloat_rounding.specs.Shapes.{format_at};
+ghost use Rattle.apfloat_rounding.specs.Stored.{IsStored, IsNormal, quanta_of, datum_at, GivesAt};
 
 use crate::classes::are_normal;
 use crate::products::product_sign;
 use crate::specials::{Operation, special};
-use apfloat_base::sig::{
+use apfloat_model::{Round, StatusAnd};
+use apfloat_rounding::exponents::quotient_exponent;
+use apfloat_rounding::rounding::deliver;
+use apfloat_rounding::rounding::from_word::deliver_word_digits;
+use apfloat_rounding::shape::Shape;
+use apfloat_rounding::unpacked::Unpacked;
+use apfloat_words::{
     NEAR_LIMIT, WORD_LIMIT, divide_by_words, divide_short_by_guess, divide_word,
     divide_word_by_guess, guess_quotient,
 };
-use apfloat_base::{Round, StatusAnd};
-use apfloat_unpacked::exponents::quotient_exponent;
-use apfloat_unpacked::rounding::deliver;
-use apfloat_unpacked::rounding::from_word::deliver_word_digits;
-use apfloat_unpacked::shape::Shape;
-use apfloat_unpacked::unpacked::Unpacked;
 
 /// By how many places a dividend is moved up to be at least the divisor.
 #[inline(always)]

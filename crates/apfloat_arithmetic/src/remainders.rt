@@ -6,22 +6,22 @@
 //! digit of the least number whose significand has all its digits.
 
 ghost use Rattle.std.specs.Prelude.{◌≡◌, ℕ, ◌+◌, ◌-◌, ◌*◌, ◌/◌, ◌%◌, ◌^◌, ◌<◌, ◌≤◌, ◌⊎◌, false, eqb, count_ones, cond, ℤ, pos, ◌≤ℤ◌, ◌+ℤ◌, ◌-ℤ◌};
-ghost use Rattle.apfloat_base.specs.declared.kinds.Round.{Round};
-ghost use Rattle.apfloat_base.specs.rounding.Bounds.{place_bound};
-ghost use Rattle.apfloat_base.specs.rounding.Answer.{IsAnswer};
-ghost use Rattle.apfloat_base.specs.rounding.Rounding.{ok_bits, takes_above};
-ghost use Rattle.apfloat_base.specs.arithmetic.Exponents.{IsIlogb};
-ghost use Rattle.apfloat_base.specs.arithmetic.Remainders.{truncated_quotient, nearest_quotient, rest_of, IsTruncatedRemainder, IsNearestRemainder, ones_of_quotient};
-ghost use Rattle.apfloat_unpacked.specs.Shapes.{format_at};
-ghost use Rattle.apfloat_unpacked.specs.Stored.{IsOperand, IsNormal, IsStored, datum_at, quanta_of, GivesAt};
+ghost use Rattle.apfloat_model.specs.declared.kinds.Round.{Round};
+ghost use Rattle.apfloat_model.specs.rounding.Bounds.{place_bound};
+ghost use Rattle.apfloat_model.specs.rounding.Answer.{IsAnswer};
+ghost use Rattle.apfloat_model.specs.rounding.Rounding.{ok_bits, takes_above};
+ghost use Rattle.apfloat_model.specs.arithmetic.Exponents.{IsIlogb};
+ghost use Rattle.apfloat_model.specs.arithmetic.Remainders.{truncated_quotient, nearest_quotient, rest_of, IsTruncatedRemainder, IsNearestRemainder, ones_of_quotient};
+ghost use Rattle.apfloat_rounding.specs.Shapes.{format_at};
+ghost use Rattle.apfloat_rounding.specs.Stored.{IsOperand, IsNormal, IsStored, datum_at, quanta_of, GivesAt};
 ghost use Rattle.apfloat_arithmetic.specs.Magnitudes.{units_of, HasAllDigits};
 
 use crate::classes::are_normal;
 use crate::specials::{Operation, special};
-use apfloat_base::sig::{MovedRest, digits, moved_rest, short_moved_rest};
-use apfloat_base::{ExpInt, Status, StatusAnd};
-use apfloat_unpacked::shape::Shape;
-use apfloat_unpacked::unpacked::{Unpacked, from_quanta};
+use apfloat_model::{ExpInt, Status, StatusAnd};
+use apfloat_rounding::shape::Shape;
+use apfloat_rounding::unpacked::{Unpacked, from_quanta};
+use apfloat_words::{MovedRest, digits, moved_rest, short_moved_rest};
 
 /// `significand * 2^place` units.
 #[derive(Clone, Copy, Debug)]

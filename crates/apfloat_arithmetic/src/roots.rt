@@ -1,18 +1,18 @@
 //! Square roots.
 
 ghost use Rattle.std.specs.Prelude.{◌≡◌, ◌-◌, ◌*◌, ◌^◌, ◌<◌, ◌≤◌, pos, ◌+ℤ◌, true, false};
-ghost use Rattle.apfloat_base.specs.rounding.Bounds.{IsWithin, number_bound};
-ghost use Rattle.apfloat_base.specs.arithmetic.Roots.{IsDeliveredRoot, IsRoot};
-ghost use Rattle.apfloat_unpacked.specs.Shapes.{format_at};
-ghost use Rattle.apfloat_unpacked.specs.Stored.{IsStored, IsNormal, quanta_of, datum_at, GivesAt};
+ghost use Rattle.apfloat_model.specs.rounding.Bounds.{IsWithin, number_bound};
+ghost use Rattle.apfloat_model.specs.arithmetic.Roots.{IsDeliveredRoot, IsRoot};
+ghost use Rattle.apfloat_rounding.specs.Shapes.{format_at};
+ghost use Rattle.apfloat_rounding.specs.Stored.{IsStored, IsNormal, quanta_of, datum_at, GivesAt};
 
 use crate::specials::{Operation, special};
-use apfloat_base::sig::root_of;
-use apfloat_base::{Category, ExpInt, Round, StatusAnd};
-use apfloat_unpacked::exponents::root_exponent;
-use apfloat_unpacked::rounding::deliver;
-use apfloat_unpacked::shape::Shape;
-use apfloat_unpacked::unpacked::Unpacked;
+use apfloat_model::{Category, ExpInt, Round, StatusAnd};
+use apfloat_rounding::exponents::root_exponent;
+use apfloat_rounding::rounding::deliver;
+use apfloat_rounding::shape::Shape;
+use apfloat_rounding::unpacked::Unpacked;
+use apfloat_words::root_of;
 
 /// Half of an exponent, rounded down, and 1 if it is odd.
 #[derive(Clone, Copy, Debug)]

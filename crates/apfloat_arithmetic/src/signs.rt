@@ -1,12 +1,12 @@
 //! Negation (IEEE 754-2008 5.5.1).
 
 ghost use Rattle.std.specs.Prelude.{◌≡◌, not};
-ghost use Rattle.apfloat_base.specs.rounding.Negation.{negated};
-ghost use Rattle.apfloat_unpacked.specs.Stored.{IsStored, datum_at};
+ghost use Rattle.apfloat_model.specs.rounding.Negation.{negated};
+ghost use Rattle.apfloat_rounding.specs.Stored.{IsStored, datum_at};
 
-use apfloat_base::Category;
-use apfloat_unpacked::shape::Shape;
-use apfloat_unpacked::unpacked::{Unpacked, nan_of, zero_of};
+use apfloat_model::Category;
+use apfloat_rounding::shape::Shape;
+use apfloat_rounding::unpacked::{Unpacked, nan_of, zero_of};
 
 /// The negated value; a zero or a NaN is unchanged if the format has no signs for it.
 #[inline(always)]

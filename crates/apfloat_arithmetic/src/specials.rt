@@ -5,30 +5,30 @@
 //! The mode matters for the sign of a sum of zeros, and where a fused sum is a product alone.
 
 ghost use Rattle.std.specs.Prelude.{◌≡◌, ℕ, ◌*◌, ◌<◌, ◌⊎◌, true, Bool};
-ghost use Rattle.apfloat_base.specs.declared.kinds.Category.{Category};
-ghost use Rattle.apfloat_base.specs.declared.kinds.Round.{Round};
-ghost use Rattle.apfloat_base.specs.formats.Constants.{infinity_of};
-ghost use Rattle.apfloat_base.specs.formats.Datum.{finite, infinite};
-ghost use Rattle.apfloat_base.specs.rounding.Answer.{IsAnswer};
-ghost use Rattle.apfloat_base.specs.arithmetic.Exact.{product_sign};
-ghost use Rattle.apfloat_base.specs.arithmetic.Sums.{IsSum};
-ghost use Rattle.apfloat_base.specs.arithmetic.Products.{IsProduct};
-ghost use Rattle.apfloat_base.specs.arithmetic.Quotients.{IsQuotient, div_by_zero_bit};
-ghost use Rattle.apfloat_base.specs.arithmetic.FusedSums.{IsFusedSum, IsSumWithProduct};
-ghost use Rattle.apfloat_base.specs.arithmetic.Roots.{IsRoot};
-ghost use Rattle.apfloat_base.specs.arithmetic.Remainders.{IsRemainder};
-ghost use Rattle.apfloat_unpacked.specs.Shapes.{format_at};
-ghost use Rattle.apfloat_unpacked.specs.Stored.{IsStored, IsNormal, datum_at, number_of, GivesAt};
+ghost use Rattle.apfloat_model.specs.declared.kinds.Category.{Category};
+ghost use Rattle.apfloat_model.specs.declared.kinds.Round.{Round};
+ghost use Rattle.apfloat_model.specs.formats.Constants.{infinity_of};
+ghost use Rattle.apfloat_model.specs.formats.Datum.{finite, infinite};
+ghost use Rattle.apfloat_model.specs.rounding.Answer.{IsAnswer};
+ghost use Rattle.apfloat_model.specs.arithmetic.Exact.{product_sign};
+ghost use Rattle.apfloat_model.specs.arithmetic.Sums.{IsSum};
+ghost use Rattle.apfloat_model.specs.arithmetic.Products.{IsProduct};
+ghost use Rattle.apfloat_model.specs.arithmetic.Quotients.{IsQuotient, div_by_zero_bit};
+ghost use Rattle.apfloat_model.specs.arithmetic.FusedSums.{IsFusedSum, IsSumWithProduct};
+ghost use Rattle.apfloat_model.specs.arithmetic.Roots.{IsRoot};
+ghost use Rattle.apfloat_model.specs.arithmetic.Remainders.{IsRemainder};
+ghost use Rattle.apfloat_rounding.specs.Shapes.{format_at};
+ghost use Rattle.apfloat_rounding.specs.Stored.{IsStored, IsNormal, datum_at, number_of, GivesAt};
 ghost use Rattle.apfloat_arithmetic.specs.SpecialOperands.{HasSpecials, IsResult};
 
 use crate::exact::{exact_infinity, exact_zero};
 use crate::products::product_sign;
 use crate::sums::sign_of_zero;
 use crate::wide_products::wide_multiply_numbers;
-use apfloat_base::{Category, Round, Status, StatusAnd};
-use apfloat_unpacked::nans::{invalid, propagated, propagated_left};
-use apfloat_unpacked::shape::Shape;
-use apfloat_unpacked::unpacked::{Unpacked, infinity_of, remade, zero_of};
+use apfloat_model::{Category, Round, Status, StatusAnd};
+use apfloat_rounding::nans::{invalid, propagated, propagated_left};
+use apfloat_rounding::shape::Shape;
+use apfloat_rounding::unpacked::{Unpacked, infinity_of, remade, zero_of};
 
 /// An operation with its operands.
 #[derive(Clone, Copy, Debug)]

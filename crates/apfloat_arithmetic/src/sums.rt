@@ -1,27 +1,27 @@
 //! Sums and differences, rounded once (IEEE 754-2008 5.4.1, 6.1, 6.3).
 
 ghost use Rattle.std.specs.Prelude.{◌≡◌, ◌≤◌, pos, ◌+ℤ◌};
-ghost use Rattle.apfloat_base.specs.arithmetic.Exact.{signed, IsRounded};
-ghost use Rattle.apfloat_base.specs.arithmetic.Sums.{zero_sum_sign, IsSum, IsDifference};
-ghost use Rattle.apfloat_base.specs.arithmetic.Wides.{whole};
+ghost use Rattle.apfloat_model.specs.arithmetic.Exact.{signed, IsRounded};
+ghost use Rattle.apfloat_model.specs.arithmetic.Sums.{zero_sum_sign, IsSum, IsDifference};
+ghost use Rattle.apfloat_words.specs.Wides.{whole};
 ghost use Rattle.apfloat_arithmetic.specs.Subtrahends.{added};
-ghost use Rattle.apfloat_unpacked.specs.Shapes.{format_at};
-ghost use Rattle.apfloat_unpacked.specs.Stored.{IsNormal, IsStored, datum_at, quanta_of, GivesAt};
+ghost use Rattle.apfloat_rounding.specs.Shapes.{format_at};
+ghost use Rattle.apfloat_rounding.specs.Stored.{IsNormal, IsStored, datum_at, quanta_of, GivesAt};
 
 use crate::classes::are_normal;
 use crate::signs::negated;
 use crate::specials::{Operation, special};
-use apfloat_base::sig::{
-    Loss, Term, Total, U128_LIMIT, WORD_LIMIT, Wide, WideTerm, add_u128_terms, add_wide_terms,
+use apfloat_model::{Category, Loss, Round, StatusAnd};
+use apfloat_rounding::exponents::last_exponent;
+use apfloat_rounding::rounding::deliver;
+use apfloat_rounding::rounding::from_u128::deliver_u128;
+use apfloat_rounding::rounding::from_word::deliver_word;
+use apfloat_rounding::shape::Shape;
+use apfloat_rounding::unpacked::{Unpacked, remade};
+use apfloat_words::{
+    Term, Total, U128_LIMIT, WORD_LIMIT, Wide, WideTerm, add_u128_terms, add_wide_terms,
     add_word_terms, is_zero,
 };
-use apfloat_base::{Category, Round, StatusAnd};
-use apfloat_unpacked::exponents::last_exponent;
-use apfloat_unpacked::rounding::deliver;
-use apfloat_unpacked::rounding::from_u128::deliver_u128;
-use apfloat_unpacked::rounding::from_word::deliver_word;
-use apfloat_unpacked::shape::Shape;
-use apfloat_unpacked::unpacked::{Unpacked, remade};
 
 /// The number as a term, with the exponent of its last digit.
 #[inline(always)]

@@ -1,13 +1,12 @@
 //! The trait of conversions between two floating-point types.
 
 ghost use Rattle.std.specs.Prelude.{Bool};
-ghost use Rattle.apfloat_base.specs.declared.kinds.Round.{Round};
-ghost use Rattle.apfloat_base.specs.declared.kinds.Round.TheVariants.{NearestTiesToEven};
-ghost use Rattle.apfloat_base.specs.declared.status.StatusAnd.{StatusAnd};
+ghost use Rattle.apfloat_model.specs.declared.kinds.Round.{Round};
+ghost use Rattle.apfloat_model.specs.declared.kinds.Round.TheVariants.{NearestTiesToEven};
+ghost use Rattle.apfloat_model.specs.declared.status.StatusAnd.{StatusAnd};
 
 use crate::float::Float;
-use crate::kinds::Round;
-use crate::status::StatusAnd;
+use apfloat_model::{Round, StatusAnd};
 
 /// A type whose values convert to `T`.
 ///

@@ -3,23 +3,21 @@
 ghost use Rattle.std.specs.Prelude.{◌≡◌, ℕ, ℤ, pos, neg_ℤ, ◌-◌, ◌^◌, ◌<◌, ◌≤◌, Bool, true, false, IsTrue, Option, not, if◌then◌else◌, List, Result, ◌&&◌};
 ghost use Rattle.std.specs.declared.cmp.Ordering.{Ordering};
 ghost use Rattle.std.specs.Option.{unwrap_or};
-ghost use Rattle.apfloat_base.specs.arithmetic.Exact.{same_sign};
-ghost use Rattle.apfloat_base.specs.rounding.Negation.{swapped};
-ghost use Rattle.apfloat_base.specs.declared.kinds.Category.{Category};
-ghost use Rattle.apfloat_base.specs.declared.kinds.Round.{Round};
-ghost use Rattle.apfloat_base.specs.declared.kinds.Round.TheVariants.{NearestTiesToEven, TowardZero};
-ghost use Rattle.apfloat_base.specs.order.Classes.{is_nan_category, is_finite_non_zero_category};
-ghost use Rattle.apfloat_base.specs.declared.parse_error.ParseError.{ParseError};
-ghost use Rattle.apfloat_base.specs.order.Predicates.{is_zero_category, is_infinite_category, is_finite_category, min_by, max_by, minimum_by, maximum_by, signed_like};
-ghost use Rattle.apfloat_base.specs.declared.status.StatusAnd.{StatusAnd};
-ghost use Rattle.apfloat_base.specs.texts.Parsing.{without_status};
-ghost use Rattle.apfloat_base.specs.rounding.Flags.{bits_of};
-ghost use Rattle.apfloat_base.specs.whole_numbers.SignedWholes.{IsNegatedWhole};
-ghost use Rattle.apfloat_base.specs.Determined.{IsDetermined};
+ghost use Rattle.apfloat_model.specs.arithmetic.Exact.{same_sign};
+ghost use Rattle.apfloat_model.specs.rounding.Negation.{swapped};
+ghost use Rattle.apfloat_model.specs.declared.kinds.Category.{Category};
+ghost use Rattle.apfloat_model.specs.declared.kinds.Round.{Round};
+ghost use Rattle.apfloat_model.specs.declared.kinds.Round.TheVariants.{NearestTiesToEven, TowardZero};
+ghost use Rattle.apfloat_model.specs.order.Classes.{is_nan_category, is_finite_non_zero_category};
+ghost use Rattle.apfloat_model.specs.declared.parse_error.ParseError.{ParseError};
+ghost use Rattle.apfloat_model.specs.order.Predicates.{is_zero_category, is_infinite_category, is_finite_category, min_by, max_by, minimum_by, maximum_by, signed_like};
+ghost use Rattle.apfloat_model.specs.declared.status.StatusAnd.{StatusAnd};
+ghost use Rattle.apfloat_model.specs.texts.Parsing.{without_status};
+ghost use Rattle.apfloat_model.specs.rounding.Flags.{bits_of};
+ghost use Rattle.apfloat_model.specs.whole_numbers.SignedWholes.{IsNegatedWhole};
+ghost use Rattle.apfloat_model.specs.Determined.{IsDetermined};
 
-use crate::kinds::{Category, ExpInt, Round};
-use crate::parse_error::ParseError;
-use crate::status::{Status, StatusAnd};
+use apfloat_model::{Category, ExpInt, ParseError, Round, Status, StatusAnd};
 use std::cmp::Ordering;
 use std::ops::{
     Add, AddAssign, Div, DivAssign, Mul, MulAssign, Neg, Rem, RemAssign, Sub, SubAssign,

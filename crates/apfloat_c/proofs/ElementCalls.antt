@@ -4,8 +4,8 @@ use Rattle.std.specs.Prelude.{slice_range}
 use Rattle.std.proofs.Math.Path.{subst₃}
 use Rattle.std.proofs.lemmas.List.{length_push}
 use borrow.Rule.Slice.PartMut.{put_mid}
-use Rattle.value_blocks.specs.Bytes.{number_of}
-use Rattle.value_blocks.proofs.Places.{count_push, places_more}
+use Rattle.array_conversions.specs.Bytes.{number_of}
+use Rattle.array_conversions.proofs.Places.{count_push, places_more}
 use Rattle.apfloat_c.specs.declared.array_calls.MapCall.{MapCall}
 use Rattle.apfloat_c.specs.declared.array_data.Element.{Element}
 use Rattle.apfloat_c.specs.declared.array_data.ElementCounts.{ElementCounts}

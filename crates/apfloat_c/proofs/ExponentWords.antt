@@ -9,7 +9,7 @@ use Rattle.rustc_apfloat.specs.Datum.{Datum, finite, infinite, nan}
 use Rattle.rustc_apfloat.specs.Exponents.{IsFraction, IsFrexp}
 use Rattle.rustc_apfloat.specs.Lawful.{Constants, IsLawful, format_with}
 use Rattle.rustc_apfloat.specs.Members.{IsMember}
-use Rattle.apfloat_base.proofs.arithmetic.FractionExponents.{exponent_within}
+use Rattle.apfloat_model.proofs.arithmetic.FractionExponents.{exponent_within}
 
 -- the constants of a lawful format are far below 2 ^ 31
 past_all : (constants : Constants) → IsLawful constants

@@ -16,25 +16,25 @@ use Rattle.rustc_apfloat.specs.Pairs.{Pair}
 use Rattle.rustc_apfloat.specs.PairAnswers.{OncePair}
 use Rattle.rustc_apfloat.specs.PairCalls.{IsPairExactInverse}
 use Rattle.rustc_apfloat.specs.PairRoots.{IsPairRoot}
-use Rattle.apfloat_base.proofs.Determined.{determined, gives_once, same_answer, scale_some}
-use Rattle.apfloat_base.proofs.formats.OtherFlags.{other_flags}
-use Rattle.apfloat_base.proofs.bits.Encodings.{lawful_interchange}
-use Rattle.apfloat_base.proofs.Once.{OnceWith, conversion_once, fused_sum_once, root_once}
+use Rattle.apfloat_model.proofs.Determined.{determined, gives_once, same_answer, scale_some}
+use Rattle.apfloat_model.proofs.formats.OtherFlags.{other_flags}
+use Rattle.apfloat_model.proofs.bits.Encodings.{lawful_interchange}
+use Rattle.apfloat_model.proofs.Once.{OnceWith, conversion_once, fused_sum_once, root_once}
 use Rattle.apfloat_pair_theory.proofs.calls.PairsDetermined.{pairs_determined}
 use Rattle.apfloat_pair_theory.proofs.calls.PairsOnce.{wide_answer_once}
 use Rattle.apfloat_c.specs.declared.data.Answer.{Answer}
 use Rattle.apfloat_c.specs.declared.data.Halves.{Halves}
-use Rattle.dispatch.specs.declared.FlaggedFormat.{FlaggedFormat}
-use Rattle.dispatch.specs.declared.FlaggedFormat.TheVariants.{BuiltIn, AfterRounding, BeforeRounding}
-use Rattle.dispatch.specs.declared.FlaggedKind.{FlaggedKind}
-use Rattle.dispatch.specs.declared.FlaggedKind.TheVariants.{OfFormat, Pairs}
-use Rattle.dispatch.specs.declared.BuiltInFormat.{BuiltInFormat}
-use Rattle.dispatch.specs.BuiltIns.{constants_in, known_format}
-use Rattle.dispatch.specs.FlaggedKinds.{flagged_constants, flagged_kind_of, format_of_ieee}
-use Rattle.dispatch.specs.Once.{AreDetermined}
-use Rattle.dispatch.specs.Relations.{Relations, in_format, in_pairs}
-use Rattle.dispatch.specs.ValueKinds.{Kind, of_format, of_pairs, value_of}
-use Rattle.dispatch.proofs.OfTwoOnce.{of_two_once}
+use Rattle.formats_at_run_time.specs.declared.FlaggedFormat.{FlaggedFormat}
+use Rattle.formats_at_run_time.specs.declared.FlaggedFormat.TheVariants.{BuiltIn, AfterRounding, BeforeRounding}
+use Rattle.formats_at_run_time.specs.declared.FlaggedKind.{FlaggedKind}
+use Rattle.formats_at_run_time.specs.declared.FlaggedKind.TheVariants.{OfFormat, Pairs}
+use Rattle.formats_at_run_time.specs.declared.BuiltInFormat.{BuiltInFormat}
+use Rattle.formats_at_run_time.specs.BuiltIns.{constants_in, known_format}
+use Rattle.formats_at_run_time.specs.FlaggedKinds.{flagged_constants, flagged_kind_of, format_of_ieee}
+use Rattle.formats_at_run_time.specs.Once.{AreDetermined}
+use Rattle.formats_at_run_time.specs.Relations.{Relations, in_format, in_pairs}
+use Rattle.formats_at_run_time.specs.ValueKinds.{Kind, of_format, of_pairs, value_of}
+use Rattle.formats_at_run_time.proofs.OfTwoOnce.{of_two_once}
 use Rattle.apfloat_c.specs.declared.exported_call.ExportedCall.{ExportedCall}
 use Rattle.apfloat_c.specs.declared.exported_call.ExportedCall.TheVariants.{OfTwo, FusedSum, SquareRoot, FromUnsigned, FromSigned, ToUnsigned, ToSigned, RoundToIntegral, Scaling, Fraction, Exponent, NextUp, NextDown, Comparison, Class, Conversion, Text}
 use Rattle.apfloat_c.specs.KnownCalls.{fault_in, known_call, without}

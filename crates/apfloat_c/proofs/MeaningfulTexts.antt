@@ -3,14 +3,14 @@ use mathlib.Core.Bool.{Bool}
 use Rattle.std.proofs.Common.{◌≡◌, ◌⊎◌, inl, inr, ℕ, ◌<◌, ◌≤◌, ◌^◌, ℤ, not, true, false, ◌&&◌, ◌||◌, cond, refl, ap, subst, ⊎_elim, arith, List, [], ◌∷◌, ◌++◌, take, drop, take-append-drop, codes, eqb, leb, ltb, Option, Some, None, is_some}
 use Rattle.std.specs.Char.{is_ascii}
 use Rattle.std.proofs.lemmas.Bool.{and_parts, and_from, or_cases, cond_both, eqb-true, leb-true, lt-ltb, false≢true}
-use Rattle.apfloat_base.specs.texts.Digits.{every, same, begins, is_empty, is_decimal, is_hexadecimal, number}
-use Rattle.apfloat_base.specs.texts.Specials.{Meaning, infinity, not_a_number, hexadecimal, mark_of, after_mark, is_minus, is_infinity, is_x, radix_of, after_prefix, after_plus, is_digit_of, base_of, number_of_digits, plain_payload, inside, in_parentheses, payload_of, with_payload, is_nan_name, named_nan, is_s, nan_meaning, special_meaning, special_of}
-use Rattle.apfloat_base.specs.texts.Texts.{IsHexadecimal, Means}
-use Rattle.apfloat_base.specs.declared.marks.Mark.{Mark}
-use Rattle.apfloat_base.specs.declared.marks.Mark.TheVariants.{Unmarked, Plus, Minus}
-use Rattle.apfloat_base.specs.declared.marks.Radix.{Radix}
-use Rattle.apfloat_base.specs.declared.marks.Radix.TheVariants.{Sixteen, Eight, Ten}
-use Rattle.apfloat_base.proofs.general.ListLaws.{every-append, append-every, every_weaker}
+use Rattle.apfloat_model.specs.texts.Digits.{every, same, begins, is_empty, is_decimal, is_hexadecimal, number}
+use Rattle.apfloat_model.specs.texts.Specials.{Meaning, infinity, not_a_number, hexadecimal, mark_of, after_mark, is_minus, is_infinity, is_x, radix_of, after_prefix, after_plus, is_digit_of, base_of, number_of_digits, plain_payload, inside, in_parentheses, payload_of, with_payload, is_nan_name, named_nan, is_s, nan_meaning, special_meaning, special_of}
+use Rattle.apfloat_model.specs.texts.Texts.{IsHexadecimal, Means}
+use Rattle.apfloat_model.specs.declared.marks.Mark.{Mark}
+use Rattle.apfloat_model.specs.declared.marks.Mark.TheVariants.{Unmarked, Plus, Minus}
+use Rattle.apfloat_model.specs.declared.marks.Radix.{Radix}
+use Rattle.apfloat_model.specs.declared.marks.Radix.TheVariants.{Sixteen, Eight, Ten}
+use Rattle.apfloat_model.proofs.general.ListLaws.{every-append, append-every, every_weaker}
 
 abbrev IsAllAscii : List ℕ → Type 0
 IsAllAscii text = every is_ascii text ≡ true

@@ -7,9 +7,9 @@ use Rattle.apfloat_decimals.specs.declared.decimal.Decimal.{Decimal}
 use Rattle.apfloat_decimals.specs.ShortestSearch.{IsShortestOf}
 use Rattle.apfloat_decimals.specs.Texts.{decimal_text}
 use Rattle.apfloat_decimals.proofs.shortest_decimals.OneShortest.{one_shortest}
-use Rattle.dispatch.specs.declared.BuiltInFormat.{BuiltInFormat}
-use Rattle.dispatch.specs.BuiltIns.{constants_in, known_format}
-use Rattle.dispatch.specs.ValueKinds.{value_of}
+use Rattle.formats_at_run_time.specs.declared.BuiltInFormat.{BuiltInFormat}
+use Rattle.formats_at_run_time.specs.BuiltIns.{constants_in, known_format}
+use Rattle.formats_at_run_time.specs.ValueKinds.{value_of}
 use Rattle.apfloat_c.specs.declared.decimals.DecimalText.{DecimalText}
 use Rattle.apfloat_c.specs.Decimals.{IsShortestWritten, IsText, IsValueText}
 

@@ -2,7 +2,7 @@
 use Rattle.std.proofs.Common.{◌≡◌, ℕ, Bool, true, false, List, None, Option, Some, refl, subst}
 use Rattle.std.proofs.lemmas.Bool.{and_right, false≢true, true≢false}
 use Rattle.std.specs.Char.{is_ascii}
-use Rattle.apfloat_base.specs.declared.parse_error.Fault.{Fault}
+use Rattle.apfloat_model.specs.declared.parse_error.Fault.{Fault}
 use Rattle.rustc_apfloat.specs.declared.Round.{Round}
 use Rattle.rustc_apfloat.specs.Digits.{every}
 use Rattle.rustc_apfloat.specs.Faults.{fault_of}
@@ -13,11 +13,11 @@ use Rattle.rustc_apfloat.specs.Members.{IsMember}
 use Rattle.rustc_apfloat.specs.PairFormats.{double}
 use Rattle.rustc_apfloat.specs.Pairs.{Pair, pair_of}
 use Rattle.apfloat_pair_theory.proofs.pairs.PairBits.{double_is_lawful}
-use Rattle.apfloat_base.proofs.texts.EachText.{no_fault_meaning}
+use Rattle.apfloat_model.proofs.texts.EachText.{no_fault_meaning}
 use Rattle.apfloat_c.proofs.ExponentWords.{frexp_fits}
 use Rattle.apfloat_c.proofs.MeaningfulTexts.{meaningful_ascii}
-use Rattle.dispatch.specs.Relations.{in_format, in_pairs}
-use Rattle.dispatch.specs.ValueKinds.{Kind, of_format, of_pairs, value_of}
+use Rattle.formats_at_run_time.specs.Relations.{in_format, in_pairs}
+use Rattle.formats_at_run_time.specs.ValueKinds.{Kind, of_format, of_pairs, value_of}
 use Rattle.apfloat_c.specs.declared.data.Answer.{Answer}
 use Rattle.apfloat_c.specs.declared.exported_call.ExportedCall.{ExportedCall}
 use Rattle.apfloat_c.specs.declared.exported_call.ExportedCall.TheVariants.{Conversion, Fraction, FusedSum}

@@ -14,11 +14,11 @@ use Rattle.rustc_apfloat.specs.Conversions.{IsConversion}
 use Rattle.rustc_apfloat.specs.Lawful.{Constants, format_with}
 use Rattle.apfloat_c.specs.declared.data.Halves.{Halves}
 use Rattle.apfloat_c.specs.declared.data.Answer.{Answer}
-use Rattle.dispatch.specs.declared.FlaggedKind.{FlaggedKind}
-use Rattle.dispatch.specs.FlaggedKinds.{flagged_kind_of}
-use Rattle.dispatch.specs.ValueKinds.{Kind, of_format, of_pairs, value_of}
-use Rattle.dispatch.specs.OfTwo.{IsOfTwo}
-use Rattle.dispatch.specs.Relations.{Relations, in_format, in_pairs}
+use Rattle.formats_at_run_time.specs.declared.FlaggedKind.{FlaggedKind}
+use Rattle.formats_at_run_time.specs.FlaggedKinds.{flagged_kind_of}
+use Rattle.formats_at_run_time.specs.ValueKinds.{Kind, of_format, of_pairs, value_of}
+use Rattle.formats_at_run_time.specs.OfTwo.{IsOfTwo}
+use Rattle.formats_at_run_time.specs.Relations.{Relations, in_format, in_pairs}
 use Rattle.apfloat_c.specs.declared.exported_call.ExportedCall.{ExportedCall}
 use Rattle.apfloat_c.specs.declared.exported_call.ExportedCall.TheVariants.{OfTwo, FusedSum, SquareRoot, FromUnsigned, FromSigned, ToUnsigned, ToSigned, RoundToIntegral, Scaling, Fraction, Exponent, NextUp, NextDown, Comparison, Class, Conversion, Text}
 use Rattle.apfloat_c.specs.KnownCalls.{KnownCall, answered, fault_in, type_fault}

@@ -1,15 +1,15 @@
 -- What a call on arrays asks for, or its error.
 use Rattle.std.specs.Prelude.{ℕ, ◌/◌, ◌%◌, ◌==◌, nat_le, Bool, true, false, ◌&&◌, if◌then◌else◌, Option, Some, None, ok_or, option_and_then, Result, Ok, Err}
 use Rattle.rustc_apfloat.specs.declared.Round.{Round}
-use Rattle.dispatch.specs.declared.Arithmetic.TheVariants.{Sum, Difference, Product, Quotient, NearestRemainder, TruncatedRemainder}
-use Rattle.dispatch.specs.declared.FlaggedKind.{FlaggedKind}
-use Rattle.dispatch.specs.declared.FlaggedKind.TheVariants.{OfFormat, Pairs}
-use Rattle.dispatch.specs.FlaggedKinds.{format_without_rule}
-use Rattle.dispatch.specs.Modes.{mode_coded}
-use Rattle.value_blocks.specs.declared.ArrayConversion.{ArrayConversion}
-use Rattle.value_blocks.specs.declared.Overflow.TheVariants.{Rounded, Saturated}
-use Rattle.value_blocks.specs.declared.Extended.TheVariants.{Packed}
-use Rattle.value_blocks.specs.Widths.{array_widths, width_of}
+use Rattle.formats_at_run_time.specs.declared.Arithmetic.TheVariants.{Sum, Difference, Product, Quotient, NearestRemainder, TruncatedRemainder}
+use Rattle.formats_at_run_time.specs.declared.FlaggedKind.{FlaggedKind}
+use Rattle.formats_at_run_time.specs.declared.FlaggedKind.TheVariants.{OfFormat, Pairs}
+use Rattle.formats_at_run_time.specs.FlaggedKinds.{format_without_rule}
+use Rattle.formats_at_run_time.specs.Modes.{mode_coded}
+use Rattle.array_conversions.specs.declared.ArrayConversion.{ArrayConversion}
+use Rattle.array_conversions.specs.declared.Overflow.TheVariants.{Rounded, Saturated}
+use Rattle.array_conversions.specs.declared.Extended.TheVariants.{Packed}
+use Rattle.array_conversions.specs.Widths.{array_widths, width_of}
 use Rattle.apfloat_c.specs.declared.array_calls.ConversionMode.{ConversionMode}
 use Rattle.apfloat_c.specs.declared.array_calls.ElementOperation.{ElementOperation}
 use Rattle.apfloat_c.specs.declared.array_calls.ElementOperation.TheVariants.{OfTwo, FusedSum, SquareRoot}

@@ -2,16 +2,16 @@
 use Rattle.std.specs.Prelude.{◌≡◌, ℕ, ◌+◌, ◌-◌, ◌*◌, ◌/◌, ◌^◌, ◌<◌, ◌==◌, bit_and, Bool, not, if◌then◌else◌, List, length, take, drop, count_by, Result, Ok, Err}
 use Rattle.rustc_apfloat.specs.Classes.{is_nan, is_nan_category}
 use Rattle.rustc_apfloat.specs.Pairs.{pair_category, pair_of}
-use Rattle.dispatch.specs.BuiltIns.{constants_in}
-use Rattle.dispatch.specs.FlaggedKinds.{flagged_constants, flagged_kind_of}
-use Rattle.dispatch.specs.ValueKinds.{Kind, of_format, of_pairs, value_of}
-use Rattle.value_blocks.specs.declared.ArrayConversion.{ArrayConversion}
-use Rattle.value_blocks.specs.declared.Counts.{Counts}
-use Rattle.value_blocks.specs.Blocks.{AreInPlaces, IsBlock, value_at}
-use Rattle.value_blocks.specs.Bytes.{number_of}
-use Rattle.value_blocks.specs.Outcomes.{HaveRoom, one_if}
-use Rattle.value_blocks.specs.Values.{IsConvertedBy}
-use Rattle.value_blocks.specs.Widths.{array_widths}
+use Rattle.formats_at_run_time.specs.BuiltIns.{constants_in}
+use Rattle.formats_at_run_time.specs.FlaggedKinds.{flagged_constants, flagged_kind_of}
+use Rattle.formats_at_run_time.specs.ValueKinds.{Kind, of_format, of_pairs, value_of}
+use Rattle.array_conversions.specs.declared.ArrayConversion.{ArrayConversion}
+use Rattle.array_conversions.specs.declared.Counts.{Counts}
+use Rattle.array_conversions.specs.Blocks.{AreInPlaces, IsBlock, value_at}
+use Rattle.array_conversions.specs.Bytes.{number_of}
+use Rattle.array_conversions.specs.Outcomes.{HaveRoom, one_if}
+use Rattle.array_conversions.specs.Values.{IsConvertedBy}
+use Rattle.array_conversions.specs.Widths.{array_widths}
 use Rattle.apfloat_c.specs.declared.data.Answer.{Answer}
 use Rattle.apfloat_c.specs.declared.array_data.ArrayAnswer.{ArrayAnswer}
 use Rattle.apfloat_c.specs.declared.array_data.Element.{Element}

@@ -12,16 +12,16 @@ use Rattle.apfloat_decimals.specs.DecimalTexts.{IsDecimalReading, decimal_fault_
 use Rattle.apfloat_decimals.specs.ShortestSearch.{IsShortestOf}
 use Rattle.apfloat_decimals.specs.Texts.{decimal_text, sign_text}
 use Rattle.pair_decimals.specs.PairReadings.{IsPairDecimalReading}
-use Rattle.dispatch.specs.declared.BuiltInFormat.{BuiltInFormat}
-use Rattle.dispatch.specs.declared.BuiltInKind.{BuiltInKind}
-use Rattle.dispatch.specs.declared.BuiltInKind.TheVariants.{OfFormat as OfBuiltIn, Pairs as PairsOfDoubles}
-use Rattle.dispatch.specs.declared.FlaggedFormat.TheVariants.{BuiltIn, AfterRounding, BeforeRounding}
-use Rattle.dispatch.specs.declared.FlaggedKind.{FlaggedKind}
-use Rattle.dispatch.specs.declared.FlaggedKind.TheVariants.{OfFormat, Pairs}
-use Rattle.dispatch.specs.BuiltIns.{constants_in, kind_of}
-use Rattle.dispatch.specs.FlaggedKinds.{format_without_rule}
-use Rattle.dispatch.specs.Relations.{in_format, in_pairs}
-use Rattle.dispatch.specs.ValueKinds.{Kind, of_format, of_pairs, value_of}
+use Rattle.formats_at_run_time.specs.declared.BuiltInFormat.{BuiltInFormat}
+use Rattle.formats_at_run_time.specs.declared.BuiltInKind.{BuiltInKind}
+use Rattle.formats_at_run_time.specs.declared.BuiltInKind.TheVariants.{OfFormat as OfBuiltIn, Pairs as PairsOfDoubles}
+use Rattle.formats_at_run_time.specs.declared.FlaggedFormat.TheVariants.{BuiltIn, AfterRounding, BeforeRounding}
+use Rattle.formats_at_run_time.specs.declared.FlaggedKind.{FlaggedKind}
+use Rattle.formats_at_run_time.specs.declared.FlaggedKind.TheVariants.{OfFormat, Pairs}
+use Rattle.formats_at_run_time.specs.BuiltIns.{constants_in, kind_of}
+use Rattle.formats_at_run_time.specs.FlaggedKinds.{format_without_rule}
+use Rattle.formats_at_run_time.specs.Relations.{in_format, in_pairs}
+use Rattle.formats_at_run_time.specs.ValueKinds.{Kind, of_format, of_pairs, value_of}
 use Rattle.apfloat_c.specs.declared.data.Answer.{Answer}
 use Rattle.apfloat_c.specs.declared.decimals.DecimalText.{DecimalText}
 use Rattle.apfloat_c.specs.Answers.{IsValue}

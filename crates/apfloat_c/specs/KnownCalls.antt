@@ -4,10 +4,10 @@ use Rattle.rustc_apfloat.specs.declared.Round.{Round}
 use Rattle.std.specs.Char.{is_ascii}
 use Rattle.rustc_apfloat.specs.Digits.{every}
 use Rattle.rustc_apfloat.specs.Faults.{fault_of}
-use Rattle.dispatch.specs.declared.FlaggedKind.{FlaggedKind}
-use Rattle.dispatch.specs.declared.FlaggedKind.TheVariants.{OfFormat, Pairs}
-use Rattle.dispatch.specs.FlaggedKinds.{flagged_kind_of}
-use Rattle.dispatch.specs.ValueKinds.{Kind, of_format, of_pairs}
+use Rattle.formats_at_run_time.specs.declared.FlaggedKind.{FlaggedKind}
+use Rattle.formats_at_run_time.specs.declared.FlaggedKind.TheVariants.{OfFormat, Pairs}
+use Rattle.formats_at_run_time.specs.FlaggedKinds.{flagged_kind_of}
+use Rattle.formats_at_run_time.specs.ValueKinds.{Kind, of_format, of_pairs}
 use Rattle.apfloat_c.specs.declared.exported_call.ExportedCall.{ExportedCall}
 use Rattle.apfloat_c.specs.declared.exported_call.ExportedCall.TheVariants.{FusedSum, ToUnsigned, ToSigned, Conversion, Text}
 

@@ -3,9 +3,9 @@
 
 ghost use Rattle.std.specs.Prelude.{◌≡◌, ◌<◌, pos};
 ghost use Rattle.rustc_apfloat.specs.FlaggedTypes.{constants_of};
-ghost use Rattle.dispatch.specs.declared.Arithmetic.TheVariants.{Sum, Difference, Product, Quotient, NearestRemainder, TruncatedRemainder};
-ghost use Rattle.dispatch.specs.Relations.{relations_of};
-ghost use Rattle.dispatch.specs.ValueKinds.{of_format, value_of};
+ghost use Rattle.formats_at_run_time.specs.declared.Arithmetic.TheVariants.{Sum, Difference, Product, Quotient, NearestRemainder, TruncatedRemainder};
+ghost use Rattle.formats_at_run_time.specs.Relations.{relations_of};
+ghost use Rattle.formats_at_run_time.specs.ValueKinds.{of_format, value_of};
 ghost use Rattle.apfloat_c.specs.declared.exported_call.ExportedCall.TheVariants.{OfTwo, FusedSum, SquareRoot, FromUnsigned, FromSigned, ToUnsigned, ToSigned, RoundToIntegral, Scaling, Fraction, Conversion, Text};
 ghost use Rattle.apfloat_c.specs.Answers.{FractionFits, IsConvertedInto, IsKindAnswer, IsLeft, IsNumber, IsTypeAnswer, IsTypeLeft, IsValue, IsWritten, class_of, order_code};
 
@@ -14,7 +14,7 @@ use crate::codes::{
     one_if, order_code,
 };
 use crate::data::Answer;
-use dispatch::{FillsInFormat, FlaggedKind, ValueType};
+use formats_at_run_time::{FillsInFormat, FlaggedKind, ValueType};
 use rustc_apfloat::ieee::{Flagged, IeeeFloat};
 use rustc_apfloat::{Float, FloatConvert, Round, Status, StatusAnd};
 use std::marker::PhantomData;

@@ -1,13 +1,13 @@
 //! What is asked of arrays, or the first error.
 
 ghost use Rattle.std.specs.Prelude.{◌≡◌, ◌≤◌};
-ghost use Rattle.dispatch.specs.Modes.{mode_coded};
+ghost use Rattle.formats_at_run_time.specs.Modes.{mode_coded};
 ghost use Rattle.apfloat_c.specs.ArrayCalls.{bytes_in, conversion_mode_coded, has_element_operation, known_array_conversion, known_map, lengths_fit, operands_fit, operands_of, operation_coded};
 
 use crate::codes::{NO_SUCH_OPERATION, UNKNOWN_FORMAT, UNKNOWN_MODE, WRONG_LENGTH};
-use dispatch::{Arithmetic, FlaggedFormat, FlaggedKind, mode_coded};
+use array_conversions::{ArrayConversion, Extended, Overflow, width};
+use formats_at_run_time::{Arithmetic, FlaggedFormat, FlaggedKind, mode_coded};
 use rustc_apfloat::Round;
-use value_blocks::{ArrayConversion, Extended, Overflow, width};
 
 /// A rounding mode, and what an overflow gives.
 #[derive(Clone, Copy)]

@@ -1,14 +1,14 @@
 //! The export that converts arrays, declared for C programs in `include/apfloat.h`.
 
 ghost use Rattle.std.specs.Prelude.{length};
-ghost use Rattle.dispatch.specs.FlaggedKinds.{flagged_kind_coded};
+ghost use Rattle.formats_at_run_time.specs.FlaggedKinds.{flagged_kind_coded};
 ghost use Rattle.apfloat_c.specs.ArrayCalls.{conversion_mode_coded, known_array_conversion};
 ghost use Rattle.apfloat_c.specs.Arrays.{IsConvertedArray};
 
 use crate::array_calls::{ConversionMode, conversion_mode_coded, known_array_conversion};
 use crate::array_data::{ArrayAnswer, ElementCounts};
 use crate::codes::ANSWERED;
-use dispatch::FlaggedKind;
+use formats_at_run_time::FlaggedKind;
 
 /// Converts each value of an array.
 #[unsafe(no_mangle)]

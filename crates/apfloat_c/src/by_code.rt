@@ -1,14 +1,14 @@
 //! Makes a call in the kind of values that a code names.
 
-ghost use Rattle.dispatch.specs.FlaggedKinds.{flagged_kind_coded};
-ghost use Rattle.dispatch.specs.Modes.{mode_coded};
+ghost use Rattle.formats_at_run_time.specs.FlaggedKinds.{flagged_kind_coded};
+ghost use Rattle.formats_at_run_time.specs.Modes.{mode_coded};
 ghost use Rattle.apfloat_c.specs.KnownCalls.{known_call};
 ghost use Rattle.apfloat_c.specs.Answers.{IsReturned};
 
 use crate::codes::UNKNOWN_FORMAT;
 use crate::data::Answer;
 use crate::operations::{InMode, InType, KindOperation, Operation};
-use dispatch::FlaggedKind;
+use formats_at_run_time::FlaggedKind;
 
 /// Computes a call in the values of a code, and returns 0 or the code of the first error; on an error the answer is
 /// unchanged.

@@ -5,10 +5,10 @@ ghost use Rattle.rustc_apfloat.specs.Lawful.{format_with};
 ghost use Rattle.rustc_apfloat.specs.Types.{constants_of, format_of};
 ghost use Rattle.apfloat_decimals.specs.ShortestSearch.{IsWithinQuad};
 ghost use Rattle.apfloat_decimals.specs.Texts.{sign_text};
-ghost use Rattle.dispatch.specs.FlaggedKinds.{flagged_kind_coded};
-ghost use Rattle.dispatch.specs.FormatKinds.{IfFormat};
-ghost use Rattle.dispatch.specs.Modes.{mode_coded};
-ghost use Rattle.dispatch.specs.Relations.{in_format, in_pairs};
+ghost use Rattle.formats_at_run_time.specs.FlaggedKinds.{flagged_kind_coded};
+ghost use Rattle.formats_at_run_time.specs.FormatKinds.{IfFormat};
+ghost use Rattle.formats_at_run_time.specs.Modes.{mode_coded};
+ghost use Rattle.formats_at_run_time.specs.Relations.{in_format, in_pairs};
 ghost use Rattle.apfloat_c.specs.Answers.{IsWritten, whole};
 ghost use Rattle.apfloat_c.specs.Decimals.{IsDecimalOutcome, IsKindText, IsParsed, IsShortestWritten, IsText, IsValueText, decimal_kind, known_reading, text_format};
 
@@ -17,7 +17,7 @@ use crate::codes::{ANSWERED, NO_SUCH_OPERATION, REFUSED_TEXT, UNKNOWN_FORMAT, UN
 use crate::data::{Answer, Halves};
 use apfloat_decimals::line::{CAPACITY, Line, line_of};
 use apfloat_decimals::{read_decimal, shortest};
-use dispatch::{BuiltInKind, FlaggedFormat, FlaggedKind, InFormat, InKind, mode_coded};
+use formats_at_run_time::{BuiltInKind, FlaggedFormat, FlaggedKind, InFormat, InKind, mode_coded};
 use pair_decimals::read_decimal_pair;
 use rustc_apfloat::ieee::{IeeeFloat, Semantics};
 use rustc_apfloat::ppc::DoubleDouble;

@@ -1,9 +1,9 @@
 //! Operations on arrays, element by element, by the calls on single values.
 
 ghost use Rattle.std.specs.Prelude.{◌≡◌, ◌⊎◌, ◌+◌, ◌*◌, ◌≤◌, Some, length, slice_range, true};
-ghost use Rattle.dispatch.specs.FlaggedKinds.{flagged_kind_coded, flagged_kind_of};
-ghost use Rattle.dispatch.specs.Modes.{mode_coded};
-ghost use Rattle.value_blocks.specs.Bytes.{number_of};
+ghost use Rattle.formats_at_run_time.specs.FlaggedKinds.{flagged_kind_coded, flagged_kind_of};
+ghost use Rattle.formats_at_run_time.specs.Modes.{mode_coded};
+ghost use Rattle.array_conversions.specs.Bytes.{number_of};
 ghost use Rattle.apfloat_c.specs.declared.exported_call.ExportedCall.TheVariants.{OfTwo};
 ghost use Rattle.apfloat_c.specs.Answers.{IsKindAnswer, whole};
 ghost use Rattle.apfloat_c.specs.ArrayCalls.{bytes_in, has_element_operation};
@@ -16,11 +16,11 @@ use crate::exports::{
     apfloat_add, apfloat_div, apfloat_fma, apfloat_mod, apfloat_mul, apfloat_rem, apfloat_sqrt,
     apfloat_sub,
 };
-use dispatch::{Arithmetic, FlaggedKind, InFlaggedFormat, InFlaggedKind};
+use array_conversions::{number_of, write_number};
+use formats_at_run_time::{Arithmetic, FlaggedKind, InFlaggedFormat, InFlaggedKind};
 use rustc_apfloat::Float;
 use rustc_apfloat::ieee::{Flagged, IeeeFloat};
 use rustc_apfloat::ppc::DoubleDouble;
-use value_blocks::{number_of, write_number};
 
 /// An operation on arrays, with the codes of its kind and its mode.
 #[derive(Clone, Copy)]

@@ -1,6 +1,6 @@
 //! What can be asked of a kind of values, as the contracts of calls name it.
 
-use dispatch::{Arithmetic, FlaggedKind};
+use formats_at_run_time::{Arithmetic, FlaggedKind};
 
 /// An operation with its operands, values by their bits.
 #[derive(Clone, Copy)]

@@ -1,8 +1,8 @@
 //! The export that makes operations on arrays, declared for C programs in `include/apfloat.h`.
 
 ghost use Rattle.std.specs.Prelude.{ℕ, length};
-ghost use Rattle.dispatch.specs.FlaggedKinds.{flagged_kind_coded};
-ghost use Rattle.dispatch.specs.Modes.{mode_coded};
+ghost use Rattle.formats_at_run_time.specs.FlaggedKinds.{flagged_kind_coded};
+ghost use Rattle.formats_at_run_time.specs.Modes.{mode_coded};
 ghost use Rattle.apfloat_c.specs.ArrayCalls.{known_map, operation_coded};
 ghost use Rattle.apfloat_c.specs.Arrays.{IsMappedArray};
 
@@ -10,7 +10,7 @@ use crate::array_calls::{bytes_in, known_map, operation_coded};
 use crate::array_data::ArrayAnswer;
 use crate::codes::ANSWERED;
 use crate::elements::CodedMap;
-use dispatch::{FlaggedKind, mode_coded};
+use formats_at_run_time::{FlaggedKind, mode_coded};
 
 /// Makes an operation on each element of an array, or on the elements of two or three arrays.
 #[unsafe(no_mangle)]

@@ -2,11 +2,11 @@
 
 ghost use Rattle.std.specs.Prelude.{◌<◌};
 ghost use Rattle.rustc_apfloat.specs.FlaggedTypes.{constants_of};
-ghost use Rattle.dispatch.specs.FlaggedKinds.{flagged_kind_coded};
-ghost use Rattle.dispatch.specs.Modes.{mode_coded};
-ghost use Rattle.dispatch.specs.Relations.{relations_of};
-ghost use Rattle.dispatch.specs.ValueKinds.{of_format, of_pairs};
-ghost use Rattle.dispatch.specs.declared.Arithmetic.TheVariants.{Sum, Difference, Product, Quotient, NearestRemainder, TruncatedRemainder};
+ghost use Rattle.formats_at_run_time.specs.FlaggedKinds.{flagged_kind_coded};
+ghost use Rattle.formats_at_run_time.specs.Modes.{mode_coded};
+ghost use Rattle.formats_at_run_time.specs.Relations.{relations_of};
+ghost use Rattle.formats_at_run_time.specs.ValueKinds.{of_format, of_pairs};
+ghost use Rattle.formats_at_run_time.specs.declared.Arithmetic.TheVariants.{Sum, Difference, Product, Quotient, NearestRemainder, TruncatedRemainder};
 ghost use Rattle.apfloat_c.specs.declared.exported_call.ExportedCall.{ExportedCall};
 ghost use Rattle.apfloat_c.specs.declared.exported_call.ExportedCall.TheVariants.{OfTwo, FusedSum, SquareRoot, FromUnsigned, FromSigned, ToUnsigned, ToSigned, RoundToIntegral, Scaling, Fraction, Exponent, NextUp, NextDown, Comparison, Class, Conversion, Text};
 ghost use Rattle.apfloat_c.specs.Answers.{IsLeft, IsReturned, IsTypeLeft};
@@ -19,7 +19,7 @@ use crate::answers::{
 };
 use crate::codes::{ANSWERED, NO_SUCH_OPERATION, UNKNOWN_FORMAT, UNKNOWN_MODE};
 use crate::data::Answer;
-use dispatch::{FillsInFormat, FillsInKind, FlaggedKind, ValueType, mode_coded};
+use formats_at_run_time::{FillsInFormat, FillsInKind, FlaggedKind, ValueType, mode_coded};
 use rustc_apfloat::ieee::{Flagged, IeeeFloat};
 use rustc_apfloat::ppc::DoubleDouble;
 use rustc_apfloat::{Float, Round};

@@ -3,22 +3,22 @@ use Rattle.std.proofs.Common.{◌≡◌, ℕ, Bool, true, false, ◌-◌, ◌*�
 use Rattle.std.proofs.lemmas.Bool.{ne_eqb}
 use Rattle.std.proofs.lemmas.Nat.{pow_pos}
 use Rattle.std.proofs.Math.Nat.{mod-eq_of_lt}
-use Rattle.apfloat_base.specs.declared.kinds.Category.{Category}
-use Rattle.apfloat_base.specs.declared.kinds.Category.TheVariants.{Normal, Zero}
-use Rattle.apfloat_base.specs.declared.kinds.Round.{Round}
-use Rattle.apfloat_base.specs.declared.kinds.NonfiniteBehavior.{NonfiniteBehavior}
-use Rattle.apfloat_base.specs.declared.kinds.NonfiniteBehavior.TheVariants.{IEEE754, NanOnly, NanNegativeZero}
-use Rattle.apfloat_base.specs.formats.Datum.{Datum, finite}
-use Rattle.apfloat_base.specs.rounding.Rounding.{zero_sign}
-use Rattle.apfloat_base.specs.formats.Members.{IsNanSignificand}
-use Rattle.apfloat_base.specs.arithmetic.Conversions.{IsConversion, IsConvertedNumber, IsKept, loses_zero_sign}
-use Rattle.apfloat_base.proofs.general.Powers.{twice_half}
-use Rattle.apfloat_base.proofs.rounding.KeptDigits.{fits_shifted}
-use Rattle.apfloat_unpacked.specs.declared.shape.Shape.{Shape}
-use Rattle.apfloat_unpacked.specs.declared.unpacked.Unpacked.{Unpacked}
-use Rattle.apfloat_unpacked.specs.Shapes.{format_at}
-use Rattle.apfloat_unpacked.specs.Stored.{IsStoredBy, datum_by, quanta_at}
-use Rattle.apfloat_unpacked.proofs.StoredBack.{quanta_some}
+use Rattle.apfloat_model.specs.declared.kinds.Category.{Category}
+use Rattle.apfloat_model.specs.declared.kinds.Category.TheVariants.{Normal, Zero}
+use Rattle.apfloat_model.specs.declared.kinds.Round.{Round}
+use Rattle.apfloat_model.specs.declared.kinds.NonfiniteBehavior.{NonfiniteBehavior}
+use Rattle.apfloat_model.specs.declared.kinds.NonfiniteBehavior.TheVariants.{IEEE754, NanOnly, NanNegativeZero}
+use Rattle.apfloat_model.specs.formats.Datum.{Datum, finite}
+use Rattle.apfloat_model.specs.rounding.Rounding.{zero_sign}
+use Rattle.apfloat_model.specs.formats.Members.{IsNanSignificand}
+use Rattle.apfloat_model.specs.arithmetic.Conversions.{IsConversion, IsConvertedNumber, IsKept, loses_zero_sign}
+use Rattle.apfloat_model.proofs.general.Powers.{twice_half}
+use Rattle.apfloat_model.proofs.rounding.KeptDigits.{fits_shifted}
+use Rattle.apfloat_rounding.specs.declared.shape.Shape.{Shape}
+use Rattle.apfloat_rounding.specs.declared.unpacked.Unpacked.{Unpacked}
+use Rattle.apfloat_rounding.specs.Shapes.{format_at}
+use Rattle.apfloat_rounding.specs.Stored.{IsStoredBy, datum_by, quanta_at}
+use Rattle.apfloat_rounding.proofs.StoredBack.{quanta_some}
 
 abbrev Says : Shape → Shape → Round → Category → Unpacked → Datum → ℕ → Bool → Type 0
 Says from into mode k x value status loses_info =

@@ -4,14 +4,14 @@ use Rattle.std.proofs.Math.Nat.{div-eq_of_lt-le}
 use Rattle.std.proofs.lemmas.Nat.{pow-add, pow_pos}
 use Rattle.std.proofs.lemmas.Int.{ints}
 use Rattle.std.proofs.lemmas.Bool.{ne_eqb}
-use Rattle.apfloat_base.specs.declared.kinds.Round.{Round}
-use Rattle.apfloat_base.specs.formats.Format.{Format}
-use Rattle.apfloat_base.specs.formats.Datum.{finite}
-use Rattle.apfloat_base.specs.arithmetic.Exact.{signed}
-use Rattle.apfloat_base.specs.whole_numbers.WholeNumbers.{whole_pick, whole_quanta, inexact_unless}
-use Rattle.apfloat_base.specs.whole_numbers.WholeNumbersOut.{IsToUnsigned, ranged, exact_or_not}
-use Rattle.apfloat_base.proofs.general.Choices.{no_zero}
-use Rattle.apfloat_base.proofs.whole_numbers.SignedTests.{less_so, less_not}
+use Rattle.apfloat_model.specs.declared.kinds.Round.{Round}
+use Rattle.apfloat_model.specs.formats.Format.{Format}
+use Rattle.apfloat_model.specs.formats.Datum.{finite}
+use Rattle.apfloat_model.specs.arithmetic.Exact.{signed}
+use Rattle.apfloat_model.specs.whole_numbers.WholeNumbers.{whole_pick, whole_quanta, inexact_unless}
+use Rattle.apfloat_model.specs.whole_numbers.WholeNumbersOut.{IsToUnsigned, ranged, exact_or_not}
+use Rattle.apfloat_model.proofs.general.Choices.{no_zero}
+use Rattle.apfloat_model.proofs.whole_numbers.SignedTests.{less_so, less_not}
 
 -- the same whole number, also without a sign
 pub same_number : (m n : ℕ) → pos m ≡ pos n → m ≡ n

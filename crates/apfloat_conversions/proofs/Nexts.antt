@@ -4,19 +4,19 @@ use Rattle.std.proofs.Math.Path.{subst₂}
 use Rattle.std.proofs.Math.Nat.{mul-le-mul_right, mul-le-mul_left, pow-le-pow_right, mul-lt-mul_of_pos_right, lt_of_mul-lt-mul_right, le_of_mul-le-mul_right, eq_of_mul-eq-mul_right}
 use Rattle.std.proofs.lemmas.Nat.{pow-add, pow_pos}
 use Rattle.std.proofs.lemmas.Int.{ints}
-use Rattle.apfloat_base.specs.declared.kinds.NonfiniteBehavior.{NonfiniteBehavior}
-use Rattle.apfloat_base.specs.declared.kinds.NonfiniteBehavior.TheVariants.{IEEE754, NanOnly, NanNegativeZero}
-use Rattle.apfloat_base.specs.formats.Format.{Format, largest, greatest_significand}
-use Rattle.apfloat_base.specs.rounding.Grid.{IsOnGrid, IsBelow, IsAbove}
-use Rattle.apfloat_base.specs.rounding.Enclosure.{IsEnclosed}
-use Rattle.apfloat_base.specs.arithmetic.Exponents.{IsLogarithm}
-use Rattle.apfloat_base.specs.rounding.Standing.{up, down}
-use Rattle.apfloat_base.proofs.general.Powers.{two_pos, twice_half}
-use Rattle.apfloat_base.proofs.rounding.Laws.{exact_below, zero_on_grid}
-use Rattle.apfloat_base.proofs.rounding.Neighbours.{next_multiple, next_on_grid, none_between, below_is}
-use Rattle.apfloat_base.proofs.arithmetic.SingleScalings.{scaled_stands, up_far, down_far}
-use Rattle.apfloat_base.proofs.formats.Greatest.{greatest_fits}
-use Rattle.apfloat_unpacked.specs.Stored.{IsOperandAt, IsQuantaAt}
+use Rattle.apfloat_model.specs.declared.kinds.NonfiniteBehavior.{NonfiniteBehavior}
+use Rattle.apfloat_model.specs.declared.kinds.NonfiniteBehavior.TheVariants.{IEEE754, NanOnly, NanNegativeZero}
+use Rattle.apfloat_model.specs.formats.Format.{Format, largest, greatest_significand}
+use Rattle.apfloat_model.specs.rounding.Grid.{IsOnGrid, IsBelow, IsAbove}
+use Rattle.apfloat_model.specs.rounding.Enclosure.{IsEnclosed}
+use Rattle.apfloat_model.specs.arithmetic.Exponents.{IsLogarithm}
+use Rattle.apfloat_model.specs.rounding.Standing.{up, down}
+use Rattle.apfloat_model.proofs.general.Powers.{two_pos, twice_half}
+use Rattle.apfloat_model.proofs.rounding.Laws.{exact_below, zero_on_grid}
+use Rattle.apfloat_model.proofs.rounding.Neighbours.{next_multiple, next_on_grid, none_between, below_is}
+use Rattle.apfloat_model.proofs.arithmetic.SingleScalings.{scaled_stands, up_far, down_far}
+use Rattle.apfloat_model.proofs.formats.Greatest.{greatest_fits}
+use Rattle.apfloat_rounding.specs.Stored.{IsOperandAt, IsQuantaAt}
 use Rattle.apfloat_conversions.proofs.Wholes.{up_of}
 
 -- ---- one step at the last place

@@ -4,22 +4,22 @@ use Rattle.std.proofs.Math.Nat.{eq_of_mul-eq-mul_right}
 use Rattle.std.proofs.lemmas.Nat.{pow-add, pow_pos}
 use Rattle.std.proofs.lemmas.Int.{ints}
 use Rattle.std.proofs.lemmas.Bool.{cases_eq, eq-eqb, ne_eqb}
-use Rattle.apfloat_base.specs.formats.Format.{largest, greatest_significand}
-use Rattle.apfloat_base.specs.formats.Datum.{finite}
-use Rattle.apfloat_base.specs.rounding.Grid.{IsBelow, IsAbove}
-use Rattle.apfloat_base.specs.rounding.Rounding.{zero_sign}
-use Rattle.apfloat_base.specs.arithmetic.NextUp.{IsNextGreater, IsNextLess}
-use Rattle.apfloat_base.specs.rounding.Standing.{up, down}
-use Rattle.apfloat_base.proofs.rounding.Deliveries.{signed_some}
-use Rattle.apfloat_base.proofs.arithmetic.Signs.{one_side}
-use Rattle.apfloat_base.proofs.general.Powers.{twice_half}
-use Rattle.apfloat_base.proofs.arithmetic.SingleScalings.{up_le, up_far, quanta_below}
-use Rattle.apfloat_unpacked.specs.declared.shape.Shape.{Shape}
-use Rattle.apfloat_unpacked.specs.Shapes.{format_at}
-use Rattle.apfloat_unpacked.specs.Stored.{IsOperandAt, IsQuantaAt, IsNormalAt, quanta_at}
-use Rattle.apfloat_unpacked.proofs.StoredBack.{quanta_some}
-use Rattle.apfloat_unpacked.proofs.StoredNumbers.{quanta_is}
-use Rattle.apfloat_unpacked.proofs.ShapeExponents.{span_is}
+use Rattle.apfloat_model.specs.formats.Format.{largest, greatest_significand}
+use Rattle.apfloat_model.specs.formats.Datum.{finite}
+use Rattle.apfloat_model.specs.rounding.Grid.{IsBelow, IsAbove}
+use Rattle.apfloat_model.specs.rounding.Rounding.{zero_sign}
+use Rattle.apfloat_model.specs.arithmetic.NextUp.{IsNextGreater, IsNextLess}
+use Rattle.apfloat_model.specs.rounding.Standing.{up, down}
+use Rattle.apfloat_model.proofs.rounding.Deliveries.{signed_some}
+use Rattle.apfloat_model.proofs.arithmetic.Signs.{one_side}
+use Rattle.apfloat_model.proofs.general.Powers.{twice_half}
+use Rattle.apfloat_model.proofs.arithmetic.SingleScalings.{up_le, up_far, quanta_below}
+use Rattle.apfloat_rounding.specs.declared.shape.Shape.{Shape}
+use Rattle.apfloat_rounding.specs.Shapes.{format_at}
+use Rattle.apfloat_rounding.specs.Stored.{IsOperandAt, IsQuantaAt, IsNormalAt, quanta_at}
+use Rattle.apfloat_rounding.proofs.StoredBack.{quanta_some}
+use Rattle.apfloat_rounding.proofs.StoredNumbers.{quanta_is}
+use Rattle.apfloat_rounding.proofs.ShapeExponents.{span_is}
 use Rattle.apfloat_conversions.proofs.StoredExponents.{half_within, number_of}
 use Rattle.apfloat_conversions.proofs.Nexts.{operand_down, step_room, step_small, step_within, step_above, next_is, next_within, less_is, least_less, stepped_by, stepped_down_by, stays_operand, carries_operand, carried_quanta, lowered_quanta, lowered_operand, room_above, room_cases}
 

@@ -3,24 +3,24 @@ use Rattle.std.proofs.Common.{◌≡◌, ℕ, ◌+◌, ◌-◌, ◌*◌, ◌^◌
 use Rattle.std.proofs.lemmas.Int.{ints}
 use Rattle.std.proofs.lemmas.Nat.{pow-add, pow_pos}
 use Rattle.std.proofs.Math.Nat.{mul-le-mul_right, mul-le-mul_left, mul-lt-mul_of_pos_right, pow-le-pow_right}
-use Rattle.apfloat_base.specs.declared.kinds.Round.{Round}
-use Rattle.apfloat_base.specs.declared.sig.loss.Loss.TheVariants.{ExactlyZero}
-use Rattle.apfloat_base.specs.formats.Format.{Format, largest, greatest_significand}
-use Rattle.apfloat_base.specs.formats.Datum.{Datum, finite}
-use Rattle.apfloat_base.specs.rounding.Bounds.{scaling_bound, span_bound}
-use Rattle.apfloat_base.specs.rounding.Rounding.{IsDelivered, zero_sign}
-use Rattle.apfloat_base.specs.arithmetic.Scaling.{IsScaling}
-use Rattle.apfloat_base.specs.rounding.Standing.{StandsFor, up, down}
-use Rattle.apfloat_base.proofs.general.Powers.{two_pos}
-use Rattle.apfloat_base.proofs.formats.Greatest.{greatest_full}
-use Rattle.apfloat_base.proofs.arithmetic.Tables.{scaling_zero}
-use Rattle.apfloat_base.proofs.arithmetic.SingleScalings.{IsClamped, up_le, quanta_below, scaled_is, scaled_stands, clamp_kept}
-use Rattle.apfloat_unpacked.specs.declared.shape.Shape.{Shape}
-use Rattle.apfloat_unpacked.specs.Shapes.{format_at}
-use Rattle.apfloat_unpacked.specs.Stored.{IsOperandAt, IsQuantaAt, IsNormalAt, quanta_at}
-use Rattle.apfloat_unpacked.proofs.StoredBack.{quanta_some}
-use Rattle.apfloat_unpacked.proofs.ShapeExponents.{exponent_word, scale_is, span_is}
-use Rattle.apfloat_unpacked.proofs.StoredNumbers.{quanta_is, whole_is}
+use Rattle.apfloat_model.specs.declared.kinds.Round.{Round}
+use Rattle.apfloat_model.specs.declared.loss.Loss.TheVariants.{ExactlyZero}
+use Rattle.apfloat_model.specs.formats.Format.{Format, largest, greatest_significand}
+use Rattle.apfloat_model.specs.formats.Datum.{Datum, finite}
+use Rattle.apfloat_model.specs.rounding.Bounds.{scaling_bound, span_bound}
+use Rattle.apfloat_model.specs.rounding.Rounding.{IsDelivered, zero_sign}
+use Rattle.apfloat_model.specs.arithmetic.Scaling.{IsScaling}
+use Rattle.apfloat_model.specs.rounding.Standing.{StandsFor, up, down}
+use Rattle.apfloat_model.proofs.general.Powers.{two_pos}
+use Rattle.apfloat_model.proofs.formats.Greatest.{greatest_full}
+use Rattle.apfloat_model.proofs.arithmetic.Tables.{scaling_zero}
+use Rattle.apfloat_model.proofs.arithmetic.SingleScalings.{IsClamped, up_le, quanta_below, scaled_is, scaled_stands, clamp_kept}
+use Rattle.apfloat_rounding.specs.declared.shape.Shape.{Shape}
+use Rattle.apfloat_rounding.specs.Shapes.{format_at}
+use Rattle.apfloat_rounding.specs.Stored.{IsOperandAt, IsQuantaAt, IsNormalAt, quanta_at}
+use Rattle.apfloat_rounding.proofs.StoredBack.{quanta_some}
+use Rattle.apfloat_rounding.proofs.ShapeExponents.{exponent_word, scale_is, span_is}
+use Rattle.apfloat_rounding.proofs.StoredNumbers.{quanta_is, whole_is}
 use Rattle.apfloat_conversions.proofs.Wholes.{up_of, places_up, places_down}
 
 -- ---- the number as a fraction, by the exponent of its last digit

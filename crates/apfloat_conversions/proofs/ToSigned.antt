@@ -5,22 +5,22 @@ use Rattle.std.proofs.Math.Nat.{pow-le-pow_right}
 use Rattle.std.proofs.lemmas.Nat.{pow_pos}
 use Rattle.std.proofs.lemmas.Int.{ints}
 use Rattle.std.proofs.lemmas.Bool.{cases_lt, cases_eq, eq-eqb, ne_eqb, false≢true}
-use Rattle.apfloat_base.specs.declared.kinds.NonfiniteBehavior.{NonfiniteBehavior}
-use Rattle.apfloat_base.specs.declared.kinds.NonfiniteBehavior.TheVariants.{IEEE754, NanOnly, NanNegativeZero}
-use Rattle.apfloat_base.specs.declared.kinds.Round.{Round}
-use Rattle.apfloat_base.specs.declared.kinds.Round.TheVariants.{NearestTiesToEven, TowardPositive, TowardNegative, TowardZero, NearestTiesToAway}
-use Rattle.apfloat_base.specs.formats.Format.{Format}
-use Rattle.apfloat_base.specs.formats.Datum.{Datum, finite, infinite, nan}
-use Rattle.apfloat_base.specs.order.Classes.{is_negative, category_of}
-use Rattle.apfloat_base.specs.whole_numbers.SignedWholes.{IsNegatedWhole}
-use Rattle.apfloat_base.specs.order.Predicates.{is_zero_category}
-use Rattle.apfloat_base.specs.rounding.Negation.{swapped, negated, negated_nan, negated_zero}
-use Rattle.apfloat_base.specs.rounding.Rounding.{takes_above}
-use Rattle.apfloat_base.specs.whole_numbers.WholeNumbers.{whole_pick, whole_quanta, inexact_unless}
-use Rattle.apfloat_base.specs.whole_numbers.WholeNumbersOut.{IsToUnsigned, IsToSigned, IsWhole, Whole, ranged, exact_or_not, invalid_whole}
-use Rattle.apfloat_base.proofs.general.Powers.{two_pos, twice_half}
-use Rattle.apfloat_base.proofs.whole_numbers.SignedTests.{less_so, less_not}
-use Rattle.apfloat_base.proofs.arithmetic.Signs.{no_sign}
+use Rattle.apfloat_model.specs.declared.kinds.NonfiniteBehavior.{NonfiniteBehavior}
+use Rattle.apfloat_model.specs.declared.kinds.NonfiniteBehavior.TheVariants.{IEEE754, NanOnly, NanNegativeZero}
+use Rattle.apfloat_model.specs.declared.kinds.Round.{Round}
+use Rattle.apfloat_model.specs.declared.kinds.Round.TheVariants.{NearestTiesToEven, TowardPositive, TowardNegative, TowardZero, NearestTiesToAway}
+use Rattle.apfloat_model.specs.formats.Format.{Format}
+use Rattle.apfloat_model.specs.formats.Datum.{Datum, finite, infinite, nan}
+use Rattle.apfloat_model.specs.order.Classes.{is_negative, category_of}
+use Rattle.apfloat_model.specs.whole_numbers.SignedWholes.{IsNegatedWhole}
+use Rattle.apfloat_model.specs.order.Predicates.{is_zero_category}
+use Rattle.apfloat_model.specs.rounding.Negation.{swapped, negated, negated_nan, negated_zero}
+use Rattle.apfloat_model.specs.rounding.Rounding.{takes_above}
+use Rattle.apfloat_model.specs.whole_numbers.WholeNumbers.{whole_pick, whole_quanta, inexact_unless}
+use Rattle.apfloat_model.specs.whole_numbers.WholeNumbersOut.{IsToUnsigned, IsToSigned, IsWhole, Whole, ranged, exact_or_not, invalid_whole}
+use Rattle.apfloat_model.proofs.general.Powers.{two_pos, twice_half}
+use Rattle.apfloat_model.proofs.whole_numbers.SignedTests.{less_so, less_not}
+use Rattle.apfloat_model.proofs.arithmetic.Signs.{no_sign}
 use Rattle.apfloat_conversions.proofs.Limits.{ranged_in, ranged_out}
 use Rattle.apfloat_conversions.proofs.Wholes.{whole_exactly}
 

@@ -4,23 +4,23 @@ use Rattle.std.proofs.Math.Nat.{mul-mod_left, mul-div_cancel, div-eq_of_lt-le, d
 use Rattle.std.proofs.lemmas.Nat.{div-add-mod', pow-add, pow_pos}
 use Rattle.std.proofs.lemmas.Int.{ints}
 use Rattle.std.proofs.lemmas.Bool.{cases_eq, eq-eqb, ne_eqb}
-use Rattle.apfloat_base.specs.declared.kinds.Round.{Round}
-use Rattle.apfloat_base.specs.declared.kinds.Round.TheVariants.{TowardZero}
-use Rattle.apfloat_base.specs.declared.sig.loss.Loss.{Loss}
-use Rattle.apfloat_base.specs.declared.sig.loss.Loss.TheVariants.{ExactlyZero, LessThanHalf, ExactlyHalf, MoreThanHalf}
-use Rattle.apfloat_base.specs.rounding.Standing.{StandsFor, up, down}
-use Rattle.apfloat_base.specs.rounding.Enclosure.{rounds_up}
-use Rattle.apfloat_base.specs.formats.Format.{Format}
-use Rattle.apfloat_base.specs.formats.Datum.{Datum, finite}
-use Rattle.apfloat_base.specs.rounding.Rounding.{takes_above, pick_between, signed_quanta}
-use Rattle.apfloat_base.specs.whole_numbers.WholeNumbers.{whole_pick, whole_quanta, inexact_unless, IsRoundToIntegral}
-use Rattle.apfloat_base.proofs.general.Powers.{two_pos, twice_half}
-use Rattle.apfloat_base.proofs.rounding.Deliveries.{signed_some}
-use Rattle.apfloat_base.proofs.rounding.Losses.{stands_to, stands_past}
-use Rattle.apfloat_base.proofs.rounding.KeptDigits.{stands_cancel}
-use Rattle.apfloat_base.proofs.rounding.Picks.{kept, takes_less, takes_half, takes_more}
-use Rattle.apfloat_base.proofs.arithmetic.SingleScalings.{scaled_stands}
-use Rattle.apfloat_base.proofs.general.Choices.{off_both}
+use Rattle.apfloat_model.specs.declared.kinds.Round.{Round}
+use Rattle.apfloat_model.specs.declared.kinds.Round.TheVariants.{TowardZero}
+use Rattle.apfloat_model.specs.declared.loss.Loss.{Loss}
+use Rattle.apfloat_model.specs.declared.loss.Loss.TheVariants.{ExactlyZero, LessThanHalf, ExactlyHalf, MoreThanHalf}
+use Rattle.apfloat_model.specs.rounding.Standing.{StandsFor, up, down}
+use Rattle.apfloat_model.specs.rounding.Enclosure.{rounds_up}
+use Rattle.apfloat_model.specs.formats.Format.{Format}
+use Rattle.apfloat_model.specs.formats.Datum.{Datum, finite}
+use Rattle.apfloat_model.specs.rounding.Rounding.{takes_above, pick_between, signed_quanta}
+use Rattle.apfloat_model.specs.whole_numbers.WholeNumbers.{whole_pick, whole_quanta, inexact_unless, IsRoundToIntegral}
+use Rattle.apfloat_model.proofs.general.Powers.{two_pos, twice_half}
+use Rattle.apfloat_model.proofs.rounding.Deliveries.{signed_some}
+use Rattle.apfloat_model.proofs.rounding.Losses.{stands_to, stands_past}
+use Rattle.apfloat_model.proofs.rounding.KeptDigits.{stands_cancel}
+use Rattle.apfloat_model.proofs.rounding.Picks.{kept, takes_less, takes_half, takes_more}
+use Rattle.apfloat_model.proofs.arithmetic.SingleScalings.{scaled_stands}
+use Rattle.apfloat_model.proofs.general.Choices.{off_both}
 
 -- a whole number that is an odd multiple of the distance to the next one is odd
 whole_odd : (q : ℕ) → eqb (q / (q + 1 - q) % 2) 1 ≡ eqb (q % 2) 1

@@ -1,10 +1,10 @@
 -- The results of conversions, in terms of the data and the whole numbers that they are.
 use Rattle.std.specs.Prelude.{ℕ, Bool, pos}
-use Rattle.apfloat_base.specs.formats.Datum.{Datum}
-use Rattle.apfloat_base.specs.rounding.Flags.{bits_of}
-use Rattle.apfloat_base.specs.whole_numbers.WholeNumbersOut.{Whole, IsWhole}
-use Rattle.apfloat_unpacked.specs.declared.shape.Shape.{Shape}
-use Rattle.apfloat_unpacked.specs.Stored.{datum_at}
+use Rattle.apfloat_model.specs.formats.Datum.{Datum}
+use Rattle.apfloat_model.specs.rounding.Flags.{bits_of}
+use Rattle.apfloat_model.specs.whole_numbers.WholeNumbersOut.{Whole, IsWhole}
+use Rattle.apfloat_rounding.specs.declared.shape.Shape.{Shape}
+use Rattle.apfloat_rounding.specs.Stored.{datum_at}
 use Rattle.apfloat_conversions.specs.declared.between_formats.Converted.{Converted}
 use Rattle.apfloat_conversions.specs.declared.integers.Unsigned.{Unsigned}
 

@@ -1,7 +1,7 @@
 -- The whole number that a mode picks for a magnitude, in the form that the code passes on.
 use Rattle.std.specs.Prelude.{◌≡◌, ℕ, ◌*◌, ◌^◌, ◌≤◌, Bool, eqb, Option, Some, None}
-use Rattle.apfloat_base.specs.declared.kinds.Round.{Round}
-use Rattle.apfloat_base.specs.whole_numbers.WholeNumbers.{whole_pick}
+use Rattle.apfloat_model.specs.declared.kinds.Round.{Round}
+use Rattle.apfloat_model.specs.whole_numbers.WholeNumbers.{whole_pick}
 use Rattle.apfloat_conversions.specs.declared.whole.Whole.{Whole}
 
 -- that whole number, and whether it is the magnitude itself

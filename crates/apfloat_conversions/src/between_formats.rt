@@ -1,23 +1,23 @@
 //! Conversion of values from one format to another.
 
 ghost use Rattle.std.specs.Prelude.{◌≡◌, cond, not};
-ghost use Rattle.apfloat_base.specs.declared.kinds.NonfiniteBehavior.{NonfiniteBehavior};
-ghost use Rattle.apfloat_base.specs.rounding.Flags.{bits_of};
-ghost use Rattle.apfloat_base.specs.formats.Datum.{finite};
-ghost use Rattle.apfloat_base.specs.rounding.Rounding.{ok_bits, inexact_bit, zero_sign};
-ghost use Rattle.apfloat_base.specs.formats.Constants.{infinity_of};
-ghost use Rattle.apfloat_base.specs.arithmetic.Conversions.{IsConversion, IsConvertedNumber, IsExactlyConverted, IsKept, loses_zero_sign, has_infinities};
-ghost use Rattle.apfloat_unpacked.specs.Shapes.{format_at};
-ghost use Rattle.apfloat_unpacked.specs.Stored.{IsNormal, IsStored, datum_at, quanta_of};
+ghost use Rattle.apfloat_model.specs.declared.kinds.NonfiniteBehavior.{NonfiniteBehavior};
+ghost use Rattle.apfloat_model.specs.rounding.Flags.{bits_of};
+ghost use Rattle.apfloat_model.specs.formats.Datum.{finite};
+ghost use Rattle.apfloat_model.specs.rounding.Rounding.{ok_bits, inexact_bit, zero_sign};
+ghost use Rattle.apfloat_model.specs.formats.Constants.{infinity_of};
+ghost use Rattle.apfloat_model.specs.arithmetic.Conversions.{IsConversion, IsConvertedNumber, IsExactlyConverted, IsKept, loses_zero_sign, has_infinities};
+ghost use Rattle.apfloat_rounding.specs.Shapes.{format_at};
+ghost use Rattle.apfloat_rounding.specs.Stored.{IsNormal, IsStored, datum_at, quanta_of};
 ghost use Rattle.apfloat_conversions.specs.Results.{ConvertsAt};
 
 use crate::held::{has, widened};
 use crate::payloads::converted_nan;
-use apfloat_base::{Category, NonfiniteBehavior, Round, Status, StatusAnd};
-use apfloat_unpacked::exponents::last_exponent;
-use apfloat_unpacked::rounding::deliver_u128_digits;
-use apfloat_unpacked::shape::Shape;
-use apfloat_unpacked::unpacked::{Unpacked, infinity_of, remade, significand_of, zero_of};
+use apfloat_model::{Category, NonfiniteBehavior, Round, Status, StatusAnd};
+use apfloat_rounding::exponents::last_exponent;
+use apfloat_rounding::rounding::deliver_u128_digits;
+use apfloat_rounding::shape::Shape;
+use apfloat_rounding::unpacked::{Unpacked, infinity_of, remade, significand_of, zero_of};
 
 /// A result in the other format, and whether information was lost.
 #[derive(Clone, Copy, Debug)]

@@ -2,14 +2,14 @@
 //! format.
 
 ghost use Rattle.std.specs.Prelude.{◌≡◌, ◌-◌, ◌*◌, ◌^◌, ◌≤◌, true};
-ghost use Rattle.apfloat_base.specs.formats.Datum.{finite};
-ghost use Rattle.apfloat_unpacked.specs.Shapes.{format_at};
-ghost use Rattle.apfloat_unpacked.specs.Stored.{IsNormal, IsStored, datum_at, quanta_of};
+ghost use Rattle.apfloat_model.specs.formats.Datum.{finite};
+ghost use Rattle.apfloat_rounding.specs.Shapes.{format_at};
+ghost use Rattle.apfloat_rounding.specs.Stored.{IsNormal, IsStored, datum_at, quanta_of};
 ghost use Rattle.apfloat_conversions.specs.Held.{IsHeld, IsHeldNumber, IsInside, IsReached};
 
-use apfloat_base::{Category, ExpInt};
-use apfloat_unpacked::shape::Shape;
-use apfloat_unpacked::unpacked::{Unpacked, significand_of};
+use apfloat_model::{Category, ExpInt};
+use apfloat_rounding::shape::Shape;
+use apfloat_rounding::unpacked::{Unpacked, significand_of};
 
 /// Whether the largest value of a format is no larger than that of another, whose precision is no lower.
 #[inline(always)]

@@ -1,20 +1,20 @@
 //! Conversion from and to whole numbers.
 
 ghost use Rattle.std.specs.Prelude.{◌≡◌, ◌-◌, ◌*◌, ◌^◌, ◌<◌, ◌≤◌, pos, ◌-ℤ◌, if◌then◌else◌};
-ghost use Rattle.apfloat_base.specs.formats.Datum.{finite};
-ghost use Rattle.apfloat_base.specs.rounding.Flags.{bits_of};
-ghost use Rattle.apfloat_base.specs.whole_numbers.WholeNumbers.{IsFromUnsigned, inexact_unless};
-ghost use Rattle.apfloat_base.specs.whole_numbers.WholeNumbersOut.{invalid_whole, to_unsigned};
-ghost use Rattle.apfloat_unpacked.specs.Shapes.{format_at};
-ghost use Rattle.apfloat_unpacked.specs.Stored.{IsStored, IsNormal, datum_at, number_of, GivesAt};
+ghost use Rattle.apfloat_model.specs.formats.Datum.{finite};
+ghost use Rattle.apfloat_model.specs.rounding.Flags.{bits_of};
+ghost use Rattle.apfloat_model.specs.whole_numbers.WholeNumbers.{IsFromUnsigned, inexact_unless};
+ghost use Rattle.apfloat_model.specs.whole_numbers.WholeNumbersOut.{invalid_whole, to_unsigned};
+ghost use Rattle.apfloat_rounding.specs.Shapes.{format_at};
+ghost use Rattle.apfloat_rounding.specs.Stored.{IsStored, IsNormal, datum_at, number_of, GivesAt};
 ghost use Rattle.apfloat_conversions.specs.Results.{GivesWhole};
 
 use crate::whole::{Whole, whole_of};
-use apfloat_base::sig::digits;
-use apfloat_base::{Category, ExpInt, Round, Status, StatusAnd};
-use apfloat_unpacked::rounding::deliver_u128_digits;
-use apfloat_unpacked::shape::Shape;
-use apfloat_unpacked::unpacked::{Unpacked, zero_of};
+use apfloat_model::{Category, ExpInt, Round, Status, StatusAnd};
+use apfloat_rounding::rounding::deliver_u128_digits;
+use apfloat_rounding::shape::Shape;
+use apfloat_rounding::unpacked::{Unpacked, zero_of};
+use apfloat_words::digits;
 
 /// A whole number with `count` digits, moved up until it has 128.
 #[inline(always)]

@@ -1,19 +1,19 @@
 //! Rounding values to whole numbers in their own format.
 
 ghost use Rattle.std.specs.Prelude.{◌≡◌, ◌%◌, ◌^◌, eqb};
-ghost use Rattle.apfloat_base.specs.order.Classes.{is_integer};
-ghost use Rattle.apfloat_base.specs.declared.kinds.Category.TheVariants.{Normal};
-ghost use Rattle.apfloat_base.specs.whole_numbers.WholeNumbers.{IsRoundToIntegral};
-ghost use Rattle.apfloat_unpacked.specs.Shapes.{format_at};
-ghost use Rattle.apfloat_unpacked.specs.Stored.{IsStored, IsNormal, quanta_of, datum_at, GivesAt};
+ghost use Rattle.apfloat_model.specs.order.Classes.{is_integer};
+ghost use Rattle.apfloat_model.specs.declared.kinds.Category.TheVariants.{Normal};
+ghost use Rattle.apfloat_model.specs.whole_numbers.WholeNumbers.{IsRoundToIntegral};
+ghost use Rattle.apfloat_rounding.specs.Shapes.{format_at};
+ghost use Rattle.apfloat_rounding.specs.Stored.{IsStored, IsNormal, quanta_of, datum_at, GivesAt};
 
 use crate::integers::status_of;
 use crate::whole::round_at_dot;
-use apfloat_base::{Category, Round, Status, StatusAnd};
-use apfloat_unpacked::exponents::last_exponent;
-use apfloat_unpacked::nans::propagated;
-use apfloat_unpacked::shape::Shape;
-use apfloat_unpacked::unpacked::{Unpacked, from_quanta};
+use apfloat_model::{Category, Round, Status, StatusAnd};
+use apfloat_rounding::exponents::last_exponent;
+use apfloat_rounding::nans::propagated;
+use apfloat_rounding::shape::Shape;
+use apfloat_rounding::unpacked::{Unpacked, from_quanta};
 
 /// A nonzero number, rounded to a whole number.
 #[inline(always)]

@@ -1,19 +1,19 @@
 //! The next value up.
 
 ghost use Rattle.std.specs.Prelude.{◌≡◌, ◌^◌, ◌<◌, eqb, pos, ◌+ℤ◌, ◌-ℤ◌, ◌≤ℤ◌};
-ghost use Rattle.apfloat_base.specs.declared.kinds.Category.TheVariants.{NaN};
-ghost use Rattle.apfloat_base.specs.arithmetic.Exact.{down};
-ghost use Rattle.apfloat_base.specs.formats.Format.{largest};
-ghost use Rattle.apfloat_base.specs.arithmetic.NextUp.{IsNextGreater, IsNextLess, IsNextOfNumber, IsNextUp};
-ghost use Rattle.apfloat_unpacked.specs.Shapes.{format_at};
-ghost use Rattle.apfloat_unpacked.specs.Stored.{IsStored, IsNormal, quanta_of, datum_at, GivesAt};
+ghost use Rattle.apfloat_model.specs.declared.kinds.Category.TheVariants.{NaN};
+ghost use Rattle.apfloat_model.specs.arithmetic.Exact.{down};
+ghost use Rattle.apfloat_model.specs.formats.Format.{largest};
+ghost use Rattle.apfloat_model.specs.arithmetic.NextUp.{IsNextGreater, IsNextLess, IsNextOfNumber, IsNextUp};
+ghost use Rattle.apfloat_rounding.specs.Shapes.{format_at};
+ghost use Rattle.apfloat_rounding.specs.Stored.{IsStored, IsNormal, quanta_of, datum_at, GivesAt};
 
-use apfloat_base::sig::{power_of_two, steps_between};
-use apfloat_base::{Category, ExpInt, Status, StatusAnd};
-use apfloat_unpacked::exponents::{one_higher, one_lower};
-use apfloat_unpacked::nans::{quiet_significand, signals};
-use apfloat_unpacked::shape::Shape;
-use apfloat_unpacked::unpacked::{Unpacked, infinity_of, largest_of, nan_of, smallest_of, zero_of};
+use apfloat_model::{Category, ExpInt, Status, StatusAnd};
+use apfloat_rounding::exponents::{one_higher, one_lower};
+use apfloat_rounding::nans::{quiet_significand, signals};
+use apfloat_rounding::shape::Shape;
+use apfloat_rounding::unpacked::{Unpacked, infinity_of, largest_of, nan_of, smallest_of, zero_of};
+use apfloat_words::{power_of_two, steps_between};
 
 /// The distance between neighbours whose integer bit has that exponent, in units of a significand's last digit: one, or
 /// a quantum.

@@ -2,19 +2,19 @@
 //! (IEEE 754-2008 6.2.3).
 
 ghost use Rattle.std.specs.Prelude.{◌≡◌, ◌-◌, ◌*◌, ◌/◌, ◌^◌, ◌<◌};
-ghost use Rattle.apfloat_base.specs.arithmetic.Conversions.{IsConverted, places_out, nan_loses, converted_nan};
-ghost use Rattle.apfloat_base.specs.formats.Nan.{invalid_if, is_signaling};
-ghost use Rattle.apfloat_unpacked.specs.Shapes.{format_at};
-ghost use Rattle.apfloat_unpacked.specs.Stored.{IsNan, IsNanSignificandAt, IsStored};
+ghost use Rattle.apfloat_model.specs.arithmetic.Conversions.{IsConverted, places_out, nan_loses, converted_nan};
+ghost use Rattle.apfloat_model.specs.formats.Nan.{invalid_if, is_signaling};
+ghost use Rattle.apfloat_rounding.specs.Shapes.{format_at};
+ghost use Rattle.apfloat_rounding.specs.Stored.{IsNan, IsNanSignificandAt, IsStored};
 ghost use Rattle.apfloat_conversions.specs.Results.{ConvertsAt};
 
 use crate::between_formats::Converted;
-use apfloat_base::sig::low_digits;
-use apfloat_unpacked::nans::{
+use apfloat_rounding::nans::{
     payload_mask, quiet_significand, quieted_significand, signals, status_of,
 };
-use apfloat_unpacked::shape::Shape;
-use apfloat_unpacked::unpacked::{Unpacked, nan_of};
+use apfloat_rounding::shape::Shape;
+use apfloat_rounding::unpacked::{Unpacked, nan_of};
+use apfloat_words::low_digits;
 
 /// How many of the lowest bits a NaN's significand loses: if there is a payload, its first bit stays the first.
 #[inline(always)]

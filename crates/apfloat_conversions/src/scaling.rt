@@ -1,21 +1,20 @@
 //! Multiplication of values by powers of two, and the split of values into a fraction and a power of two.
 
 ghost use Rattle.std.specs.Prelude.{◌≡◌, ◌⊎◌, ◌*◌, ◌^◌, pos, neg_ℤ, ◌+ℤ◌, ◌≤ℤ◌};
-ghost use Rattle.apfloat_base.specs.arithmetic.Exact.{up, down};
-ghost use Rattle.apfloat_base.specs.arithmetic.Exponents.{IsIlogb, IsFrexp, IsFraction};
-ghost use Rattle.apfloat_base.specs.rounding.Bounds.{IsWithin, number_bound, scaling_bound, integer_bit_bound};
-ghost use Rattle.apfloat_base.specs.rounding.Rounding.{IsDelivered};
-ghost use Rattle.apfloat_base.specs.arithmetic.Scaling.{IsScaling};
-ghost use Rattle.apfloat_unpacked.specs.Shapes.{format_at};
-ghost use Rattle.apfloat_unpacked.specs.Stored.{IsStored, IsNormal, quanta_of, datum_at, GivesAt};
+ghost use Rattle.apfloat_model.specs.arithmetic.Exact.{up, down};
+ghost use Rattle.apfloat_model.specs.arithmetic.Exponents.{IsIlogb, IsFrexp, IsFraction};
+ghost use Rattle.apfloat_model.specs.rounding.Bounds.{IsWithin, number_bound, scaling_bound, integer_bit_bound};
+ghost use Rattle.apfloat_model.specs.rounding.Rounding.{IsDelivered};
+ghost use Rattle.apfloat_model.specs.arithmetic.Scaling.{IsScaling};
+ghost use Rattle.apfloat_rounding.specs.Shapes.{format_at};
+ghost use Rattle.apfloat_rounding.specs.Stored.{IsStored, IsNormal, quanta_of, datum_at, GivesAt};
 
-use apfloat_base::sig::Loss;
-use apfloat_base::{Category, ExpInt, IEK_INF, IEK_NAN, IEK_ZERO, Round, StatusAnd};
-use apfloat_unpacked::exponents::{last_exponent, one_higher};
-use apfloat_unpacked::nans::propagated;
-use apfloat_unpacked::rounding::deliver;
-use apfloat_unpacked::shape::Shape;
-use apfloat_unpacked::unpacked::Unpacked;
+use apfloat_model::{Category, ExpInt, IEK_INF, IEK_NAN, IEK_ZERO, Loss, Round, StatusAnd};
+use apfloat_rounding::exponents::{last_exponent, one_higher};
+use apfloat_rounding::nans::propagated;
+use apfloat_rounding::rounding::deliver;
+use apfloat_rounding::shape::Shape;
+use apfloat_rounding::unpacked::Unpacked;
 
 /// More places than this change no result.
 const SCALING_BOUND: ExpInt = 6_000_000;

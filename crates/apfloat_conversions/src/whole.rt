@@ -1,19 +1,19 @@
 //! The whole number that a mode picks for a number.
 
 ghost use Rattle.std.specs.Prelude.{◌≡◌, ℕ, ◌+◌, ◌-◌, ◌*◌, ◌/◌, ◌^◌, ◌<◌, ◌≤◌, pos, ◌+ℤ◌, ◌-ℤ◌, ◌≤ℤ◌};
-ghost use Rattle.apfloat_base.specs.rounding.Standing.{StandsFor};
-ghost use Rattle.apfloat_unpacked.specs.Shapes.{format_at};
-ghost use Rattle.apfloat_unpacked.specs.Stored.{IsNormal, quanta_of};
+ghost use Rattle.apfloat_model.specs.rounding.Standing.{StandsFor};
+ghost use Rattle.apfloat_rounding.specs.Shapes.{format_at};
+ghost use Rattle.apfloat_rounding.specs.Stored.{IsNormal, quanta_of};
 ghost use Rattle.apfloat_conversions.specs.Wholes.{IsPicked, IsPickedWithin};
 
-use apfloat_base::sig::{
-    Loss, Shifted, is_exact, loss_of_rest, low_digits, power_of_two, shift_right, steps_between,
+use apfloat_model::{ExpInt, Loss, Round};
+use apfloat_rounding::exponents::last_exponent;
+use apfloat_rounding::rounding::moves_up;
+use apfloat_rounding::shape::Shape;
+use apfloat_rounding::unpacked::Unpacked;
+use apfloat_words::{
+    Shifted, is_exact, loss_of_rest, low_digits, power_of_two, shift_right, steps_between,
 };
-use apfloat_base::{ExpInt, Round};
-use apfloat_unpacked::exponents::last_exponent;
-use apfloat_unpacked::rounding::moves_up;
-use apfloat_unpacked::shape::Shape;
-use apfloat_unpacked::unpacked::Unpacked;
 
 /// The magnitude of a whole number, and whether nothing was rounded.
 #[derive(Clone, Copy, Debug)]

@@ -1,7 +1,7 @@
 -- How a decimal is written.
 use Rattle.std.specs.Prelude.{ℕ, ◌+◌, ◌-◌, ◌*◌, ◌/◌, ◌%◌, ◌^◌, ℤ, pos, ◌+ℤ◌, Bool, ◌&&◌, leb, eqb, if◌then◌else◌, List, [], ◌++◌, length, replicate, codes}
 use Rattle.std.specs.Fmt.{decimal, signed_decimal}
-use Rattle.apfloat_base.specs.arithmetic.Exact.{up, down}
+use Rattle.apfloat_model.specs.arithmetic.Exact.{up, down}
 use Rattle.apfloat_decimals.specs.declared.decimal.Decimal.{Decimal}
 
 -- with zeros in front, up to so many digits

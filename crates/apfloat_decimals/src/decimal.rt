@@ -1,15 +1,15 @@
 //! Decimals as values of a format.
 
-ghost use Rattle.apfloat_base.specs.formats.Formats.{half_constants, single_constants, double_constants, quad_constants, bfloat_constants, e5m2_constants, e4m3fn_constants, e4m3fnuz_constants, x87_constants};
-ghost use Rattle.apfloat_base.specs.formats.Lawful.{format_with};
-ghost use Rattle.apfloat_base.specs.rounding.Flags.{Gives};
+ghost use Rattle.apfloat_model.specs.formats.Formats.{half_constants, single_constants, double_constants, quad_constants, bfloat_constants, e5m2_constants, e4m3fn_constants, e4m3fnuz_constants, x87_constants};
+ghost use Rattle.apfloat_model.specs.formats.Lawful.{format_with};
+ghost use Rattle.apfloat_model.specs.rounding.Flags.{Gives};
 ghost use Rattle.apfloat_ieee.specs.Types.{format_of};
 ghost use Rattle.apfloat_decimals.specs.Decimals.{IsDecimalDelivery, HasQuadExponents};
 
 use crate::reading::{nearest, scaled};
-use apfloat_base::sig::Loss;
 use apfloat_base::{ExpInt, Round, StatusAnd};
 use apfloat_ieee::{IeeeFloat, Semantics, deliver};
+use apfloat_model::Loss;
 
 /// The number `digits * 10^exponent`, with a sign.
 #[derive(Clone, Copy, PartialEq, Eq, Debug)]

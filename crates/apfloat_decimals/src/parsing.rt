@@ -1,15 +1,15 @@
 //! A decimal from its text.
 
 ghost use Rattle.std.specs.Prelude.{◌≡◌, ℕ, ℤ, pos, ◌-ℤ◌, ◌≤◌, ◌^◌, ◌++◌, List, Bool, IsTrue, MatchOption, Result, Ok, IsOkAnd};
-ghost use Rattle.apfloat_base.specs.declared.kinds.Round.{Round};
-ghost use Rattle.apfloat_base.specs.declared.parse_error.ParseError.{ParseError};
-ghost use Rattle.apfloat_base.specs.declared.status.StatusAnd.{StatusAnd};
-ghost use Rattle.apfloat_base.specs.formats.Datum.{Datum};
-ghost use Rattle.apfloat_base.specs.formats.Format.{Format};
-ghost use Rattle.apfloat_base.specs.rounding.Bounds.{IsWithin};
-ghost use Rattle.apfloat_base.specs.rounding.Flags.{Gives};
-ghost use Rattle.apfloat_base.specs.texts.Digits.{every, is_decimal, number};
-ghost use Rattle.apfloat_texts.specs.Saturation.{IsNear, count_bound, far_bound};
+ghost use Rattle.apfloat_model.specs.declared.kinds.Round.{Round};
+ghost use Rattle.apfloat_model.specs.declared.parse_error.ParseError.{ParseError};
+ghost use Rattle.apfloat_model.specs.declared.status.StatusAnd.{StatusAnd};
+ghost use Rattle.apfloat_model.specs.formats.Datum.{Datum};
+ghost use Rattle.apfloat_model.specs.formats.Format.{Format};
+ghost use Rattle.apfloat_model.specs.rounding.Bounds.{IsWithin};
+ghost use Rattle.apfloat_model.specs.rounding.Flags.{Gives};
+ghost use Rattle.apfloat_model.specs.texts.Digits.{every, is_decimal, number};
+ghost use Rattle.apfloat_hex_texts.specs.Saturation.{IsNear, count_bound, far_bound};
 ghost use Rattle.apfloat_decimals.specs.declared.decimal.Decimal.{Decimal};
 ghost use Rattle.apfloat_decimals.specs.Decimals.{IsDecimalDelivery};
 ghost use Rattle.apfloat_decimals.specs.DecimalTexts.{IsDecimalText, IsDecimalRead, body_fault};
@@ -22,9 +22,9 @@ ghost use Rattle.apfloat_decimals.specs.Texts.{decimal_text};
 
 use crate::decimal::Decimal;
 use crate::texts::parts::{exponent_in, has_some, split_digits, split_fraction};
-use apfloat_base::parse_error::Fault;
 use apfloat_base::{ExpInt, ParseError};
-use apfloat_texts::split_mark;
+use apfloat_hex_texts::split_mark;
+use apfloat_model::parse_error::Fault;
 use std::str::FromStr;
 
 /// Why a text gives no `Decimal`.

@@ -1,10 +1,10 @@
 //! Values as decimals and back.
 
 ghost use Rattle.std.specs.Prelude.{◌≡◌, ℕ, ℤ, ◌<◌, Some};
-ghost use Rattle.apfloat_base.specs.declared.kinds.Round.TheVariants.{NearestTiesToEven};
-ghost use Rattle.apfloat_base.specs.formats.Datum.{Datum};
-ghost use Rattle.apfloat_base.specs.formats.Format.{Format};
-ghost use Rattle.apfloat_base.specs.formats.Members.{IsMember};
+ghost use Rattle.apfloat_model.specs.declared.kinds.Round.TheVariants.{NearestTiesToEven};
+ghost use Rattle.apfloat_model.specs.formats.Datum.{Datum};
+ghost use Rattle.apfloat_model.specs.formats.Format.{Format};
+ghost use Rattle.apfloat_model.specs.formats.Members.{IsMember};
 ghost use Rattle.apfloat_decimals.specs.declared.decimal.Decimal.{Decimal};
 ghost use Rattle.apfloat_decimals.specs.Decimals.{IsDecimalDelivery};
 ghost use Rattle.apfloat_decimals.specs.Shortest.{IsSameNumber};

@@ -6,10 +6,10 @@
 
 mod formats;
 
-pub use apfloat_base::sig::Loss;
 pub use apfloat_ieee::{
     Flagged, IeeeFlags, IeeeFloat, NonfiniteBehavior, Semantics, TinyBefore, deliver,
 };
+pub use apfloat_model::Loss;
 pub use formats::{
     BFloat, BFloatS, Double, DoubleS, Float8E4M3FN, Float8E4M3FNS, Float8E4M3FNUZ, Float8E4M3FNUZS,
     Float8E5M2, Float8E5M2S, Half, HalfS, Quad, QuadS, Single, SingleS, X87DoubleExtended,

@@ -1,9 +1,9 @@
 -- The constants, the format and the layout of a format type with its flags.
-use Rattle.apfloat_base.specs.formats.Format.{Format}
-use Rattle.apfloat_base.specs.bits.Layout.{Layout}
-use Rattle.apfloat_base.specs.formats.Lawful.{Constants, constants_with, format_with, layout_with}
+use Rattle.apfloat_model.specs.formats.Format.{Format}
+use Rattle.apfloat_model.specs.bits.Layout.{Layout}
+use Rattle.apfloat_model.specs.formats.Lawful.{Constants, constants_with, format_with, layout_with}
 use Rattle.apfloat_ieee.specs.declared.flagged.Flagged.{Ghosts}
-use Rattle.apfloat_unpacked.specs.declared.shape.Shape.{Shape}
+use Rattle.apfloat_rounding.specs.declared.shape.Shape.{Shape}
 
 abbrev pub constants_of : {X : Type 0} → Ghosts X → Constants
 constants_of s =

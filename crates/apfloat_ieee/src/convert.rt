@@ -1,7 +1,7 @@
 //! Conversions between any two formats.
 
-ghost use Rattle.apfloat_base.specs.rounding.Flags.{bits_of};
-ghost use Rattle.apfloat_base.specs.arithmetic.Conversions.{IsConversion, IsExactlyConverted};
+ghost use Rattle.apfloat_model.specs.rounding.Flags.{bits_of};
+ghost use Rattle.apfloat_model.specs.arithmetic.Conversions.{IsConversion, IsExactlyConverted};
 ghost use Rattle.apfloat_ieee.specs.FlaggedTypes.{format_of};
 
 use crate::flagged::Flagged;

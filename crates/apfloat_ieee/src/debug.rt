@@ -3,14 +3,14 @@
 //! The significand is decimal, with the sign directly in front of it. For a nonzero number, it is a whole number below
 //! `2^PRECISION`, and the exponent is that of the integer bit, which is at least `MIN_EXP`.
 
-ghost use Rattle.apfloat_unpacked.specs.Stored.{IsStored, IsNormal};
+ghost use Rattle.apfloat_rounding.specs.Stored.{IsStored, IsNormal};
 
 use crate::flagged::Flagged;
 use crate::ieee_float::{IeeeFloat, shape_of};
-use apfloat_base::sig::steps_between;
 use apfloat_base::{Category, ExpInt, NonfiniteBehavior};
-use apfloat_unpacked::shape::Shape;
-use apfloat_unpacked::unpacked::Unpacked;
+use apfloat_rounding::shape::Shape;
+use apfloat_rounding::unpacked::Unpacked;
+use apfloat_words::steps_between;
 use std::fmt;
 
 /// The significand and the exponent of the integer bit that are shown for a value.

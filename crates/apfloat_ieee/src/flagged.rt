@@ -1,9 +1,9 @@
 //! Formats with the flags that their roundings raise.
 
 ghost use Rattle.std.specs.Prelude.{ℕ, ℤ, Bool, true, false};
-ghost use Rattle.apfloat_base.specs.declared.kinds.NonfiniteBehavior.{NonfiniteBehavior};
-ghost use Rattle.apfloat_base.specs.formats.Lawful.{IsLawful, constants_with};
-ghost use Rattle.apfloat_base.proofs.formats.OtherFlags.{other_flags};
+ghost use Rattle.apfloat_model.specs.declared.kinds.NonfiniteBehavior.{NonfiniteBehavior};
+ghost use Rattle.apfloat_model.specs.formats.Lawful.{IsLawful, constants_with};
+ghost use Rattle.apfloat_model.proofs.formats.OtherFlags.{other_flags};
 
 use crate::semantics::Semantics;
 use apfloat_base::{ExpInt, NonfiniteBehavior};

@@ -1,26 +1,26 @@
 //! A value of one format.
 
 ghost use Rattle.std.specs.Prelude.{◌≡◌, ℕ, ◌-◌, ◌*◌, ◌^◌, ◌<◌, ◌≤◌, ◌⊎◌, pos, ◌+ℤ◌, ◌≤ℤ◌, false};
-ghost use Rattle.apfloat_base.specs.declared.sig.loss.Loss.{Loss};
-ghost use Rattle.apfloat_base.specs.order.Classes.{category_of};
-ghost use Rattle.apfloat_base.specs.formats.Members.{IsMember};
-ghost use Rattle.apfloat_base.specs.rounding.Bounds.{IsWithin, exponent_bound};
-ghost use Rattle.apfloat_base.specs.rounding.Flags.{Gives};
-ghost use Rattle.apfloat_base.specs.rounding.Rounding.{IsDelivered};
-ghost use Rattle.apfloat_base.specs.rounding.Standing.{StandsFor, IsFineFor, up, down};
-ghost use Rattle.apfloat_base.specs.bits.Interchange.{IsInterchange};
-ghost use Rattle.apfloat_base.specs.bits.Layout.{IsEncodedBy, IsReadFrom};
-ghost use Rattle.apfloat_unpacked.specs.Encoded.{layout_at};
-ghost use Rattle.apfloat_unpacked.specs.Stored.{IsStored, datum_at};
+ghost use Rattle.apfloat_model.specs.declared.loss.Loss.{Loss};
+ghost use Rattle.apfloat_model.specs.order.Classes.{category_of};
+ghost use Rattle.apfloat_model.specs.formats.Members.{IsMember};
+ghost use Rattle.apfloat_model.specs.rounding.Bounds.{IsWithin, exponent_bound};
+ghost use Rattle.apfloat_model.specs.rounding.Flags.{Gives};
+ghost use Rattle.apfloat_model.specs.rounding.Rounding.{IsDelivered};
+ghost use Rattle.apfloat_model.specs.rounding.Standing.{StandsFor, IsFineFor, up, down};
+ghost use Rattle.apfloat_model.specs.bits.Interchange.{IsInterchange};
+ghost use Rattle.apfloat_model.specs.bits.Layout.{IsEncodedBy, IsReadFrom};
+ghost use Rattle.apfloat_rounding.specs.Encoded.{layout_at};
+ghost use Rattle.apfloat_rounding.specs.Stored.{IsStored, datum_at};
 ghost use Rattle.apfloat_ieee.specs.FlaggedTypes.{shape_of, format_of, layout_of};
 
 use crate::flagged::Flagged;
-use apfloat_base::sig::Loss;
 use apfloat_base::{ExpInt, Round, StatusAnd};
-use apfloat_unpacked::bits::{self, Widths};
-use apfloat_unpacked::rounding;
-use apfloat_unpacked::shape::Shape;
-use apfloat_unpacked::unpacked::Unpacked;
+use apfloat_model::Loss;
+use apfloat_rounding::bits::{self, Widths};
+use apfloat_rounding::rounding;
+use apfloat_rounding::shape::Shape;
+use apfloat_rounding::unpacked::Unpacked;
 use std::marker::{Model, PhantomData};
 
 /// A value of the format `S`.
@@ -31,9 +31,9 @@ pub struct IeeeFloat<S: Flagged> {
 }
 
 impl<S: Flagged> Model for IeeeFloat<S> {
-    ghost use Rattle.apfloat_base.specs.formats.Datum.{Datum};
-    ghost use Rattle.apfloat_unpacked.specs.Stored.{IsStored, datum_at, unpacked_of};
-    ghost use Rattle.apfloat_unpacked.proofs.StoredBack.{comes_back};
+    ghost use Rattle.apfloat_model.specs.formats.Datum.{Datum};
+    ghost use Rattle.apfloat_rounding.specs.Stored.{IsStored, datum_at, unpacked_of};
+    ghost use Rattle.apfloat_rounding.proofs.StoredBack.{comes_back};
     ghost use Rattle.apfloat_ieee.specs.FlaggedTypes.{shape_of};
 
     ghost Value = { Datum };

@@ -1,31 +1,31 @@
 //! `Float` for each format, and `Default`.
 
 ghost use Rattle.std.specs.Prelude.{◌≡◌, ◌^◌, ◌<◌, ℕ, true, false, leb, IsTrue, refl};
-ghost use Rattle.apfloat_base.specs.rounding.Flags.{Gives, bits_of};
-ghost use Rattle.apfloat_base.specs.formats.Nan.{qnan, snan, is_signaling_nan};
-ghost use Rattle.apfloat_base.specs.rounding.Negation.{negated};
-ghost use Rattle.apfloat_base.specs.arithmetic.Sums.{IsSum, IsDifference, IsMonotone, IsNearby};
-ghost use Rattle.apfloat_base.proofs.whole_numbers.SignedNumbers.{signed_above, signed_below, largest_some};
-ghost use Rattle.apfloat_base.specs.arithmetic.Remainders.{IsTruncatedRemainder, IsNearestRemainder};
-ghost use Rattle.apfloat_base.specs.arithmetic.Exponents.{IsExactInverse, IsIlogb, IsFrexp};
-ghost use Rattle.apfloat_base.specs.formats.Members.{IsMember};
-ghost use Rattle.apfloat_base.specs.declared.kinds.NonfiniteBehavior.TheVariants.{IEEE754};
-ghost use Rattle.apfloat_base.specs.order.Classes.{category_of, is_negative, is_denormal, is_finite_non_zero, is_integer, same_datum};
-ghost use Rattle.apfloat_base.specs.order.Order.{AreFiniteNonZero, compared_magnitudes};
-ghost use Rattle.apfloat_base.specs.arithmetic.Products.{IsProduct, IsOpposite, product_limit};
-ghost use Rattle.apfloat_base.specs.arithmetic.Quotients.{IsQuotient};
+ghost use Rattle.apfloat_model.specs.rounding.Flags.{Gives, bits_of};
+ghost use Rattle.apfloat_model.specs.formats.Nan.{qnan, snan, is_signaling_nan};
+ghost use Rattle.apfloat_model.specs.rounding.Negation.{negated};
+ghost use Rattle.apfloat_model.specs.arithmetic.Sums.{IsSum, IsDifference, IsMonotone, IsNearby};
+ghost use Rattle.apfloat_model.proofs.whole_numbers.SignedNumbers.{signed_above, signed_below, largest_some};
+ghost use Rattle.apfloat_model.specs.arithmetic.Remainders.{IsTruncatedRemainder, IsNearestRemainder};
+ghost use Rattle.apfloat_model.specs.arithmetic.Exponents.{IsExactInverse, IsIlogb, IsFrexp};
+ghost use Rattle.apfloat_model.specs.formats.Members.{IsMember};
+ghost use Rattle.apfloat_model.specs.declared.kinds.NonfiniteBehavior.TheVariants.{IEEE754};
+ghost use Rattle.apfloat_model.specs.order.Classes.{category_of, is_negative, is_denormal, is_finite_non_zero, is_integer, same_datum};
+ghost use Rattle.apfloat_model.specs.order.Order.{AreFiniteNonZero, compared_magnitudes};
+ghost use Rattle.apfloat_model.specs.arithmetic.Products.{IsProduct, IsOpposite, product_limit};
+ghost use Rattle.apfloat_model.specs.arithmetic.Quotients.{IsQuotient};
 ghost use Rattle.std.proofs.lemmas.Bool.{leb-true};
-ghost use Rattle.apfloat_base.specs.formats.Constants.{zero_datum, smallest_datum, infinity_datum, largest_datum, smallest_normalized_datum};
-ghost use Rattle.apfloat_base.specs.bits.Layout.{datum_of, IsEncodedBy, IsReadFrom};
-ghost use Rattle.apfloat_base.specs.arithmetic.NextUp.{IsNextUp, IsNextDown};
-ghost use Rattle.apfloat_base.specs.rounding.Rounding.{ok_bits};
-ghost use Rattle.apfloat_base.specs.arithmetic.Scaling.{IsScaling};
-ghost use Rattle.apfloat_base.specs.whole_numbers.WholeNumbers.{IsFromUnsigned, IsFromSigned, IsRoundToIntegral};
-ghost use Rattle.apfloat_base.specs.whole_numbers.WholeNumbersOut.{IsToUnsigned, IsToSigned};
+ghost use Rattle.apfloat_model.specs.formats.Constants.{zero_datum, smallest_datum, infinity_datum, largest_datum, smallest_normalized_datum};
+ghost use Rattle.apfloat_model.specs.bits.Layout.{datum_of, IsEncodedBy, IsReadFrom};
+ghost use Rattle.apfloat_model.specs.arithmetic.NextUp.{IsNextUp, IsNextDown};
+ghost use Rattle.apfloat_model.specs.rounding.Rounding.{ok_bits};
+ghost use Rattle.apfloat_model.specs.arithmetic.Scaling.{IsScaling};
+ghost use Rattle.apfloat_model.specs.whole_numbers.WholeNumbers.{IsFromUnsigned, IsFromSigned, IsRoundToIntegral};
+ghost use Rattle.apfloat_model.specs.whole_numbers.WholeNumbersOut.{IsToUnsigned, IsToSigned};
 ghost use Rattle.apfloat_conversions.proofs.ToSigned.{to_signed_above, to_signed_below};
-ghost use Rattle.apfloat_base.specs.texts.Parsing.{IsRead};
-ghost use Rattle.apfloat_base.proofs.Determined.{determined, scale_some};
-ghost use Rattle.apfloat_base.proofs.bits.Encodings.{lawful_interchange};
+ghost use Rattle.apfloat_model.specs.texts.Parsing.{IsRead};
+ghost use Rattle.apfloat_model.proofs.Determined.{determined, scale_some};
+ghost use Rattle.apfloat_model.proofs.bits.Encodings.{lawful_interchange};
 ghost use Rattle.apfloat_ieee.specs.FlaggedTypes.{constants_of, format_of, layout_of};
 
 use crate::flagged::Flagged;
@@ -43,8 +43,8 @@ use apfloat_conversions::integers::{from_unsigned, to_unsigned};
 use apfloat_conversions::integral::{is_integer, round_to_integral};
 use apfloat_conversions::neighbours::next_up;
 use apfloat_conversions::scaling::{fraction_of, ilogb, scaled};
-use apfloat_unpacked::nans::{is_signaling, quiet_nan, signaling_nan};
-use apfloat_unpacked::unpacked::{
+use apfloat_rounding::nans::{is_signaling, quiet_nan, signaling_nan};
+use apfloat_rounding::unpacked::{
     infinity_of, largest_of, smallest_normalized_of, smallest_of, zero_of,
 };
 use std::cmp::Ordering;

@@ -1,7 +1,7 @@
 //! Arithmetic on the values of one binary floating-point format, generic over the format.
 //!
 //! A format is a type that implements `Semantics`; `IeeeFloat<S>` is a value of the format `S`. The work is done by the
-//! functions of `apfloat_unpacked`, `apfloat_arithmetic`, `apfloat_conversions` and `apfloat_texts`, which take a
+//! functions of `apfloat_rounding`, `apfloat_arithmetic`, `apfloat_conversions` and `apfloat_hex_texts`, which take a
 //! `Shape`, the constants of a format that rounding reads; the generic functions only supply a type's constants.
 #![tactic(auto)]
 

@@ -1,7 +1,7 @@
 //! The order of the values of one format, `==` and `<`, and when two values are the same.
 
 ghost use Rattle.std.specs.Prelude.{◌≡◌};
-ghost use Rattle.apfloat_base.specs.order.Order.{compared};
+ghost use Rattle.apfloat_model.specs.order.Order.{compared};
 
 use crate::flagged::Flagged;
 use crate::ieee_float::IeeeFloat;
@@ -17,8 +17,8 @@ fn compare<S: Flagged>(x: IeeeFloat<S>, y: IeeeFloat<S>) -> Option<Ordering>
 }
 
 impl<S: Flagged> PartialEq for IeeeFloat<S> {
-    ghost use Rattle.apfloat_base.specs.order.Order.{is_equal};
-    ghost use Rattle.apfloat_base.proofs.order.OrderLaws.{equal_laws};
+    ghost use Rattle.apfloat_model.specs.order.Order.{is_equal};
+    ghost use Rattle.apfloat_model.proofs.order.OrderLaws.{equal_laws};
 
     ghost eq = { is_equal };
 
@@ -35,8 +35,8 @@ impl<S: Flagged> PartialEq for IeeeFloat<S> {
 }
 
 impl<S: Flagged> PartialOrd for IeeeFloat<S> {
-    ghost use Rattle.apfloat_base.specs.order.Order.{compared};
-    ghost use Rattle.apfloat_base.proofs.order.OrderLaws.{compared_laws};
+    ghost use Rattle.apfloat_model.specs.order.Order.{compared};
+    ghost use Rattle.apfloat_model.proofs.order.OrderLaws.{compared_laws};
 
     ghost partial_cmp = { compared };
 

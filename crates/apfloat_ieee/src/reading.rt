@@ -1,11 +1,11 @@
 //! Reading texts.
 
 ghost use Rattle.std.specs.Prelude.{◌≡◌, Result};
-ghost use Rattle.apfloat_base.specs.declared.kinds.Round.TheVariants.{NearestTiesToEven};
-ghost use Rattle.apfloat_base.specs.declared.parse_error.ParseError.{ParseError};
-ghost use Rattle.apfloat_base.specs.declared.status.StatusAnd.{StatusAnd};
-ghost use Rattle.apfloat_base.specs.formats.Datum.{Datum};
-ghost use Rattle.apfloat_base.specs.texts.Parsing.{IsRead, without_status};
+ghost use Rattle.apfloat_model.specs.declared.kinds.Round.TheVariants.{NearestTiesToEven};
+ghost use Rattle.apfloat_model.specs.declared.parse_error.ParseError.{ParseError};
+ghost use Rattle.apfloat_model.specs.declared.status.StatusAnd.{StatusAnd};
+ghost use Rattle.apfloat_model.specs.formats.Datum.{Datum};
+ghost use Rattle.apfloat_model.specs.texts.Parsing.{IsRead, without_status};
 ghost use Rattle.apfloat_ieee.specs.FlaggedTypes.{format_of};
 
 use crate::flagged::Flagged;
@@ -21,7 +21,7 @@ pub(crate) fn read<S: Flagged>(
 ) -> Result<StatusAnd<IeeeFloat<S>>, ParseError>
     ensures { IsRead (format_of S.Flagged) round text.now result }
 {
-    match apfloat_texts::read(shape_of::<S>(), text, round) {
+    match apfloat_hex_texts::read(shape_of::<S>(), text, round) {
         Ok(answer) => Ok(IeeeFloat::answered(answer)),
         Err(error) => Err(error),
     }

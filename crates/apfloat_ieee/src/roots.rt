@@ -1,9 +1,9 @@
 //! Square roots of values of one format.
 
-ghost use Rattle.apfloat_base.specs.declared.kinds.Round.TheVariants.{NearestTiesToEven, NearestTiesToAway};
-ghost use Rattle.apfloat_base.specs.rounding.Flags.{Gives};
-ghost use Rattle.apfloat_base.specs.formats.Members.{IsMember};
-ghost use Rattle.apfloat_base.specs.arithmetic.Roots.{IsRoot};
+ghost use Rattle.apfloat_model.specs.declared.kinds.Round.TheVariants.{NearestTiesToEven, NearestTiesToAway};
+ghost use Rattle.apfloat_model.specs.rounding.Flags.{Gives};
+ghost use Rattle.apfloat_model.specs.formats.Members.{IsMember};
+ghost use Rattle.apfloat_model.specs.arithmetic.Roots.{IsRoot};
 ghost use Rattle.apfloat_ieee.specs.FlaggedTypes.{format_of};
 
 use crate::flagged::Flagged;

@@ -1,9 +1,9 @@
 //! What a format is.
 
 ghost use Rattle.std.specs.Prelude.{◌≡◌, ℕ, ℤ, ◌^◌, ◌<◌, Bool, false};
-ghost use Rattle.apfloat_base.specs.declared.kinds.NonfiniteBehavior.{NonfiniteBehavior};
-ghost use Rattle.apfloat_base.specs.bits.Layout.{IsEncodedBy, IsReadFrom};
-ghost use Rattle.apfloat_base.specs.formats.Lawful.{IsLawful, constants_with, format_with, layout_with};
+ghost use Rattle.apfloat_model.specs.declared.kinds.NonfiniteBehavior.{NonfiniteBehavior};
+ghost use Rattle.apfloat_model.specs.bits.Layout.{IsEncodedBy, IsReadFrom};
+ghost use Rattle.apfloat_model.specs.formats.Lawful.{IsLawful, constants_with, format_with, layout_with};
 
 use crate::ieee_float::{IeeeFloat, decode, encode};
 use apfloat_base::{ExpInt, NonfiniteBehavior};

@@ -1,11 +1,11 @@
 //! Sums and differences of values of one format, negation, and the operators `-`, `+`, `+=` and `-=`.
 
 ghost use Rattle.std.specs.Prelude.{◌≡◌};
-ghost use Rattle.apfloat_base.specs.declared.kinds.Round.TheVariants.{NearestTiesToEven};
-ghost use Rattle.apfloat_base.specs.declared.status.StatusAnd.{StatusAnd};
-ghost use Rattle.apfloat_base.specs.rounding.Flags.{Gives};
-ghost use Rattle.apfloat_base.specs.rounding.Negation.{negated};
-ghost use Rattle.apfloat_base.specs.arithmetic.Sums.{IsSum, IsDifference, IsMonotone, IsNearby};
+ghost use Rattle.apfloat_model.specs.declared.kinds.Round.TheVariants.{NearestTiesToEven};
+ghost use Rattle.apfloat_model.specs.declared.status.StatusAnd.{StatusAnd};
+ghost use Rattle.apfloat_model.specs.rounding.Flags.{Gives};
+ghost use Rattle.apfloat_model.specs.rounding.Negation.{negated};
+ghost use Rattle.apfloat_model.specs.arithmetic.Sums.{IsSum, IsDifference, IsMonotone, IsNearby};
 ghost use Rattle.apfloat_ieee.specs.FlaggedTypes.{format_of};
 
 use crate::flagged::Flagged;

@@ -1,9 +1,9 @@
 //! Products and fused sums in every format, however many digits it has.
 
-ghost use Rattle.apfloat_base.specs.declared.kinds.Round.TheVariants.{NearestTiesToEven};
-ghost use Rattle.apfloat_base.specs.rounding.Flags.{Gives};
-ghost use Rattle.apfloat_base.specs.arithmetic.Products.{IsProduct};
-ghost use Rattle.apfloat_base.specs.arithmetic.FusedSums.{IsFusedSum};
+ghost use Rattle.apfloat_model.specs.declared.kinds.Round.TheVariants.{NearestTiesToEven};
+ghost use Rattle.apfloat_model.specs.rounding.Flags.{Gives};
+ghost use Rattle.apfloat_model.specs.arithmetic.Products.{IsProduct};
+ghost use Rattle.apfloat_model.specs.arithmetic.FusedSums.{IsFusedSum};
 ghost use Rattle.apfloat_ieee.specs.FlaggedTypes.{format_of};
 
 use crate::flagged::Flagged;

@@ -3,14 +3,14 @@ use Rattle.std.proofs.Common.{◌≡◌, ◌+◌, ◌^◌, false, true, refl, sy
 use Rattle.std.specs.Prelude.{ℤ, pos, neg_ℤ}
 use Rattle.std.proofs.lemmas.Bool.{false≢true, le-leb}
 use Rattle.std.proofs.lemmas.Int.{ints}
-use Rattle.apfloat_base.specs.declared.kinds.Round.TheVariants.{NearestTiesToEven}
-use Rattle.apfloat_base.specs.formats.Datum.{Datum, finite}
-use Rattle.apfloat_base.specs.arithmetic.Exact.{magnitude}
-use Rattle.apfloat_base.specs.order.Order.{is_equal}
-use Rattle.apfloat_base.specs.rounding.Rounding.{ok_bits, inexact_bit}
-use Rattle.apfloat_base.specs.arithmetic.Sums.{IsSum}
-use Rattle.apfloat_base.proofs.Once.{sum_once}
-use Rattle.apfloat_base.proofs.rows.RowsIn.{rounded}
+use Rattle.apfloat_model.specs.declared.kinds.Round.TheVariants.{NearestTiesToEven}
+use Rattle.apfloat_model.specs.formats.Datum.{Datum, finite}
+use Rattle.apfloat_model.specs.arithmetic.Exact.{magnitude}
+use Rattle.apfloat_model.specs.order.Order.{is_equal}
+use Rattle.apfloat_model.specs.rounding.Rounding.{ok_bits, inexact_bit}
+use Rattle.apfloat_model.specs.arithmetic.Sums.{IsSum}
+use Rattle.apfloat_model.proofs.Once.{sum_once}
+use Rattle.apfloat_model.proofs.rows.RowsIn.{rounded}
 use Rattle.apfloat_pair_theory.specs.PairFormats.{double}
 use Rattle.apfloat_pair_theory.specs.Pairs.{IsNormalised}
 use Rattle.apfloat_pair_theory.specs.PairAccuracy.{HaveExponents, IsErrorFreeSum, IsAccurateSum, IsAccurateProduct}

@@ -2,10 +2,10 @@
 -- exist. `nearest_sum_is` says that it satisfies the relation; proofs/parts/DenormalPairs.antt, that nothing else does.
 use Rattle.std.specs.Prelude.{ℕ}
 use Rattle.std.proofs.Common.{lit<}
-use Rattle.apfloat_base.specs.declared.kinds.Round.TheVariants.{NearestTiesToEven}
-use Rattle.apfloat_base.specs.formats.Datum.{Datum}
-use Rattle.apfloat_base.specs.arithmetic.Sums.{IsSum}
-use Rattle.apfloat_base.proofs.AnswersExist.{sum_exists}
+use Rattle.apfloat_model.specs.declared.kinds.Round.TheVariants.{NearestTiesToEven}
+use Rattle.apfloat_model.specs.formats.Datum.{Datum}
+use Rattle.apfloat_model.specs.arithmetic.Sums.{IsSum}
+use Rattle.apfloat_model.proofs.AnswersExist.{sum_exists}
 use Rattle.apfloat_pair_theory.specs.PairFormats.{double}
 
 pub nearest_sum : Datum → Datum → Datum

@@ -3,21 +3,21 @@
 -- way of the next value up of the negation.
 use Rattle.std.specs.Prelude.{◌≡◌, ⊤, ℕ, ◌-◌, ℤ, pos, Bool, Option, Some, None, Result, Ok, Err, List, unsigned_abs, int_lt}
 use Rattle.std.specs.Bool.{MatchBool}
-use Rattle.apfloat_base.specs.declared.kinds.Round.{Round}
-use Rattle.apfloat_base.specs.declared.parse_error.ParseError.{ParseError}
-use Rattle.apfloat_base.specs.declared.status.StatusAnd.{StatusAnd}
-use Rattle.apfloat_base.specs.rounding.Flags.{Gives}
-use Rattle.apfloat_base.specs.formats.Datum.{Datum}
-use Rattle.apfloat_base.specs.rounding.Negation.{swapped}
-use Rattle.apfloat_base.specs.order.Classes.{is_negative, is_zero}
-use Rattle.apfloat_base.specs.arithmetic.Quotients.{IsQuotient}
-use Rattle.apfloat_base.specs.arithmetic.Remainders.{IsTruncatedRemainder, IsNearestRemainder}
-use Rattle.apfloat_base.specs.arithmetic.Exponents.{IsExactInverse}
-use Rattle.apfloat_base.specs.whole_numbers.WholeNumbers.{IsFromUnsigned, IsRoundToIntegral}
-use Rattle.apfloat_base.specs.whole_numbers.WholeNumbersOut.{IsToUnsigned}
-use Rattle.apfloat_base.specs.whole_numbers.SignedWholes.{IsNegatedWhole}
-use Rattle.apfloat_base.specs.arithmetic.NextUp.{IsNextUp}
-use Rattle.apfloat_base.specs.texts.Readings.{IsReading, IsRefusal}
+use Rattle.apfloat_model.specs.declared.kinds.Round.{Round}
+use Rattle.apfloat_model.specs.declared.parse_error.ParseError.{ParseError}
+use Rattle.apfloat_model.specs.declared.status.StatusAnd.{StatusAnd}
+use Rattle.apfloat_model.specs.rounding.Flags.{Gives}
+use Rattle.apfloat_model.specs.formats.Datum.{Datum}
+use Rattle.apfloat_model.specs.rounding.Negation.{swapped}
+use Rattle.apfloat_model.specs.order.Classes.{is_negative, is_zero}
+use Rattle.apfloat_model.specs.arithmetic.Quotients.{IsQuotient}
+use Rattle.apfloat_model.specs.arithmetic.Remainders.{IsTruncatedRemainder, IsNearestRemainder}
+use Rattle.apfloat_model.specs.arithmetic.Exponents.{IsExactInverse}
+use Rattle.apfloat_model.specs.whole_numbers.WholeNumbers.{IsFromUnsigned, IsRoundToIntegral}
+use Rattle.apfloat_model.specs.whole_numbers.WholeNumbersOut.{IsToUnsigned}
+use Rattle.apfloat_model.specs.whole_numbers.SignedWholes.{IsNegatedWhole}
+use Rattle.apfloat_model.specs.arithmetic.NextUp.{IsNextUp}
+use Rattle.apfloat_model.specs.texts.Readings.{IsReading, IsRefusal}
 use Rattle.apfloat_pair_theory.specs.PairFormats.{wide}
 use Rattle.apfloat_pair_theory.specs.Pairs.{Pair, negated_pair, IsJoined, IsSplit, IsSplitAnswer, IsWideAnswer, IsWideAnswerOfTwo}
 

@@ -1,8 +1,8 @@
 -- The square root of a pair of doubles: that of the joined pair in the wide format, split; the status is that of the
 -- wide root.
 use Rattle.std.specs.Prelude.{ℕ}
-use Rattle.apfloat_base.specs.declared.kinds.Round.{Round}
-use Rattle.apfloat_base.specs.arithmetic.Roots.{IsRoot}
+use Rattle.apfloat_model.specs.declared.kinds.Round.{Round}
+use Rattle.apfloat_model.specs.arithmetic.Roots.{IsRoot}
 use Rattle.apfloat_pair_theory.specs.PairFormats.{wide}
 use Rattle.apfloat_pair_theory.specs.Pairs.{Pair, IsWideAnswer}
 

@@ -2,19 +2,19 @@
 -- joined.
 use Rattle.std.specs.Prelude.{◌≡◌, ℕ, ltb, if◌then◌else◌, bit_or}
 use Rattle.std.specs.Bool.{MatchBool}
-use Rattle.apfloat_base.specs.arithmetic.Exact.{same_sign}
-use Rattle.apfloat_base.specs.declared.kinds.Round.{Round}
-use Rattle.apfloat_base.specs.declared.kinds.NonfiniteBehavior.TheVariants.{IEEE754}
-use Rattle.apfloat_base.specs.formats.Datum.{Datum}
-use Rattle.apfloat_base.specs.rounding.Rounding.{ok_bits}
-use Rattle.apfloat_base.specs.formats.Nan.{invalid_bit}
-use Rattle.apfloat_base.specs.rounding.Negation.{negated}
-use Rattle.apfloat_base.specs.order.Classes.{is_negative, is_finite, is_infinite, quanta_of, same_datum}
-use Rattle.apfloat_base.specs.arithmetic.Sums.{IsSum, IsDifference}
+use Rattle.apfloat_model.specs.arithmetic.Exact.{same_sign}
+use Rattle.apfloat_model.specs.declared.kinds.Round.{Round}
+use Rattle.apfloat_model.specs.declared.kinds.NonfiniteBehavior.TheVariants.{IEEE754}
+use Rattle.apfloat_model.specs.formats.Datum.{Datum}
+use Rattle.apfloat_model.specs.rounding.Rounding.{ok_bits}
+use Rattle.apfloat_model.specs.formats.Nan.{invalid_bit}
+use Rattle.apfloat_model.specs.rounding.Negation.{negated}
+use Rattle.apfloat_model.specs.order.Classes.{is_negative, is_finite, is_infinite, quanta_of, same_datum}
+use Rattle.apfloat_model.specs.arithmetic.Sums.{IsSum, IsDifference}
 use Rattle.apfloat_pair_theory.specs.PairFormats.{double}
 use Rattle.apfloat_pair_theory.specs.Pairs.{Pair, IsPairAnswer, alone, positive_zero, negated_pair, pair_category, pair_nan_signed_as}
-use Rattle.apfloat_base.specs.declared.kinds.Category.{Category}
-use Rattle.apfloat_base.specs.declared.kinds.Category.TheVariants.{Zero, Normal, Infinity, NaN}
+use Rattle.apfloat_model.specs.declared.kinds.Category.{Category}
+use Rattle.apfloat_model.specs.declared.kinds.Category.TheVariants.{Zero, Normal, Infinity, NaN}
 
 -- the flags of both
 infixl 70 ◌∪◌

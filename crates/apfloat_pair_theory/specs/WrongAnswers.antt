@@ -1,7 +1,7 @@
 -- Operands, and the results that a chain of steps would have for them with one step left out: the laws on sums and
 -- products refuse each.
 use Rattle.std.specs.Prelude.{◌^◌, false}
-use Rattle.apfloat_base.specs.formats.Datum.{finite}
+use Rattle.apfloat_model.specs.formats.Datum.{finite}
 use Rattle.apfloat_pair_theory.specs.Pairs.{Pair, alone}
 
 abbrev pub one : Pair

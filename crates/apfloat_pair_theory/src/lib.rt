@@ -9,10 +9,10 @@
 #![tactic(auto)]
 
 ghost use Rattle.std.specs.Prelude.{◌≡◌, ℕ, ◌^◌, ◌<◌, ℤ};
-ghost use Rattle.apfloat_base.specs.declared.kinds.Round.{Round};
-ghost use Rattle.apfloat_base.specs.declared.kinds.Round.TheVariants.{NearestTiesToEven};
-ghost use Rattle.apfloat_base.specs.formats.Datum.{Datum};
-ghost use Rattle.apfloat_base.specs.formats.Members.{IsMember};
+ghost use Rattle.apfloat_model.specs.declared.kinds.Round.{Round};
+ghost use Rattle.apfloat_model.specs.declared.kinds.Round.TheVariants.{NearestTiesToEven};
+ghost use Rattle.apfloat_model.specs.formats.Datum.{Datum};
+ghost use Rattle.apfloat_model.specs.formats.Members.{IsMember};
 ghost use Rattle.apfloat_pair_theory.specs.PairFormats.{double};
 ghost use Rattle.apfloat_pair_theory.specs.Pairs.{Pair, IsSplit, negated_pair, pair_of, IsPairEncodedBy};
 ghost use Rattle.apfloat_pair_theory.specs.PairSums.{IsPairSum, IsPairDifference};

@@ -3,16 +3,16 @@ use Rattle.std.proofs.Common.{◌≡◌, ℕ, zero, suc, ◌-◌, ◌<◌, ◌�
 use Rattle.std.specs.Prelude.{ℤ, pos, neg_ℤ, ◌-ℤ◌, ◌≤ℤ◌}
 use Rattle.std.proofs.lemmas.Bool.{MatchBool-at_false, ne_eqb}
 use Rattle.std.proofs.lemmas.Int.{to_z-of_z, ints}
-use Rattle.apfloat_base.specs.declared.kinds.Category.TheVariants.{Normal}
-use Rattle.apfloat_base.specs.declared.kinds.Round.{Round}
-use Rattle.apfloat_base.specs.formats.Datum.{Datum, finite, infinite, nan}
-use Rattle.apfloat_base.specs.order.Classes.{category_of, is_finite_non_zero, is_finite_non_zero_category}
-use Rattle.apfloat_base.proofs.order.PredicatesAgree.{number_agrees}
-use Rattle.apfloat_base.specs.arithmetic.Exponents.{IsFraction, IsFrexp}
-use Rattle.apfloat_base.specs.formats.Members.{IsMember}
-use Rattle.apfloat_base.specs.arithmetic.Scaling.{IsScaling}
-use Rattle.apfloat_base.proofs.arithmetic.FractionExponents.{IsExponentWithin, exponent_within}
-use Rattle.apfloat_base.proofs.general.Choices.{match_true}
+use Rattle.apfloat_model.specs.declared.kinds.Category.TheVariants.{Normal}
+use Rattle.apfloat_model.specs.declared.kinds.Round.{Round}
+use Rattle.apfloat_model.specs.formats.Datum.{Datum, finite, infinite, nan}
+use Rattle.apfloat_model.specs.order.Classes.{category_of, is_finite_non_zero, is_finite_non_zero_category}
+use Rattle.apfloat_model.proofs.order.PredicatesAgree.{number_agrees}
+use Rattle.apfloat_model.specs.arithmetic.Exponents.{IsFraction, IsFrexp}
+use Rattle.apfloat_model.specs.formats.Members.{IsMember}
+use Rattle.apfloat_model.specs.arithmetic.Scaling.{IsScaling}
+use Rattle.apfloat_model.proofs.arithmetic.FractionExponents.{IsExponentWithin, exponent_within}
+use Rattle.apfloat_model.proofs.general.Choices.{match_true}
 use Rattle.apfloat_pair_theory.specs.PairFormats.{double}
 use Rattle.apfloat_pair_theory.specs.Pairs.{Pair}
 use Rattle.apfloat_pair_theory.specs.PairParts.{IsPairFraction}

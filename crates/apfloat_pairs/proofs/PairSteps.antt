@@ -3,21 +3,21 @@ use Rattle.std.proofs.Common.{◌≡◌, ℕ, Bool, true, false, not, ◌&&◌, 
 use Rattle.std.proofs.Math.Path.{subst₂}
 use mathlib.Core.Bool.{beq}
 use Rattle.std.specs.Bool.{MatchBool}
-use Rattle.apfloat_base.specs.declared.kinds.Category.{Category}
-use Rattle.apfloat_base.specs.declared.kinds.Round.{Round}
-use Rattle.apfloat_base.specs.formats.Datum.{Datum}
-use Rattle.apfloat_base.specs.order.Classes.{category_of, is_finite, is_finite_non_zero, is_negative, is_finite_non_zero_category, is_denormal}
-use Rattle.apfloat_base.specs.arithmetic.Exact.{same_sign}
-use Rattle.apfloat_base.specs.formats.Nan.{invalid_bit}
-use Rattle.apfloat_base.specs.rounding.Rounding.{ok_bits}
-use Rattle.apfloat_base.specs.order.Predicates.{is_finite_category}
-use Rattle.apfloat_base.proofs.order.PredicatesAgree.{finite_agrees, number_agrees}
-use Rattle.apfloat_base.proofs.general.Choices.{same_beq, match_true, match_false}
-use Rattle.apfloat_base.specs.declared.kinds.Round.TheVariants.{NearestTiesToEven}
-use Rattle.apfloat_base.specs.order.Order.{is_equal}
-use Rattle.apfloat_base.specs.formats.Members.{IsMember}
-use Rattle.apfloat_base.specs.arithmetic.Sums.{IsSum, IsDifference}
-use Rattle.apfloat_base.specs.arithmetic.Products.{IsProduct}
+use Rattle.apfloat_model.specs.declared.kinds.Category.{Category}
+use Rattle.apfloat_model.specs.declared.kinds.Round.{Round}
+use Rattle.apfloat_model.specs.formats.Datum.{Datum}
+use Rattle.apfloat_model.specs.order.Classes.{category_of, is_finite, is_finite_non_zero, is_negative, is_finite_non_zero_category, is_denormal}
+use Rattle.apfloat_model.specs.arithmetic.Exact.{same_sign}
+use Rattle.apfloat_model.specs.formats.Nan.{invalid_bit}
+use Rattle.apfloat_model.specs.rounding.Rounding.{ok_bits}
+use Rattle.apfloat_model.specs.order.Predicates.{is_finite_category}
+use Rattle.apfloat_model.proofs.order.PredicatesAgree.{finite_agrees, number_agrees}
+use Rattle.apfloat_model.proofs.general.Choices.{same_beq, match_true, match_false}
+use Rattle.apfloat_model.specs.declared.kinds.Round.TheVariants.{NearestTiesToEven}
+use Rattle.apfloat_model.specs.order.Order.{is_equal}
+use Rattle.apfloat_model.specs.formats.Members.{IsMember}
+use Rattle.apfloat_model.specs.arithmetic.Sums.{IsSum, IsDifference}
+use Rattle.apfloat_model.specs.arithmetic.Products.{IsProduct}
 use Rattle.apfloat_pair_theory.specs.PairFormats.{double, wide}
 use Rattle.apfloat_pair_theory.specs.Pairs.{Pair, IsPairAnswer, IsJoined, IsSplit, IsSplitAnswer, IsSumOfParts, IsWidened, IsWideAnswer, IsWideAnswerOfTwo, alone, negated_pair, pair_category, pair_nan_signed_as}
 use Rattle.apfloat_pair_theory.specs.PairSums.{◌∪◌, greater, lesser, IsClosed, IsSumAnew, IsSumAnewLow, IsSumOfInfinities, IsSumOfCategories, IsPairSum, IsPairDifference}

@@ -1,12 +1,12 @@
 //! `Float` for pairs of doubles, `Default` and `FromStr`.
 
 ghost use Rattle.std.specs.Prelude.{◌≡◌, ◌^◌, ◌<◌, pos, negsuc, true, List, ℕ, Result, refl};
-ghost use Rattle.apfloat_base.specs.declared.kinds.Round.TheVariants.{NearestTiesToEven};
-ghost use Rattle.apfloat_base.specs.declared.parse_error.ParseError.{ParseError};
-ghost use Rattle.apfloat_base.specs.declared.status.StatusAnd.{StatusAnd};
-ghost use Rattle.apfloat_base.specs.rounding.Flags.{Gives, bits_of};
-ghost use Rattle.apfloat_base.specs.formats.Members.{IsMember};
-ghost use Rattle.apfloat_base.specs.texts.Parsing.{without_status};
+ghost use Rattle.apfloat_model.specs.declared.kinds.Round.TheVariants.{NearestTiesToEven};
+ghost use Rattle.apfloat_model.specs.declared.parse_error.ParseError.{ParseError};
+ghost use Rattle.apfloat_model.specs.declared.status.StatusAnd.{StatusAnd};
+ghost use Rattle.apfloat_model.specs.rounding.Flags.{Gives, bits_of};
+ghost use Rattle.apfloat_model.specs.formats.Members.{IsMember};
+ghost use Rattle.apfloat_model.specs.texts.Parsing.{without_status};
 ghost use Rattle.apfloat_pair_theory.specs.PairFormats.{double};
 ghost use Rattle.apfloat_pair_theory.specs.Pairs.{Pair, negated_pair, pair_category, pair_of, IsPairEncodedBy};
 ghost use Rattle.apfloat_pair_theory.specs.PairSums.{IsPairSum, IsPairDifference};

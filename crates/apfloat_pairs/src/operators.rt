@@ -1,9 +1,9 @@
 //! The operators on pairs: each is a call, rounded to nearest, ties to even. Assigning operators drop the status.
 
 ghost use Rattle.std.specs.Prelude.{◌≡◌};
-ghost use Rattle.apfloat_base.specs.declared.kinds.Round.TheVariants.{NearestTiesToEven};
-ghost use Rattle.apfloat_base.specs.declared.status.StatusAnd.{StatusAnd};
-ghost use Rattle.apfloat_base.specs.rounding.Flags.{Gives, bits_of};
+ghost use Rattle.apfloat_model.specs.declared.kinds.Round.TheVariants.{NearestTiesToEven};
+ghost use Rattle.apfloat_model.specs.declared.status.StatusAnd.{StatusAnd};
+ghost use Rattle.apfloat_model.specs.rounding.Flags.{Gives, bits_of};
 ghost use Rattle.apfloat_pair_theory.specs.Pairs.{negated_pair};
 ghost use Rattle.apfloat_pair_theory.specs.PairSums.{IsPairSum, IsPairDifference};
 ghost use Rattle.apfloat_pair_theory.specs.PairProducts.{IsPairProduct};

@@ -1,16 +1,17 @@
 //! Products of pairs: each step is an operation on doubles in the mode, and the flags of the steps are joined.
 
 ghost use Rattle.std.specs.Prelude.{◌≡◌};
-ghost use Rattle.apfloat_base.specs.declared.kinds.Round.TheVariants.{NearestTiesToEven};
-ghost use Rattle.apfloat_base.specs.rounding.Flags.{Gives, bits_of};
+ghost use Rattle.apfloat_model.specs.declared.kinds.Round.TheVariants.{NearestTiesToEven};
+ghost use Rattle.apfloat_model.specs.rounding.Flags.{Gives, bits_of};
 ghost use Rattle.apfloat_pair_theory.specs.PairProducts.{IsLostOfProduct, IsPairProduct, IsProductOfCategories, IsProductOfNumbers};
 ghost use Rattle.apfloat_pair_theory.specs.PairAccuracy.{IsAccurateProduct, IsErrorFreeProduct};
 
 use crate::DoubleFloat;
 use crate::parts::category;
 use crate::sums::closed;
-use apfloat_base::{Category, Float, Round, Status, StatusAnd, unpack};
+use apfloat_base::{Category, Float, Round, Status, StatusAnd};
 use apfloat_formats::Double;
+use apfloat_model::unpack;
 
 /// The error of the product `t` of the high parts, plus the products of a high part and a low part.
 #[inline]

@@ -1,18 +1,19 @@
 //! Sums of pairs: each step is a sum or a difference of doubles in the mode, and the flags of the steps are joined.
 
 ghost use Rattle.std.specs.Prelude.{◌≡◌, ℕ};
-ghost use Rattle.apfloat_base.specs.declared.kinds.Category.TheVariants.{Infinity, Normal};
-ghost use Rattle.apfloat_base.specs.declared.kinds.Round.TheVariants.{NearestTiesToEven};
-ghost use Rattle.apfloat_base.specs.order.Classes.{category_of};
-ghost use Rattle.apfloat_base.specs.rounding.Flags.{Gives, bits_of};
+ghost use Rattle.apfloat_model.specs.declared.kinds.Category.TheVariants.{Infinity, Normal};
+ghost use Rattle.apfloat_model.specs.declared.kinds.Round.TheVariants.{NearestTiesToEven};
+ghost use Rattle.apfloat_model.specs.order.Classes.{category_of};
+ghost use Rattle.apfloat_model.specs.rounding.Flags.{Gives, bits_of};
 ghost use Rattle.apfloat_pair_theory.specs.Pairs.{pair_category};
 ghost use Rattle.apfloat_pair_theory.specs.PairSums.{greater, lesser, IsClosed, IsFiniteSum, IsLost, IsPairSum, IsPairDifference, IsSumAnew, IsSumOfCategories, IsSumOfInfinities, IsSumOfNumbers};
 ghost use Rattle.apfloat_pair_theory.specs.PairAccuracy.{HasPlainStatus, IsAccurateDifference, IsAccurateSum, IsErrorFreeDifference, IsErrorFreeSum};
 
 use crate::DoubleFloat;
 use crate::parts::{category, negation};
-use apfloat_base::{Category, Float, Round, Status, StatusAnd, unpack};
+use apfloat_base::{Category, Float, Round, Status, StatusAnd};
 use apfloat_formats::Double;
+use apfloat_model::unpack;
 use std::cmp::Ordering;
 
 /// The end of a sum and of a product: `z + zz`, with the error of that sum as the low part. `status` has the flags of

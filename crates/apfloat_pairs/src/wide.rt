@@ -2,7 +2,7 @@
 //! is split. The status is that of the wide operation.
 
 ghost use Rattle.std.specs.Prelude.{◌≡◌, ◌≤◌, ◌<◌, ◌^◌, Result};
-ghost use Rattle.apfloat_base.specs.rounding.Flags.{Gives, bits_of};
+ghost use Rattle.apfloat_model.specs.rounding.Flags.{Gives, bits_of};
 ghost use Rattle.apfloat_pair_theory.specs.Pairs.{IsSplit};
 ghost use Rattle.apfloat_pair_theory.specs.PairAccuracy.{IsExactNearestRemainder, IsExactQuotient, IsExactTruncatedRemainder};
 ghost use Rattle.apfloat_pair_theory.specs.PairCalls.{IsPairQuotient, IsPairTruncatedRemainder, IsPairNearestRemainder, IsPairRoundToIntegral, IsPairNextUp, IsPairExactInverse, IsPairFromUnsigned, IsPairToUnsigned, IsPairRead};

@@ -11,7 +11,7 @@ use crate::numbers::Reads;
 use crate::operand_set::OperandSet;
 use crate::operation::Operation;
 use crate::task::Task;
-use dispatch::{BuiltInFormat, BuiltInKind};
+use formats_at_run_time::{BuiltInFormat, BuiltInKind};
 use rustc_apfloat::ieee::{Double, DoubleS, IeeeFloat, QuadS, Semantics, X87DoubleExtendedS};
 use rustc_apfloat::{Float, Round, StatusAnd};
 use std::alloc::{AllocError, Global};

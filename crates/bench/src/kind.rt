@@ -4,7 +4,7 @@ use crate::measure::Measured;
 use crate::numbers::measured_in;
 use crate::pairs::measured_pairs;
 use crate::task::Task;
-use dispatch::{BuiltInKind, InFormat, InKind};
+use formats_at_run_time::{BuiltInKind, InFormat, InKind};
 use rustc_apfloat::ieee::Semantics;
 use std::io;
 use std::rt::Clock;

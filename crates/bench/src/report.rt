@@ -5,7 +5,7 @@ use crate::nanoseconds::Nanoseconds;
 use crate::operand_set::OperandSet;
 use crate::operation::{FURTHER_OPERATIONS, OPERATIONS, Operation};
 use crate::task::Task;
-use dispatch::{BuiltInKind, built_in_kinds};
+use formats_at_run_time::{BuiltInKind, built_in_kinds};
 use rustc_apfloat::Round;
 use std::alloc::AllocError;
 use std::io;

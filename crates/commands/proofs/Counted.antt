@@ -4,9 +4,9 @@ use Rattle.std.proofs.lemmas.Bool.{lt-leb, le-leb}
 use Rattle.std.proofs.lemmas.List.{get_or-map, length-map}
 use denote.Ref.{Bor}
 use Rattle.rustc_apfloat.specs.declared.Round.{Round}
-use Rattle.dispatch.specs.declared.built_in.BuiltInKind.{BuiltInKind}
-use Rattle.dispatch.specs.BuiltIns.{kind_named, kind_of}
-use Rattle.dispatch.specs.ValueKinds.{Kind}
+use Rattle.formats_at_run_time.specs.declared.built_in.BuiltInKind.{BuiltInKind}
+use Rattle.formats_at_run_time.specs.BuiltIns.{kind_named, kind_of}
+use Rattle.formats_at_run_time.specs.ValueKinds.{Kind}
 use Rattle.commands.specs.declared.operation.Operation.{Operation}
 use Rattle.commands.specs.declared.operation.Operation.TheVariants.{OfTwo, FusedSum, WholeNumber, Text}
 use Rattle.commands.specs.Commands.{Command, arguments, calculation, command_of, commanded, named, operand_count, provided, with_format, word_at}

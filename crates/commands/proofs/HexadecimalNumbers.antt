@@ -3,11 +3,11 @@ use Rattle.std.proofs.Common.{◌≡◌, ℕ, ◌+◌, ◌*◌, ◌^◌, ◌<◌
 use Rattle.std.proofs.lemmas.Bool.{false≢true, lt-ltb, le-leb}
 use Rattle.std.proofs.lemmas.Bool.Decides.{nat_tests}
 use Rattle.std.proofs.Math.Nat.{pow-le-pow_right}
-use Rattle.apfloat_base.proofs.general.MoreDigits.{digit_more}
-use Rattle.apfloat_base.specs.declared.marks.Radix.TheVariants.{Sixteen}
+use Rattle.apfloat_model.proofs.general.MoreDigits.{digit_more}
+use Rattle.apfloat_model.specs.declared.marks.Radix.TheVariants.{Sixteen}
 use Rattle.rustc_apfloat.specs.Digits.{every, is_empty, is_hexadecimal, digit_value, number}
-use Rattle.apfloat_base.specs.texts.Specials.{number_of_digits}
-use Rattle.apfloat_texts.specs.Payloads.{longer}
+use Rattle.apfloat_model.specs.texts.Specials.{number_of_digits}
+use Rattle.apfloat_hex_texts.specs.Payloads.{longer}
 use Rattle.commands.specs.Commands.{bits_of_digits}
 
 -- ---- the bound

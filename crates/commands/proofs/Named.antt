@@ -3,7 +3,7 @@ use Rattle.std.proofs.Common.{◌≡◌, ℕ, ◌==◌, Bool, true, false, List,
 use Rattle.std.specs.Option.{ok_or}
 use Rattle.std.proofs.lemmas.Bool.{eqb-true}
 use Rattle.rustc_apfloat.specs.declared.Round.{Round}
-use Rattle.dispatch.specs.Modes.{mode_named}
+use Rattle.formats_at_run_time.specs.Modes.{mode_named}
 use Rattle.commands.specs.declared.operation.Operation.{Operation}
 use Rattle.commands.specs.Commands.{◌>>=◌, arguments, found, named, operand_count, operations, provided}
 

@@ -11,15 +11,15 @@ use Rattle.rustc_apfloat.specs.Datum.{Datum}
 use Rattle.rustc_apfloat.specs.FusedSums.{IsFusedSum, fused_limit}
 use Rattle.rustc_apfloat.specs.Lawful.{Constants, format_with}
 use Rattle.rustc_apfloat.specs.Readings.{IsRefusal}
-use Rattle.apfloat_base.proofs.Once.{fused_sum_once}
-use Rattle.apfloat_base.proofs.Determined.{gives_once}
-use Rattle.dispatch.specs.declared.Arithmetic.{Arithmetic}
-use Rattle.dispatch.specs.Limits.{multiplies}
-use Rattle.dispatch.specs.OfTwo.{IsOfTwo}
-use Rattle.dispatch.specs.Once.{AreDetermined}
-use Rattle.dispatch.specs.Relations.{Relations, in_format, in_pairs}
-use Rattle.dispatch.specs.ValueKinds.{bits_in, of_format, of_pairs, value_of}
-use Rattle.dispatch.proofs.OfTwoOnce.{of_two_once}
+use Rattle.apfloat_model.proofs.Once.{fused_sum_once}
+use Rattle.apfloat_model.proofs.Determined.{gives_once}
+use Rattle.formats_at_run_time.specs.declared.Arithmetic.{Arithmetic}
+use Rattle.formats_at_run_time.specs.Limits.{multiplies}
+use Rattle.formats_at_run_time.specs.OfTwo.{IsOfTwo}
+use Rattle.formats_at_run_time.specs.Once.{AreDetermined}
+use Rattle.formats_at_run_time.specs.Relations.{Relations, in_format, in_pairs}
+use Rattle.formats_at_run_time.specs.ValueKinds.{bits_in, of_format, of_pairs, value_of}
+use Rattle.formats_at_run_time.proofs.OfTwoOnce.{of_two_once}
 use Rattle.commands.specs.declared.operation.Operation.{Operation}
 use Rattle.commands.specs.declared.operation.Operation.TheVariants.{OfTwo, FusedSum, WholeNumber, Text}
 use Rattle.commands.specs.Commands.{Calculation, of_two, fused_sum, from_whole_number, from_text, bits_of_word, calculation, commanded, provided, type_has, whole_number_of, word_at, with_operands, with_text, with_three, with_two, with_whole_number}

@@ -2,17 +2,17 @@
 use Rattle.std.specs.Prelude.{ℕ, ◌^◌, Bool, false, true, not, ◌&&◌, ◌==◌, nat_lt, nat_le, if◌then◌else◌, List, [], ◌∷◌, length, take, drop, slice_index_or, codes, Option, Some, None, ok_or, Result, Ok, Err}
 use Rattle.rustc_apfloat.specs.declared.Round.{Round}
 use Rattle.rustc_apfloat.specs.Digits.{same, every, is_empty, is_hexadecimal, number}
-use Rattle.apfloat_base.specs.declared.marks.Radix.TheVariants.{Ten}
-use Rattle.apfloat_base.specs.texts.Specials.{number_of_digits}
-use Rattle.apfloat_base.specs.declared.parse_error.Fault.{Fault}
+use Rattle.apfloat_model.specs.declared.marks.Radix.TheVariants.{Ten}
+use Rattle.apfloat_model.specs.texts.Specials.{number_of_digits}
+use Rattle.apfloat_model.specs.declared.parse_error.Fault.{Fault}
 use Rattle.rustc_apfloat.specs.Faults.{fault_of, words}
-use Rattle.dispatch.specs.declared.Arithmetic.{Arithmetic}
-use Rattle.dispatch.specs.declared.Arithmetic.TheVariants.{Sum, Difference, Product, Quotient, NearestRemainder, TruncatedRemainder}
-use Rattle.dispatch.specs.ValueKinds.{Kind, bits_in}
-use Rattle.dispatch.specs.BuiltIns.{kind_named, kind_of}
-use Rattle.dispatch.specs.Limits.{fuses, multiplies}
-use Rattle.dispatch.specs.Modes.{mode_named}
-use Rattle.dispatch.specs.OfTwo.{has_operation}
+use Rattle.formats_at_run_time.specs.declared.Arithmetic.{Arithmetic}
+use Rattle.formats_at_run_time.specs.declared.Arithmetic.TheVariants.{Sum, Difference, Product, Quotient, NearestRemainder, TruncatedRemainder}
+use Rattle.formats_at_run_time.specs.ValueKinds.{Kind, bits_in}
+use Rattle.formats_at_run_time.specs.BuiltIns.{kind_named, kind_of}
+use Rattle.formats_at_run_time.specs.Limits.{fuses, multiplies}
+use Rattle.formats_at_run_time.specs.Modes.{mode_named}
+use Rattle.formats_at_run_time.specs.OfTwo.{has_operation}
 use Rattle.commands.specs.declared.operation.Operation.{Operation}
 use Rattle.commands.specs.declared.operation.Operation.TheVariants.{OfTwo, FusedSum, WholeNumber, Text}
 

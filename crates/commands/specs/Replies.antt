@@ -12,9 +12,9 @@ use Rattle.rustc_apfloat.specs.Datum.{Datum}
 use Rattle.rustc_apfloat.specs.FusedSums.{IsFusedSum}
 use Rattle.rustc_apfloat.specs.Lawful.{Constants, format_with}
 use Rattle.commands.specs.declared.reply.Reply as program
-use Rattle.dispatch.specs.ValueKinds.{Kind, bits_in, of_format, of_pairs, value_of}
-use Rattle.dispatch.specs.OfTwo.{IsOfTwo}
-use Rattle.dispatch.specs.Relations.{Relations, in_format, in_pairs}
+use Rattle.formats_at_run_time.specs.ValueKinds.{Kind, bits_in, of_format, of_pairs, value_of}
+use Rattle.formats_at_run_time.specs.OfTwo.{IsOfTwo}
+use Rattle.formats_at_run_time.specs.Relations.{Relations, in_format, in_pairs}
 use Rattle.commands.specs.Commands.{Calculation, of_two, fused_sum, from_whole_number, from_text, Command, command_of}
 
 -- bits with the number of their hexadecimal digits and the flags, or the word of a refusal

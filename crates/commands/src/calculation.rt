@@ -2,7 +2,7 @@
 
 ghost use Rattle.std.specs.Prelude.{◌≡◌, ◌≤◌, ◌<◌};
 ghost use Rattle.rustc_apfloat.specs.Types.{constants_of};
-ghost use Rattle.dispatch.specs.Relations.{in_format, relations_of};
+ghost use Rattle.formats_at_run_time.specs.Relations.{in_format, relations_of};
 ghost use Rattle.commands.specs.Commands.{calculation, commanded, provided, type_has, with_operands, with_text, with_three, with_two, with_whole_number};
 ghost use Rattle.commands.specs.Operands.{words_of};
 ghost use Rattle.commands.specs.Replies.{IsFormatReply, IsLineOf, IsOnly, IsReplyIn, IsReplyTo, digit_count, reply_of};
@@ -10,7 +10,7 @@ ghost use Rattle.commands.specs.Replies.{IsFormatReply, IsLineOf, IsOnly, IsRepl
 use crate::operation::Operation;
 use crate::reply::Reply;
 use crate::words::{bits_of, number_of};
-use dispatch::{Arithmetic, InFormat, InKind, ValueType};
+use formats_at_run_time::{Arithmetic, InFormat, InKind, ValueType};
 use rustc_apfloat::ieee::{IeeeFloat, Semantics};
 use rustc_apfloat::ppc::DoubleDouble;
 use rustc_apfloat::{FUSED_LIMIT, Float, Round, StatusAnd};

@@ -3,7 +3,7 @@
 ghost use Rattle.std.specs.Prelude.{◌≡◌};
 ghost use Rattle.commands.specs.Commands.{operand_count};
 
-use dispatch::Arithmetic;
+use formats_at_run_time::Arithmetic;
 
 /// An operation.
 #[derive(Clone, Copy, Debug)]

@@ -7,7 +7,7 @@ ghost use Rattle.commands.specs.Replies.{IsOnly, IsReply, IsReplyTo, digit_count
 
 use crate::calculation::{Calculation, Operands};
 use crate::words::{ARGUMENTS, named};
-use dispatch::BuiltInKind;
+use formats_at_run_time::BuiltInKind;
 use rustc_apfloat::Status;
 
 /// The reply to a command.

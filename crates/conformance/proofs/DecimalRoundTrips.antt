@@ -2,9 +2,9 @@
 use Rattle.std.proofs.Common.{◌≡◌, true, false, refl, ⊎_elim, eqb, Result, Ok, Err, None}
 use Rattle.std.proofs.lemmas.Bool.{cases_Bool}
 use Rattle.std.specs.Result.{IsOkAnd}
-use Rattle.apfloat_base.specs.formats.Datum.{Datum, finite, infinite, nan}
-use Rattle.apfloat_base.specs.formats.Format.{Format}
-use Rattle.apfloat_base.specs.order.Classes.{is_finite}
+use Rattle.apfloat_model.specs.formats.Datum.{Datum, finite, infinite, nan}
+use Rattle.apfloat_model.specs.formats.Format.{Format}
+use Rattle.apfloat_model.specs.order.Classes.{is_finite}
 use Rattle.apfloat_decimals.specs.declared.decimal.Decimal.{Decimal}
 use Rattle.apfloat_decimals.specs.ReadBack.{is_written_whole, written}
 use Rattle.apfloat_decimals.specs.ShortestSearch.{GivesShortest}

@@ -4,11 +4,11 @@ use Rattle.std.proofs.Math.Nat.{mul-le-mul_right, div-add-mod', pow-suc}
 use Rattle.std.proofs.lemmas.Nat.{pow_pos}
 use Rattle.std.proofs.lemmas.Bool.{cases_lt}
 use Rattle.std.specs.Int.{div_ceil}
-use Rattle.apfloat_base.specs.rounding.Grid.{IsBelow, IsAbove}
-use Rattle.apfloat_base.specs.rounding.Enclosure.{IsEnclosed}
-use Rattle.apfloat_base.proofs.general.Powers.{twice_half}
-use Rattle.apfloat_base.proofs.rounding.Neighbours.{below_is, above_is_same, above_is_next}
-use Rattle.apfloat_base.proofs.rounding.NeighboursExist.{enclosed_by_quotient}
+use Rattle.apfloat_model.specs.rounding.Grid.{IsBelow, IsAbove}
+use Rattle.apfloat_model.specs.rounding.Enclosure.{IsEnclosed}
+use Rattle.apfloat_model.proofs.general.Powers.{twice_half}
+use Rattle.apfloat_model.proofs.rounding.Neighbours.{below_is, above_is_same, above_is_next}
+use Rattle.apfloat_model.proofs.rounding.NeighboursExist.{enclosed_by_quotient}
 use Rattle.conformance.specs.Plain.{IsSpacing}
 
 -- multiples of the spacing enclose the magnitude

@@ -3,15 +3,15 @@ use Rattle.std.proofs.Common.{◌≡◌, ℕ, ◌+◌, ◌-◌, ◌*◌, ◌^◌
 use Rattle.std.proofs.lemmas.Bool.{cases_eq, lt-ltb, le-ltb, lt-leb}
 use Rattle.std.proofs.Math.Nat.{mul-le-mul_right, pow-le-pow_right}
 use Rattle.std.proofs.lemmas.Nat.{pow_pos}
-use Rattle.apfloat_base.specs.declared.kinds.Round.{Round}
-use Rattle.apfloat_base.specs.declared.kinds.NonfiniteBehavior.{NonfiniteBehavior}
-use Rattle.apfloat_base.specs.formats.Format.{Format, largest, nan_base_of}
-use Rattle.apfloat_base.specs.formats.Datum.{Datum, finite}
-use Rattle.apfloat_base.specs.rounding.Rounding.{IsPick, IsDelivered, signed_quanta, leads_out, past_largest, rounds_below_normal, is_tiny}
-use Rattle.apfloat_base.proofs.general.Powers.{twice_half}
-use Rattle.apfloat_base.proofs.rounding.Laws.{pick_within}
-use Rattle.apfloat_base.proofs.rounding.Tininess.{by_pick_of_twice}
-use Rattle.apfloat_base.proofs.rounding.Deliveries.{delivered_past, delivered_exactly, delivered_inexactly}
+use Rattle.apfloat_model.specs.declared.kinds.Round.{Round}
+use Rattle.apfloat_model.specs.declared.kinds.NonfiniteBehavior.{NonfiniteBehavior}
+use Rattle.apfloat_model.specs.formats.Format.{Format, largest, nan_base_of}
+use Rattle.apfloat_model.specs.formats.Datum.{Datum, finite}
+use Rattle.apfloat_model.specs.rounding.Rounding.{IsPick, IsDelivered, signed_quanta, leads_out, past_largest, rounds_below_normal, is_tiny}
+use Rattle.apfloat_model.proofs.general.Powers.{twice_half}
+use Rattle.apfloat_model.proofs.rounding.Laws.{pick_within}
+use Rattle.apfloat_model.proofs.rounding.Tininess.{by_pick_of_twice}
+use Rattle.apfloat_model.proofs.rounding.Deliveries.{delivered_past, delivered_exactly, delivered_inexactly}
 use Rattle.conformance.specs.Plain.{HasBounds, tiny_of}
 use Rattle.conformance.specs.declared.plain.Bounds.{Bounds}
 use Rattle.conformance.proofs.Multiples.{above_fits}

@@ -2,7 +2,7 @@
 use Rattle.std.proofs.Common.{◌≡◌, ℕ, ◌+◌, ◌-◌, ◌*◌, ◌/◌, ◌^◌, ◌<◌, ◌≤◌, ◌⊎◌, inr, sym, ap, subst, arith}
 use Rattle.std.proofs.Math.Nat.{mul-pos, mul-le-mul_right, le-div_iff_mul-le, div-lt_iff_lt-mul}
 use Rattle.std.proofs.lemmas.Nat.{pow_pos, pow-add}
-use Rattle.apfloat_base.proofs.general.Powers.{twice_half}
+use Rattle.apfloat_model.proofs.general.Powers.{twice_half}
 use Rattle.conformance.specs.Plain.{IsSpacing}
 
 -- the magnitude is at least half of 2 ^ precision spacings, unless this is the first spacing

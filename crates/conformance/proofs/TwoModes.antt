@@ -1,19 +1,19 @@
 -- Two results of one operation, from the laws of the operation.
 use Rattle.std.proofs.Common.{ℕ, subst}
 use Rattle.std.specs.Prelude.{List, Result, Ok, Err}
-use Rattle.apfloat_base.specs.declared.kinds.Round.{Round}
-use Rattle.apfloat_base.specs.declared.parse_error.ParseError.{ParseError}
-use Rattle.apfloat_base.specs.declared.status.StatusAnd.{StatusAnd}
+use Rattle.apfloat_model.specs.declared.kinds.Round.{Round}
+use Rattle.apfloat_model.specs.declared.parse_error.ParseError.{ParseError}
+use Rattle.apfloat_model.specs.declared.status.StatusAnd.{StatusAnd}
 use Rattle.rustc_apfloat.specs.Datum.{Datum}
 use Rattle.rustc_apfloat.specs.Flags.{Gives, bits_of}
 use Rattle.rustc_apfloat.specs.Format.{Format}
 use Rattle.rustc_apfloat.specs.Parsing.{IsRead}
 use Rattle.rustc_apfloat.specs.Readings.{IsReading}
 use Rattle.rustc_apfloat.specs.TwoModes.{AreSameIfOk, AreSameIfOkButForZeros, AreOutward, AreBoundsUnlessNan, IsOk}
-use Rattle.apfloat_base.proofs.Determined.{reading_or_refusal, refusal_once}
-use Rattle.apfloat_base.proofs.rounding.ModesAgree.{AgreesWhereOk, AgreesButForZeros, reading_agrees}
-use Rattle.apfloat_base.proofs.rounding.OutwardRoundings.{Encloses}
-use Rattle.apfloat_base.proofs.rounding.OutwardResults.{reading_encloses}
+use Rattle.apfloat_model.proofs.Determined.{reading_or_refusal, refusal_once}
+use Rattle.apfloat_model.proofs.rounding.ModesAgree.{AgreesWhereOk, AgreesButForZeros, reading_agrees}
+use Rattle.apfloat_model.proofs.rounding.OutwardRoundings.{Encloses}
+use Rattle.apfloat_model.proofs.rounding.OutwardResults.{reading_encloses}
 use Rattle.conformance.specs.TwoReadings.{AreReadings}
 
 pub same_if_ok : (R : Round → Datum → ℕ → Type 0) → AgreesWhereOk R

@@ -1,8 +1,8 @@
 -- Definitions for the plain program for one rounding.
 use Rattle.std.specs.Prelude.{◌≡◌, ℕ, ◌-◌, ◌*◌, ◌^◌, ◌<◌, ◌≤◌, ◌⊎◌, Bool, ltb, if◌then◌else◌}
-use Rattle.apfloat_base.specs.declared.kinds.NonfiniteBehavior.{NonfiniteBehavior}
+use Rattle.apfloat_model.specs.declared.kinds.NonfiniteBehavior.{NonfiniteBehavior}
 use Rattle.rustc_apfloat.specs.Format.{Format, smallest_normalized, largest, nan_base_of}
-use Rattle.apfloat_base.specs.declared.kinds.Round.{Round}
+use Rattle.apfloat_model.specs.declared.kinds.Round.{Round}
 use Rattle.rustc_apfloat.specs.Rounding.{rounds_below_normal}
 use Rattle.rustc_apfloat.specs.Datum.{Datum, finite, infinite, nan}
 use Rattle.conformance.specs.declared.plain.RoundedValue.{RoundedValue}

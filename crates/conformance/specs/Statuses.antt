@@ -1,7 +1,7 @@
 -- The status of what a text is read as.
 use Rattle.std.specs.Prelude.{Result, Ok, Err, ⊤}
-use Rattle.apfloat_base.specs.declared.parse_error.ParseError.{ParseError}
-use Rattle.apfloat_base.specs.declared.status.StatusAnd.{StatusAnd}
+use Rattle.apfloat_model.specs.declared.parse_error.ParseError.{ParseError}
+use Rattle.apfloat_model.specs.declared.status.StatusAnd.{StatusAnd}
 use Rattle.rustc_apfloat.specs.Flags.{bits_of}
 use Rattle.rustc_apfloat.specs.RaisedFlags.{FlagsGoTogether}
 

@@ -1,7 +1,7 @@
 //! The widest formats that have products and fused sums: with one digit more, these calls are refused.
 
 ghost use Rattle.std.specs.Prelude.{pos, negsuc, false, refl};
-ghost use Rattle.apfloat_base.specs.declared.kinds.NonfiniteBehavior.TheVariants.{NanNegativeZero};
+ghost use Rattle.apfloat_model.specs.declared.kinds.NonfiniteBehavior.TheVariants.{NanNegativeZero};
 ghost use Rattle.rustc_apfloat.proofs.LawTest.{lawful_from_test};
 
 use rustc_apfloat::ieee::{IeeeFloat, NonfiniteBehavior, Semantics};

@@ -1,6 +1,6 @@
 //! The words of a command line, as a job for the program.
 
-use value_blocks::{Conversion, Extended, Overflow};
+use array_conversions::{Conversion, Extended, Overflow};
 
 /// How the program is called.
 pub const USAGE: &str = "\

@@ -6,10 +6,10 @@ ghost use Rattle.convert_values.specs.Statuses.{failure_status, summary_status};
 use crate::job::{Job, USAGE};
 use crate::stream::{Failure, Summary, convert_stream};
 use crate::wrong_word::{WrongWord, wrong_word};
+use array_conversions::Counts;
 use std::alloc::Global;
 use std::io;
 use std::io::{ErrorKind, Read, Write};
-use value_blocks::Counts;
 
 const ENDED_INSIDE: u8 = 1;
 

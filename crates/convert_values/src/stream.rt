@@ -1,12 +1,12 @@
 //! Streams of values.
 
 ghost use Rattle.std.specs.Prelude.{◌≡◌, ◌*◌, ◌≤◌, IfOk, length};
-ghost use Rattle.value_blocks.specs.Widths.{source_width, target_width};
+ghost use Rattle.array_conversions.specs.Widths.{source_width, target_width};
 
+use array_conversions::{Conversion, Counts, Overflow};
 use std::alloc::{AllocError, Global};
 use std::io;
 use std::io::{ErrorKind, Read, Write};
-use value_blocks::{Conversion, Counts, Overflow};
 
 /// How many values a block has at most.
 const BLOCK: usize = 1 << 14;

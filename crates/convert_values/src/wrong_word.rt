@@ -1,6 +1,6 @@
 //! Which word of a command line is wrong.
 
-use dispatch::{BuiltInKind, mode_named};
+use formats_at_run_time::{BuiltInKind, mode_named};
 
 /// A word that names nothing.
 #[derive(Clone, Copy)]

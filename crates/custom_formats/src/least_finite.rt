@@ -1,7 +1,7 @@
 //! The fewest digits with the narrowest exponents, without infinities.
 
 ghost use Rattle.std.specs.Prelude.{◌-◌, ◌*◌, ◌^◌, pos, negsuc, true, false, refl};
-ghost use Rattle.apfloat_base.specs.declared.kinds.NonfiniteBehavior.TheVariants.{NanOnly};
+ghost use Rattle.apfloat_model.specs.declared.kinds.NonfiniteBehavior.TheVariants.{NanOnly};
 ghost use Rattle.rustc_apfloat.proofs.LawTest.{lawful_from_test};
 
 use rustc_apfloat::ExpInt;

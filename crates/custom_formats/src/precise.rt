@@ -1,7 +1,7 @@
 //! The most digits, with the narrowest exponents.
 
 ghost use Rattle.std.specs.Prelude.{◌-◌, ◌*◌, ◌^◌, pos, negsuc, true, false, refl};
-ghost use Rattle.apfloat_base.specs.declared.kinds.NonfiniteBehavior.TheVariants.{IEEE754};
+ghost use Rattle.apfloat_model.specs.declared.kinds.NonfiniteBehavior.TheVariants.{IEEE754};
 ghost use Rattle.rustc_apfloat.proofs.LawTest.{lawful_from_test};
 
 use rustc_apfloat::ExpInt;

@@ -5,7 +5,7 @@
 //! tells whether something lies above.
 
 ghost use Rattle.std.specs.Prelude.{◌<◌};
-ghost use Rattle.dispatch.specs.FormatKinds.{IfFormat};
+ghost use Rattle.formats_at_run_time.specs.FormatKinds.{IfFormat};
 ghost use Rattle.rustc_apfloat.specs.Lawful.{format_with};
 ghost use Rattle.rustc_apfloat.specs.Types.{format_of};
 ghost use Rattle.apfloat_decimals.specs.ShortestSearch.{IsWithinQuad};
@@ -17,7 +17,7 @@ use crate::question::{Operation, Question};
 use apfloat_decimals::{read_decimal, shortest};
 use commands::bits_of;
 use custom_formats::Vast;
-use dispatch::InFormat;
+use formats_at_run_time::InFormat;
 use rustc_apfloat::ieee::{IeeeFloat, Semantics};
 use rustc_apfloat::{Category, ExpInt, Flags, Float, FloatConvert, Round, Status, StatusAnd};
 

@@ -5,7 +5,7 @@ use crate::explanation::{
 };
 use crate::question::{Operation, Question};
 use apfloat_decimals::Decimal;
-use dispatch::Arithmetic;
+use formats_at_run_time::Arithmetic;
 use rustc_apfloat::{Flags, Round, Status};
 use std::io;
 use std::io::Write;

@@ -1,6 +1,6 @@
 //! The words of a command line, as what is to be explained.
 
-use dispatch::{Arithmetic, BuiltInFormat, BuiltInKind, mode_named};
+use formats_at_run_time::{Arithmetic, BuiltInFormat, BuiltInKind, mode_named};
 use rustc_apfloat::Round;
 
 /// How the program is called.

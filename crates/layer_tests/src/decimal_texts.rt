@@ -2,9 +2,9 @@
 
 ghost use Rattle.std.specs.Prelude.{◌<◌};
 
-use apfloat_base::{Flags, ParseError, Round, Status};
 use apfloat_decimals::read_decimal;
 use apfloat_formats::{DoubleS, Semantics};
+use apfloat_model::{Flags, ParseError, Round, Status};
 use std::process::Abort;
 
 /// Half of the least double: 752 digits.

@@ -4,9 +4,9 @@ ghost use Rattle.std.specs.Prelude.{◌<◌};
 ghost use Rattle.apfloat_ieee.specs.Types.{format_of};
 ghost use Rattle.apfloat_decimals.specs.Decimals.{HasQuadExponents};
 
-use apfloat_base::{ExpInt, Flags, Round, Status};
 use apfloat_decimals::{Decimal, from_decimal};
 use apfloat_formats::{DoubleS, HalfS, QuadS, Semantics};
+use apfloat_model::{ExpInt, Flags, Round, Status};
 use std::process::Abort;
 
 /// Asserts that a decimal has the given bits and status, rounded to nearest, ties to even.

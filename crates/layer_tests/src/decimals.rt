@@ -2,9 +2,9 @@
 
 ghost use Rattle.std.specs.Prelude.{◌<◌};
 
-use apfloat_base::ExpInt;
 use apfloat_decimals::{Decimal, DecimalError, exact};
 use apfloat_formats::{DoubleS, HalfS, Semantics};
+use apfloat_model::ExpInt;
 use std::process::Abort;
 
 fn decimal(negative: bool, digits: u128, exponent: ExpInt) -> Decimal {

@@ -1,7 +1,7 @@
 //! Rounding modes.
 
 use crate::asserts::same;
-use apfloat_base::Round;
+use apfloat_model::Round;
 
 #[test]
 fn swaps_directed_modes(rt: HostRuntime) {

@@ -3,7 +3,7 @@
 ghost use Rattle.std.specs.Prelude.{◌*◌, ◌^◌, ◌<◌, ◌≤◌};
 
 use crate::asserts::same;
-use apfloat_base::sig::{
+use apfloat_words::{
     divide, divide_by_words, divide_short, divide_short_by_guess, divide_short_by_words, is_exact,
     moved_rest, short_moved_rest,
 };

@@ -4,9 +4,9 @@ ghost use Rattle.std.specs.Prelude.{◌≡◌, ◌<◌, ◌≤◌};
 ghost use Rattle.apfloat_ieee.specs.Types.{format_of};
 ghost use Rattle.apfloat_decimals.specs.Decimals.{HasQuadExponents};
 
-use apfloat_base::{ExpInt, Round};
 use apfloat_decimals::{Decimal, rounded};
 use apfloat_formats::{DoubleS, QuadS, Semantics};
+use apfloat_model::{ExpInt, Round};
 use std::process::Abort;
 
 /// What a value is rounded to.

@@ -4,9 +4,9 @@ ghost use Rattle.std.specs.Prelude.{◌<◌};
 ghost use Rattle.apfloat_ieee.specs.Types.{format_of};
 ghost use Rattle.apfloat_decimals.specs.ShortestSearch.{IsWithinQuad};
 
-use apfloat_base::ExpInt;
 use apfloat_decimals::{Decimal, shortest};
 use apfloat_formats::{BFloatS, DoubleS, Float8E5M2S, Semantics};
+use apfloat_model::ExpInt;
 use std::process::Abort;
 
 /// Asserts that the value with the given bits has a shortest decimal with these digits and this exponent.

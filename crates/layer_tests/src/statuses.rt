@@ -1,7 +1,7 @@
 //! Statuses, and values with a status.
 
 use crate::asserts::same;
-use apfloat_base::{Flags, Status, unpack};
+use apfloat_model::{Flags, Status, unpack};
 use std::cmp::Ordering;
 
 /// The status of an overflow.

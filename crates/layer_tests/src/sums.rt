@@ -1,11 +1,11 @@
 //! Sums of two terms.
 
 ghost use Rattle.std.specs.Prelude.{◌^◌, ◌<◌, ◌≤◌};
-ghost use Rattle.apfloat_base.specs.rounding.Bounds.{IsWithin, exponent_bound};
+ghost use Rattle.apfloat_model.specs.rounding.Bounds.{IsWithin, exponent_bound};
 
 use crate::asserts::same;
-use apfloat_base::ExpInt;
-use apfloat_base::sig::{Term, add_u128_terms};
+use apfloat_model::ExpInt;
+use apfloat_words::{Term, add_u128_terms};
 
 /// The sign, the exponent and the significand of a total.
 type Parts = (bool, ExpInt, u128);

@@ -2,8 +2,8 @@
 
 use crate::asserts::same;
 use crate::unpacked::HALF;
-use apfloat_base::{ExpInt, Round, Status};
-use apfloat_texts::read;
+use apfloat_hex_texts::read;
+use apfloat_model::{ExpInt, Round, Status};
 use std::alloc::{AllocError, Global};
 use std::test::Fail;
 

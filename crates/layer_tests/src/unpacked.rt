@@ -3,11 +3,10 @@
 ghost use Rattle.std.specs.Prelude.{◌^◌, ◌≤◌};
 
 use crate::asserts::same;
-use apfloat_base::sig::Loss;
-use apfloat_base::{NonfiniteBehavior, Round};
-use apfloat_unpacked::bits::{Widths, decode};
-use apfloat_unpacked::rounding::deliver;
-use apfloat_unpacked::shape::Shape;
+use apfloat_model::{Loss, NonfiniteBehavior, Round};
+use apfloat_rounding::bits::{Widths, decode};
+use apfloat_rounding::rounding::deliver;
+use apfloat_rounding::shape::Shape;
 
 /// The shape of binary16.
 pub const HALF: Shape = Shape {

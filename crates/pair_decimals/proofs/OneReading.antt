@@ -1,9 +1,9 @@
 -- A text is read as one pair.
 use Rattle.std.proofs.Common.{ℕ, sym, ◌∙◌, List, Ok, Err}
 use Rattle.std.proofs.lemmas.Option.{none-some}
-use Rattle.apfloat_base.specs.declared.kinds.Round.{Round}
-use Rattle.apfloat_base.specs.rounding.Flags.{bits_of}
-use Rattle.apfloat_base.proofs.Determined.{same_answer}
+use Rattle.apfloat_model.specs.declared.kinds.Round.{Round}
+use Rattle.apfloat_model.specs.rounding.Flags.{bits_of}
+use Rattle.apfloat_model.proofs.Determined.{same_answer}
 use Rattle.apfloat_pair_theory.specs.PairFormats.{wide}
 use Rattle.apfloat_pair_theory.specs.PairAnswers.{OncePair}
 use Rattle.apfloat_pair_theory.specs.Pairs.{Pair}

@@ -1,9 +1,9 @@
 -- A text is read as one pair.
 use Rattle.std.specs.Prelude.{ℕ, List, Result}
-use Rattle.apfloat_base.specs.declared.kinds.Round.{Round}
-use Rattle.apfloat_base.specs.declared.parse_error.ParseError.{ParseError}
-use Rattle.apfloat_base.specs.declared.status.StatusAnd.{StatusAnd}
-use Rattle.apfloat_base.specs.Determined.{AreOneReading}
+use Rattle.apfloat_model.specs.declared.kinds.Round.{Round}
+use Rattle.apfloat_model.specs.declared.parse_error.ParseError.{ParseError}
+use Rattle.apfloat_model.specs.declared.status.StatusAnd.{StatusAnd}
+use Rattle.apfloat_model.specs.Determined.{AreOneReading}
 use Rattle.apfloat_pair_theory.specs.Pairs.{Pair}
 use Rattle.pair_decimals.specs.PairReadings.{IsPairDecimalRead}
 

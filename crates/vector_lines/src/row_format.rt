@@ -5,7 +5,9 @@ use custom_formats::{
     BroadS, DeepS, FusedLimitS, HalfTinyBeforeS, LeastFiniteS, LeastS, PreciseS, SevenS, TenS,
     VastS, WrittenBitS,
 };
-use dispatch::{BuiltInFormat, BuiltInKind, FlaggedFormat, IeeeFormat, InFlaggedFormat, InFormat};
+use formats_at_run_time::{
+    BuiltInFormat, BuiltInKind, FlaggedFormat, IeeeFormat, InFlaggedFormat, InFormat,
+};
 use rustc_apfloat::ieee::{Flagged, Semantics};
 use rustc_apfloat::ppc::{FallbackExtendedS, FallbackS};
 

@@ -5,7 +5,7 @@ use crate::fault::takes_mode;
 use crate::formats::{Formats, answered};
 use crate::of_type::{Answered, Request};
 use crate::reading::operands_of;
-use dispatch::mode_named;
+use formats_at_run_time::mode_named;
 use rustc_apfloat::Round;
 use std::io;
 use std::io::Write;

@@ -2,7 +2,7 @@
 
 use crate::fault::width_of;
 use commands::{agrees, bits_of, run};
-use dispatch::{BuiltInKind, mode_named};
+use formats_at_run_time::{BuiltInKind, mode_named};
 use rustc_apfloat::Flags;
 use std::alloc::{AllocError, Global};
 use std::{io, str};

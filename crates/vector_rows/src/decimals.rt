@@ -4,12 +4,12 @@
 
 ghost use Rattle.rustc_apfloat.specs.Types.{format_of};
 ghost use Rattle.apfloat_decimals.specs.ShortestSearch.{IsWithinQuad};
-ghost use Rattle.dispatch.specs.FormatKinds.{IfFormat};
+ghost use Rattle.formats_at_run_time.specs.FormatKinds.{IfFormat};
 ghost use Rattle.rustc_apfloat.specs.Lawful.{format_with};
 
 use crate::of_type::{Answered, Request, value_of};
 use apfloat_decimals::{Decimal, exact, read_decimal, rounded, shortest};
-use dispatch::{FlaggedFormat, InFormat};
+use formats_at_run_time::{FlaggedFormat, InFormat};
 use rustc_apfloat::Round;
 use rustc_apfloat::ieee::{IeeeFloat, Semantics};
 use std::fmt::Write as _;

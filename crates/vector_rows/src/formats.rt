@@ -2,7 +2,7 @@
 
 use crate::decimals::in_decimals;
 use crate::of_type::{Answered, Request, of_type, two_values, value_of};
-use dispatch::InFormat;
+use formats_at_run_time::InFormat;
 use rustc_apfloat::ieee::{Flagged, IeeeFloat, Semantics};
 use rustc_apfloat::ppc::{DoubleDouble, FallbackS};
 use rustc_apfloat::{FUSED_LIMIT, Float, FloatConvert, Round, StatusAnd};

@@ -3,7 +3,7 @@
 ghost use Rattle.std.specs.Prelude.{◌≤◌};
 
 use crate::magnitudes::Magnitudes;
-use dispatch::ValueType;
+use formats_at_run_time::ValueType;
 use rustc_apfloat::{ExpInt, Float, Round, StatusAnd};
 use std::fmt::Debug;
 use vector_lines::{

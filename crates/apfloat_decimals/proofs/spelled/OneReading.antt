@@ -3,21 +3,21 @@ use Rattle.std.proofs.Common.{◌≡◌, ℕ, ◌*◌, ◌^◌, Bool, true, fals
 use Rattle.std.specs.Prelude.{if◌then◌else◌, is_some}
 use Rattle.std.specs.Option.{unwrap_or}
 use Rattle.std.proofs.lemmas.Option.{none-some}
-use Rattle.apfloat_base.specs.declared.kinds.Round.{Round}
-use Rattle.apfloat_base.specs.declared.parse_error.Fault.{Fault}
-use Rattle.apfloat_base.specs.declared.parse_error.Fault.TheVariants.{EmptyText, LoneMark, NoLiteral}
-use Rattle.apfloat_base.specs.arithmetic.Exact.{up, down}
-use Rattle.apfloat_base.specs.formats.Datum.{Datum}
-use Rattle.apfloat_base.specs.formats.Format.{Format}
-use Rattle.apfloat_base.specs.rounding.Flags.{bits_of}
-use Rattle.apfloat_base.specs.texts.Digits.{is_empty}
-use Rattle.apfloat_base.specs.texts.Faults.{words, begins_literal}
-use Rattle.apfloat_base.specs.texts.Specials.{Meaning, mark_of, after_mark, is_minus, special_of}
-use Rattle.apfloat_base.specs.texts.Texts.{Means}
-use Rattle.apfloat_base.proofs.Determined.{gives_once, reading_once}
-use Rattle.apfloat_base.proofs.Once.{Once}
-use Rattle.apfloat_base.proofs.rounding.Laws.{delivered_once}
-use Rattle.apfloat_base.proofs.texts.OneMeaning.{meaning_no_fault}
+use Rattle.apfloat_model.specs.declared.kinds.Round.{Round}
+use Rattle.apfloat_model.specs.declared.parse_error.Fault.{Fault}
+use Rattle.apfloat_model.specs.declared.parse_error.Fault.TheVariants.{EmptyText, LoneMark, NoLiteral}
+use Rattle.apfloat_model.specs.arithmetic.Exact.{up, down}
+use Rattle.apfloat_model.specs.formats.Datum.{Datum}
+use Rattle.apfloat_model.specs.formats.Format.{Format}
+use Rattle.apfloat_model.specs.rounding.Flags.{bits_of}
+use Rattle.apfloat_model.specs.texts.Digits.{is_empty}
+use Rattle.apfloat_model.specs.texts.Faults.{words, begins_literal}
+use Rattle.apfloat_model.specs.texts.Specials.{Meaning, mark_of, after_mark, is_minus, special_of}
+use Rattle.apfloat_model.specs.texts.Texts.{Means}
+use Rattle.apfloat_model.proofs.Determined.{gives_once, reading_once}
+use Rattle.apfloat_model.proofs.Once.{Once}
+use Rattle.apfloat_model.proofs.rounding.Laws.{delivered_once}
+use Rattle.apfloat_model.proofs.texts.OneMeaning.{meaning_no_fault}
 use Rattle.apfloat_decimals.specs.DecimalTexts.{IsDecimalReading, IsDecimalRefusal, body_fault, decimal_fault_of}
 use Rattle.apfloat_decimals.specs.OneReading.{IsReadOnce, IsParsedOnce, AreOneParsing}
 use Rattle.apfloat_decimals.specs.Parsing.{Spells, IsRefusedFor, plain_fault_of}

@@ -2,17 +2,17 @@
 use Rattle.std.proofs.Common.{◌≡◌, ◌⊎◌, ℕ, Bool, true, false, not, ◌&&◌, cond, refl, sym, ap, ◌∙◌, subst, inl, inr, arith, List, [], ◌∷◌, ◌++◌, length, drop, codes, Option, Some, None, is_some, pos, ◌-ℤ◌, ◌==◌}
 use Rattle.std.proofs.lemmas.Bool.{cases_Bool, ne_eqb, eqb-true, false≢true, not-false}
 use Rattle.std.proofs.lemmas.Option.{none-some}
-use Rattle.apfloat_base.specs.declared.kinds.Round.{Round}
-use Rattle.apfloat_base.specs.declared.parse_error.Fault.{Fault}
-use Rattle.apfloat_base.specs.declared.parse_error.Fault.TheVariants.{EmptyText, LoneMark, NoLiteral, SecondDot, WrongInSignificand, NoDigits, WrongInExponent, NoExponentDigits}
-use Rattle.apfloat_base.specs.formats.Format.{Format}
-use Rattle.apfloat_base.specs.formats.Datum.{Datum}
-use Rattle.apfloat_base.specs.texts.Digits.{every, begins, is_empty, run, after_run, is_decimal, number}
-use Rattle.apfloat_base.specs.texts.Faults.{is_dot, begins_literal, after_prefix_fault, fault_of}
-use Rattle.apfloat_base.specs.texts.Literals.{exponent_number}
-use Rattle.apfloat_base.specs.texts.Specials.{after_mark, special_of}
-use Rattle.apfloat_base.proofs.general.Choices.{left_none}
-use Rattle.apfloat_base.proofs.general.ListLaws.{append-every, split_run, run_passes, some_length}
+use Rattle.apfloat_model.specs.declared.kinds.Round.{Round}
+use Rattle.apfloat_model.specs.declared.parse_error.Fault.{Fault}
+use Rattle.apfloat_model.specs.declared.parse_error.Fault.TheVariants.{EmptyText, LoneMark, NoLiteral, SecondDot, WrongInSignificand, NoDigits, WrongInExponent, NoExponentDigits}
+use Rattle.apfloat_model.specs.formats.Format.{Format}
+use Rattle.apfloat_model.specs.formats.Datum.{Datum}
+use Rattle.apfloat_model.specs.texts.Digits.{every, begins, is_empty, run, after_run, is_decimal, number}
+use Rattle.apfloat_model.specs.texts.Faults.{is_dot, begins_literal, after_prefix_fault, fault_of}
+use Rattle.apfloat_model.specs.texts.Literals.{exponent_number}
+use Rattle.apfloat_model.specs.texts.Specials.{after_mark, special_of}
+use Rattle.apfloat_model.proofs.general.Choices.{left_none}
+use Rattle.apfloat_model.proofs.general.ListLaws.{append-every, split_run, run_passes, some_length}
 use Rattle.apfloat_decimals.specs.Decimals.{IsDecimalDelivery}
 use Rattle.apfloat_decimals.specs.DecimalTexts.{is_e, IsWrittenExponent, IsDecimalText, IsSpelled, fraction_in, after_fraction, written_fault, fault_after, body_fault, decimal_fault_of}
 

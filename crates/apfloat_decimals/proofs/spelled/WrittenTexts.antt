@@ -5,11 +5,11 @@ use Rattle.std.proofs.lemmas.Fmt.{decimal_by_steps_wide, length-decimal-le_wide}
 use Rattle.std.proofs.lemmas.Int.{ints}
 use Rattle.std.proofs.lemmas.Nat.{pow-add}
 use Rattle.std.specs.Fmt.{decimal, signed_decimal}
-use Rattle.apfloat_base.specs.declared.marks.Mark.TheVariants.{Unmarked}
-use Rattle.apfloat_base.specs.arithmetic.Exact.{up, down}
-use Rattle.apfloat_base.specs.texts.Digits.{every, is_decimal, digit_value, number}
-use Rattle.apfloat_base.specs.texts.Specials.{mark_of, after_mark}
-use Rattle.apfloat_base.proofs.general.ListLaws.{append-every}
+use Rattle.apfloat_model.specs.declared.marks.Mark.TheVariants.{Unmarked}
+use Rattle.apfloat_model.specs.arithmetic.Exact.{up, down}
+use Rattle.apfloat_model.specs.texts.Digits.{every, is_decimal, digit_value, number}
+use Rattle.apfloat_model.specs.texts.Specials.{mark_of, after_mark}
+use Rattle.apfloat_model.proofs.general.ListLaws.{append-every}
 use Rattle.apfloat_decimals.specs.declared.decimal.Decimal.{Decimal}
 use Rattle.apfloat_decimals.specs.DecimalTexts.{IsWrittenExponent, IsDecimalText}
 use Rattle.apfloat_decimals.specs.LeadingDigits.{number_from}

@@ -1,7 +1,7 @@
 //! The first digits of a long text, as a number of 128 binary digits.
 
 ghost use Rattle.std.specs.Prelude.{◌≡◌, ◌+◌, ◌^◌, ◌<◌, ◌≤◌, ◌++◌, IsTrue};
-ghost use Rattle.apfloat_base.specs.texts.Digits.{every, is_decimal, number};
+ghost use Rattle.apfloat_model.specs.texts.Digits.{every, is_decimal, number};
 ghost use Rattle.apfloat_decimals.specs.LeadingDigits.{IsFront};
 
 use crate::texts::short::number_after;

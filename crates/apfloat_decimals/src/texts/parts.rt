@@ -1,15 +1,15 @@
 //! The parts of a decimal text.
 
 ghost use Rattle.std.specs.Prelude.{◌≡◌, drop, ◌++◌, not, ◌&&◌, Some, None, MatchResult};
-ghost use Rattle.apfloat_base.specs.rounding.Bounds.{IsWithin};
-ghost use Rattle.apfloat_base.specs.texts.Digits.{run, after_run, is_decimal, is_empty};
-ghost use Rattle.apfloat_base.specs.texts.Faults.{begins_literal};
-ghost use Rattle.apfloat_base.specs.texts.Literals.{exponent_number};
-ghost use Rattle.apfloat_texts.specs.Saturation.{IsNear, count_bound, far_bound};
+ghost use Rattle.apfloat_model.specs.rounding.Bounds.{IsWithin};
+ghost use Rattle.apfloat_model.specs.texts.Digits.{run, after_run, is_decimal, is_empty};
+ghost use Rattle.apfloat_model.specs.texts.Faults.{begins_literal};
+ghost use Rattle.apfloat_model.specs.texts.Literals.{exponent_number};
+ghost use Rattle.apfloat_hex_texts.specs.Saturation.{IsNear, count_bound, far_bound};
 ghost use Rattle.apfloat_decimals.specs.DecimalTexts.{fraction_in, after_fraction, fault_after};
 
-use apfloat_base::parse_error::Fault;
-use apfloat_texts::{is_decimal, signed_number};
+use apfloat_hex_texts::{is_decimal, signed_number};
+use apfloat_model::parse_error::Fault;
 
 /// Whether the text is not empty and does not begin with the prefix of a hexadecimal number.
 pub fn is_plain(body: &[u8]) -> bool

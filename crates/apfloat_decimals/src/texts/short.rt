@@ -1,7 +1,7 @@
 //! The number that few digits spell, without large numbers.
 
 ghost use Rattle.std.specs.Prelude.{◌≡◌, ◌+◌, ◌*◌, ◌^◌, ◌<◌, ◌≤◌, IsTrue, length};
-ghost use Rattle.apfloat_base.specs.texts.Digits.{every, is_decimal};
+ghost use Rattle.apfloat_model.specs.texts.Digits.{every, is_decimal};
 ghost use Rattle.apfloat_decimals.specs.LeadingDigits.{number_from};
 
 /// Numbers below this, with one more digit, fit in one machine word.

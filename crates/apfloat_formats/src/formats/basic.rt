@@ -1,8 +1,8 @@
 //! The binary interchange formats of IEEE 754-2008 3.6.
 
 ghost use Rattle.std.specs.Prelude.{◌-◌, ◌*◌, ◌^◌, pos, negsuc, true, false, refl};
-ghost use Rattle.apfloat_base.specs.declared.kinds.NonfiniteBehavior.TheVariants.{IEEE754};
-ghost use Rattle.apfloat_base.proofs.formats.LawTest.{lawful_from_test};
+ghost use Rattle.apfloat_model.specs.declared.kinds.NonfiniteBehavior.TheVariants.{IEEE754};
+ghost use Rattle.apfloat_model.proofs.formats.LawTest.{lawful_from_test};
 
 use apfloat_base::{ExpInt, NonfiniteBehavior};
 use apfloat_ieee::Semantics;

@@ -1,8 +1,8 @@
 //! Formats of 16 and 8 bits that are not in IEEE 754.
 
 ghost use Rattle.std.specs.Prelude.{◌-◌, ◌*◌, ◌^◌, pos, negsuc, true, false, refl};
-ghost use Rattle.apfloat_base.specs.declared.kinds.NonfiniteBehavior.TheVariants.{IEEE754, NanOnly, NanNegativeZero};
-ghost use Rattle.apfloat_base.proofs.formats.LawTest.{lawful_from_test};
+ghost use Rattle.apfloat_model.specs.declared.kinds.NonfiniteBehavior.TheVariants.{IEEE754, NanOnly, NanNegativeZero};
+ghost use Rattle.apfloat_model.proofs.formats.LawTest.{lawful_from_test};
 
 use apfloat_base::{ExpInt, NonfiniteBehavior};
 use apfloat_ieee::Semantics;

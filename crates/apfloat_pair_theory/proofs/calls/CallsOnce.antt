@@ -3,24 +3,24 @@ use Rattle.std.proofs.Common.{◌≡◌, ℕ, ◌-◌, ◌^◌, ◌<◌, ◌≤�
 use Rattle.std.specs.Prelude.{ℤ, pos, neg_ℤ, unsigned_abs, int_lt, List, Option, Some, None}
 use Rattle.std.specs.Bool.{MatchBool}
 use Rattle.std.proofs.lemmas.Bool.{cases_lt}
-use Rattle.apfloat_base.specs.declared.kinds.Round.{Round}
-use Rattle.apfloat_base.specs.declared.kinds.Round.TheVariants.{NearestTiesToEven}
-use Rattle.apfloat_base.specs.formats.Datum.{Datum}
-use Rattle.apfloat_base.specs.rounding.Negation.{swapped}
-use Rattle.apfloat_base.specs.order.Classes.{is_negative, is_zero, is_finite_non_zero, is_denormal}
-use Rattle.apfloat_base.specs.order.Order.{is_equal}
-use Rattle.apfloat_base.specs.arithmetic.Quotients.{IsQuotient}
-use Rattle.apfloat_base.specs.arithmetic.Remainders.{IsTruncatedRemainder, IsNearestRemainder, truncated_quotient, nearest_quotient}
-use Rattle.apfloat_base.specs.whole_numbers.WholeNumbers.{IsFromUnsigned, IsRoundToIntegral}
-use Rattle.apfloat_base.specs.whole_numbers.WholeNumbersOut.{to_unsigned, IsToUnsigned}
-use Rattle.apfloat_base.specs.whole_numbers.SignedWholes.{IsNegatedWhole}
-use Rattle.apfloat_base.specs.arithmetic.Scaling.{IsScaling}
-use Rattle.apfloat_base.specs.arithmetic.Exponents.{IsExactInverse}
-use Rattle.apfloat_base.specs.texts.Readings.{IsReading}
-use Rattle.apfloat_base.specs.arithmetic.NextUp.{IsNextUp}
-use Rattle.apfloat_base.proofs.Once.{sum_once, quotient_once, remainder_once, scaling_once, from_unsigned_once, round_to_integral_once, whole_once, next_up_once}
-use Rattle.apfloat_base.proofs.Determined.{exponent_once, frexp_once, exact_inverse_once, reading_once}
-use Rattle.apfloat_base.proofs.general.Choices.{match_one, match_case, match_three}
+use Rattle.apfloat_model.specs.declared.kinds.Round.{Round}
+use Rattle.apfloat_model.specs.declared.kinds.Round.TheVariants.{NearestTiesToEven}
+use Rattle.apfloat_model.specs.formats.Datum.{Datum}
+use Rattle.apfloat_model.specs.rounding.Negation.{swapped}
+use Rattle.apfloat_model.specs.order.Classes.{is_negative, is_zero, is_finite_non_zero, is_denormal}
+use Rattle.apfloat_model.specs.order.Order.{is_equal}
+use Rattle.apfloat_model.specs.arithmetic.Quotients.{IsQuotient}
+use Rattle.apfloat_model.specs.arithmetic.Remainders.{IsTruncatedRemainder, IsNearestRemainder, truncated_quotient, nearest_quotient}
+use Rattle.apfloat_model.specs.whole_numbers.WholeNumbers.{IsFromUnsigned, IsRoundToIntegral}
+use Rattle.apfloat_model.specs.whole_numbers.WholeNumbersOut.{to_unsigned, IsToUnsigned}
+use Rattle.apfloat_model.specs.whole_numbers.SignedWholes.{IsNegatedWhole}
+use Rattle.apfloat_model.specs.arithmetic.Scaling.{IsScaling}
+use Rattle.apfloat_model.specs.arithmetic.Exponents.{IsExactInverse}
+use Rattle.apfloat_model.specs.texts.Readings.{IsReading}
+use Rattle.apfloat_model.specs.arithmetic.NextUp.{IsNextUp}
+use Rattle.apfloat_model.proofs.Once.{sum_once, quotient_once, remainder_once, scaling_once, from_unsigned_once, round_to_integral_once, whole_once, next_up_once}
+use Rattle.apfloat_model.proofs.Determined.{exponent_once, frexp_once, exact_inverse_once, reading_once}
+use Rattle.apfloat_model.proofs.general.Choices.{match_one, match_case, match_three}
 use Rattle.apfloat_pair_theory.specs.PairFormats.{double, wide}
 use Rattle.apfloat_pair_theory.specs.Pairs.{Pair, negated_pair}
 use Rattle.apfloat_pair_theory.specs.PairAnswers.{OncePair}

@@ -1,27 +1,27 @@
 -- OVERFLOW and UNDERFLOW are raised only together with INEXACT, by each operation on pairs.
 use Rattle.std.proofs.Common.{ℕ, ◌-◌, Bool, sym, subst}
 use Rattle.std.specs.Prelude.{ℤ, pos, unsigned_abs, int_lt, List}
-use Rattle.apfloat_base.specs.declared.kinds.Round.{Round}
-use Rattle.apfloat_base.specs.declared.kinds.NonfiniteBehavior.TheVariants.{IEEE754}
-use Rattle.apfloat_base.specs.declared.kinds.Category.{Category}
-use Rattle.apfloat_base.specs.declared.kinds.Category.TheVariants.{Zero, Normal, Infinity, NaN}
-use Rattle.apfloat_base.specs.formats.Datum.{Datum}
-use Rattle.apfloat_base.specs.rounding.Rounding.{ok_bits}
-use Rattle.apfloat_base.specs.rounding.Negation.{negated, swapped}
-use Rattle.apfloat_base.specs.rounding.RaisedFlags.{FlagsGoTogether}
-use Rattle.apfloat_base.specs.formats.Nan.{invalid_bit}
-use Rattle.apfloat_base.specs.order.Classes.{is_negative, is_zero, is_finite, is_infinite, is_finite_non_zero, same_datum}
-use Rattle.apfloat_base.specs.arithmetic.Exact.{same_sign}
-use Rattle.apfloat_base.specs.arithmetic.Sums.{IsSum, IsDifference}
-use Rattle.apfloat_base.specs.arithmetic.Products.{IsProduct}
-use Rattle.apfloat_base.specs.arithmetic.Quotients.{IsQuotient}
-use Rattle.apfloat_base.specs.arithmetic.Roots.{IsRoot}
-use Rattle.apfloat_base.specs.arithmetic.Remainders.{IsTruncatedRemainder, IsNearestRemainder, truncated_quotient, nearest_quotient}
-use Rattle.apfloat_base.specs.arithmetic.NextUp.{IsNextUp}
-use Rattle.apfloat_base.specs.whole_numbers.WholeNumbers.{IsFromUnsigned, IsRoundToIntegral}
-use Rattle.apfloat_base.specs.texts.Readings.{IsReading}
-use Rattle.apfloat_base.proofs.general.Choices.{match_case, match_three}
-use Rattle.apfloat_base.proofs.rounding.FlagsTogether.{Together, ok_together, invalid_together, union_together, sum_together, difference_together, product_together, fused_sum_together, quotient_together, root_together, remainder_together, round_to_integral_together, next_up_together, reading_together, from_unsigned_together, to_unsigned_together, negated_whole_together}
+use Rattle.apfloat_model.specs.declared.kinds.Round.{Round}
+use Rattle.apfloat_model.specs.declared.kinds.NonfiniteBehavior.TheVariants.{IEEE754}
+use Rattle.apfloat_model.specs.declared.kinds.Category.{Category}
+use Rattle.apfloat_model.specs.declared.kinds.Category.TheVariants.{Zero, Normal, Infinity, NaN}
+use Rattle.apfloat_model.specs.formats.Datum.{Datum}
+use Rattle.apfloat_model.specs.rounding.Rounding.{ok_bits}
+use Rattle.apfloat_model.specs.rounding.Negation.{negated, swapped}
+use Rattle.apfloat_model.specs.rounding.RaisedFlags.{FlagsGoTogether}
+use Rattle.apfloat_model.specs.formats.Nan.{invalid_bit}
+use Rattle.apfloat_model.specs.order.Classes.{is_negative, is_zero, is_finite, is_infinite, is_finite_non_zero, same_datum}
+use Rattle.apfloat_model.specs.arithmetic.Exact.{same_sign}
+use Rattle.apfloat_model.specs.arithmetic.Sums.{IsSum, IsDifference}
+use Rattle.apfloat_model.specs.arithmetic.Products.{IsProduct}
+use Rattle.apfloat_model.specs.arithmetic.Quotients.{IsQuotient}
+use Rattle.apfloat_model.specs.arithmetic.Roots.{IsRoot}
+use Rattle.apfloat_model.specs.arithmetic.Remainders.{IsTruncatedRemainder, IsNearestRemainder, truncated_quotient, nearest_quotient}
+use Rattle.apfloat_model.specs.arithmetic.NextUp.{IsNextUp}
+use Rattle.apfloat_model.specs.whole_numbers.WholeNumbers.{IsFromUnsigned, IsRoundToIntegral}
+use Rattle.apfloat_model.specs.texts.Readings.{IsReading}
+use Rattle.apfloat_model.proofs.general.Choices.{match_case, match_three}
+use Rattle.apfloat_model.proofs.rounding.FlagsTogether.{Together, ok_together, invalid_together, union_together, sum_together, difference_together, product_together, fused_sum_together, quotient_together, root_together, remainder_together, round_to_integral_together, next_up_together, reading_together, from_unsigned_together, to_unsigned_together, negated_whole_together}
 use Rattle.apfloat_pair_theory.specs.PairFormats.{double, wide}
 use Rattle.apfloat_pair_theory.specs.Pairs.{Pair, IsPairAnswer, alone, positive_zero, negated_pair, pair_category, pair_nan_signed_as, IsSplitAnswer, IsWideAnswer, IsWideAnswerOfTwo}
 use Rattle.apfloat_pair_theory.specs.PairSums.{◌∪◌, IsLowPart, IsClosed, IsLost, IsFiniteSum, greater, lesser, IsSumAnewLow, IsSumAnew, IsSumOfNumbers, IsSumOfInfinities, IsSumOfCategories, IsPairSum, IsPairDifference}

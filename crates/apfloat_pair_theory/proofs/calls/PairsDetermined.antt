@@ -1,11 +1,11 @@
 -- The calls on pairs determine their results.
 use Rattle.std.proofs.Common.{ℕ, Bool, List, Result, Ok, Err}
-use Rattle.apfloat_base.specs.declared.kinds.Round.{Round}
-use Rattle.apfloat_base.specs.declared.parse_error.ParseError.{ParseError}
-use Rattle.apfloat_base.specs.declared.status.StatusAnd.{StatusAnd}
-use Rattle.apfloat_base.specs.rounding.Flags.{Gives, bits_of}
-use Rattle.apfloat_base.specs.Determined.{Determines, DeterminesBoth, AreOneReading, IsDetermined}
-use Rattle.apfloat_base.proofs.Determined.{same_answer, refusal_once, reading_or_refusal}
+use Rattle.apfloat_model.specs.declared.kinds.Round.{Round}
+use Rattle.apfloat_model.specs.declared.parse_error.ParseError.{ParseError}
+use Rattle.apfloat_model.specs.declared.status.StatusAnd.{StatusAnd}
+use Rattle.apfloat_model.specs.rounding.Flags.{Gives, bits_of}
+use Rattle.apfloat_model.specs.Determined.{Determines, DeterminesBoth, AreOneReading, IsDetermined}
+use Rattle.apfloat_model.proofs.Determined.{same_answer, refusal_once, reading_or_refusal}
 use Rattle.apfloat_pair_theory.specs.PairFormats.{wide}
 use Rattle.apfloat_pair_theory.specs.Pairs.{Pair, IsPairEncodedBy}
 use Rattle.apfloat_pair_theory.specs.PairAnswers.{OncePair}

@@ -1,19 +1,19 @@
 -- Each sum, difference and product of two pairs has a result, in each mode.
 use Rattle.std.proofs.Common.{ℕ, ◌<◌, refl, lit<}
-use Rattle.apfloat_base.specs.declared.kinds.Round.{Round}
-use Rattle.apfloat_base.specs.declared.kinds.NonfiniteBehavior.TheVariants.{IEEE754}
-use Rattle.apfloat_base.specs.formats.Datum.{Datum}
-use Rattle.apfloat_base.specs.rounding.Negation.{negated}
-use Rattle.apfloat_base.specs.order.Classes.{is_negative, is_finite, is_infinite, is_finite_non_zero, same_datum}
-use Rattle.apfloat_base.specs.arithmetic.Exact.{same_sign}
-use Rattle.apfloat_base.specs.rounding.Rounding.{ok_bits}
-use Rattle.apfloat_base.specs.formats.Nan.{invalid_bit}
-use Rattle.apfloat_base.proofs.AnswersExist.{sum_exists, difference_exists, product_exists, fused_sum_exists}
-use Rattle.apfloat_base.proofs.general.Choices.{match_case}
+use Rattle.apfloat_model.specs.declared.kinds.Round.{Round}
+use Rattle.apfloat_model.specs.declared.kinds.NonfiniteBehavior.TheVariants.{IEEE754}
+use Rattle.apfloat_model.specs.formats.Datum.{Datum}
+use Rattle.apfloat_model.specs.rounding.Negation.{negated}
+use Rattle.apfloat_model.specs.order.Classes.{is_negative, is_finite, is_infinite, is_finite_non_zero, same_datum}
+use Rattle.apfloat_model.specs.arithmetic.Exact.{same_sign}
+use Rattle.apfloat_model.specs.rounding.Rounding.{ok_bits}
+use Rattle.apfloat_model.specs.formats.Nan.{invalid_bit}
+use Rattle.apfloat_model.proofs.AnswersExist.{sum_exists, difference_exists, product_exists, fused_sum_exists}
+use Rattle.apfloat_model.proofs.general.Choices.{match_case}
 use Rattle.apfloat_pair_theory.specs.PairFormats.{double}
 use Rattle.apfloat_pair_theory.specs.Pairs.{Pair, IsPairAnswer, alone, positive_zero, negated_pair, pair_category, pair_nan_signed_as}
-use Rattle.apfloat_base.specs.declared.kinds.Category.{Category}
-use Rattle.apfloat_base.specs.declared.kinds.Category.TheVariants.{Zero, Normal, Infinity, NaN}
+use Rattle.apfloat_model.specs.declared.kinds.Category.{Category}
+use Rattle.apfloat_model.specs.declared.kinds.Category.TheVariants.{Zero, Normal, Infinity, NaN}
 use Rattle.apfloat_pair_theory.specs.PairSums.{◌∪◌, IsLowPart, IsClosed, IsLost, IsFiniteSum, greater, lesser, IsSumAnewLow, IsSumAnew, IsSumOfNumbers, IsSumOfInfinities, IsSumOfCategories, IsPairSum, IsPairDifference}
 use Rattle.apfloat_pair_theory.specs.PairAnswers.{HasPairAnswer}
 use Rattle.apfloat_pair_theory.specs.PairProducts.{IsLostOfProduct, IsNumberProduct, IsProductOfNumbers, IsProductOfCategories, IsPairProduct}

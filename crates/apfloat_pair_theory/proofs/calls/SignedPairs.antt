@@ -2,14 +2,14 @@
 use Rattle.std.proofs.Common.{◌≡◌, ℕ, zero, suc, ◌-◌, ◌<◌, Bool, true, false, refl, subst, arith}
 use Rattle.std.specs.Prelude.{ℤ, pos, neg_ℤ, int_lt}
 use Rattle.std.proofs.lemmas.Int.{ints}
-use Rattle.apfloat_base.specs.declared.kinds.Round.{Round}
-use Rattle.apfloat_base.specs.rounding.Negation.{swapped}
-use Rattle.apfloat_base.specs.order.Classes.{category_of, is_negative}
-use Rattle.apfloat_base.specs.order.Predicates.{is_zero_category}
-use Rattle.apfloat_base.proofs.order.PredicatesAgree.{zero_agrees}
-use Rattle.apfloat_base.proofs.general.Choices.{match_true, match_false}
-use Rattle.apfloat_base.proofs.whole_numbers.SignedTests.{less_not}
-use Rattle.apfloat_base.specs.whole_numbers.SignedWholes.{IsNegatedWhole}
+use Rattle.apfloat_model.specs.declared.kinds.Round.{Round}
+use Rattle.apfloat_model.specs.rounding.Negation.{swapped}
+use Rattle.apfloat_model.specs.order.Classes.{category_of, is_negative}
+use Rattle.apfloat_model.specs.order.Predicates.{is_zero_category}
+use Rattle.apfloat_model.proofs.order.PredicatesAgree.{zero_agrees}
+use Rattle.apfloat_model.proofs.general.Choices.{match_true, match_false}
+use Rattle.apfloat_model.proofs.whole_numbers.SignedTests.{less_not}
+use Rattle.apfloat_model.specs.whole_numbers.SignedWholes.{IsNegatedWhole}
 use Rattle.apfloat_pair_theory.specs.Pairs.{Pair, negated_pair}
 use Rattle.apfloat_pair_theory.specs.PairCalls.{IsPairFromUnsigned, IsPairFromNegative, IsPairFromSigned, IsPairToUnsigned, IsPairToNegative, IsPairToNatural, IsPairToSigned}
 

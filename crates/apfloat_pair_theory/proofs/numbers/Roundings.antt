@@ -5,23 +5,23 @@ use Rattle.std.proofs.Math.Nat.{mul-le-mul_right, le_of_mul-le-mul_right}
 use Rattle.std.proofs.lemmas.Nat.{pow_pos}
 use Rattle.std.proofs.lemmas.Bool.{cases_lt, false≢true, le-ltb, lt-ltb, ne_eqb}
 use Rattle.std.proofs.lemmas.Int.{ints}
-use Rattle.apfloat_base.specs.declared.kinds.Round.TheVariants.{NearestTiesToEven}
-use Rattle.apfloat_base.specs.declared.kinds.NonfiniteBehavior.{NonfiniteBehavior}
-use Rattle.apfloat_base.specs.declared.kinds.NonfiniteBehavior.TheVariants.{IEEE754}
-use Rattle.apfloat_base.specs.formats.Format.{Format, largest, greatest_significand, nan_base}
-use Rattle.apfloat_base.specs.formats.Datum.{Datum, finite, infinite, nan}
-use Rattle.apfloat_base.specs.rounding.Grid.{IsOnGrid}
-use Rattle.apfloat_base.specs.rounding.Rounding.{takes_above, IsPick, IsDelivered, delivered_value, signed_quanta, past_largest}
-use Rattle.apfloat_base.specs.rounding.Negation.{negated}
-use Rattle.apfloat_base.specs.order.Classes.{is_finite}
-use Rattle.apfloat_base.specs.arithmetic.Exact.{magnitude, signed, sign_of, IsRounded}
-use Rattle.apfloat_base.specs.order.Order.{number}
-use Rattle.apfloat_base.specs.arithmetic.Sums.{IsSum, IsDifference, zero_sum_sign}
-use Rattle.apfloat_base.proofs.rounding.Neighbours.{multiple_on_grid}
-use Rattle.apfloat_base.proofs.rounding.Laws.{pick_within}
-use Rattle.apfloat_base.proofs.arithmetic.Signs.{magnitude_signed, one_side}
-use Rattle.apfloat_base.proofs.general.Choices.{cond_times}
-use Rattle.apfloat_base.proofs.arithmetic.SumLaws.{signed_quanta_is}
+use Rattle.apfloat_model.specs.declared.kinds.Round.TheVariants.{NearestTiesToEven}
+use Rattle.apfloat_model.specs.declared.kinds.NonfiniteBehavior.{NonfiniteBehavior}
+use Rattle.apfloat_model.specs.declared.kinds.NonfiniteBehavior.TheVariants.{IEEE754}
+use Rattle.apfloat_model.specs.formats.Format.{Format, largest, greatest_significand, nan_base}
+use Rattle.apfloat_model.specs.formats.Datum.{Datum, finite, infinite, nan}
+use Rattle.apfloat_model.specs.rounding.Grid.{IsOnGrid}
+use Rattle.apfloat_model.specs.rounding.Rounding.{takes_above, IsPick, IsDelivered, delivered_value, signed_quanta, past_largest}
+use Rattle.apfloat_model.specs.rounding.Negation.{negated}
+use Rattle.apfloat_model.specs.order.Classes.{is_finite}
+use Rattle.apfloat_model.specs.arithmetic.Exact.{magnitude, signed, sign_of, IsRounded}
+use Rattle.apfloat_model.specs.order.Order.{number}
+use Rattle.apfloat_model.specs.arithmetic.Sums.{IsSum, IsDifference, zero_sum_sign}
+use Rattle.apfloat_model.proofs.rounding.Neighbours.{multiple_on_grid}
+use Rattle.apfloat_model.proofs.rounding.Laws.{pick_within}
+use Rattle.apfloat_model.proofs.arithmetic.Signs.{magnitude_signed, one_side}
+use Rattle.apfloat_model.proofs.general.Choices.{cond_times}
+use Rattle.apfloat_model.proofs.arithmetic.SumLaws.{signed_quanta_is}
 use Rattle.apfloat_pair_theory.proofs.numbers.Signed.{IsGridNumber, on_grid_as}
 use Rattle.apfloat_pair_theory.proofs.numbers.SignedProducts.{difference_times, magnitude-times, times_one, signed_times}
 use Rattle.apfloat_pair_theory.proofs.numbers.Nearest.{IsNearest}

@@ -6,9 +6,9 @@ use Rattle.std.proofs.Math.Nat.{mul-le-mul_right, lt_of_mul-lt-mul_left, lt_of_m
 use Rattle.std.proofs.lemmas.Nat.{pow-add, pow_pos}
 use Rattle.std.proofs.lemmas.Bool.{cases_lt}
 use Rattle.std.proofs.lemmas.Int.{ints}
-use Rattle.apfloat_base.specs.arithmetic.Exact.{magnitude}
-use Rattle.apfloat_base.proofs.arithmetic.Signs.{one_side}
-use Rattle.apfloat_base.proofs.rounding.Laws.{zero_on_grid}
+use Rattle.apfloat_model.specs.arithmetic.Exact.{magnitude}
+use Rattle.apfloat_model.proofs.arithmetic.Signs.{one_side}
+use Rattle.apfloat_model.proofs.rounding.Laws.{zero_on_grid}
 use Rattle.apfloat_pair_theory.proofs.numbers.Signed.{magnitude-neg, magnitude-sub, magnitude_le, IsMultiple, sum_multiple, difference_multiple, finer_multiple, coarse_multiple, grid_bound_at, on_grid_from, bound_on_grid, neg_on_grid, cancelled, IsGridNumber, on_grid_as, common}
 use Rattle.apfloat_pair_theory.proofs.numbers.Nearest.{IsNearest, nearest_exact, nearest_reaches, error_le_second, relative_error, nearest_cases, error_on_grid}
 

@@ -5,19 +5,19 @@ use Rattle.std.proofs.Math.Nat.{mul-le-mul_right, lt_of_mul-lt-mul_left, mul-lt-
 use Rattle.std.proofs.lemmas.Nat.{pow-add, pow_pos, mul-lt}
 use Rattle.std.proofs.lemmas.Bool.{false≢true}
 use Rattle.std.proofs.lemmas.Int.{ints}
-use Rattle.apfloat_base.specs.declared.kinds.Round.TheVariants.{NearestTiesToEven}
-use Rattle.apfloat_base.specs.declared.kinds.NonfiniteBehavior.TheVariants.{IEEE754}
-use Rattle.apfloat_base.specs.formats.Format.{Format, largest}
-use Rattle.apfloat_base.specs.formats.Datum.{Datum, finite, infinite, nan}
-use Rattle.apfloat_base.specs.rounding.Grid.{IsOnGrid}
-use Rattle.apfloat_base.specs.rounding.Negation.{negated}
-use Rattle.apfloat_base.specs.order.Classes.{is_finite}
-use Rattle.apfloat_base.specs.arithmetic.Exact.{magnitude, signed, sign_of, product_sign}
-use Rattle.apfloat_base.specs.order.Order.{number}
-use Rattle.apfloat_base.specs.arithmetic.Sums.{zero_sum_sign}
-use Rattle.apfloat_base.specs.arithmetic.Products.{IsProduct}
-use Rattle.apfloat_base.specs.arithmetic.FusedSums.{IsFusedSum}
-use Rattle.apfloat_base.proofs.arithmetic.Signs.{magnitude_signed}
+use Rattle.apfloat_model.specs.declared.kinds.Round.TheVariants.{NearestTiesToEven}
+use Rattle.apfloat_model.specs.declared.kinds.NonfiniteBehavior.TheVariants.{IEEE754}
+use Rattle.apfloat_model.specs.formats.Format.{Format, largest}
+use Rattle.apfloat_model.specs.formats.Datum.{Datum, finite, infinite, nan}
+use Rattle.apfloat_model.specs.rounding.Grid.{IsOnGrid}
+use Rattle.apfloat_model.specs.rounding.Negation.{negated}
+use Rattle.apfloat_model.specs.order.Classes.{is_finite}
+use Rattle.apfloat_model.specs.arithmetic.Exact.{magnitude, signed, sign_of, product_sign}
+use Rattle.apfloat_model.specs.order.Order.{number}
+use Rattle.apfloat_model.specs.arithmetic.Sums.{zero_sum_sign}
+use Rattle.apfloat_model.specs.arithmetic.Products.{IsProduct}
+use Rattle.apfloat_model.specs.arithmetic.FusedSums.{IsFusedSum}
+use Rattle.apfloat_model.proofs.arithmetic.Signs.{magnitude_signed}
 use Rattle.apfloat_pair_theory.proofs.numbers.Signed.{magnitude-sub, IsMultiple, IsGridNumber, on_grid_as}
 use Rattle.apfloat_pair_theory.proofs.numbers.SignedProducts.{difference_times, neg_times, magnitude-mul, magnitude-times, signed_product, signed_times}
 use Rattle.apfloat_pair_theory.proofs.numbers.Nearest.{IsNearest, nearest_exact, relative_error, error_at}

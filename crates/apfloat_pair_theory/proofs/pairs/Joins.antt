@@ -3,17 +3,17 @@ use Rattle.std.proofs.Common.{◌≡◌, ℕ, zero, suc, Bool, true, false, refl
 use Rattle.std.specs.Prelude.{◌+ℤ◌}
 use Rattle.std.proofs.lemmas.Bool.{false≢true, lt-ltb, ne_eqb}
 use Rattle.std.proofs.Math.IntN.{+ℤ_idr}
-use Rattle.apfloat_base.specs.declared.kinds.Round.TheVariants.{NearestTiesToEven}
-use Rattle.apfloat_base.specs.formats.Datum.{Datum, finite, infinite, nan}
-use Rattle.apfloat_base.specs.rounding.Rounding.{ok_bits}
-use Rattle.apfloat_base.specs.order.Classes.{category_of, is_finite_non_zero, is_zero}
-use Rattle.apfloat_base.specs.order.Predicates.{is_zero_category}
-use Rattle.apfloat_base.specs.arithmetic.Exact.{signed, IsRounded}
-use Rattle.apfloat_base.specs.formats.Members.{IsMember, IsFiniteOf}
-use Rattle.apfloat_base.specs.arithmetic.Sums.{IsSum, zero_sum_sign}
-use Rattle.apfloat_base.proofs.arithmetic.Signs.{magnitude_signed}
-use Rattle.apfloat_base.proofs.general.Choices.{match_true}
-use Rattle.apfloat_base.proofs.order.PredicatesAgree.{zero_agrees}
+use Rattle.apfloat_model.specs.declared.kinds.Round.TheVariants.{NearestTiesToEven}
+use Rattle.apfloat_model.specs.formats.Datum.{Datum, finite, infinite, nan}
+use Rattle.apfloat_model.specs.rounding.Rounding.{ok_bits}
+use Rattle.apfloat_model.specs.order.Classes.{category_of, is_finite_non_zero, is_zero}
+use Rattle.apfloat_model.specs.order.Predicates.{is_zero_category}
+use Rattle.apfloat_model.specs.arithmetic.Exact.{signed, IsRounded}
+use Rattle.apfloat_model.specs.formats.Members.{IsMember, IsFiniteOf}
+use Rattle.apfloat_model.specs.arithmetic.Sums.{IsSum, zero_sum_sign}
+use Rattle.apfloat_model.proofs.arithmetic.Signs.{magnitude_signed}
+use Rattle.apfloat_model.proofs.general.Choices.{match_true}
+use Rattle.apfloat_model.proofs.order.PredicatesAgree.{zero_agrees}
 use Rattle.apfloat_pair_theory.specs.PairFormats.{double, wide}
 use Rattle.apfloat_pair_theory.specs.Pairs.{Pair, IsJoined, IsSumOfParts, IsWidened}
 use Rattle.apfloat_pair_theory.proofs.numbers.Signed.{on_grid_as}

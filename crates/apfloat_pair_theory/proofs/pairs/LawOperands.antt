@@ -2,12 +2,12 @@
 use Rattle.std.proofs.Common.{◌≡◌, ℕ, ◌+◌, ◌*◌, ◌≤◌, true, sym, ap, arith}
 use Rattle.std.specs.Prelude.{pos, ◌+ℤ◌}
 use Rattle.std.proofs.lemmas.Bool.{false≢true}
-use Rattle.apfloat_base.specs.formats.Datum.{Datum, finite, infinite, nan}
-use Rattle.apfloat_base.specs.order.Classes.{is_finite, quanta_of}
-use Rattle.apfloat_base.specs.arithmetic.Exact.{magnitude}
-use Rattle.apfloat_base.specs.formats.Members.{IsMember}
-use Rattle.apfloat_base.specs.order.Order.{number}
-use Rattle.apfloat_base.proofs.arithmetic.Signs.{magnitude_signed}
+use Rattle.apfloat_model.specs.formats.Datum.{Datum, finite, infinite, nan}
+use Rattle.apfloat_model.specs.order.Classes.{is_finite, quanta_of}
+use Rattle.apfloat_model.specs.arithmetic.Exact.{magnitude}
+use Rattle.apfloat_model.specs.formats.Members.{IsMember}
+use Rattle.apfloat_model.specs.order.Order.{number}
+use Rattle.apfloat_model.proofs.arithmetic.Signs.{magnitude_signed}
 use Rattle.apfloat_pair_theory.specs.PairFormats.{double}
 use Rattle.apfloat_pair_theory.specs.Pairs.{Pair, positive_zero, IsNormalised}
 use Rattle.apfloat_pair_theory.specs.PairAccuracy.{IsSingle}

@@ -4,20 +4,20 @@ use Rattle.std.specs.Prelude.{ℤ, pos, negsuc, neg_ℤ, ◌+ℤ◌}
 use Rattle.std.proofs.lemmas.Int.{ints}
 use Rattle.std.proofs.lemmas.Bool.{false≢true, lt-ltb}
 use Rattle.std.proofs.Math.Bool.{not-not}
-use Rattle.apfloat_base.specs.declared.kinds.NonfiniteBehavior.{NonfiniteBehavior}
-use Rattle.apfloat_base.specs.declared.kinds.NonfiniteBehavior.TheVariants.{IEEE754}
-use Rattle.apfloat_base.specs.declared.kinds.Round.TheVariants.{NearestTiesToEven}
-use Rattle.apfloat_base.specs.formats.Format.{Format, largest}
-use Rattle.apfloat_base.specs.formats.Datum.{Datum, finite, infinite, nan}
-use Rattle.apfloat_base.specs.rounding.Rounding.{zero_sign, ok_bits, IsDelivered}
-use Rattle.apfloat_base.specs.rounding.Negation.{negated}
-use Rattle.apfloat_base.specs.order.Classes.{is_finite, is_finite_non_zero, quanta_of}
-use Rattle.apfloat_base.specs.arithmetic.Exact.{magnitude, signed, IsRounded}
-use Rattle.apfloat_base.specs.formats.Members.{IsMember}
-use Rattle.apfloat_base.specs.order.Order.{number, is_equal}
-use Rattle.apfloat_base.specs.arithmetic.Sums.{IsSum, zero_sum_sign}
-use Rattle.apfloat_base.proofs.rounding.Laws.{delivered_once, zero_delivered, delivered_swapped}
-use Rattle.apfloat_base.proofs.arithmetic.Signs.{no_sign}
+use Rattle.apfloat_model.specs.declared.kinds.NonfiniteBehavior.{NonfiniteBehavior}
+use Rattle.apfloat_model.specs.declared.kinds.NonfiniteBehavior.TheVariants.{IEEE754}
+use Rattle.apfloat_model.specs.declared.kinds.Round.TheVariants.{NearestTiesToEven}
+use Rattle.apfloat_model.specs.formats.Format.{Format, largest}
+use Rattle.apfloat_model.specs.formats.Datum.{Datum, finite, infinite, nan}
+use Rattle.apfloat_model.specs.rounding.Rounding.{zero_sign, ok_bits, IsDelivered}
+use Rattle.apfloat_model.specs.rounding.Negation.{negated}
+use Rattle.apfloat_model.specs.order.Classes.{is_finite, is_finite_non_zero, quanta_of}
+use Rattle.apfloat_model.specs.arithmetic.Exact.{magnitude, signed, IsRounded}
+use Rattle.apfloat_model.specs.formats.Members.{IsMember}
+use Rattle.apfloat_model.specs.order.Order.{number, is_equal}
+use Rattle.apfloat_model.specs.arithmetic.Sums.{IsSum, zero_sum_sign}
+use Rattle.apfloat_model.proofs.rounding.Laws.{delivered_once, zero_delivered, delivered_swapped}
+use Rattle.apfloat_model.proofs.arithmetic.Signs.{no_sign}
 use Rattle.apfloat_pair_theory.specs.PairFormats.{double}
 use Rattle.apfloat_pair_theory.specs.Pairs.{Pair, pair_number, negated_pair, IsNormalised}
 use Rattle.apfloat_pair_theory.proofs.numbers.Signed.{magnitude-neg}

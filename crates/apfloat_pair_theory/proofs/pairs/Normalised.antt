@@ -7,19 +7,19 @@ use Rattle.std.specs.declared.cmp.Ordering.{Ordering}
 use Rattle.std.specs.declared.cmp.Ordering.TheVariants.{Less, Equal, Greater}
 use Rattle.std.specs.Ordering.{int_cmp, is_eq, MatchOrdering}
 use Rattle.std.specs.Cmp.{int_cmp_is, int_ranks}
-use Rattle.apfloat_base.specs.declared.kinds.NonfiniteBehavior.{NonfiniteBehavior}
-use Rattle.apfloat_base.specs.declared.kinds.NonfiniteBehavior.TheVariants.{IEEE754}
-use Rattle.apfloat_base.specs.declared.kinds.Round.TheVariants.{NearestTiesToEven}
-use Rattle.apfloat_base.specs.formats.Format.{Format, largest}
-use Rattle.apfloat_base.specs.formats.Datum.{Datum, finite, infinite, nan}
-use Rattle.apfloat_base.specs.rounding.Rounding.{zero_sign, ok_bits, signed_quanta}
-use Rattle.apfloat_base.specs.order.Classes.{is_finite}
-use Rattle.apfloat_base.specs.arithmetic.Exact.{magnitude, signed, sign_of, IsRounded}
-use Rattle.apfloat_base.specs.order.Order.{number, is_equal}
-use Rattle.apfloat_base.specs.arithmetic.Sums.{IsSum, zero_sum_sign}
-use Rattle.apfloat_base.proofs.rounding.Laws.{delivered_once, zero_delivered, exact_delivered}
-use Rattle.apfloat_base.proofs.arithmetic.Signs.{no_sign}
-use Rattle.apfloat_base.proofs.arithmetic.SumLaws.{signed_quanta_is}
+use Rattle.apfloat_model.specs.declared.kinds.NonfiniteBehavior.{NonfiniteBehavior}
+use Rattle.apfloat_model.specs.declared.kinds.NonfiniteBehavior.TheVariants.{IEEE754}
+use Rattle.apfloat_model.specs.declared.kinds.Round.TheVariants.{NearestTiesToEven}
+use Rattle.apfloat_model.specs.formats.Format.{Format, largest}
+use Rattle.apfloat_model.specs.formats.Datum.{Datum, finite, infinite, nan}
+use Rattle.apfloat_model.specs.rounding.Rounding.{zero_sign, ok_bits, signed_quanta}
+use Rattle.apfloat_model.specs.order.Classes.{is_finite}
+use Rattle.apfloat_model.specs.arithmetic.Exact.{magnitude, signed, sign_of, IsRounded}
+use Rattle.apfloat_model.specs.order.Order.{number, is_equal}
+use Rattle.apfloat_model.specs.arithmetic.Sums.{IsSum, zero_sum_sign}
+use Rattle.apfloat_model.proofs.rounding.Laws.{delivered_once, zero_delivered, exact_delivered}
+use Rattle.apfloat_model.proofs.arithmetic.Signs.{no_sign}
+use Rattle.apfloat_model.proofs.arithmetic.SumLaws.{signed_quanta_is}
 use Rattle.apfloat_pair_theory.proofs.numbers.Signed.{IsGridNumber, on_grid_as}
 use Rattle.apfloat_pair_theory.proofs.numbers.Nearest.{IsNearest}
 use Rattle.apfloat_pair_theory.proofs.numbers.Roundings.{sum_finite, signed_exact}

@@ -2,14 +2,14 @@
 use Rattle.std.proofs.Common.{◌≡◌, ℕ, ◌+◌, ◌*◌, ◌/◌, ◌%◌, ◌^◌, ◌<◌, Bool, eqb, refl, sym, ap, ◌∙◌, subst, arith, lit<}
 use Rattle.std.specs.Prelude.{bit_or}
 use Rattle.std.proofs.lemmas.Nat.{pow_pos, pow-add, mod_below, div_below, mod_low, shr_high, shr_split, mod-pow-add, field_of, shl_whole, mul-add-lt, or_comm, or_shifted}
-use Rattle.apfloat_base.specs.formats.Datum.{Datum}
-use Rattle.apfloat_base.specs.formats.Formats.{double_constants}
-use Rattle.apfloat_base.specs.formats.Lawful.{IsLawful, layout_with}
-use Rattle.apfloat_base.proofs.formats.LawTest.{lawful_from_test}
-use Rattle.apfloat_base.specs.bits.Layout.{Fields, datum_of, datum_of_fields, fields_of, IsEncodedBy}
-use Rattle.apfloat_base.specs.bits.Interchange.{IsInterchange}
-use Rattle.apfloat_base.proofs.bits.Encodings.{lawful_interchange}
-use Rattle.apfloat_base.proofs.bits.EncodedOnce.{encoded_once, fields_with}
+use Rattle.apfloat_model.specs.formats.Datum.{Datum}
+use Rattle.apfloat_model.specs.formats.Formats.{double_constants}
+use Rattle.apfloat_model.specs.formats.Lawful.{IsLawful, layout_with}
+use Rattle.apfloat_model.proofs.formats.LawTest.{lawful_from_test}
+use Rattle.apfloat_model.specs.bits.Layout.{Fields, datum_of, datum_of_fields, fields_of, IsEncodedBy}
+use Rattle.apfloat_model.specs.bits.Interchange.{IsInterchange}
+use Rattle.apfloat_model.proofs.bits.Encodings.{lawful_interchange}
+use Rattle.apfloat_model.proofs.bits.EncodedOnce.{encoded_once, fields_with}
 use Rattle.apfloat_pair_theory.specs.PairFormats.{double}
 use Rattle.apfloat_pair_theory.specs.Pairs.{Pair, pair_of, IsPairEncodedBy}
 use Rattle.apfloat_pair_theory.proofs.calls.PairsOnce.{parts_same}

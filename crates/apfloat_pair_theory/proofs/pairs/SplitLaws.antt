@@ -5,20 +5,20 @@ use Rattle.std.proofs.Math.Nat.{mul-le-mul_right, le_of_mul-le-mul_right, eq_of_
 use Rattle.std.proofs.lemmas.Nat.{pow-add, pow_pos}
 use Rattle.std.proofs.lemmas.Bool.{MatchBool-at_false, cases_lt, cases_eq, false≢true, lt-ltb, le-ltb, ne_eqb, eqb-true, ltb-true}
 use Rattle.std.proofs.lemmas.Int.{ints}
-use Rattle.apfloat_base.specs.declared.kinds.Round.TheVariants.{NearestTiesToEven}
-use Rattle.apfloat_base.specs.formats.Format.{Format, largest}
-use Rattle.apfloat_base.specs.formats.Datum.{Datum, finite, infinite, nan}
-use Rattle.apfloat_base.specs.rounding.Rounding.{takes_above, pick_between, IsPick, IsDelivered, delivered_value, delivered_status, is_tiny, ok_bits}
-use Rattle.apfloat_base.specs.order.Classes.{is_finite, is_finite_non_zero}
-use Rattle.apfloat_base.specs.arithmetic.Exact.{magnitude, signed, IsRounded}
-use Rattle.apfloat_base.specs.order.Order.{number}
-use Rattle.apfloat_base.specs.rounding.Grid.{IsOnGrid}
-use Rattle.apfloat_base.specs.formats.Members.{IsMember}
-use Rattle.apfloat_base.specs.arithmetic.Sums.{IsSum, zero_sum_sign}
-use Rattle.apfloat_base.specs.arithmetic.Conversions.{IsConversion, IsConvertedNumber}
-use Rattle.apfloat_base.proofs.rounding.Picks.{takes_scaled}
-use Rattle.apfloat_base.proofs.general.Scaled.{less_scaled}
-use Rattle.apfloat_base.proofs.arithmetic.Signs.{magnitude_signed, no_sign, one_side}
+use Rattle.apfloat_model.specs.declared.kinds.Round.TheVariants.{NearestTiesToEven}
+use Rattle.apfloat_model.specs.formats.Format.{Format, largest}
+use Rattle.apfloat_model.specs.formats.Datum.{Datum, finite, infinite, nan}
+use Rattle.apfloat_model.specs.rounding.Rounding.{takes_above, pick_between, IsPick, IsDelivered, delivered_value, delivered_status, is_tiny, ok_bits}
+use Rattle.apfloat_model.specs.order.Classes.{is_finite, is_finite_non_zero}
+use Rattle.apfloat_model.specs.arithmetic.Exact.{magnitude, signed, IsRounded}
+use Rattle.apfloat_model.specs.order.Order.{number}
+use Rattle.apfloat_model.specs.rounding.Grid.{IsOnGrid}
+use Rattle.apfloat_model.specs.formats.Members.{IsMember}
+use Rattle.apfloat_model.specs.arithmetic.Sums.{IsSum, zero_sum_sign}
+use Rattle.apfloat_model.specs.arithmetic.Conversions.{IsConversion, IsConvertedNumber}
+use Rattle.apfloat_model.proofs.rounding.Picks.{takes_scaled}
+use Rattle.apfloat_model.proofs.general.Scaled.{less_scaled}
+use Rattle.apfloat_model.proofs.arithmetic.Signs.{magnitude_signed, no_sign, one_side}
 use Rattle.apfloat_pair_theory.specs.PairFormats.{double, wide}
 use Rattle.apfloat_pair_theory.specs.Pairs.{Pair, pair_number, IsSplit, left_over, low_part, positive_zero}
 use Rattle.apfloat_pair_theory.specs.PairAccuracy.{IsExactPair, IsExactSplit, IsLosslessSplit}

@@ -5,19 +5,19 @@ use Rattle.std.specs.Prelude.{ℤ, pos, ◌+ℤ◌, ◌-ℤ◌}
 use Rattle.std.proofs.lemmas.Nat.{pow_pos}
 use Rattle.std.proofs.lemmas.Bool.{false≢true}
 use Rattle.std.proofs.lemmas.Int.{ints}
-use Rattle.apfloat_base.specs.declared.kinds.Round.TheVariants.{NearestTiesToEven}
-use Rattle.apfloat_base.specs.formats.Format.{largest}
-use Rattle.apfloat_base.specs.formats.Datum.{Datum, finite, infinite, nan}
-use Rattle.apfloat_base.specs.rounding.Rounding.{ok_bits}
-use Rattle.apfloat_base.specs.order.Classes.{is_finite, is_finite_non_zero}
-use Rattle.apfloat_base.specs.arithmetic.Exact.{magnitude, signed, sign_of, IsRounded}
-use Rattle.apfloat_base.specs.rounding.Grid.{IsOnGrid}
-use Rattle.apfloat_base.specs.formats.Members.{IsMember, IsFiniteOf}
-use Rattle.apfloat_base.specs.arithmetic.Sums.{IsSum, IsDifference, zero_sum_sign}
-use Rattle.apfloat_base.specs.arithmetic.Conversions.{IsConversion}
-use Rattle.apfloat_base.proofs.arithmetic.ExactConversions.{exactly_converted}
-use Rattle.apfloat_base.proofs.rounding.Laws.{delivered_once}
-use Rattle.apfloat_base.proofs.arithmetic.Signs.{magnitude_signed}
+use Rattle.apfloat_model.specs.declared.kinds.Round.TheVariants.{NearestTiesToEven}
+use Rattle.apfloat_model.specs.formats.Format.{largest}
+use Rattle.apfloat_model.specs.formats.Datum.{Datum, finite, infinite, nan}
+use Rattle.apfloat_model.specs.rounding.Rounding.{ok_bits}
+use Rattle.apfloat_model.specs.order.Classes.{is_finite, is_finite_non_zero}
+use Rattle.apfloat_model.specs.arithmetic.Exact.{magnitude, signed, sign_of, IsRounded}
+use Rattle.apfloat_model.specs.rounding.Grid.{IsOnGrid}
+use Rattle.apfloat_model.specs.formats.Members.{IsMember, IsFiniteOf}
+use Rattle.apfloat_model.specs.arithmetic.Sums.{IsSum, IsDifference, zero_sum_sign}
+use Rattle.apfloat_model.specs.arithmetic.Conversions.{IsConversion}
+use Rattle.apfloat_model.proofs.arithmetic.ExactConversions.{exactly_converted}
+use Rattle.apfloat_model.proofs.rounding.Laws.{delivered_once}
+use Rattle.apfloat_model.proofs.arithmetic.Signs.{magnitude_signed}
 use Rattle.apfloat_pair_theory.specs.PairFormats.{double, wide}
 use Rattle.apfloat_pair_theory.specs.Pairs.{Pair, positive_zero, IsWidened, left_over, IsSplit}
 use Rattle.apfloat_pair_theory.proofs.numbers.Signed.{magnitude-sub, IsGridNumber, on_grid_as}

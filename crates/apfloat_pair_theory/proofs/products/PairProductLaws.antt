@@ -5,12 +5,12 @@ use Rattle.std.specs.Prelude.{ℤ, pos, neg_ℤ, ◌+ℤ◌, ◌-ℤ◌, ◌*ℤ
 use Rattle.std.proofs.Math.Nat.{mul-le-mul_right, le_of_mul-le-mul_left, le_of_mul-le-mul_right}
 use Rattle.std.proofs.lemmas.Nat.{pow_pos, mul-le}
 use Rattle.std.proofs.lemmas.Int.{ints}
-use Rattle.apfloat_base.specs.declared.kinds.Round.TheVariants.{NearestTiesToEven}
-use Rattle.apfloat_base.specs.order.Classes.{is_finite, is_finite_non_zero}
-use Rattle.apfloat_base.specs.arithmetic.Exact.{magnitude}
-use Rattle.apfloat_base.specs.formats.Members.{IsMember}
-use Rattle.apfloat_base.specs.order.Order.{number}
-use Rattle.apfloat_base.proofs.rounding.Laws.{zero_on_grid}
+use Rattle.apfloat_model.specs.declared.kinds.Round.TheVariants.{NearestTiesToEven}
+use Rattle.apfloat_model.specs.order.Classes.{is_finite, is_finite_non_zero}
+use Rattle.apfloat_model.specs.arithmetic.Exact.{magnitude}
+use Rattle.apfloat_model.specs.formats.Members.{IsMember}
+use Rattle.apfloat_model.specs.order.Order.{number}
+use Rattle.apfloat_model.proofs.rounding.Laws.{zero_on_grid}
 use Rattle.apfloat_pair_theory.specs.PairFormats.{double}
 use Rattle.apfloat_pair_theory.specs.Pairs.{Pair, pair_number, IsNormalised}
 use Rattle.apfloat_pair_theory.specs.PairProducts.{IsPairProduct}

@@ -5,13 +5,13 @@ use Rattle.std.proofs.Math.Nat.{pow-le-pow_right, le_of_mul-le-mul_right, lt_of_
 use Rattle.std.proofs.lemmas.Nat.{pow-add, pow_pos, mul-le, mul-lt}
 use Rattle.std.proofs.lemmas.Bool.{MatchBool-at_false, cases_lt, ne_eqb, false≢true, ltb-true}
 use Rattle.std.proofs.lemmas.Int.{ints}
-use Rattle.apfloat_base.specs.formats.Datum.{Datum, finite, infinite, nan}
-use Rattle.apfloat_base.specs.rounding.Grid.{IsOnGrid}
-use Rattle.apfloat_base.specs.order.Classes.{is_finite_non_zero}
-use Rattle.apfloat_base.specs.arithmetic.Exact.{magnitude}
-use Rattle.apfloat_base.specs.arithmetic.Exponents.{IsIlogb, IsLogarithm, zero_exponent}
-use Rattle.apfloat_base.proofs.general.Powers.{two_pos}
-use Rattle.apfloat_base.proofs.arithmetic.Signs.{magnitude_signed}
+use Rattle.apfloat_model.specs.formats.Datum.{Datum, finite, infinite, nan}
+use Rattle.apfloat_model.specs.rounding.Grid.{IsOnGrid}
+use Rattle.apfloat_model.specs.order.Classes.{is_finite_non_zero}
+use Rattle.apfloat_model.specs.arithmetic.Exact.{magnitude}
+use Rattle.apfloat_model.specs.arithmetic.Exponents.{IsIlogb, IsLogarithm, zero_exponent}
+use Rattle.apfloat_model.proofs.general.Powers.{two_pos}
+use Rattle.apfloat_model.proofs.arithmetic.Signs.{magnitude_signed}
 use Rattle.apfloat_pair_theory.specs.PairFormats.{double}
 use Rattle.apfloat_pair_theory.specs.Pairs.{Pair}
 use Rattle.apfloat_pair_theory.specs.PairAccuracy.{HaveExponents, sum_reach}

@@ -2,11 +2,11 @@
 use Rattle.std.proofs.Common.{◌≡◌, ℕ, ◌*◌, ◌^◌, ◌≤◌, true, false, refl, lit<, lit≤, arith}
 use Rattle.std.specs.Prelude.{pos, neg_ℤ, ◌*ℤ◌}
 use Rattle.std.proofs.lemmas.Int.{ints}
-use Rattle.apfloat_base.specs.declared.kinds.Round.TheVariants.{NearestTiesToEven}
-use Rattle.apfloat_base.specs.formats.Datum.{finite}
-use Rattle.apfloat_base.specs.rounding.Rounding.{ok_bits, inexact_bit}
-use Rattle.apfloat_base.proofs.rows.RowsIn.{rounded}
-use Rattle.apfloat_base.specs.formats.Members.{IsFiniteOf}
+use Rattle.apfloat_model.specs.declared.kinds.Round.TheVariants.{NearestTiesToEven}
+use Rattle.apfloat_model.specs.formats.Datum.{finite}
+use Rattle.apfloat_model.specs.rounding.Rounding.{ok_bits, inexact_bit}
+use Rattle.apfloat_model.proofs.rows.RowsIn.{rounded}
+use Rattle.apfloat_model.specs.formats.Members.{IsFiniteOf}
 use Rattle.apfloat_pair_theory.specs.PairFormats.{double}
 use Rattle.apfloat_pair_theory.specs.Pairs.{Pair, alone, IsNormalised, pair_number}
 use Rattle.apfloat_pair_theory.specs.PairProducts.{IsPairProduct}

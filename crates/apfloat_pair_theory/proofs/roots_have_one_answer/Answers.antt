@@ -1,7 +1,7 @@
 use Rattle.std.proofs.Common.{lit<}
-use Rattle.apfloat_base.specs.arithmetic.Roots.{IsRoot}
-use Rattle.apfloat_base.proofs.Once.{root_once}
-use Rattle.apfloat_base.proofs.AnswersExist.{root_exists}
+use Rattle.apfloat_model.specs.arithmetic.Roots.{IsRoot}
+use Rattle.apfloat_model.proofs.Once.{root_once}
+use Rattle.apfloat_model.proofs.AnswersExist.{root_exists}
 use Rattle.apfloat_pair_theory.specs.PairFormats.{wide}
 use Rattle.apfloat_pair_theory.proofs.calls.PairsOnce.{wide_answer_once}
 use Rattle.apfloat_pair_theory.proofs.calls.CallsExist.{wide_answer_exists}

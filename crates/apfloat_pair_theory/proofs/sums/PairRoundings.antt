@@ -5,8 +5,8 @@ use Rattle.std.proofs.Math.Nat.{mul-le-mul_right}
 use Rattle.std.proofs.lemmas.Nat.{pow-add, pow_pos}
 use Rattle.std.proofs.lemmas.Bool.{cases_lt}
 use Rattle.std.proofs.lemmas.Int.{ints}
-use Rattle.apfloat_base.specs.arithmetic.Exact.{magnitude}
-use Rattle.apfloat_base.proofs.arithmetic.Signs.{one_side}
+use Rattle.apfloat_model.specs.arithmetic.Exact.{magnitude}
+use Rattle.apfloat_model.proofs.arithmetic.Signs.{one_side}
 use Rattle.apfloat_pair_theory.proofs.numbers.Signed.{magnitude-sub, magnitude_le, IsMultiple, sum_multiple, finer_multiple, coarse_multiple, grid_bound, IsGridNumber, on_grid_as, common}
 use Rattle.apfloat_pair_theory.proofs.numbers.Nearest.{IsNearest, nearest_exact, relative_error, nearest_cases, error_on_grid}
 use Rattle.apfloat_pair_theory.proofs.numbers.TwoSums.{positive, IsShared, shared, fast_two_sum_difference, IsTwoSum, two_sum}

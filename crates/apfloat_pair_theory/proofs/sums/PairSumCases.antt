@@ -3,16 +3,16 @@
 use Rattle.std.proofs.Common.{◌≡◌, ℕ, ◌⊎◌, true, false, eqb, inl, inr, refl, ap, ◌∙◌, subst, ⊎_elim}
 use Rattle.std.specs.Prelude.{pos}
 use Rattle.std.proofs.lemmas.Bool.{cases_eq, false≢true, ne_eqb, eq-eqb}
-use Rattle.apfloat_base.specs.declared.kinds.Round.TheVariants.{NearestTiesToEven}
-use Rattle.apfloat_base.specs.formats.Datum.{Datum, finite, infinite, nan}
-use Rattle.apfloat_base.specs.rounding.Rounding.{ok_bits}
-use Rattle.apfloat_base.specs.order.Classes.{is_finite, category_of}
-use Rattle.apfloat_base.specs.arithmetic.Exact.{signed}
-use Rattle.apfloat_base.specs.order.Order.{number}
-use Rattle.apfloat_base.proofs.arithmetic.Signs.{no_sign}
+use Rattle.apfloat_model.specs.declared.kinds.Round.TheVariants.{NearestTiesToEven}
+use Rattle.apfloat_model.specs.formats.Datum.{Datum, finite, infinite, nan}
+use Rattle.apfloat_model.specs.rounding.Rounding.{ok_bits}
+use Rattle.apfloat_model.specs.order.Classes.{is_finite, category_of}
+use Rattle.apfloat_model.specs.arithmetic.Exact.{signed}
+use Rattle.apfloat_model.specs.order.Order.{number}
+use Rattle.apfloat_model.proofs.arithmetic.Signs.{no_sign}
 use Rattle.apfloat_pair_theory.specs.Pairs.{Pair, pair_category}
-use Rattle.apfloat_base.specs.declared.kinds.Category.{Category}
-use Rattle.apfloat_base.specs.declared.kinds.Category.TheVariants.{Zero, Normal}
+use Rattle.apfloat_model.specs.declared.kinds.Category.{Category}
+use Rattle.apfloat_model.specs.declared.kinds.Category.TheVariants.{Zero, Normal}
 use Rattle.apfloat_pair_theory.specs.PairSums.{IsSumOfCategories, IsSumOfNumbers, IsPairSum}
 
 -- a zero of either sign

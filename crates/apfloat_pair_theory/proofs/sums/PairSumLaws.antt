@@ -3,15 +3,15 @@
 use Rattle.std.proofs.Common.{◌≡◌, ℕ, ◌+◌, ◌*◌, ◌^◌, ◌≤◌, true, sym, ap, ◌∙◌, subst, inl, ⊎_elim, arith}
 use Rattle.std.specs.Prelude.{ℤ, pos, ◌+ℤ◌, ◌-ℤ◌, ◌*ℤ◌}
 use Rattle.std.proofs.lemmas.Int.{ints}
-use Rattle.apfloat_base.specs.declared.kinds.Round.TheVariants.{NearestTiesToEven}
-use Rattle.apfloat_base.specs.formats.Format.{largest}
-use Rattle.apfloat_base.specs.formats.Datum.{Datum}
-use Rattle.apfloat_base.specs.order.Classes.{is_finite, quanta_of}
-use Rattle.apfloat_base.specs.arithmetic.Exact.{magnitude}
-use Rattle.apfloat_base.specs.formats.Members.{IsMember}
-use Rattle.apfloat_base.specs.order.Order.{number}
-use Rattle.apfloat_base.specs.arithmetic.Sums.{IsSum}
-use Rattle.apfloat_base.proofs.arithmetic.Signs.{one_side}
+use Rattle.apfloat_model.specs.declared.kinds.Round.TheVariants.{NearestTiesToEven}
+use Rattle.apfloat_model.specs.formats.Format.{largest}
+use Rattle.apfloat_model.specs.formats.Datum.{Datum}
+use Rattle.apfloat_model.specs.order.Classes.{is_finite, quanta_of}
+use Rattle.apfloat_model.specs.arithmetic.Exact.{magnitude}
+use Rattle.apfloat_model.specs.formats.Members.{IsMember}
+use Rattle.apfloat_model.specs.order.Order.{number}
+use Rattle.apfloat_model.specs.arithmetic.Sums.{IsSum}
+use Rattle.apfloat_model.proofs.arithmetic.Signs.{one_side}
 use Rattle.apfloat_pair_theory.specs.PairFormats.{double}
 use Rattle.apfloat_pair_theory.specs.Pairs.{Pair, pair_number, IsNormalised}
 use Rattle.apfloat_pair_theory.specs.PairSums.{IsSumOfNumbers, IsPairSum}

@@ -1,9 +1,9 @@
 -- Worked sums of pairs, and operands to which the laws apply.
 use Rattle.std.proofs.Common.{ℕ, ◌+◌, ◌*◌, ◌^◌, Bool, true, false, refl, lit≤}
-use Rattle.apfloat_base.specs.declared.kinds.Round.TheVariants.{NearestTiesToEven}
-use Rattle.apfloat_base.specs.formats.Datum.{finite}
-use Rattle.apfloat_base.specs.rounding.Rounding.{ok_bits, inexact_bit}
-use Rattle.apfloat_base.proofs.rows.RowsIn.{rounded}
+use Rattle.apfloat_model.specs.declared.kinds.Round.TheVariants.{NearestTiesToEven}
+use Rattle.apfloat_model.specs.formats.Datum.{finite}
+use Rattle.apfloat_model.specs.rounding.Rounding.{ok_bits, inexact_bit}
+use Rattle.apfloat_model.proofs.rows.RowsIn.{rounded}
 use Rattle.apfloat_pair_theory.specs.Pairs.{Pair, alone, IsNormalised}
 use Rattle.apfloat_pair_theory.specs.PairSums.{IsPairSum}
 use Rattle.apfloat_pair_theory.specs.PairAccuracy.{AreWithinReach}

@@ -3,16 +3,16 @@
 use Rattle.std.proofs.Common.{◌≡◌, ℕ, ◌+◌, ◌*◌, ◌^◌, ◌≤◌, true, sym, ap, ◌∙◌, subst, arith}
 use Rattle.std.specs.Prelude.{ℤ, ◌+ℤ◌, ◌-ℤ◌}
 use Rattle.std.proofs.lemmas.Int.{ints}
-use Rattle.apfloat_base.specs.declared.kinds.Round.TheVariants.{NearestTiesToEven}
-use Rattle.apfloat_base.specs.declared.kinds.NonfiniteBehavior.TheVariants.{IEEE754}
-use Rattle.apfloat_base.specs.formats.Format.{Format, largest}
-use Rattle.apfloat_base.specs.formats.Datum.{Datum}
-use Rattle.apfloat_base.specs.rounding.Negation.{negated}
-use Rattle.apfloat_base.specs.order.Classes.{is_finite}
-use Rattle.apfloat_base.specs.arithmetic.Exact.{magnitude}
-use Rattle.apfloat_base.specs.order.Order.{number}
-use Rattle.apfloat_base.specs.arithmetic.Sums.{IsSum, IsDifference}
-use Rattle.apfloat_base.proofs.arithmetic.Signs.{one_side}
+use Rattle.apfloat_model.specs.declared.kinds.Round.TheVariants.{NearestTiesToEven}
+use Rattle.apfloat_model.specs.declared.kinds.NonfiniteBehavior.TheVariants.{IEEE754}
+use Rattle.apfloat_model.specs.formats.Format.{Format, largest}
+use Rattle.apfloat_model.specs.formats.Datum.{Datum}
+use Rattle.apfloat_model.specs.rounding.Negation.{negated}
+use Rattle.apfloat_model.specs.order.Classes.{is_finite}
+use Rattle.apfloat_model.specs.arithmetic.Exact.{magnitude}
+use Rattle.apfloat_model.specs.order.Order.{number}
+use Rattle.apfloat_model.specs.arithmetic.Sums.{IsSum, IsDifference}
+use Rattle.apfloat_model.proofs.arithmetic.Signs.{one_side}
 use Rattle.apfloat_pair_theory.proofs.numbers.Signed.{magnitude-neg, grown, magnitude_le, IsGridNumber}
 use Rattle.apfloat_pair_theory.proofs.numbers.Nearest.{IsNearest}
 use Rattle.apfloat_pair_theory.proofs.numbers.TwoSums.{IsTwoSum, two_sum, first_at, second_at}

@@ -1,4 +1,4 @@
-use Rattle.apfloat_unpacked.proofs.ShapeExponents.{min_exp_word}
+use Rattle.apfloat_rounding.proofs.ShapeExponents.{min_exp_word}
 use Rattle.apfloat_arithmetic.proofs.ProductExponents.{normal_near}
 use Rattle.apfloat_arithmetic.proofs.NumberClasses.{below_is}
 use Rattle.apfloat_arithmetic.proofs.classes.is_below_normal.Goals as goal

@@ -1,8 +1,8 @@
 use Rattle.std.proofs.Common.{◌≡◌, sym, ◌∙◌, rules}
 use Rattle.std.proofs.lemmas.Bool.{and_parts}
 use denote.Enum.Bare.{same_true}
-use Rattle.apfloat_base.specs.contracts.kinds.Category.{the_type}
-use Rattle.apfloat_base.specs.declared.kinds.Category.TheVariants.{Normal}
+use Rattle.apfloat_model.specs.contracts.kinds.Category.{the_type}
+use Rattle.apfloat_model.specs.declared.kinds.Category.TheVariants.{Normal}
 use Rattle.apfloat_arithmetic.proofs.SumCases.{datum_is}
 use Rattle.apfloat_arithmetic.proofs.fused.multiply_add.Goals as goal
 

@@ -2,15 +2,15 @@ use Rattle.std.proofs.Common.{◌≡◌, ◌+◌, ◌-◌, ◌*◌, ◌^◌, ◌
 use Rattle.std.proofs.Math.Nat.{pow-le-pow_right}
 use Rattle.std.proofs.lemmas.Int.{ints}
 use Rattle.std.proofs.lemmas.Nat.{pow_pos}
-use Rattle.apfloat_base.specs.arithmetic.Exact.{product_sign, signed, sign_of, magnitude}
-use Rattle.apfloat_base.specs.rounding.Bounds.{exponent_bound}
-use Rattle.apfloat_base.specs.rounding.Flags.{bits_of}
-use Rattle.apfloat_base.specs.rounding.Rounding.{IsDelivered}
-use Rattle.apfloat_base.specs.arithmetic.Sums.{zero_sum_sign}
-use Rattle.apfloat_unpacked.specs.Shapes.{format_at}
-use Rattle.apfloat_unpacked.specs.Stored.{quanta_at, datum_at}
-use Rattle.apfloat_base.proofs.general.Powers.{two_pos}
-use Rattle.apfloat_base.proofs.rounding.OddRoundings.{to_odd_least}
+use Rattle.apfloat_model.specs.arithmetic.Exact.{product_sign, signed, sign_of, magnitude}
+use Rattle.apfloat_model.specs.rounding.Bounds.{exponent_bound}
+use Rattle.apfloat_model.specs.rounding.Flags.{bits_of}
+use Rattle.apfloat_model.specs.rounding.Rounding.{IsDelivered}
+use Rattle.apfloat_model.specs.arithmetic.Sums.{zero_sum_sign}
+use Rattle.apfloat_rounding.specs.Shapes.{format_at}
+use Rattle.apfloat_rounding.specs.Stored.{quanta_at, datum_at}
+use Rattle.apfloat_model.proofs.general.Powers.{two_pos}
+use Rattle.apfloat_model.proofs.rounding.OddRoundings.{to_odd_least}
 use Rattle.apfloat_arithmetic.proofs.Additions.{IsRepresentedToOdd, read_odd_sign}
 use Rattle.apfloat_arithmetic.proofs.WideTerms.{odd_fused_read, odd_in_quanta}
 use Rattle.apfloat_arithmetic.proofs.fused.multiply_add_numbers.Goals as goal

@@ -2,7 +2,7 @@ use Rattle.std.proofs.Common.{◌∙◌, T, Bool, not, sym, subst, arith}
 use Rattle.std.proofs.lemmas.Int.{ints}
 use Rattle.std.proofs.lemmas.Bool.{false≢true}
 use lib.Signed.{le_z_yes, lt_z_yes, lt_z_no}
-use Rattle.apfloat_unpacked.proofs.ShapeExponents.{min_exp_word, max_exp_word}
+use Rattle.apfloat_rounding.proofs.ShapeExponents.{min_exp_word, max_exp_word}
 use Rattle.apfloat_arithmetic.proofs.ProductExponents.{normal_near}
 use Rattle.apfloat_arithmetic.proofs.ExactInverses.{opposite_word}
 use Rattle.apfloat_arithmetic.proofs.inverses.is_invertible.Goals as goal

@@ -1,12 +1,12 @@
 use Rattle.std.proofs.Common.{◌≡◌, ℕ, ◌+◌, ◌*◌, ◌^◌, Bool, w32, to_z, of_z, sym, ap, ◌∙◌, subst, arith}
 use Rattle.std.proofs.lemmas.Int.{to_z-of_z}
-use Rattle.apfloat_base.specs.rounding.Flags.{bits_of}
-use Rattle.apfloat_base.specs.rounding.Rounding.{IsDelivered}
-use Rattle.apfloat_base.specs.rounding.RoundingToOdd.{IsRoundedToOdd, odd_quotient}
-use Rattle.apfloat_base.proofs.rounding.OddRoundings.{quotient_to_odd}
-use Rattle.apfloat_unpacked.specs.Shapes.{format_at}
-use Rattle.apfloat_unpacked.specs.Stored.{quanta_at, datum_at}
-use Rattle.apfloat_unpacked.proofs.StoredBack.{quanta_some}
+use Rattle.apfloat_model.specs.rounding.Flags.{bits_of}
+use Rattle.apfloat_model.specs.rounding.Rounding.{IsDelivered}
+use Rattle.apfloat_model.specs.rounding.RoundingToOdd.{IsRoundedToOdd, odd_quotient}
+use Rattle.apfloat_model.proofs.rounding.OddRoundings.{quotient_to_odd}
+use Rattle.apfloat_rounding.specs.Shapes.{format_at}
+use Rattle.apfloat_rounding.specs.Stored.{quanta_at, datum_at}
+use Rattle.apfloat_rounding.proofs.StoredBack.{quanta_some}
 use Rattle.apfloat_arithmetic.proofs.ShortQuotients.{IsClose, moved_close, moved_fits, moved_places, quotient_long, odd_quotient_long, odd_quotient_fits}
 use Rattle.apfloat_arithmetic.proofs.ProductExponents.{normal_near, normal_some, odd_quotient_is}
 use Rattle.apfloat_arithmetic.proofs.quotients.divide_short_numbers.Goals.{After-short_quotient_of}

@@ -1,7 +1,7 @@
 use Rattle.std.proofs.Common.{◌≡◌, ℕ, ◌+◌, ◌*◌, ◌^◌, ◌<◌, ◌≤◌, arith}
 use Rattle.std.proofs.Math.Nat.{pow-le-pow_right}
-use Rattle.apfloat_base.proofs.general.Powers.{two_pos, twice_power}
-use Rattle.apfloat_base.proofs.rounding.KeptDigits.{fits_shifted}
+use Rattle.apfloat_model.proofs.general.Powers.{two_pos, twice_power}
+use Rattle.apfloat_model.proofs.rounding.KeptDigits.{fits_shifted}
 use Rattle.apfloat_arithmetic.proofs.quotients.short_quotient_of.Goals as goal
 
 -- significands that fit in a precision fit in each greater one

@@ -1,5 +1,5 @@
 use Rattle.std.proofs.Common.{◌∙◌, rules}
-use Rattle.apfloat_unpacked.proofs.StoredBack.{quanta_some}
+use Rattle.apfloat_rounding.proofs.StoredBack.{quanta_some}
 use Rattle.apfloat_arithmetic.proofs.NearestMultiples.{nearest_value}
 use Rattle.apfloat_arithmetic.proofs.remainders.nearest_number.Goals as goal
 

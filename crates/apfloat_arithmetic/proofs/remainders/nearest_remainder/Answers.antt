@@ -1,4 +1,4 @@
-use Rattle.apfloat_base.specs.arithmetic.Remainders.{nearest_quotient}
+use Rattle.apfloat_model.specs.arithmetic.Remainders.{nearest_quotient}
 use Rattle.apfloat_arithmetic.proofs.SpecialRemainders.{of_numbers}
 use Rattle.apfloat_arithmetic.proofs.remainders.nearest_remainder.Goals as goal
 

@@ -1,6 +1,6 @@
 use Rattle.std.proofs.Common.{◌^◌, ◌≤◌, arith}
 use Rattle.std.proofs.Math.Nat.{pow-le-pow_right}
-use Rattle.apfloat_base.proofs.general.Powers.{two_pos}
+use Rattle.apfloat_model.proofs.general.Powers.{two_pos}
 use Rattle.apfloat_arithmetic.proofs.remainders.rest_of_moved.Goals as goal
 
 pub short_moved_rest-requires-clause-narrow : goal.short_moved_rest-requires-clause-narrow

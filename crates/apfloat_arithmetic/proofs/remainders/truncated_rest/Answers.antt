@@ -1,6 +1,6 @@
 use Rattle.std.proofs.Common.{◌≡◌, ℕ, ◌-◌, ◌*◌, ◌%◌, ◌^◌, ◌-ℤ◌}
 use Rattle.std.proofs.lemmas.Nat.{pow_pos}
-use Rattle.apfloat_unpacked.specs.Stored.{quanta_of}
+use Rattle.apfloat_rounding.specs.Stored.{quanta_of}
 use Rattle.apfloat_arithmetic.specs.Magnitudes.{units_of}
 use Rattle.apfloat_arithmetic.proofs.NearestMultiples.{operand_scaled, rest_in}
 use Rattle.apfloat_arithmetic.proofs.remainders.truncated_rest.Goals.{After-magnitude_of-2}

@@ -1,7 +1,7 @@
 use Rattle.std.proofs.Common.{rules}
-use Rattle.apfloat_base.specs.rounding.Flags.{bits_of}
-use Rattle.apfloat_unpacked.specs.Shapes.{format_at}
-use Rattle.apfloat_unpacked.specs.Stored.{datum_at}
+use Rattle.apfloat_model.specs.rounding.Flags.{bits_of}
+use Rattle.apfloat_rounding.specs.Shapes.{format_at}
+use Rattle.apfloat_rounding.specs.Stored.{datum_at}
 use Rattle.apfloat_arithmetic.proofs.SpecialProducts.{is_no_number, with_product}
 use Rattle.apfloat_arithmetic.proofs.specials.add_to_special_product.Goals as goal
 

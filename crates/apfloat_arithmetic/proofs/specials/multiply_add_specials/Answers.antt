@@ -1,6 +1,6 @@
 use Rattle.std.proofs.Common.{sym, arith}
-use Rattle.apfloat_base.specs.declared.kinds.Category.TheVariants.{Normal, Zero, Infinity, NaN}
-use Rattle.apfloat_unpacked.specs.Stored.{quanta_at}
+use Rattle.apfloat_model.specs.declared.kinds.Category.TheVariants.{Normal, Zero, Infinity, NaN}
+use Rattle.apfloat_rounding.specs.Stored.{quanta_at}
 use Rattle.apfloat_arithmetic.proofs.SumCases.{datum_is}
 use Rattle.apfloat_arithmetic.proofs.specials.multiply_add_specials.Goals as goal
 

@@ -1,12 +1,12 @@
 use Rattle.std.proofs.Common.{arith, subst}
-use Rattle.apfloat_base.specs.declared.kinds.Category.{Category}
-use Rattle.apfloat_base.specs.declared.kinds.Category.TheVariants.{Normal, Zero, Infinity}
-use Rattle.apfloat_base.specs.formats.Datum.{Datum}
-use Rattle.apfloat_base.specs.rounding.Flags.{bits_of}
-use Rattle.apfloat_base.specs.arithmetic.Products.{IsProduct}
-use Rattle.apfloat_unpacked.proofs.StoredBack.{quanta_some}
-use Rattle.apfloat_unpacked.specs.Shapes.{format_at}
-use Rattle.apfloat_unpacked.specs.Stored.{quanta_at, datum_at, IsNormalAt, IsStoredBy}
+use Rattle.apfloat_model.specs.declared.kinds.Category.{Category}
+use Rattle.apfloat_model.specs.declared.kinds.Category.TheVariants.{Normal, Zero, Infinity}
+use Rattle.apfloat_model.specs.formats.Datum.{Datum}
+use Rattle.apfloat_model.specs.rounding.Flags.{bits_of}
+use Rattle.apfloat_model.specs.arithmetic.Products.{IsProduct}
+use Rattle.apfloat_rounding.proofs.StoredBack.{quanta_some}
+use Rattle.apfloat_rounding.specs.Shapes.{format_at}
+use Rattle.apfloat_rounding.specs.Stored.{quanta_at, datum_at, IsNormalAt, IsStoredBy}
 use Rattle.apfloat_arithmetic.proofs.ZeroAnswers.{by_categories, zero_product, number_by_infinity, infinity_by_number}
 use Rattle.apfloat_arithmetic.proofs.specials.multiply_specials.Goals as goal
 

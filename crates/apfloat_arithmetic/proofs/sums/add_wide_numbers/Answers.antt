@@ -1,12 +1,12 @@
 use Rattle.std.proofs.Common.{◌≡◌, ◌∙◌, ◌-◌, ◌^◌, ◌≤◌, ◌+ℤ◌, Bool, pos, subst, refl, to_z, of_z, w32, arith}
 use Rattle.std.proofs.lemmas.Int.{ints}
-use Rattle.apfloat_base.specs.arithmetic.Exact.{signed, sign_of, magnitude}
-use Rattle.apfloat_base.specs.rounding.Flags.{bits_of}
-use Rattle.apfloat_base.specs.rounding.Rounding.{IsDelivered}
-use Rattle.apfloat_base.specs.arithmetic.Sums.{zero_sum_sign}
-use Rattle.apfloat_base.specs.arithmetic.Wides.{whole}
-use Rattle.apfloat_unpacked.specs.Shapes.{format_at}
-use Rattle.apfloat_unpacked.specs.Stored.{quanta_at, datum_at}
+use Rattle.apfloat_model.specs.arithmetic.Exact.{signed, sign_of, magnitude}
+use Rattle.apfloat_model.specs.rounding.Flags.{bits_of}
+use Rattle.apfloat_model.specs.rounding.Rounding.{IsDelivered}
+use Rattle.apfloat_model.specs.arithmetic.Sums.{zero_sum_sign}
+use Rattle.apfloat_words.specs.Wides.{whole}
+use Rattle.apfloat_rounding.specs.Shapes.{format_at}
+use Rattle.apfloat_rounding.specs.Stored.{quanta_at, datum_at}
 use Rattle.apfloat_arithmetic.proofs.Additions.{IsRepresented, read_negative, sum_read, scale_is, roomy, same_count, sum_full, fine_if}
 use Rattle.apfloat_arithmetic.proofs.sums.add_wide_numbers.Goals as goal
 

@@ -1,14 +1,14 @@
 use Rattle.std.proofs.Common.{◌≡◌, ◌+◌, ◌^◌, ◌≤◌, ◌+ℤ◌, Bool, pos, subst, refl, to_z, of_z, w32, arith}
 use Rattle.std.proofs.Math.Nat.{pow-le-pow_right}
 use Rattle.std.proofs.lemmas.Int.{ints}
-use Rattle.apfloat_base.specs.arithmetic.Exact.{signed, sign_of, magnitude}
-use Rattle.apfloat_base.specs.rounding.Flags.{bits_of}
-use Rattle.apfloat_base.specs.rounding.Rounding.{IsDelivered}
-use Rattle.apfloat_base.specs.arithmetic.Sums.{zero_sum_sign}
-use Rattle.apfloat_unpacked.specs.Shapes.{format_at}
-use Rattle.apfloat_unpacked.specs.Stored.{quanta_at, datum_at}
-use Rattle.apfloat_base.proofs.general.Powers.{two_pos}
-use Rattle.apfloat_base.proofs.rounding.OddRoundings.{to_odd_least}
+use Rattle.apfloat_model.specs.arithmetic.Exact.{signed, sign_of, magnitude}
+use Rattle.apfloat_model.specs.rounding.Flags.{bits_of}
+use Rattle.apfloat_model.specs.rounding.Rounding.{IsDelivered}
+use Rattle.apfloat_model.specs.arithmetic.Sums.{zero_sum_sign}
+use Rattle.apfloat_rounding.specs.Shapes.{format_at}
+use Rattle.apfloat_rounding.specs.Stored.{quanta_at, datum_at}
+use Rattle.apfloat_model.proofs.general.Powers.{two_pos}
+use Rattle.apfloat_model.proofs.rounding.OddRoundings.{to_odd_least}
 use Rattle.apfloat_arithmetic.proofs.Additions.{odd_sum_read, read_odd_sign, scale_is}
 use Rattle.apfloat_arithmetic.proofs.sums.add_word_numbers.Goals as goal
 

@@ -2,7 +2,7 @@ use Rattle.std.proofs.Common.{◌≡◌, ℕ, ◌*◌, ◌/◌, ◌≤◌, lengt
 use Rattle.std.proofs.Math.Path.{subst₃}
 use Rattle.std.proofs.lemmas.List.{length-take-le}
 use Rattle.rustc_apfloat.specs.declared.Round.{Round}
-use Rattle.dispatch.specs.declared.FlaggedKind.{FlaggedKind}
+use Rattle.formats_at_run_time.specs.declared.FlaggedKind.{FlaggedKind}
 use Rattle.apfloat_c.specs.declared.array_calls.ElementOperation.{ElementOperation}
 use Rattle.apfloat_c.specs.ArrayCalls.{bytes_in, known_map}
 use Rattle.apfloat_c.proofs.ArrayCalls.{first_whole, map_is_known, map_left, map_room, other_whole}

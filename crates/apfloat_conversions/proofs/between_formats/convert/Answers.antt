@@ -1,6 +1,6 @@
-use Rattle.apfloat_unpacked.specs.Shapes.{format_at}
-use Rattle.apfloat_unpacked.specs.Stored.{datum_at}
-use Rattle.apfloat_base.proofs.arithmetic.ExactConversions.{exactly_converted}
+use Rattle.apfloat_rounding.specs.Shapes.{format_at}
+use Rattle.apfloat_rounding.specs.Stored.{datum_at}
+use Rattle.apfloat_model.proofs.arithmetic.ExactConversions.{exactly_converted}
 use Rattle.apfloat_conversions.proofs.ConvertedValues.{of_number}
 use Rattle.apfloat_conversions.proofs.between_formats.convert.Goals as goal
 

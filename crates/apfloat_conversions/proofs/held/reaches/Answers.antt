@@ -1,6 +1,6 @@
 use Rattle.std.proofs.Common.{inr, sym, ap, ◌∙◌, to_z, w32}
 use Rattle.std.proofs.lemmas.Bool.{leb-true}
-use Rattle.apfloat_unpacked.proofs.ShapeExponents.{max_exp_word}
+use Rattle.apfloat_rounding.proofs.ShapeExponents.{max_exp_word}
 use Rattle.apfloat_conversions.proofs.HeldNumbers.{held_shift}
 use Rattle.apfloat_conversions.proofs.held.reaches.Goals as goal
 

@@ -1,4 +1,4 @@
-use Rattle.apfloat_unpacked.proofs.ShapeExponents.{exponent_word}
+use Rattle.apfloat_rounding.proofs.ShapeExponents.{exponent_word}
 use Rattle.apfloat_conversions.proofs.HeldNumbers.{normal_there, precise_there, same_there, held_shift}
 use Rattle.apfloat_conversions.proofs.held.widened.Goals as goal
 

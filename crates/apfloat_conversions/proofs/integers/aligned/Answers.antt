@@ -1,6 +1,6 @@
 use Rattle.std.proofs.Common.{◌-◌, arith}
 use Rattle.std.proofs.Math.Nat.{mod-eq_of_lt}
-use Rattle.apfloat_base.proofs.rounding.KeptDigits.{fits_shifted, full_shifted}
+use Rattle.apfloat_model.proofs.rounding.KeptDigits.{fits_shifted, full_shifted}
 use Rattle.apfloat_conversions.proofs.integers.aligned.Goals as goal
 
 pub returns-clause-value : goal.returns-clause-value

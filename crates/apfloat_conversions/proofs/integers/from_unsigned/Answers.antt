@@ -1,9 +1,9 @@
 use Rattle.std.proofs.Common.{◌≡◌, ℕ, ◌+◌, ◌-◌, ◌*◌, ◌^◌, ◌<◌, false, subst, sym, ap, ◌∙◌, arith, ℤ, pos, ◌+ℤ◌, ◌-ℤ◌, ◌≤◌, w32}
 use Rattle.std.proofs.lemmas.Int.{ints, to_z-of_z}
 use Rattle.std.proofs.lemmas.Nat.{pow-add}
-use Rattle.apfloat_base.proofs.rounding.Laws.{zero_delivered}
-use Rattle.apfloat_base.specs.rounding.Standing.{up, down}
-use Rattle.apfloat_unpacked.specs.Shapes.{format_at}
+use Rattle.apfloat_model.proofs.rounding.Laws.{zero_delivered}
+use Rattle.apfloat_model.specs.rounding.Standing.{up, down}
+use Rattle.apfloat_rounding.specs.Shapes.{format_at}
 use Rattle.apfloat_conversions.proofs.integers.from_unsigned.Goals as goal
 
 pub deliver_u128_digits-requires-clause-within : goal.deliver_u128_digits-requires-clause-within

@@ -1,11 +1,11 @@
 use Rattle.std.proofs.Common.{◌≤◌, subst, ℕ, arith, ◌^◌, ◌<◌, ◌∙◌}
-use Rattle.apfloat_unpacked.specs.Shapes.{format_at}
-use Rattle.apfloat_unpacked.specs.Stored.{quanta_at}
-use Rattle.apfloat_unpacked.proofs.StoredBack.{quanta_some}
+use Rattle.apfloat_rounding.specs.Shapes.{format_at}
+use Rattle.apfloat_rounding.specs.Stored.{quanta_at}
+use Rattle.apfloat_rounding.proofs.StoredBack.{quanta_some}
 use Rattle.apfloat_conversions.proofs.Limits.{limit, in_range, out_of_range, same_number}
 use Rattle.std.proofs.Math.Nat.{pow-le-pow_right}
-use Rattle.apfloat_base.proofs.general.Powers.{two_pos}
-use Rattle.apfloat_base.specs.whole_numbers.WholeNumbers.{whole_pick}
+use Rattle.apfloat_model.proofs.general.Powers.{two_pos}
+use Rattle.apfloat_model.specs.whole_numbers.WholeNumbers.{whole_pick}
 use Rattle.apfloat_conversions.proofs.integers.number_to_unsigned.Goals as goal
 
 pub limit_of-limit-requires-clause-low : goal.limit_of-limit-requires-clause-low

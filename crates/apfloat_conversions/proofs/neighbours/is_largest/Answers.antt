@@ -1,5 +1,5 @@
 use Rattle.std.proofs.Common.{◌≡◌, ap, sym, ◌∙◌, to_z, of_z, w32}
-use Rattle.apfloat_unpacked.proofs.ShapeExponents.{exponent_word, max_exp_word}
+use Rattle.apfloat_rounding.proofs.ShapeExponents.{exponent_word, max_exp_word}
 use Rattle.apfloat_conversions.proofs.Steps.{largest_at_top, below_top}
 use Rattle.apfloat_conversions.proofs.neighbours.is_largest.Goals as goal
 

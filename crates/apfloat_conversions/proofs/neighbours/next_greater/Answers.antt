@@ -1,7 +1,7 @@
 use Rattle.std.proofs.Common.{◌≡◌, ◌+◌, to_z, of_z, w32, arith}
 use Rattle.std.proofs.lemmas.Int.{to_z-of_z, ints}
-use Rattle.apfloat_unpacked.specs.Stored.{quanta_at}
-use Rattle.apfloat_unpacked.proofs.ShapeExponents.{exponent_word}
+use Rattle.apfloat_rounding.specs.Stored.{quanta_at}
+use Rattle.apfloat_rounding.proofs.ShapeExponents.{exponent_word}
 use Rattle.apfloat_conversions.proofs.Steps.{IsAfter, step_fits, after_stays, after_carries, after_stored, after_is}
 use Rattle.apfloat_conversions.proofs.neighbours.next_greater.Goals as goal
 

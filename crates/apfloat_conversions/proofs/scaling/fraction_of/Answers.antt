@@ -1,7 +1,7 @@
 use Rattle.std.proofs.Common.{false, ◌≡◌, eqb, arith, refl}
 use Rattle.std.proofs.lemmas.Bool.{ne_eqb}
-use Rattle.apfloat_unpacked.specs.Stored.{quanta_at}
-use Rattle.apfloat_unpacked.proofs.StoredBack.{quanta_some}
+use Rattle.apfloat_rounding.specs.Stored.{quanta_at}
+use Rattle.apfloat_rounding.proofs.StoredBack.{quanta_some}
 use Rattle.apfloat_conversions.proofs.scaling.fraction_of.Goals as goal
 
 pub returns-in-Normal-clause-fraction : goal.returns-in-Normal-clause-fraction

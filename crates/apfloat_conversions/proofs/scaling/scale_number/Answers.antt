@@ -1,8 +1,8 @@
 use Rattle.std.proofs.Common.{◌≡◌, ◌-◌, pos, ◌+ℤ◌, ◌-ℤ◌, to_z, of_z, w32, inl, refl, arith}
 use Rattle.std.proofs.lemmas.Int.{to_z-of_z, ints}
-use Rattle.apfloat_base.specs.rounding.Flags.{bits_of}
-use Rattle.apfloat_unpacked.specs.Stored.{datum_at}
-use Rattle.apfloat_unpacked.proofs.ShapeExponents.{exponent_word}
+use Rattle.apfloat_model.specs.rounding.Flags.{bits_of}
+use Rattle.apfloat_rounding.specs.Stored.{datum_at}
+use Rattle.apfloat_rounding.proofs.ShapeExponents.{exponent_word}
 use Rattle.apfloat_conversions.proofs.StoredExponents.{scale_delivered}
 use Rattle.apfloat_conversions.proofs.scaling.scale_number.Goals as goal
 

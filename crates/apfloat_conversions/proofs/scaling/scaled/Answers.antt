@@ -1,8 +1,8 @@
 use Rattle.std.proofs.Common.{w32}
 use Rattle.std.proofs.lemmas.Int.{to_z-of_z}
-use Rattle.apfloat_unpacked.specs.Shapes.{format_at}
+use Rattle.apfloat_rounding.specs.Shapes.{format_at}
 use Rattle.apfloat_conversions.proofs.StoredExponents.{zero_scaled}
-use Rattle.apfloat_base.specs.rounding.Flags.{bits_of}
+use Rattle.apfloat_model.specs.rounding.Flags.{bits_of}
 use Rattle.apfloat_conversions.proofs.scaling.scaled.Goals as goal
 
 pub scale_number-requires : goal.scale_number-requires

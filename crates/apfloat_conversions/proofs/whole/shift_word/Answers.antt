@@ -1,9 +1,9 @@
 use Rattle.std.proofs.Common.{ℕ, ◌*◌, ◌^◌, ◌<◌, sym, ◌∙◌, subst, arith}
-use Rattle.apfloat_base.specs.declared.sig.loss.Loss.TheVariants.{ExactlyZero}
-use Rattle.apfloat_base.specs.rounding.Standing.{StandsFor}
-use Rattle.apfloat_base.proofs.rounding.Losses.{cut_at}
-use Rattle.apfloat_unpacked.proofs.CutRests.{rest_below}
-use Rattle.apfloat_unpacked.proofs.QuantumCuts.{less_than_half, word_quotient, word_stands}
+use Rattle.apfloat_model.specs.declared.loss.Loss.TheVariants.{ExactlyZero}
+use Rattle.apfloat_model.specs.rounding.Standing.{StandsFor}
+use Rattle.apfloat_model.proofs.rounding.Losses.{cut_at}
+use Rattle.apfloat_rounding.proofs.CutRests.{rest_below}
+use Rattle.apfloat_rounding.proofs.QuantumCuts.{less_than_half, word_quotient, word_stands}
 use Rattle.apfloat_conversions.proofs.whole.shift_word.Goals as goal
 
 pub loss_of_rest-requires : goal.loss_of_rest-requires

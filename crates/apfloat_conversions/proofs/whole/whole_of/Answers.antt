@@ -1,9 +1,9 @@
 use Rattle.std.proofs.Common.{◌≡◌, ◌-◌, ◌*◌, ◌^◌, sym, ◌∙◌, arith, w32, to_z, of_z}
 use Rattle.std.proofs.lemmas.Int.{ints, to_z-of_z}
 use Rattle.std.proofs.lemmas.Nat.{pow_pos}
-use Rattle.apfloat_unpacked.specs.Shapes.{format_at}
-use Rattle.apfloat_unpacked.specs.Stored.{quanta_at}
-use Rattle.apfloat_unpacked.proofs.ShapeExponents.{exponent_word, scale_is}
+use Rattle.apfloat_rounding.specs.Shapes.{format_at}
+use Rattle.apfloat_rounding.specs.Stored.{quanta_at}
+use Rattle.apfloat_rounding.proofs.ShapeExponents.{exponent_word, scale_is}
 use Rattle.apfloat_conversions.proofs.Wholes.{too_large, places_up, whole_exactly, exactly_so}
 use Rattle.apfloat_conversions.proofs.whole.whole_of.Goals as goal
 

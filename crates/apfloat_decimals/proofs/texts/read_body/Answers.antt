@@ -1,11 +1,11 @@
 use Rattle.std.specs.Int.{w128}
 use Rattle.std.proofs.Common.{length, drop, pos, ◌-ℤ◌}
-use Rattle.apfloat_base.specs.texts.Literals.{exponent_number}
+use Rattle.apfloat_model.specs.texts.Literals.{exponent_number}
 use Rattle.std.proofs.lemmas.Int.{to_z-of_z}
-use Rattle.apfloat_base.specs.rounding.Flags.{bits_of}
+use Rattle.apfloat_model.specs.rounding.Flags.{bits_of}
 use Rattle.apfloat_ieee.specs.Types.{format_of}
-use Rattle.apfloat_texts.proofs.FaultsRead.{exponent_fits}
-use Rattle.apfloat_texts.proofs.Scanning.{refused_by}
+use Rattle.apfloat_hex_texts.proofs.FaultsRead.{exponent_fits}
+use Rattle.apfloat_hex_texts.proofs.Scanning.{refused_by}
 use Rattle.apfloat_decimals.proofs.spelled.SpelledTexts.{first_digits, fraction_digits, body_spelled, body_faulted}
 use Rattle.apfloat_decimals.proofs.texts.read_body.Goals as goal
 

@@ -1,9 +1,9 @@
 use Rattle.std.proofs.Common.{◌≡◌, ◌^◌, ◌<◌, false, sym, refl, subst, ◌∙◌}
 use Rattle.std.specs.Bool.{IsTrue}
-use Rattle.apfloat_base.specs.formats.Format.{Format}
-use Rattle.apfloat_base.specs.bits.Layout.{Layout, Fields, datum_of, fields_of, is_canonical, IsEncodedBy}
-use Rattle.apfloat_base.proofs.bits.EncodedOnce.{encoded_once}
-use Rattle.apfloat_unpacked.specs.Stored.{datum_at}
+use Rattle.apfloat_model.specs.formats.Format.{Format}
+use Rattle.apfloat_model.specs.bits.Layout.{Layout, Fields, datum_of, fields_of, is_canonical, IsEncodedBy}
+use Rattle.apfloat_model.proofs.bits.EncodedOnce.{encoded_once}
+use Rattle.apfloat_rounding.specs.Stored.{datum_at}
 use Rattle.apfloat_ieee.specs.FlaggedTypes.{shape_of, format_of, layout_of}
 use Rattle.apfloat_ieee.proofs.ieee_float.decode.Goals as goal
 

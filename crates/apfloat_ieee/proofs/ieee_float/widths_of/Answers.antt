@@ -1,4 +1,4 @@
-use Rattle.apfloat_base.proofs.bits.Encodings.{lawful_interchange}
+use Rattle.apfloat_model.proofs.bits.Encodings.{lawful_interchange}
 use Rattle.apfloat_ieee.specs.FlaggedTypes.{constants_of}
 use Rattle.apfloat_ieee.proofs.ieee_float.widths_of.Goals as goal
 

@@ -1,7 +1,7 @@
-use Rattle.apfloat_base.specs.rounding.Flags.{bits_of}
-use Rattle.apfloat_base.proofs.arithmetic.SumLaws.{sterbenz}
-use Rattle.apfloat_unpacked.specs.Stored.{datum_at}
-use Rattle.apfloat_unpacked.proofs.StoredMembers.{member_is}
+use Rattle.apfloat_model.specs.rounding.Flags.{bits_of}
+use Rattle.apfloat_model.proofs.arithmetic.SumLaws.{sterbenz}
+use Rattle.apfloat_rounding.specs.Stored.{datum_at}
+use Rattle.apfloat_rounding.proofs.StoredMembers.{member_is}
 use Rattle.apfloat_ieee.specs.FlaggedTypes.{format_of, shape_of}
 use Rattle.apfloat_ieee.proofs.sums.difference.Goals as goal
 

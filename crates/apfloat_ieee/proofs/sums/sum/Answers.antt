@@ -1,6 +1,6 @@
-use Rattle.apfloat_base.specs.rounding.Flags.{bits_of}
-use Rattle.apfloat_base.proofs.arithmetic.SumLaws.{monotone}
-use Rattle.apfloat_unpacked.specs.Stored.{datum_at}
+use Rattle.apfloat_model.specs.rounding.Flags.{bits_of}
+use Rattle.apfloat_model.proofs.arithmetic.SumLaws.{monotone}
+use Rattle.apfloat_rounding.specs.Stored.{datum_at}
 use Rattle.apfloat_ieee.specs.FlaggedTypes.{format_of, shape_of}
 use Rattle.apfloat_ieee.proofs.sums.sum.Goals as goal
 

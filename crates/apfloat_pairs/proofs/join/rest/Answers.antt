@@ -1,4 +1,4 @@
-use Rattle.apfloat_base.specs.rounding.Flags.{bits_of}
+use Rattle.apfloat_model.specs.rounding.Flags.{bits_of}
 use Rattle.apfloat_pair_theory.proofs.pairs.SplitSteps.{rest_by_steps}
 use Rattle.apfloat_pairs.proofs.join.rest.Goals as goal
 

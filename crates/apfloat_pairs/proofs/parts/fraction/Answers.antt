@@ -1,7 +1,7 @@
 use Rattle.std.proofs.Common.{w32, to_z, of_z, sym, subst}
 use Rattle.std.specs.Prelude.{pos, ◌-ℤ◌}
-use Rattle.apfloat_base.specs.arithmetic.Exponents.{IsFrexp}
-use Rattle.apfloat_base.specs.arithmetic.Scaling.{IsScaling}
+use Rattle.apfloat_model.specs.arithmetic.Exponents.{IsFrexp}
+use Rattle.apfloat_model.specs.arithmetic.Scaling.{IsScaling}
 use Rattle.apfloat_pair_theory.specs.PairFormats.{double}
 use Rattle.apfloat_pair_theory.specs.Pairs.{Pair}
 use Rattle.apfloat_pairs.proofs.PairFractions.{fraction_turns, fraction_turned, fraction_by_parts}

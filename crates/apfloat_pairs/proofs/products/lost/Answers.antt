@@ -1,8 +1,8 @@
 use Rattle.std.proofs.Common.{ℕ, sym, ap, ◌∙◌, subst}
 use Rattle.std.proofs.Math.Path.{subst₂}
-use Rattle.apfloat_base.specs.formats.Datum.{Datum}
-use Rattle.apfloat_base.specs.rounding.Flags.{bits_of}
-use Rattle.apfloat_base.specs.arithmetic.FusedSums.{IsFusedSum}
+use Rattle.apfloat_model.specs.formats.Datum.{Datum}
+use Rattle.apfloat_model.specs.rounding.Flags.{bits_of}
+use Rattle.apfloat_model.specs.arithmetic.FusedSums.{IsFusedSum}
 use Rattle.apfloat_pair_theory.specs.PairFormats.{double}
 use Rattle.apfloat_pair_theory.specs.PairProducts.{IsLostOfProduct}
 use Rattle.apfloat_pair_theory.specs.PairSums.{◌∪◌}

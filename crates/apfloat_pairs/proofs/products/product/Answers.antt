@@ -1,4 +1,4 @@
-use Rattle.apfloat_base.specs.rounding.Flags.{bits_of}
+use Rattle.apfloat_model.specs.rounding.Flags.{bits_of}
 use Rattle.apfloat_pairs.proofs.PairSteps.{product_error_free, product_accurate, product_by_categories}
 use Rattle.apfloat_pairs.proofs.products.product.Goals as goal
 

@@ -1,4 +1,4 @@
-use Rattle.apfloat_base.specs.rounding.Flags.{bits_of}
+use Rattle.apfloat_model.specs.rounding.Flags.{bits_of}
 use Rattle.apfloat_pairs.proofs.PairSteps.{difference_error_free, difference_accurate, difference_plain, difference_by_negation}
 use Rattle.apfloat_pairs.proofs.sums.difference.Goals as goal
 

@@ -1,13 +1,13 @@
 use Rattle.std.proofs.Common.{◌≡◌, ℕ, Bool, true, false, not, ◌&&◌, if◌then◌else◌, refl, sym, ap, ◌∙◌, subst}
-use Rattle.apfloat_base.specs.declared.kinds.Category.TheVariants.{Zero, Normal}
-use Rattle.apfloat_base.specs.declared.kinds.Round.{Round}
-use Rattle.apfloat_base.specs.arithmetic.Exact.{same_sign}
-use Rattle.apfloat_base.specs.formats.Datum.{Datum, finite, infinite, nan}
-use Rattle.apfloat_base.specs.order.Classes.{category_of, is_negative, same_datum}
-use Rattle.apfloat_base.specs.order.Predicates.{is_zero_category}
-use Rattle.apfloat_base.specs.rounding.Flags.{bits_of}
-use Rattle.apfloat_base.specs.rounding.Rounding.{ok_bits}
-use Rattle.apfloat_base.proofs.general.Choices.{match_true, match_false}
+use Rattle.apfloat_model.specs.declared.kinds.Category.TheVariants.{Zero, Normal}
+use Rattle.apfloat_model.specs.declared.kinds.Round.{Round}
+use Rattle.apfloat_model.specs.arithmetic.Exact.{same_sign}
+use Rattle.apfloat_model.specs.formats.Datum.{Datum, finite, infinite, nan}
+use Rattle.apfloat_model.specs.order.Classes.{category_of, is_negative, same_datum}
+use Rattle.apfloat_model.specs.order.Predicates.{is_zero_category}
+use Rattle.apfloat_model.specs.rounding.Flags.{bits_of}
+use Rattle.apfloat_model.specs.rounding.Rounding.{ok_bits}
+use Rattle.apfloat_model.proofs.general.Choices.{match_true, match_false}
 use Rattle.apfloat_pair_theory.specs.Pairs.{Pair, IsPairAnswer, alone, positive_zero}
 use Rattle.apfloat_pair_theory.specs.PairSums.{◌∪◌, IsClosed, IsFiniteSum, IsLost}
 use Rattle.apfloat_pairs.proofs.sums.finite_sum.Goals as goal

@@ -1,4 +1,4 @@
-use Rattle.apfloat_base.specs.rounding.Flags.{bits_of}
+use Rattle.apfloat_model.specs.rounding.Flags.{bits_of}
 use Rattle.apfloat_pairs.proofs.PairSteps.{sum_error_free, sum_accurate, sum_plain, sum_by_categories}
 use Rattle.apfloat_pairs.proofs.sums.sum.Goals as goal
 

@@ -1,5 +1,5 @@
 use Rattle.std.proofs.Common.{ap, ◌∙◌}
-use Rattle.apfloat_base.specs.rounding.Flags.{bits_of}
+use Rattle.apfloat_model.specs.rounding.Flags.{bits_of}
 use Rattle.apfloat_pairs.proofs.PairSteps.{anew_beyond, anew_within}
 use Rattle.apfloat_pairs.proofs.sums.sum_anew.Goals as goal
 

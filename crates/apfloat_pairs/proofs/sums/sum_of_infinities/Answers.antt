@@ -1,6 +1,6 @@
 use Rattle.std.proofs.Common.{ap, ◌∙◌}
-use Rattle.apfloat_base.specs.order.Classes.{is_negative}
-use Rattle.apfloat_base.specs.rounding.Flags.{bits_of}
+use Rattle.apfloat_model.specs.order.Classes.{is_negative}
+use Rattle.apfloat_model.specs.rounding.Flags.{bits_of}
 use Rattle.apfloat_pair_theory.specs.Pairs.{Pair}
 use Rattle.apfloat_pairs.proofs.PairSteps.{infinities_of_one_sign}
 use Rattle.apfloat_pairs.proofs.sums.sum_of_infinities.Goals as goal

@@ -1,6 +1,6 @@
 use Rattle.std.proofs.Common.{ap}
-use Rattle.apfloat_base.specs.rounding.Flags.{bits_of}
-use Rattle.apfloat_base.specs.whole_numbers.WholeNumbers.{IsFromUnsigned}
+use Rattle.apfloat_model.specs.rounding.Flags.{bits_of}
+use Rattle.apfloat_model.specs.whole_numbers.WholeNumbers.{IsFromUnsigned}
 use Rattle.apfloat_pair_theory.specs.PairFormats.{wide}
 use Rattle.apfloat_pairs.proofs.PairSteps.{wide_of_none}
 use Rattle.apfloat_pairs.proofs.wide.from_unsigned.Goals as goal

@@ -1,6 +1,6 @@
 use Rattle.std.proofs.Common.{ap}
-use Rattle.apfloat_base.specs.rounding.Flags.{bits_of}
-use Rattle.apfloat_base.specs.arithmetic.NextUp.{IsNextUp}
+use Rattle.apfloat_model.specs.rounding.Flags.{bits_of}
+use Rattle.apfloat_model.specs.arithmetic.NextUp.{IsNextUp}
 use Rattle.apfloat_pair_theory.specs.PairFormats.{wide}
 use Rattle.apfloat_pairs.proofs.PairSteps.{wide_of_one}
 use Rattle.apfloat_pairs.proofs.wide.next_up.Goals as goal

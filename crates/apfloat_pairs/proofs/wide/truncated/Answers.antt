@@ -1,6 +1,6 @@
 use Rattle.std.proofs.Common.{ap}
-use Rattle.apfloat_base.specs.rounding.Flags.{bits_of}
-use Rattle.apfloat_base.specs.arithmetic.Remainders.{IsTruncatedRemainder}
+use Rattle.apfloat_model.specs.rounding.Flags.{bits_of}
+use Rattle.apfloat_model.specs.arithmetic.Remainders.{IsTruncatedRemainder}
 use Rattle.apfloat_pair_theory.specs.PairFormats.{wide}
 use Rattle.apfloat_pair_theory.proofs.pairs.ExactPairs.{exact_truncated_remainder}
 use Rattle.apfloat_pairs.proofs.PairSteps.{wide_of_two}

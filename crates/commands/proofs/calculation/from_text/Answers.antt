@@ -1,5 +1,5 @@
 use Rattle.std.proofs.Common.{Ok, Err}
-use Rattle.dispatch.specs.Relations.{relations_of}
+use Rattle.formats_at_run_time.specs.Relations.{relations_of}
 use Rattle.commands.proofs.RepliesOnce.{only_text, only_refusal}
 use Rattle.commands.proofs.calculation.from_text.Goals as goal
 

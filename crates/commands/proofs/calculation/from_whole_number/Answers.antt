@@ -1,5 +1,5 @@
 use Rattle.std.proofs.Common.{sym}
-use Rattle.dispatch.specs.Relations.{relations_of}
+use Rattle.formats_at_run_time.specs.Relations.{relations_of}
 use Rattle.commands.proofs.RepliesOnce.{only_whole_number}
 use Rattle.commands.proofs.calculation.from_whole_number.Goals as goal
 

@@ -1,5 +1,5 @@
 use Rattle.rustc_apfloat.specs.declared.Round.TheVariants.{NearestTiesToEven}
-use Rattle.dispatch.specs.Relations.{relations_of}
+use Rattle.formats_at_run_time.specs.Relations.{relations_of}
 use Rattle.commands.proofs.RepliesOnce.{only_line}
 use Rattle.commands.proofs.calculation.line.Goals as goal
 

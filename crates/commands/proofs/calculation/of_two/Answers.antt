@@ -1,5 +1,5 @@
 use Rattle.std.proofs.Common.{◌≡◌, Some, subst, sym}
-use Rattle.dispatch.specs.Relations.{relations_of}
+use Rattle.formats_at_run_time.specs.Relations.{relations_of}
 use Rattle.commands.specs.Commands.{bits_of_word}
 use Rattle.commands.proofs.RepliesOnce.{only_of_two}
 use Rattle.commands.proofs.calculation.of_two.Goals as goal

@@ -1,6 +1,6 @@
 use Rattle.std.proofs.Common.{refl, arith}
 use Rattle.rustc_apfloat.specs.Types.{format_of}
-use Rattle.apfloat_base.specs.rounding.Flags.{bits_of}
+use Rattle.apfloat_model.specs.rounding.Flags.{bits_of}
 use Rattle.conformance.proofs.decimals.of_shortest.Goals as goal
 
 pub returns : goal.returns

@@ -1,6 +1,6 @@
 use Rattle.rustc_apfloat.specs.Rounding.{ok_bits}
 use Rattle.rustc_apfloat.specs.FlaggedTypes.{format_of}
-use Rattle.apfloat_base.proofs.Once.{next_down_once}
+use Rattle.apfloat_model.proofs.Once.{next_down_once}
 use Rattle.conformance.proofs.laws.up_and_down.Goals as goal
 
 pub returns : goal.returns

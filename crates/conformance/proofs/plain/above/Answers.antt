@@ -1,5 +1,5 @@
 use Rattle.std.proofs.Common.{◌≤◌, ◌^◌, ◌*◌, arith}
-use Rattle.apfloat_base.specs.rounding.Grid.{IsAbove}
+use Rattle.apfloat_model.specs.rounding.Grid.{IsAbove}
 use Rattle.conformance.proofs.Multiples.{ceiling_is, above_bound}
 use Rattle.conformance.proofs.plain.above.Goals as goal
 

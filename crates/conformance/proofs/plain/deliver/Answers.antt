@@ -1,5 +1,5 @@
 use Rattle.std.proofs.Common.{ap, sym, ◌∙◌, arith}
-use Rattle.apfloat_base.specs.rounding.Flags.{bits_of}
+use Rattle.apfloat_model.specs.rounding.Flags.{bits_of}
 use Rattle.conformance.specs.Plain.{datum_of}
 use Rattle.conformance.proofs.PlainAnswers.{pick_fits, within_is, out_is, stay_is}
 use Rattle.conformance.proofs.plain.deliver.Goals as goal

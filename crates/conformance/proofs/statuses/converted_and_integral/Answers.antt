@@ -1,5 +1,5 @@
 use Rattle.rustc_apfloat.specs.FlaggedTypes.{format_of}
-use Rattle.apfloat_base.proofs.rounding.FlagsTogether.{conversion_together, round_to_integral_together}
+use Rattle.apfloat_model.proofs.rounding.FlagsTogether.{conversion_together, round_to_integral_together}
 use Rattle.conformance.proofs.statuses.converted_and_integral.Goals as goal
 
 pub returns-clause-converted : goal.returns-clause-converted

@@ -1,5 +1,5 @@
 use Rattle.rustc_apfloat.specs.FlaggedTypes.{format_of}
-use Rattle.apfloat_base.proofs.rounding.FlagsTogether.{fused_sum_together}
+use Rattle.apfloat_model.proofs.rounding.FlagsTogether.{fused_sum_together}
 use Rattle.conformance.proofs.statuses.fused_sum.Goals as goal
 
 pub returns-clause-flags : goal.returns-clause-flags

@@ -1,5 +1,5 @@
 use Rattle.rustc_apfloat.specs.FlaggedTypes.{format_of}
-use Rattle.apfloat_base.proofs.rounding.FlagsTogether.{next_up_together, next_down_together}
+use Rattle.apfloat_model.proofs.rounding.FlagsTogether.{next_up_together, next_down_together}
 use Rattle.conformance.proofs.statuses.neighbours.Goals as goal
 
 pub returns-clause-up : goal.returns-clause-up

@@ -1,7 +1,7 @@
 use Rattle.std.specs.Int.{w128}
 use Rattle.std.proofs.Common.{to_z, of_z}
 use Rattle.rustc_apfloat.specs.FlaggedTypes.{format_of}
-use Rattle.apfloat_base.proofs.rounding.FlagsTogether.{from_unsigned_together, from_signed_together}
+use Rattle.apfloat_model.proofs.rounding.FlagsTogether.{from_unsigned_together, from_signed_together}
 use Rattle.conformance.proofs.statuses.of_integers.Goals as goal
 
 pub returns-clause-unsigned : goal.returns-clause-unsigned

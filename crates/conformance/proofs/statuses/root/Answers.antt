@@ -1,5 +1,5 @@
 use Rattle.rustc_apfloat.specs.FlaggedTypes.{format_of}
-use Rattle.apfloat_base.proofs.rounding.FlagsTogether.{root_together}
+use Rattle.apfloat_model.proofs.rounding.FlagsTogether.{root_together}
 use Rattle.conformance.proofs.statuses.root.Goals as goal
 
 pub returns-clause-extracts : goal.returns-clause-extracts

@@ -1,5 +1,5 @@
 use Rattle.rustc_apfloat.specs.FlaggedTypes.{format_of}
-use Rattle.apfloat_base.proofs.rounding.FlagsTogether.{sum_together, difference_together}
+use Rattle.apfloat_model.proofs.rounding.FlagsTogether.{sum_together, difference_together}
 use Rattle.conformance.proofs.statuses.sum_and_difference.Goals as goal
 
 pub returns-clause-adds : goal.returns-clause-adds

@@ -1,5 +1,5 @@
 use Rattle.rustc_apfloat.specs.FlaggedTypes.{format_of}
-use Rattle.apfloat_base.proofs.rounding.FlagsTogether.{to_unsigned_together, to_signed_together}
+use Rattle.apfloat_model.proofs.rounding.FlagsTogether.{to_unsigned_together, to_signed_together}
 use Rattle.conformance.proofs.statuses.to_integers.Goals as goal
 
 pub returns-clause-unsigned : goal.returns-clause-unsigned

@@ -2,8 +2,8 @@ use Rattle.std.specs.Prelude.{Bool}
 use Rattle.rustc_apfloat.specs.Conversions.{IsConversion}
 use Rattle.rustc_apfloat.specs.TwoModes.{IsOkOrOfZero}
 use Rattle.rustc_apfloat.specs.FlaggedTypes.{format_of}
-use Rattle.apfloat_base.proofs.rounding.ModesAgree.{conversion_agrees}
-use Rattle.apfloat_base.proofs.rounding.OutwardResults.{conversion_encloses}
+use Rattle.apfloat_model.proofs.rounding.ModesAgree.{conversion_agrees}
+use Rattle.apfloat_model.proofs.rounding.OutwardResults.{conversion_encloses}
 use Rattle.conformance.proofs.TwoModes.{same_if_ok, bounds_if_outward}
 use Rattle.conformance.proofs.two_modes.conversions.Goals as goal
 

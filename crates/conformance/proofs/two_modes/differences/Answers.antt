@@ -1,8 +1,8 @@
 use Rattle.rustc_apfloat.specs.Sums.{IsDifference}
 use Rattle.rustc_apfloat.specs.TwoModes.{IsOk}
 use Rattle.rustc_apfloat.specs.FlaggedTypes.{format_of}
-use Rattle.apfloat_base.proofs.rounding.ModesAgree.{difference_agrees}
-use Rattle.apfloat_base.proofs.rounding.OutwardResults.{difference_encloses}
+use Rattle.apfloat_model.proofs.rounding.ModesAgree.{difference_agrees}
+use Rattle.apfloat_model.proofs.rounding.OutwardResults.{difference_encloses}
 use Rattle.conformance.proofs.TwoModes.{same_but_for_zeros, bounds_if_outward}
 use Rattle.conformance.proofs.two_modes.differences.Goals as goal
 

@@ -1,8 +1,8 @@
 use Rattle.rustc_apfloat.specs.FusedSums.{IsFusedSum}
 use Rattle.rustc_apfloat.specs.TwoModes.{IsOk}
 use Rattle.rustc_apfloat.specs.FlaggedTypes.{format_of}
-use Rattle.apfloat_base.proofs.rounding.ModesAgree.{fused_sum_agrees}
-use Rattle.apfloat_base.proofs.rounding.OutwardResults.{fused_sum_encloses}
+use Rattle.apfloat_model.proofs.rounding.ModesAgree.{fused_sum_agrees}
+use Rattle.apfloat_model.proofs.rounding.OutwardResults.{fused_sum_encloses}
 use Rattle.conformance.proofs.TwoModes.{same_but_for_zeros, bounds_if_outward}
 use Rattle.conformance.proofs.two_modes.fused_sums.Goals as goal
 

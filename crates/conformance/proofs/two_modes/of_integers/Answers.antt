@@ -5,8 +5,8 @@ use Rattle.rustc_apfloat.specs.Flags.{bits_of}
 use Rattle.rustc_apfloat.specs.TwoModes.{IsOk}
 use Rattle.rustc_apfloat.specs.FlaggedTypes.{format_of}
 use Rattle.rustc_apfloat.specs.WholeNumbers.{IsFromUnsigned, IsFromSigned}
-use Rattle.apfloat_base.proofs.rounding.ModesAgree.{from_unsigned_agrees, from_signed_agrees}
-use Rattle.apfloat_base.proofs.rounding.OutwardResults.{from_unsigned_encloses, from_signed_encloses}
+use Rattle.apfloat_model.proofs.rounding.ModesAgree.{from_unsigned_agrees, from_signed_agrees}
+use Rattle.apfloat_model.proofs.rounding.OutwardResults.{from_unsigned_encloses, from_signed_encloses}
 use Rattle.conformance.proofs.TwoModes.{same_if_ok, bounds_if_outward}
 use Rattle.conformance.proofs.two_modes.of_integers.Goals as goal
 

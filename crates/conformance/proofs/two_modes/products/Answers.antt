@@ -1,8 +1,8 @@
 use Rattle.rustc_apfloat.specs.Products.{IsProduct}
 use Rattle.rustc_apfloat.specs.TwoModes.{IsOk}
 use Rattle.rustc_apfloat.specs.FlaggedTypes.{format_of}
-use Rattle.apfloat_base.proofs.rounding.ModesAgree.{product_agrees}
-use Rattle.apfloat_base.proofs.rounding.OutwardResults.{product_encloses}
+use Rattle.apfloat_model.proofs.rounding.ModesAgree.{product_agrees}
+use Rattle.apfloat_model.proofs.rounding.OutwardResults.{product_encloses}
 use Rattle.conformance.proofs.TwoModes.{same_if_ok, bounds_if_outward}
 use Rattle.conformance.proofs.two_modes.products.Goals as goal
 

@@ -1,8 +1,8 @@
 use Rattle.rustc_apfloat.specs.Quotients.{IsQuotient}
 use Rattle.rustc_apfloat.specs.TwoModes.{IsOkOrOfZero}
 use Rattle.rustc_apfloat.specs.FlaggedTypes.{format_of}
-use Rattle.apfloat_base.proofs.rounding.ModesAgree.{quotient_agrees}
-use Rattle.apfloat_base.proofs.rounding.OutwardResults.{quotient_encloses}
+use Rattle.apfloat_model.proofs.rounding.ModesAgree.{quotient_agrees}
+use Rattle.apfloat_model.proofs.rounding.OutwardResults.{quotient_encloses}
 use Rattle.conformance.proofs.TwoModes.{same_if_ok, bounds_if_outward}
 use Rattle.conformance.proofs.two_modes.quotients.Goals as goal
 

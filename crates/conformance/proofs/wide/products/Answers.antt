@@ -1,7 +1,7 @@
 use Rattle.rustc_apfloat.specs.FlaggedTypes.{format_of}
 use Rattle.rustc_apfloat.specs.Products.{IsProduct}
-use Rattle.apfloat_base.proofs.Once.{product_once}
-use Rattle.apfloat_base.proofs.Determined.{gives_once}
+use Rattle.apfloat_model.proofs.Once.{product_once}
+use Rattle.apfloat_model.proofs.Determined.{gives_once}
 use Rattle.conformance.proofs.wide.products.Goals as goal
 
 pub returns : goal.returns

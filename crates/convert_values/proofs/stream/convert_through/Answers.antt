@@ -1,6 +1,6 @@
 use Rattle.std.proofs.Common.{rules, ◌≡◌, ◌*◌, ◌≤◌, ◌/◌, ℕ, arith, sym, subst}
 use Rattle.std.proofs.Math.Nat.{div-le_of_le-mul, mul-le-mul_right}
-use Rattle.value_blocks.specs.Widths.{source_width, target_width}
+use Rattle.array_conversions.specs.Widths.{source_width, target_width}
 use Rattle.convert_values.proofs.stream.convert_through.Goals as goal
 
 -- values of which a block has room in one format have it in the other one

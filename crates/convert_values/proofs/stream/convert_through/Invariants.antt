@@ -1,6 +1,6 @@
 use Rattle.std.proofs.Common.{◌≡◌, ◌*◌, length}
 use Rattle.convert_values.specs.declared.stream.TheConstants.{BLOCK}
-use Rattle.value_blocks.specs.Widths.{target_width}
+use Rattle.array_conversions.specs.Widths.{target_width}
 use Rattle.convert_values.proofs.stream.convert_through.Given as goal
 
 abbrev pub invariant-loop : goal.invariant-loop

@@ -1,9 +1,9 @@
 use Rattle.std.proofs.Common.{◌≡◌, ◌∙◌, false, not, refl, sym, ap}
 use Rattle.std.proofs.lemmas.Bool.{false≢true}
-use Rattle.apfloat_base.specs.declared.kinds.Category.{Category}
-use Rattle.apfloat_base.specs.declared.kinds.Category.TheVariants.{Infinity, NaN, Normal, Zero}
-use Rattle.apfloat_base.specs.order.Classes.{is_nan_category}
-use Rattle.apfloat_base.specs.order.Predicates.{is_infinite_category, is_finite_category}
+use Rattle.apfloat_model.specs.declared.kinds.Category.{Category}
+use Rattle.apfloat_model.specs.declared.kinds.Category.TheVariants.{Infinity, NaN, Normal, Zero}
+use Rattle.apfloat_model.specs.order.Classes.{is_nan_category}
+use Rattle.apfloat_model.specs.order.Predicates.{is_infinite_category, is_finite_category}
 use Rattle.apfloat_base.proofs.float.Float.is_finite.Goals as goal
 
 -- a category that is neither NaN nor infinite is finite

@@ -1,4 +1,4 @@
-use Rattle.apfloat_base.proofs.general.Choices.{same_beq}
+use Rattle.apfloat_model.proofs.general.Choices.{same_beq}
 use Rattle.apfloat_base.proofs.float.Float.minimum.Goals as goal
 
 pub returns-then-is_negative-2 : goal.returns-then-is_negative-2

@@ -1,5 +1,5 @@
 use Rattle.std.proofs.Common.{◌≡◌, ◌-◌, ◌≤◌, length, take, true}
-use Rattle.apfloat_base.specs.texts.Digits.{every, is_decimal}
+use Rattle.apfloat_model.specs.texts.Digits.{every, is_decimal}
 use Rattle.apfloat_decimals.proofs.texts.parts.split_digits.Given as goal
 
 abbrev pub invariant-loop-count : goal.invariant-loop-count

@@ -1,6 +1,6 @@
 use Rattle.std.proofs.Common.{arith}
-use Rattle.apfloat_base.specs.rounding.Flags.{bits_of}
-use Rattle.apfloat_base.proofs.arithmetic.RootLaws.{root_nearest}
+use Rattle.apfloat_model.specs.rounding.Flags.{bits_of}
+use Rattle.apfloat_model.proofs.arithmetic.RootLaws.{root_nearest}
 use Rattle.apfloat_ieee.specs.FlaggedTypes.{format_of}
 use Rattle.apfloat_ieee.proofs.ieee_float.IeeeFloat.sqrt.Goals as goal
 

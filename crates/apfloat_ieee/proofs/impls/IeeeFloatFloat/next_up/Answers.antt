@@ -1,9 +1,9 @@
 use Rattle.std.proofs.Common.{◌^◌, ◌≤◌, arith}
 use Rattle.std.proofs.Math.Nat.{pow-le-pow_right}
-use Rattle.apfloat_base.proofs.general.Powers.{two_pos}
-use Rattle.apfloat_base.proofs.arithmetic.NextBack.{next_back}
-use Rattle.apfloat_unpacked.specs.Stored.{datum_at}
-use Rattle.apfloat_unpacked.proofs.StoredMembers.{member_is}
+use Rattle.apfloat_model.proofs.general.Powers.{two_pos}
+use Rattle.apfloat_model.proofs.arithmetic.NextBack.{next_back}
+use Rattle.apfloat_rounding.specs.Stored.{datum_at}
+use Rattle.apfloat_rounding.proofs.StoredMembers.{member_is}
 use Rattle.apfloat_ieee.specs.FlaggedTypes.{shape_of, format_of}
 use Rattle.apfloat_ieee.proofs.impls.IeeeFloatFloat.next_up.Goals as goal
 

@@ -1,4 +1,4 @@
-use Rattle.apfloat_base.proofs.arithmetic.Signs.{plus_zero}
+use Rattle.apfloat_model.proofs.arithmetic.Signs.{plus_zero}
 use Rattle.apfloat_ieee.proofs.impls.IeeeFloatFloat.zero.Goals as goal
 
 pub returns : goal.returns

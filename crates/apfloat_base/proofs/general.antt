@@ -1,7 +1,0 @@
-pub mod Choices
-pub mod ListLaws
-pub mod Logarithms
-pub mod LowestOnes
-pub mod Scaled
-pub mod Powers
-pub mod MoreDigits

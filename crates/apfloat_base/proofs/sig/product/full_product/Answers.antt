@@ -1,5 +1,0 @@
-use Rattle.std.proofs.Common.{refl}
-use Rattle.apfloat_base.proofs.sig.product.full_product.Goals as goal
-
-pub returns : goal.returns
-returns c = refl

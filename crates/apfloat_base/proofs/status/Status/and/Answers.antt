@@ -1,8 +1,0 @@
-use Rattle.std.proofs.Common.{refl}
-use Rattle.apfloat_base.proofs.status.Status.and.Goals as goal
-
-pub returns-clause-status : goal.returns-clause-status
-returns-clause-status g c = refl
-
-pub returns-clause-value : goal.returns-clause-value
-returns-clause-value g c = refl

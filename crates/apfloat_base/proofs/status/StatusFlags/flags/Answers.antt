@@ -1,5 +1,0 @@
-use Rattle.std.proofs.Common.{refl}
-use Rattle.apfloat_base.proofs.status.StatusFlags.flags.Goals as goal
-
-pub returns : goal.returns
-returns c = λ _. refl

@@ -1,0 +1,132 @@
+//! The exponent of a hexadecimal text: as it is written it counts from the dot, and it is returned for the last digit.
+
+ghost use Rattle.std.specs.Prelude.{◌≡◌, ℕ, ◌+◌, ◌*◌, ◌<◌, ℤ, pos, ◌+ℤ◌, ◌-ℤ◌, ◌≤ℤ◌, drop, Some, None, MatchResult};
+ghost use Rattle.apfloat_model.specs.rounding.Bounds.{IsWithin, text_bound};
+ghost use Rattle.apfloat_model.specs.texts.Digits.{number};
+ghost use Rattle.apfloat_model.specs.texts.Specials.{after_mark};
+ghost use Rattle.apfloat_model.specs.texts.Faults.{exponent_fault};
+ghost use Rattle.apfloat_model.specs.texts.Literals.{exponent_number};
+ghost use Rattle.apfloat_hex_texts.specs.Saturation.{IsSaturated, IsNear, count_bound, far_bound, fault_after};
+
+use crate::characters::{digit_value, is_decimal};
+use crate::mark::split_mark;
+use apfloat_model::ExpInt;
+use apfloat_model::parse_error::Fault;
+
+/// A whole number that is not increased any further.
+const FAR: u128 = 1 << 96;
+
+/// Exponents of last digits farther from 0 than this change no result.
+const TEXT_BOUND: ExpInt = 1 << 22;
+
+/// The whole number followed by one more decimal digit, or some whole number of at least `FAR` in place of another such
+/// one.
+#[inline(always)]
+fn with_digit(number: u128, digit: u8) -> u128
+    requires small { digit < 16 }
+    requires fits { number < count_bound }
+    ensures saturated { (exact : ℕ) → IsSaturated exact number
+        → IsSaturated (exact * 10 + digit) result }
+    ensures fits { result < count_bound }
+{
+    if number < FAR {
+        number * 10 + u128::from(digit)
+    } else {
+        number
+    }
+}
+
+/// The whole number that decimal digits stand for.
+#[inline(always)]
+fn magnitude(digits: &[u8]) -> Result<u128, Fault>
+    ensures { MatchResult result (λ n. IsSaturated (number 10 digits.now) n × (n < count_bound)
+        × (exponent_fault digits.now ≡ None))
+        (λ fault. exponent_fault digits.now ≡ Some fault) }
+{
+    if digits.is_empty() {
+        return Err(Fault::NoExponentDigits);
+    }
+    let mut number = 0;
+    let mut left = digits;
+    while let [byte, tail @ ..] = left {
+        if !is_decimal(*byte) {
+            return Err(Fault::WrongInExponent);
+        }
+        number = with_digit(number, digit_value(*byte));
+        left = tail;
+    }
+    Ok(number)
+}
+
+/// The number that a text spells with decimal digits, after a sign if there is one; past `2^96`, some number that far on
+/// its side.
+#[inline(always)]
+pub fn signed_number(text: &[u8]) -> Result<i128, Fault>
+    ensures { MatchResult result (λ e. IsNear far_bound (exponent_number text.now) e
+        × IsWithin count_bound e
+        × (exponent_fault (after_mark text.now) ≡ None))
+        (λ fault. exponent_fault (after_mark text.now) ≡ Some fault) }
+{
+    let (mark, digits) = split_mark(text);
+    let magnitude = magnitude(digits)? as i128;
+    Ok(if mark.is_minus() {
+        -magnitude
+    } else {
+        magnitude
+    })
+}
+
+/// The exponent in the text after a significand, which counts from the dot; `some` says whether the significand has a
+/// digit.
+#[inline(always)]
+pub fn exponent_in(tail: &[u8], some: bool) -> Result<i128, Fault>
+    ensures { MatchResult result (λ e. IsNear far_bound (exponent_number (drop 1 tail.now)) e
+        × IsWithin count_bound e
+        × (fault_after some tail.now ≡ None))
+        (λ fault. fault_after some tail.now ≡ Some fault) }
+{
+    match tail {
+        [b'p' | b'P', exponent @ ..] if some => signed_number(exponent),
+        [b'p' | b'P', ..] => Err(Fault::NoDigits),
+        [_, ..] => Err(Fault::WrongInSignificand),
+        [] if some => Err(Fault::NoExponent),
+        [] => Err(Fault::NoDigits),
+    }
+}
+
+/// The exponent of the last kept digit of a number with `cut` digits cut off and `places` digits after its dot, from
+/// the exponent that counts from the dot.
+#[inline(always)]
+fn unit_of(exponent: i128, cut: usize, places: usize) -> i128
+    requires { IsWithin count_bound exponent }
+    ensures { result ≡ (exponent +ℤ pos (4 * cut)) -ℤ pos (4 * places) }
+{
+    exponent + 4 * cut as i128 - 4 * places as i128
+}
+
+/// The exponent of a last digit, or the farthest one on its side.
+#[inline(always)]
+fn clamped(exponent: i128) -> ExpInt
+    ensures near { IsNear text_bound exponent result }
+    ensures within { IsWithin text_bound result }
+{
+    if exponent > TEXT_BOUND as i128 {
+        TEXT_BOUND
+    } else if exponent < -(TEXT_BOUND as i128) {
+        -TEXT_BOUND
+    } else {
+        exponent as ExpInt
+    }
+}
+
+/// The exponent of the last kept digit, from the one that counts from the dot; or one that is past every value on its
+/// side.
+#[inline(always)]
+pub fn unit_exponent(exponent: i128, cut: usize, places: usize) -> ExpInt
+    requires { IsWithin count_bound exponent }
+    ensures near { (exact : ℤ) → IsNear far_bound exact exponent
+        → IsNear text_bound ((exact +ℤ pos (4 * cut)) -ℤ pos (4 * places)) result }
+    ensures within { IsWithin text_bound result }
+{
+    clamped(unit_of(exponent, cut, places))
+}

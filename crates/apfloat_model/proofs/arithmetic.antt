@@ -1,0 +1,13 @@
+pub mod Signs
+pub mod Fractions
+pub mod FractionExponents
+pub mod RootSides
+pub mod RootDeliveries
+pub mod RootLaws
+pub mod ProductLaws
+pub mod Inverses
+pub mod Tables
+pub mod SingleScalings
+pub mod SumLaws
+pub mod ExactConversions
+pub mod NextBack

@@ -1,0 +1,209 @@
+-- A fraction that agrees with a square root at quarters of quanta is rounded as the root is.
+use Rattle.std.proofs.Common.{◌≡◌, ℕ, ◌+◌, ◌-◌, ◌*◌, ◌/◌, ◌%◌, ◌^◌, ◌<◌, ◌≤◌, Bool, true, false, not, ◌&&◌, ◌||◌, eqb, ltb, leb, cond, if◌then◌else◌, sym, refl, ap, ◌∙◌, ⊎_elim, arith}
+use Rattle.std.proofs.lemmas.Bool.{cases_lt, eq-eqb, ne_eqb, lt-ltb, le-ltb, le-leb, lt-leb, leb-false, ltb-true}
+use Rattle.apfloat_model.specs.declared.kinds.Round.{Round}
+use Rattle.apfloat_model.specs.formats.Format.{Format, smallest_normalized, largest}
+use Rattle.apfloat_model.specs.formats.Datum.{Datum}
+use Rattle.apfloat_model.specs.rounding.Grid.{IsBelow, IsAbove}
+use Rattle.apfloat_model.specs.rounding.Rounding.{takes_above, IsPick, IsDelivered, is_tiny, rounds_below_normal, delivered_status, raises_overflow, ok_bits, overflow_bit, underflow_bit, inexact_bit}
+use Rattle.apfloat_model.specs.arithmetic.Roots.{IsBelowRoot, IsAboveRoot, IsRootPick, root_rounds_below_normal, is_tiny_root, root_status, IsDeliveredRoot}
+use Rattle.apfloat_model.proofs.rounding.Picks.{takes_less, takes_half, takes_more}
+use Rattle.apfloat_model.proofs.arithmetic.RootSides.{AgreesWithRoot, coarser}
+
+-- what holds in each order of two numbers holds
+by_order : (P : Type 0) (m n : ℕ) → (m < n → P) → (m ≡ n → P) → (n < m → P) → P
+by_order P m n l e g =
+    ⊎_elim l (λ (h : n ≤ m). ⊎_elim g (λ (k : m ≤ n). e (omega arith)) (cases_lt n m)) (cases_lt m n)
+
+-- a fraction that agrees with the root at halves
+module _ (square amount parts : ℕ) (halves : AgreesWithRoot square 2 amount parts) where
+  -- so it does at whole quanta
+  whole : AgreesWithRoot square 1 amount parts
+  whole = coarser square 1 2 amount parts (omega arith) halves
+
+  point_less : (n : ℕ) → n * n < square → n * parts < amount
+  point_less n h = let k = whole.less n (omega arith) in omega (arith, k)
+
+  point_same : (n : ℕ) → n * n ≡ square → n * parts ≡ amount
+  point_same n h = let k = whole.same n (omega arith) in omega (arith, k)
+
+  point_more : (n : ℕ) → square < n * n → amount < n * parts
+  point_more n h = let k = whole.more n (omega arith) in omega (arith, k)
+
+  -- and the other way round
+  not_above : (n : ℕ) → n * parts ≤ amount → n * n ≤ square
+  not_above n h =
+      ⊎_elim (λ (q : square < n * n). let k = point_more n q in absurd (omega (arith, k))) (λ q. q)
+      (cases_lt square (n * n))
+
+  not_below : (n : ℕ) → amount ≤ n * parts → square ≤ n * n
+  not_below n h =
+      ⊎_elim (λ (q : n * n < square). let k = point_less n q in absurd (omega (arith, k))) (λ q. q)
+      (cases_lt (n * n) square)
+
+  at_most : (n : ℕ) → n * n ≤ square → n * parts ≤ amount
+  at_most n h =
+      ⊎_elim (λ (q : amount < n * parts). let k = not_below n (omega arith) in
+      let e = point_same n (omega (arith, k)) in absurd (omega (arith, e))) (λ q. q)
+      (cases_lt amount (n * parts))
+
+  at_least : (n : ℕ) → square ≤ n * n → amount ≤ n * parts
+  at_least n h =
+      ⊎_elim (λ (q : n * parts < amount). let k = not_above n (omega arith) in
+      let e = point_same n (omega (arith, k)) in absurd (omega (arith, e))) (λ q. q)
+      (cases_lt (n * parts) amount)
+
+  -- the neighbours of the fraction are those of the root
+  pub below_root : (precision point : ℕ) → IsBelow precision point amount parts
+      → IsBelowRoot precision point square
+  below_root precision point b = record {
+    on_grid = b.on_grid;
+    not_above = not_above point b.not_above;
+    greatest = λ other g l. b.greatest other g (at_most other l);
+  }
+
+  pub above_root : (precision point : ℕ) → IsAbove precision point amount parts
+      → IsAboveRoot precision point square
+  above_root precision point b = record {
+    on_grid = b.on_grid;
+    not_below = not_below point b.not_below;
+    least = λ other g l. b.least other g (at_least other l);
+  }
+
+  -- the mode takes the same of two neighbours
+  pub takes_same : (mode : Round) (below above : ℕ) (odd : Bool) → below * parts ≤ amount
+      → amount ≤ above * parts
+      → takes_above mode false (amount - below * parts) (above * parts - amount) odd
+      ≡ takes_above mode false (4 * square) ((below + above) * (below + above)) odd
+  takes_same mode below above odd l h =
+      let n : ℕ = below + above in
+      by_order (takes_above mode false (amount - below * parts) (above * parts - amount) odd
+      ≡ takes_above mode false (4 * square) ((below + above) * (below + above)) odd) (n * n) (4 * square)
+      (λ q.
+      let k : n * parts < amount * 2 = halves.less n (omega arith) in
+      takes_more mode false odd _ _ (omega arith) ∙ sym (takes_more mode false odd _ _ (omega arith)))
+      (λ q.
+      let k : n * parts ≡ amount * 2 = halves.same n (omega arith) in
+      takes_half mode false odd _ _ (omega arith) ∙ sym (takes_half mode false odd _ _ (omega arith)))
+      (λ q.
+      let k : amount * 2 < n * parts = halves.more n (omega arith) in
+      takes_less mode false odd _ _ (omega arith) ∙ sym (takes_less mode false odd _ _ (omega arith)))
+
+  -- so the same is picked
+  pub root_pick : (precision : ℕ) (mode : Round) (pick : ℕ) → IsPick precision mode false amount parts pick
+      → IsRootPick precision mode square pick
+  root_pick precision mode pick p = record {
+    below = p.below;
+    above = p.above;
+    is_below = below_root precision p.below p.is_below;
+    is_above = above_root precision p.above p.is_above;
+    is = p.is ∙
+        ap (λ (b : Bool). cond b p.above p.below)
+        (takes_same mode p.below p.above (eqb (p.below / (p.above - p.below) % 2) 1) p.is_below.not_above
+        p.is_above.not_below);
+  }
+
+  -- a point tests as the fraction exactly if its square tests as that of the root
+  exact_same : (n : ℕ) → eqb (n * parts) amount ≡ eqb (n * n) square
+  exact_same n =
+      by_order (eqb (n * parts) amount ≡ eqb (n * n) square) (n * n) square
+      (λ q. let k = point_less n q in
+      ne_eqb (n * parts) amount (λ e. omega (arith, k, e)) ∙ sym (ne_eqb (n * n) square (λ e. omega (arith, q, e))))
+      (λ q. eq-eqb (n * parts) amount (point_same n q) ∙ sym (eq-eqb (n * n) square q))
+      (λ q. let k = point_more n q in
+      ne_eqb (n * parts) amount (λ e. omega (arith, k, e)) ∙ sym (ne_eqb (n * n) square (λ e. omega (arith, q, e))))
+
+  below_same : (n : ℕ) → ltb amount (n * parts) ≡ ltb square (n * n)
+  below_same n =
+      by_order (ltb amount (n * parts) ≡ ltb square (n * n)) (n * n) square
+      (λ q. let k = point_less n q in
+      le-ltb amount (n * parts) (omega (arith, k)) ∙ sym (le-ltb square (n * n) (omega arith)))
+      (λ q. let k = point_same n q in
+      le-ltb amount (n * parts) (omega (arith, k)) ∙ sym (le-ltb square (n * n) (omega arith)))
+      (λ q. lt-ltb amount (n * parts) (point_more n q) ∙ sym (lt-ltb square (n * n) q))
+
+  not_above_same : (n : ℕ) → leb amount (n * parts) ≡ leb square (n * n)
+  not_above_same n =
+      by_order (leb amount (n * parts) ≡ leb square (n * n)) (n * n) square
+      (λ q. let k = point_less n q in
+      lt-leb amount (n * parts) (omega (arith, k)) ∙ sym (lt-leb square (n * n) (omega arith)))
+      (λ q. let k = point_same n q in
+      le-leb amount (n * parts) (omega (arith, k)) ∙ sym (le-leb square (n * n) (omega arith)))
+      (λ q. let k = point_more n q in
+      le-leb amount (n * parts) (omega (arith, k)) ∙ sym (le-leb square (n * n) (omega arith)))
+
+-- a choice is asked for only where the tests before it leave it open
+where_open : (x y t u : Bool) → (x ≡ false → y ≡ true → t ≡ u)
+    → (x || (y && not t)) ≡ (x || (y && not u))
+where_open true y t u h = refl
+where_open false false t u h = refl
+where_open false true t u h = ap (λ (b : Bool). not b) (h refl refl)
+
+-- twice the fraction agrees with twice the root at halves
+doubled : (square amount parts : ℕ) → AgreesWithRoot square 4 amount parts
+    → AgreesWithRoot (4 * square) 2 (2 * amount) parts
+doubled square amount parts a = record {
+  some = a.some;
+  less = λ n h. let k = a.less n (omega (arith, h)) in omega (arith, k);
+  same = λ n h. let k = a.same n (omega (arith, h)) in omega (arith, k);
+  more = λ n h. let k = a.more n (omega (arith, h)) in omega (arith, k);
+}
+
+-- a fraction that agrees with the root at quarters
+module _ (square amount parts : ℕ) (agrees : AgreesWithRoot square 4 amount parts) where
+  halves_of : AgreesWithRoot square 2 amount parts
+  halves_of = coarser square 2 2 amount parts (omega arith) agrees
+
+  twice : AgreesWithRoot (4 * square) 2 (2 * amount) parts
+  twice = doubled square amount parts agrees
+
+  below_normal_same : (precision : ℕ) (mode : Round)
+      → rounds_below_normal precision mode false amount parts ≡ root_rounds_below_normal precision mode square
+  below_normal_same precision mode =
+      let last : ℕ = 2 ^ precision - 1 in
+      let next : ℕ = 2 ^ precision in
+      let t : Bool = takes_above mode false (2 * amount - last * parts) (next * parts - 2 * amount) true in
+      let u : Bool = takes_above mode false (4 * (4 * square)) ((last + next) * (last + next)) true in
+      where_open (leb (2 * amount) (last * parts)) (ltb (2 * amount) (next * parts)) t u
+      (λ x y.
+      let a : last * parts < 2 * amount = leb-false (2 * amount) (last * parts) x in
+      let b : 2 * amount < next * parts = ltb-true (2 * amount) (next * parts) y in
+      takes_same (4 * square) (2 * amount) parts twice mode last next true (omega arith) (omega arith)) ∙
+      ap (λ (x : Bool). x || (ltb (2 * amount) (next * parts) && not u))
+      (not_above_same (4 * square) (2 * amount) parts twice last) ∙
+      ap (λ (y : Bool). leb (4 * square) (last * last) || (y && not u))
+      (below_same (4 * square) (2 * amount) parts twice next)
+
+  pub tiny_same : (f : Format) (mode : Round) (pick : ℕ)
+      → is_tiny f mode false amount parts pick ≡ is_tiny_root f mode square pick
+  tiny_same f mode pick =
+      ap (λ (b : Bool). if f.tiny_before_rounding then b
+      else (if f.ieee_flags then rounds_below_normal f.precision mode false amount parts
+      else ltb pick (smallest_normalized f)))
+      (below_same square amount parts halves_of (smallest_normalized f)) ∙
+      ap (λ (b : Bool). if f.tiny_before_rounding then ltb square (smallest_normalized f * smallest_normalized f)
+      else (if f.ieee_flags then b else ltb pick (smallest_normalized f)))
+      (below_normal_same f.precision mode)
+
+  pub status_same : (f : Format) (mode : Round) (pick : ℕ)
+      → delivered_status f mode false amount parts pick ≡ root_status f mode square pick
+  status_same f mode pick =
+      ap (λ (b : Bool). if ltb (largest f) pick
+      then (if raises_overflow f mode false then overflow_bit + inexact_bit else inexact_bit)
+      else (if b then ok_bits
+      else (if is_tiny f mode false amount parts pick then underflow_bit + inexact_bit else inexact_bit)))
+      (exact_same square amount parts halves_of pick) ∙
+      ap (λ (b : Bool). if ltb (largest f) pick
+      then (if raises_overflow f mode false then overflow_bit + inexact_bit else inexact_bit)
+      else (if eqb (pick * pick) square then ok_bits
+      else (if b then underflow_bit + inexact_bit else inexact_bit))) (tiny_same f mode pick)
+
+  -- and what is delivered of the fraction is delivered of the root
+  pub root_delivered : (f : Format) (mode : Round) (value : Datum) (status : ℕ)
+      → IsDelivered f mode false amount parts value status → IsDeliveredRoot f mode square value status
+  root_delivered f mode value status d = record {
+    pick = d.pick;
+    is_pick = root_pick square amount parts halves_of f.precision mode d.pick d.is_pick;
+    value_is = d.value_is;
+    status_is = d.status_is ∙ status_same f mode d.pick;
+  }

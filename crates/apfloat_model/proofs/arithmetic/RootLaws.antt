@@ -1,0 +1,249 @@
+-- Laws of square roots: those of squares, and that none is halfway between two neighbours.
+use Rattle.std.proofs.Common.{◌≡◌, ℕ, ◌+◌, ◌-◌, ◌*◌, ◌/◌, ◌%◌, ◌^◌, ◌<◌, ◌≤◌, ◌⊎◌, Bool, true, false, not, ◌&&◌, ◌||◌, ltb, leb, eqb, cond, if◌then◌else◌, sym, ap, ◌∙◌, subst, ⊎_elim, inl, inr, lit<, arith}
+use Rattle.std.proofs.Math.Nat.{mul-le-mul_left, le_of_mul-le-mul_right, pow-le-pow_right}
+use Rattle.std.proofs.lemmas.Nat.{pow_pos, pow-add}
+use Rattle.std.proofs.lemmas.Bool.{cases_lt}
+use Rattle.apfloat_model.specs.declared.kinds.Round.TheVariants.{NearestTiesToEven, NearestTiesToAway}
+use Rattle.apfloat_model.specs.declared.kinds.Round.{Round}
+use Rattle.std.specs.Bool.{MatchBool}
+use Rattle.apfloat_model.specs.formats.Members.{IsMember}
+use Rattle.apfloat_model.specs.formats.Format.{Format, smallest_normalized, largest}
+use Rattle.apfloat_model.specs.formats.Datum.{Datum, finite, infinite, nan}
+use Rattle.apfloat_model.specs.rounding.Grid.{IsOnGrid}
+use Rattle.apfloat_model.specs.rounding.Rounding.{takes_above, IsDelivered, ok_bits, overflow_bit, underflow_bit, inexact_bit, raises_overflow}
+use Rattle.apfloat_model.specs.rounding.Enclosure.{IsEnclosed}
+use Rattle.apfloat_model.specs.arithmetic.Roots.{IsBelowRoot, IsAboveRoot, root_between, IsRootPick, root_rounds_below_normal, IsDeliveredRoot, IsRoot}
+use Rattle.apfloat_model.proofs.general.Choices.{either}
+use Rattle.apfloat_model.proofs.general.Powers.{two_pos, twice_power, twice_half}
+use Rattle.apfloat_model.proofs.rounding.Laws.{delivered_exists}
+use Rattle.apfloat_model.proofs.rounding.Neighbours.{below_is, above_is_same, above_is_next}
+use Rattle.apfloat_model.proofs.rounding.NeighboursExist.{enclosed_at}
+use Rattle.apfloat_model.proofs.rounding.Picks.{takes_less, takes_more}
+use Rattle.apfloat_model.proofs.arithmetic.RootSides.{AgreesWithRoot, root_lt, agreeing}
+use Rattle.apfloat_model.proofs.arithmetic.RootDeliveries.{below_root, above_root, root_delivered}
+use Rattle.apfloat_model.proofs.Once.{below_root_unique, above_root_unique, delivered_root_once}
+
+-- a number agrees with the root of its square
+square_agrees : (root : ℕ) → AgreesWithRoot (root * root) 4 root 1
+square_agrees root = record {
+  some = omega arith;
+  less = λ n h. let k : n < root * 4 = root_lt n (root * 4) (omega arith) in omega arith;
+  same = λ n h.
+      let k : n < root * 4 + 1 = root_lt n (root * 4 + 1) (omega arith) in
+      let l : root * 4 < n + 1 = root_lt (root * 4) (n + 1) (omega arith) in
+      omega arith;
+  more = λ n h. let k : root * 4 < n = root_lt (root * 4) n (omega arith) in omega arith;
+}
+
+-- what is delivered of a number is delivered of the root of its square
+pub number_is_root : (format : Format) (mode : Round) (root : ℕ) (value : Datum) (status : ℕ)
+    → IsDelivered format mode false root 1 value status → IsDeliveredRoot format mode (root * root) value status
+number_is_root format mode root value status d =
+    root_delivered (root * root) root 1 (square_agrees root) format mode value status d
+
+-- and the other way round
+pub root_of_square : (format : Format) (mode : Round) (root : ℕ) (value : Datum) (status : ℕ)
+    → 0 < format.precision
+    → IsDeliveredRoot format mode (root * root) value status → IsDelivered format mode false root 1 value status
+root_of_square format mode root value status p d =
+    let r = delivered_exists format mode false root 1 p (omega arith) in
+    let e = delivered_root_once format mode (root * root) r.0 value r.1.0 status
+    (number_is_root format mode root r.0 r.1.0 r.1.1) d in
+    subst (λ (v : Datum). IsDelivered format mode false root 1 v status) e.0
+    (subst (λ (s : ℕ). IsDelivered format mode false root 1 r.0 s) e.1 r.1.1)
+
+-- ---- no root is halfway between two neighbours
+
+-- the neighbours of a root: a significand at some place, and either the same or the next one
+record HasNeighbours (half square : ℕ) (precision : ℕ) : Type 0 where
+  significand : ℕ
+  place : ℕ
+  full : (place ≡ 0) ⊎ (half ≤ significand)
+  is_below : IsBelowRoot precision (significand * 2 ^ place) square
+  is_above : IsAboveRoot precision (significand * 2 ^ place) square
+      ⊎ IsAboveRoot precision ((significand + 1) * 2 ^ place) square
+
+neighbours : (precision half square : ℕ) → 2 ^ precision ≡ 2 * half → HasNeighbours half square precision
+neighbours precision half square e =
+    let g = agreeing square 2 (lit< tt) in
+    let r = enclosed_at precision half g.amount g.parts g.agrees.some e in
+    let c : ℕ = r.0 in
+    let m : ℕ = g.amount / (g.parts * 2 ^ c) in
+    let i : IsEnclosed precision half m c g.amount g.parts = r.1 in
+    record {
+      significand = m;
+      place = c;
+      full = i.full;
+      is_below = below_root square g.amount g.parts g.agrees precision (m * 2 ^ c)
+          (below_is precision half m c g.amount g.parts i);
+      is_above = ⊎_elim
+          (λ (q : m * 2 ^ c * g.parts < g.amount).
+          inr (above_root square g.amount g.parts g.agrees precision ((m + 1) * 2 ^ c)
+          (above_is_next precision half m c g.amount g.parts i q)))
+          (λ (q : g.amount ≤ m * 2 ^ c * g.parts).
+          let f : m * 2 ^ c * g.parts ≤ g.amount = i.from in
+          let d : g.amount ≡ m * 2 ^ c * g.parts = omega arith in
+          inl (above_root square g.amount g.parts g.agrees precision (m * 2 ^ c)
+          (above_is_same precision half m c g.amount g.parts g.agrees.some i d)))
+          (cases_lt (m * 2 ^ c * g.parts) g.amount);
+    }
+
+-- an odd square is not a multiple of a greater power of two
+odd_square : (m s c k : ℕ) → (2 * m + 1) * (2 * m + 1) * 2 ^ c ≡ s * 2 ^ k → c < k → ⊥
+odd_square m s c k e l =
+    let w : c + (k - (c + 1) + 1) ≡ k = omega arith in
+    let p : 2 ^ k ≡ 2 ^ c * 2 ^ (k - (c + 1) + 1) = ap (λ (x : ℕ). 2 ^ x) (sym w) ∙
+    pow-add 2 c (k - (c + 1) + 1) in
+    let t : 2 ^ (k - (c + 1) + 1) ≡ 2 * 2 ^ (k - (c + 1)) = twice_power (k - (c + 1)) in
+    let d : s * 2 ^ k ≡ s * (2 ^ c * (2 * 2 ^ (k - (c + 1)))) = ap (λ (x : ℕ). s * x) p ∙
+    ap (λ (x : ℕ). s * (2 ^ c * x)) t in
+    let f : (2 * m + 1) * (2 * m + 1) * 2 ^ c ≤ 2 * (s * 2 ^ (k - (c + 1))) * 2 ^ c = omega arith in
+    let g : 2 * (s * 2 ^ (k - (c + 1))) * 2 ^ c ≤ (2 * m + 1) * (2 * m + 1) * 2 ^ c = omega arith in
+    let a : (2 * m + 1) * (2 * m + 1) ≤ 2 * (s * 2 ^ (k - (c + 1))) = le_of_mul-le-mul_right f (pow_pos c) in
+    let b : 2 * (s * 2 ^ (k - (c + 1))) ≤ (2 * m + 1) * (2 * m + 1) = le_of_mul-le-mul_right g (pow_pos c) in
+    omega arith
+
+-- nor is a long one a multiple of a power of two at most as great
+long_square : (m s c k : ℕ) → (2 * m + 1) * (2 * m + 1) * 2 ^ c ≡ s * 2 ^ k → s ≤ 2 * m → k ≤ c → ⊥
+long_square m s c k e h l =
+    let p : 2 ^ k ≤ 2 ^ c = pow-le-pow_right two_pos l in
+    let a : s * 2 ^ k ≤ s * 2 ^ c = mul-le-mul_left s p in
+    let b : (2 * m + 1) * (2 * m + 1) * 2 ^ c ≤ s * 2 ^ c = omega arith in
+    let d : (2 * m + 1) * (2 * m + 1) ≤ s = le_of_mul-le-mul_right b (pow_pos c) in
+    omega arith
+
+-- the square of a midpoint is not the square of the root of a number on the grid
+midpoint_apart : (half m c s k : ℕ) → (c ≡ 0) ⊎ (half ≤ m) → s < 2 * half
+    → (m * 2 ^ c + (m + 1) * 2 ^ c) * (m * 2 ^ c + (m + 1) * 2 ^ c) ≡ 4 * (s * 2 ^ k) → ⊥
+midpoint_apart half m c s k f h e =
+    let p : 2 ^ (c + c) ≡ 2 ^ c * 2 ^ c = pow-add 2 c c in
+    let q : 2 ^ (k + 2) ≡ 2 ^ k * 2 ^ 2 = pow-add 2 k 2 in
+    let u : (2 * m + 1) * (2 * m + 1) * 2 ^ (c + c) ≡ (2 * m + 1) * (2 * m + 1) * (2 ^ c * 2 ^ c) =
+    ap (λ (x : ℕ). (2 * m + 1) * (2 * m + 1) * x) p in
+    let v : s * 2 ^ (k + 2) ≡ s * (2 ^ k * 2 ^ 2) = ap (λ (x : ℕ). s * x) q in
+    let d : (2 * m + 1) * (2 * m + 1) * 2 ^ (c + c) ≡ s * 2 ^ (k + 2) = omega arith in
+    ⊎_elim (λ (l : c + c < k + 2). odd_square m s (c + c) (k + 2) d l)
+    (λ (l : k + 2 ≤ c + c).
+    ⊎_elim (λ (z : c ≡ 0). absurd (omega arith))
+    (λ (g : half ≤ m). long_square m s (c + c) (k + 2) d (omega arith) l) f)
+    (cases_lt (c + c) (k + 2))
+
+-- away from the middle, both modes to nearest take the same neighbour
+both_nearest : (x y : ℕ) (odd : Bool) → (x ≡ y → ⊥)
+    → takes_above NearestTiesToEven false x y odd ≡ takes_above NearestTiesToAway false x y odd
+both_nearest x y odd n =
+    ⊎_elim
+    (λ (l : x < y).
+    takes_less NearestTiesToEven false odd x y l ∙ sym (takes_less NearestTiesToAway false odd x y l))
+    (λ (l : y ≤ x).
+    let k : y < x = omega (arith, n) in
+    takes_more NearestTiesToEven false odd x y k ∙ sym (takes_more NearestTiesToAway false odd x y k))
+    (cases_lt x y)
+
+-- between neighbours of which the root is not halfway, both modes pick the same
+same_between : (below above square : ℕ)
+    → (below ≡ above) ⊎ ((below + above) * (below + above) ≡ 4 * square → ⊥)
+    → root_between NearestTiesToEven below above square ≡ root_between NearestTiesToAway below above square
+same_between below above square (inl e) = either _ above below (sym e) ∙ sym (either _ above below (sym e))
+same_between below above square (inr n) =
+    ap (λ (t : Bool). cond t above below)
+    (both_nearest (4 * square) ((below + above) * (below + above)) (eqb (below / (above - below) % 2) 1)
+    (λ e. n (sym e)))
+
+-- the root of a number on the grid is not halfway between its neighbours
+apart : (precision half s k : ℕ) → 2 ^ precision ≡ 2 * half → s < 2 ^ precision
+    → (pick : ℕ) → (x : IsRootPick precision NearestTiesToEven (s * 2 ^ k) pick)
+    → (x.below ≡ x.above) ⊎ ((x.below + x.above) * (x.below + x.above) ≡ 4 * (s * 2 ^ k) → ⊥)
+apart precision half s k e l pick x =
+    let n = neighbours precision half (s * 2 ^ k) e in
+    let b : x.below ≡ n.significand * 2 ^ n.place =
+    below_root_unique precision x.below _ (s * 2 ^ k) x.is_below n.is_below in
+    ⊎_elim
+    (λ (h : IsAboveRoot precision (n.significand * 2 ^ n.place) (s * 2 ^ k)).
+    inl (b ∙ sym (above_root_unique precision x.above _ (s * 2 ^ k) x.is_above h)))
+    (λ (h : IsAboveRoot precision ((n.significand + 1) * 2 ^ n.place) (s * 2 ^ k)).
+    let a : x.above ≡ (n.significand + 1) * 2 ^ n.place =
+    above_root_unique precision x.above _ (s * 2 ^ k) x.is_above h in
+    let t : x.below + x.above ≡ n.significand * 2 ^ n.place + (n.significand + 1) * 2 ^ n.place = omega arith in
+    inr (λ d. midpoint_apart half n.significand n.place s k n.full (omega arith)
+    (ap (λ (z : ℕ). z * z) (sym t) ∙ d)))
+    n.is_above
+
+-- so the modes to nearest pick the same neighbour of the root of a number on the grid
+pub no_tie : (precision s k pick : ℕ) → 0 < precision → s < 2 ^ precision
+    → IsRootPick precision NearestTiesToEven (s * 2 ^ k) pick
+    → IsRootPick precision NearestTiesToAway (s * 2 ^ k) pick
+no_tie precision s k pick p l x = record {
+  below = x.below;
+  above = x.above;
+  is_below = x.is_below;
+  is_above = x.is_above;
+  is = x.is ∙
+      same_between x.below x.above (s * 2 ^ k)
+      (apart precision (2 ^ (precision - 1)) s k (sym (twice_half precision p)) l pick x);
+}
+
+-- sixteen times a number is not the square of an odd one
+odd_apart : (w half square : ℕ) → 0 < half → w ≡ 2 * half → 4 * (4 * square) ≡ (w - 1 + w) * (w - 1 + w)
+    → ⊥
+odd_apart w half square p d e =
+    let v : ℕ = w - 1 + w in
+    let a : v + 1 ≡ 4 * half = omega arith in
+    let b : (v + 1) * (v + 1) ≡ 4 * half * (4 * half) = ap (λ (x : ℕ). x * x) a in
+    let c : 4 * (4 * square) ≡ v * v = e in
+    omega arith
+
+-- and agree on whether the root, rounded with an unbounded exponent, is below the smallest normalized number
+below_normal_agree : (precision square : ℕ) → 0 < precision
+    → root_rounds_below_normal precision NearestTiesToEven square
+    ≡ root_rounds_below_normal precision NearestTiesToAway square
+below_normal_agree precision square p =
+    let w : ℕ = 2 ^ precision in
+    let n : ℕ = (w - 1 + w) * (w - 1 + w) in
+    ap (λ (b : Bool). leb (4 * square) ((w - 1) * (w - 1)) || (ltb (4 * square) (w * w) && not b))
+    (both_nearest (4 * (4 * square)) n true
+    (odd_apart w (2 ^ (precision - 1)) square (pow_pos (precision - 1)) (sym (twice_half precision p))))
+
+-- and deliver the same value and status
+pub nearest_agree : (format : Format) (quanta : ℕ) (value : Datum) (status : ℕ) → 0 < format.precision
+    → IsOnGrid format.precision quanta
+    → IsDeliveredRoot format NearestTiesToEven (quanta * 2 ^ format.scale) value status
+    → IsDeliveredRoot format NearestTiesToAway (quanta * 2 ^ format.scale) value status
+nearest_agree format quanta value status p g d =
+    let w : 2 ^ (g.place + format.scale) ≡ 2 ^ g.place * 2 ^ format.scale = pow-add 2 g.place format.scale in
+    let q : quanta * 2 ^ format.scale ≡ g.significand * 2 ^ g.place * 2 ^ format.scale =
+    ap (λ (x : ℕ). x * 2 ^ format.scale) g.is in
+    let u : g.significand * 2 ^ (g.place + format.scale) ≡ g.significand * (2 ^ g.place * 2 ^ format.scale) =
+    ap (λ (x : ℕ). g.significand * x) w in
+    let e : g.significand * 2 ^ (g.place + format.scale) ≡ quanta * 2 ^ format.scale = omega arith in
+    let x : IsRootPick format.precision NearestTiesToEven (g.significand * 2 ^ (g.place + format.scale)) d.pick =
+    subst (λ (z : ℕ). IsRootPick format.precision NearestTiesToEven z d.pick) (sym e) d.is_pick in
+    record {
+      pick = d.pick;
+      is_pick = subst (λ (z : ℕ). IsRootPick format.precision NearestTiesToAway z d.pick) e
+          (no_tie format.precision g.significand (g.place + format.scale) d.pick p g.fits x);
+      value_is = d.value_is;
+      status_is = d.status_is ∙
+          ap (λ (b : Bool). if ltb (largest format) d.pick
+          then (if raises_overflow format NearestTiesToEven false then overflow_bit + inexact_bit else inexact_bit)
+          else (if eqb (d.pick * d.pick) (quanta * 2 ^ format.scale) then ok_bits
+          else (if (if format.tiny_before_rounding
+          then ltb (quanta * 2 ^ format.scale) (smallest_normalized format * smallest_normalized format)
+          else (if format.ieee_flags then b else ltb d.pick (smallest_normalized format)))
+          then underflow_bit + inexact_bit else inexact_bit)))
+          (below_normal_agree format.precision (quanta * 2 ^ format.scale) p);
+    }
+
+-- a fact chosen by a test, with one of the two choices replaced by what it implies
+implied_choice : (test : Bool) (P Q R : Type 0) → (Q → R) → MatchBool test P Q → MatchBool test P R
+implied_choice true P Q R f h = h
+implied_choice false P Q R f h = f h
+
+-- so both modes to nearest give one root of each value of a format
+pub root_nearest : (format : Format) (x value : Datum) (status : ℕ) → 0 < format.precision → IsMember format x
+    → IsRoot format NearestTiesToEven x value status → IsRoot format NearestTiesToAway x value status
+root_nearest format (nan b s) value status p member h = h
+root_nearest format (infinite b) value status p member h = h
+root_nearest format (finite true n) value status p member h = h
+root_nearest format (finite false n) value status p member h =
+    implied_choice (eqb n 0) _ _ _ (λ d. nearest_agree format n value status p member.on_grid d) h

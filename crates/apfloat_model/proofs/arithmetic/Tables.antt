@@ -1,0 +1,139 @@
+-- The rows for zeros, in the tables of special operands, are exact results rounded once; and the rows for a right NaN.
+use Rattle.std.proofs.Common.{◌≡◌, ℕ, ◌*◌, ◌^◌, ◌<◌, Bool, true, false, sym, refl, ap, ◌∙◌, subst, lit<, arith}
+use Rattle.std.specs.Prelude.{ℤ, pos, ◌+ℤ◌}
+use Rattle.std.proofs.lemmas.Nat.{pow_pos}
+use Rattle.std.proofs.Math.Nat.{mul-pos}
+use Rattle.apfloat_model.specs.declared.kinds.Round.{Round}
+use Rattle.apfloat_model.specs.formats.Format.{Format}
+use Rattle.apfloat_model.specs.formats.Datum.{Datum, finite, infinite, nan}
+use Rattle.apfloat_model.specs.rounding.Rounding.{ok_bits, zero_sign, IsDelivered}
+use Rattle.apfloat_model.specs.formats.Members.{IsFiniteOf}
+use Rattle.apfloat_model.specs.arithmetic.Exact.{signed, product_sign, IsRounded}
+use Rattle.apfloat_model.specs.arithmetic.Sums.{zero_sum_sign, IsSum, IsDifference}
+use Rattle.apfloat_model.specs.arithmetic.Products.{IsProduct}
+use Rattle.apfloat_model.specs.formats.Nan.{IsOfNan}
+use Rattle.apfloat_model.specs.order.Classes.{is_nan}
+use Rattle.apfloat_model.specs.arithmetic.Remainders.{IsRemainder}
+use Rattle.apfloat_model.specs.arithmetic.Quotients.{IsQuotient}
+use Rattle.apfloat_model.specs.arithmetic.FusedSums.{IsFusedSum}
+use Rattle.apfloat_model.specs.arithmetic.Scaling.{IsScaling}
+use Rattle.apfloat_model.proofs.general.Choices.{not_zero}
+use Rattle.apfloat_model.proofs.texts.ZeroTexts.{zero_text}
+use Rattle.apfloat_model.proofs.rounding.Deliveries.{signed_some}
+use Rattle.apfloat_model.proofs.rounding.Laws.{exact_delivered, zero_delivered}
+use Rattle.apfloat_model.proofs.arithmetic.Signs.{no_sign, and_zero, zero_and, rounded_signed}
+
+-- ---- a nonzero finite datum, delivered
+
+-- a number of the format, as an exact result, is delivered unchanged
+pub itself : (format : Format) (mode : Round) (negative : Bool) (m parts amount : ℕ) → 0 < parts → 0 < m
+    → amount ≡ m * parts → IsFiniteOf format negative m
+    → IsDelivered format mode negative amount parts (finite negative m) ok_bits
+itself format mode b m parts amount p h e i =
+    subst (λ (v : Datum). IsDelivered format mode b amount parts v ok_bits) (signed_some format.nonfinite b m h)
+    (exact_delivered format mode b m amount parts p i.on_grid i.within e)
+
+-- ---- the rows
+
+-- a nonzero number plus a zero
+pub sum_finite_zero : (format : Format) (mode : Round) (left right : Bool) (m : ℕ) → 0 < m → IsFiniteOf format left m
+    → IsSum format mode (finite left m) (finite right 0) (finite left m) ok_bits
+sum_finite_zero format mode b c m h i =
+    rounded_signed format mode _ b m 1 _ _ _ (and_zero (signed b m) c) h
+    (itself format mode b m 1 m (lit< tt) h (omega arith) i)
+
+-- a zero plus a nonzero number
+pub sum_zero_finite : (format : Format) (mode : Round) (left right : Bool) (n : ℕ) → 0 < n → IsFiniteOf format right n
+    → IsSum format mode (finite left 0) (finite right n) (finite right n) ok_bits
+sum_zero_finite format mode b c n h i =
+    rounded_signed format mode _ c n 1 _ _ _ (zero_and b (signed c n)) h
+    (itself format mode c n 1 n (lit< tt) h (omega arith) i)
+
+-- a zero plus a zero
+pub sum_zeros : (format : Format) (mode : Round) (left right : Bool)
+    → IsSum format mode (finite left 0) (finite right 0)
+    (finite (zero_sign format.nonfinite (zero_sum_sign mode left right)) 0) ok_bits
+sum_zeros format mode true true = zero_delivered format mode _ 1 0 (lit< tt) refl
+sum_zeros format mode true false = zero_delivered format mode _ 1 0 (lit< tt) refl
+sum_zeros format mode false true = zero_delivered format mode _ 1 0 (lit< tt) refl
+sum_zeros format mode false false = zero_delivered format mode _ 1 0 (lit< tt) refl
+
+-- a product with a zero factor
+pub product_zero : (format : Format) (mode : Round) (left right : Bool) (m n : ℕ) → m * n ≡ 0
+    → IsProduct format mode (finite left m) (finite right n)
+    (finite (zero_sign format.nonfinite (product_sign left right)) 0) ok_bits
+product_zero format mode b c m n e = zero_delivered format mode (product_sign b c) (2 ^ format.scale) (m * n)
+    (pow_pos format.scale) e
+
+-- a zero divided by a nonzero number
+pub quotient_zero : (format : Format) (mode : Round) (left right : Bool) (n : ℕ) → 0 < n
+    → IsQuotient format mode (finite left 0) (finite right n)
+    (finite (zero_sign format.nonfinite (product_sign left right)) 0) ok_bits
+quotient_zero format mode b c n h =
+    rw (not_zero n h) (zero_delivered format mode (product_sign b c) n (0 * 2 ^ format.scale) h (omega arith))
+
+-- a zero times a power of two
+pub scaling_zero : (format : Format) (mode : Round) (negative : Bool) (j : ℤ)
+    → IsScaling format mode (finite negative 0) j (finite (zero_sign format.nonfinite negative) 0)
+scaling_zero format mode negative j = (ok_bits, zero_text format mode negative j)
+
+-- a product that is zero, plus a number
+pub fused_zero_finite : (format : Format) (mode : Round) (left right addend : Bool) (l m n : ℕ) → l * m ≡ 0 → 0 < n
+    → IsFiniteOf format addend n
+    → IsFusedSum format mode (finite left l) (finite right m) (finite addend n) (finite addend n) ok_bits
+fused_zero_finite format mode b c d l m n e h i =
+    let p : 0 < 2 ^ format.scale = pow_pos format.scale in
+    let z : signed (product_sign b c) (l * m) +ℤ signed d (n * 2 ^ format.scale) ≡ signed d (n * 2 ^ format.scale) =
+    ap (λ (x : ℕ). signed (product_sign b c) x +ℤ signed d (n * 2 ^ format.scale)) e ∙
+    zero_and (product_sign b c) (signed d (n * 2 ^ format.scale)) in
+    rounded_signed format mode _ d (n * 2 ^ format.scale) (2 ^ format.scale) _ _ _ z (mul-pos h p)
+    (itself format mode d n (2 ^ format.scale) (n * 2 ^ format.scale) p h refl i)
+
+-- the sum of two zeros, in any unit
+fused_zeros_at : (format : Format) (mode : Round) (product addend of_zero : Bool) (amount parts : ℕ) → amount ≡ 0
+    → 0 < parts
+    → IsRounded format mode of_zero (signed product amount +ℤ signed addend (0 * parts)) parts
+    (finite (zero_sign format.nonfinite of_zero) 0) ok_bits
+fused_zeros_at format mode b d o amount parts e p =
+    let z : signed b amount +ℤ signed d (0 * parts) ≡ pos 0 = ap (λ (x : ℕ). signed b x +ℤ signed d (0 * parts)) e ∙
+    zero_and b (signed d (0 * parts)) ∙ ap (λ (x : ℕ). signed d x) (omega arith) ∙ no_sign d in
+    subst (λ (x : ℤ). IsRounded format mode o x parts (finite (zero_sign format.nonfinite o) 0) ok_bits) (sym z)
+    (zero_delivered format mode o parts 0 p refl)
+
+-- a product that is zero, plus a zero
+pub fused_zeros : (format : Format) (mode : Round) (left right addend : Bool) (l m : ℕ) → l * m ≡ 0
+    → IsFusedSum format mode (finite left l) (finite right m) (finite addend 0)
+    (finite (zero_sign format.nonfinite (zero_sum_sign mode (product_sign left right) addend)) 0) ok_bits
+fused_zeros format mode b c d l m e =
+    fused_zeros_at format mode (product_sign b c) d _ (l * m) (2 ^ format.scale) e (pow_pos format.scale)
+
+-- ---- a right operand that is a NaN, and a left one that is not
+
+module _ (format : Format) (mode : Round) (negative : Bool) (t : ℕ) (value : Datum) (status : ℕ)
+    (is : IsOfNan format negative t value status) where
+  -- each of these operations returns the result for the NaN
+  pub sum_right_nan : (x : Datum) → is_nan x ≡ false → IsSum format mode x (nan negative t) value status
+  sum_right_nan (finite b m) e = is
+  sum_right_nan (infinite b) e = is
+  sum_right_nan (nan b s) e = cc
+
+  pub difference_right_nan : (x : Datum) → is_nan x ≡ false → IsDifference format mode x (nan negative t) value status
+  difference_right_nan (finite b m) e = is
+  difference_right_nan (infinite b) e = is
+  difference_right_nan (nan b s) e = cc
+
+  pub product_right_nan : (x : Datum) → is_nan x ≡ false → IsProduct format mode x (nan negative t) value status
+  product_right_nan (finite b m) e = is
+  product_right_nan (infinite b) e = is
+  product_right_nan (nan b s) e = cc
+
+  pub quotient_right_nan : (x : Datum) → is_nan x ≡ false → IsQuotient format mode x (nan negative t) value status
+  quotient_right_nan (finite b m) e = is
+  quotient_right_nan (infinite b) e = is
+  quotient_right_nan (nan b s) e = cc
+
+  pub remainder_right_nan : (quotient : ℕ → ℕ → ℕ) (x : Datum) → is_nan x ≡ false
+      → IsRemainder format quotient x (nan negative t) value status
+  remainder_right_nan quotient (finite b m) e = is
+  remainder_right_nan quotient (infinite b) e = is
+  remainder_right_nan quotient (nan b s) e = cc

@@ -1,0 +1,45 @@
+-- Bounds of the greatest significand.
+use Rattle.std.proofs.Common.{◌≡◌, ℕ, ◌-◌, ◌*◌, ◌^◌, ◌<◌, ◌≤◌, arith}
+use Rattle.std.proofs.Math.Nat.{pow-le-pow_right}
+use Rattle.std.proofs.lemmas.Nat.{pow_pos}
+use Rattle.apfloat_model.specs.declared.kinds.NonfiniteBehavior.{NonfiniteBehavior}
+use Rattle.apfloat_model.specs.declared.kinds.NonfiniteBehavior.TheVariants.{IEEE754, NanOnly, NanNegativeZero}
+use Rattle.apfloat_model.specs.formats.Format.{greatest_significand}
+use Rattle.apfloat_model.proofs.general.Powers.{two_pos, twice_half}
+
+-- the greatest significand has no more digits than the precision
+pub greatest_fits : (kind : NonfiniteBehavior) (precision : ℕ) → greatest_significand kind precision < 2 ^ precision
+greatest_fits IEEE754 precision = let p : 0 < 2 ^ precision = pow_pos precision in omega arith
+greatest_fits NanOnly precision = let p : 0 < 2 ^ precision = pow_pos precision in omega arith
+greatest_fits NanNegativeZero precision = let p : 0 < 2 ^ precision = pow_pos precision in omega arith
+
+-- it is all ones, or all ones except the last
+pub greatest_low : (kind : NonfiniteBehavior) (precision : ℕ)
+    → 2 ^ precision - 2 ≤ greatest_significand kind precision
+greatest_low IEEE754 precision = omega arith
+greatest_low NanOnly precision = omega arith
+greatest_low NanNegativeZero precision = omega arith
+
+-- it is at least half of the power of two past it
+pub greatest_half : (kind : NonfiniteBehavior) (precision : ℕ) → 3 ≤ precision
+    → 2 ^ precision ≤ 2 * greatest_significand kind precision
+greatest_half kind precision h =
+    let a : 2 ^ 3 ≤ 2 ^ precision = pow-le-pow_right two_pos h in
+    let l = greatest_low kind precision in
+    omega (arith, a, l)
+
+-- it has all the digits of the precision
+pub greatest_full : (kind : NonfiniteBehavior) (precision : ℕ) → 3 ≤ precision
+    → 2 ^ (precision - 1) ≤ greatest_significand kind precision
+greatest_full kind precision h =
+    let t : 2 * 2 ^ (precision - 1) ≡ 2 ^ precision = twice_half precision (omega (arith, h)) in
+    let a = greatest_half kind precision h in
+    omega (arith, t, a)
+
+-- it is not 0
+pub greatest_some : (kind : NonfiniteBehavior) (precision : ℕ) → 3 ≤ precision
+    → 0 < greatest_significand kind precision
+greatest_some kind precision h =
+    let p : 0 < 2 ^ (precision - 1) = pow_pos (precision - 1) in
+    let a = greatest_full kind precision h in
+    omega (arith, p, a)

@@ -1,0 +1,269 @@
+-- Where a rounding is exact, each mode has the same result.
+use Rattle.std.proofs.Common.{◌≡◌, ℕ, zero, suc, ◌+◌, ◌-◌, ◌*◌, ◌/◌, ◌%◌, ◌^◌, ◌<◌, Bool, true, false, ltb, eqb, sym, refl, ◌∙◌, subst, arith, ◌⊎◌, inl, inr, ⊎_elim, lit<, ap}
+use Rattle.std.specs.Prelude.{ℤ, pos, negsuc, ◌+ℤ◌, ◌-ℤ◌, if◌then◌else◌, List}
+use Rattle.std.specs.Bool.{MatchBool}
+use Rattle.std.proofs.lemmas.Nat.{pow_pos}
+use Rattle.std.proofs.lemmas.Bool.{ltb-false, eqb-true, eqb-false, cases_eq, eq-eqb, ne_eqb}
+use Rattle.apfloat_model.specs.declared.kinds.Round.{Round}
+use Rattle.apfloat_model.specs.formats.Format.{Format, largest}
+use Rattle.apfloat_model.specs.formats.Datum.{Datum, finite, infinite, nan}
+use Rattle.apfloat_model.specs.rounding.Grid.{IsOnGrid}
+use Rattle.apfloat_model.specs.rounding.Rounding.{takes_above, IsPick, ok_bits, overflow_bit, underflow_bit, inexact_bit, raises_overflow, is_tiny, zero_sign, signed_quanta, delivered_value, delivered_status, IsDelivered}
+use Rattle.apfloat_model.specs.rounding.Answer.{IsAnswer}
+use Rattle.apfloat_model.specs.rounding.Negation.{negated}
+use Rattle.apfloat_model.specs.order.Classes.{is_zero}
+use Rattle.apfloat_model.specs.arithmetic.Exact.{same_sign, product_sign, signed, magnitude, sign_of, IsRounded, down}
+use Rattle.apfloat_model.specs.arithmetic.Sums.{zero_sum_sign, IsSum, IsDifference}
+use Rattle.apfloat_model.specs.arithmetic.Conversions.{IsConversion}
+use Rattle.apfloat_model.specs.whole_numbers.WholeNumbers.{IsFromUnsigned, IsFromSigned}
+use Rattle.apfloat_model.specs.texts.Specials.{Meaning, infinity, not_a_number, hexadecimal}
+use Rattle.apfloat_model.specs.texts.Readings.{IsMeant, IsReading}
+use Rattle.apfloat_model.specs.arithmetic.Products.{IsProduct}
+use Rattle.apfloat_model.specs.arithmetic.Quotients.{IsQuotient}
+use Rattle.apfloat_model.specs.arithmetic.FusedSums.{IsSumWithProduct, IsFusedSum}
+use Rattle.apfloat_model.proofs.general.Choices.{if_case, not_zero}
+use Rattle.apfloat_model.proofs.rounding.Laws.{delivered_once, exact_delivered, zero_delivered}
+use Rattle.apfloat_model.proofs.texts.OneMeaning.{one_meaning}
+
+-- ---- a status that is OK
+
+past_not_ok : (out : Bool) → (if out then overflow_bit + inexact_bit else inexact_bit) ≡ ok_bits → ⊥
+past_not_ok true e = omega (arith, e)
+past_not_ok false e = omega (arith, e)
+
+lost_not_ok : (tiny : Bool) → (if tiny then underflow_bit + inexact_bit else inexact_bit) ≡ ok_bits → ⊥
+lost_not_ok true e = omega (arith, e)
+lost_not_ok false e = omega (arith, e)
+
+ok_tests : (past exact out tiny : Bool)
+    → (if past then (if out then overflow_bit + inexact_bit else inexact_bit)
+    else (if exact then ok_bits else (if tiny then underflow_bit + inexact_bit else inexact_bit))) ≡ ok_bits
+    → (past ≡ false) × (exact ≡ true)
+ok_tests true exact out tiny e = absurd (past_not_ok out e)
+ok_tests false true out tiny e = (refl, refl)
+ok_tests false false out tiny e = absurd (lost_not_ok tiny e)
+
+-- the pick is a number of the format, and is the magnitude
+ok_is_exact : (format : Format) (mode : Round) (negative : Bool) (amount parts pick : ℕ)
+    → delivered_status format mode negative amount parts pick ≡ ok_bits
+    → (ltb (largest format) pick ≡ false) × (pick * parts ≡ amount)
+ok_is_exact format mode negative amount parts pick e =
+    let t = ok_tests (ltb (largest format) pick) (eqb (pick * parts) amount) (raises_overflow format mode negative)
+    (is_tiny format mode negative amount parts pick) e in
+    (t.0, eqb-true (pick * parts) amount t.1)
+
+pick_on_grid : (precision : ℕ) (mode : Round) (negative : Bool) (amount parts pick : ℕ)
+    → IsPick precision mode negative amount parts pick → IsOnGrid precision pick
+pick_on_grid precision mode negative amount parts pick x =
+    subst (λ (point : ℕ). IsOnGrid precision point) (sym x.is)
+    (if_case (λ (point : ℕ). IsOnGrid precision point)
+    (takes_above mode negative (amount - x.below * parts) (x.above * parts - amount)
+    (eqb (x.below / (x.above - x.below) % 2) 1))
+    (λ above. x.is_above.on_grid) (λ below. x.is_below.on_grid))
+
+-- a rounding with status OK in one mode has that value, with status OK, in each mode
+pub ok_in_each_mode : (format : Format) (mode other : Round) (negative : Bool) (amount parts : ℕ) (value : Datum)
+    → 0 < parts → IsDelivered format mode negative amount parts value ok_bits
+    → IsDelivered format other negative amount parts value ok_bits
+ok_in_each_mode format mode other negative amount parts value p x =
+    let t = ok_is_exact format mode negative amount parts x.pick (sym x.status_is) in
+    let g = pick_on_grid format.precision mode negative amount parts x.pick x.is_pick in
+    let a : ltb (largest format) x.pick ≡ false = t.0 in
+    let v : delivered_value format mode negative x.pick ≡ signed_quanta format.nonfinite negative x.pick =
+    rw a refl in
+    subst (λ (d : Datum). IsDelivered format other negative amount parts d ok_bits) (sym (x.value_is ∙ v))
+    (exact_delivered format other negative x.pick amount parts p g (ltb-false (largest format) x.pick t.0) (sym t.1))
+
+-- ---- operations
+
+-- where the status is OK in one mode, each mode gives that value, with status OK
+abbrev pub AgreesWhereOk : (Round → Datum → ℕ → Type 0) → Type 0
+AgreesWhereOk R =
+    (mode other : Round) (value other_value : Datum) (status : ℕ)
+    → R mode value ok_bits → R other other_value status
+    → (other_value ≡ value) × (status ≡ ok_bits)
+
+pub delivered_agrees : (format : Format) (negative : Bool) (amount parts : ℕ) → 0 < parts
+    → AgreesWhereOk (λ mode. IsDelivered format mode negative amount parts)
+delivered_agrees format negative amount parts p mode other v w s x y =
+    delivered_once format other negative amount parts w v s ok_bits y
+    (ok_in_each_mode format mode other negative amount parts v p x)
+
+-- a result given outright, whatever the mode
+answer_agrees : (datum : Datum) (flags : ℕ) → AgreesWhereOk (λ mode. IsAnswer datum flags)
+answer_agrees datum flags mode other v w s x y = (y.value_is ∙ sym x.value_is, y.status_is ∙ sym x.status_is)
+
+-- of two such relations, the one that a test chooses
+match_agrees : (test : Bool) (P Q : Round → Datum → ℕ → Type 0) → (test ≡ true → AgreesWhereOk P)
+    → (test ≡ false → AgreesWhereOk Q) → AgreesWhereOk (λ mode v s. MatchBool test (P mode v s) (Q mode v s))
+match_agrees true P Q p q = p refl
+match_agrees false P Q p q = q refl
+
+pub product_agrees : (format : Format) (x y : Datum) → AgreesWhereOk (λ mode. IsProduct format mode x y)
+product_agrees format (nan b s) y = answer_agrees _ _
+product_agrees format (finite b m) (nan c t) = answer_agrees _ _
+product_agrees format (infinite b) (nan c t) = answer_agrees _ _
+product_agrees format (finite b m) (infinite c) =
+    match_agrees (eqb m 0) (λ mode. IsAnswer _ _) (λ mode. IsAnswer _ _) (λ e. answer_agrees _ _)
+    (λ e. answer_agrees _ _)
+product_agrees format (infinite b) (finite c n) =
+    match_agrees (eqb n 0) (λ mode. IsAnswer _ _) (λ mode. IsAnswer _ _) (λ e. answer_agrees _ _)
+    (λ e. answer_agrees _ _)
+product_agrees format (infinite b) (infinite c) = answer_agrees _ _
+product_agrees format (finite b m) (finite c n) =
+    delivered_agrees format (product_sign b c) (m * n) (2 ^ format.scale) (pow_pos format.scale)
+
+pub some : (n : ℕ) → eqb n 0 ≡ false → 0 < n
+some zero e = absurd (eqb-false 0 0 e refl)
+some (suc n) e = omega arith
+
+pub quotient_agrees : (format : Format) (x y : Datum) → AgreesWhereOk (λ mode. IsQuotient format mode x y)
+quotient_agrees format (nan b s) y = answer_agrees _ _
+quotient_agrees format (finite b m) (nan c t) = answer_agrees _ _
+quotient_agrees format (infinite b) (nan c t) = answer_agrees _ _
+quotient_agrees format (finite b m) (infinite c) = answer_agrees _ _
+quotient_agrees format (infinite b) (finite c n) = answer_agrees _ _
+quotient_agrees format (infinite b) (infinite c) = answer_agrees _ _
+quotient_agrees format (finite b m) (finite c n) =
+    match_agrees (eqb n 0) (λ mode v s. MatchBool (eqb m 0) (IsAnswer _ _ v s) (IsAnswer _ _ v s))
+    (λ mode. IsDelivered format mode (product_sign b c) (m * 2 ^ format.scale) n)
+    (λ e. match_agrees (eqb m 0) (λ mode. IsAnswer _ _) (λ mode. IsAnswer _ _) (λ e. answer_agrees _ _)
+    (λ e. answer_agrees _ _))
+    (λ e. delivered_agrees format (product_sign b c) (m * 2 ^ format.scale) n (some n e))
+
+pub from_unsigned_agrees : (format : Format) (number : ℕ)
+    → AgreesWhereOk (λ mode. IsFromUnsigned format mode number)
+from_unsigned_agrees format number = delivered_agrees format false (number * 2 ^ format.scale) 1 (lit< tt)
+
+pub from_signed_agrees : (format : Format) (number : ℤ) → AgreesWhereOk (λ mode. IsFromSigned format mode number)
+from_signed_agrees format number =
+    delivered_agrees format (sign_of false number) (magnitude number * 2 ^ format.scale) 1 (lit< tt)
+
+-- a conversion, whether or not it loses information
+pub conversion_agrees : (from into : Format) (x : Datum)
+    → AgreesWhereOk (λ mode value status. (loses : Bool) × IsConversion from into mode x value status loses)
+conversion_agrees from into (nan b t) = λ mode other v w s x y.
+    (y.1.value_is ∙ sym x.1.value_is, y.1.status_is ∙ sym x.1.status_is)
+conversion_agrees from into (infinite b) = λ mode other v w s x y.
+    (y.1.value_is ∙ sym x.1.value_is, y.1.status_is ∙ sym x.1.status_is)
+conversion_agrees from into (finite b zero) = λ mode other v w s x y.
+    (y.1.value_is ∙ sym x.1.value_is, y.1.status_is ∙ sym x.1.status_is)
+conversion_agrees from into (finite b (suc n)) =
+    rw (not_zero (suc n) (omega arith))
+    (λ mode other v w s x y. delivered_agrees into b (suc n * 2 ^ into.scale) (2 ^ from.scale)
+    (pow_pos from.scale) mode other v w s x.1.is_delivered y.1.is_delivered)
+
+meant_agrees : (format : Format) (meaning : Meaning) → AgreesWhereOk (λ mode. IsMeant format mode meaning)
+meant_agrees format (infinity negative) = answer_agrees _ _
+meant_agrees format (not_a_number negative signaling payload) = answer_agrees _ _
+meant_agrees format (hexadecimal negative h places e) =
+    delivered_agrees format negative _ (2 ^ down (e -ℤ pos (4 * places) +ℤ pos format.scale)) (pow_pos _)
+
+pub reading_agrees : (format : Format) (text : List ℕ) → AgreesWhereOk (λ mode. IsReading format mode text)
+reading_agrees format text mode other v w s h k =
+    let e = one_meaning text k.meaning h.meaning k.means h.means in
+    meant_agrees format h.meaning mode other v w s h.is_meant
+    (subst (λ (m : Meaning). IsMeant format other m w s) e k.is_meant)
+
+-- ---- sums: the sign of an exact zero depends on the mode
+
+abbrev pub AgreesButForZeros : (Round → Datum → ℕ → Type 0) → Type 0
+AgreesButForZeros R =
+    (mode other : Round) (value other_value : Datum) (status : ℕ)
+    → R mode value ok_bits → R other other_value status
+    → ((other_value ≡ value) ⊎ ((is_zero value ≡ true) × (is_zero other_value ≡ true)))
+    × (status ≡ ok_bits)
+
+agrees_too : (R : Round → Datum → ℕ → Type 0) → AgreesWhereOk R → AgreesButForZeros R
+agrees_too R h mode other v w s x y = let e = h mode other v w s x y in (inl e.0, e.1)
+
+zero_is : (format : Format) (mode : Round) (negative : Bool) (parts : ℕ) (value : Datum) (status : ℕ) → 0 < parts
+    → IsDelivered format mode negative 0 parts value status → (is_zero value ≡ true) × (status ≡ ok_bits)
+zero_is format mode negative parts v s p x =
+    let e = delivered_once format mode negative 0 parts v (finite (zero_sign format.nonfinite negative) 0) s ok_bits x
+    (zero_delivered format mode negative parts 0 p refl) in
+    (ap is_zero e.0, e.1)
+
+pub rounded_agrees : (format : Format) (of_zero : Round → Bool) (exact : ℤ) (parts : ℕ) → 0 < parts
+    → AgreesButForZeros (λ mode. IsRounded format mode (of_zero mode) exact parts)
+rounded_agrees format of_zero (pos zero) parts p = λ mode other v w s x y.
+    let a = zero_is format mode (of_zero mode) parts v ok_bits p x in
+    let b = zero_is format other (of_zero other) parts w s p y in
+    (inr (a.0, b.0), b.1)
+rounded_agrees format of_zero (pos (suc n)) parts p =
+    agrees_too _ (delivered_agrees format false (magnitude (pos (suc n))) parts p)
+rounded_agrees format of_zero (negsuc n) parts p =
+    agrees_too _ (delivered_agrees format true (magnitude (negsuc n)) parts p)
+
+pub sum_agrees : (format : Format) (x y : Datum) → AgreesButForZeros (λ mode. IsSum format mode x y)
+sum_agrees format (nan b s) y = agrees_too _ (answer_agrees _ _)
+sum_agrees format (finite b m) (nan c t) = agrees_too _ (answer_agrees _ _)
+sum_agrees format (infinite b) (nan c t) = agrees_too _ (answer_agrees _ _)
+sum_agrees format (infinite b) (infinite c) =
+    agrees_too _
+    (match_agrees (same_sign b c) (λ mode. IsAnswer _ _) (λ mode. IsAnswer _ _) (λ e. answer_agrees _ _)
+    (λ e. answer_agrees _ _))
+sum_agrees format (infinite b) (finite c n) = agrees_too _ (answer_agrees _ _)
+sum_agrees format (finite b m) (infinite c) = agrees_too _ (answer_agrees _ _)
+sum_agrees format (finite b m) (finite c n) =
+    rounded_agrees format (λ mode. zero_sum_sign mode b c) (signed b m +ℤ signed c n) 1 (lit< tt)
+
+pub difference_agrees : (format : Format) (x y : Datum) → AgreesButForZeros (λ mode. IsDifference format mode x y)
+difference_agrees format (nan b s) y = agrees_too _ (answer_agrees _ _)
+difference_agrees format (finite b m) (nan c t) = agrees_too _ (answer_agrees _ _)
+difference_agrees format (infinite b) (nan c t) = agrees_too _ (answer_agrees _ _)
+difference_agrees format (finite b m) (finite c n) = sum_agrees format (finite b m)
+    (negated format.nonfinite (finite c n))
+difference_agrees format (finite b m) (infinite c) = sum_agrees format (finite b m)
+    (negated format.nonfinite (infinite c))
+difference_agrees format (infinite b) (finite c n) = sum_agrees format (infinite b)
+    (negated format.nonfinite (finite c n))
+difference_agrees format (infinite b) (infinite c) = sum_agrees format (infinite b)
+    (negated format.nonfinite (infinite c))
+
+-- a fused sum with a special factor has status OK only if its product has
+flags_ok : (format : Format) (mode : Round) (product z value : Datum) (flags : ℕ)
+    → MatchBool (eqb flags ok_bits) (IsSum format mode product z value ok_bits)
+    (IsAnswer product flags value ok_bits)
+    → flags ≡ ok_bits
+flags_ok format mode product z value flags h =
+    ⊎_elim (λ (e : flags ≡ ok_bits). e)
+    (λ (n : flags ≡ ok_bits → ⊥).
+    let a : IsAnswer product flags value ok_bits =
+    subst
+    (λ (t : Bool). MatchBool t (IsSum format mode product z value ok_bits) (IsAnswer product flags value ok_bits))
+    (ne_eqb flags ok_bits n) h in
+    sym a.status_is)
+    (cases_eq flags ok_bits)
+
+-- and then it is the sum of the product and the addend
+pub added : (format : Format) (mode : Round) (product z value : Datum) (flags status : ℕ) → flags ≡ ok_bits
+    → MatchBool (eqb flags ok_bits) (IsSum format mode product z value status) (IsAnswer product flags value status)
+    → IsSum format mode product z value status
+added format mode product z value flags status e h =
+    subst (λ (t : Bool). MatchBool t (IsSum format mode product z value status) (IsAnswer product flags value status))
+    (eq-eqb flags ok_bits e) h
+
+-- if a factor is an infinity or a NaN: the product is the same in each mode, and so is what is added to it
+sum_with_product_agrees : (format : Format) (x y z : Datum)
+    → AgreesButForZeros (λ mode. IsSumWithProduct format mode x y z)
+sum_with_product_agrees format x y z mode other v w s h k =
+    let a : h.flags ≡ ok_bits = flags_ok format mode h.product z v h.flags h.is in
+    let product : IsProduct format mode x y h.product ok_bits =
+    subst (λ (t : ℕ). IsProduct format mode x y h.product t) a h.is_product in
+    let same = product_agrees format x y mode other h.product k.product k.flags product k.is_product in
+    let left = added format mode h.product z v h.flags ok_bits a h.is in
+    let right = added format other k.product z w k.flags s same.1 k.is in
+    sum_agrees format h.product z mode other v w s left
+    (subst (λ (d : Datum). IsSum format other d z w s) same.0 right)
+
+pub fused_sum_agrees : (format : Format) (x y z : Datum) → AgreesButForZeros (λ mode. IsFusedSum format mode x y z)
+fused_sum_agrees format (finite b l) (finite c m) (finite d n) =
+    rounded_agrees format (λ mode. zero_sum_sign mode (product_sign b c) d)
+    (signed (product_sign b c) (l * m) +ℤ signed d (n * 2 ^ format.scale)) (2 ^ format.scale) (pow_pos format.scale)
+fused_sum_agrees format (finite b l) (finite c m) (infinite d) = sum_agrees format (finite b l) (infinite d)
+fused_sum_agrees format (finite b l) (finite c m) (nan d t) = sum_agrees format (finite b l) (nan d t)
+fused_sum_agrees format (finite b l) (infinite c) z = sum_with_product_agrees format (finite b l) (infinite c) z
+fused_sum_agrees format (finite b l) (nan c t) z = sum_with_product_agrees format (finite b l) (nan c t) z
+fused_sum_agrees format (infinite b) y z = sum_with_product_agrees format (infinite b) y z
+fused_sum_agrees format (nan b u) y z = sum_with_product_agrees format (nan b u) y z

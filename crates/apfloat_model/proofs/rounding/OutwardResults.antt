@@ -1,0 +1,307 @@
+-- Results of an operation rounded downward and upward are in order, and equal exactly where they are exact.
+use Rattle.std.proofs.Common.{◌≡◌, ℕ, zero, suc, ◌*◌, ◌^◌, ◌<◌, ◌⊎◌, Bool, true, false, cond, eqb, sym, refl, ap, ◌∙◌, subst, inl, inr, ⊎_elim, lit<, arith}
+use Rattle.std.specs.Prelude.{not, ◌&&◌, ℤ, pos, negsuc, ◌+ℤ◌, ◌-ℤ◌, ◌≤ℤ◌, List}
+use Rattle.std.specs.Bool.{MatchBool}
+use Rattle.std.proofs.lemmas.Bool.{true≢false, false≢true}
+use Rattle.std.proofs.lemmas.Nat.{pow_pos}
+use Rattle.apfloat_model.specs.declared.kinds.NonfiniteBehavior.{NonfiniteBehavior}
+use Rattle.apfloat_model.specs.declared.kinds.NonfiniteBehavior.TheVariants.{IEEE754, NanOnly, NanNegativeZero}
+use Rattle.apfloat_model.specs.declared.kinds.Round.{Round}
+use Rattle.apfloat_model.specs.declared.kinds.Round.TheVariants.{TowardPositive, TowardNegative}
+use Rattle.apfloat_model.specs.arithmetic.Conversions.{has_infinities, converted_nan, IsConverted, IsConversion}
+use Rattle.apfloat_model.specs.arithmetic.Exact.{same_sign, product_sign, signed, magnitude, sign_of, IsRounded, down}
+use Rattle.apfloat_model.specs.arithmetic.FusedSums.{IsSumWithProduct, IsFusedSum}
+use Rattle.apfloat_model.specs.arithmetic.Products.{IsProduct}
+use Rattle.apfloat_model.specs.arithmetic.Quotients.{div_by_zero_bit, IsQuotient}
+use Rattle.apfloat_model.specs.arithmetic.Sums.{zero_sum_sign, IsSum, IsDifference}
+use Rattle.apfloat_model.specs.formats.Constants.{infinity_of}
+use Rattle.apfloat_model.specs.formats.Datum.{Datum, finite, infinite, nan}
+use Rattle.apfloat_model.specs.formats.Format.{Format, nan_base}
+use Rattle.apfloat_model.specs.formats.Nan.{invalid_bit, IsInvalid, quieted, quiet_significand}
+use Rattle.apfloat_model.specs.order.Classes.{is_finite, is_nan, is_zero}
+use Rattle.apfloat_model.specs.rounding.Answer.{IsAnswer}
+use Rattle.apfloat_model.specs.rounding.Negation.{negated}
+use Rattle.apfloat_model.specs.rounding.Rounding.{ok_bits, inexact_bit, past_largest, zero_sign, signed_quanta, IsDelivered}
+use Rattle.apfloat_model.specs.rounding.TwoModes.{AreBounds, IsOk, IsOkOrOfZero}
+use Rattle.apfloat_model.specs.texts.Readings.{read_nan, IsMeant, IsReading}
+use Rattle.apfloat_model.specs.texts.Specials.{Meaning, infinity, not_a_number, hexadecimal}
+use Rattle.apfloat_model.specs.whole_numbers.WholeNumbers.{IsFromUnsigned, IsFromSigned}
+use Rattle.apfloat_model.proofs.arithmetic.Signs.{no_sign}
+use Rattle.apfloat_model.proofs.general.Choices.{not_zero}
+use Rattle.apfloat_model.proofs.rounding.Laws.{delivered_once, zero_delivered}
+use Rattle.apfloat_model.proofs.rounding.ModesAgree.{some, added, product_agrees}
+use Rattle.apfloat_model.proofs.texts.OneMeaning.{one_meaning}
+use Rattle.apfloat_model.proofs.rounding.OutwardRoundings.{at_most_self, equal_to_self, equal_numbers, number_at_most, Encloses, delivered_encloses}
+
+-- a datum is a bound of itself
+one_bounds : (IsExact : ℕ → Type 0) (datum : Datum) (flags : ℕ) → IsExact flags → is_nan datum ≡ false
+    → AreBounds IsExact datum datum flags flags
+one_bounds IsExact datum flags e n =
+    record {
+      in_order = at_most_self datum n;
+      equal_by_low = (λ _. e, λ _. equal_to_self datum n);
+      equal_by_high = (λ _. e, λ _. equal_to_self datum n);
+    }
+
+-- a result given outright, whatever the mode, is exact or a NaN
+answer_encloses : (IsExact : ℕ → Type 0) (datum : Datum) (flags : ℕ)
+    → (is_nan datum ≡ false → IsExact flags) → Encloses IsExact (λ mode. IsAnswer datum flags)
+answer_encloses IsExact datum flags e low high s t d g n m =
+    let k : is_nan datum ≡ false = subst (λ (v : Datum). is_nan v ≡ false) d.value_is n in
+    rw (d.value_is, g.value_is, d.status_is, g.status_is) (one_bounds IsExact datum flags (e k) k)
+
+-- it has status OK
+ok_encloses : (datum : Datum) → Encloses IsOk (λ mode. IsAnswer datum ok_bits)
+ok_encloses datum = answer_encloses IsOk datum ok_bits (λ n. refl)
+
+-- or it is a NaN
+nan_encloses : (IsExact : ℕ → Type 0) (negative : Bool) (significand flags : ℕ)
+    → Encloses IsExact (λ mode. IsAnswer (nan negative significand) flags)
+nan_encloses IsExact negative significand flags =
+    answer_encloses IsExact (nan negative significand) flags (λ n. absurd (true≢false n))
+
+-- of two such relations, the one that a test chooses
+match_encloses : (IsExact : ℕ → Type 0) (test : Bool) (P Q : Round → Datum → ℕ → Type 0)
+    → (test ≡ true → Encloses IsExact P) → (test ≡ false → Encloses IsExact Q)
+    → Encloses IsExact (λ mode v s. MatchBool test (P mode v s) (Q mode v s))
+match_encloses IsExact true P Q p q = p refl
+match_encloses IsExact false P Q p q = q refl
+
+-- an invalid operation or a result given outright, as a test chooses
+invalid_or_encloses : (IsExact : ℕ → Type 0) (format : Format) (test : Bool) (datum : Datum) (flags : ℕ)
+    → (test ≡ false → is_nan datum ≡ false → IsExact flags)
+    → Encloses IsExact (λ mode v s. MatchBool test (IsInvalid format v s) (IsAnswer datum flags v s))
+invalid_or_encloses IsExact format test datum flags e =
+    match_encloses IsExact test (λ mode. IsInvalid format) (λ mode. IsAnswer datum flags)
+    (λ _. nan_encloses IsExact false (quiet_significand format 0) invalid_bit)
+    (λ t. answer_encloses IsExact datum flags (e t))
+
+pub product_encloses : (format : Format) (x y : Datum) → Encloses IsOk (λ mode. IsProduct format mode x y)
+product_encloses format (nan b s) y = nan_encloses IsOk b (quieted format s) _
+product_encloses format (finite b m) (nan c t) = nan_encloses IsOk c (quieted format t) _
+product_encloses format (infinite b) (nan c t) = nan_encloses IsOk c (quieted format t) _
+product_encloses format (finite b m) (infinite c) =
+    invalid_or_encloses IsOk format (eqb m 0) (infinite (product_sign b c)) ok_bits (λ e n. refl)
+product_encloses format (infinite b) (finite c n) =
+    invalid_or_encloses IsOk format (eqb n 0) (infinite (product_sign b c)) ok_bits (λ e n. refl)
+product_encloses format (infinite b) (infinite c) = ok_encloses (infinite (product_sign b c))
+product_encloses format (finite b m) (finite c n) =
+    delivered_encloses format (product_sign b c) (m * n) (2 ^ format.scale) (pow_pos format.scale)
+
+-- where the operand is not a zero, only status OK is exact
+exact_by_ok : (operand low high : Datum) (s t : ℕ) → is_zero operand ≡ false → AreBounds IsOk low high s t
+    → AreBounds (IsOkOrOfZero operand) low high s t
+exact_by_ok operand low high s t z b =
+    record {
+      in_order = b.in_order;
+      equal_by_low = (
+        λ e. inl (b.equal_by_low.0 e),
+        ⊎_elim b.equal_by_low.1 (λ (y : is_zero operand ≡ true). absurd (true≢false (sym y ∙ z))),
+      );
+      equal_by_high = (
+        λ e. inl (b.equal_by_high.0 e),
+        ⊎_elim b.equal_by_high.1 (λ (y : is_zero operand ≡ true). absurd (true≢false (sym y ∙ z))),
+      );
+    }
+
+pub quotient_encloses : (format : Format) (x y : Datum)
+    → Encloses (IsOkOrOfZero y) (λ mode. IsQuotient format mode x y)
+quotient_encloses format (nan b s) y = nan_encloses (IsOkOrOfZero y) b (quieted format s) _
+quotient_encloses format (finite b m) (nan c t) = nan_encloses (IsOkOrOfZero (nan c t)) c (quieted format t) _
+quotient_encloses format (infinite b) (nan c t) = nan_encloses (IsOkOrOfZero (nan c t)) c (quieted format t) _
+quotient_encloses format (finite b m) (infinite c) =
+    answer_encloses (IsOkOrOfZero (infinite c)) (signed_quanta format.nonfinite (product_sign b c) 0) ok_bits
+    (λ n. inl refl)
+quotient_encloses format (infinite b) (finite c n) =
+    answer_encloses (IsOkOrOfZero (finite c n)) (infinite (product_sign b c)) ok_bits (λ n. inl refl)
+quotient_encloses format (infinite b) (infinite c) =
+    nan_encloses (IsOkOrOfZero (infinite c)) false (quiet_significand format 0) invalid_bit
+quotient_encloses format (finite b m) (finite c n) =
+    match_encloses (IsOkOrOfZero (finite c n)) (eqb n 0)
+    (λ mode v s. MatchBool (eqb m 0) (IsInvalid format v s)
+    (IsAnswer (infinity_of format (product_sign b c)) div_by_zero_bit v s))
+    (λ mode. IsDelivered format mode (product_sign b c) (m * 2 ^ format.scale) n)
+    (λ e. invalid_or_encloses (IsOkOrOfZero (finite c n)) format (eqb m 0) (infinity_of format (product_sign b c))
+    div_by_zero_bit (λ _ _. inr e))
+    (λ e low high s t d g k l. exact_by_ok (finite c n) low high s t e
+    (delivered_encloses format (product_sign b c) (m * 2 ^ format.scale) n (some n e) low high s t d g k l))
+
+pub from_unsigned_encloses : (format : Format) (number : ℕ)
+    → Encloses IsOk (λ mode. IsFromUnsigned format mode number)
+from_unsigned_encloses format number = delivered_encloses format false (number * 2 ^ format.scale) 1 (lit< tt)
+
+pub from_signed_encloses : (format : Format) (number : ℤ)
+    → Encloses IsOk (λ mode. IsFromSigned format mode number)
+from_signed_encloses format number =
+    delivered_encloses format (sign_of false number) (magnitude number * 2 ^ format.scale) 1 (lit< tt)
+
+-- infinities that the format has are kept, with status OK
+kept_infinity : (kind : NonfiniteBehavior) (base : ℕ) (negative : Bool)
+    → is_nan (past_largest kind base negative) ≡ false
+    → cond (not (has_infinities kind)) inexact_bit ok_bits ≡ ok_bits
+kept_infinity IEEE754 base negative n = refl
+kept_infinity NanOnly base negative n = absurd (true≢false n)
+kept_infinity NanNegativeZero base negative n = absurd (true≢false n)
+
+-- a result given outright, whatever the mode, and what it loses
+converted_encloses : (IsExact : ℕ → Type 0) (datum : Datum) (flags : ℕ) (losing : Bool)
+    → (is_nan datum ≡ false → IsExact flags)
+    → Encloses IsExact (λ mode value status. (loses : Bool) × IsConverted datum flags losing value status loses)
+converted_encloses IsExact datum flags losing e low high s t d g =
+    answer_encloses IsExact datum flags e low high s t
+    (record { value_is = d.1.value_is; status_is = d.1.status_is })
+    (record { value_is = g.1.value_is; status_is = g.1.status_is })
+
+-- a conversion, whether or not it loses information
+pub conversion_encloses : (from into : Format) (x : Datum)
+    → Encloses (IsOkOrOfZero x)
+    (λ mode value status. (loses : Bool) × IsConversion from into mode x value status loses)
+conversion_encloses from into (nan b t) =
+    converted_encloses (IsOkOrOfZero (nan b t)) (converted_nan from into b t) _ _ (λ n. absurd (true≢false n))
+conversion_encloses from into (infinite b) =
+    converted_encloses (IsOkOrOfZero (infinite b)) (infinity_of into b) _ _
+    (λ n. inl (kept_infinity into.nonfinite (nan_base into) b n))
+conversion_encloses from into (finite b zero) =
+    converted_encloses (IsOkOrOfZero (finite b 0)) (finite (zero_sign into.nonfinite b) 0) _ _ (λ n. inr refl)
+conversion_encloses from into (finite b (suc n)) =
+    rw (not_zero (suc n) (omega arith))
+    (λ low high s t d g k l. exact_by_ok (finite b (suc n)) low high s t (not_zero (suc n) (omega arith))
+    (delivered_encloses into b (suc n * 2 ^ into.scale) (2 ^ from.scale) (pow_pos from.scale) low high s t
+    d.1.is_delivered g.1.is_delivered k l))
+
+pub meant_encloses : (format : Format) (meaning : Meaning) → Encloses IsOk (λ mode. IsMeant format mode meaning)
+meant_encloses format (infinity negative) = ok_encloses (infinity_of format negative)
+meant_encloses format (not_a_number negative signaling payload) =
+    ok_encloses (read_nan format negative signaling payload)
+meant_encloses format (hexadecimal negative h places e) =
+    delivered_encloses format negative _ (2 ^ down (e -ℤ pos (4 * places) +ℤ pos format.scale)) (pow_pos _)
+
+pub reading_encloses : (format : Format) (text : List ℕ) → Encloses IsOk (λ mode. IsReading format mode text)
+reading_encloses format text low high s t d g n m =
+    let e = one_meaning text g.meaning d.meaning g.means d.means in
+    meant_encloses format d.meaning low high s t d.is_meant
+    (subst (λ (x : Meaning). IsMeant format TowardPositive x high t) e g.is_meant) n m
+
+-- ---- sums: the sign of an exact zero depends on the mode
+
+-- two zeros are equal
+zeros_are_bounds : (left right : Bool) → AreBounds IsOk (finite left 0) (finite right 0) ok_bits ok_bits
+zeros_are_bounds left right =
+    let e : signed left 0 ≡ signed right 0 = no_sign left ∙ sym (no_sign right) in
+    let equal = (equal_numbers (signed left 0) (signed right 0)).1 e in
+    record {
+      in_order = subst (λ (z : ℤ). signed left 0 ≤ℤ z) e (number_at_most (signed left 0));
+      equal_by_low = (λ _. refl, λ _. equal);
+      equal_by_high = (λ _. refl, λ _. equal);
+    }
+
+zero_is : (format : Format) (mode : Round) (negative : Bool) (parts : ℕ) (value : Datum) (status : ℕ) → 0 < parts
+    → IsDelivered format mode negative 0 parts value status
+    → (value ≡ finite (zero_sign format.nonfinite negative) 0) × (status ≡ ok_bits)
+zero_is format mode negative parts v s p x =
+    delivered_once format mode negative 0 parts v _ s ok_bits x (zero_delivered format mode negative parts 0 p refl)
+
+pub rounded_encloses : (format : Format) (of_zero : Round → Bool) (exact : ℤ) (parts : ℕ) → 0 < parts
+    → Encloses IsOk (λ mode. IsRounded format mode (of_zero mode) exact parts)
+rounded_encloses format of_zero (pos zero) parts p = λ low high s t d g n m.
+    let a = zero_is format TowardNegative (of_zero TowardNegative) parts low s p d in
+    let b = zero_is format TowardPositive (of_zero TowardPositive) parts high t p g in
+    rw (a.0, a.1, b.0, b.1) (zeros_are_bounds _ _)
+rounded_encloses format of_zero (pos (suc n)) parts p =
+    delivered_encloses format false (magnitude (pos (suc n))) parts p
+rounded_encloses format of_zero (negsuc n) parts p =
+    delivered_encloses format true (magnitude (negsuc n)) parts p
+
+pub sum_encloses : (format : Format) (x y : Datum) → Encloses IsOk (λ mode. IsSum format mode x y)
+sum_encloses format (nan b s) y = nan_encloses IsOk b (quieted format s) _
+sum_encloses format (finite b m) (nan c t) = nan_encloses IsOk c (quieted format t) _
+sum_encloses format (infinite b) (nan c t) = nan_encloses IsOk c (quieted format t) _
+sum_encloses format (infinite b) (infinite c) =
+    match_encloses IsOk (same_sign b c) (λ mode. IsAnswer (infinite b) ok_bits) (λ mode. IsInvalid format)
+    (λ e. ok_encloses (infinite b))
+    (λ e. nan_encloses IsOk false (quiet_significand format 0) invalid_bit)
+sum_encloses format (infinite b) (finite c n) = ok_encloses (infinite b)
+sum_encloses format (finite b m) (infinite c) = ok_encloses (infinite c)
+sum_encloses format (finite b m) (finite c n) =
+    rounded_encloses format (λ mode. zero_sum_sign mode b c) (signed b m +ℤ signed c n) 1 (lit< tt)
+
+pub difference_encloses : (format : Format) (x y : Datum) → Encloses IsOk (λ mode. IsDifference format mode x y)
+difference_encloses format (nan b s) y = nan_encloses IsOk b (quieted format s) _
+difference_encloses format (finite b m) (nan c t) = nan_encloses IsOk c (quieted format t) _
+difference_encloses format (infinite b) (nan c t) = nan_encloses IsOk c (quieted format t) _
+difference_encloses format (finite b m) (finite c n) = sum_encloses format (finite b m)
+    (negated format.nonfinite (finite c n))
+difference_encloses format (finite b m) (infinite c) = sum_encloses format (finite b m)
+    (negated format.nonfinite (infinite c))
+difference_encloses format (infinite b) (finite c n) = sum_encloses format (infinite b)
+    (negated format.nonfinite (finite c n))
+difference_encloses format (infinite b) (infinite c) = sum_encloses format (infinite b)
+    (negated format.nonfinite (infinite c))
+
+-- the product of operands that are not both numbers is a NaN, or has status OK
+invalid_or_ok : (format : Format) (test : Bool) (datum value : Datum) (status : ℕ)
+    → MatchBool test (IsInvalid format value status) (IsAnswer datum ok_bits value status)
+    → (is_nan value ≡ true) ⊎ (status ≡ ok_bits)
+invalid_or_ok format true datum v s h = inl (ap is_nan h.value_is)
+invalid_or_ok format false datum v s h = inr h.status_is
+
+special_product : (format : Format) (mode : Round) (x y value : Datum) (status : ℕ)
+    → is_finite x && is_finite y ≡ false → IsProduct format mode x y value status
+    → (is_nan value ≡ true) ⊎ (status ≡ ok_bits)
+special_product format mode (nan b u) y v s n h = inl (ap is_nan h.value_is)
+special_product format mode (finite b m) (nan c u) v s n h = inl (ap is_nan h.value_is)
+special_product format mode (infinite b) (nan c u) v s n h = inl (ap is_nan h.value_is)
+special_product format mode (finite b m) (infinite c) v s n h =
+    invalid_or_ok format (eqb m 0) (infinite (product_sign b c)) v s h
+special_product format mode (infinite b) (finite c k) v s n h =
+    invalid_or_ok format (eqb k 0) (infinite (product_sign b c)) v s h
+special_product format mode (infinite b) (infinite c) v s n h = inr h.status_is
+special_product format mode (finite b m) (finite c k) v s n h = absurd (true≢false n)
+
+-- a sum with a NaN is one
+nan_stays : (format : Format) (mode : Round) (test : Bool) (product z value : Datum) (flags status : ℕ)
+    → is_nan product ≡ true
+    → MatchBool test (IsSum format mode product z value status) (IsAnswer product flags value status)
+    → is_nan value ≡ true
+nan_stays format mode true (nan b u) z v f s e h = ap is_nan h.value_is
+nan_stays format mode false (nan b u) z v f s e h = ap is_nan h.value_is
+nan_stays format mode test (finite b m) z v f s e h = absurd (false≢true e)
+nan_stays format mode test (infinite b) z v f s e h = absurd (false≢true e)
+
+-- so a fused sum that is not a NaN has a product with status OK
+product_ok : (format : Format) (mode : Round) (x y z value : Datum) (status : ℕ)
+    → is_finite x && is_finite y ≡ false → is_nan value ≡ false
+    → (h : IsSumWithProduct format mode x y z value status) → h.flags ≡ ok_bits
+product_ok format mode x y z v s special n h =
+    ⊎_elim
+    (λ (e : is_nan h.product ≡ true).
+    absurd (true≢false (sym (nan_stays format mode (eqb h.flags ok_bits) h.product z v h.flags s e h.is) ∙ n)))
+    (λ (e : h.flags ≡ ok_bits). e)
+    (special_product format mode x y h.product h.flags special h.is_product)
+
+sum_with_product_encloses : (format : Format) (x y z : Datum) → is_finite x && is_finite y ≡ false
+    → Encloses IsOk (λ mode. IsSumWithProduct format mode x y z)
+sum_with_product_encloses format x y z special low high s t d g n m =
+    let e : d.flags ≡ ok_bits = product_ok format TowardNegative x y z low s special n d in
+    let f : g.flags ≡ ok_bits = product_ok format TowardPositive x y z high t special m g in
+    let product : IsProduct format TowardNegative x y d.product ok_bits =
+    subst (λ (i : ℕ). IsProduct format TowardNegative x y d.product i) e d.is_product in
+    let same = product_agrees format x y TowardNegative TowardPositive d.product g.product g.flags product
+    g.is_product in
+    let left = added format TowardNegative d.product z low d.flags s e d.is in
+    let right = added format TowardPositive g.product z high g.flags t f g.is in
+    sum_encloses format d.product z low high s t left
+    (subst (λ (v : Datum). IsSum format TowardPositive v z high t) same.0 right) n m
+
+pub fused_sum_encloses : (format : Format) (x y z : Datum) → Encloses IsOk (λ mode. IsFusedSum format mode x y z)
+fused_sum_encloses format (finite b l) (finite c m) (finite d n) =
+    rounded_encloses format (λ mode. zero_sum_sign mode (product_sign b c) d)
+    (signed (product_sign b c) (l * m) +ℤ signed d (n * 2 ^ format.scale)) (2 ^ format.scale) (pow_pos format.scale)
+fused_sum_encloses format (finite b l) (finite c m) (infinite d) = sum_encloses format (finite b l) (infinite d)
+fused_sum_encloses format (finite b l) (finite c m) (nan d t) = sum_encloses format (finite b l) (nan d t)
+fused_sum_encloses format (finite b l) (infinite c) z =
+    sum_with_product_encloses format (finite b l) (infinite c) z refl
+fused_sum_encloses format (finite b l) (nan c t) z =
+    sum_with_product_encloses format (finite b l) (nan c t) z refl
+fused_sum_encloses format (infinite b) y z = sum_with_product_encloses format (infinite b) y z refl
+fused_sum_encloses format (nan b u) y z = sum_with_product_encloses format (nan b u) y z refl

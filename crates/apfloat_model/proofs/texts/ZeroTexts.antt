@@ -1,0 +1,16 @@
+-- A hexadecimal text of 0 is read as the zero of its sign, whatever its exponent.
+use mathlib.Core.Bool.{Bool}
+use Rattle.std.proofs.Common.{◌*◌, ◌^◌, arith, pow_pos, ℤ}
+use Rattle.apfloat_model.specs.declared.kinds.Round.{Round}
+use Rattle.apfloat_model.specs.formats.Format.{Format}
+use Rattle.apfloat_model.specs.formats.Datum.{finite}
+use Rattle.apfloat_model.specs.rounding.Rounding.{zero_sign}
+use Rattle.apfloat_model.specs.arithmetic.Exact.{up, down}
+use Rattle.apfloat_model.specs.texts.Readings.{IsScaledDelivery}
+use Rattle.apfloat_model.proofs.rounding.Laws.{zero_delivered}
+
+-- 0 times a power of two is a zero, of that sign if the format has one
+pub zero_text : (format : Format) (mode : Round) (negative : Bool) (power : ℤ)
+    → IsScaledDelivery format mode negative 0 power (finite (zero_sign format.nonfinite negative) 0) 0
+zero_text format mode negative power =
+    zero_delivered format mode negative (2 ^ down power) (0 * 2 ^ up power) (pow_pos (down power)) (omega arith)

@@ -1,0 +1,12 @@
+pub mod Exact
+pub mod Sums
+pub mod Products
+pub mod Quotients
+pub mod Roots
+pub mod FusedSums
+pub mod Remainders
+pub mod Exponents
+pub mod Scaling
+pub mod NextUp
+pub mod Signs
+pub mod Conversions

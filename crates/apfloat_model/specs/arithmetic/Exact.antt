@@ -1,0 +1,33 @@
+-- Exact results: a signed whole number divided by a whole number.
+use Rattle.std.specs.Prelude.{ℕ, zero, suc, ◌+◌, Bool, true, false, not, ℤ, pos, negsuc, neg_ℤ}
+use Rattle.apfloat_model.specs.declared.kinds.Round.{Round}
+use Rattle.apfloat_model.specs.formats.Format.{Format}
+use Rattle.apfloat_model.specs.formats.Datum.{Datum}
+use Rattle.apfloat_model.specs.rounding.Rounding.{IsDelivered}
+pub use borrow.Author.Differences.{up, down}
+
+abbrev pub same_sign : Bool → Bool → Bool
+same_sign true right = right
+same_sign false right = not right
+
+-- the sign of a product or a quotient (IEEE 754-2008 6.3)
+abbrev pub product_sign : Bool → Bool → Bool
+product_sign left right = not (same_sign left right)
+
+abbrev pub signed : Bool → ℕ → ℤ
+signed true n = neg_ℤ (pos n)
+signed false n = pos n
+
+abbrev pub magnitude : ℤ → ℕ
+magnitude z = up z + down z
+
+-- true for minus; `of_zero` is the sign if the result is exactly zero
+abbrev pub sign_of : Bool → ℤ → Bool
+sign_of of_zero (pos zero) = of_zero
+sign_of of_zero (pos (suc n)) = false
+sign_of of_zero (negsuc n) = true
+
+-- the exact result, which is exact / parts quanta, rounded once
+abbrev pub IsRounded : Format → Round → Bool → ℤ → ℕ → Datum → ℕ → Type 0
+IsRounded f mode of_zero exact parts value status =
+    IsDelivered f mode (sign_of of_zero exact) (magnitude exact) parts value status

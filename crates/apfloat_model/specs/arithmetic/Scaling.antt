@@ -1,0 +1,13 @@
+-- A datum times 2 to the power j (IEEE 754-2008 5.3.3, scaleB), rounded once; its status is not returned.
+use Rattle.std.specs.Prelude.{◌≡◌, ℕ, ◌*◌, ◌^◌, ℤ}
+use Rattle.apfloat_model.specs.declared.kinds.Round.{Round}
+use Rattle.apfloat_model.specs.formats.Format.{Format}
+use Rattle.apfloat_model.specs.formats.Datum.{Datum, finite, infinite, nan}
+use Rattle.apfloat_model.specs.rounding.Rounding.{IsDelivered}
+use Rattle.apfloat_model.specs.formats.Nan.{quieted}
+use Rattle.apfloat_model.specs.arithmetic.Exact.{up, down}
+
+abbrev pub IsScaling : Format → Round → Datum → ℤ → Datum → Type 0
+IsScaling f mode (nan b s) j value = value ≡ nan b (quieted f s)
+IsScaling f mode (infinite b) j value = value ≡ infinite b
+IsScaling f mode (finite b n) j value = (status : ℕ) × IsDelivered f mode b (n * 2 ^ up j) (2 ^ down j) value status

@@ -1,0 +1,11 @@
+pub mod Grid
+pub mod Rounding
+pub mod Answer
+pub mod Negation
+pub mod Flags
+pub mod RaisedFlags
+pub mod Standing
+pub mod RoundingToOdd
+pub mod Enclosure
+pub mod Bounds
+pub mod TwoModes

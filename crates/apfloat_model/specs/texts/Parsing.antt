@@ -1,0 +1,19 @@
+-- What a function that reads a text returns (IEEE 754-2008 5.12).
+use Rattle.std.specs.Prelude.{ℕ, List, Result, Ok, Err}
+use Rattle.apfloat_model.specs.declared.kinds.Round.{Round}
+use Rattle.apfloat_model.specs.declared.parse_error.ParseError.{ParseError}
+use Rattle.apfloat_model.specs.declared.status.StatusAnd.{StatusAnd}
+use Rattle.apfloat_model.specs.rounding.Flags.{Gives}
+use Rattle.apfloat_model.specs.formats.Format.{Format}
+use Rattle.apfloat_model.specs.formats.Datum.{Datum}
+use Rattle.apfloat_model.specs.texts.Readings.{IsReading, IsRefusal}
+
+-- the value and the status of the text's meaning, or a refusal with the words for its first fault
+abbrev pub IsRead : Format → Round → List ℕ → Result (StatusAnd Datum) ParseError → Type 0
+IsRead f mode text (Ok answer) = Gives (IsReading f mode text) answer
+IsRead f mode text (Err error) = IsRefusal text error.0.now
+
+-- a result without its status
+abbrev pub without_status : {A E : Type 0} → Result (StatusAnd A) E → Result A E
+without_status (Ok answer) = Ok answer.value
+without_status (Err error) = Err error

@@ -1,0 +1,41 @@
+-- From whole numbers, and rounding to a whole number (IEEE 754-2008 5.4.1 convertFromInt, 5.3.1 and 5.9
+-- roundToIntegral).
+use Rattle.std.specs.Prelude.{ℕ, ◌+◌, ◌*◌, ◌/◌, ◌%◌, ◌^◌, Bool, false, eqb, ℤ, if◌then◌else◌}
+use Rattle.apfloat_model.specs.declared.kinds.Round.{Round}
+use Rattle.apfloat_model.specs.formats.Format.{Format}
+use Rattle.apfloat_model.specs.formats.Datum.{Datum, finite, infinite, nan}
+use Rattle.apfloat_model.specs.rounding.Rounding.{ok_bits, inexact_bit, pick_between, signed_quanta, IsDelivered}
+use Rattle.apfloat_model.specs.rounding.Answer.{IsAnswer}
+use Rattle.apfloat_model.specs.formats.Nan.{IsOfNan}
+use Rattle.apfloat_model.specs.arithmetic.Exact.{sign_of, magnitude}
+
+-- ---- in: a whole number times 2 ^ scale is its count of quanta
+
+abbrev pub IsFromUnsigned : Format → Round → ℕ → Datum → ℕ → Type 0
+IsFromUnsigned f mode number value status = IsDelivered f mode false (number * 2 ^ f.scale) 1 value status
+
+abbrev pub IsFromSigned : Format → Round → ℤ → Datum → ℕ → Type 0
+IsFromSigned f mode number value status =
+    IsDelivered f mode (sign_of false number) (magnitude number * 2 ^ f.scale) 1 value status
+
+-- ---- the whole number that the mode picks for amount / parts; its neighbours are whole numbers
+
+abbrev pub whole_pick : Round → Bool → ℕ → ℕ → ℕ
+whole_pick mode negative amount parts =
+    if eqb (amount % parts) 0
+    then amount / parts
+    else pick_between mode negative (amount / parts) (amount / parts + 1) amount parts
+
+-- the whole number that the mode picks for `quanta` quanta, in quanta
+abbrev pub whole_quanta : Format → Round → Bool → ℕ → ℕ
+whole_quanta f mode negative quanta = whole_pick mode negative quanta (2 ^ f.scale) * 2 ^ f.scale
+
+abbrev pub inexact_unless : Bool → ℕ
+inexact_unless exact = if exact then ok_bits else inexact_bit
+
+abbrev pub IsRoundToIntegral : Format → Round → Datum → Datum → ℕ → Type 0
+IsRoundToIntegral f mode (nan b s) value status = IsOfNan f b s value status
+IsRoundToIntegral f mode (infinite b) value status = IsAnswer (infinite b) ok_bits value status
+IsRoundToIntegral f mode (finite b n) value status =
+    IsAnswer (signed_quanta f.nonfinite b (whole_quanta f mode b n))
+    (inexact_unless (eqb (whole_quanta f mode b n) n)) value status

@@ -1,5 +1,0 @@
-use Rattle.std.proofs.Common.{rules}
-use Rattle.apfloat_unpacked.proofs.exponents.one_lower.Goals as goal
-
-pub returns : goal.returns
-returns c = search rules steps 500000

@@ -1,4 +1,0 @@
-use Rattle.apfloat_unpacked.proofs.nans.is_signaling.Goals as goal
-
-pub returns-in-Infinity : goal.returns-in-Infinity
-returns-in-Infinity c = rw c.in-Infinity.is

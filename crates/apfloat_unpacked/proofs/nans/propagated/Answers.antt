@@ -1,5 +1,0 @@
-use Rattle.std.proofs.Common.{rules}
-use Rattle.apfloat_unpacked.proofs.nans.propagated.Goals as goal
-
-pub returns-clause-delivered : goal.returns-clause-delivered
-returns-clause-delivered c = search rules steps 500000

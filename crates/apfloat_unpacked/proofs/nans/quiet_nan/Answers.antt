@@ -1,5 +1,0 @@
-use Rattle.std.proofs.Common.{rules}
-use Rattle.apfloat_unpacked.proofs.nans.quiet_nan.Goals as goal
-
-pub returns-clause-datum : goal.returns-clause-datum
-returns-clause-datum c = search rules steps 500000

@@ -1,8 +1,0 @@
-use Rattle.apfloat_unpacked.specs.Shapes.{format_at}
-use Rattle.apfloat_base.proofs.formats.NanMembers.{quiet_member}
-use Rattle.apfloat_unpacked.proofs.nans.quiet_significand.Goals as goal
-
-pub returns-clause-nan : goal.returns-clause-nan
-returns-clause-nan c =
-    rw c.nan_base.ensures rw c.quiet_bits.ensures rw c.payload_mask.ensures
-    (quiet_member (format_at c.args.shape) c.args.payload c.args.shape.parameters.precision_low)

@@ -1,4 +1,0 @@
-use Rattle.apfloat_unpacked.proofs.nans.signals.Goals as goal
-
-pub returns : goal.returns
-returns c = rw c.quiet_bits-bits.ensures

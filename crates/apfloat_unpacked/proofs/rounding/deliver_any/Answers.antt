@@ -1,8 +1,0 @@
-use Rattle.std.proofs.Common.{w32}
-use Rattle.std.proofs.lemmas.Int.{to_z-of_z}
-use Rattle.apfloat_unpacked.proofs.rounding.deliver_any.Goals as goal
-
-pub returns-clause-delivered : goal.returns-clause-delivered
-returns-clause-delivered c =
-    let e = to_z-of_z w32 c.args.exponent c.ranges.exponent in
-    rw e at c.deliver.ensures.delivered

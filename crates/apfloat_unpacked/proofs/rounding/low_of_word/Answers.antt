@@ -1,5 +1,0 @@
-use Rattle.std.proofs.lemmas.Nat.{and_mask}
-use Rattle.apfloat_unpacked.proofs.rounding.low_of_word.Goals as goal
-
-pub returns : goal.returns
-returns c = rw c.word_power.ensures (and_mask c.args.word c.args.places)

@@ -1,5 +1,0 @@
-use Rattle.std.proofs.Common.{rules}
-use Rattle.apfloat_unpacked.proofs.unpacked.infinity_of.Goals as goal
-
-pub returns-in-NanOnly-clause-datum : goal.returns-in-NanOnly-clause-datum
-returns-in-NanOnly-clause-datum c = search rules steps 500000

@@ -1,0 +1,11 @@
+pub mod Divisions
+pub mod LongDivisions
+pub mod RootSteps
+pub mod Estimates
+pub mod PowerRests
+pub mod Totals
+pub mod WideNumbers
+pub mod WideTotals
+pub mod OddTotals
+pub mod Orders
+pub mod LowestOnes

@@ -1,0 +1,3 @@
+pub mod RootStanding
+pub mod Totals
+pub mod Wides

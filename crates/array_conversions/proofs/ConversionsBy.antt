@@ -1,0 +1,44 @@
+-- Values converted with what an overflow gives, and the largest value of a sign.
+use Rattle.std.proofs.Common.{◌≡◌, ℕ, ◌<◌, Bool, true, false, List, refl, subst, sym}
+use Rattle.apfloat_model.specs.declared.kinds.NonfiniteBehavior.{NonfiniteBehavior}
+use Rattle.rustc_apfloat.specs.declared.Round.{Round}
+use Rattle.rustc_apfloat.specs.Flags.{bits_of}
+use Rattle.rustc_apfloat.specs.Datum.{Datum, finite}
+use Rattle.rustc_apfloat.specs.Classes.{is_nan}
+use Rattle.rustc_apfloat.specs.Lawful.{Constants, format_with, layout_with}
+use Rattle.rustc_apfloat.specs.Layout.{datum_of, IsEncodedBy}
+use Rattle.rustc_apfloat.specs.Negation.{negated}
+use Rattle.array_conversions.specs.declared.converted.Converted.{Converted}
+use Rattle.array_conversions.specs.declared.counts.Outcome.{Outcome}
+use Rattle.array_conversions.specs.declared.saturation.Overflow.{Overflow}
+use Rattle.array_conversions.specs.declared.saturation.Overflow.TheVariants.{Rounded, Saturated}
+use Rattle.array_conversions.specs.Bytes.{number_of}
+use Rattle.array_conversions.specs.Saturation.{IsConversionBy}
+use Rattle.array_conversions.specs.Values.{IsAnswerFrom, IsConvertedBy}
+use Rattle.apfloat_model.proofs.general.Choices.{not_zero}
+
+-- a value, its bytes and its outcome make a converted value, whatever an overflow gives
+converted_by : (overflow : Overflow) (c d : Constants) (mode : Round) (input output : List ℕ) (outcome : Outcome)
+    (value : Datum) (loses : Bool)
+    → IsConversionBy overflow (format_with c) (format_with d) mode
+    (datum_of (format_with c) (layout_with c) (number_of input)) value (bits_of outcome.status) loses
+    → IsEncodedBy (format_with d) (layout_with d) (number_of output) value
+    → outcome.is_nan ≡ is_nan value
+    → IsConvertedBy overflow c d mode input output outcome
+converted_by Rounded c d mode input output outcome value loses conversion encoded nan =
+    record { value = value; loses = loses; is_conversion = conversion; is_encoded = encoded; nan_is = nan }
+converted_by Saturated c d mode input output outcome value loses conversion encoded nan =
+    record { value = value; loses = loses; is_conversion = conversion; is_encoded = encoded; nan_is = nan }
+
+-- an answer from the bits that are read, whose bits are written
+pub converted_from : (overflow : Overflow) (c d : Constants) (mode : Round) (input output : List ℕ) (answer : Converted)
+    → IsAnswerFrom overflow c d mode (number_of input) answer → number_of output ≡ answer.bits
+    → IsConvertedBy overflow c d mode input output answer.outcome
+converted_from overflow c d mode input output answer it written =
+    converted_by overflow c d mode input output answer.outcome it.value it.loses it.is_conversion
+    (subst (λ (n : ℕ). IsEncodedBy (format_with d) (layout_with d) n it.value) (sym written) it.is_encoded) it.nan_is
+
+-- a number that is not 0 is negated by its sign
+pub negated_some : (kind : NonfiniteBehavior) (quanta : ℕ) → 0 < quanta
+    → negated kind (finite false quanta) ≡ finite true quanta
+negated_some kind quanta some = rw (not_zero quanta some) refl

@@ -1,0 +1,327 @@
+-- Numbers far out of the range of a format: how their bits are read, on which side they are, and what they become.
+use Rattle.std.proofs.Common.{◌≡◌, ℕ, ◌+◌, ◌-◌, ◌*◌, ◌%◌, ◌^◌, ◌<◌, ◌≤◌, Bool, true, false, not, ◌&&◌, ◌||◌, eqb, List, [], ◌∷◌, Option, Some, None, refl, ⊎_elim, subst, sym, ap, ◌∙◌, arith, lit<, ℤ, pos, neg_ℤ, ◌+ℤ◌, ◌-ℤ◌, ◌≤ℤ◌}
+use Rattle.std.specs.Prelude.{IsTrue, IsSomeAnd, slice_get, slice_index_or}
+use Rattle.std.specs.Bool.{MatchBool}
+use Rattle.std.proofs.Math.Nat.{mul-le-mul_right, mul-lt-mul_of_pos_right, mul-pos, pow-le-pow_right}
+use Rattle.std.proofs.lemmas.Int.{ints}
+use Rattle.std.proofs.lemmas.Nat.{pow-add, pow_pos, mod_below}
+use Rattle.std.proofs.lemmas.Option.{get_or_from_slice_get}
+use Rattle.std.proofs.lemmas.Bool.{false≢true, cases_lt, and_left, cond-false, ne_eqb}
+use Rattle.apfloat_model.specs.declared.kinds.NonfiniteBehavior.{NonfiniteBehavior}
+use Rattle.apfloat_model.specs.declared.kinds.NonfiniteBehavior.TheVariants.{IEEE754, NanOnly, NanNegativeZero}
+use Rattle.apfloat_model.specs.declared.loss.Loss.TheVariants.{ExactlyZero}
+use Rattle.rustc_apfloat.specs.declared.Round.{Round}
+use Rattle.rustc_apfloat.specs.Format.{Format}
+use Rattle.rustc_apfloat.specs.Datum.{Datum, finite}
+use Rattle.rustc_apfloat.specs.Flags.{bits_of}
+use Rattle.rustc_apfloat.specs.Lawful.{Constants, IsLawful, AreParameters, format_with, layout_with}
+use Rattle.rustc_apfloat.specs.Layout.{Layout, all_ones, trailing_bits, fields_of, implied_datum, datum_of}
+use Rattle.rustc_apfloat.specs.Rounding.{IsDelivered, ok_bits}
+use Rattle.rustc_apfloat.specs.Standing.{StandsFor, up, down}
+use Rattle.apfloat_model.proofs.general.Powers.{two_pos, twice_half}
+use Rattle.apfloat_model.proofs.bits.EncodedOnce.{fields_with}
+use Rattle.apfloat_model.proofs.bits.Encodings.{lawful_interchange}
+use Rattle.apfloat_model.proofs.rounding.FarMagnitudes.{far_above, far_below}
+use Rattle.array_conversions.specs.declared.converted.Converted.{Converted}
+use Rattle.array_conversions.specs.declared.saturation.Overflow.{Overflow}
+use Rattle.array_conversions.specs.declared.saturation.Overflow.TheVariants.{Rounded, Saturated}
+use Rattle.array_conversions.specs.Saturation.{IsConversionBy}
+use Rattle.array_conversions.specs.Values.{IsAnswerFrom}
+use Rattle.array_conversions.specs.FarNumbers.{AnswersFar, AreFarAnswers, IsFar, IsFarPlace, far_place, with_overflow}
+
+-- ---- the number that bits encode
+
+-- the significand of a number with these fields, at its place
+abbrev pub quanta_of : ℕ → ℕ → ℕ → ℕ
+quanta_of precision biased trailing = (2 ^ (precision - 1) + trailing) * 2 ^ (biased - 1)
+
+-- fields between those of zeros and those of the greatest exponent are those of a number, in each kind of format
+number_of_fields : (kind : NonfiniteBehavior) (f : Format) (layout : Layout) (negative : Bool) (biased trailing : ℕ)
+    → eqb biased 0 ≡ false → eqb biased (all_ones layout.exponent_bits) ≡ false
+    → implied_datum kind f layout (fields_with negative biased trailing)
+    ≡ finite negative (quanta_of f.precision biased trailing)
+number_of_fields IEEE754 f layout negative biased trailing some few = rw (few, some) refl
+number_of_fields NanOnly f layout negative biased trailing some few = rw (few, some) refl
+number_of_fields NanNegativeZero f layout true biased trailing some few =
+    rw (and_left (eqb biased 0) (eqb trailing 0) some, some) refl
+number_of_fields NanNegativeZero f layout false biased trailing some few = rw some refl
+
+pub number_read : (c : Constants) (bits : ℕ) → c.explicit_integer_bit ≡ false
+    → 0 < (fields_of (format_with c) (layout_with c) bits).biased_exponent
+    → (fields_of (format_with c) (layout_with c) bits).biased_exponent + 1 < 2 ^ c.exp_bits
+    → datum_of (format_with c) (layout_with c) bits
+    ≡ finite (fields_of (format_with c) (layout_with c) bits).negative
+    (quanta_of c.precision (fields_of (format_with c) (layout_with c) bits).biased_exponent
+    (fields_of (format_with c) (layout_with c) bits).trailing)
+number_read c bits implied some few =
+    let x = fields_of (format_with c) (layout_with c) bits in
+    cond-false c.explicit_integer_bit _ _ implied
+    ∙ number_of_fields c.nonfinite (format_with c) (layout_with c) x.negative x.biased_exponent x.trailing
+    (ne_eqb x.biased_exponent 0 (λ e. omega arith))
+    (ne_eqb x.biased_exponent (all_ones c.exp_bits) (λ e. omega arith))
+
+pub trailing_low : (c : Constants) (bits : ℕ) → c.explicit_integer_bit ≡ false
+    → (fields_of (format_with c) (layout_with c) bits).trailing < 2 ^ (c.precision - 1)
+trailing_low c bits implied =
+    let low : bits % 2 ^ trailing_bits (format_with c) < 2 ^ trailing_bits (format_with c) =
+    mod_below bits (2 ^ trailing_bits (format_with c)) (pow_pos (trailing_bits (format_with c))) in
+    let width : trailing_bits (format_with c) ≡ c.precision - 1 = cond-false c.explicit_integer_bit _ _ implied in
+    let same : 2 ^ trailing_bits (format_with c) ≡ 2 ^ (c.precision - 1) = ap (λ (n : ℕ). 2 ^ n) width in
+    omega arith
+
+-- ---- the side that a number is on
+
+pub quanta_some : (precision biased trailing : ℕ) → 0 < quanta_of precision biased trailing
+quanta_some precision biased trailing =
+    let whole : 0 < 2 ^ (precision - 1) = pow_pos (precision - 1) in
+    let some : 0 < 2 ^ (precision - 1) + trailing = omega arith in
+    mul-pos some (pow_pos (biased - 1))
+
+-- three powers of two
+scaled : (c d e : ℕ) → 2 ^ (c + d + e) ≡ 2 ^ c * 2 ^ d * 2 ^ e
+scaled c d e = pow-add 2 (c + d) e ∙ ap (λ (n : ℕ). n * 2 ^ e) (pow-add 2 c d)
+
+past_by : (top from precision biased trailing scale : ℕ) → top + from ≤ precision - 1 + (biased - 1) + scale
+    → 2 ^ top * 2 ^ from ≤ quanta_of precision biased trailing * 2 ^ scale
+past_by top from precision biased trailing scale far =
+    let low : 2 ^ (top + from) ≤ 2 ^ (precision - 1 + (biased - 1) + scale) = pow-le-pow_right two_pos far in
+    let left : 2 ^ (top + from) ≡ 2 ^ top * 2 ^ from = pow-add 2 top from in
+    let right : 2 ^ (precision - 1 + (biased - 1) + scale) ≡ 2 ^ (precision - 1) * 2 ^ (biased - 1) * 2 ^ scale =
+    scaled (precision - 1) (biased - 1) scale in
+    let more : 2 ^ (precision - 1) ≤ 2 ^ (precision - 1) + trailing = omega arith in
+    let placed : 2 ^ (precision - 1) * 2 ^ (biased - 1) ≤ (2 ^ (precision - 1) + trailing) * 2 ^ (biased - 1) =
+    mul-le-mul_right (2 ^ (biased - 1)) more in
+    let all : 2 ^ (precision - 1) * 2 ^ (biased - 1) * 2 ^ scale
+    ≤ (2 ^ (precision - 1) + trailing) * 2 ^ (biased - 1) * 2 ^ scale =
+    mul-le-mul_right (2 ^ scale) placed in
+    omega arith
+
+little_by : (from precision biased trailing scale : ℕ) → 1 ≤ precision → trailing < 2 ^ (precision - 1)
+    → precision + (biased - 1) + scale + 1 ≤ from
+    → 2 * (quanta_of precision biased trailing * 2 ^ scale) < 2 ^ from
+little_by from precision biased trailing scale some low far =
+    let high : 2 ^ (precision + (biased - 1) + scale + 1) ≤ 2 ^ from = pow-le-pow_right two_pos far in
+    let right : 2 ^ (precision + (biased - 1) + scale) ≡ 2 ^ precision * 2 ^ (biased - 1) * 2 ^ scale =
+    scaled precision (biased - 1) scale in
+    let twice : 2 ^ (precision + (biased - 1) + scale + 1) ≡ 2 ^ (precision + (biased - 1) + scale) * 2 =
+    pow-add 2 (precision + (biased - 1) + scale) 1 in
+    let halves : 2 * 2 ^ (precision - 1) ≡ 2 ^ precision = twice_half precision some in
+    let less : 2 ^ (precision - 1) + trailing < 2 ^ precision = omega arith in
+    let placed : (2 ^ (precision - 1) + trailing) * 2 ^ (biased - 1) < 2 ^ precision * 2 ^ (biased - 1) =
+    mul-lt-mul_of_pos_right less (pow_pos (biased - 1)) in
+    let all : (2 ^ (precision - 1) + trailing) * 2 ^ (biased - 1) * 2 ^ scale
+    < 2 ^ precision * 2 ^ (biased - 1) * 2 ^ scale =
+    mul-lt-mul_of_pos_right placed (pow_pos scale) in
+    omega arith
+
+-- the quantum of a format is 2 ^ -scale
+scale_is : (c : Constants) → AreParameters c.precision c.min_exp c.max_exp
+    → pos (format_with c).scale ≡ pos (c.precision - 1) -ℤ c.min_exp
+scale_is c are = omega (arith, ints, are.precision_low, are.min_exp_high)
+
+span_is : (c : Constants) → AreParameters c.precision c.min_exp c.max_exp
+    → pos (format_with c).span ≡ c.max_exp -ℤ c.min_exp
+span_is c are = omega (arith, ints, are)
+
+-- a number whose exponent is past the greatest one is past all values
+pub past_far : (c d : Constants) (biased trailing : ℕ) → IsLawful c → IsLawful d → 0 < biased
+    → (d.max_exp +ℤ pos 2) ≤ℤ (c.min_exp +ℤ pos biased)
+    → 2 ^ ((format_with d).precision + (format_with d).span) * 2 ^ (format_with c).scale
+    ≤ quanta_of c.precision biased trailing * 2 ^ (format_with d).scale
+past_far c d biased trailing lawful_c lawful_d some far =
+    let pc = lawful_c.parameters in
+    let pd = lawful_d.parameters in
+    let from = scale_is c pc in
+    let to = scale_is d pd in
+    let span = span_is d pd in
+    past_by (d.precision + (format_with d).span) (format_with c).scale c.precision biased trailing
+    (format_with d).scale (omega (arith, ints, pc.precision_low, pd.precision_low, from, to, span, far))
+
+-- and one below the least by more than the precision is below half of the least value
+pub little_far : (c d : Constants) (biased trailing : ℕ) → IsLawful c → IsLawful d → 0 < biased
+    → trailing < 2 ^ (c.precision - 1)
+    → (c.min_exp +ℤ pos biased) ≤ℤ (d.min_exp -ℤ pos d.precision)
+    → 2 * (quanta_of c.precision biased trailing * 2 ^ (format_with d).scale) < 2 ^ (format_with c).scale
+little_far c d biased trailing lawful_c lawful_d some low far =
+    let pc = lawful_c.parameters in
+    let pd = lawful_d.parameters in
+    let from = scale_is c pc in
+    let to = scale_is d pd in
+    let precise : 1 ≤ c.precision = omega (arith, pc.precision_low) in
+    little_by (format_with c).scale c.precision biased trailing (format_with d).scale precise low
+    (omega (arith, ints, pc.precision_low, pd.precision_low, from, to, far))
+
+-- biased exponents are few
+pub few_biased : (c : Constants) → IsLawful c → c.precision < c.bits → 2 ^ c.exp_bits < 2 ^ 22
+few_biased c lawful wide =
+    let are = lawful.parameters in
+    let span = span_is c are in
+    let all = (lawful_interchange c lawful wide).span in
+    omega (arith, ints, are, span, all)
+
+pub few_bits : (c : Constants) → IsLawful c → c.precision < c.bits → c.exp_bits < 22
+few_bits c lawful wide =
+    ⊎_elim (λ (few : c.exp_bits < 22). few)
+    (λ (many : 22 ≤ c.exp_bits).
+    let more : 2 ^ 22 ≤ 2 ^ c.exp_bits = pow-le-pow_right two_pos many in
+    let less = few_biased c lawful wide in
+    absurd (omega arith))
+    (cases_lt c.exp_bits 22)
+
+abbrev biased_of : Constants → ℕ → ℕ
+biased_of c bits = (fields_of (format_with c) (layout_with c) bits).biased_exponent
+
+abbrev trailing_of : Constants → ℕ → ℕ
+trailing_of c bits = (fields_of (format_with c) (layout_with c) bits).trailing
+
+-- bits that pass the tests are those of a number on that side
+pub placed : (c d : Constants) (bits place : ℕ) (past little number : Bool) → IsLawful c → IsLawful d
+    → c.explicit_integer_bit ≡ false
+    → (IsTrue past → (d.max_exp +ℤ pos 2) ≤ℤ (c.min_exp +ℤ pos (biased_of c bits)))
+    → (IsTrue little → (c.min_exp +ℤ pos (biased_of c bits)) ≤ℤ (d.min_exp -ℤ pos d.precision))
+    → (IsTrue number → (0 < biased_of c bits) × (biased_of c bits + 1 < 2 ^ c.exp_bits))
+    → IsTrue ((past || little) && number)
+    → place ≡ far_place past (fields_of (format_with c) (layout_with c) bits).negative
+    → IsFarPlace c d bits place
+placed c d bits place true little true lawful_c lawful_d implied is_past is_little is_number both is =
+    let between = is_number refl in
+    record {
+      past = true;
+      negative = (fields_of (format_with c) (layout_with c) bits).negative;
+      quanta = quanta_of c.precision (biased_of c bits) (trailing_of c bits);
+      place_is = is;
+      read = number_read c bits implied between.0 between.1;
+      some = quanta_some c.precision (biased_of c bits) (trailing_of c bits);
+      far =
+          record {
+            some = pow_pos (format_with c).scale;
+            from = past_far c d (biased_of c bits) (trailing_of c bits) lawful_c lawful_d between.0 (is_past refl);
+          };
+    }
+placed c d bits place false true true lawful_c lawful_d implied is_past is_little is_number both is =
+    let between = is_number refl in
+    record {
+      past = false;
+      negative = (fields_of (format_with c) (layout_with c) bits).negative;
+      quanta = quanta_of c.precision (biased_of c bits) (trailing_of c bits);
+      place_is = is;
+      read = number_read c bits implied between.0 between.1;
+      some = quanta_some c.precision (biased_of c bits) (trailing_of c bits);
+      far =
+          record {
+            some =
+                mul-pos (quanta_some c.precision (biased_of c bits) (trailing_of c bits))
+                (pow_pos (format_with d).scale);
+            to =
+                little_far c d (biased_of c bits) (trailing_of c bits) lawful_c lawful_d between.0
+                (trailing_low c bits implied) (is_little refl);
+          };
+    }
+placed c d bits place true little false lawful_c lawful_d implied is_past is_little is_number both is =
+    absurd (false≢true both)
+placed c d bits place false true false lawful_c lawful_d implied is_past is_little is_number both is =
+    absurd (false≢true both)
+placed c d bits place false false number lawful_c lawful_d implied is_past is_little is_number both is =
+    absurd (false≢true both)
+
+-- the lowest digits of bits, as many as biased exponents have
+pub biased_fits : (c : Constants) (bits digits result : ℕ) → IsLawful c → c.precision < c.bits
+    → result ≡ bits % 2 ^ digits → digits ≡ c.exp_bits → result < 2 ^ 22
+biased_fits c bits digits result lawful wide is all =
+    let low : bits % 2 ^ digits < 2 ^ digits = mod_below bits (2 ^ digits) (pow_pos digits) in
+    let same : 2 ^ digits ≡ 2 ^ c.exp_bits = ap (λ (n : ℕ). 2 ^ n) all in
+    let few = few_biased c lawful wide in
+    omega arith
+
+-- ---- the answers
+
+-- what is delivered of one power of two on a side is delivered of all magnitudes there
+pub far_delivered : (past : Bool) (format : Format) (mode : Round) (negative : Bool) (unit : ℤ) (value : Datum)
+    (status : ℕ) → 0 < format.precision
+    → MatchBool past (unit ≡ pos (format.precision + format.span)) (unit ≡ neg_ℤ (pos 2))
+    → ((amount parts : ℕ) → 0 < parts
+    → StandsFor 1 ExactlyZero (amount * 2 ^ down unit) (parts * 2 ^ up unit)
+    → IsDelivered format mode negative amount parts value status)
+    → (amount parts : ℕ) → IsFar past format amount parts
+    → IsDelivered format mode negative amount parts value status
+far_delivered true format mode negative unit value status some is known amount parts far =
+    let top : ℕ = 2 ^ (format.precision + format.span) in
+    let one : IsDelivered format mode negative (2 ^ (format.precision + format.span)) 1 value status =
+    known (2 ^ (format.precision + format.span)) 1 (lit< tt)
+    (subst (λ (u : ℤ). 2 ^ (format.precision + format.span) * 2 ^ down u ≡ 1 * (1 * 2 ^ up u)) (sym is) (omega arith))
+    in
+    far_above format mode negative (2 ^ (format.precision + format.span)) 1 amount parts value status some
+    (record { some = lit< tt; from = omega arith }) (record { some = far.some; from = far.from }) one
+far_delivered false format mode negative unit value status some is known amount parts far =
+    let one : IsDelivered format mode negative 1 4 value status =
+    known 1 4 (lit< tt) (subst (λ (u : ℤ). 1 * 2 ^ down u ≡ 1 * (4 * 2 ^ up u)) (sym is) (omega arith)) in
+    far_below format mode negative 1 4 amount parts value status some
+    (record { some = lit< tt; to = lit< tt }) (record { some = far.some; to = far.to }) one
+
+-- a number, not 0, that is delivered is converted, whatever an overflow gives
+number_converted : (overflow : Overflow) (f g : Format) (mode : Round) (negative : Bool) (quanta : ℕ)
+    (rounded : Datum) (status : ℕ) → 0 < quanta
+    → IsDelivered g mode negative (quanta * 2 ^ g.scale) (2 ^ f.scale) rounded status
+    → IsConversionBy overflow f g mode (finite negative quanta) (with_overflow overflow g negative rounded) status
+    (not (eqb status ok_bits))
+number_converted Rounded f g mode negative quanta rounded status some delivered =
+    rw (ne_eqb quanta 0 (λ e. omega arith)) (record { is_delivered = delivered; loses_is = refl })
+number_converted Saturated f g mode negative quanta rounded status some delivered =
+    record {
+      rounded = rounded;
+      is_conversion = rw (ne_eqb quanta 0 (λ e. omega arith)) (record { is_delivered = delivered; loses_is = refl });
+      value_is = refl;
+    }
+
+-- what is at a place that holds something
+held : (found : Option Converted) (Says : Converted → Type 0) → IsSomeAnd found Says
+    → (answer : Converted) × (found ≡ Some answer) × Says answer
+held None Says said = absurd said
+held (Some answer) Says said = (answer, refl, said)
+
+-- an answer to the number that bits encode
+answered_by : (overflow : Overflow) (c d : Constants) (mode : Round) (bits place : ℕ) (answer : Converted)
+    (far : IsFarPlace c d bits place)
+    → AnswersFar overflow d mode far.past far.negative answer
+    → IsAnswerFrom overflow c d mode bits answer
+answered_by overflow c d mode bits place answer far all =
+    let it = all (far.quanta * 2 ^ (format_with d).scale) (2 ^ (format_with c).scale) far.far in
+    record {
+      value = with_overflow overflow (format_with d) far.negative it.rounded;
+      loses = not (eqb (bits_of answer.outcome.status) ok_bits);
+      is_conversion =
+          subst
+          (λ (x : Datum). IsConversionBy overflow (format_with c) (format_with d) mode x
+          (with_overflow overflow (format_with d) far.negative it.rounded) (bits_of answer.outcome.status)
+          (not (eqb (bits_of answer.outcome.status) ok_bits)))
+          (sym far.read)
+          (number_converted overflow (format_with c) (format_with d) mode far.negative far.quanta it.rounded
+          (bits_of answer.outcome.status) far.some it.is_delivered);
+      is_encoded = it.is_encoded;
+      nan_is = it.nan_is;
+    }
+
+-- the answer at the place of a number far out is that of the number
+pub answered_far : (overflow : Overflow) (c d : Constants) (mode : Round) (bits place : ℕ) (answers : List Converted)
+    (none : Converted) → AreFarAnswers overflow d mode answers → IsFarPlace c d bits place
+    → IsAnswerFrom overflow c d mode bits (slice_index_or answers place none)
+answered_far overflow c d mode bits place answers none are far =
+    let Says : ℕ → Type 0 = λ n. IsSomeAnd (slice_get answers n)
+    (λ a. AnswersFar overflow d mode far.past far.negative a) in
+    let here : Says place = subst Says (sym far.place_is) (are far.past far.negative) in
+    let it = held (slice_get answers place) (λ a. AnswersFar overflow d mode far.past far.negative a) here in
+    let same : slice_index_or answers place none ≡ it.0 = get_or_from_slice_get answers place it.0 none it.1 in
+    subst (λ (a : Converted). IsAnswerFrom overflow c d mode bits a) (sym same)
+    (answered_by overflow c d mode bits place it.0 far it.2)
+
+-- four answers, each for its side and its sign
+pub four_answers : (overflow : Overflow) (d : Constants) (mode : Round) (a b e f : Converted)
+    → AnswersFar overflow d mode false false a → AnswersFar overflow d mode false true b
+    → AnswersFar overflow d mode true false e → AnswersFar overflow d mode true true f
+    → (past negative : Bool)
+    → IsSomeAnd (slice_get (a ∷ b ∷ e ∷ f ∷ []) (far_place past negative))
+    (λ answer. AnswersFar overflow d mode past negative answer)
+four_answers overflow d mode a b e f p q r s false false = p
+four_answers overflow d mode a b e f p q r s false true = q
+four_answers overflow d mode a b e f p q r s true false = r
+four_answers overflow d mode a b e f p q r s true true = s

@@ -1,0 +1,16 @@
+use Rattle.std.proofs.Common.{List, Option, subst}
+use Rattle.std.specs.Prelude.{IfSome}
+use Rattle.rustc_apfloat.specs.FlaggedTypes.{constants_of}
+use Rattle.array_conversions.specs.declared.converted.Converted.{Converted}
+use Rattle.array_conversions.specs.FarNumbers.{AreFarAnswers}
+use Rattle.array_conversions.proofs.FarNumbers.{answered_far}
+use Rattle.array_conversions.proofs.one_value.convert_bits.Goals as goal
+
+pub returns-in-Some-far_place : goal.returns-in-Some-far_place
+returns-in-Some-far_place g c =
+    answered_far c.args.overflow (constants_of g.S.Flagged) (constants_of g.T.Flagged) c.args.round c.args.bits
+    c.in-Some-far_place.place c.in-Some.answers _
+    (subst
+    (λ (o : Option (List Converted)). IfSome o (AreFarAnswers c.args.overflow (constants_of g.T.Flagged) c.args.round))
+    c.in-Some.is c.requires.far)
+    c.in-Some-far_place.ensures.place

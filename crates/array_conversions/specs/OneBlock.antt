@@ -1,0 +1,24 @@
+-- A block of values is converted in one way.
+use Rattle.std.specs.Prelude.{◌≡◌, ℕ, ◌*◌, ◌<◌, List, length}
+use Rattle.rustc_apfloat.specs.declared.Round.{Round}
+use Rattle.rustc_apfloat.specs.Lawful.{Constants, IsLawful}
+use Rattle.array_conversions.specs.declared.counts.Counts.{Counts}
+use Rattle.array_conversions.specs.declared.saturation.Overflow.{Overflow}
+use Rattle.array_conversions.specs.Blocks.{IsBlock}
+use Rattle.array_conversions.specs.Bytes.{AreBytes}
+use Rattle.array_conversions.specs.Values.{IsConvertedBy}
+
+-- bytes for so many values of that width
+pub record AreBytesOf (width count : ℕ) (bytes : List ℕ) : Type 0 where
+  pub are_bytes : AreBytes bytes
+  pub size : length bytes ≡ count * width
+
+-- for a lawful format with bits, two outputs that are the block of one input have the same bytes and the same counts
+abbrev pub IsBlockOnce : Type 0
+IsBlockOnce =
+    (overflow : Overflow) (c d : Constants) (mode : Round) (source target count : ℕ)
+    (input output other : List ℕ) (counts others : Counts)
+    → IsLawful d → d.precision < d.bits → AreBytesOf target count output → AreBytesOf target count other
+    → IsBlock (IsConvertedBy overflow c d mode) source target count input output counts
+    → IsBlock (IsConvertedBy overflow c d mode) source target count input other others
+    → (output ≡ other) × (counts ≡ others)

@@ -1,0 +1,73 @@
+//! Values in consecutive bytes.
+
+ghost use Rattle.std.specs.Prelude.{◌≡◌, ◌*◌, ◌<◌, ◌≤◌, length};
+ghost use Rattle.rustc_apfloat.specs.Types.{constants_of};
+ghost use Rattle.rustc_apfloat.specs.FlaggedTypes.{constants_of as flagged_constants_of};
+ghost use Rattle.array_conversions.specs.Values.{IsConvertedBy, IsConvertedValue};
+ghost use Rattle.array_conversions.specs.Blocks.{IsBlock};
+ghost use Rattle.array_conversions.specs.OneBlock.{IsBlockOnce};
+
+use crate::counts::Counts;
+use crate::far_numbers::far_answers_for;
+use crate::one_value::convert_value;
+use crate::saturation::Overflow;
+use crate::widths::Widths;
+use rustc_apfloat::Round;
+use rustc_apfloat::ieee::{Flagged, Semantics};
+
+/// Converts a count of values, each in its place: the bytes of the first to the bytes of the first, and so on.
+pub fn convert_block<S: Semantics, T: Semantics>(
+    round: Round,
+    widths: Widths,
+    count: usize,
+    input: &[u8],
+    output: &mut [u8],
+) -> Counts
+    requires read { S.PRECISION < S.BITS }
+    requires written { T.PRECISION < T.BITS }
+    requires source { widths.source ≤ 16 }
+    requires target { T.BITS ≤ 8 * widths.target }
+    requires input { length input.now ≡ count * widths.source }
+    requires output { length output.old ≡ count * widths.target }
+    ensures { let c = constants_of S.Semantics in let d = constants_of T.Semantics in
+        IsBlock (IsConvertedValue c d round) widths.source widths.target count
+        input.now output.new result }
+{
+    convert_block_by::<S, T>(Overflow::Rounded, round, widths, count, input, output)
+}
+
+/// The same, with either rule of flags, and with what an overflow gives.
+pub fn convert_block_by<S: Flagged, T: Flagged>(
+    overflow: Overflow,
+    round: Round,
+    widths: Widths,
+    count: usize,
+    input: &[u8],
+    output: &mut [u8],
+) -> Counts
+    requires read { S.PRECISION < S.BITS }
+    requires written { T.PRECISION < T.BITS }
+    requires source { widths.source ≤ 16 }
+    requires target { T.BITS ≤ 8 * widths.target }
+    requires input { length input.now ≡ count * widths.source }
+    requires output { length output.old ≡ count * widths.target }
+    ensures { let c = flagged_constants_of S.Flagged in
+        let d = flagged_constants_of T.Flagged in
+        IsBlock (IsConvertedBy overflow c d round) widths.source widths.target count
+        input.now output.new result }
+{
+    let far = far_answers_for::<S, T>(overflow, round, count);
+    let mut counts = Counts::NONE;
+    for index in 0..count {
+        let (from, to) = (index * widths.source, index * widths.target);
+        let source = &input[from..from + widths.source];
+        let target = &mut output[to..to + widths.target];
+        counts.count(convert_value::<S, T>(&far, overflow, round, source, target));
+    }
+    counts
+}
+
+/// A block of values is converted in one way: to the same bytes, with the same counts.
+pub fn one_block()
+    ensures { IsBlockOnce }
+{}

@@ -1,0 +1,129 @@
+//! Blocks of values from any format to any other.
+
+ghost use Rattle.std.specs.Prelude.{◌≡◌, ◌+◌, ◌*◌, ◌/◌, ◌≤◌, length, take};
+ghost use Rattle.formats_at_run_time.specs.BuiltIns.{constants_in};
+ghost use Rattle.array_conversions.specs.Words.{conversion_named, format_named};
+ghost use Rattle.array_conversions.specs.Widths.{source_width, target_width};
+ghost use Rattle.array_conversions.specs.Values.{IsConvertedBy, IsConvertedValue};
+ghost use Rattle.array_conversions.specs.Blocks.{IsBlock};
+
+use crate::block_call::BlockCall;
+use crate::counts::Counts;
+use crate::saturation::Overflow;
+use crate::widths::{Extended, Widths, width};
+use formats_at_run_time::{BuiltInFormat, BuiltInKind, mode_named};
+use rustc_apfloat::Round;
+
+/// The formats converted from and to, the rounding mode, and how many bytes a value of the x87 format takes.
+#[derive(Clone, Copy, Debug)]
+pub struct Conversion {
+    /// The format converted from.
+    pub source: BuiltInFormat,
+    /// The format converted to.
+    pub target: BuiltInFormat,
+    /// The rounding mode.
+    pub round: Round,
+    /// How many bytes a value of the x87 format takes.
+    pub extended: Extended,
+}
+
+impl Conversion {
+    /// The conversion from the format of the first word to that of the second, in the mode of the third.
+    pub fn named(extended: Extended, source: &str, target: &str, mode: &str) -> Option<Conversion>
+        ensures { result ≡ conversion_named extended source.now target.now mode.now }
+    {
+        Some(Conversion {
+            source: format_named(source)?,
+            target: format_named(target)?,
+            round: mode_named(mode)?,
+            extended,
+        })
+    }
+
+    /// How many bytes a value takes, before its conversion and after it.
+    #[inline]
+    pub fn widths(self) -> Widths
+        ensures source { result.source ≡ source_width self }
+        ensures target { result.target ≡ target_width self }
+        ensures least { 1 ≤ result.source }
+        ensures greatest { (result.source ≤ 16) × (result.target ≤ 16) }
+    {
+        Widths {
+            source: width(self.source, self.extended),
+            target: width(self.target, self.extended),
+        }
+    }
+
+    /// Converts the values that are complete in the bytes read, each in its place. The buffer has to have room for
+    /// them; what its bytes after them hold is not specified.
+    pub fn convert(self, read: &[u8], written: Vec<u8>) -> ConvertedBlock
+        requires { (length read.now / source_width self) * target_width self
+            ≤ length written.items }
+        ensures parts { let count = length read.now / source_width self in
+            (result.written ≡ count * target_width self)
+            × (result.left_over + count * source_width self ≡ length read.now) }
+        ensures room { length result.buffer.items ≡ length written.items }
+        ensures within { result.written ≤ length result.buffer.items }
+        ensures block { let count = length read.now / source_width self in
+            let c = constants_in self.source in let d = constants_in self.target in
+            IsBlock (IsConvertedValue c d self.round) (source_width self)
+            (target_width self) count (take (count * source_width self) read.now)
+            (take result.written result.buffer.items) result.counts }
+    {
+        self.convert_by(Overflow::Rounded, read, written)
+    }
+
+    /// The same, with what an overflow gives.
+    pub fn convert_by(self, overflow: Overflow, read: &[u8], written: Vec<u8>) -> ConvertedBlock
+        requires { (length read.now / source_width self) * target_width self
+            ≤ length written.items }
+        ensures parts { let count = length read.now / source_width self in
+            (result.written ≡ count * target_width self)
+            × (result.left_over + count * source_width self ≡ length read.now) }
+        ensures room { length result.buffer.items ≡ length written.items }
+        ensures within { result.written ≤ length result.buffer.items }
+        ensures block { let count = length read.now / source_width self in
+            let c = constants_in self.source in let d = constants_in self.target in
+            IsBlock (IsConvertedBy overflow c d self.round) (source_width self)
+            (target_width self) count (take (count * source_width self) read.now)
+            (take result.written result.buffer.items) result.counts }
+    {
+        let widths = self.widths();
+        let count = read.len() / widths.source;
+        let whole = count * widths.source;
+        let call = BlockCall {
+            conversion: self,
+            overflow,
+            count,
+            input: &read[..whole],
+            output: written,
+        };
+        let answer = self.source.run(call);
+        ConvertedBlock {
+            counts: answer.counts,
+            buffer: answer.output,
+            written: count * widths.target,
+            left_over: read.len() - whole,
+        }
+    }
+}
+
+/// The outcome of converting a block.
+#[derive(Drop)]
+pub struct ConvertedBlock {
+    /// The counts of its values.
+    pub counts: Counts,
+    /// The buffer that was given, which begins with the converted values.
+    pub buffer: Vec<u8>,
+    /// How many bytes they take.
+    pub written: usize,
+    /// How many bytes followed the last value that was read.
+    pub left_over: usize,
+}
+
+/// The format of this word.
+fn format_named(word: &str) -> Option<BuiltInFormat>
+    ensures { result ≡ format_named word.now }
+{
+    BuiltInKind::named(word)?.format()
+}

@@ -1,0 +1,79 @@
+//! One value.
+
+ghost use Rattle.std.specs.Prelude.{◌≡◌, ◌*◌, ◌<◌, ◌≤◌, length, IfSome};
+ghost use Rattle.rustc_apfloat.specs.FlaggedTypes.{constants_of};
+ghost use Rattle.array_conversions.specs.FarNumbers.{AreFarAnswers};
+ghost use Rattle.array_conversions.specs.Values.{IsAnswerFrom, IsConvertedBy};
+
+use crate::bytes::{number_of, write_number};
+use crate::converted::Converted;
+use crate::counts::Outcome;
+use crate::far_numbers::{FarAnswers, far_place};
+use crate::saturation::{Overflow, convert_by};
+use rustc_apfloat::ieee::{Flagged, IeeeFloat};
+use rustc_apfloat::{Float, Round, StatusAnd};
+
+/// Converts the value of these bytes, lowest first, to the bytes of its value in the format `T`. The answers to numbers
+/// that are far out of its range can be given.
+#[inline]
+pub fn convert_value<S: Flagged, T: Flagged>(
+    far: &Option<FarAnswers>,
+    overflow: Overflow,
+    round: Round,
+    input: &[u8],
+    output: &mut [u8],
+) -> Outcome
+    requires read { S.PRECISION < S.BITS }
+    requires written { T.PRECISION < T.BITS }
+    requires far { IfSome far.now (AreFarAnswers overflow (constants_of T.Flagged) round) }
+    requires input { length input.now ≤ 16 }
+    requires output { T.BITS ≤ 8 * length output.old }
+    ensures { IsConvertedBy overflow (constants_of S.Flagged) (constants_of T.Flagged) round
+        input.now output.new result }
+{
+    let answer = convert_bits::<S, T>(far, overflow, round, number_of(input));
+    write_number(answer.bits, output);
+    answer.outcome
+}
+
+/// Converts the value that these bits encode.
+#[inline(always)]
+fn convert_bits<S: Flagged, T: Flagged>(
+    far: &Option<FarAnswers>,
+    overflow: Overflow,
+    round: Round,
+    bits: u128,
+) -> Converted
+    requires read { S.PRECISION < S.BITS }
+    requires written { T.PRECISION < T.BITS }
+    requires far { IfSome far.now (AreFarAnswers overflow (constants_of T.Flagged) round) }
+    ensures { IsAnswerFrom overflow (constants_of S.Flagged) (constants_of T.Flagged) round bits
+        result }
+{
+    if let Some(answers) = far {
+        if let Some(place) = far_place::<S, T>(bits) {
+            return answers[place];
+        }
+    }
+    convert_near::<S, T>(overflow, round, bits)
+}
+
+/// Converts the value that these bits encode, by the conversion of one value.
+#[inline(always)]
+fn convert_near<S: Flagged, T: Flagged>(overflow: Overflow, round: Round, bits: u128) -> Converted
+    requires read { S.PRECISION < S.BITS }
+    requires written { T.PRECISION < T.BITS }
+    ensures { IsAnswerFrom overflow (constants_of S.Flagged) (constants_of T.Flagged) round bits
+        result }
+{
+    let mut loses_info = false;
+    let x = IeeeFloat::<S>::from_bits(bits);
+    let answer: StatusAnd<IeeeFloat<T>> = convert_by(overflow, round, x, &mut loses_info);
+    Converted {
+        bits: answer.value.to_bits(),
+        outcome: Outcome {
+            status: answer.status,
+            is_nan: answer.value.is_nan(),
+        },
+    }
+}

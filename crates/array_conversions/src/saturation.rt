@@ -1,0 +1,59 @@
+//! Conversions in which a number that overflows gives the largest value of its sign.
+
+ghost use Rattle.std.specs.Prelude.{◌≡◌};
+ghost use Rattle.rustc_apfloat.specs.Datum.{finite};
+ghost use Rattle.rustc_apfloat.specs.Flags.{bits_of};
+ghost use Rattle.rustc_apfloat.specs.Format.{largest};
+ghost use Rattle.rustc_apfloat.specs.FlaggedTypes.{format_of};
+ghost use Rattle.array_conversions.specs.Saturation.{IsConversionBy, saturated};
+
+use rustc_apfloat::ieee::{Flagged, IeeeFloat};
+use rustc_apfloat::{Float, FloatConvert, Round, StatusAnd};
+
+/// What a conversion makes of a number that is past the largest value once it is rounded.
+#[derive(Clone, Copy, Debug)]
+pub enum Overflow {
+    /// What its rounding delivers: an infinity, in formats without infinities the NaN, or the largest value.
+    Rounded,
+    /// The largest value of its sign, in every mode.
+    Saturated,
+}
+
+/// A value in the format `T`, rounded once, with the flags of that rounding. Saturation changes no flag, and nothing of
+/// infinities and NaNs.
+#[inline]
+pub fn convert_by<S: Flagged, T: Flagged>(
+    overflow: Overflow,
+    round: Round,
+    x: IeeeFloat<S>,
+    loses_info: &mut bool,
+) -> StatusAnd<IeeeFloat<T>>
+    ensures { IsConversionBy overflow (format_of S.Flagged) (format_of T.Flagged) round x
+        result.value (bits_of result.status) loses_info.new }
+{
+    let answer: StatusAnd<IeeeFloat<T>> = x.convert_r(round, loses_info);
+    match overflow {
+        Overflow::Rounded => answer,
+        Overflow::Saturated => answer.status.and(saturated(x, answer.value)),
+    }
+}
+
+/// What takes the place of the value that `x` was rounded to.
+#[inline]
+fn saturated<S: Flagged, T: Flagged>(x: IeeeFloat<S>, rounded: IeeeFloat<T>) -> IeeeFloat<T>
+    ensures { result ≡ saturated (format_of T.Flagged) x rounded }
+{
+    if x.is_finite() && !rounded.is_finite() {
+        largest_of_sign(x.is_negative())
+    } else {
+        rounded
+    }
+}
+
+/// The largest value with this sign.
+pub fn largest_of_sign<T: Flagged>(negative: bool) -> IeeeFloat<T>
+    ensures { result ≡ finite negative (largest (format_of T.Flagged)) }
+{
+    let largest = IeeeFloat::<T>::largest();
+    if negative { -largest } else { largest }
+}

@@ -1,0 +1,25 @@
+-- What an operation on two values returns.
+use Rattle.std.specs.Prelude.{Bool, true}
+use Rattle.rustc_apfloat.specs.declared.Round.{Round}
+use Rattle.rustc_apfloat.specs.declared.StatusAnd.{StatusAnd}
+use Rattle.formats_at_run_time.specs.declared.arithmetic.Arithmetic.{Arithmetic}
+use Rattle.formats_at_run_time.specs.declared.arithmetic.Arithmetic.TheVariants.{Sum, Difference, Product, Quotient, NearestRemainder, TruncatedRemainder}
+use Rattle.formats_at_run_time.specs.Relations.{Relations}
+
+-- whether a type that has products, or has none, has the operation
+abbrev pub has_operation : Bool → Arithmetic → Bool
+has_operation multiplies Sum = true
+has_operation multiplies Difference = true
+has_operation multiplies Product = multiplies
+has_operation multiplies Quotient = true
+has_operation multiplies NearestRemainder = true
+has_operation multiplies TruncatedRemainder = true
+
+-- no remainder depends on the mode
+abbrev pub IsOfTwo : {A : Type 0} → Relations A → Arithmetic → Round → A → A → StatusAnd A → Type 0
+IsOfTwo of_type Sum mode x y answer = of_type.adds x y mode answer
+IsOfTwo of_type Difference mode x y answer = of_type.subtracts x y mode answer
+IsOfTwo of_type Product mode x y answer = of_type.multiplies x y mode answer
+IsOfTwo of_type Quotient mode x y answer = of_type.divides x y mode answer
+IsOfTwo of_type NearestRemainder mode x y answer = of_type.leaves_nearest x y answer
+IsOfTwo of_type TruncatedRemainder mode x y answer = of_type.leaves x y answer

@@ -1,0 +1,17 @@
+-- Each type reads the texts that have no fault, and refuses the others.
+use Rattle.std.proofs.Common.{Ok, Err}
+use Rattle.rustc_apfloat.specs.Lawful.{Constants}
+use Rattle.apfloat_model.proofs.texts.OneMeaning.{meaning_no_fault}
+use Rattle.formats_at_run_time.specs.Relations.{in_format, in_pairs}
+use Rattle.formats_at_run_time.specs.TextReadings.{ReadsTexts}
+
+-- a format
+pub format_reads : (constants : Constants) → ReadsTexts (in_format constants).reads
+format_reads constants text mode (Ok answer) reading = meaning_no_fault text reading.meaning reading.means
+format_reads constants text mode (Err error) refusal = refusal
+
+-- pairs of doubles
+pub pairs_read : ReadsTexts in_pairs.reads
+pairs_read text mode (Ok answer) reading =
+    meaning_no_fault text reading.is_value.meaning reading.is_value.means
+pairs_read text mode (Err error) refusal = refusal

@@ -1,0 +1,202 @@
+//! The built-in kinds of values.
+
+ghost use Rattle.std.specs.Prelude.{◌≡◌, Some};
+ghost use Rattle.formats_at_run_time.specs.ValueKinds.{of_format};
+ghost use Rattle.formats_at_run_time.specs.BuiltIns.{all_kinds, constants_in, format_in, kind_coded, kind_named, kind_of};
+
+use crate::flagged::{FillsInFormat, WritesInFormat};
+use crate::in_kind::{InFormat, InKind};
+use rustc_apfloat::ieee::{
+    BFloatS, DoubleS, Float8E4M3FNS, Float8E4M3FNUZS, Float8E5M2S, HalfS, QuadS, SingleS,
+    X87DoubleExtendedS,
+};
+
+// Each built-in format: its variant, the constants of its type, its word and its code, for the macro that is named.
+macro_rules! each_format {
+    ($taker:ident($($given:tt)*)) => {
+        $taker! {
+            ($($given)*)
+            Half HalfS "half" 1,
+            Single SingleS "single" 2,
+            Double DoubleS "double" 3,
+            Quad QuadS "quad" 4,
+            BFloat BFloatS "bfloat" 5,
+            E5M2 Float8E5M2S "e5m2" 6,
+            E4M3FN Float8E4M3FNS "e4m3fn" 7,
+            E4M3FNUZ Float8E4M3FNUZS "e4m3fnuz" 8,
+            X87 X87DoubleExtendedS "x87" 9,
+        }
+    };
+}
+
+macro_rules! all_kinds {
+    (() $($name:ident $semantics:ident $word:literal $code:literal,)*) => {
+        [$(BuiltInKind::OfFormat(BuiltInFormat::$name),)* BuiltInKind::Pairs]
+    };
+}
+
+macro_rules! run_in {
+    (($format:expr, $call:expr) $($name:ident $semantics:ident $word:literal $code:literal,)*) => {
+        match $format {
+            $(BuiltInFormat::$name => $call.in_format::<$semantics>(),)*
+        }
+    };
+}
+
+macro_rules! write_in {
+    (($format:expr, $call:expr, $bytes:expr)
+        $($name:ident $semantics:ident $word:literal $code:literal,)*) => {
+        match $format {
+            $(BuiltInFormat::$name => $call.write_in_format::<$semantics>($bytes),)*
+        }
+    };
+}
+
+macro_rules! fill_in {
+    (($format:expr, $call:expr, $place:expr)
+        $($name:ident $semantics:ident $word:literal $code:literal,)*) => {
+        match $format {
+            $(BuiltInFormat::$name => $call.fill_in_format::<$semantics>($place),)*
+        }
+    };
+}
+
+macro_rules! kind_of_word {
+    (($of:expr) $($name:ident $semantics:ident $word:literal $code:literal,)*) => {
+        match $of {
+            $($word => Some(BuiltInKind::OfFormat(BuiltInFormat::$name)),)*
+            "dd" => Some(BuiltInKind::Pairs),
+            _ => None,
+        }
+    };
+}
+
+macro_rules! word_of_kind {
+    (($kind:expr) $($name:ident $semantics:ident $word:literal $code:literal,)*) => {
+        match $kind {
+            $(BuiltInKind::OfFormat(BuiltInFormat::$name) => $word,)*
+            BuiltInKind::Pairs => "dd",
+        }
+    };
+}
+
+macro_rules! kind_of_code {
+    (($of:expr) $($name:ident $semantics:ident $word:literal $code:literal,)*) => {
+        match $of {
+            $($code => Some(BuiltInKind::OfFormat(BuiltInFormat::$name)),)*
+            10 => Some(BuiltInKind::Pairs),
+            _ => None,
+        }
+    };
+}
+
+/// The built-in formats that have bits.
+#[derive(Clone, Copy, PartialEq, Eq, Debug)]
+pub enum BuiltInFormat {
+    /// Binary16.
+    Half,
+    /// Binary32.
+    Single,
+    /// Binary64.
+    Double,
+    /// Binary128.
+    Quad,
+    /// The upper half of binary32.
+    BFloat,
+    /// Eight bits, five of them the exponent.
+    E5M2,
+    /// Eight bits, four of them the exponent, without infinities.
+    E4M3FN,
+    /// The same with no negative zero.
+    E4M3FNUZ,
+    /// The extended format of the x87, with an explicit integer bit.
+    X87,
+}
+
+/// The built-in kinds of values.
+#[derive(Clone, Copy, PartialEq, Eq, Debug)]
+pub enum BuiltInKind {
+    /// Values of a format.
+    OfFormat(BuiltInFormat),
+    /// Pairs of doubles.
+    Pairs,
+}
+
+/// All built-in kinds, in the order of their codes.
+pub fn built_in_kinds() -> &'static [BuiltInKind]
+    ensures { result.now ≡ all_kinds }
+{
+    &each_format!(all_kinds())
+}
+
+impl BuiltInFormat {
+    /// Makes a call in the format.
+    #[inline(always)]
+    pub fn run<C: InFormat>(self, call: C) -> C::Output
+        requires { C.can call (of_format (constants_in self)) }
+        ensures { C.gives call (of_format (constants_in self)) result }
+    {
+        each_format!(run_in(self, call))
+    }
+
+    /// Makes a call that writes, in the format.
+    pub fn write<C: WritesInFormat>(self, call: C, bytes: &mut [u8]) -> C::Output
+        requires { C.can call (of_format (constants_in self)) bytes.old }
+        ensures { C.gives call (of_format (constants_in self)) bytes.old bytes.new result }
+    {
+        each_format!(write_in(self, call, bytes))
+    }
+
+    /// Makes a call that fills a place, in the format.
+    #[inline(always)]
+    pub fn fill<C: FillsInFormat>(self, call: C, place: &mut C::Place) -> C::Output
+        ensures { C.gives call (of_format (constants_in self)) place.old place.new result }
+    {
+        each_format!(fill_in(self, call, place))
+    }
+}
+
+impl BuiltInKind {
+    /// Makes a call in values of the kind.
+    pub fn run<C: InKind>(self, call: C) -> C::Output
+        requires { C.can call (kind_of self) }
+        ensures { C.gives call (kind_of self) result }
+    {
+        match self {
+            BuiltInKind::OfFormat(format) => format.run(call),
+            BuiltInKind::Pairs => call.in_pairs(),
+        }
+    }
+
+    /// The kind that this word names, if any.
+    pub fn named(word: &str) -> Option<BuiltInKind>
+        ensures { result ≡ kind_named word.now }
+    {
+        each_format!(kind_of_word(word))
+    }
+
+    /// The word that names the kind: `half`, `single` and so on, `dd` for pairs.
+    pub fn word(self) -> &'static str
+        ensures { kind_named result.now ≡ Some self }
+    {
+        each_format!(word_of_kind(self))
+    }
+
+    /// The kind that this code names, if any.
+    #[inline(always)]
+    pub fn coded(code: u32) -> Option<BuiltInKind>
+        ensures { result ≡ kind_coded code }
+    {
+        each_format!(kind_of_code(code))
+    }
+
+    /// Its format; `None` for pairs.
+    pub fn format(self) -> Option<BuiltInFormat>
+        ensures { result ≡ format_in self }
+    {
+        match self {
+            BuiltInKind::OfFormat(format) => Some(format),
+            BuiltInKind::Pairs => None,
+        }
+    }
+}

@@ -1,0 +1,402 @@
+//! The built-in kinds of values, each with a rule by which its calls raise OVERFLOW and UNDERFLOW.
+
+ghost use Rattle.std.specs.Prelude.{⊤, ℕ, ◌≡◌, ◌<◌, List};
+ghost use Rattle.rustc_apfloat.specs.FlaggedTypes.{constants_of};
+ghost use Rattle.formats_at_run_time.specs.ValueKinds.{Kind, of_format, of_pairs};
+ghost use Rattle.formats_at_run_time.specs.FlaggedKinds.{after_rounding, before_rounding, built_in, flagged_constants, flagged_kind_coded, flagged_kind_of, format_of_ieee, format_without_rule, ieee_format_in};
+
+use crate::built_in::{BuiltInFormat, BuiltInKind};
+use crate::in_kind::{InFormat, InKind};
+use rustc_apfloat::ieee::{
+    BFloatS, DoubleS, Flagged, Float8E5M2S, HalfS, IeeeFlags, QuadS, Semantics, SingleS,
+    TinyBefore, X87DoubleExtendedS,
+};
+
+// Each built-in format of IEEE 754, with the constants of its type, for the macro that is named.
+macro_rules! each_ieee_format {
+    ($taker:ident($($given:tt)*)) => {
+        $taker! {
+            ($($given)*)
+            Half HalfS,
+            Single SingleS,
+            Double DoubleS,
+            Quad QuadS,
+            BFloat BFloatS,
+            E5M2 Float8E5M2S,
+            X87 X87DoubleExtendedS,
+        }
+    };
+}
+
+macro_rules! run_after_rounding {
+    (($format:expr, $call:expr) $($name:ident $semantics:ident,)*) => {
+        match $format {
+            $(IeeeFormat::$name => $call.in_flagged_format::<IeeeFlags<$semantics>>(),)*
+        }
+    };
+}
+
+macro_rules! run_before_rounding {
+    (($format:expr, $call:expr) $($name:ident $semantics:ident,)*) => {
+        match $format {
+            $(
+                IeeeFormat::$name => {
+                    $call.in_flagged_format::<IeeeFlags<TinyBefore<$semantics>>>()
+                }
+            )*
+        }
+    };
+}
+
+macro_rules! write_after_rounding {
+    (($format:expr, $call:expr, $bytes:expr) $($name:ident $semantics:ident,)*) => {
+        match $format {
+            $(IeeeFormat::$name => $call.write_in_format::<IeeeFlags<$semantics>>($bytes),)*
+        }
+    };
+}
+
+macro_rules! write_before_rounding {
+    (($format:expr, $call:expr, $bytes:expr) $($name:ident $semantics:ident,)*) => {
+        match $format {
+            $(
+                IeeeFormat::$name => {
+                    $call.write_in_format::<IeeeFlags<TinyBefore<$semantics>>>($bytes)
+                }
+            )*
+        }
+    };
+}
+
+macro_rules! fill_after_rounding {
+    (($format:expr, $call:expr, $place:expr) $($name:ident $semantics:ident,)*) => {
+        match $format {
+            $(IeeeFormat::$name => $call.fill_in_format::<IeeeFlags<$semantics>>($place),)*
+        }
+    };
+}
+
+macro_rules! fill_before_rounding {
+    (($format:expr, $call:expr, $place:expr) $($name:ident $semantics:ident,)*) => {
+        match $format {
+            $(
+                IeeeFormat::$name => {
+                    $call.fill_in_format::<IeeeFlags<TinyBefore<$semantics>>>($place)
+                }
+            )*
+        }
+    };
+}
+
+macro_rules! built_in_format {
+    (($format:expr) $($name:ident $semantics:ident,)*) => {
+        match $format {
+            $(IeeeFormat::$name => BuiltInFormat::$name,)*
+        }
+    };
+}
+
+macro_rules! ieee_format {
+    (($kind:expr) $($name:ident $semantics:ident,)*) => {
+        match $kind {
+            $(BuiltInKind::OfFormat(BuiltInFormat::$name) => Some(IeeeFormat::$name),)*
+            _ => None,
+        }
+    };
+}
+
+/// A call that can be made in each format that has bits, with either rule of flags.
+pub trait InFlaggedFormat {
+    /// What it returns.
+    type Output;
+
+    // What it returns in values of a kind: by default anything.
+    ghost gives: { Self → Kind → Self.Output → Type 0 } = { λ _ _ _. ⊤ };
+
+    /// Makes the call in the format `S`.
+    fn in_flagged_format<S: Flagged>(self) -> Self::Output
+        requires { S.PRECISION < S.BITS }
+        ensures { gives self (of_format (constants_of S.Flagged)) result };
+}
+
+/// A call that can also be made of pairs of doubles.
+pub trait InFlaggedKind: InFlaggedFormat {
+    /// Makes the call in pairs of doubles.
+    fn in_pairs(self) -> Self::Output
+        ensures { Self.gives self of_pairs result };
+}
+
+/// A call that can be made in each format that has bits, with either rule of flags, and that writes bytes lent to it.
+pub trait WritesInFormat {
+    /// What it returns.
+    type Output;
+
+    // In which kinds of values, and to which bytes, it may be made: by default to any in each.
+    ghost can: { Self → Kind → List ℕ → Type 0 } = { λ _ _ _. ⊤ };
+
+    // What it returns in values of a kind, and what becomes of the bytes: by default anything.
+    ghost gives: { Self → Kind → List ℕ → List ℕ → Self.Output → Type 0 } = { λ _ _ _ _ _. ⊤ };
+
+    /// Makes the call in the format `S`.
+    fn write_in_format<S: Flagged>(self, bytes: &mut [u8]) -> Self::Output
+        requires written { S.PRECISION < S.BITS }
+        requires can { can self (of_format (constants_of S.Flagged)) bytes.old }
+        ensures { gives self (of_format (constants_of S.Flagged)) bytes.old bytes.new result };
+}
+
+/// A call that can be made in each format that has bits, with either rule of flags, and that fills a place lent to it.
+pub trait FillsInFormat {
+    /// What is lent to it.
+    type Place;
+
+    /// What it returns.
+    type Output;
+
+    // What it returns in values of a kind, and what becomes of the place: by default anything.
+    ghost gives: { Self → Kind → Self.Place → Self.Place → Self.Output → Type 0 } = { λ _ _ _ _ _. ⊤ };
+
+    /// Makes the call in the format `S`.
+    fn fill_in_format<S: Flagged>(self, place: &mut Self::Place) -> Self::Output
+        requires { S.PRECISION < S.BITS }
+        ensures { gives self (of_format (constants_of S.Flagged)) place.old place.new result };
+}
+
+/// A call that can also be made of pairs of doubles, and that fills a place lent to it.
+pub trait FillsInKind: FillsInFormat {
+    /// Makes the call in pairs of doubles.
+    fn fill_in_pairs(self, place: &mut Self::Place) -> Self::Output
+        ensures { Self.gives self of_pairs place.old place.new result };
+}
+
+/// The built-in formats with the infinities and NaNs of IEEE 754, whose calls can raise its flags.
+#[derive(Clone, Copy)]
+pub enum IeeeFormat {
+    /// Binary16.
+    Half,
+    /// Binary32.
+    Single,
+    /// Binary64.
+    Double,
+    /// Binary128.
+    Quad,
+    /// The upper half of binary32.
+    BFloat,
+    /// Eight bits, five of them the exponent.
+    E5M2,
+    /// The extended format of the x87.
+    X87,
+}
+
+/// The built-in formats, each with its rule of flags.
+#[derive(Clone, Copy)]
+pub enum FlaggedFormat {
+    /// With the flags of the built-in formats.
+    BuiltIn(BuiltInFormat),
+    /// With the flags of IEEE 754-2008, tininess detected after rounding.
+    AfterRounding(IeeeFormat),
+    /// With the flags of IEEE 754-2008, tininess detected before rounding.
+    BeforeRounding(IeeeFormat),
+}
+
+/// The built-in kinds of values, formats with their rule of flags.
+#[derive(Clone, Copy)]
+pub enum FlaggedKind {
+    /// Values of a format.
+    OfFormat(FlaggedFormat),
+    /// Pairs of doubles.
+    Pairs,
+}
+
+/// A call in formats with the flags of the built-in formats.
+#[derive(Drop)]
+struct WithBuiltInFlags<C> {
+    call: C,
+}
+
+impl<C: InFlaggedFormat> InFormat for WithBuiltInFlags<C> {
+    type Output = C::Output;
+
+    ghost gives = { λ it kind output. C.gives it.call kind output };
+
+    #[inline(always)]
+    fn in_format<S: Semantics>(self) -> C::Output {
+        self.call.in_flagged_format::<S>()
+    }
+}
+
+impl IeeeFormat {
+    /// The format of a kind of values, if it is one of these.
+    #[inline(always)]
+    pub fn of(kind: BuiltInKind) -> Option<IeeeFormat>
+        ensures { result ≡ ieee_format_in kind }
+    {
+        each_ieee_format!(ieee_format(kind))
+    }
+
+    /// Makes a call in the format with the flags of IEEE 754-2008, tininess detected after rounding.
+    #[inline(always)]
+    fn run_after_rounding<C: InFlaggedFormat>(self, call: C) -> C::Output
+        ensures { C.gives call (of_format (after_rounding self)) result }
+    {
+        each_ieee_format!(run_after_rounding(self, call))
+    }
+
+    /// Makes a call in the format with the flags of IEEE 754-2008, tininess detected before rounding.
+    #[inline(always)]
+    fn run_before_rounding<C: InFlaggedFormat>(self, call: C) -> C::Output
+        ensures { C.gives call (of_format (before_rounding self)) result }
+    {
+        each_ieee_format!(run_before_rounding(self, call))
+    }
+}
+
+impl IeeeFormat {
+    /// Makes a call that fills a place, with the flags of IEEE 754-2008, tininess detected after rounding.
+    #[inline(always)]
+    fn fill_after_rounding<C: FillsInFormat>(self, call: C, place: &mut C::Place) -> C::Output
+        ensures { C.gives call (of_format (after_rounding self)) place.old place.new result }
+    {
+        each_ieee_format!(fill_after_rounding(self, call, place))
+    }
+
+    /// Makes a call that fills a place, with the flags of IEEE 754-2008, tininess detected before rounding.
+    #[inline(always)]
+    fn fill_before_rounding<C: FillsInFormat>(self, call: C, place: &mut C::Place) -> C::Output
+        ensures { C.gives call (of_format (before_rounding self)) place.old place.new result }
+    {
+        each_ieee_format!(fill_before_rounding(self, call, place))
+    }
+}
+
+impl IeeeFormat {
+    /// The format with the flags of the built-in formats.
+    fn built_in(self) -> BuiltInFormat
+        ensures { result ≡ format_of_ieee self }
+    {
+        each_ieee_format!(built_in_format(self))
+    }
+
+    /// Makes a call that writes, with the flags of IEEE 754-2008, tininess detected after rounding.
+    fn write_after_rounding<C: WritesInFormat>(self, call: C, bytes: &mut [u8]) -> C::Output
+        requires { C.can call (of_format (after_rounding self)) bytes.old }
+        ensures { C.gives call (of_format (after_rounding self)) bytes.old bytes.new result }
+    {
+        each_ieee_format!(write_after_rounding(self, call, bytes))
+    }
+
+    /// Makes a call that writes, with the flags of IEEE 754-2008, tininess detected before rounding.
+    fn write_before_rounding<C: WritesInFormat>(self, call: C, bytes: &mut [u8]) -> C::Output
+        requires { C.can call (of_format (before_rounding self)) bytes.old }
+        ensures { C.gives call (of_format (before_rounding self)) bytes.old bytes.new result }
+    {
+        each_ieee_format!(write_before_rounding(self, call, bytes))
+    }
+}
+
+impl FlaggedFormat {
+    /// The format with the flags of the built-in formats.
+    pub fn built_in(self) -> BuiltInFormat
+        ensures { result ≡ format_without_rule self }
+    {
+        match self {
+            FlaggedFormat::BuiltIn(format) => format,
+            FlaggedFormat::AfterRounding(format) => format.built_in(),
+            FlaggedFormat::BeforeRounding(format) => format.built_in(),
+        }
+    }
+
+    /// Makes a call that writes, in the format.
+    pub fn write<C: WritesInFormat>(self, call: C, bytes: &mut [u8]) -> C::Output
+        requires { C.can call (of_format (flagged_constants self)) bytes.old }
+        ensures { C.gives call (of_format (flagged_constants self)) bytes.old bytes.new result }
+    {
+        match self {
+            FlaggedFormat::BuiltIn(format) => format.write(call, bytes),
+            FlaggedFormat::AfterRounding(format) => format.write_after_rounding(call, bytes),
+            FlaggedFormat::BeforeRounding(format) => format.write_before_rounding(call, bytes),
+        }
+    }
+
+    /// Makes a call that fills a place, in the format.
+    #[inline(always)]
+    pub fn fill<C: FillsInFormat>(self, call: C, place: &mut C::Place) -> C::Output
+        ensures { C.gives call (of_format (flagged_constants self)) place.old place.new result }
+    {
+        match self {
+            FlaggedFormat::BuiltIn(format) => format.fill(call, place),
+            FlaggedFormat::AfterRounding(format) => format.fill_after_rounding(call, place),
+            FlaggedFormat::BeforeRounding(format) => format.fill_before_rounding(call, place),
+        }
+    }
+
+    /// Makes a call in the format.
+    #[inline(always)]
+    pub fn run<C: InFlaggedFormat>(self, call: C) -> C::Output
+        ensures { C.gives call (of_format (flagged_constants self)) result }
+    {
+        match self {
+            FlaggedFormat::BuiltIn(format) => format.run(WithBuiltInFlags { call }),
+            FlaggedFormat::AfterRounding(format) => format.run_after_rounding(call),
+            FlaggedFormat::BeforeRounding(format) => format.run_before_rounding(call),
+        }
+    }
+}
+
+impl FlaggedKind {
+    /// Makes a call in values of the kind.
+    #[inline(always)]
+    pub fn run<C: InFlaggedKind>(self, call: C) -> C::Output
+        ensures { C.gives call (flagged_kind_of self) result }
+    {
+        match self {
+            FlaggedKind::OfFormat(format) => format.run(call),
+            FlaggedKind::Pairs => call.in_pairs(),
+        }
+    }
+
+    /// Makes a call that fills a place, in values of the kind.
+    #[inline(always)]
+    pub fn fill<C: FillsInKind>(self, call: C, place: &mut C::Place) -> C::Output
+        ensures { C.gives call (flagged_kind_of self) place.old place.new result }
+    {
+        match self {
+            FlaggedKind::OfFormat(format) => format.fill(call, place),
+            FlaggedKind::Pairs => call.fill_in_pairs(place),
+        }
+    }
+
+    /// The kind that this code names, if any: its lowest eight bits are the code of a built-in kind, the bit above them
+    /// asks for the flags of IEEE 754-2008, and the next one, only together with that, for tininess before rounding.
+    #[inline(always)]
+    pub fn coded(code: u32) -> Option<FlaggedKind>
+        ensures { result ≡ flagged_kind_coded code }
+    {
+        if code < 256 {
+            return Some(FlaggedKind::built_in(BuiltInKind::coded(code)?));
+        }
+        match code / 256 {
+            1 => {
+                let format = IeeeFormat::of(BuiltInKind::coded(code % 256)?)?;
+                Some(FlaggedKind::OfFormat(FlaggedFormat::AfterRounding(format)))
+            }
+            3 => {
+                let format = IeeeFormat::of(BuiltInKind::coded(code % 256)?)?;
+                Some(FlaggedKind::OfFormat(FlaggedFormat::BeforeRounding(format)))
+            }
+            _ => None,
+        }
+    }
+
+    /// A kind with the flags of the built-in formats.
+    #[inline(always)]
+    fn built_in(kind: BuiltInKind) -> FlaggedKind
+        ensures { result ≡ built_in kind }
+    {
+        match kind {
+            BuiltInKind::OfFormat(format) => {
+                FlaggedKind::OfFormat(FlaggedFormat::BuiltIn(format))
+            }
+            BuiltInKind::Pairs => FlaggedKind::Pairs,
+        }
+    }
+}

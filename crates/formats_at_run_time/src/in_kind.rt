@@ -1,0 +1,33 @@
+//! A call at the type of a kind of values.
+
+ghost use Rattle.std.specs.Prelude.{⊤, ◌<◌};
+ghost use Rattle.rustc_apfloat.specs.Types.{constants_of};
+ghost use Rattle.formats_at_run_time.specs.ValueKinds.{Kind, of_format, of_pairs};
+
+use rustc_apfloat::ieee::Semantics;
+
+/// A call that can be made in each format that has bits.
+pub trait InFormat {
+    /// What it returns.
+    type Output;
+
+    // In which kinds of values it may be made: by default in each.
+    ghost can: { Self → Kind → Type 0 } = { λ _ _. ⊤ };
+
+    // What it returns in values of a kind: by default anything.
+    ghost gives: { Self → Kind → Self.Output → Type 0 } = { λ _ _ _. ⊤ };
+
+    /// Makes the call in the format `S`.
+    fn in_format<S: Semantics>(self) -> Self::Output
+        requires written { S.PRECISION < S.BITS }
+        requires can { can self (of_format (constants_of S.Semantics)) }
+        ensures { gives self (of_format (constants_of S.Semantics)) result };
+}
+
+/// A call that can be made of each kind of values.
+pub trait InKind: InFormat {
+    /// Makes the call in pairs of doubles.
+    fn in_pairs(self) -> Self::Output
+        requires { Self.can self of_pairs }
+        ensures { Self.gives self of_pairs result };
+}

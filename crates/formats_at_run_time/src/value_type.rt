@@ -1,0 +1,97 @@
+//! The types of the kinds of values.
+
+ghost use Rattle.rustc_apfloat.specs.declared.Round.{Round};
+ghost use Rattle.rustc_apfloat.specs.declared.Round.TheVariants.{NearestTiesToEven};
+ghost use Rattle.rustc_apfloat.specs.declared.StatusAnd.{StatusAnd};
+ghost use Rattle.rustc_apfloat.specs.FlaggedTypes.{constants_of, format_of};
+ghost use Rattle.rustc_apfloat.specs.Flags.{Gives};
+ghost use Rattle.rustc_apfloat.specs.PairRoots.{IsPairRoot};
+ghost use Rattle.rustc_apfloat.specs.Roots.{IsRoot};
+ghost use Rattle.formats_at_run_time.specs.TextReadings.{ReadsTexts};
+ghost use Rattle.formats_at_run_time.specs.TextsRead.{format_reads, pairs_read};
+
+use rustc_apfloat::ieee::{Flagged, IeeeFloat};
+use rustc_apfloat::ppc::{DoubleDouble, FallbackS};
+use rustc_apfloat::{Float, ParseError, Round, StatusAnd};
+
+/// A type of values: those of a format, or pairs of doubles. These are the calls that both have and `Float` has not, so
+/// that code for both is written once.
+pub trait ValueType: Float {
+    // What a square root may be.
+    ghost takes_root: { Self → Round → StatusAnd Self → Type 0 };
+
+    /// The product, which every type of values has, however many digits it has.
+    fn wide_mul_r(self, rhs: Self, round: Round) -> StatusAnd<Self>
+        ensures { Self.multiplies self rhs round result };
+
+    /// The square root.
+    fn sqrt_r(self, round: Round) -> StatusAnd<Self>
+        ensures { takes_root self round result };
+
+    /// The square root, rounded to the nearest value, ties to even.
+    fn sqrt(self) -> StatusAnd<Self>
+        ensures { takes_root self NearestTiesToEven result };
+
+    /// Reads a text of ASCII characters like `from_str_r`. Other bytes are refused, since none has a meaning.
+    fn from_ascii_r(text: &[u8], round: Round) -> Result<StatusAnd<Self>, ParseError>
+        ensures { Self.reads text.now round result };
+
+    // A text is refused only for a fault, which does not depend on the type.
+    ghost reads_texts: { ReadsTexts Self.reads };
+}
+
+impl<S: Flagged> ValueType for IeeeFloat<S> {
+    ghost takes_root = { λ x mode answer. Gives (IsRoot (format_of S.Flagged) mode x) answer };
+
+    ghost reads_texts = { format_reads (constants_of S.Flagged) };
+
+    #[inline(always)]
+    fn wide_mul_r(self, rhs: Self, round: Round) -> StatusAnd<Self> {
+        self.wide_mul_r(rhs, round)
+    }
+
+    #[inline(always)]
+    fn sqrt_r(self, round: Round) -> StatusAnd<Self> {
+        self.sqrt_r(round)
+    }
+
+    #[inline(always)]
+    fn sqrt(self) -> StatusAnd<Self> {
+        self.sqrt()
+    }
+
+    #[inline(always)]
+    fn from_ascii_r(text: &[u8], round: Round) -> Result<StatusAnd<Self>, ParseError> {
+        IeeeFloat::<S>::from_ascii_r(text, round)
+    }
+}
+
+impl ValueType for DoubleDouble {
+    ghost takes_root = { λ x mode answer. Gives (IsPairRoot mode x) answer };
+
+    ghost reads_texts = { pairs_read };
+
+    #[inline(always)]
+    fn wide_mul_r(self, rhs: Self, round: Round) -> StatusAnd<Self> {
+        self.mul_r(rhs, round)
+    }
+
+    #[inline(always)]
+    fn sqrt_r(self, round: Round) -> StatusAnd<Self> {
+        self.sqrt_r(round)
+    }
+
+    #[inline(always)]
+    fn sqrt(self) -> StatusAnd<Self> {
+        self.sqrt()
+    }
+
+    /// A text is read in the wide format, as by `from_str_r`.
+    #[inline(always)]
+    fn from_ascii_r(text: &[u8], round: Round) -> Result<StatusAnd<Self>, ParseError> {
+        match IeeeFloat::<FallbackS>::from_ascii_r(text, round) {
+            Ok(answer) => Ok(answer.map(|value| DoubleDouble::from(value))),
+            Err(error) => Err(error),
+        }
+    }
+}

@@ -1,5 +1,0 @@
-use Rattle.value_blocks.proofs.LittleEndian.{IsReadDown}
-use Rattle.value_blocks.proofs.bytes.number_byte_by_byte.Given as goal
-
-abbrev pub invariant-loop-place : goal.invariant-loop-place
-invariant-loop-place l = IsReadDown l.bytes l.number l.place
