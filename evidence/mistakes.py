@@ -156,7 +156,7 @@ MISTAKES = {
         ("apfloat_arithmetic", "-fused-sum", FUSED),
         ("apfloat_arithmetic", "-wide-fused-sum", QUAD_FUSED),
     ],
-    # On the row of the next mistake it would take 2^40 steps.
+    # The edit counts these subtractions without making them: on the row of the next mistake there are 2^40.
     "remainder-subtracts-divisor-itself": [
         ("apfloat_arithmetic", "", call("c_fmod_steps", "e4m3fn", "-", "7e 3f", "3e", "OK", "steps=6 bound=9"))
     ],
