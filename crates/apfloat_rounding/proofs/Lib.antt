@@ -6,4 +6,3 @@ pub mod HalfQuanta
 pub mod CutRests
 pub mod OddCuts
 pub mod QuantumCuts
-pub mod FineCuts
