@@ -1,5 +1,5 @@
 -- A decimal text is read in one way: one code, and one answer.
-use Rattle.std.proofs.Common.{◌≡◌, ℕ, List, Option, None, Some, Ok, Err, sym, ◌∙◌, subst, inl, inr, lit<}
+use Rattle.std.proofs.Common.{◌≡◌, ℕ, true, false, List, Option, None, Some, Ok, Err, sym, ◌∙◌, subst, inl, inr, lit<}
 use Rattle.std.specs.Prelude.{IsTrue, is_some}
 use Rattle.rustc_apfloat.specs.declared.Round.{Round}
 use Rattle.rustc_apfloat.specs.Exponents.{IsExactInverse}
@@ -41,11 +41,15 @@ answer_no_fault (of_format c) mode text answer x =
 answer_no_fault of_pairs mode text answer x =
     reading_no_fault wide mode text x.holds.value (bits_of x.given.status) x.holds.is_value
 
+never : false ≡ true → ⊥
+never e = cc
+
 -- so it is read or refused, not both
 read_or_refused : (kind : Kind) (mode : Round) (text : List ℕ) (answer : Answer)
     → IsDecimalOutcome kind mode text (Some answer) → IsDecimalOutcome kind mode text None → ⊥
 read_or_refused kind mode text answer x y =
-    subst (λ (fault : Option Fault). IsTrue (is_some fault)) (answer_no_fault kind mode text answer x.1) (y x.0)
+    never
+    (subst (λ (fault : Option Fault). IsTrue (is_some fault)) (answer_no_fault kind mode text answer x.1) (y x.0))
 
 read_answer_once : (kind : Kind) → KindHasLaw kind → (mode : Round) (text : List ℕ) (first second : Answer)
     → IsDecimalOutcome kind mode text (Some first) → IsDecimalOutcome kind mode text (Some second)
