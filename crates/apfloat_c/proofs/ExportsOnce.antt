@@ -37,14 +37,9 @@ use Rattle.formats_at_run_time.specs.ValueKinds.{Kind, of_format, of_pairs, valu
 use Rattle.formats_at_run_time.proofs.OfTwoOnce.{of_two_once}
 use Rattle.apfloat_c.specs.declared.exported_call.ExportedCall.{ExportedCall}
 use Rattle.apfloat_c.specs.declared.exported_call.ExportedCall.TheVariants.{OfTwo, FusedSum, SquareRoot, FromUnsigned, FromSigned, ToUnsigned, ToSigned, RoundToIntegral, Scaling, Fraction, Exponent, NextUp, NextDown, Comparison, Class, Conversion, Text}
+use Rattle.apfloat_c.specs.OneAnswer.{SameAnswer}
 use Rattle.apfloat_c.specs.KnownCalls.{fault_in, known_call, without}
 use Rattle.apfloat_c.specs.Answers.{IsKindAnswer, IsConverted, IsConvertedInto, IsConvertedTo, IsFractionOf, IsNumber, IsReturned, IsSigned, IsTypeAnswer, IsUnsigned, IsUntold, IsValue, IsWritten, one_if, whole}
-
--- two answers with the same number of 128 bits, the same flags, and the same other number
-pub record SameAnswer (first second : Answer) : Type 0 where
-  pub bits : whole first.bits ≡ whole second.bits
-  pub status : first.status ≡ second.status
-  pub number : first.number ≡ second.number
 
 -- at most one answer
 abbrev pub OnceAnswer : (Answer → Type 0) → Type 0
@@ -101,7 +96,7 @@ module _ {A : Type 0} (of_type : Relations A) (inverts : A → Option A → Type
       }
 
   -- a value with its status
-  value_once : (Holds : StatusAnd A → Type 0) → Determines Holds → OnceAnswer (IsValue of_type Holds)
+  pub value_once : (Holds : StatusAnd A → Type 0) → Determines Holds → OnceAnswer (IsValue of_type Holds)
   value_once Holds determines a b x y =
       let same = determines x.given y.given x.holds y.holds in
       written_once x.given y.given _ _ a b same refl x.is_written y.is_written
@@ -154,7 +149,7 @@ KindHasLaw (of_format c) = HasLaw c
 KindHasLaw of_pairs = ⊤
 
 -- each built-in format is one
-built_in_law : (format : BuiltInFormat) → HasLaw (constants_in format)
+pub built_in_law : (format : BuiltInFormat) → HasLaw (constants_in format)
 built_in_law format =
     let known = known_format format in
     record { law = known.lawful; wide = ltb-true _ _ known.wide }
@@ -165,7 +160,7 @@ other_flags_law : (c : Constants) (tiny ieee : Bool) → HasLaw c
 other_flags_law c tiny ieee has = record { law = other_flags c tiny ieee has.law; wide = has.wide }
 
 -- so each format of the codes is one
-format_law : (format : FlaggedFormat) → HasLaw (flagged_constants format)
+pub format_law : (format : FlaggedFormat) → HasLaw (flagged_constants format)
 format_law (BuiltIn format) = built_in_law format
 format_law (AfterRounding format) =
     let c = constants_in (format_of_ieee format) in
@@ -173,14 +168,14 @@ format_law (AfterRounding format) =
 format_law (BeforeRounding format) =
     other_flags_law (constants_in (format_of_ieee format)) true true (built_in_law (format_of_ieee format))
 
-kind_law : (known : FlaggedKind) → KindHasLaw (flagged_kind_of known)
+pub kind_law : (known : FlaggedKind) → KindHasLaw (flagged_kind_of known)
 kind_law (OfFormat format) = format_law format
 kind_law Pairs = tt
 
 -- ---- in a format
 
 module _ (constants : Constants) (has : HasLaw constants) (mode : Round) where
-  format_determined : AreDetermined (in_format constants) (IsExactInverse (format_with constants)) mode
+  pub format_determined : AreDetermined (in_format constants) (IsExactInverse (format_with constants)) mode
       constants.precision constants.bits
   format_determined =
       determined (format_with constants) (layout_with constants) constants.precision constants.bits mode
@@ -219,7 +214,7 @@ pair_root_once mode x = wide_answer_once (IsRoot wide mode) (root_once wide mode
 -- ---- one reply
 
 -- a call on values of any kind has one answer
-kind_once : (kind : Kind) → KindHasLaw kind → (mode : Round) (call : ExportedCall)
+pub kind_once : (kind : Kind) → KindHasLaw kind → (mode : Round) (call : ExportedCall)
     → OnceAnswer (IsKindAnswer kind mode call)
 kind_once (of_format c) has mode (FusedSum x y z) =
     value_once (in_format c) (IsExactInverse (format_with c)) mode c.precision c.bits has.wide
@@ -234,7 +229,7 @@ kind_once of_pairs has mode call =
     (λ x. gives_once _ (pair_root_once mode x)) call
 
 -- an answer that is left as it was
-unchanged : (old first second : Answer) → first ≡ old → second ≡ old → SameAnswer first second
+pub unchanged : (old first second : Answer) → first ≡ old → second ≡ old → SameAnswer first second
 unchanged old a b a_is b_is =
     let same = a_is ∙ sym b_is in
     record {

@@ -6,3 +6,5 @@ pub mod ExportsOnce
 pub mod TextsOnce
 pub mod ArrayCalls
 pub mod ElementCalls
+pub mod ArraysOnce
+pub mod ParsedOnce

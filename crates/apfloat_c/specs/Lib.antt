@@ -3,3 +3,4 @@ pub mod Answers
 pub mod ArrayCalls
 pub mod Arrays
 pub mod Decimals
+pub mod OneAnswer

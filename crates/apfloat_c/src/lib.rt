@@ -17,4 +17,5 @@ mod elements;
 mod exported_call;
 mod exports;
 mod maps;
+mod one_answer;
 mod operations;

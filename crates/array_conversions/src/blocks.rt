@@ -1,9 +1,8 @@
 //! Values in consecutive bytes.
 
 ghost use Rattle.std.specs.Prelude.{◌≡◌, ◌*◌, ◌<◌, ◌≤◌, length};
-ghost use Rattle.rustc_apfloat.specs.Types.{constants_of};
-ghost use Rattle.rustc_apfloat.specs.FlaggedTypes.{constants_of as flagged_constants_of};
-ghost use Rattle.array_conversions.specs.Values.{IsConvertedBy, IsConvertedValue};
+ghost use Rattle.rustc_apfloat.specs.FlaggedTypes.{constants_of};
+ghost use Rattle.array_conversions.specs.Values.{IsConvertedBy};
 ghost use Rattle.array_conversions.specs.Blocks.{IsBlock};
 ghost use Rattle.array_conversions.specs.OneBlock.{IsBlockOnce};
 
@@ -13,30 +12,10 @@ use crate::one_value::convert_value;
 use crate::saturation::Overflow;
 use crate::widths::Widths;
 use rustc_apfloat::Round;
-use rustc_apfloat::ieee::{Flagged, Semantics};
+use rustc_apfloat::ieee::Flagged;
 
-/// Converts a count of values, each in its place: the bytes of the first to the bytes of the first, and so on.
-pub fn convert_block<S: Semantics, T: Semantics>(
-    round: Round,
-    widths: Widths,
-    count: usize,
-    input: &[u8],
-    output: &mut [u8],
-) -> Counts
-    requires read { S.PRECISION < S.BITS }
-    requires written { T.PRECISION < T.BITS }
-    requires source { widths.source ≤ 16 }
-    requires target { T.BITS ≤ 8 * widths.target }
-    requires input { length input.now ≡ count * widths.source }
-    requires output { length output.old ≡ count * widths.target }
-    ensures { let c = constants_of S.Semantics in let d = constants_of T.Semantics in
-        IsBlock (IsConvertedValue c d round) widths.source widths.target count
-        input.now output.new result }
-{
-    convert_block_by::<S, T>(Overflow::Rounded, round, widths, count, input, output)
-}
-
-/// The same, with either rule of flags, and with what an overflow gives.
+/// Converts a count of values, each in its place: the bytes of the first to the bytes of the first, and so on. `overflow`
+/// says what a number that overflows gives.
 pub fn convert_block_by<S: Flagged, T: Flagged>(
     overflow: Overflow,
     round: Round,
@@ -51,8 +30,7 @@ pub fn convert_block_by<S: Flagged, T: Flagged>(
     requires target { T.BITS ≤ 8 * widths.target }
     requires input { length input.now ≡ count * widths.source }
     requires output { length output.old ≡ count * widths.target }
-    ensures { let c = flagged_constants_of S.Flagged in
-        let d = flagged_constants_of T.Flagged in
+    ensures { let c = constants_of S.Flagged in let d = constants_of T.Flagged in
         IsBlock (IsConvertedBy overflow c d round) widths.source widths.target count
         input.now output.new result }
 {

@@ -4,7 +4,7 @@ ghost use Rattle.std.specs.Prelude.{◌≡◌, ◌+◌, ◌*◌, ◌/◌, ◌≤
 ghost use Rattle.formats_at_run_time.specs.BuiltIns.{constants_in};
 ghost use Rattle.array_conversions.specs.Words.{conversion_named, format_named};
 ghost use Rattle.array_conversions.specs.Widths.{source_width, target_width};
-ghost use Rattle.array_conversions.specs.Values.{IsConvertedBy, IsConvertedValue};
+ghost use Rattle.array_conversions.specs.Values.{IsConvertedBy};
 ghost use Rattle.array_conversions.specs.Blocks.{IsBlock};
 
 use crate::block_call::BlockCall;
@@ -55,25 +55,7 @@ impl Conversion {
     }
 
     /// Converts the values that are complete in the bytes read, each in its place. The buffer has to have room for
-    /// them; what its bytes after them hold is not specified.
-    pub fn convert(self, read: &[u8], written: Vec<u8>) -> ConvertedBlock
-        requires { (length read.now / source_width self) * target_width self
-            ≤ length written.items }
-        ensures parts { let count = length read.now / source_width self in
-            (result.written ≡ count * target_width self)
-            × (result.left_over + count * source_width self ≡ length read.now) }
-        ensures room { length result.buffer.items ≡ length written.items }
-        ensures within { result.written ≤ length result.buffer.items }
-        ensures block { let count = length read.now / source_width self in
-            let c = constants_in self.source in let d = constants_in self.target in
-            IsBlock (IsConvertedValue c d self.round) (source_width self)
-            (target_width self) count (take (count * source_width self) read.now)
-            (take result.written result.buffer.items) result.counts }
-    {
-        self.convert_by(Overflow::Rounded, read, written)
-    }
-
-    /// The same, with what an overflow gives.
+    /// them; what its bytes after them hold is not specified. `overflow` says what a number that overflows gives.
     pub fn convert_by(self, overflow: Overflow, read: &[u8], written: Vec<u8>) -> ConvertedBlock
         requires { (length read.now / source_width self) * target_width self
             ≤ length written.items }

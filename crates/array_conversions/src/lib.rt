@@ -14,7 +14,7 @@ mod saturation;
 mod widths;
 
 pub use array::ArrayConversion;
-pub use blocks::{convert_block, convert_block_by, one_block};
+pub use blocks::{convert_block_by, one_block};
 pub use bytes::{number_of, write_number};
 pub use conversion::{Conversion, ConvertedBlock};
 pub use counts::{Counts, Outcome};

@@ -1,0 +1,115 @@
+-- A call on arrays leaves one code, the same bytes and the same counts.
+use Rattle.std.proofs.Common.{◌≡◌, ℕ, ◌*◌, ◌≤◌, Bool, List, ◌++◌, length, take, drop, Result, Ok, Err, sym, ap, ◌∙◌, arith}
+use Rattle.std.specs.Prelude.{◌/◌, min}
+use Rattle.std.proofs.lemmas.List.{take-take, take-append-drop, length-take}
+use Rattle.formats_at_run_time.specs.BuiltIns.{constants_in}
+use Rattle.formats_at_run_time.specs.FlaggedKinds.{flagged_constants, flagged_kind_of}
+use Rattle.array_conversions.specs.declared.ArrayConversion.{ArrayConversion}
+use Rattle.array_conversions.specs.declared.Counts.{Counts}
+use Rattle.array_conversions.specs.Blocks.{value_at}
+use Rattle.array_conversions.specs.Bytes.{AreBytes, number_of}
+use Rattle.array_conversions.specs.Widths.{array_widths}
+use Rattle.array_conversions.proofs.OneBlock.{block_places_once}
+use Rattle.array_conversions.proofs.PlacesOnce.{FixesPlaces, bytes_take, places_once}
+use Rattle.apfloat_c.specs.declared.array_calls.MapCall.{MapCall}
+use Rattle.apfloat_c.specs.declared.array_data.ArrayAnswer.{ArrayAnswer}
+use Rattle.apfloat_c.specs.declared.array_data.Element.{Element}
+use Rattle.apfloat_c.specs.declared.array_data.ElementCounts.{ElementCounts}
+use Rattle.apfloat_c.specs.ArrayCalls.{bytes_in}
+use Rattle.apfloat_c.specs.Arrays.{AreConverted, AreMapped, IsElement, IsElementAt, answer_with, call_of, counts_of, is_nan_in}
+use Rattle.apfloat_c.specs.OneAnswer.{IsConvertedArrayOnce, IsLeftIn, IsMappedArrayOnce}
+use Rattle.apfloat_c.proofs.ExportsOnce.{format_law, kind_law, kind_once}
+
+-- ---- lists
+
+-- the first bytes of lists of one length are as many
+same_front_size : (n : ℕ) (bytes other : List ℕ) → length bytes ≡ length other
+    → length (take n bytes) ≡ length (take n other)
+same_front_size n bytes other size =
+    length-take n bytes ∙ ap (λ (k : ℕ). min n k) size ∙ sym (length-take n other)
+
+-- lists with the same bytes before and after a place are one
+same_whole : (n : ℕ) (bytes other : List ℕ) → take n (take n bytes) ≡ take n (take n other)
+    → drop n bytes ≡ drop n other → bytes ≡ other
+same_whole n bytes other front rest =
+    let here : n ≤ n = omega arith in
+    let same : take n bytes ≡ take n other =
+    sym (take-take n n bytes here) ∙ front ∙ take-take n n other here in
+    sym (take-append-drop n bytes)
+    ∙ ap (λ (l : List ℕ). l ++ drop n bytes) same
+    ∙ ap (λ (l : List ℕ). take n other ++ l) rest
+    ∙ take-append-drop n other
+
+-- ---- conversions
+
+converted_once : (conversion : ArrayConversion) (count : ℕ) (given old first second : List ℕ)
+    (after also : ArrayAnswer) → IsLeftIn old first → IsLeftIn old second
+    → AreConverted conversion count given old first after → AreConverted conversion count given old second also
+    → (first ≡ second) × (after ≡ also)
+converted_once conversion count given old first second after also a b x y =
+    let all = count * (array_widths conversion).target in
+    let law = format_law conversion.target in
+    let same = block_places_once conversion.overflow (constants_in conversion.source)
+    (flagged_constants conversion.target) conversion.round (array_widths conversion).source
+    (array_widths conversion).target count given (take all first) (take all second) x.counts y.counts law.law law.wide
+    (bytes_take all first a.are_bytes) (bytes_take all second b.are_bytes)
+    (same_front_size all first second (a.size ∙ sym b.size)) x.block y.block in (
+      same_whole all first second same.0 (x.kept ∙ sym y.kept),
+      x.answer_is ∙ ap (λ (c : Counts). answer_with (record { counts = c; div_by_zero = 0 })) same.1
+          ∙ sym y.answer_is,
+    )
+
+pub converted_array_once : IsConvertedArrayOnce
+converted_array_once (Err error) given old first second before after also code other a b x y =
+    (x.0 ∙ sym y.0, x.1 ∙ sym y.1, x.2 ∙ sym y.2)
+converted_array_once (Ok conversion) given old first second before after also code other a b x y =
+    let same = converted_once conversion (length given / (array_widths conversion).source) given old first second
+    after also a b x.1 y.1 in
+    (x.0 ∙ sym y.0, same.0, same.1)
+
+-- ---- operations
+
+same_element : (one other : Element) → one.status ≡ other.status → one.is_nan ≡ other.is_nan → one ≡ other
+same_element a b status nan =
+    ap (λ (n : ℕ). record { status = n; is_nan = a.is_nan }) status
+    ∙ ap (λ (n : Bool). record { status = b.status; is_nan = n }) nan
+
+-- an operation has one result and one outcome
+element_once : (map : MapCall) (x y z : ℕ) (bytes other : List ℕ) (element also : Element)
+    → IsElement map x y z bytes element → IsElement map x y z other also
+    → (number_of bytes ≡ number_of other) × (element ≡ also)
+element_once map x y z bytes other element also h k =
+    let kind = flagged_kind_of map.kind in
+    let same = kind_once kind (kind_law map.kind) map.round (call_of map.operation x y z) h.answer k.answer h.is_answer
+    k.is_answer in (
+      h.bits_are ∙ same.bits ∙ sym k.bits_are,
+      same_element element also (h.status_is ∙ same.status ∙ sym k.status_is)
+          (h.nan_is ∙ ap (λ (n : ℕ). is_nan_in kind n) same.bits ∙ sym k.nan_is),
+    )
+
+mapped_once : (map : MapCall) (count : ℕ) (xs ys zs old first second : List ℕ) (after also : ArrayAnswer)
+    → IsLeftIn old first → IsLeftIn old second
+    → AreMapped map count xs ys zs old first after → AreMapped map count xs ys zs old second also
+    → (first ≡ second) × (after ≡ also)
+mapped_once map count xs ys zs old first second after also a b x y =
+    let width = bytes_in map.kind in
+    let all = count * bytes_in map.kind in
+    let fixes : FixesPlaces (IsElementAt map xs ys zs) = λ index bytes other element also.
+    element_once map (number_of (value_at width index xs)) (number_of (value_at width index ys))
+    (number_of (value_at width index zs)) bytes other element also in
+    let same = places_once (IsElementAt map xs ys zs) (bytes_in map.kind) count (take all first) (take all second)
+    x.are_elements.elements y.are_elements.elements fixes (bytes_take all first a.are_bytes)
+    (bytes_take all second b.are_bytes) (same_front_size all first second (a.size ∙ sym b.size))
+    x.are_elements.places y.are_elements.places in
+    let counted : x.counted ≡ y.counted =
+    x.are_elements.counted_are ∙ ap (λ (l : List Element). counts_of l) same.1 ∙ sym y.are_elements.counted_are in (
+      same_whole all first second same.0 (x.kept ∙ sym y.kept),
+      x.answer_is ∙ ap (λ (c : ElementCounts). answer_with c) counted ∙ sym y.answer_is,
+    )
+
+pub mapped_array_once : IsMappedArrayOnce
+mapped_array_once (Err error) xs ys zs old first second before after also code other a b x y =
+    (x.0 ∙ sym y.0, x.1 ∙ sym y.1, x.2 ∙ sym y.2)
+mapped_array_once (Ok map) xs ys zs old first second before after also code other a b x y =
+    let same = mapped_once map (length xs / bytes_in map.kind) xs ys zs old first second after also a b x.1 y.1 in
+    (x.0 ∙ sym y.0, same.0, same.1)

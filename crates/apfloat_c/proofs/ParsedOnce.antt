@@ -1,0 +1,78 @@
+-- A decimal text is read in one way: one code, and one answer.
+use Rattle.std.proofs.Common.{◌≡◌, ℕ, true, false, List, Option, None, Some, Ok, Err, sym, ◌∙◌, subst, inl, inr, lit<}
+use Rattle.std.specs.Prelude.{IsTrue, is_some}
+use Rattle.rustc_apfloat.specs.declared.Round.{Round}
+use Rattle.rustc_apfloat.specs.Exponents.{IsExactInverse}
+use Rattle.rustc_apfloat.specs.Flags.{bits_of}
+use Rattle.rustc_apfloat.specs.Lawful.{format_with}
+use Rattle.rustc_apfloat.specs.PairCalls.{IsPairExactInverse}
+use Rattle.rustc_apfloat.specs.PairFormats.{wide}
+use Rattle.apfloat_model.specs.declared.parse_error.Fault.{Fault}
+use Rattle.apfloat_model.proofs.Determined.{gives_once}
+use Rattle.apfloat_pair_theory.proofs.calls.PairsDetermined.{pairs_determined}
+use Rattle.apfloat_decimals.specs.DecimalTexts.{decimal_fault_of}
+use Rattle.apfloat_decimals.proofs.spelled.OneReading.{decimal_reading_once, reading_no_fault}
+use Rattle.pair_decimals.proofs.OneReading.{pair_decimal_reading_once}
+use Rattle.formats_at_run_time.specs.declared.BuiltInKind.{BuiltInKind}
+use Rattle.formats_at_run_time.specs.declared.BuiltInKind.TheVariants.{OfFormat as OfBuiltIn, Pairs as PairsOfDoubles}
+use Rattle.formats_at_run_time.specs.BuiltIns.{kind_of}
+use Rattle.formats_at_run_time.specs.Relations.{in_format, in_pairs}
+use Rattle.formats_at_run_time.specs.ValueKinds.{Kind, of_format, of_pairs}
+use Rattle.apfloat_c.specs.declared.data.Answer.{Answer}
+use Rattle.apfloat_c.specs.Decimals.{IsDecimalAnswer, IsDecimalOutcome, IsReadInto}
+use Rattle.apfloat_c.specs.OneAnswer.{IsParsedOnce, SameAnswer}
+use Rattle.apfloat_c.proofs.ExportsOnce.{KindHasLaw, OnceAnswer, built_in_law, format_determined, unchanged, value_once}
+
+-- a text has one value with one status
+decimal_answer_once : (kind : Kind) → KindHasLaw kind → (mode : Round) (text : List ℕ)
+    → OnceAnswer (IsDecimalAnswer kind mode text)
+decimal_answer_once (of_format c) has mode text =
+    value_once (in_format c) (IsExactInverse (format_with c)) mode c.precision c.bits has.wide
+    (format_determined c has mode) _ (gives_once _ (decimal_reading_once (format_with c) mode text))
+decimal_answer_once of_pairs has mode text =
+    value_once in_pairs IsPairExactInverse mode 106 128 (lit< tt) (pairs_determined mode) _
+    (gives_once _ (pair_decimal_reading_once mode text))
+
+-- and no fault
+answer_no_fault : (kind : Kind) (mode : Round) (text : List ℕ) (answer : Answer) → IsDecimalAnswer kind mode text answer
+    → decimal_fault_of text ≡ None
+answer_no_fault (of_format c) mode text answer x =
+    reading_no_fault (format_with c) mode text x.given.value (bits_of x.given.status) x.holds
+answer_no_fault of_pairs mode text answer x =
+    reading_no_fault wide mode text x.holds.value (bits_of x.given.status) x.holds.is_value
+
+never : false ≡ true → ⊥
+never e = cc
+
+-- so it is read or refused, not both
+read_or_refused : (kind : Kind) (mode : Round) (text : List ℕ) (answer : Answer)
+    → IsDecimalOutcome kind mode text (Some answer) → IsDecimalOutcome kind mode text None → ⊥
+read_or_refused kind mode text answer x y =
+    never
+    (subst (λ (fault : Option Fault). IsTrue (is_some fault)) (answer_no_fault kind mode text answer x.1) (y x.0))
+
+read_answer_once : (kind : Kind) → KindHasLaw kind → (mode : Round) (text : List ℕ) (first second : Answer)
+    → IsDecimalOutcome kind mode text (Some first) → IsDecimalOutcome kind mode text (Some second)
+    → SameAnswer first second
+read_answer_once kind has mode text a b x y = decimal_answer_once kind has mode text a b x.1 y.1
+
+read_into_once : (kind : Kind) → KindHasLaw kind → (mode : Round) (text : List ℕ) (old first second : Answer)
+    (code other : ℕ) → IsReadInto kind mode text old first code → IsReadInto kind mode text old second other
+    → (code ≡ other) × SameAnswer first second
+read_into_once kind has mode text old a b code other (inl x) (inl y) =
+    (x.0 ∙ sym y.0, read_answer_once kind has mode text a b x.1 y.1)
+read_into_once kind has mode text old a b code other (inl x) (inr y) =
+    absurd (read_or_refused kind mode text a x.1 y.2)
+read_into_once kind has mode text old a b code other (inr x) (inl y) =
+    absurd (read_or_refused kind mode text b y.1 x.2)
+read_into_once kind has mode text old a b code other (inr x) (inr y) =
+    (x.0 ∙ sym y.0, unchanged old a b x.1 y.1)
+
+built_in_kind_law : (kind : BuiltInKind) → KindHasLaw (kind_of kind)
+built_in_kind_law (OfBuiltIn format) = built_in_law format
+built_in_kind_law PairsOfDoubles = tt
+
+pub parsed_once : IsParsedOnce
+parsed_once (Err error) text old a b code other x y = (x.0 ∙ sym y.0, unchanged old a b x.1 y.1)
+parsed_once (Ok known) text old a b code other x y =
+    read_into_once (kind_of known.kind) (built_in_kind_law known.kind) known.mode text old a b code other x y

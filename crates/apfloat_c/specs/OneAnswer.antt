@@ -1,0 +1,68 @@
+-- What an export leaves is determined by its arguments: one code, and one answer, one text or one array.
+use Rattle.std.specs.Prelude.{◌≡◌, ℕ, List, length, Option, Result}
+use Rattle.rustc_apfloat.specs.declared.Round.{Round}
+use Rattle.formats_at_run_time.specs.declared.BuiltInFormat.{BuiltInFormat}
+use Rattle.formats_at_run_time.specs.declared.FlaggedKind.{FlaggedKind}
+use Rattle.array_conversions.specs.declared.ArrayConversion.{ArrayConversion}
+use Rattle.array_conversions.specs.Bytes.{AreBytes}
+use Rattle.apfloat_c.specs.declared.array_calls.MapCall.{MapCall}
+use Rattle.apfloat_c.specs.declared.array_data.ArrayAnswer.{ArrayAnswer}
+use Rattle.apfloat_c.specs.declared.data.Answer.{Answer}
+use Rattle.apfloat_c.specs.declared.decimals.DecimalText.{DecimalText}
+use Rattle.apfloat_c.specs.declared.exported_call.ExportedCall.{ExportedCall}
+use Rattle.apfloat_c.specs.Answers.{IsReturned, whole}
+use Rattle.apfloat_c.specs.Arrays.{IsConvertedArray, IsMappedArray}
+use Rattle.apfloat_c.specs.Decimals.{KnownReading, IsParsed, IsShortestWritten}
+use Rattle.apfloat_c.specs.KnownCalls.{known_call}
+
+-- two answers with the same number of 128 bits, the same flags, and the same other number
+pub record SameAnswer (first second : Answer) : Type 0 where
+  pub bits : whole first.bits ≡ whole second.bits
+  pub status : first.status ≡ second.status
+  pub number : first.number ≡ second.number
+
+-- a call on single values
+abbrev pub IsReplyOnce : Type 0
+IsReplyOnce =
+    (format : Option FlaggedKind) (mode : Option Round) (call : ExportedCall) (old first second : Answer)
+    (code other : ℕ)
+    → IsReturned (known_call format mode call) old first code
+    → IsReturned (known_call format mode call) old second other
+    → (code ≡ other) × SameAnswer first second
+
+-- a decimal text that is read
+abbrev pub IsParsedOnce : Type 0
+IsParsedOnce =
+    (known : Result KnownReading ℕ) (text : List ℕ) (old first second : Answer) (code other : ℕ)
+    → IsParsed known text old first code → IsParsed known text old second other
+    → (code ≡ other) × SameAnswer first second
+
+-- the text of a shortest decimal
+abbrev pub IsTextOnce : Type 0
+IsTextOnce =
+    (format : Result BuiltInFormat ℕ) (bits : ℕ) (old first second : DecimalText) (code other : ℕ)
+    → IsShortestWritten format bits old first code → IsShortestWritten format bits old second other
+    → (code ≡ other) × (first ≡ second)
+
+-- what a call leaves where these numbers were lent, as in every `&mut [u8]`: as many, and each a byte
+pub record IsLeftIn (old bytes : List ℕ) : Type 0 where
+  pub are_bytes : AreBytes bytes
+  pub size : length bytes ≡ length old
+
+-- an array that is converted
+abbrev pub IsConvertedArrayOnce : Type 0
+IsConvertedArrayOnce =
+    (known : Result ArrayConversion ℕ) (given old first second : List ℕ) (before after also : ArrayAnswer)
+    (code other : ℕ) → IsLeftIn old first → IsLeftIn old second
+    → IsConvertedArray known given old first before after code
+    → IsConvertedArray known given old second before also other
+    → (code ≡ other) × (first ≡ second) × (after ≡ also)
+
+-- an operation on arrays
+abbrev pub IsMappedArrayOnce : Type 0
+IsMappedArrayOnce =
+    (known : Result MapCall ℕ) (xs ys zs old first second : List ℕ) (before after also : ArrayAnswer)
+    (code other : ℕ) → IsLeftIn old first → IsLeftIn old second
+    → IsMappedArray known xs ys zs old first before after code
+    → IsMappedArray known xs ys zs old second before also other
+    → (code ≡ other) × (first ≡ second) × (after ≡ also)

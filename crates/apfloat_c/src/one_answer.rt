@@ -1,0 +1,12 @@
+//! What an export leaves is determined by its arguments.
+
+ghost use Rattle.apfloat_c.specs.OneAnswer.{IsConvertedArrayOnce, IsMappedArrayOnce, IsParsedOnce, IsReplyOnce, IsTextOnce};
+
+/// The contract of each export allows one code and one answer, text or array.
+pub fn one_answer()
+    ensures reply { IsReplyOnce }
+    ensures parsed { IsParsedOnce }
+    ensures text { IsTextOnce }
+    ensures converted { IsConvertedArrayOnce }
+    ensures mapped { IsMappedArrayOnce }
+{}
