@@ -51,6 +51,21 @@ struct Cut {
     half: u64,
 }
 
+impl Cut {
+    /// The same cut, rebuilt from its fields, for a call that takes it by address.
+    #[inline(always)]
+    fn remade(self) -> Cut
+        ensures { result ≡ self }
+    {
+        Cut {
+            significand: self.significand,
+            place: self.place,
+            rest: self.rest,
+            half: self.half,
+        }
+    }
+}
+
 /// What is known of a cut before it is rounded, so that the compiler leaves out what cannot happen.
 #[derive(Clone, Copy, Debug)]
 enum Known {
@@ -208,7 +223,13 @@ fn last_digit(number: u128) -> u64
 fn is_outward(mode: Round, negative: bool) -> bool
     ensures { result ≡ points_away mode negative }
 {
-    ((mode == Round::TowardPositive) & !negative) | ((mode == Round::TowardNegative) & negative)
+    match mode {
+        Round::TowardPositive => !negative,
+        Round::TowardNegative => negative,
+        Round::NearestTiesToEven => false,
+        Round::NearestTiesToAway => false,
+        Round::TowardZero => false,
+    }
 }
 
 /// Whether the mode moves a significand up for the rest below it, in units of which its last digit is `2 * half`.
@@ -217,13 +238,11 @@ fn moves_past(mode: Round, negative: bool, rest: u64, half: u64, odd: bool) -> b
     requires { 0 < half }
     ensures { result ≡ rounds_up mode negative (loss_at rest half) odd }
 {
-    if mode == Round::NearestTiesToEven {
-        return rest > half - u64::from(odd);
+    match mode {
+        Round::NearestTiesToEven => rest > half - u64::from(odd),
+        Round::NearestTiesToAway => rest >= half,
+        _ => is_outward(mode, negative) & (rest != 0),
     }
-    if mode == Round::NearestTiesToAway {
-        return rest >= half;
-    }
-    is_outward(mode, negative) & (rest != 0)
 }
 
 /// Whether the mode moves a significand up for what was lost.
@@ -313,14 +332,20 @@ fn is_past(precision: u32, point: Point, greatest: u128, span: u32) -> bool
 fn leads_past(mode: Round, negative: bool) -> bool
     ensures { result ≡ leads_out mode negative }
 {
-    let to_nearest = (mode == Round::NearestTiesToEven) | (mode == Round::NearestTiesToAway);
-    to_nearest | is_outward(mode, negative)
+    match mode {
+        Round::TowardPositive => !negative,
+        Round::TowardNegative => negative,
+        Round::NearestTiesToEven => true,
+        Round::NearestTiesToAway => true,
+        Round::TowardZero => false,
+    }
 }
 
 /// Whether the magnitude, rounded with an unbounded exponent, is below the smallest normalized value. If the kept
 /// digits are all ones just below it, and more than half a quantum was cut off, what is left of the rest below that
-/// half decides, against what is missing to the whole.
-#[inline(always)]
+/// half decides, against what is missing to the whole. Kept out of line: built-in formats never ask.
+#[cold]
+#[inline(never)]
 fn rounds_below_normal(shape: Shape, cut: Cut, mode: Round, negative: bool) -> bool
     requires rest { cut.rest < 2 * cut.half }
     ensures { (amount parts : ℕ) → 0 < parts → IsCut shape.precision cut amount parts
@@ -357,7 +382,7 @@ fn is_tiny(shape: Shape, known: Known, cut: Cut, after: u128, mode: Round, negat
         return cut.significand < shape.integer_bit();
     }
     if shape.ieee_flags {
-        return rounds_below_normal(shape, cut, mode, negative);
+        return rounds_below_normal(shape.remade(), cut.remade(), mode, negative);
     }
     after < shape.integer_bit()
 }

@@ -24,7 +24,7 @@ pub returns-then-shape-2 : goal.returns-then-shape-2
 returns-then-shape-2 c = λ amount parts p x g f.
     unbounded_is (format_at c.args.shape) c.args.mode c.args.negative amount parts
     (c.args.after * 2 ^ c.args.cut.place) c.if-shape.false c.if-shape-2.true
-    ∙ c.rounds_below_normal.ensures amount parts p x
+    ∙ (rw (c.remade.ensures, c.remade-then-shape-2.ensures) at c.rounds_below_normal.ensures) amount parts p x
     (g (read_halves (format_at c.args.shape) c.if-shape.false c.if-shape-2.true))
 
 pub returns : goal.returns
