@@ -5,6 +5,7 @@ use Rattle.apfloat_model.specs.declared.loss.Loss.{Loss}
 use Rattle.apfloat_model.specs.declared.loss.Loss.TheVariants.{ExactlyZero}
 use Rattle.apfloat_model.specs.rounding.Enclosure.{IsEnclosed}
 use Rattle.apfloat_model.specs.rounding.Standing.{StandsFor}
+use Rattle.apfloat_model.proofs.general.Powers.{twice_half}
 use Rattle.apfloat_rounding.specs.Cuts.{IsCutFinely}
 use Rattle.apfloat_rounding.specs.declared.rounding.Cut.{Cut}
 
@@ -17,6 +18,12 @@ all_kept precision cut amount parts f = λ e m. absurd (omega (arith, f, e))
 pub at_quantum : (precision m place : ℕ) → (place ≡ 0) ⊎ (2 ^ (precision - 1) ≤ m) → m + 1 ≡ 2 ^ (precision - 1)
     → place ≡ 0
 at_quantum precision m place f e = ⊎_elim (λ z. z) (λ l. absurd (omega (arith, l, e))) f
+
+-- a number below half of a power of two is below that power
+pub below_whole : (precision m : ℕ) → 3 ≤ precision → m < 2 ^ (precision - 1) → m < 2 ^ precision
+below_whole precision m p l =
+    let t : 2 * 2 ^ (precision - 1) ≡ 2 ^ precision = twice_half precision (omega (arith, p)) in
+    omega (arith, l, t)
 
 -- a number without none of its digits is itself
 pub div_one : (n : ℕ) → n / 2 ^ 0 ≡ n

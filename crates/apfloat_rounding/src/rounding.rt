@@ -71,9 +71,7 @@ impl Cut {
 enum Known {
     /// The magnitude is at least the smallest normalized value, so that all digits of the format are kept.
     Normal,
-    /// The magnitude is below the smallest normalized value, and the format has at most 62 digits.
-    BelowNormal,
-    /// Either.
+    /// Nothing.
     Nothing,
 }
 
@@ -84,19 +82,6 @@ fn surely_normal(known: Known) -> bool
 {
     match known {
         Known::Normal => true,
-        Known::BelowNormal => false,
-        Known::Nothing => false,
-    }
-}
-
-/// Whether the magnitude is known to be below the smallest normalized value.
-#[inline(always)]
-fn surely_below(known: Known) -> bool
-    ensures { result ≡ true → known ≡ Known.BelowNormal }
-{
-    match known {
-        Known::Normal => false,
-        Known::BelowNormal => true,
         Known::Nothing => false,
     }
 }
@@ -223,13 +208,7 @@ fn last_digit(number: u128) -> u64
 fn is_outward(mode: Round, negative: bool) -> bool
     ensures { result ≡ points_away mode negative }
 {
-    match mode {
-        Round::TowardPositive => !negative,
-        Round::TowardNegative => negative,
-        Round::NearestTiesToEven => false,
-        Round::NearestTiesToAway => false,
-        Round::TowardZero => false,
-    }
+    ((mode == Round::TowardPositive) & !negative) | ((mode == Round::TowardNegative) & negative)
 }
 
 /// Whether the mode moves a significand up for the rest below it, in units of which its last digit is `2 * half`.
@@ -238,11 +217,13 @@ fn moves_past(mode: Round, negative: bool, rest: u64, half: u64, odd: bool) -> b
     requires { 0 < half }
     ensures { result ≡ rounds_up mode negative (loss_at rest half) odd }
 {
-    match mode {
-        Round::NearestTiesToEven => rest > half - u64::from(odd),
-        Round::NearestTiesToAway => rest >= half,
-        _ => is_outward(mode, negative) & (rest != 0),
+    if mode == Round::NearestTiesToEven {
+        return rest > half - u64::from(odd);
     }
+    if mode == Round::NearestTiesToAway {
+        return rest >= half;
+    }
+    is_outward(mode, negative) & (rest != 0)
 }
 
 /// Whether the mode moves a significand up for what was lost.
@@ -429,18 +410,13 @@ fn status_within(rest: u64, tiny: bool) -> Status
 /// Whether a significand that was picked is within the format as it is: below the greatest exponent, where no carry
 /// moves the place.
 #[inline(always)]
-fn stays_within(shape: Shape, known: Known, significand: u128, place: u32) -> bool
+fn stays_within(shape: Shape, significand: u128, place: u32) -> bool
     requires fits { significand ≤ 2 ^ shape.precision }
     requires full { (place ≡ 0) ⊎ (2 ^ (shape.precision - 1) ≤ significand) }
-    requires below { known ≡ Known.BelowNormal
-        → (place ≡ 0) × (significand ≤ 2 ^ (shape.precision - 1)) }
     ensures fits { result ≡ true → significand < 2 ^ shape.precision }
     ensures within { result ≡ true → significand * 2 ^ place ≤ largest (format_at shape) }
     ensures full { result ≡ false → 2 ^ (shape.precision - 1) ≤ significand }
 {
-    if surely_below(known) {
-        return true;
-    }
     if place >= shape.span() {
         return false;
     }
@@ -454,18 +430,78 @@ fn value_of(shape: Shape, known: Known, negative: bool, significand: u128, place
     requires near { place ≤ place_bound }
     requires within { significand * 2 ^ place ≤ largest (format_at shape) }
     requires normal { known ≡ Known.Normal → 2 ^ (shape.precision - 1) ≤ significand }
-    requires below { known ≡ Known.BelowNormal
-        → (place ≡ 0) × (significand ≤ 2 ^ (shape.precision - 1)) }
-    requires short { known ≡ Known.BelowNormal → shape.precision ≤ 62 }
     ensures stored { IsStored shape result }
     ensures datum { datum_at shape result
         ≡ signed_quanta shape.nonfinite negative (significand * 2 ^ place) }
 {
     match known {
         Known::Normal => from_full_quanta(shape, negative, significand, place),
-        Known::BelowNormal => from_few_quanta(shape, negative, significand as u64),
         Known::Nothing => from_rounded_quanta(shape, negative, significand, place),
     }
+}
+
+/// What a mode picks of a cut, and the status of that where it is within the format.
+#[derive(Clone, Copy, Debug)]
+struct Picked {
+    significand: u128,
+    tiny: bool,
+    status: Status,
+}
+
+/// Picks the kept digits or the next number after them, with the status of a rounding within the format.
+#[inline(always)]
+fn pick_with_status(shape: Shape, known: Known, cut: Cut, mode: Round, negative: bool) -> Picked
+    requires fits { cut.significand < 2 ^ shape.precision }
+    requires rest { cut.rest < 2 * cut.half }
+    requires normal { known ≡ Known.Normal → 2 ^ (shape.precision - 1) ≤ cut.significand }
+    ensures value { result.significand ≡ (if rounds_up mode negative (loss_at cut.rest cut.half)
+        (eqb (cut.significand % 2) 1) then cut.significand + 1 else cut.significand) }
+    ensures bound { result.significand ≤ cut.significand + 1 }
+    ensures above { cut.significand ≤ result.significand }
+    ensures tiny { (amount parts : ℕ) → 0 < parts → IsCut shape.precision cut amount parts
+        → IsFineCut (format_at shape) cut amount parts
+        → (cut.place ≡ 0) ⊎ (2 ^ (shape.precision - 1) ≤ result.significand)
+        → is_tiny (format_at shape) mode negative amount parts (result.significand * 2 ^ cut.place)
+        ≡ result.tiny }
+    ensures exact { cut.rest ≡ 0 → bits_of result.status ≡ ok_bits }
+    ensures inexact { (cut.rest ≡ 0 → ⊥) → bits_of result.status
+        ≡ (if result.tiny then underflow_bit + inexact_bit else inexact_bit) }
+{
+    let significand = pick(shape.precision, cut, mode, negative);
+    let tiny = is_tiny(shape, known, cut, significand, mode, negative);
+    Picked {
+        significand,
+        tiny,
+        status: status_within(cut.rest, tiny),
+    }
+}
+
+/// That many quanta with that sign, at most the smallest normalized value.
+#[inline(always)]
+fn value_below(shape: Shape, negative: bool, quanta: u128) -> Unpacked
+    requires short { shape.precision ≤ 62 }
+    requires few { quanta ≤ 2 ^ (shape.precision - 1) }
+    ensures stored { IsStored shape result }
+    ensures datum { datum_at shape result ≡ signed_quanta shape.nonfinite negative quanta }
+{
+    from_few_quanta(shape, negative, quanta as u64)
+}
+
+/// Rounds a cut below the smallest normalized value, where no result is past the largest value.
+#[inline(always)]
+fn round_below(shape: Shape, cut: Cut, mode: Round, negative: bool) -> StatusAnd<Unpacked>
+    requires short { shape.precision ≤ 62 }
+    requires fits { cut.significand < 2 ^ (shape.precision - 1) }
+    requires place { cut.place ≡ 0 }
+    requires rest { cut.rest < 2 * cut.half }
+    ensures stored { IsStored shape result.value }
+    ensures delivered { (amount parts : ℕ) → 0 < parts → IsCut shape.precision cut amount parts
+        → IsFineCut (format_at shape) cut amount parts
+        → GivesAt shape (IsDelivered (format_at shape) mode negative amount parts) result }
+{
+    let picked = pick_with_status(shape, Known::Nothing, cut, mode, negative);
+    let value = value_below(shape, negative, picked.significand);
+    picked.status.and(value)
 }
 
 /// Rounds a cut to a value of the format.
@@ -476,21 +512,17 @@ fn round(shape: Shape, known: Known, cut: Cut, mode: Round, negative: bool) -> S
     requires near { cut.place < place_bound }
     requires rest { cut.rest < 2 * cut.half }
     requires normal { known ≡ Known.Normal → 2 ^ (shape.precision - 1) ≤ cut.significand }
-    requires below { known ≡ Known.BelowNormal
-        → (cut.place ≡ 0) × (cut.significand < 2 ^ (shape.precision - 1)) }
-    requires short { known ≡ Known.BelowNormal → shape.precision ≤ 62 }
     ensures stored { IsStored shape result.value }
     ensures delivered { (amount parts : ℕ) → 0 < parts → IsCut shape.precision cut amount parts
         → IsFineCut (format_at shape) cut amount parts
         → GivesAt shape (IsDelivered (format_at shape) mode negative amount parts) result }
 {
-    let picked = pick(shape.precision, cut, mode, negative);
-    let tiny = is_tiny(shape, known, cut, picked, mode, negative);
-    let status = status_within(cut.rest, tiny);
-    if stays_within(shape, known, picked, cut.place) {
-        return status.and(value_of(shape, known, negative, picked, cut.place));
+    let picked = pick_with_status(shape, known, cut, mode, negative);
+    let status = picked.status;
+    if stays_within(shape, picked.significand, cut.place) {
+        return status.and(value_of(shape, known, negative, picked.significand, cut.place));
     }
-    let point = carried(shape.precision, picked, cut.place);
+    let point = carried(shape.precision, picked.significand, cut.place);
     let greatest = shape.greatest_significand();
     if is_past(shape.precision, point, greatest, shape.span()) {
         return overflowed(shape, mode, negative);
@@ -744,7 +776,7 @@ pub fn deliver_u128_digits(
         }
         if shape.precision <= 59 {
             let cut = cut_at_quantum(shape.precision, in_word(significand, digits, unit));
-            return round(shape, Known::BelowNormal, cut, mode, negative);
+            return round_below(shape, cut, mode, negative);
         }
     }
     deliver(

@@ -14,7 +14,7 @@ ghost use Rattle.apfloat_rounding.specs.Shapes.{format_at};
 ghost use Rattle.apfloat_rounding.specs.Stored.{IsStored, GivesAt};
 
 use super::denormal::{Word, cut_at_quantum, whole_quanta};
-use super::{Cut, Known, full_place, low_of_word, round, unit_place, word_power};
+use super::{Cut, Known, full_place, low_of_word, round, round_below, unit_place, word_power};
 use crate::shape::Shape;
 use crate::unpacked::{Unpacked, from_few_quanta};
 use apfloat_model::{ExpInt, Loss, Round, Status, StatusAnd};
@@ -163,5 +163,5 @@ pub fn deliver_word_digits(
         unit,
     };
     let cut = cut_at_quantum(shape.precision, word);
-    round(shape, Known::BelowNormal, cut, mode, negative)
+    round_below(shape, cut, mode, negative)
 }

@@ -48,7 +48,7 @@ returns-then-shape-le59-clause-delivered c = λ amount parts u h.
     let g = in_quanta (goal.at.returns-then-shape-le59-clause-delivered c).After-unit_place-unit amount parts h in
     let o = c.in_word.ensures.odd amount parts u g in
     let x = c.cut_at_quantum-cut.ensures.cut amount parts u (to_odd_least (2 ^ 61) (2 ^ (precision + 1)) _ _ _ k o) in
-    c.round-then-shape-le59.ensures.delivered amount parts u x.0 (λ r. x.1)
+    c.round_below.ensures.delivered amount parts u x.0 (λ r. x.1)
 
 pub returns-clause-delivered : goal.returns-clause-delivered
 returns-clause-delivered c =

@@ -27,4 +27,4 @@ returns-clause-delivered c = λ amount parts u h.
     let h' = subst (λ (x : ℤ). IsRoundedToOdd (2 ^ (c.args.shape.precision + 1)) c.args.significand
     (amount * 2 ^ down x) (parts * 2 ^ up x)) (sym v ∙ sym w) h in
     let x = c.cut_at_quantum-cut.ensures.cut amount parts u h' in
-    c.round-2.ensures.delivered amount parts u x.0 (λ r. x.1)
+    c.round_below.ensures.delivered amount parts u x.0 (λ r. x.1)
