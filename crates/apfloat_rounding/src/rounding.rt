@@ -250,7 +250,28 @@ fn pick(precision: u32, cut: Cut, mode: Round, negative: bool) -> u128
     next_if(precision, cut.significand, moved)
 }
 
-/// The next significand, if it moved, or the significand itself.
+/// The next word, if it moved, or the word itself.
+#[inline(always)]
+fn next_word_if(word: u64, moved: bool) -> u64
+    requires { word < 2 ^ 63 }
+    ensures { result ≡ (if moved then word + 1 else word) }
+{
+    if moved { word + 1 } else { word }
+}
+
+/// A significand of at most 63 digits as a word.
+#[inline(always)]
+fn as_word(precision: u32, significand: u128) -> u64
+    requires short { precision ≤ 63 }
+    requires fits { significand < 2 ^ precision }
+    ensures same { result ≡ significand }
+    ensures room { result < 2 ^ 63 }
+{
+    significand as u64
+}
+
+/// The next significand, if it moved, or the significand itself. In a format of at most 63 digits it is made anew from
+/// one word, so that the compiler computes with one word of it.
 #[inline(always)]
 fn next_if(precision: u32, significand: u128, moved: bool) -> u128
     requires precise { precision ≤ 125 }
@@ -259,6 +280,9 @@ fn next_if(precision: u32, significand: u128, moved: bool) -> u128
     ensures bound { result ≤ significand + 1 }
     ensures above { significand ≤ result }
 {
+    if precision <= 63 {
+        return u128::from(next_word_if(as_word(precision, significand), moved));
+    }
     if moved { significand + 1 } else { significand }
 }
 

@@ -1,4 +1,4 @@
-use Rattle.std.proofs.Common.{◌≡◌, ℕ, ◌-◌, ◌*◌, ◌%◌, ◌^◌, ◌≤◌, eqb, ◌∙◌, ap, refl, inl, arith}
+use Rattle.std.proofs.Common.{◌≡◌, ℕ, ◌*◌, ◌%◌, ◌^◌, ◌≤◌, eqb, ◌∙◌, ap, refl, inl, arith}
 use Rattle.std.proofs.lemmas.Bool.{le-ltb}
 use Rattle.apfloat_model.specs.rounding.Enclosure.{rounds_up}
 use Rattle.apfloat_model.specs.rounding.Flags.{bits_of}
