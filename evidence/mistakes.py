@@ -148,6 +148,7 @@ MISTAKES = {
     "status-always-ok": [
         ("apfloat_rounding", "", "half parse even 0x1p-25\t0000 UNDERFLOW|INEXACT"),
         ("apfloat_rounding", "", THIRD),
+        ("apfloat_rounding", "-below", HALF_QUANTUM),
         ("apfloat_rounding", "-rest", HALF_QUANTUM),
         ("apfloat_arithmetic", "-sum", PAST_LARGEST),
         ("apfloat_arithmetic", "-product", HALF_QUANTUM),
