@@ -90,7 +90,7 @@ MISTAKES = {
     ],
     "underflow-before-rounding": [
         ("apfloat_rounding", "", "half mul even 0400 3bff\t0400 INEXACT"),
-        ("apfloat_rounding", "-odd", "half div up 07fe 3fff\t0400 INEXACT"),
+        ("apfloat_rounding", "", "half div up 07fe 3fff\t0400 INEXACT"),
     ],
     "exact-zero-keeps-left-sign": [
         ("apfloat_arithmetic", "", "half sub down 3c00 3c00\t8000 OK"),
@@ -147,7 +147,8 @@ MISTAKES = {
     ],
     "status-always-ok": [
         ("apfloat_rounding", "", "half parse even 0x1p-25\t0000 UNDERFLOW|INEXACT"),
-        ("apfloat_rounding", "-cut", THIRD),
+        ("apfloat_rounding", "", THIRD),
+        ("apfloat_rounding", "-below", HALF_QUANTUM),
         ("apfloat_rounding", "-rest", HALF_QUANTUM),
         ("apfloat_arithmetic", "-sum", PAST_LARGEST),
         ("apfloat_arithmetic", "-product", HALF_QUANTUM),

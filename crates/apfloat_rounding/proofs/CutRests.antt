@@ -1,5 +1,5 @@
 -- The rest below the digits of a precision, and how it decides the rounding.
-use Rattle.std.proofs.Common.{◌≡◌, ℕ, ◌+◌, ◌-◌, ◌*◌, ◌/◌, ◌%◌, ◌^◌, ◌<◌, ◌≤◌, Bool, true, false, cond, ltb, eqb, sym, refl, ap, ◌∙◌, subst, inl, inr, ⊎_elim, arith}
+use Rattle.std.proofs.Common.{◌≡◌, ℕ, ◌+◌, ◌-◌, ◌*◌, ◌/◌, ◌%◌, ◌^◌, ◌<◌, ◌≤◌, Bool, true, false, cond, ltb, eqb, sym, refl, ap, ◌∙◌, subst, inl, inr, ⊎_elim, arith, lit<}
 use Rattle.std.proofs.Math.Nat.{mul-pos, mul-le-mul_right, mul-le-mul_left, pow-le-pow_right}
 use Rattle.std.proofs.lemmas.Nat.{pow_pos, pow-add, mod_below, mod-pow-add, shr-shr}
 use Rattle.std.proofs.lemmas.Bool.{cases_lt, lt-ltb, le-ltb, eq-eqb, ne_eqb}
@@ -9,7 +9,7 @@ use Rattle.apfloat_model.specs.declared.loss.Loss.TheVariants.{ExactlyZero, Less
 use Rattle.apfloat_model.specs.formats.Format.{Format, greatest_significand, largest}
 use Rattle.apfloat_model.specs.formats.Datum.{Datum}
 use Rattle.apfloat_model.specs.rounding.Enclosure.{IsEnclosed, rounds_up}
-use Rattle.apfloat_model.specs.rounding.Rounding.{IsPick, IsDelivered, is_tiny, signed_quanta, ok_bits, inexact_bit}
+use Rattle.apfloat_model.specs.rounding.Rounding.{IsPick, IsDelivered, is_tiny, signed_quanta, ok_bits, underflow_bit, inexact_bit}
 use Rattle.apfloat_model.specs.rounding.Standing.{StandsFor}
 use Rattle.apfloat_model.proofs.formats.Greatest.{greatest_full}
 use Rattle.apfloat_model.proofs.general.Powers.{two_pos, twice_half}
@@ -31,7 +31,7 @@ loss_less rest half p l =
     let b : ltb rest half ≡ true = lt-ltb rest half l in
     rw (a, b) refl
 
-loss_half : (rest half : ℕ) → 0 < rest → rest ≡ half → loss_at rest half ≡ ExactlyHalf
+pub loss_half : (rest half : ℕ) → 0 < rest → rest ≡ half → loss_at rest half ≡ ExactlyHalf
 loss_half rest half p e =
     let a : eqb rest 0 ≡ false = ne_eqb rest 0 (λ z. omega (arith, z)) in
     let b : ltb rest half ≡ false = le-ltb rest half (omega (arith, e)) in
@@ -55,6 +55,38 @@ pub loss_some : (rest half : ℕ) → 0 < rest → loss_at rest half ≡ Exactly
 loss_some rest half p z =
     let a : eqb rest 0 ≡ false = ne_eqb rest 0 (λ e. omega (arith, e)) in
     no_zero (ltb rest half) (eqb rest half) (rw a at z)
+
+-- a rest of at most half is no loss of more
+pub loss_at_most : (rest half : ℕ) → rest ≤ half → loss_at rest half ≡ MoreThanHalf → ⊥
+loss_at_most rest half l e =
+    ⊎_elim
+    (λ (z : rest < 1). let a = sym (loss_zero rest half (omega arith)) ∙ e in cc)
+    (λ (p : 1 ≤ rest).
+    ⊎_elim
+    (λ (b : rest < half). let a = sym (loss_less rest half (omega arith) b) ∙ e in cc)
+    (λ (b : half ≤ rest). let a = sym (loss_half rest half (omega arith) (omega arith)) ∙ e in cc)
+    (cases_lt rest half))
+    (cases_lt rest 1)
+
+-- a rest is to half as it is to what is missing to the whole
+loss_between : (rest half : ℕ) → rest < 2 * half → loss_at rest (2 * half - rest) ≡ loss_at rest half
+loss_between rest half l =
+    ⊎_elim
+    (λ (z : rest < 1).
+    loss_zero rest (2 * half - rest) (omega arith) ∙ sym (loss_zero rest half (omega arith)))
+    (λ (p : 1 ≤ rest).
+    ⊎_elim
+    (λ (b : rest < half).
+    loss_less rest (2 * half - rest) (omega arith) (omega arith) ∙ sym (loss_less rest half (omega arith) b))
+    (λ (b : half ≤ rest).
+    ⊎_elim
+    (λ (m : half < rest). loss_more rest (2 * half - rest) (omega arith) ∙ sym (loss_more rest half m))
+    (λ (n : rest ≤ half).
+    loss_half rest (2 * half - rest) (omega arith) (omega arith)
+    ∙ sym (loss_half rest half (omega arith) (omega arith)))
+    (cases_lt half rest))
+    (cases_lt rest half))
+    (cases_lt rest 1)
 
 -- the significand that is left stands for the amount, with the loss of the rest
 pub rest_stands : (q half rest amount unit : ℕ) → 0 < unit → rest < 2 * half
@@ -230,6 +262,31 @@ folded u l h w s b z o =
     (cases_lt l 1))
     (cases_lt u h)
 
+-- a rest has the same loss in other units
+pub loss_scaled : (r h k : ℕ) → 0 < k → loss_at (r * k) (h * k) ≡ loss_at r h
+loss_scaled r h k p =
+    let d : r * k ≡ r * k + 0 = omega arith in
+    let e : r * 1 + 0 ≡ r = omega arith in
+    let f : h * 1 ≡ h = omega arith in
+    let a : loss_at (2 * r + 0) (2 * h) ≡ loss_at (r * k + 0) (h * k) =
+    folded r 0 h k 0 p (λ z. z) (λ n. absurd (omega (arith, n))) in
+    let b : loss_at (2 * r + 0) (2 * h) ≡ loss_at (r * 1 + 0) (h * 1) =
+    folded r 0 h 1 0 (omega arith) (λ z. z) (λ n. absurd (omega (arith, n))) in
+    ap (λ (x : ℕ). loss_at x (h * k)) d ∙ sym a ∙ b ∙ ap (λ (x : ℕ). loss_at x (h * 1)) e
+    ∙ ap (λ (x : ℕ). loss_at r x) f
+
+-- what a rest is past half, against what is missing to the whole, is its loss in half units
+pub loss_past_half : (rest half : ℕ) → half < rest → rest < 2 * half
+    → loss_at (rest - half) (2 * half - rest) ≡ loss_at (2 * (rest - half)) half
+loss_past_half rest half l m =
+    let b = rest - half in
+    let d : 2 * half - rest ≡ half - (rest - half) = omega arith in
+    let e : (rest - half) * 2 ≡ 2 * (rest - half) = omega arith in
+    let f : (half - (rest - half)) * 2 ≡ 2 * half - 2 * (rest - half) = omega arith in
+    ap (λ (x : ℕ). loss_at b x) d ∙ sym (loss_scaled b (half - b) 2 (lit< tt))
+    ∙ ap (λ (x : ℕ). loss_at x ((half - b) * 2)) e ∙ ap (λ (x : ℕ). loss_at (2 * b) x) f
+    ∙ loss_between (2 * b) half (omega arith)
+
 -- the rest of more digits than those of a word, in units of which half is 2 ^ (places - word)
 pub folded_rest : (s word places upper some half : ℕ) → word < places → upper ≡ s / 2 ^ word % 2 ^ (places - word)
     → (s % 2 ^ word ≡ 0 → some ≡ 0) → (0 < s % 2 ^ word → some ≡ 1) → half ≡ 2 ^ (places - word)
@@ -297,17 +354,18 @@ cut_off precision s digits place rest half up down amount parts kept some unit i
       (split_stands precision s digits place rest half up down amount parts i p g)),
 )
 
--- a point with all digits of the precision, moved as the rest demands and within the format, is delivered
-pub delivered_full : (format : Format) (mode : Round) (negative : Bool) (m c amount parts s place rest half : ℕ)
-    (moved : Bool) (value : Datum) (status : ℕ) → 0 < parts → 2 ^ (format.precision - 1) ≤ m
-    → 2 ^ (format.precision - 1) ≤ s → moved ≡ rounds_up mode negative (loss_at rest half) (eqb (m % 2) 1)
-    → s * 2 ^ place ≡ cond moved (m + 1) m * 2 ^ c → ltb (largest format) (s * 2 ^ place) ≡ false
+-- a point that is moved as the rest demands, within the format, is delivered
+pub delivered_within : (format : Format) (mode : Round) (negative : Bool) (m c amount parts p rest half : ℕ)
+    (moved tiny : Bool) (value : Datum) (status : ℕ) → 0 < parts
+    → moved ≡ rounds_up mode negative (loss_at rest half) (eqb (m % 2) 1)
+    → p ≡ cond moved (m + 1) m * 2 ^ c → ltb (largest format) p ≡ false
     → IsEnclosed format.precision (2 ^ (format.precision - 1)) m c amount parts
     → StandsFor m (loss_at rest half) amount (2 ^ c * parts)
-    → value ≡ signed_quanta format.nonfinite negative (s * 2 ^ place) → (rest ≡ 0 → status ≡ ok_bits)
-    → ((rest ≡ 0 → ⊥) → status ≡ inexact_bit) → IsDelivered format mode negative amount parts value status
-delivered_full format mode negative m c amount parts s place rest half moved value status u f g e v a i h w z o =
-    let p = s * 2 ^ place in
+    → is_tiny format mode negative amount parts p ≡ tiny
+    → value ≡ signed_quanta format.nonfinite negative p → (rest ≡ 0 → status ≡ ok_bits)
+    → ((rest ≡ 0 → ⊥) → status ≡ cond tiny (underflow_bit + inexact_bit) inexact_bit)
+    → IsDelivered format mode negative amount parts value status
+delivered_within format mode negative m c amount parts p rest half moved tiny value status u e v a i h t w z o =
     let loss = loss_at rest half in
     let is = picked_if_moved format.precision mode negative m c amount parts p loss moved e v u i h in
     ⊎_elim
@@ -319,7 +377,6 @@ delivered_full format mode negative m c amount parts s place rest half moved val
     w (z n))
     (λ (y : 1 ≤ rest).
     let n : rest ≡ 0 → ⊥ = λ (x : rest ≡ 0). omega (arith, x) in
-    let t = not_tiny format mode negative m c amount parts s place u f g i in
     delivered_inexactly format mode negative amount parts p value status is a
     (inexact_if format.precision mode negative (2 ^ (format.precision - 1)) m c amount parts p loss
     (loss_some rest half (omega arith)) u i h is)

@@ -1,47 +1,98 @@
 -- Kept digits that are all ones just below the smallest normalized number, and what is lost below half a quantum.
-use Rattle.std.proofs.Common.{◌≡◌, ℕ, ◌+◌, ◌-◌, ◌*◌, ◌^◌, ◌<◌, ◌≤◌, ◌⊎◌, Bool, true, false, ltb, sym, refl, ap, ◌∙◌, subst, ⊎_elim, arith}
-use Rattle.std.proofs.Math.Nat.{mul-le-mul_right, mul-le-mul_left, lt_of_mul-lt-mul_right}
+use Rattle.std.proofs.Common.{◌≡◌, ℕ, ◌+◌, ◌-◌, ◌*◌, ◌/◌, ◌%◌, ◌^◌, ◌<◌, ◌≤◌, Bool, true, false, not, ltb, sym, refl, ap, ◌∙◌, subst, inr, ⊎_elim, arith, lit<, ℤ, pos, ◌+ℤ◌}
+use Rattle.std.proofs.Math.Path.{subst₂}
 use Rattle.std.proofs.lemmas.Nat.{pow_pos}
 use Rattle.std.proofs.lemmas.Bool.{cases_lt, lt-ltb, le-ltb}
 use Rattle.apfloat_model.specs.declared.kinds.Round.{Round}
 use Rattle.apfloat_model.specs.declared.loss.Loss.{Loss}
-use Rattle.apfloat_model.specs.declared.loss.Loss.TheVariants.{ExactlyZero, MoreThanHalf}
+use Rattle.apfloat_model.specs.declared.loss.Loss.TheVariants.{ExactlyZero, ExactlyHalf, MoreThanHalf}
 use Rattle.apfloat_model.specs.formats.Format.{Format, smallest_normalized}
-use Rattle.apfloat_model.specs.rounding.Standing.{StandsFor}
-use Rattle.apfloat_model.specs.rounding.Enclosure.{IsEnclosed}
+use Rattle.apfloat_model.specs.rounding.Standing.{StandsFor, IsFineEnough, IsFineFor, reads_halves}
+use Rattle.apfloat_model.specs.rounding.Enclosure.{IsEnclosed, rounds_up}
 use Rattle.apfloat_model.specs.rounding.Rounding.{rounds_below_normal, is_tiny}
 use Rattle.apfloat_model.proofs.general.Powers.{twice_power, twice_half}
-use Rattle.apfloat_model.proofs.rounding.Losses.{stands_from, stands_to}
+use Rattle.apfloat_model.proofs.rounding.Losses.{cut_less, cut_more}
 use Rattle.apfloat_model.proofs.rounding.KeptDigits.{same_unit, stands_times, stands_cancel}
-use Rattle.apfloat_model.proofs.rounding.Tininess.{below_by_more, below_by_half, not_below}
-
--- the only multiple of `parts` that is at most the amount, and less than `parts` below it
-one_multiple : (a b amount parts : ℕ) → a * parts ≤ amount → amount < (a + 1) * parts → b * parts ≤ amount
-    → amount < (b + 1) * parts → a ≡ b
-one_multiple a b amount parts h k l m =
-    let x : a < b + 1 = lt_of_mul-lt-mul_right parts (omega (arith, h, m)) in
-    let y : b < a + 1 = lt_of_mul-lt-mul_right parts (omega (arith, k, l)) in
-    omega (arith, x, y)
+use Rattle.apfloat_model.proofs.rounding.Tininess.{below_by_more, below_by_half, just_below, not_below}
+use Rattle.apfloat_rounding.specs.Cuts.{loss_at}
+use Rattle.apfloat_rounding.proofs.CutRests.{loss_zero, loss_less, loss_half, loss_more, loss_some, loss_scaled, loss_past_half}
 
 -- a significand whose last digit is cut to half a quantum stands for twice the magnitude
-pub half_stands : (q last : ℕ) (loss : Loss) (amount parts k up down : ℕ) → k + 1 + up ≡ 0 + down → 0 < parts
-    → last * parts ≤ 2 * amount → 2 * amount < (last + 1) * parts
-    → StandsFor q loss (amount * 2 ^ down) (2 ^ k * (parts * 2 ^ up)) → StandsFor last loss (2 * amount) parts
-half_stands q last loss amount parts k up down e p l m h =
+pub half_stands : (q : ℕ) (loss : Loss) (amount parts k up down : ℕ) → k + 1 + up ≡ 0 + down
+    → StandsFor q loss (amount * 2 ^ down) (2 ^ k * (parts * 2 ^ up)) → StandsFor q loss (2 * amount) parts
+half_stands q loss amount parts k up down e h =
     let w : 0 < 2 ^ down = pow_pos down in
     let d : 2 ^ (k + 1) * (parts * 2 ^ up) ≡ 2 ^ 0 * parts * 2 ^ down = same_unit parts (k + 1) up down 0 e in
     let t : 2 ^ (k + 1) * (parts * 2 ^ up) ≡ 2 * 2 ^ k * (parts * 2 ^ up) =
     ap (λ (x : ℕ). x * (parts * 2 ^ up)) (twice_power k) in
     let u : 2 ^ k * (parts * 2 ^ up) * 2 ≡ parts * 2 ^ down = omega (arith, d, t) in
     let v : amount * 2 ^ down * 2 ≡ 2 * amount * 2 ^ down = omega arith in
-    let g : StandsFor q loss (2 * amount * 2 ^ down) (parts * 2 ^ down) =
-    subst (λ (x : ℕ). StandsFor q loss x (parts * 2 ^ down)) v
-    (subst (λ (x : ℕ). StandsFor q loss (amount * 2 ^ down * 2) x) u
-    (stands_times q loss (amount * 2 ^ down) (2 ^ k * (parts * 2 ^ up)) 2 (omega arith) h)) in
-    let s : StandsFor q loss (2 * amount) parts = stands_cancel q loss (2 * amount) parts (2 ^ down) w g in
-    let f : q * parts ≤ 2 * amount = stands_from q loss (2 * amount) parts s in
-    let o : 2 * amount < (q + 1) * parts = stands_to q loss (2 * amount) parts p s in
-    subst (λ (x : ℕ). StandsFor x loss (2 * amount) parts) (one_multiple q last (2 * amount) parts f o l m) s
+    stands_cancel q loss (2 * amount) parts (2 ^ down) w
+    (subst₂ (λ (x : ℕ) (y : ℕ). StandsFor q loss x y) v u
+    (stands_times q loss (amount * 2 ^ down) (2 ^ k * (parts * 2 ^ up)) 2 (omega arith) h))
+
+-- ---- eighths of a digit
+
+-- a number of halves, and the loss below them, in eighths
+pub eighths : (h r : ℕ) (loss : Loss) (amount unit : ℕ) → 0 < unit → r < 4 → loss_at r 2 ≡ loss
+    → StandsFor h loss amount unit → StandsFor (h / 2) (loss_at (4 * (h % 2) + r) 4) amount (2 * unit)
+eighths h r loss amount unit u l e k =
+    let q = h / 2 in
+    let d : h / 2 * (2 * 1) + h % 2 ≡ h = omega arith in
+    let k' : StandsFor (q * (2 * 1) + h % 2) loss amount unit =
+    subst (λ (x : ℕ). StandsFor x loss amount unit) (sym d) k in
+    ⊎_elim
+    (λ (z : r < 1).
+    let y : loss ≡ ExactlyZero = sym e ∙ loss_zero r 2 (omega arith) in
+    let g : StandsFor (q * (2 * 1) + h % 2) ExactlyZero amount unit =
+    subst (λ (x : Loss). StandsFor (q * (2 * 1) + h % 2) x amount unit) y k' in
+    ⊎_elim
+    (λ (a : h % 2 < 1).
+    let b : h % 2 ≡ 0 = omega arith in
+    let b' : h % 2 * unit ≡ 0 * unit = ap (λ (x : ℕ). x * unit) b in
+    let f : StandsFor q ExactlyZero amount (2 * unit) = omega (arith, g, b') in
+    subst (λ (x : Loss). StandsFor q x amount (2 * unit)) (sym (loss_zero (4 * (h % 2) + r) 4 (omega arith))) f)
+    (λ (a : 1 ≤ h % 2).
+    let b : h % 2 ≡ 1 = omega arith in
+    let b' : h % 2 * unit ≡ 1 * unit = ap (λ (x : ℕ). x * unit) b in
+    let f : StandsFor q ExactlyHalf amount (2 * unit) = omega (arith, g, b') in
+    subst (λ (x : Loss). StandsFor q x amount (2 * unit))
+    (sym (loss_half (4 * (h % 2) + r) 4 (omega arith) (omega arith))) f)
+    (cases_lt (h % 2) 1))
+    (λ (p : 1 ≤ r).
+    let n : loss ≡ ExactlyZero → ⊥ = λ (y : loss ≡ ExactlyZero). loss_some r 2 (omega arith) (e ∙ y) in
+    ⊎_elim
+    (λ (a : h % 2 < 1).
+    subst (λ (x : Loss). StandsFor q x amount (2 * unit))
+    (sym (loss_less (4 * (h % 2) + r) 4 (omega arith) (omega arith)))
+    (cut_less q 1 (h % 2) loss amount unit u a (inr n) k'))
+    (λ (a : 1 ≤ h % 2).
+    subst (λ (x : Loss). StandsFor q x amount (2 * unit))
+    (sym (loss_more (4 * (h % 2) + r) 4 (omega arith)))
+    (cut_more q 1 (h % 2) loss amount unit u (omega arith) (inr (n, a)) k'))
+    (cases_lt (h % 2) 1))
+    (cases_lt r 1)
+
+-- past half of the digit, they say what is below that half
+pub eighths_finely : (h r : ℕ) (loss : Loss) (amount parts k up down : ℕ) → r < 4 → loss_at r 2 ≡ loss
+    → 4 < 4 * (h % 2) + r → k + 1 + up ≡ 0 + down
+    → StandsFor h loss (amount * 2 ^ down) (2 ^ k * (parts * 2 ^ up))
+    → StandsFor (2 * (h / 2) + 1) (loss_at (4 * (h % 2) + r - 4) (2 * 4 - (4 * (h % 2) + r))) (2 * amount) parts
+eighths_finely h r loss amount parts k up down l e m w g =
+    let a : h ≡ 2 * (h / 2) + 1 = omega (arith, l, m) in
+    let b : 2 * (4 * (h % 2) + r - 4) ≡ r * 2 = omega (arith, l, m) in
+    let j : loss ≡ loss_at (4 * (h % 2) + r - 4) (2 * 4 - (4 * (h % 2) + r)) =
+    sym e ∙ sym (loss_scaled r 2 2 (lit< tt)) ∙ ap (λ (x : ℕ). loss_at x 4) (sym b)
+    ∙ sym (loss_past_half (4 * (h % 2) + r) 4 m (omega (arith, l))) in
+    subst₂ (λ (x : ℕ) (y : Loss). StandsFor x y (2 * amount) parts) a j
+    (half_stands h loss amount parts k up down w g)
+
+-- a loss in eighths of a digit
+pub loss_in_eighths : (r : ℕ) → loss_at (2 * r) 4 ≡ loss_at r 2
+loss_in_eighths r =
+    let e : 2 * r ≡ r * 2 = omega arith in ap (λ (x : ℕ). loss_at x 4) e ∙ loss_scaled r 2 2 (lit< tt)
+
+-- ---- just below the smallest normalized number
 
 -- a significand that is not the last one before the half tells on which side of it the magnitude is
 pub off_last : (precision m c amount parts last : ℕ) (mode : Round) (negative : Bool) → 0 < parts
@@ -102,33 +153,18 @@ last_by_more precision m c amount parts last loss e d z i h =
     let y = g.1 in
     record { from = omega (arith, k, x); to = omega (arith, o, y) }
 
--- which cannot be so if nothing is lost below a quantum, or the significand has all digits at a quantum or more
-pub not_just_below : (precision s : ℕ) (loss : Loss) (amount parts up down : ℕ) → 0 < precision → 0 < parts
-    → down ≡ 0 → (loss ≡ ExactlyZero) ⊎ (2 ^ (precision - 1) ≤ s)
-    → StandsFor s loss (amount * 2 ^ down) (parts * 2 ^ up) → IsJustBelow precision amount parts → ⊥
-not_just_below precision s loss amount parts up down some p z n h j =
-    let h' : StandsFor s loss (amount * 2 ^ 0) (parts * 2 ^ up) =
-    subst (λ (x : ℕ). StandsFor s loss (amount * 2 ^ x) (parts * 2 ^ up)) z h in
-    let f = j.from in
-    let t = j.to in
-    ⊎_elim
-    (λ (e : loss ≡ ExactlyZero).
-    let g : StandsFor s ExactlyZero (amount * 2 ^ 0) (parts * 2 ^ up) =
-    subst (λ (x : Loss). StandsFor s x (amount * 2 ^ 0) (parts * 2 ^ up)) e h' in
-    let v : 2 * amount ≡ 2 * (s * 2 ^ up) * parts = omega (arith, g) in
-    let a : 2 ^ precision - 1 < 2 * (s * 2 ^ up) = lt_of_mul-lt-mul_right parts (omega (arith, f, v)) in
-    let b : 2 * (s * 2 ^ up) < 2 ^ precision = lt_of_mul-lt-mul_right parts (omega (arith, t, v)) in
-    omega (arith, a, b))
-    (λ (l : 2 ^ (precision - 1) ≤ s).
-    let b : 2 * 2 ^ (precision - 1) ≡ 2 ^ precision = twice_half precision some in
-    let g : s * (parts * 2 ^ up) ≤ amount * 2 ^ 0 = stands_from s loss (amount * 2 ^ 0) (parts * 2 ^ up) h' in
-    let w : 1 ≤ 2 ^ up = pow_pos up in
-    let k : parts * 1 ≤ parts * 2 ^ up = mul-le-mul_left parts w in
-    let o : 2 ^ (precision - 1) * parts ≤ s * parts = mul-le-mul_right parts l in
-    let r : s * parts ≤ s * (parts * 2 ^ up) = mul-le-mul_left s (omega (arith, k)) in
-    let u : 2 * 2 ^ (precision - 1) * parts ≡ 2 ^ precision * parts = ap (λ (x : ℕ). x * parts) b in
-    omega (arith, g, o, r, u, t))
-    n
+-- what is left below half a quantum decides
+pub just_below_half : (precision m rest half amount parts last : ℕ) (mode : Round) (negative : Bool)
+    → 0 < precision → last ≡ 2 ^ (precision - 1) - 1 → m ≡ last → IsJustBelow precision amount parts
+    → StandsFor (2 * m + 1) (loss_at (rest - half) (2 * half - rest)) (2 * amount) parts
+    → rounds_below_normal precision mode negative amount parts
+    ≡ not (rounds_up mode negative (loss_at (rest - half) (2 * half - rest)) true)
+just_below_half precision m rest half amount parts last mode negative some e d j h =
+    let w : 0 < 2 ^ (precision - 1) = pow_pos (precision - 1) in
+    let t : 2 * 2 ^ (precision - 1) ≡ 2 ^ precision = twice_half precision some in
+    let n : 2 * m + 1 ≡ 2 ^ precision - 1 = omega (arith, t, e, d) in
+    just_below precision mode negative amount parts (loss_at (rest - half) (2 * half - rest)) j.from j.to
+    (subst (λ (x : ℕ). StandsFor x (loss_at (rest - half) (2 * half - rest)) (2 * amount) parts) n h)
 
 -- ---- the three rules of tininess
 
@@ -147,3 +183,12 @@ pub picked_is : (format : Format) (mode : Round) (negative : Bool) (amount parts
     → format.tiny_before_rounding ≡ false → format.ieee_flags ≡ false
     → is_tiny format mode negative amount parts pick ≡ ltb pick (smallest_normalized format)
 picked_is format mode negative amount parts pick b i = rw (b, i) refl
+
+pub read_halves : (format : Format) → format.tiny_before_rounding ≡ false → format.ieee_flags ≡ true
+    → reads_halves format ≡ true
+read_halves format b i = rw (b, i) refl
+
+-- where tininess is judged in half quanta, a unit that is fine for the format is fine in half quanta
+pub halves_fine : (format : Format) (s : ℕ) (unit : ℤ) (loss : Loss) → reads_halves format ≡ true
+    → IsFineFor format s unit loss → IsFineEnough format.precision s (unit +ℤ pos 1) loss
+halves_fine format s unit loss r h = rw r at h

@@ -6,3 +6,4 @@ pub mod HalfQuanta
 pub mod CutRests
 pub mod OddCuts
 pub mod QuantumCuts
+pub mod FineCuts

@@ -1,29 +1,29 @@
 -- A significand of one word that is cut where no more than a half may be left of it: at the quantum, or at a dot.
-use Rattle.std.proofs.Common.{◌≡◌, ℕ, ◌+◌, ◌-◌, ◌*◌, ◌/◌, ◌%◌, ◌^◌, ◌<◌, ◌≤◌, Bool, true, false, cond, eqb, sym, refl, ap, ◌∙◌, subst, inl, inr, ⊎_elim, ltb, ◌||◌, arith, lit<}
+use Rattle.std.proofs.Common.{◌≡◌, ℕ, ◌+◌, ◌-◌, ◌*◌, ◌/◌, ◌%◌, ◌^◌, ◌<◌, ◌≤◌, Bool, sym, refl, ap, ◌∙◌, subst, inl, inr, ⊎_elim, arith, lit<, lit≤}
 use Rattle.std.proofs.Math.Path.{subst₂}
-use Rattle.std.proofs.Math.Nat.{div-eq_of_lt, mul-le-mul_right, mul-lt-mul_of_pos_right, mul-pos, pow-le-pow_right, div-add-mod'}
+use Rattle.std.proofs.Math.Nat.{div-eq_of_lt, mul-le-mul_right, mul-lt-mul_of_pos_right, lt_of_mul-lt-mul_right, mul-pos, pow-le-pow_right, div-add-mod', mod-eq_of_lt}
 use Rattle.std.proofs.lemmas.Nat.{pow-add, pow_pos, mod_below, mod-mul-add}
-use Rattle.std.proofs.lemmas.Bool.{cases_lt, lt-ltb, le-ltb}
+use Rattle.std.proofs.lemmas.Bool.{cases_lt}
 use Rattle.apfloat_model.specs.declared.kinds.Round.{Round}
 use Rattle.apfloat_model.specs.declared.loss.Loss.{Loss}
 use Rattle.apfloat_model.specs.declared.loss.Loss.TheVariants.{ExactlyZero, LessThanHalf, ExactlyHalf, MoreThanHalf}
-use Rattle.apfloat_model.specs.formats.Format.{Format, largest}
+use Rattle.apfloat_model.specs.formats.Format.{Format}
 use Rattle.apfloat_model.specs.formats.Datum.{Datum}
-use Rattle.apfloat_model.specs.rounding.Enclosure.{IsEnclosed, rounds_up}
-use Rattle.apfloat_model.specs.rounding.Rounding.{IsDelivered, is_tiny, signed_quanta, ok_bits, underflow_bit, inexact_bit}
+use Rattle.apfloat_model.specs.rounding.Enclosure.{IsEnclosed}
+use Rattle.apfloat_model.specs.rounding.Rounding.{IsDelivered, signed_quanta, ok_bits}
 use Rattle.apfloat_model.specs.rounding.RoundingToOdd.{IsRoundedToOdd}
 use Rattle.apfloat_model.specs.rounding.Standing.{StandsFor}
 use Rattle.apfloat_model.proofs.formats.Ranges.{half_within}
 use Rattle.apfloat_model.proofs.general.Powers.{two_pos, twice_half, exponent_below, pow3}
 use Rattle.apfloat_words.proofs.LongDivisions.{whole_quotient}
-use Rattle.apfloat_model.proofs.rounding.Deliveries.{tiny_before, tiny_after, delivered_exactly, delivered_inexactly, exact_if, inexact_if}
 use Rattle.apfloat_model.proofs.rounding.KeptDigits.{kept_stands, stands_cancel, stands_times, fits_cut, full_cut, enclosed_from}
 use Rattle.apfloat_model.proofs.rounding.Laws.{exact_delivered}
 use Rattle.apfloat_model.proofs.rounding.Losses.{cut_at}
 use Rattle.apfloat_model.proofs.rounding.OddRoundings.{to_odd_cancel, to_odd_times}
 use Rattle.apfloat_rounding.specs.Cuts.{loss_at}
 use Rattle.apfloat_rounding.proofs.OddCuts.{odd_rest}
-use Rattle.apfloat_rounding.proofs.CutRests.{folded, loss_some, loss_zero, picked_if_moved, rest_below, rest_stands}
+use Rattle.apfloat_rounding.proofs.CutRests.{loss_past_half, loss_scaled, rest_below, rest_stands}
+use Rattle.apfloat_rounding.proofs.HalfQuanta.{half_stands}
 
 -- ---- farther places
 
@@ -83,19 +83,6 @@ word_stands s k places shift amount unit loss l n f e h =
     (cases_lt k places)
 
 -- ---- the rest at the top of a word
-
--- a rest has the same loss in other units
-loss_scaled : (r h k : ℕ) → 0 < k → loss_at (r * k) (h * k) ≡ loss_at r h
-loss_scaled r h k p =
-    let d : r * k ≡ r * k + 0 = omega arith in
-    let e : r * 1 + 0 ≡ r = omega arith in
-    let f : h * 1 ≡ h = omega arith in
-    let a : loss_at (2 * r + 0) (2 * h) ≡ loss_at (r * k + 0) (h * k) =
-    folded r 0 h k 0 p (λ z. z) (λ n. absurd (omega (arith, n))) in
-    let b : loss_at (2 * r + 0) (2 * h) ≡ loss_at (r * 1 + 0) (h * 1) =
-    folded r 0 h 1 0 (omega arith) (λ z. z) (λ n. absurd (omega (arith, n))) in
-    ap (λ (x : ℕ). loss_at x (h * k)) d ∙ sym a ∙ b ∙ ap (λ (x : ℕ). loss_at x (h * 1)) e
-    ∙ ap (λ (x : ℕ). loss_at r x) f
 
 -- moved to the top of a word, a significand leaves the digits below the cut there
 top_rest : (s places word : ℕ) → places ≤ word
@@ -178,23 +165,29 @@ odd_stands s shift half amount unit p l h o a b =
     (stands_cancel q (loss_at rest (2 * g * w)) amount (2 ^ shift * unit) w (pow_pos (64 - shift))
     (subst (λ (x : ℕ). StandsFor q (loss_at rest (2 * g * w)) (amount * w) x) t'' k))
 
+-- the cut of an exact significand, in its units
+exact_stands : (s shift half amount unit : ℕ) → 0 < shift → shift ≤ 63 → half ≡ 2 ^ 63 → 0 < unit
+    → amount ≡ s * unit
+    → StandsFor (s / 2 ^ shift) (loss_at (s * 2 ^ (64 - shift) % 2 ^ 64) half) amount (2 ^ shift * unit)
+exact_stands s shift half amount unit k l h u e =
+    let rest = s % 2 ^ shift in
+    let below = 2 ^ (shift - 1) in
+    let loss = loss_at (s % 2 ^ shift) (2 ^ (shift - 1)) in
+    let b : rest < 2 * below = rest_below s shift below rest k refl refl in
+    subst (λ (x : Loss). StandsFor (s / 2 ^ shift) x amount (2 ^ shift * unit)) (sym (top_loss s shift half k l h))
+    (cut_at s shift below rest ExactlyZero loss k refl refl
+    (λ q a v z g. rest_stands q below rest a v z b g) amount unit u e)
+
 -- what is kept, and the cut of a significand that was rounded to odd, in its units
 rounded_stands : (precision s digits places shift half amount unit : ℕ)
     → IsQuantumCut precision s digits places shift half → 0 < unit
     → IsRoundedToOdd (2 ^ (precision + 1)) s amount unit
     → (2 * amount < 2 ^ 63 * unit)
     × StandsFor (s / 2 ^ shift) (loss_at (s * 2 ^ (64 - shift) % 2 ^ 64) half) amount (2 ^ shift * unit)
-rounded_stands precision s digits places shift half amount unit i u (inl e) =
-    let rest = s % 2 ^ shift in
-    let below = 2 ^ (shift - 1) in
-    let loss = loss_at (s % 2 ^ shift) (2 ^ (shift - 1)) in
-    let b : rest < 2 * below = rest_below s shift below rest i.cuts refl refl in (
-      less_than_half s 63 amount unit (half_word s digits i.short i.fits) u e,
-      subst (λ (x : Loss). StandsFor (s / 2 ^ shift) x amount (2 ^ shift * unit))
-          (sym (top_loss s shift half i.cuts i.bound i.half_is))
-          (cut_at s shift below rest ExactlyZero loss i.cuts refl refl
-          (λ q a v z g. rest_stands q below rest a v z b g) amount unit u e),
-    )
+rounded_stands precision s digits places shift half amount unit i u (inl e) = (
+  less_than_half s 63 amount unit (half_word s digits i.short i.fits) u e,
+  exact_stands s shift half amount unit i.cuts i.bound i.half_is u e,
+)
 rounded_stands precision s digits places shift half amount unit i u (inr o) =
     let f = i.fits in
     let m = o.long in
@@ -240,6 +233,113 @@ quantum_encloses precision s digits places shift half up down amount parts i p u
     (omega (arith, f, a)) (inl refl)
     (quantum_stands precision s digits places shift half up down amount parts i p u d h)
 
+-- ---- one digit below the quantum
+
+-- if a rest is past half, the digit below the cut is 1, and what is below that is the rest past half
+past_half : (s shift half : ℕ) → 2 ≤ shift → shift ≤ 63 → half ≡ 2 ^ 63
+    → half < s * 2 ^ (64 - shift) % 2 ^ 64
+    → (s / 2 ^ (shift - 1) ≡ 2 * (s / 2 ^ shift) + 1)
+    × (s * 2 ^ (64 - (shift - 1)) % 2 ^ 64 ≡ 2 * (s * 2 ^ (64 - shift) % 2 ^ 64 - half))
+past_half s shift half p l h m =
+    let w = 2 ^ (64 - shift) in
+    let k = 2 ^ (shift - 1) in
+    let q = s / 2 ^ shift in
+    let r = s % 2 ^ shift in
+    let rest = s * 2 ^ (64 - shift) % 2 ^ 64 in
+    let a : s * 2 ^ (64 - shift) % 2 ^ 64 ≡ s % 2 ^ shift * 2 ^ (64 - shift) = top_rest s shift 64 (omega (arith, l)) in
+    let e : 63 ≡ shift - 1 + (64 - shift) = omega (arith, p, l) in
+    let d : half ≡ 2 ^ (shift - 1) * 2 ^ (64 - shift) =
+    h ∙ ap (λ (x : ℕ). 2 ^ x) e ∙ pow-add 2 (shift - 1) (64 - shift) in
+    let t : 2 * 2 ^ (shift - 1) ≡ 2 ^ shift = twice_half shift (omega (arith, p)) in
+    let g : k < r = lt_of_mul-lt-mul_right w (omega (arith, m, a, d)) in
+    let x = r - k in
+    let b : r < 2 ^ shift = mod_below s (2 ^ shift) (pow_pos shift) in
+    let y : x < k = omega (arith, b, t, g) in
+    let v : q * 2 ^ shift + r ≡ s = div-add-mod' s (2 ^ shift) in
+    let t' : q * (2 * k) ≡ q * 2 ^ shift = ap (λ (n : ℕ). q * n) t in
+    let z : s ≡ (2 * q + 1) * k + x = omega (arith, v, t', g) in
+    let n : s % 2 ^ (shift - 1) ≡ x = ap (λ (u : ℕ). u % 2 ^ (shift - 1)) z ∙ mod-mul-add (2 * q + 1) k x y in
+    let c : s * 2 ^ (64 - (shift - 1)) % 2 ^ 64 ≡ s % 2 ^ (shift - 1) * 2 ^ (64 - (shift - 1)) =
+    top_rest s (shift - 1) 64 (omega (arith, l)) in
+    let j : 64 - (shift - 1) ≡ 1 + (64 - shift) = omega (arith, p, l) in
+    let o : 2 ^ (64 - (shift - 1)) ≡ 2 * w = ap (λ (u : ℕ). 2 ^ u) j ∙ pow-add 2 1 (64 - shift) in
+    let i : s % 2 ^ (shift - 1) * 2 ^ (64 - (shift - 1)) ≡ x * (2 * w) =
+    ap (λ (u : ℕ). u * 2 ^ (64 - (shift - 1))) n ∙ ap (λ (u : ℕ). x * u) o in
+    let f : r ≡ k + x = omega (arith, g) in
+    let f' : r * w ≡ (k + x) * w = ap (λ (u : ℕ). u * w) f in (
+      sym (whole_quotient (2 * q + 1) k x s (sym z) y),
+      omega (arith, c, i, a, d, f'),
+    )
+
+-- a rest past half has more than one digit
+two_digits : (s shift half : ℕ) → 0 < shift → shift ≤ 63 → half ≡ 2 ^ 63
+    → half < s * 2 ^ (64 - shift) % 2 ^ 64 → 2 ≤ shift
+two_digits s shift half p l h m =
+    ⊎_elim
+    (λ (b : shift < 2).
+    let e : shift ≡ 1 = omega (arith, p) in
+    let m' : half < s * 2 ^ (64 - 1) % 2 ^ 64 = subst (λ (x : ℕ). half < s * 2 ^ (64 - x) % 2 ^ 64) e m in
+    let a : s * 2 ^ (64 - 1) % 2 ^ 64 ≡ s % 2 ^ 1 * 2 ^ (64 - 1) = top_rest s 1 64 (lit≤ tt) in
+    let r : s % 2 ^ 1 < 2 ^ 1 = mod_below s (2 ^ 1) (pow_pos 1) in
+    let r' : s % 2 ^ 1 ≤ 1 = omega (arith, r) in
+    let k : s % 2 ^ 1 * 2 ^ 63 ≤ 1 * 2 ^ 63 = mul-le-mul_right (2 ^ 63) r' in
+    absurd (omega (arith, m', a, k, h)))
+    (λ (b : 2 ≤ shift). b)
+    (cases_lt shift 2)
+
+-- a rest past half is within reach
+within_reach : (precision s digits places shift half : ℕ) → IsQuantumCut precision s digits places shift half
+    → half < s * 2 ^ (64 - shift) % 2 ^ 64 → shift ≡ places
+within_reach precision s digits places shift half i m =
+    ⊎_elim
+    (λ (a : 63 < places).
+    let e = i.far a in
+    let m' : half < s * 2 ^ (64 - 63) % 2 ^ 64 = subst (λ (x : ℕ). half < s * 2 ^ (64 - x) % 2 ^ 64) e m in
+    let l : 2 * s < 2 ^ 63 = half_word s digits i.short i.fits in
+    let d : s * 2 ^ (64 - 63) % 2 ^ 64 ≡ s * 2 = mod-eq_of_lt (omega (arith, l)) in
+    let h = i.half_is in
+    absurd (omega (arith, m', d, l, h)))
+    (λ (a : places ≤ 63). i.near a)
+    (cases_lt 63 places)
+
+-- so the digits past half stand for twice the amount, in half quanta
+pub quantum_finely : (precision s digits places shift half up down amount parts : ℕ)
+    → IsQuantumCut precision s digits places shift half → 0 < parts → up ≡ 0 → down ≡ places
+    → IsRoundedToOdd (2 ^ (precision + 1)) s (amount * 2 ^ down) (parts * 2 ^ up)
+    → half < s * 2 ^ (64 - shift) % 2 ^ 64
+    → StandsFor (2 * (s / 2 ^ shift) + 1)
+    (loss_at (s * 2 ^ (64 - shift) % 2 ^ 64 - half) (2 * half - s * 2 ^ (64 - shift) % 2 ^ 64)) (2 * amount) parts
+quantum_finely precision s digits places shift half up down amount parts i p u d o m =
+    let k = shift - 1 in
+    let rest = s * 2 ^ (64 - shift) % 2 ^ 64 in
+    let unit = parts * 2 ^ up in
+    let v : 0 < unit = mul-pos p (pow_pos up) in
+    let c = two_digits s shift half i.cuts i.bound i.half_is m in
+    let r = within_reach precision s digits places shift half i m in
+    let l = i.bound in
+    let f = i.fits in
+    let b = i.below in
+    let g : StandsFor (s / 2 ^ (shift - 1)) (loss_at (s * 2 ^ (64 - (shift - 1)) % 2 ^ 64) half) (amount * 2 ^ down)
+    (2 ^ (shift - 1) * unit) =
+    ⊎_elim
+    (λ (e : amount * 2 ^ down ≡ s * unit).
+    exact_stands s k half (amount * 2 ^ down) unit (omega (arith, c)) (omega (arith, l)) i.half_is v e)
+    (λ e.
+    let z = e.long in
+    let y : 2 ^ (precision + 1) < 2 ^ digits = omega (arith, f, z) in
+    let x : precision + 1 < digits = exponent_below (precision + 1) digits y in
+    odd_stands s k half (amount * 2 ^ down) unit (omega (arith, b, x, r)) (omega (arith, l)) i.half_is e.odd e.above
+    e.below)
+    o in
+    let e : shift - 1 + 1 + up ≡ 0 + down = omega (arith, c, u, d, r) in
+    let t = past_half s shift half c i.bound i.half_is m in
+    let h = i.half_is in
+    let n : rest < 2 ^ 64 = mod_below (s * 2 ^ (64 - shift)) (2 ^ 64) (pow_pos 64) in
+    let w = half_stands (s / 2 ^ k) (loss_at (s * 2 ^ (64 - k) % 2 ^ 64) half) amount parts k up down e g in
+    let j : loss_at (s * 2 ^ (64 - (shift - 1)) % 2 ^ 64) half ≡ loss_at (rest - half) (2 * half - rest) =
+    ap (λ (x : ℕ). loss_at x half) t.1 ∙ sym (loss_past_half rest half m (omega (arith, n, h))) in
+    subst₂ (λ (x : ℕ) (y : Loss). StandsFor x y (2 * amount) parts) t.0 j w
+
 -- ---- a significand that is folded into a word
 
 -- the unit of what is left, counted from the quantum
@@ -257,7 +357,7 @@ folded_odd s least k up down up' down' amount parts e h =
     to_odd_cancel least s (amount * 2 ^ down') (parts * 2 ^ up') (2 ^ down) (pow_pos down)
     (subst₂ (λ (x : ℕ) (y : ℕ). IsRoundedToOdd least s x y) a (b ∙ b' ∙ b'') t)
 
--- the unit of a significand of which the last digits are a loss
+-- the same of what is left with a loss below it
 pub folded_stands : (s : ℕ) (loss : Loss) (k up down up' down' amount parts : ℕ) → k + up + down' ≡ up' + down
     → StandsFor s loss (amount * 2 ^ down) (2 ^ k * (parts * 2 ^ up))
     → StandsFor s loss (amount * 2 ^ down') (parts * 2 ^ up')
@@ -365,62 +465,3 @@ whole_delivered format mode negative quanta amount value status s f e v o =
     (exact_delivered format mode negative quanta amount 1 (lit< tt)
     (record { significand = quanta; place = 0; fits = omega (arith, f, t, p); is = omega arith })
     (omega (arith, f, h)) (omega (arith, e)))
-
--- ---- the point that is picked, and its status
-
--- where no exponent is unbounded, the significands alone tell which results are tiny
-plain_choice : (b i x y z w : Bool) → i ≡ false → x ≡ true → z ≡ w → cond b x (cond i y z) ≡ (b || w)
-plain_choice true i x y z w e f g = f
-plain_choice false true x y z w e f g = cc
-plain_choice false false x y z w e f g = g
-
-pub plainly_tiny : (format : Format) (mode : Round) (negative : Bool) (m amount parts next : ℕ) → 0 < parts
-    → format.ieee_flags ≡ false → m < 2 ^ (format.precision - 1)
-    → IsEnclosed format.precision (2 ^ (format.precision - 1)) m 0 amount parts
-    → is_tiny format mode negative amount parts (next * 2 ^ 0)
-    ≡ (format.tiny_before_rounding || ltb next (2 ^ (format.precision - 1)))
-plainly_tiny format mode negative m amount parts next p e l i =
-    let half = 2 ^ (format.precision - 1) in
-    plain_choice format.tiny_before_rounding format.ieee_flags _ _ _ _ e
-    (sym (tiny_before format.precision half m 0 amount parts p i) ∙ lt-ltb m half l)
-    (sym (tiny_after half next 0 (inl refl)))
-
-moved_at_most : (moved : Bool) (m : ℕ) → cond moved (m + 1) m ≤ m + 1
-moved_at_most true m = omega arith
-moved_at_most false m = omega arith
-
--- what is kept at the quantum, moved as the rest demands, is delivered
-pub delivered_low : (format : Format) (mode : Round) (negative : Bool) (m c amount parts next rest half : ℕ)
-    (moved tiny : Bool) (value : Datum) (status : ℕ) → 0 < parts → 3 ≤ format.precision → c ≡ 0
-    → m < 2 ^ (format.precision - 1) → moved ≡ rounds_up mode negative (loss_at rest half) (eqb (m % 2) 1)
-    → next ≡ cond moved (m + 1) m → IsEnclosed format.precision (2 ^ (format.precision - 1)) m c amount parts
-    → StandsFor m (loss_at rest half) amount (2 ^ c * parts)
-    → is_tiny format mode negative amount parts (next * 2 ^ 0) ≡ tiny
-    → value ≡ signed_quanta format.nonfinite negative next → (rest ≡ 0 → status ≡ ok_bits)
-    → ((rest ≡ 0 → ⊥) → status ≡ cond tiny (underflow_bit + inexact_bit) inexact_bit)
-    → IsDelivered format mode negative amount parts value status
-delivered_low format mode negative m c amount parts next rest half moved tiny value status p s z f e v i h t w x y =
-    let loss = loss_at rest half in
-    let k : 2 ^ c ≡ 1 = ap (λ (n : ℕ). 2 ^ n) z in
-    let k' : cond moved (m + 1) m * 2 ^ c ≡ cond moved (m + 1) m * 1 = ap (λ (n : ℕ). cond moved (m + 1) m * n) k in
-    let v' : next ≡ cond moved (m + 1) m * 2 ^ c = omega (arith, v, k') in
-    let is = picked_if_moved format.precision mode negative m c amount parts next loss moved e v' p i h in
-    let l : next ≤ largest format = omega (arith, v, moved_at_most moved m, f, half_within format s) in
-    let a = le-ltb (largest format) next l in
-    let n' : next * 2 ^ 0 ≡ next = omega arith in
-    let t' : is_tiny format mode negative amount parts next ≡ tiny =
-    subst (λ (n : ℕ). is_tiny format mode negative amount parts n ≡ tiny) n' t in
-    ⊎_elim
-    (λ (b : rest < 1).
-    let n : rest ≡ 0 = omega arith in
-    delivered_exactly format mode negative amount parts next value status is a
-    (exact_if format.precision mode negative (2 ^ (format.precision - 1)) m c amount parts next loss
-    (loss_zero rest half n) p i h is)
-    w (x n))
-    (λ (b : 1 ≤ rest).
-    let n : rest ≡ 0 → ⊥ = λ (j : rest ≡ 0). omega (arith, j) in
-    delivered_inexactly format mode negative amount parts next value status is a
-    (inexact_if format.precision mode negative (2 ^ (format.precision - 1)) m c amount parts next loss
-    (loss_some rest half (omega arith)) p i h is)
-    w (rw t' (y n)))
-    (cases_lt rest 1)

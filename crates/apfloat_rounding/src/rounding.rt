@@ -6,13 +6,17 @@
 //!
 //! The idea: the place of the lowest kept digit is known before anything is cut. It follows from the length of the
 //! significand, its exponent and the format, and is never below the quantum, so denormals are not a special case. One
-//! shift to that place leaves the kept digits and a `Loss`: what was cut off, together with the incoming loss, in one
-//! of four cases, which is all that a mode needs. The mode adds one to the kept digits, or does not; a carry to the
-//! next power of two moves the place up by one. The point so picked decides the rest: overflow if it is past the
-//! largest value, otherwise the value, exact or inexact, tiny or not. Only one question needs the digits again: whether
-//! the magnitude would be below the smallest normalized value if exponents had no lower end.
+//! shift to that place leaves the kept digits and a rest, a `Cut`. How the rest compares with nothing and with half of
+//! the lowest kept digit is all that a mode needs: a `Loss` says no more, and nor does a number that was rounded to odd
+//! with two digits more. The mode adds one to the kept digits, or does not; a carry to the next power of two moves the
+//! place up by one. The point so picked decides the rest: overflow if it is past the largest value, otherwise the
+//! value, exact or inexact, tiny or not. Only one question needs a digit more: whether the magnitude would be below the
+//! smallest normalized value if exponents had no lower end.
+//!
+//! Each `deliver` makes a cut of what its caller has, in a word, in a `u128`, or with a `Loss`, and `round` rounds it.
+//! docs/ROUNDING.md has the picture.
 
-ghost use Rattle.std.specs.Prelude.{◌≡◌, ℕ, ◌+◌, ◌-◌, ◌*◌, ◌/◌, ◌%◌, ◌^◌, ◌<◌, ◌≤◌, ◌⊎◌, ltb, pos, neg_ℤ, ◌≤ℤ◌, ◌+ℤ◌, if◌then◌else◌, false};
+ghost use Rattle.std.specs.Prelude.{◌≡◌, ℕ, ◌+◌, ◌-◌, ◌*◌, ◌/◌, ◌%◌, ◌^◌, ◌<◌, ◌≤◌, ◌⊎◌, eqb, ltb, pos, neg_ℤ, ◌≤ℤ◌, ◌+ℤ◌, if◌then◌else◌, true, false};
 ghost use Rattle.apfloat_model.specs.rounding.Bounds.{IsWithin, exponent_bound, unit_bound, place_bound};
 ghost use Rattle.apfloat_model.specs.rounding.Flags.{bits_of};
 ghost use Rattle.apfloat_model.specs.formats.Format.{largest, nan_base};
@@ -20,38 +24,22 @@ ghost use Rattle.apfloat_model.specs.formats.Datum.{finite};
 ghost use Rattle.apfloat_model.specs.rounding.Answer.{IsAnswer};
 ghost use Rattle.apfloat_model.specs.rounding.Standing.{StandsFor, IsFineEnough, IsFineFor, up, down};
 ghost use Rattle.apfloat_model.specs.rounding.Enclosure.{rounds_up};
-ghost use Rattle.apfloat_model.specs.rounding.Rounding.{points_away, ok_bits, overflow_bit, underflow_bit, inexact_bit, IsPick, IsDelivered, leads_out, past_largest, raises_overflow, rounds_below_normal, is_tiny};
-ghost use Rattle.apfloat_rounding.specs.Cuts.{IsCut, IsCutOff, IsGiven, loss_at};
+ghost use Rattle.apfloat_model.specs.rounding.Rounding.{points_away, ok_bits, overflow_bit, underflow_bit, inexact_bit, IsDelivered, leads_out, past_largest, raises_overflow, rounds_below_normal, is_tiny, signed_quanta};
+ghost use Rattle.apfloat_rounding.specs.Cuts.{IsCut, IsCutFinely, IsFineCut, loss_at};
 ghost use Rattle.apfloat_rounding.specs.Shapes.{format_at};
-ghost use Rattle.apfloat_rounding.specs.Stored.{IsStored, GivesAt};
+ghost use Rattle.apfloat_rounding.specs.Stored.{IsStored, GivesAt, datum_at};
 
 mod denormal;
 pub mod from_u128;
 pub mod from_word;
 
-use self::denormal::round_denormal;
+use self::denormal::{cut_at_quantum, in_word};
 use crate::shape::Shape;
 use crate::unpacked::{
-    Unpacked, from_full_quanta, from_rounded_quanta, infinity_of, largest_of, remade,
+    Unpacked, from_few_quanta, from_full_quanta, from_rounded_quanta, infinity_of, largest_of,
 };
 use apfloat_model::{ExpInt, Flags, Loss, Round, Status, StatusAnd};
 use apfloat_words::{digits, low_digits, power_of_two, shift_right};
-
-/// `significand * 2^unit` quanta, and what was lost below that.
-#[derive(Clone, Copy, Debug)]
-struct Given {
-    significand: u128,
-    unit: ExpInt,
-    loss: Loss,
-}
-
-/// `significand * 2^place` quanta, and what was lost below that.
-#[derive(Clone, Copy, Debug)]
-struct Kept {
-    significand: u128,
-    place: u32,
-    loss: Loss,
-}
 
 /// `significand * 2^place` quanta, and the rest that was cut off below that, in units of which the lowest kept digit is
 /// `2 * half`.
@@ -61,6 +49,41 @@ struct Cut {
     place: u32,
     rest: u64,
     half: u64,
+}
+
+impl Cut {
+    /// The same cut, rebuilt from its fields, for a call that takes it by address.
+    #[inline(always)]
+    fn remade(self) -> Cut
+        ensures { result ≡ self }
+    {
+        Cut {
+            significand: self.significand,
+            place: self.place,
+            rest: self.rest,
+            half: self.half,
+        }
+    }
+}
+
+/// What is known of a cut before it is rounded, so that the compiler leaves out what cannot happen.
+#[derive(Clone, Copy, Debug)]
+enum Known {
+    /// The magnitude is at least the smallest normalized value, so that all digits of the format are kept.
+    Normal,
+    /// Nothing.
+    Nothing,
+}
+
+/// Whether all digits of the format are known to be kept.
+#[inline(always)]
+fn surely_normal(known: Known) -> bool
+    ensures { result ≡ true → known ≡ Known.Normal }
+{
+    match known {
+        Known::Normal => true,
+        Known::Nothing => false,
+    }
 }
 
 /// The place of the lowest kept digit of a significand with `digits` digits at `unit`; places and units are counted
@@ -102,10 +125,25 @@ fn steps_down(unit: ExpInt, place: u32) -> u32
     (unit - place as ExpInt) as u32
 }
 
-/// Cuts a significand once, to the digits that a format keeps.
-/// The unit and the place of the result are counted from the quantum.
+/// A loss in quarters of the lowest kept digit, rounded to odd: the last two digits of a number rounded to odd are a
+/// loss.
 #[inline(always)]
-fn keep(precision: u32, significand: u128, unit: ExpInt, loss: Loss) -> Kept
+fn quarters(loss: Loss) -> u64
+    ensures few { result < 4 }
+    ensures same { loss_at result 2 ≡ loss }
+{
+    match loss {
+        Loss::ExactlyZero => 0,
+        Loss::LessThanHalf => 1,
+        Loss::ExactlyHalf => 2,
+        Loss::MoreThanHalf => 3,
+    }
+}
+
+/// Cuts a significand once, to the digits that a format keeps, with the rest in eighths of the lowest kept digit,
+/// rounded to odd. The unit and the place of the result are counted from the quantum.
+#[inline(always)]
+fn keep(precision: u32, significand: u128, unit: ExpInt, loss: Loss) -> Cut
     requires some { 0 < precision }
     requires precise { precision ≤ 125 }
     requires within { IsWithin unit_bound unit }
@@ -113,32 +151,56 @@ fn keep(precision: u32, significand: u128, unit: ExpInt, loss: Loss) -> Kept
     ensures fits { result.significand < 2 ^ precision }
     ensures full { (result.place ≡ 0) ⊎ (2 ^ (precision - 1) ≤ result.significand) }
     ensures near { result.place < place_bound }
+    ensures rest { result.rest < 2 * result.half }
     ensures cut { (amount parts : ℕ) → 0 < parts
         → StandsFor significand loss (amount * 2 ^ down unit) (parts * 2 ^ up unit)
         → IsCut precision result amount parts }
+    ensures finely { IsFineEnough precision significand (unit +ℤ pos 1) loss
+        → (amount parts : ℕ) → 0 < parts
+        → StandsFor significand loss (amount * 2 ^ down unit) (parts * 2 ^ up unit)
+        → IsCutFinely precision result amount parts }
 {
     let place = kept_place(precision, digits(significand), unit);
     if unit > place as ExpInt {
         if significand == 0 {
-            return Kept {
+            return Cut {
                 significand: 0,
                 place: 0,
-                loss,
+                rest: 0,
+                half: 4,
             };
         }
-        let shift = steps_down(unit, place);
-        return Kept {
-            significand: significand << shift,
+        return Cut {
+            significand: significand << steps_down(unit, place),
             place,
-            loss,
+            rest: 0,
+            half: 4,
         };
     }
-    let kept = shift_right(significand, steps_up(unit, place), loss);
-    Kept {
-        significand: kept.significand,
-        place,
-        loss: kept.loss,
+    let steps = steps_up(unit, place);
+    if steps == 0 {
+        return Cut {
+            significand,
+            place,
+            rest: 2 * quarters(loss),
+            half: 4,
+        };
     }
+    let halves = shift_right(significand, steps - 1, loss);
+    Cut {
+        significand: halves.significand / 2,
+        place,
+        rest: 4 * last_digit(halves.significand) + quarters(halves.loss),
+        half: 4,
+    }
+}
+
+/// The last binary digit of a number.
+#[inline(always)]
+fn last_digit(number: u128) -> u64
+    ensures { result ≡ number % 2 }
+{
+    (number % 2) as u64
 }
 
 /// Whether a directed mode rounds a magnitude of this sign up, away from zero.
@@ -149,16 +211,79 @@ fn is_outward(mode: Round, negative: bool) -> bool
     ((mode == Round::TowardPositive) & !negative) | ((mode == Round::TowardNegative) & negative)
 }
 
+/// Whether the mode moves a significand up for the rest below it, in units of which its last digit is `2 * half`.
+#[inline(always)]
+fn moves_past(mode: Round, negative: bool, rest: u64, half: u64, odd: bool) -> bool
+    requires { 0 < half }
+    ensures { result ≡ rounds_up mode negative (loss_at rest half) odd }
+{
+    if mode == Round::NearestTiesToEven {
+        return rest > half - u64::from(odd);
+    }
+    if mode == Round::NearestTiesToAway {
+        return rest >= half;
+    }
+    is_outward(mode, negative) & (rest != 0)
+}
+
 /// Whether the mode moves a significand up for what was lost.
 #[inline(always)]
 pub fn moves_up(mode: Round, negative: bool, loss: Loss, odd: bool) -> bool
     ensures { result ≡ rounds_up mode negative loss odd }
 {
-    let to_even = mode == Round::NearestTiesToEven;
-    let to_nearest = to_even | (mode == Round::NearestTiesToAway);
-    let outward = is_outward(mode, negative) & (loss != Loss::ExactlyZero);
-    let tie = (loss == Loss::ExactlyHalf) & (!to_even | odd);
-    outward | (to_nearest & (tie | (loss == Loss::MoreThanHalf)))
+    moves_past(mode, negative, quarters(loss), 2, odd)
+}
+
+/// The kept digits, or the next number after them, as the mode picks.
+#[inline(always)]
+fn pick(precision: u32, cut: Cut, mode: Round, negative: bool) -> u128
+    requires precise { precision ≤ 125 }
+    requires fits { cut.significand < 2 ^ precision }
+    requires rest { cut.rest < 2 * cut.half }
+    ensures value { result ≡ (if rounds_up mode negative (loss_at cut.rest cut.half)
+        (eqb (cut.significand % 2) 1) then cut.significand + 1 else cut.significand) }
+    ensures bound { result ≤ cut.significand + 1 }
+    ensures above { cut.significand ≤ result }
+{
+    let odd = cut.significand % 2 == 1;
+    let moved = moves_past(mode, negative, cut.rest, cut.half, odd);
+    next_if(precision, cut.significand, moved)
+}
+
+/// The next word, if it moved, or the word itself.
+#[inline(always)]
+fn next_word_if(word: u64, moved: bool) -> u64
+    requires { word < 2 ^ 63 }
+    ensures { result ≡ (if moved then word + 1 else word) }
+{
+    if moved { word + 1 } else { word }
+}
+
+/// A significand of at most 63 digits as a word.
+#[inline(always)]
+fn as_word(precision: u32, significand: u128) -> u64
+    requires short { precision ≤ 63 }
+    requires fits { significand < 2 ^ precision }
+    ensures same { result ≡ significand }
+    ensures room { result < 2 ^ 63 }
+{
+    significand as u64
+}
+
+/// The next significand, if it moved, or the significand itself. In a format of at most 63 digits it is made anew from
+/// one word, so that the compiler computes with one word of it.
+#[inline(always)]
+fn next_if(precision: u32, significand: u128, moved: bool) -> u128
+    requires precise { precision ≤ 125 }
+    requires fits { significand < 2 ^ precision }
+    ensures value { result ≡ (if moved then significand + 1 else significand) }
+    ensures bound { result ≤ significand + 1 }
+    ensures above { significand ≤ result }
+{
+    if precision <= 63 {
+        return u128::from(next_word_if(as_word(precision, significand), moved));
+    }
+    if moved { significand + 1 } else { significand }
 }
 
 /// A grid point, `significand * 2^place` quanta.
@@ -168,50 +293,26 @@ struct Point {
     place: u32,
 }
 
-/// The point one significand up, if it moved, or the point itself; a carry to the next power of two moves the place.
+/// The point of a significand that was picked; a carry to the next power of two moves the place.
 #[inline(always)]
-fn raised(precision: u32, significand: u128, place: u32, moved: bool) -> Point
+fn carried(precision: u32, significand: u128, place: u32) -> Point
     requires some { 0 < precision }
     requires precise { precision ≤ 125 }
-    requires fits { significand < 2 ^ precision }
+    requires fits { significand ≤ 2 ^ precision }
     requires near { place < place_bound }
-    ensures value { result.significand * 2 ^ result.place
-        ≡ (if moved then significand + 1 else significand) * 2 ^ place }
+    ensures value { result.significand * 2 ^ result.place ≡ significand * 2 ^ place }
     ensures fits { result.significand < 2 ^ precision }
     ensures full { 2 ^ (precision - 1) ≤ significand → 2 ^ (precision - 1) ≤ result.significand }
-    ensures last { place ≡ 0 → (result.place ≡ 0) ⊎ (2 ^ (precision - 1) ≤ result.significand) }
     ensures near { result.place ≤ place_bound }
 {
-    let next = if moved { significand + 1 } else { significand };
-    if next == power_of_two(precision) {
+    if significand == power_of_two(precision) {
         Point {
             significand: power_of_two(precision - 1),
             place: place + 1,
         }
     } else {
-        Point {
-            significand: next,
-            place,
-        }
+        Point { significand, place }
     }
-}
-
-/// The point that the mode picks.
-#[inline(always)]
-fn pick(precision: u32, kept: Kept, mode: Round, negative: bool) -> Point
-    requires some { 0 < precision }
-    requires precise { precision ≤ 125 }
-    requires fits { kept.significand < 2 ^ precision }
-    requires full { (kept.place ≡ 0) ⊎ (2 ^ (precision - 1) ≤ kept.significand) }
-    requires near { kept.place < place_bound }
-    ensures picked { (amount parts : ℕ) → 0 < parts → IsCut precision kept amount parts
-        → IsPick precision mode negative amount parts (result.significand * 2 ^ result.place) }
-    ensures fits { result.significand < 2 ^ precision }
-    ensures full { (result.place ≡ 0) ⊎ (2 ^ (precision - 1) ≤ result.significand) }
-    ensures near { result.place ≤ place_bound }
-{
-    let moved = moves_up(mode, negative, kept.loss, kept.significand % 2 == 1);
-    raised(precision, kept.significand, kept.place, moved)
 }
 
 /// Whether the point is past the greatest significand at the greatest place.
@@ -236,65 +337,57 @@ fn is_past(precision: u32, point: Point, greatest: u128, span: u32) -> bool
 fn leads_past(mode: Round, negative: bool) -> bool
     ensures { result ≡ leads_out mode negative }
 {
-    let to_nearest = (mode == Round::NearestTiesToEven) | (mode == Round::NearestTiesToAway);
-    to_nearest | is_outward(mode, negative)
-}
-
-/// What was lost below half a quantum.
-#[inline(always)]
-fn loss_below_half(given: Given) -> Loss
-    requires within { IsWithin unit_bound given.unit }
-    requires fine { (given.unit +ℤ pos 1) ≤ℤ pos 0 }
-    ensures { (amount parts last : ℕ) → 0 < parts → IsGiven given amount parts
-        → last * parts ≤ 2 * amount → 2 * amount < (last + 1) * parts
-        → StandsFor last result (2 * amount) parts }
-{
-    let steps = steps_up(given.unit + 1, 0);
-    shift_right(given.significand, steps, given.loss).loss
+    match mode {
+        Round::TowardPositive => !negative,
+        Round::TowardNegative => negative,
+        Round::NearestTiesToEven => true,
+        Round::NearestTiesToAway => true,
+        Round::TowardZero => false,
+    }
 }
 
 /// Whether the magnitude, rounded with an unbounded exponent, is below the smallest normalized value. If the kept
-/// digits are all ones just below it, and more than half a quantum was cut off, one more digit has to be looked at.
-#[inline(always)]
-fn rounds_below_normal(shape: Shape, given: Given, kept: Kept, mode: Round, negative: bool) -> bool
-    requires within { IsWithin unit_bound given.unit }
-    requires fine { IsFineEnough shape.precision given.significand (given.unit +ℤ pos 1)
-        given.loss }
-    ensures { (amount parts : ℕ) → 0 < parts → IsGiven given amount parts
-        → IsCut shape.precision kept amount parts
+/// digits are all ones just below it, and more than half a quantum was cut off, what is left of the rest below that
+/// half decides, against what is missing to the whole. Kept out of line: built-in formats never ask.
+#[cold]
+#[inline(never)]
+fn rounds_below_normal(shape: Shape, cut: Cut, mode: Round, negative: bool) -> bool
+    requires rest { cut.rest < 2 * cut.half }
+    ensures { (amount parts : ℕ) → 0 < parts → IsCut shape.precision cut amount parts
+        → IsCutFinely shape.precision cut amount parts
         → rounds_below_normal shape.precision mode negative amount parts ≡ result }
 {
     let last = shape.integer_bit() - 1;
-    if kept.significand != last {
-        return kept.significand < last;
+    if cut.significand != last {
+        return cut.significand < last;
     }
-    match kept.loss {
-        Loss::MoreThanHalf => {
-            if given.unit >= 0 {
-                return true;
-            }
-            !moves_up(mode, negative, loss_below_half(given), true)
-        }
-        _ => true,
+    if cut.rest <= cut.half {
+        return true;
     }
+    let past_half = cut.rest - cut.half;
+    !moves_past(mode, negative, past_half, cut.half - past_half, true)
 }
 
 /// Whether an inexact result counts as tiny: by its significand before or after rounding, or rounded with an unbounded
 /// exponent.
 #[inline(always)]
-fn is_tiny(shape: Shape, given: Given, kept: Kept, after: u128, mode: Round, negative: bool) -> bool
-    requires within { IsWithin unit_bound given.unit }
-    requires fine { IsFineFor (format_at shape) given.significand given.unit given.loss }
-    ensures { (amount parts place : ℕ) → 0 < parts → IsGiven given amount parts
-        → IsCut shape.precision kept amount parts
-        → (place ≡ 0) ⊎ (2 ^ (shape.precision - 1) ≤ after)
-        → is_tiny (format_at shape) mode negative amount parts (after * 2 ^ place) ≡ result }
+fn is_tiny(shape: Shape, known: Known, cut: Cut, after: u128, mode: Round, negative: bool) -> bool
+    requires rest { cut.rest < 2 * cut.half }
+    requires normal { known ≡ Known.Normal → 2 ^ (shape.precision - 1) ≤ cut.significand }
+    requires above { cut.significand ≤ after }
+    ensures { (amount parts : ℕ) → 0 < parts → IsCut shape.precision cut amount parts
+        → IsFineCut (format_at shape) cut amount parts
+        → (cut.place ≡ 0) ⊎ (2 ^ (shape.precision - 1) ≤ after)
+        → is_tiny (format_at shape) mode negative amount parts (after * 2 ^ cut.place) ≡ result }
 {
+    if surely_normal(known) {
+        return false;
+    }
     if shape.tiny_before_rounding {
-        return kept.significand < shape.integer_bit();
+        return cut.significand < shape.integer_bit();
     }
     if shape.ieee_flags {
-        return rounds_below_normal(shape, given, kept, mode, negative);
+        return rounds_below_normal(shape.remade(), cut.remade(), mode, negative);
     }
     after < shape.integer_bit()
 }
@@ -322,52 +415,143 @@ fn overflowed(shape: Shape, mode: Round, negative: bool) -> StatusAnd<Unpacked>
     status.and(largest_of(shape, negative))
 }
 
-/// The status of a rounding that stays within the format.
+/// The status of a rounding within the format that cuts off a rest.
 #[inline(always)]
-fn status_within(loss: Loss, tiny: bool) -> Status
-    ensures exact { loss ≡ Loss.ExactlyZero → bits_of result ≡ ok_bits }
-    ensures inexact { (loss ≡ Loss.ExactlyZero → ⊥)
+fn status_within(rest: u64, tiny: bool) -> Status
+    ensures exact { rest ≡ 0 → bits_of result ≡ ok_bits }
+    ensures inexact { (rest ≡ 0 → ⊥)
         → bits_of result ≡ (if tiny then underflow_bit + inexact_bit else inexact_bit) }
 {
-    match loss {
-        Loss::ExactlyZero => Status::OK,
-        _ => {
-            if tiny {
-                Status::UNDERFLOW.union(Status::INEXACT)
-            } else {
-                Status::INEXACT
-            }
-        }
+    if rest == 0 {
+        Status::OK
+    } else if tiny {
+        Status::UNDERFLOW.union(Status::INEXACT)
+    } else {
+        Status::INEXACT
     }
 }
 
-/// Rounds kept digits to a value of the format.
+/// Whether a significand that was picked is within the format as it is: below the greatest exponent, where no carry
+/// moves the place.
 #[inline(always)]
-fn finish(
-    shape: Shape,
-    given: Given,
-    kept: Kept,
-    mode: Round,
-    negative: bool,
-) -> StatusAnd<Unpacked>
-    requires within { IsWithin unit_bound given.unit }
-    requires fine { IsFineFor (format_at shape) given.significand given.unit given.loss }
-    requires fits { kept.significand < 2 ^ shape.precision }
-    requires full { (kept.place ≡ 0) ⊎ (2 ^ (shape.precision - 1) ≤ kept.significand) }
-    requires near { kept.place < place_bound }
+fn stays_within(shape: Shape, significand: u128, place: u32) -> bool
+    requires fits { significand ≤ 2 ^ shape.precision }
+    requires full { (place ≡ 0) ⊎ (2 ^ (shape.precision - 1) ≤ significand) }
+    ensures fits { result ≡ true → significand < 2 ^ shape.precision }
+    ensures within { result ≡ true → significand * 2 ^ place ≤ largest (format_at shape) }
+    ensures full { result ≡ false → 2 ^ (shape.precision - 1) ≤ significand }
+{
+    if place >= shape.span() {
+        return false;
+    }
+    significand != power_of_two(shape.precision)
+}
+
+/// `significand * 2^place` quanta with that sign, by what is known of them.
+#[inline(always)]
+fn value_of(shape: Shape, known: Known, negative: bool, significand: u128, place: u32) -> Unpacked
+    requires fits { significand < 2 ^ shape.precision }
+    requires near { place ≤ place_bound }
+    requires within { significand * 2 ^ place ≤ largest (format_at shape) }
+    requires normal { known ≡ Known.Normal → 2 ^ (shape.precision - 1) ≤ significand }
+    ensures stored { IsStored shape result }
+    ensures datum { datum_at shape result
+        ≡ signed_quanta shape.nonfinite negative (significand * 2 ^ place) }
+{
+    match known {
+        Known::Normal => from_full_quanta(shape, negative, significand, place),
+        Known::Nothing => from_rounded_quanta(shape, negative, significand, place),
+    }
+}
+
+/// What a mode picks of a cut, and the status of that where it is within the format.
+#[derive(Clone, Copy, Debug)]
+struct Picked {
+    significand: u128,
+    tiny: bool,
+    status: Status,
+}
+
+/// Picks the kept digits or the next number after them, with the status of a rounding within the format.
+#[inline(always)]
+fn pick_with_status(shape: Shape, known: Known, cut: Cut, mode: Round, negative: bool) -> Picked
+    requires fits { cut.significand < 2 ^ shape.precision }
+    requires rest { cut.rest < 2 * cut.half }
+    requires normal { known ≡ Known.Normal → 2 ^ (shape.precision - 1) ≤ cut.significand }
+    ensures value { result.significand ≡ (if rounds_up mode negative (loss_at cut.rest cut.half)
+        (eqb (cut.significand % 2) 1) then cut.significand + 1 else cut.significand) }
+    ensures bound { result.significand ≤ cut.significand + 1 }
+    ensures above { cut.significand ≤ result.significand }
+    ensures tiny { (amount parts : ℕ) → 0 < parts → IsCut shape.precision cut amount parts
+        → IsFineCut (format_at shape) cut amount parts
+        → (cut.place ≡ 0) ⊎ (2 ^ (shape.precision - 1) ≤ result.significand)
+        → is_tiny (format_at shape) mode negative amount parts (result.significand * 2 ^ cut.place)
+        ≡ result.tiny }
+    ensures exact { cut.rest ≡ 0 → bits_of result.status ≡ ok_bits }
+    ensures inexact { (cut.rest ≡ 0 → ⊥) → bits_of result.status
+        ≡ (if result.tiny then underflow_bit + inexact_bit else inexact_bit) }
+{
+    let significand = pick(shape.precision, cut, mode, negative);
+    let tiny = is_tiny(shape, known, cut, significand, mode, negative);
+    Picked {
+        significand,
+        tiny,
+        status: status_within(cut.rest, tiny),
+    }
+}
+
+/// That many quanta with that sign, at most the smallest normalized value.
+#[inline(always)]
+fn value_below(shape: Shape, negative: bool, quanta: u128) -> Unpacked
+    requires short { shape.precision ≤ 62 }
+    requires few { quanta ≤ 2 ^ (shape.precision - 1) }
+    ensures stored { IsStored shape result }
+    ensures datum { datum_at shape result ≡ signed_quanta shape.nonfinite negative quanta }
+{
+    from_few_quanta(shape, negative, quanta as u64)
+}
+
+/// Rounds a cut below the smallest normalized value, where no result is past the largest value.
+#[inline(always)]
+fn round_below(shape: Shape, cut: Cut, mode: Round, negative: bool) -> StatusAnd<Unpacked>
+    requires short { shape.precision ≤ 62 }
+    requires fits { cut.significand < 2 ^ (shape.precision - 1) }
+    requires place { cut.place ≡ 0 }
+    requires rest { cut.rest < 2 * cut.half }
     ensures stored { IsStored shape result.value }
-    ensures delivered { (amount parts : ℕ) → 0 < parts → IsGiven given amount parts
-        → IsCut shape.precision kept amount parts
+    ensures delivered { (amount parts : ℕ) → 0 < parts → IsCut shape.precision cut amount parts
+        → IsFineCut (format_at shape) cut amount parts
         → GivesAt shape (IsDelivered (format_at shape) mode negative amount parts) result }
 {
-    let point = pick(shape.precision, kept, mode, negative);
+    let picked = pick_with_status(shape, Known::Nothing, cut, mode, negative);
+    let value = value_below(shape, negative, picked.significand);
+    picked.status.and(value)
+}
+
+/// Rounds a cut to a value of the format.
+#[inline(always)]
+fn round(shape: Shape, known: Known, cut: Cut, mode: Round, negative: bool) -> StatusAnd<Unpacked>
+    requires fits { cut.significand < 2 ^ shape.precision }
+    requires full { (cut.place ≡ 0) ⊎ (2 ^ (shape.precision - 1) ≤ cut.significand) }
+    requires near { cut.place < place_bound }
+    requires rest { cut.rest < 2 * cut.half }
+    requires normal { known ≡ Known.Normal → 2 ^ (shape.precision - 1) ≤ cut.significand }
+    ensures stored { IsStored shape result.value }
+    ensures delivered { (amount parts : ℕ) → 0 < parts → IsCut shape.precision cut amount parts
+        → IsFineCut (format_at shape) cut amount parts
+        → GivesAt shape (IsDelivered (format_at shape) mode negative amount parts) result }
+{
+    let picked = pick_with_status(shape, known, cut, mode, negative);
+    let status = picked.status;
+    if stays_within(shape, picked.significand, cut.place) {
+        return status.and(value_of(shape, known, negative, picked.significand, cut.place));
+    }
+    let point = carried(shape.precision, picked.significand, cut.place);
     let greatest = shape.greatest_significand();
     if is_past(shape.precision, point, greatest, shape.span()) {
         return overflowed(shape, mode, negative);
     }
-    let tiny = is_tiny(shape, given, kept, point.significand, mode, negative);
-    let status = status_within(kept.loss, tiny);
-    status.and(from_rounded_quanta(shape, negative, point.significand, point.place))
+    status.and(from_full_quanta(shape, negative, point.significand, point.place))
 }
 
 /// The exponent of a unit, relative to the quantum's.
@@ -403,13 +587,8 @@ pub fn deliver(
         → GivesAt shape (IsDelivered (format_at shape) mode negative amount parts) result }
 {
     let unit = unit_place(shape, exponent);
-    let kept = keep(shape.precision, significand, unit, loss);
-    let given = Given {
-        significand,
-        unit,
-        loss,
-    };
-    finish(shape, given, kept, mode, negative)
+    let cut = keep(shape.precision, significand, unit, loss);
+    round(shape, Known::Nothing, cut, mode, negative)
 }
 
 /// What `deliver` returns. Kept out of line, for results that are rare.
@@ -432,27 +611,6 @@ fn deliver_any(
         → GivesAt shape (IsDelivered (format_at shape) mode negative amount parts) result }
 {
     deliver(shape, significand, exponent, loss, mode, negative)
-}
-
-/// What `deliver` returns, for results that are rare, rebuilt from its fields.
-#[inline(always)]
-fn deliver_apart(
-    shape: Shape,
-    significand: u128,
-    exponent: ExpInt,
-    loss: Loss,
-    mode: Round,
-    negative: bool,
-) -> StatusAnd<Unpacked>
-    requires within { IsWithin exponent_bound exponent }
-    requires fine { IsFineFor (format_at shape) significand
-        (exponent +ℤ pos (format_at shape).scale) loss }
-    ensures stored { IsStored shape result.value }
-    ensures delivered { let unit = exponent +ℤ pos (format_at shape).scale in (amount parts : ℕ)
-        → 0 < parts → StandsFor significand loss (amount * 2 ^ down unit) (parts * 2 ^ up unit)
-        → GivesAt shape (IsDelivered (format_at shape) mode negative amount parts) result }
-{
-    remade(deliver_any(shape.remade(), significand, exponent, loss, mode, negative))
 }
 
 // Most results have all digits of their format. If the significand's digits have been counted too, as those of a number
@@ -587,100 +745,30 @@ fn split(significand: u128, digits: u32, places: u32) -> Pieces
 
 /// Cuts a significand with `digits` digits to the precision.
 #[inline(always)]
-fn cut_u128_digits(precision: u32, given: Given, digits: u32) -> Cut
+fn cut_u128_digits(precision: u32, significand: u128, digits: u32, unit: ExpInt) -> Cut
     requires some { 0 < precision }
     requires precise { precision ≤ 125 }
     requires long { precision < digits }
     requires short { digits ≤ 128 }
-    requires fits { given.significand < 2 ^ digits }
-    requires full { 2 ^ (digits - 1) ≤ given.significand }
-    requires exact { given.loss ≡ Loss.ExactlyZero }
-    requires within { IsWithin unit_bound given.unit }
-    requires above { pos precision ≤ℤ (given.unit +ℤ pos digits) }
+    requires fits { significand < 2 ^ digits }
+    requires full { 2 ^ (digits - 1) ≤ significand }
+    requires within { IsWithin unit_bound unit }
+    requires above { pos precision ≤ℤ (unit +ℤ pos digits) }
     ensures fits { result.significand < 2 ^ precision }
     ensures full { 2 ^ (precision - 1) ≤ result.significand }
     ensures near { result.place < place_bound }
     ensures rest { result.rest < 2 * result.half }
-    ensures cut { (amount parts : ℕ) → 0 < parts → IsGiven given amount parts
-        → IsCutOff precision result amount parts }
+    ensures cut { (amount parts : ℕ) → 0 < parts
+        → StandsFor significand Loss.ExactlyZero (amount * 2 ^ down unit) (parts * 2 ^ up unit)
+        → IsCut precision result amount parts }
 {
-    let pieces = split(given.significand, digits, digits - precision);
+    let pieces = split(significand, digits, digits - precision);
     Cut {
         significand: pieces.kept,
-        place: full_place(precision, digits, given.unit),
+        place: full_place(precision, digits, unit),
         rest: pieces.rest,
         half: pieces.half,
     }
-}
-
-/// Whether the mode moves a significand up for the rest below it, in units of which its last digit is `2 * half`.
-#[inline(always)]
-fn moves_past(mode: Round, negative: bool, rest: u64, half: u64, odd: bool) -> bool
-    requires { rest < 2 * half }
-    ensures { result ≡ rounds_up mode negative (loss_at rest half) odd }
-{
-    if mode == Round::NearestTiesToEven {
-        return rest > half - u64::from(odd);
-    }
-    if mode == Round::NearestTiesToAway {
-        return rest >= half;
-    }
-    is_outward(mode, negative) & (rest != 0)
-}
-
-/// The status of a rounding within the format that cuts off a rest.
-#[inline(always)]
-fn status_of_rest(rest: u64, tiny: bool) -> Status
-    ensures exact { rest ≡ 0 → bits_of result ≡ ok_bits }
-    ensures inexact { (rest ≡ 0 → ⊥)
-        → bits_of result ≡ (if tiny then underflow_bit + inexact_bit else inexact_bit) }
-{
-    if rest == 0 {
-        Status::OK
-    } else if tiny {
-        Status::UNDERFLOW.union(Status::INEXACT)
-    } else {
-        Status::INEXACT
-    }
-}
-
-/// The next significand, if it moved, or the significand itself.
-#[inline(always)]
-fn next_if(precision: u32, significand: u128, moved: bool) -> u128
-    requires precise { precision ≤ 125 }
-    requires fits { significand < 2 ^ precision }
-    ensures value { result ≡ (if moved then significand + 1 else significand) }
-    ensures bound { result ≤ 2 ^ precision }
-    ensures above { significand ≤ result }
-{
-    if moved { significand + 1 } else { significand }
-}
-
-/// Rounds all digits of the precision, with the rest below them, to a value of the format. Below the greatest exponent,
-/// where no carry moves the place, the result is within the format, and no point has to be compared.
-#[inline(always)]
-fn round_cut(shape: Shape, cut: Cut, mode: Round, negative: bool) -> StatusAnd<Unpacked>
-    requires fits { cut.significand < 2 ^ shape.precision }
-    requires full { 2 ^ (shape.precision - 1) ≤ cut.significand }
-    requires near { cut.place < place_bound }
-    requires rest { cut.rest < 2 * cut.half }
-    ensures stored { IsStored shape result.value }
-    ensures delivered { (amount parts : ℕ) → 0 < parts → IsCutOff shape.precision cut amount parts
-        → GivesAt shape (IsDelivered (format_at shape) mode negative amount parts) result }
-{
-    let odd = cut.significand % 2 == 1;
-    let moved = moves_past(mode, negative, cut.rest, cut.half, odd);
-    let status = status_of_rest(cut.rest, false);
-    let next = next_if(shape.precision, cut.significand, moved);
-    if cut.place < shape.span() && next != power_of_two(shape.precision) {
-        return status.and(from_full_quanta(shape, negative, next, cut.place));
-    }
-    let point = raised(shape.precision, cut.significand, cut.place, moved);
-    let greatest = shape.greatest_significand();
-    if is_past(shape.precision, point, greatest, shape.span()) {
-        return overflowed(shape, mode, negative);
-    }
-    status.and(from_full_quanta(shape, negative, point.significand, point.place))
 }
 
 /// Delivers `significand * 2^exponent`, rounded once, where the significand has exactly `digits` digits. It is
@@ -706,17 +794,13 @@ pub fn deliver_u128_digits(
 {
     let unit = unit_place(shape, exponent);
     if digits > shape.precision {
-        let given = Given {
-            significand,
-            unit,
-            loss: Loss::ExactlyZero,
-        };
         if unit + digits as ExpInt >= shape.precision as ExpInt {
-            let cut = cut_u128_digits(shape.precision, given, digits);
-            return round_cut(shape, cut, mode, negative);
+            let cut = cut_u128_digits(shape.precision, significand, digits, unit);
+            return round(shape, Known::Normal, cut, mode, negative);
         }
         if shape.precision <= 59 {
-            return round_denormal(shape, given, digits, mode, negative);
+            let cut = cut_at_quantum(shape.precision, in_word(significand, digits, unit));
+            return round_below(shape, cut, mode, negative);
         }
     }
     deliver(

@@ -237,7 +237,7 @@ pub fn largest_of(shape: Shape, negative: bool) -> Unpacked
     ensures stored { IsStored shape result }
     ensures datum { datum_at shape result ≡ finite negative (largest (format_at shape)) }
 {
-    from_quanta(shape, negative, shape.greatest_significand(), shape.span())
+    from_full_quanta(shape, negative, shape.greatest_significand(), shape.span())
 }
 
 /// One quantum.

@@ -7,12 +7,11 @@ ghost use Rattle.apfloat_model.specs.rounding.Bounds.{IsWithin, exponent_bound, 
 ghost use Rattle.apfloat_model.specs.rounding.Rounding.{IsDelivered};
 ghost use Rattle.apfloat_model.specs.rounding.RoundingToOdd.{IsRoundedToOdd};
 ghost use Rattle.apfloat_model.specs.rounding.Standing.{up, down};
-ghost use Rattle.apfloat_rounding.specs.Cuts.{IsCutOff};
+ghost use Rattle.apfloat_rounding.specs.Cuts.{IsCut, loss_at};
 ghost use Rattle.apfloat_rounding.specs.Shapes.{format_at};
 ghost use Rattle.apfloat_rounding.specs.Stored.{IsStored, GivesAt};
 
-use super::denormal::loss_of;
-use super::{Cut, deliver_any, full_place, round_cut, split, unit_place};
+use super::{Cut, Known, deliver_any, full_place, round, split, unit_place};
 use crate::shape::Shape;
 use crate::unpacked::{Unpacked, remade};
 use apfloat_model::{ExpInt, Loss, Round, StatusAnd};
@@ -47,7 +46,7 @@ fn cut_u128(precision: u32, significand: u128, digits: u32, unit: ExpInt) -> Cut
     ensures cut { (amount parts : ℕ) → 0 < parts
         → IsRoundedToOdd (2 ^ (precision + 1)) significand (amount * 2 ^ down unit)
         (parts * 2 ^ up unit)
-        → IsCutOff precision result amount parts }
+        → IsCut precision result amount parts }
 {
     let pieces = split(at_u128_top(significand, digits), 128, 128 - precision);
     Cut {
@@ -55,6 +54,22 @@ fn cut_u128(precision: u32, significand: u128, digits: u32, unit: ExpInt) -> Cut
         place: full_place(precision, digits, unit),
         rest: pieces.rest,
         half: pieces.half,
+    }
+}
+
+/// The loss of a rest, in units of which the lowest kept digit is `2 * half`.
+#[inline(always)]
+fn loss_of(rest: u64, half: u64) -> Loss
+    ensures { result ≡ loss_at rest half }
+{
+    if rest == 0 {
+        Loss::ExactlyZero
+    } else if rest < half {
+        Loss::LessThanHalf
+    } else if rest == half {
+        Loss::ExactlyHalf
+    } else {
+        Loss::MoreThanHalf
     }
 }
 
@@ -122,7 +137,7 @@ pub fn deliver_u128(
     let digits = digits(significand);
     if digits > 0 && unit + digits as ExpInt >= shape.precision as ExpInt {
         let cut = cut_u128(shape.precision, significand, digits, unit);
-        return round_cut(shape, cut, mode, negative);
+        return round(shape, Known::Normal, cut, mode, negative);
     }
     remade(deliver_u128_below(shape.remade(), significand, exponent, mode, negative))
 }

@@ -9,12 +9,12 @@ ghost use Rattle.apfloat_model.specs.rounding.Bounds.{IsWithin, exponent_bound, 
 ghost use Rattle.apfloat_model.specs.rounding.Rounding.{IsDelivered};
 ghost use Rattle.apfloat_model.specs.rounding.RoundingToOdd.{IsRoundedToOdd};
 ghost use Rattle.apfloat_model.specs.rounding.Standing.{StandsFor, up, down};
-ghost use Rattle.apfloat_rounding.specs.Cuts.{IsCutOff};
+ghost use Rattle.apfloat_rounding.specs.Cuts.{IsCut};
 ghost use Rattle.apfloat_rounding.specs.Shapes.{format_at};
 ghost use Rattle.apfloat_rounding.specs.Stored.{IsStored, GivesAt};
 
-use super::denormal::{loss_of, round_odd_denormal, whole_quanta};
-use super::{Cut, deliver_apart, full_place, low_of_word, round_cut, unit_place, word_power};
+use super::denormal::{Word, cut_at_quantum, whole_quanta};
+use super::{Cut, Known, full_place, low_of_word, round, round_below, unit_place, word_power};
 use crate::shape::Shape;
 use crate::unpacked::{Unpacked, from_few_quanta};
 use apfloat_model::{ExpInt, Loss, Round, Status, StatusAnd};
@@ -49,7 +49,7 @@ fn cut_word(precision: u32, significand: u64, digits: u32, unit: ExpInt) -> Cut
     ensures cut { (amount parts : ℕ) → 0 < parts
         → IsRoundedToOdd (2 ^ (precision + 1)) significand (amount * 2 ^ down unit)
         (parts * 2 ^ up unit)
-        → IsCutOff precision result amount parts }
+        → IsCut precision result amount parts }
 {
     let top = at_word_top(significand, digits);
     let places = 64 - precision;
@@ -83,7 +83,7 @@ pub fn deliver_word(
     let digits = digits(u128::from(significand));
     if digits > 0 && unit + digits as ExpInt >= shape.precision as ExpInt {
         let cut = cut_word(shape.precision, significand, digits, unit);
-        return round_cut(shape, cut, mode, negative);
+        return round(shape, Known::Normal, cut, mode, negative);
     }
     let quanta = whole_quanta(shape.precision, significand, digits, unit);
     Status::OK.and(from_few_quanta(shape, negative, quanta))
@@ -121,7 +121,7 @@ fn cut_quarters(precision: u32, significand: u64, unit: ExpInt) -> Cut
     ensures cut { (amount parts : ℕ) → 0 < parts
         → IsRoundedToOdd (2 ^ (precision + 1)) significand (amount * 2 ^ down unit)
         (parts * 2 ^ up unit)
-        → IsCutOff precision result amount parts }
+        → IsCut precision result amount parts }
 {
     Cut {
         significand: u128::from(significand / 4),
@@ -129,35 +129,6 @@ fn cut_quarters(precision: u32, significand: u64, unit: ExpInt) -> Cut
         rest: significand % 4,
         half: 2,
     }
-}
-
-/// Delivers `significand * 2^exponent`, which was rounded to odd and has two digits more than the format keeps, with the
-/// last two digits as a `Loss`.
-#[inline(always)]
-fn deliver_quarters(
-    shape: Shape,
-    significand: u64,
-    exponent: ExpInt,
-    mode: Round,
-    negative: bool,
-) -> StatusAnd<Unpacked>
-    requires full { 2 ^ (shape.precision + 1) ≤ significand }
-    requires within { IsWithin exponent_bound (exponent +ℤ pos 2) }
-    ensures stored { IsStored shape result.value }
-    ensures delivered { let unit = exponent +ℤ pos (format_at shape).scale in (amount parts : ℕ)
-        → 0 < parts
-        → IsRoundedToOdd (2 ^ (shape.precision + 1)) significand (amount * 2 ^ down unit)
-        (parts * 2 ^ up unit)
-        → GivesAt shape (IsDelivered (format_at shape) mode negative amount parts) result }
-{
-    deliver_apart(
-        shape,
-        u128::from(significand / 4),
-        exponent + 2,
-        loss_of(significand % 4, 2),
-        mode,
-        negative,
-    )
 }
 
 /// Delivers `significand * 2^exponent`, which was rounded to odd and has two digits more than the format keeps, rounded
@@ -184,17 +155,13 @@ pub fn deliver_word_digits(
     let unit = unit_place(shape, exponent);
     if unit >= -2 {
         let cut = cut_quarters(shape.precision, significand, unit);
-        return round_cut(shape, cut, mode, negative);
+        return round(shape, Known::Normal, cut, mode, negative);
     }
-    if shape.ieee_flags {
-        return deliver_quarters(shape, significand, exponent, mode, negative);
-    }
-    round_odd_denormal(
-        shape,
+    let word = Word {
         significand,
-        shape.precision + 2,
+        digits: shape.precision + 2,
         unit,
-        mode,
-        negative,
-    )
+    };
+    let cut = cut_at_quantum(shape.precision, word);
+    round_below(shape, cut, mode, negative)
 }

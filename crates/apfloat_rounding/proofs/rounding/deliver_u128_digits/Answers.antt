@@ -1,5 +1,9 @@
-use Rattle.std.proofs.Common.{◌≡◌, ℕ, ◌*◌, ◌^◌, sym, ◌∙◌, subst, ℤ, pos, ◌+ℤ◌, to_z, of_z, w32}
-use Rattle.std.proofs.lemmas.Int.{to_z-of_z}
+use Rattle.std.proofs.Common.{◌≡◌, ℕ, ◌+◌, ◌*◌, ◌^◌, ◌≤◌, ⊎_elim, arith, sym, ◌∙◌, subst, ℤ, pos, ◌+ℤ◌, to_z, of_z, w32}
+use Rattle.std.proofs.Math.Nat.{pow-le-pow_right}
+use Rattle.std.proofs.lemmas.Int.{ints, to_z-of_z}
+use Rattle.apfloat_model.proofs.general.Powers.{two_pos}
+use Rattle.apfloat_model.proofs.rounding.OddRoundings.{to_odd_least}
+use Rattle.apfloat_rounding.proofs.FineCuts.{all_kept}
 use Rattle.apfloat_model.specs.declared.loss.Loss.TheVariants.{ExactlyZero}
 use Rattle.apfloat_model.specs.rounding.Standing.{StandsFor, up, down}
 use Rattle.apfloat_rounding.specs.Shapes.{format_at}
@@ -24,12 +28,27 @@ in_quanta c amount parts h =
 pub returns-then-unit-digits-clause-delivered : goal.returns-then-unit-digits-clause-delivered
 returns-then-unit-digits-clause-delivered c = λ amount parts u h.
     let g = in_quanta (goal.at.returns-then-unit-digits-clause-delivered c).After-unit_place-unit amount parts h in
-    c.round_cut.ensures.delivered amount parts u (c.cut_u128_digits-cut.ensures.cut amount parts u g)
+    c.round.ensures.delivered amount parts u (c.cut_u128_digits-cut.ensures.cut amount parts u g)
+    (λ r. all_kept c.args.shape.precision c.cut_u128_digits-cut.result amount parts c.cut_u128_digits-cut.ensures.full)
+
+pub cut_at_quantum-cut-requires-clause-fine : goal.cut_at_quantum-cut-requires-clause-fine
+cut_at_quantum-cut-requires-clause-fine c =
+    let s = c.in_word.ensures.same in
+    let b = c.if-unit-digits.false in
+    let p = c.if-shape-le59.true in
+    let l = c.if-digits-shape.true in
+    ⊎_elim (λ e. omega (arith, ints, s, b, l, e)) (λ e. omega (arith, ints, s, b, p, e)) c.in_word.ensures.long
 
 pub returns-then-shape-le59-clause-delivered : goal.returns-then-shape-le59-clause-delivered
 returns-then-shape-le59-clause-delivered c = λ amount parts u h.
+    let precision = c.args.shape.precision in
+    let l = c.if-shape-le59.true in
+    let j : c.args.shape.precision + 1 ≤ 61 = omega (arith, l) in
+    let k : 2 ^ (c.args.shape.precision + 1) ≤ 2 ^ 61 = pow-le-pow_right two_pos j in
     let g = in_quanta (goal.at.returns-then-shape-le59-clause-delivered c).After-unit_place-unit amount parts h in
-    c.round_denormal.ensures.delivered amount parts u g
+    let o = c.in_word.ensures.odd amount parts u g in
+    let x = c.cut_at_quantum-cut.ensures.cut amount parts u (to_odd_least (2 ^ 61) (2 ^ (precision + 1)) _ _ _ k o) in
+    c.round_below.ensures.delivered amount parts u x.0 (λ r. x.1)
 
 pub returns-clause-delivered : goal.returns-clause-delivered
 returns-clause-delivered c =

@@ -10,7 +10,7 @@ returns-clause-datum c =
     let g : 0 < c.greatest_significand.result = omega (arith, p, c.greatest_significand.ensures.full) in
     let q : 0 < c.greatest_significand.result * 2 ^ c.span.result = mul-pos g (pow_pos c.span.result) in
     rw (
-      c.from_quanta.ensures.datum,
+      c.from_full_quanta.ensures.datum,
       signed_some c.args.shape.nonfinite c.args.negative _ q,
       c.greatest_significand.ensures.value,
       c.span.ensures.value,

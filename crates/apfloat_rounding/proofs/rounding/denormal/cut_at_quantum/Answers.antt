@@ -3,7 +3,7 @@ use Rattle.std.proofs.lemmas.Int.{ints, to_z-of_z}
 use borrow.Author.Differences.{fits_in}
 use Rattle.apfloat_model.specs.rounding.Standing.{up, down}
 use Rattle.apfloat_rounding.proofs.OddCuts.{no_up}
-use Rattle.apfloat_rounding.proofs.QuantumCuts.{IsQuantumCut, quantum_fits, quantum_stands, quantum_encloses}
+use Rattle.apfloat_rounding.proofs.QuantumCuts.{IsQuantumCut, quantum_fits, quantum_stands, quantum_encloses, quantum_finely}
 use Rattle.apfloat_rounding.proofs.rounding.denormal.cut_at_quantum.Goals.{After-word_power}
 use Rattle.apfloat_rounding.proofs.rounding.denormal.cut_at_quantum.Goals as goal
 
@@ -38,8 +38,12 @@ returns-clause-cut c = λ amount parts p h.
     let s = c.args.word.significand in
     let u : up c.args.word.unit ≡ 0 = no_up c.args.word.unit (omega (arith, ints, c.requires.fine)) in
     rw c.from.ensures (
-      quantum_encloses c.args.precision s c.args.word.digits (down unit) c.places_below-places.result
-          c.word_power.result (up unit) (down unit) amount parts (cut c) p u refl h,
-      quantum_stands c.args.precision s c.args.word.digits (down unit) c.places_below-places.result
-          c.word_power.result (up unit) (down unit) amount parts (cut c) p u refl h,
+      (
+        quantum_encloses c.args.precision s c.args.word.digits (down unit) c.places_below-places.result
+            c.word_power.result (up unit) (down unit) amount parts (cut c) p u refl h,
+        quantum_stands c.args.precision s c.args.word.digits (down unit) c.places_below-places.result
+            c.word_power.result (up unit) (down unit) amount parts (cut c) p u refl h,
+      ),
+      λ e m. quantum_finely c.args.precision s c.args.word.digits (down unit) c.places_below-places.result
+          c.word_power.result (up unit) (down unit) amount parts (cut c) p u refl h m,
     )

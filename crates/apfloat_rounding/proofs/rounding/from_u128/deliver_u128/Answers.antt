@@ -3,6 +3,7 @@ use Rattle.std.proofs.lemmas.Int.{ints, to_z-of_z}
 use Rattle.apfloat_model.specs.rounding.RoundingToOdd.{IsRoundedToOdd}
 use Rattle.apfloat_model.specs.rounding.Standing.{up, down}
 use Rattle.apfloat_rounding.specs.Shapes.{format_at}
+use Rattle.apfloat_rounding.proofs.FineCuts.{all_kept}
 use Rattle.apfloat_rounding.proofs.OddCuts.{few_digits}
 use Rattle.apfloat_rounding.proofs.rounding.from_u128.deliver_u128.Goals.{else-digits-gt0-via-then-digits-gt0+else-unit-digits, else-digits-gt0-via-else-digits-gt0}
 use Rattle.apfloat_rounding.proofs.rounding.from_u128.deliver_u128.Goals as goal
@@ -19,7 +20,8 @@ returns-then-unit-digits-clause-delivered c = λ amount parts p h.
     subst (λ (x : ℤ). IsRoundedToOdd (2 ^ (c.args.shape.precision + 1)) c.args.significand (amount * 2 ^ down x)
     (parts * 2 ^ up x))
     (sym v ∙ sym w) h in
-    c.round_cut.ensures.delivered amount parts p (c.cut_u128-cut.ensures.cut amount parts p h')
+    c.round.ensures.delivered amount parts p (c.cut_u128-cut.ensures.cut amount parts p h')
+    (λ r. all_kept c.args.shape.precision c.cut_u128-cut.result amount parts c.cut_u128-cut.ensures.full)
 
 pub deliver_u128_below-requires-clause-exact : goal.deliver_u128_below-requires-clause-exact
 deliver_u128_below-requires-clause-exact c =

@@ -6,6 +6,7 @@ use Rattle.apfloat_model.specs.rounding.Standing.{StandsFor, up, down}
 use Rattle.apfloat_model.specs.rounding.Flags.{bits_of}
 use Rattle.apfloat_rounding.specs.Shapes.{format_at}
 use Rattle.apfloat_rounding.specs.Stored.{datum_at}
+use Rattle.apfloat_rounding.proofs.FineCuts.{all_kept}
 use Rattle.apfloat_rounding.proofs.OddCuts.{word_digits, exact_below}
 use Rattle.apfloat_rounding.proofs.QuantumCuts.{whole_delivered}
 use Rattle.apfloat_rounding.proofs.rounding.from_word.deliver_word.Goals.{else-digits-gt0-via-then-digits-gt0+else-unit-digits, else-digits-gt0-via-else-digits-gt0}
@@ -28,7 +29,8 @@ returns-then-unit-digits-clause-delivered c = λ amount h.
     subst (λ (x : ℤ). IsRoundedToOdd (2 ^ (c.args.shape.precision + 1)) c.args.significand (amount * 2 ^ down x)
     (1 * 2 ^ up x))
     (sym v ∙ sym w) h in
-    c.round_cut.ensures.delivered amount 1 (omega arith) (c.cut_word-cut.ensures.cut amount 1 (omega arith) h')
+    c.round.ensures.delivered amount 1 (omega arith) (c.cut_word-cut.ensures.cut amount 1 (omega arith) h')
+    (λ r. all_kept c.args.shape.precision c.cut_word-cut.result amount 1 c.cut_word-cut.ensures.full)
 
 pub whole_quanta-quanta-requires-clause-below : goal.whole_quanta-quanta-requires-clause-below
 whole_quanta-quanta-requires-clause-below c =
