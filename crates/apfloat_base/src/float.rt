@@ -96,12 +96,12 @@ pub trait Float: Copy
 
     ghost divides: { Self → Self → Round → StatusAnd Self → Type 0 };
 
-    // Remainders: by the whole number nearest to the quotient, and by the quotient cut toward zero.
+    // Remainders: by the integer nearest to the quotient, and by the quotient truncated toward zero.
     ghost leaves_nearest: { Self → Self → StatusAnd Self → Type 0 };
 
     ghost leaves: { Self → Self → StatusAnd Self → Type 0 };
 
-    // Rounding to a whole number.
+    // Rounding to an integer.
     ghost rounds_to_integral: { Self → Round → StatusAnd Self → Type 0 };
 
     // The next values above and below.
@@ -226,8 +226,8 @@ pub trait Float: Copy
     fn div_r(self, rhs: Self, round: Round) -> StatusAnd<Self>
         ensures { divides self rhs round result };
 
-    /// The remainder `self - rhs * n`, where `n` is the whole number nearest to the quotient, ties to even (IEEE
-    /// 754-2008 5.3.1, remainder). It is exact.
+    /// The remainder `self - rhs * n`, where `n` is the integer nearest to the quotient, ties to even (IEEE 754-2008
+    /// 5.3.1, remainder). It is exact.
     ///
     /// A zero remainder has the sign of `self` if the format has that zero, and an infinite `rhs` leaves a finite value
     /// unchanged. The remainder of an infinity and the remainder by a zero are invalid (7.2): the result is the quiet
@@ -235,16 +235,16 @@ pub trait Float: Copy
     fn ieee_rem(self, rhs: Self) -> StatusAnd<Self>
         ensures { leaves_nearest self rhs result };
 
-    /// The remainder `self - rhs * t`, where `t` is the quotient cut toward zero, as in C's `fmod`. It is exact, and
-    /// has the sign of `self`.
+    /// The remainder `self - rhs * t`, where `t` is the quotient truncated toward zero, as in C's `fmod`. It is exact,
+    /// and has the sign of `self`.
     ///
     /// Zeros, infinities and NaNs are treated as in `ieee_rem`.
     fn c_fmod(self, rhs: Self) -> StatusAnd<Self>
         ensures { leaves self rhs result };
 
-    /// The value rounded by the mode to a whole number, with its sign (IEEE 754-2008 5.9, roundToIntegralExact);
-    /// INEXACT says that the result differs from the value. Infinities and zeros are unchanged; a NaN is quieted, and
-    /// is invalid if it was signaling.
+    /// The value rounded by the mode to an integer, with its sign (IEEE 754-2008 5.9, roundToIntegralExact); INEXACT
+    /// says that the result differs from the value. Infinities and zeros are unchanged; a NaN is quieted, and is
+    /// invalid if it was signaling.
     fn round_to_integral(self, round: Round) -> StatusAnd<Self>
         ensures { rounds_to_integral self round result };
 
@@ -287,7 +287,7 @@ pub trait Float: Copy
         requires { PRECISION < BITS }
         ensures { result ≡ value_of_bits bits };
 
-    /// A signed whole number, rounded once (IEEE 754-2008 5.4.1, convertFromInt).
+    /// A signed integer, rounded once (IEEE 754-2008 5.4.1, convertFromInt).
     fn from_i128_r(input: i128, round: Round) -> StatusAnd<Self>
         ensures { converts_signed input round result }
     {
@@ -298,18 +298,18 @@ pub trait Float: Copy
         }
     }
 
-    /// A signed whole number, rounded once to the nearest value, ties to even.
+    /// A signed integer, rounded once to the nearest value, ties to even.
     fn from_i128(input: i128) -> StatusAnd<Self>
         ensures { converts_signed input NearestTiesToEven result }
     {
         Self::from_i128_r(input, Round::NearestTiesToEven)
     }
 
-    /// A whole number, rounded once (IEEE 754-2008 5.4.1, convertFromInt).
+    /// An integer, rounded once (IEEE 754-2008 5.4.1, convertFromInt).
     fn from_u128_r(input: u128, round: Round) -> StatusAnd<Self>
         ensures { converts_unsigned input round result };
 
-    /// A whole number, rounded once to the nearest value, ties to even.
+    /// An integer, rounded once to the nearest value, ties to even.
     fn from_u128(input: u128) -> StatusAnd<Self>
         ensures { converts_unsigned input NearestTiesToEven result }
     {
@@ -333,12 +333,12 @@ pub trait Float: Copy
         ensures below { result < 2 ^ BITS }
         ensures back { value_of_bits result ≡ self };
 
-    /// The value rounded by the mode to a whole number of `width` binary digits, 2 to 128, in two's complement (IEEE
+    /// The value rounded by the mode to an integer of `width` binary digits, 2 to 128, in two's complement (IEEE
     /// 754-2008 5.4.1, convertToInteger).
     ///
     /// A value out of range, infinities included, gives the nearer end of the range, and a NaN gives 0; both are
-    /// invalid. INEXACT says that the number was not whole. `is_exact` says whether the whole number equals the value;
-    /// for -0 it is false.
+    /// invalid. INEXACT says that the number was not whole. `is_exact` says whether the integer equals the value; for
+    /// -0 it is false.
     fn to_i128_r(self, width: usize, round: Round, is_exact: &mut bool) -> StatusAnd<i128>
         requires low { 2 ≤ width }
         requires high { width ≤ 128 }
@@ -356,7 +356,7 @@ pub trait Float: Copy
         answer.status.and(answer.value)
     }
 
-    /// The value as a whole number of `width` binary digits, 2 to 128, in two's complement, cut toward zero.
+    /// The value as an integer of `width` binary digits, 2 to 128, in two's complement, truncated toward zero.
     fn to_i128(self, width: usize) -> StatusAnd<i128>
         requires low { 2 ≤ width }
         requires high { width ≤ 128 }
@@ -366,19 +366,19 @@ pub trait Float: Copy
         self.to_i128_r(width, Round::TowardZero, &mut is_exact)
     }
 
-    /// The value rounded by the mode to an unsigned whole number of `width` binary digits, 1 to 128 (IEEE 754-2008
-    /// 5.4.1, convertToInteger).
+    /// The value rounded by the mode to an unsigned integer of `width` binary digits, 1 to 128 (IEEE 754-2008 5.4.1,
+    /// convertToInteger).
     ///
     /// A value out of range, infinities included, gives the nearer end of the range, and a NaN gives 0; both are
-    /// invalid. INEXACT says that the number was not whole. `is_exact` says whether the whole number equals the value;
-    /// for -0 it is false.
+    /// invalid. INEXACT says that the number was not whole. `is_exact` says whether the integer equals the value; for
+    /// -0 it is false.
     fn to_u128_r(self, width: usize, round: Round, is_exact: &mut bool) -> StatusAnd<u128>
         requires low { 1 ≤ width }
         requires high { width ≤ 128 }
         ensures answer { converts_to_unsigned self width round result is_exact.new }
         ensures fits { result.value < 2 ^ width };
 
-    /// The value as an unsigned whole number of `width` binary digits, 1 to 128, cut toward zero.
+    /// The value as an unsigned integer of `width` binary digits, 1 to 128, truncated toward zero.
     fn to_u128(self, width: usize) -> StatusAnd<u128>
         requires low { 1 ≤ width }
         requires high { width ≤ 128 }
@@ -585,7 +585,7 @@ pub trait Float: Copy
         self.bitwise_eq(Self::largest().copy_sign(self))
     }
 
-    /// Whether the value is finite and a whole number; true for zeros.
+    /// Whether the value is finite and an integer; true for zeros.
     fn is_integer(self) -> bool
         ensures { result ≡ is_whole self };
 
@@ -692,7 +692,7 @@ pub trait Float: Copy
     ghost steps_down_law: { (x : Self) (r : StatusAnd Self) → steps_up (negated x) r
         → steps_down x (record { status = r.status; value = negated r.value }) };
 
-    // A signed whole number is converted by its magnitude; below zero the magnitude is rounded in the opposite mode.
+    // A signed integer is converted by its magnitude; below zero the magnitude is rounded in the opposite mode.
 
     ghost signed_above_law: { (n : ℕ) (mode : Round) (r : StatusAnd Self)
         → converts_unsigned n mode r → converts_signed (pos n) mode r };
@@ -708,7 +708,7 @@ pub trait Float: Copy
         → (answer : Result (StatusAnd Self) ParseError) × reads text NearestTiesToEven answer
         × (r ≡ without_status answer) };
 
-    // A value is converted to a signed whole number by way of the unsigned one of its magnitude.
+    // A value is converted to a signed integer by way of the unsigned one of its magnitude.
 
     ghost to_signed_above_law: { (x : Self) (width : ℕ) (mode : Round) (number : StatusAnd ℕ)
         (exact : Bool) → sign_of x ≡ false → converts_to_unsigned x (width - 1) mode number exact
@@ -732,7 +732,7 @@ pub trait Float: Copy
         has_fraction reads };
 }
 
-/// An unsigned whole number of `width` binary digits as a signed one.
+/// An unsigned integer of `width` binary digits as a signed one.
 #[inline]
 fn signed(width: usize, magnitude: u128) -> i128
     requires narrow { width ≤ 127 }
@@ -742,7 +742,7 @@ fn signed(width: usize, magnitude: u128) -> i128
     magnitude as i128
 }
 
-/// A whole number of at most 2 to the power of 127, with a minus sign.
+/// An integer of at most 2 to the power of 127, with a minus sign.
 #[inline]
 fn minus(magnitude: u128) -> i128
     requires { magnitude ≤ 2 ^ 127 }
@@ -755,7 +755,7 @@ fn minus(magnitude: u128) -> i128
     }
 }
 
-/// The signed whole number of a value with a minus sign, from the unsigned one of its magnitude.
+/// The signed integer of a value with a minus sign, from the unsigned one of its magnitude.
 #[inline]
 fn negated_whole(
     width: usize,

@@ -1,4 +1,4 @@
--- Integers of a given count of binary digits, and the ends of their range.
+-- Integers of a given number of binary digits, and the ends of their range.
 use Rattle.std.proofs.Common.{◌≡◌, ℕ, ◌+◌, ◌-◌, ◌*◌, ◌/◌, ◌^◌, ◌<◌, ◌≤◌, Bool, true, false, cond, ◌&&◌, eqb, sym, refl, ap, ◌∙◌, arith, pos, neg_ℤ, ◌≤ℤ◌, int_lt}
 use Rattle.std.proofs.Math.Nat.{div-eq_of_lt-le}
 use Rattle.std.proofs.lemmas.Nat.{pow-add, pow_pos}
@@ -13,7 +13,7 @@ use Rattle.apfloat_model.specs.whole_numbers.WholeNumbersOut.{IsToUnsigned, rang
 use Rattle.apfloat_model.proofs.general.Choices.{no_zero}
 use Rattle.apfloat_model.proofs.whole_numbers.SignedTests.{less_so, less_not}
 
--- the same whole number, also without a sign
+-- the same integer, also without a sign
 pub same_number : (m n : ℕ) → pos m ≡ pos n → m ≡ n
 same_number m n h = omega (arith, ints, h)
 

@@ -156,7 +156,7 @@ greatest_before IEEE754 precision s h = omega arith
 greatest_before NanOnly precision s h = omega arith
 greatest_before NanNegativeZero precision s h = omega arith
 
--- for a whole number that is at least -n, `down` is at most n
+-- for an integer that is at least -n, `down` is at most n
 pub down_le : (z : ℤ) (n : ℕ) → neg_ℤ (pos n) ≤ℤ z → down z ≤ n
 down_le (pos k) n h = let l : 0 ≤ n = omega arith in l
 down_le (negsuc k) n h = let l : k + 1 ≤ n = omega (arith, ints) in omega (arith, l)
@@ -231,7 +231,7 @@ step_room p s d h f l =
 
 -- ---- the answers
 
--- a step that keeps the count of digits keeps the exponent
+-- a step that keeps the number of digits keeps the exponent
 pub stays_operand : (p : ℕ) (min max x : ℤ) (s t : ℕ) → IsOperandAt p min max s x → t < 2 ^ p → 2 ^ (p - 1) ≤ t
     → IsOperandAt p min max t x
 stays_operand p min max x s t o f g = record { fits = f; full = g; least = o.least; greatest = o.greatest }

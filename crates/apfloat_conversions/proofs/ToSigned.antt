@@ -1,4 +1,4 @@
--- Signed whole numbers out, by the unsigned one of the magnitude.
+-- Signed integers out, by the unsigned one of the magnitude.
 use Rattle.std.proofs.Common.{◌≡◌, ℕ, ◌+◌, ◌-◌, ◌*◌, ◌/◌, ◌%◌, ◌^◌, ◌<◌, ◌≤◌, Bool, true, false, cond, ◌&&◌, eqb, sym, refl, ap, ◌∙◌, subst, ⊎_elim, arith, ℤ, pos, neg_ℤ, ◌≤ℤ◌, int_lt}
 use Rattle.std.proofs.Math.Bool.{and-true, and-false}
 use Rattle.std.proofs.Math.Nat.{pow-le-pow_right}
@@ -59,7 +59,7 @@ pub pick_swapped : (mode : Round) (n p : ℕ) → whole_pick (swapped mode) fals
 pick_swapped mode n p =
     ap (λ (b : Bool). cond (eqb (n % p) 0) (n / p) (cond b (n / p + 1) (n / p))) (takes_swapped mode _ _ _)
 
--- of a negated NaN the unsigned whole number is 0, with INVALID_OP
+-- of a negated NaN the unsigned integer is 0, with INVALID_OP
 nan_unsigned : (kind : NonfiniteBehavior) (format : Format) (mode : Round) (width s number st : ℕ) (exact : Bool)
     → IsToUnsigned format mode width (negated_nan kind true s) number st exact
     → IsWhole (invalid_whole (pos 0)) (pos number) st exact
@@ -79,7 +79,7 @@ no_quanta scale = eq-eqb (0 * 2 ^ scale) 0 (omega arith)
 zero_ranged : (low high : ℤ) (answer : Whole) → low ≤ℤ pos 0 → pos 0 ≤ℤ high → ranged low high (pos 0) answer ≡ answer
 zero_ranged low high answer l h = rw (less_not (pos 0) low l, less_not high (pos 0) h) refl
 
--- of a zero of either sign the unsigned whole number is 0, with no flag
+-- of a zero of either sign the unsigned integer is 0, with no flag
 zero_unsigned_of : (format : Format) (mode : Round) (width number st : ℕ) (negative exact : Bool)
     → IsToUnsigned format mode width (finite negative 0) number st exact → (number ≡ 0) × (st ≡ 0)
 zero_unsigned_of format mode width number st b exact h =
@@ -93,7 +93,7 @@ zero_unsigned_of format mode width number st b exact h =
     let n = h'.number_is in
     (omega (arith, ints, n), h'.status_is)
 
--- of a negated -0 the unsigned whole number is 0, with no flag
+-- of a negated -0 the unsigned integer is 0, with no flag
 zero_unsigned : (kind : NonfiniteBehavior) (format : Format) (mode : Round) (width number st : ℕ) (exact : Bool)
     → IsToUnsigned format mode width (negated_zero kind true) number st exact → (number ≡ 0) × (st ≡ 0)
 zero_unsigned IEEE754 format mode width number st exact h = zero_unsigned_of format mode width number st false exact h

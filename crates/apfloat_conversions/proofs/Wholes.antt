@@ -1,4 +1,4 @@
--- The whole number that a mode picks.
+-- The integer that a mode picks.
 use Rattle.std.proofs.Common.{◌≡◌, ℕ, ◌+◌, ◌-◌, ◌*◌, ◌/◌, ◌%◌, ◌^◌, ◌<◌, ◌≤◌, Bool, true, false, cond, eqb, sym, refl, ap, ◌∙◌, subst, ⊎_elim, arith, ℤ, pos, negsuc, ◌-ℤ◌, ◌≤ℤ◌}
 use Rattle.std.proofs.Math.Nat.{mul-mod_left, mul-div_cancel, div-eq_of_lt-le, div-one, mul-le-mul_right, mul-le-mul_left, pow-le-pow_right, mul-lt-mul_of_pos_right}
 use Rattle.std.proofs.lemmas.Nat.{div-add-mod', pow-add, pow_pos}
@@ -22,7 +22,7 @@ use Rattle.apfloat_model.proofs.rounding.Picks.{kept, takes_less, takes_half, ta
 use Rattle.apfloat_model.proofs.arithmetic.SingleScalings.{scaled_stands}
 use Rattle.apfloat_model.proofs.general.Choices.{off_both}
 
--- a whole number that is an odd multiple of the distance to the next one is odd
+-- an integer that is an odd multiple of the distance to the next one is odd
 whole_odd : (q : ℕ) → eqb (q / (q + 1 - q) % 2) 1 ≡ eqb (q % 2) 1
 whole_odd q =
     let d : q + 1 - q ≡ 1 = omega arith in
@@ -117,7 +117,7 @@ exact_at mode negative q amount parts loss false p h f g = inexactly_so mode neg
 
 -- ---- the number, by its significand
 
--- what is left of a significand after a cut stands for the magnitude in wholes
+-- what is left of a significand after a cut represents the magnitude in wholes
 pub cut_whole_stands : (s q k amount parts : ℕ) (loss : Loss) → amount * 2 ^ k ≡ s * parts
     → StandsFor q loss (s * parts) (2 ^ k * parts) → StandsFor q loss amount parts
 cut_whole_stands s q k amount parts loss e h =
@@ -145,7 +145,7 @@ places_up digits scale min_exp x r s a k z e f h =
     (omega (arith, ints, z, e, f)) in
     omega (arith, g)
 
--- for a whole number z that is not below 0, `up z` is z
+-- for an integer z that is not below 0, `up z` is z
 pub up_of : (z : ℤ) → pos 0 ≤ℤ z → pos (up z) ≡ z
 up_of (pos k) h = refl
 up_of (negsuc k) h = absurd (omega (arith, ints))
@@ -197,7 +197,7 @@ whole_fits p s k mag q f l h =
     let t : 2 * 2 ^ (p - 1) ≡ 2 ^ p = twice_half p q in
     omega (arith, a, b, t, f, h)
 
--- ---- a number rounded to a whole number
+-- ---- a number rounded to an integer
 
 -- a number rounded to a whole one, by its magnitude
 pub integral_picked : (format : Format) (mode : Round) (negative : Bool) (n mag : ℕ) (exact : Bool) (value : Datum)
@@ -209,7 +209,7 @@ integral_picked format mode b n mag exact v st i x w t = record {
   status_is = t ∙ ap (λ (k : Bool). inexact_unless k) x;
 }
 
--- a whole number stays as it is
+-- an integer stays as it is
 pub integral_stays : (format : Format) (mode : Round) (negative : Bool) (n q : ℕ) → 0 < n → n ≡ q * 2 ^ format.scale
     → IsRoundToIntegral format mode (finite negative n) (finite negative n) 0
 integral_stays format mode b n q p e =
@@ -218,7 +218,7 @@ integral_stays format mode b n q p e =
     (exactly_so mode b q n (2 ^ format.scale) (pow_pos format.scale) e)
     (sym (signed_some format.nonfinite b n p) ∙ ap (λ (k : ℕ). signed_quanta format.nonfinite b k) e) refl
 
--- ---- toward zero a whole number stays, and no other does
+-- ---- toward zero an integer stays, and no other does
 
 -- toward zero, a number is exact where no rest is left
 pub whole_toward_zero : (negative : Bool) (amount parts : ℕ) → 0 < parts

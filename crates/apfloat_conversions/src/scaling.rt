@@ -19,7 +19,7 @@ use apfloat_rounding::unpacked::Unpacked;
 /// More places than this change no result.
 const SCALING_BOUND: ExpInt = 6_000_000;
 
-/// The count of places, limited to the range that rounding has to see: past it no result changes.
+/// The number of places, limited to the range that rounding has to see: past it no result changes.
 #[inline(always)]
 pub fn clamped(places: ExpInt) -> ExpInt
     ensures within { IsWithin scaling_bound result }

@@ -59,7 +59,7 @@ far_down number s k z p some small to e far =
 
 -- ---- one exponent for another
 
--- the power of two of the whole number, where its kept digits have the unit 2 ^ unit
+-- the power of two of the integer, where its kept digits have the unit 2 ^ unit
 abbrev power_at : ℕ → ℕ → ℤ → ℤ
 power_at k scale unit = (unit +ℤ pos scale) -ℤ pos k
 
@@ -106,7 +106,7 @@ balanced : (k scale : ℕ) (unit : ℤ)
     ≡ down (power_at k scale unit) + up (unit +ℤ pos scale)
 balanced k scale unit = omega (arith, ints)
 
--- the digits kept of a number, in their unit, stand for the number times its power of two
+-- the digits kept of a number, in their unit, represent the number times its power of two
 stands_at : (number s k scale : ℕ) (loss : Loss) (unit : ℤ) → StandsFor s loss number (2 ^ k)
     → StandsFor s loss (number * 2 ^ up (power_at k scale unit) * 2 ^ down (unit +ℤ pos scale))
     (2 ^ down (power_at k scale unit) * 2 ^ up (unit +ℤ pos scale))
@@ -143,7 +143,7 @@ number_delivered format mode negative number s cut places loss exact unit v stat
 
 -- ---- nothing
 
--- digits that are all 0 stand for 0
+-- digits that are all 0 represent 0
 pub nothing_read : (number cut : ℕ) (loss : Loss) → IsKeptAt number 0 loss cut → number ≡ 0
 nothing_read number cut loss k =
     ⊎_elim

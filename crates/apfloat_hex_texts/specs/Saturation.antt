@@ -23,11 +23,11 @@ IsNear bound exact near =
     (near ≡ exact) ⊎ (((pos bound ≤ℤ near) × (pos bound ≤ℤ exact))
     ⊎ ((near ≤ℤ neg_ℤ (pos bound)) × (exact ≤ℤ neg_ℤ (pos bound))))
 
--- the whole number whose first decimal digits have the value n and are followed by these digits
+-- the integer whose first decimal digits have the value n and are followed by these digits
 abbrev pub decimal_from : ℕ → List ℕ → ℕ
 decimal_from n digits = fold (λ n c. n * 10 + digit_value c) n digits
 
--- a whole number, in terms of the decimal digits read so far and those that are left
+-- an integer, in terms of the decimal digits read so far and those that are left
 pub record IsCounted (digits left : List ℕ) (counted : ℕ) : Type 0 where
   pub read : ℕ
   pub saturated : IsSaturated read counted

@@ -13,14 +13,13 @@ use crate::mark::split_mark;
 use apfloat_model::ExpInt;
 use apfloat_model::parse_error::Fault;
 
-/// A whole number that is not increased any further.
+/// An integer that is not increased any further.
 const FAR: u128 = 1 << 96;
 
 /// Exponents of last digits farther from 0 than this change no result.
 const TEXT_BOUND: ExpInt = 1 << 22;
 
-/// The whole number followed by one more decimal digit, or some whole number of at least `FAR` in place of another such
-/// one.
+/// The integer followed by one more decimal digit, or some integer of at least `FAR` in place of another such one.
 #[inline(always)]
 fn with_digit(number: u128, digit: u8) -> u128
     requires small { digit < 16 }
@@ -36,7 +35,7 @@ fn with_digit(number: u128, digit: u8) -> u128
     }
 }
 
-/// The whole number that decimal digits stand for.
+/// The integer that decimal digits represent.
 #[inline(always)]
 fn magnitude(digits: &[u8]) -> Result<u128, Fault>
     ensures { MatchResult result (λ n. IsSaturated (number 10 digits.now) n × (n < count_bound)

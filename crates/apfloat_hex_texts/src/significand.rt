@@ -13,10 +13,10 @@ use apfloat_model::Loss;
 use apfloat_model::parse_error::Fault;
 use apfloat_words::loss_of_rest;
 
-/// The leading bits of a whole number, and the loss when its `cut` last hexadecimal digits are cut off.
+/// The leading bits of an integer, and the loss when its `cut` last hexadecimal digits are cut off.
 #[derive(Clone, Copy, Debug)]
 pub struct Digits {
-    /// The leading bits as a whole number: all of them if no digits are cut off, else at least 125.
+    /// The leading bits as an integer: all of them if no digits are cut off, else at least 125.
     pub significand: u128,
     /// The digits that are cut off, as a part of the last kept bit.
     pub loss: Loss,
@@ -99,7 +99,7 @@ impl Digits {
 /// A significand read so far.
 #[derive(Clone, Copy, Debug)]
 pub struct Scan {
-    /// The digits read so far, as one whole number without the dot.
+    /// The digits read so far, as one integer without the dot.
     pub digits: Digits,
     /// How many of the digits follow the dot.
     pub places: usize,

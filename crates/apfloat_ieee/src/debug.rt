@@ -1,6 +1,6 @@
 //! The text of a value for debugging: `(CATEGORY | SIGNIFICAND * 2^EXPONENT)`.
 //!
-//! The significand is decimal, with the sign directly in front of it. For a nonzero number, it is a whole number below
+//! The significand is decimal, with the sign directly in front of it. For a nonzero number, it is an integer below
 //! `2^PRECISION`, and the exponent is that of the integer bit, which is at least `MIN_EXP`.
 
 ghost use Rattle.apfloat_rounding.specs.Stored.{IsStored, IsNormal};

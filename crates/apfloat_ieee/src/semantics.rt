@@ -33,7 +33,7 @@ pub trait Semantics: Copy {
     /// `NanNegativeZero`, which have numbers at the greatest biased exponent too.
     const MAX_EXP: ExpInt;
 
-    /// The greatest exponent in IEEE 754 for this count of exponent bits, `1 - IEEE_MIN_EXP`; 0 in a format without
+    /// The greatest exponent in IEEE 754 for this number of exponent bits, `1 - IEEE_MIN_EXP`; 0 in a format without
     /// bits.
     const IEEE_MAX_EXP: ExpInt;
 
@@ -41,7 +41,7 @@ pub trait Semantics: Copy {
     /// bits it may differ from `IEEE_MIN_EXP`: all exponents are then shifted by the difference.
     const MIN_EXP: ExpInt;
 
-    /// The least exponent in IEEE 754 for this count of exponent bits, `2 - 2^(EXP_BITS - 1)`; 0 in a format without
+    /// The least exponent in IEEE 754 for this number of exponent bits, `2 - 2^(EXP_BITS - 1)`; 0 in a format without
     /// bits.
     const IEEE_MIN_EXP: ExpInt;
 

@@ -94,7 +94,7 @@ exact_inverse_once format (nan b s) (Some v) w h k = absurd h
 exact_inverse_once format (nan b s) None (Some w) h k = absurd k
 exact_inverse_once format (nan b s) None None h k = refl
 
--- ---- whole numbers out
+-- ---- integers out
 
 -- the natural number that a datum is converted to is determined, with its flags and its exactness
 pub to_unsigned_once : (format : Format) (mode : Round) (width : ℕ) (x : Datum)

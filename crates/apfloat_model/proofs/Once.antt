@@ -168,7 +168,7 @@ round_to_integral_once format mode (nan b s) = answer_once _ _
 round_to_integral_once format mode (infinite b) = answer_once _ _
 round_to_integral_once format mode (finite b n) = answer_once _ _
 
--- a conversion to a whole number has one number and one status, and is either exact or not
+-- a conversion to an integer has one number and one status, and is either exact or not
 pub whole_once : (whole : Whole) (m n : ℤ) (r s : ℕ) (exact other : Bool) → IsWhole whole m r exact
     → IsWhole whole n s other → (m ≡ n) × (r ≡ s) × (exact ≡ other)
 whole_once whole m n r s a b x y =

@@ -248,7 +248,7 @@ impl Float for DoubleFloat {
         wide::nearest(self, rhs)
     }
 
-    /// The remainder by the quotient cut toward zero, in the wide format, split.
+    /// The remainder by the quotient truncated toward zero, in the wide format, split.
     #[inline]
     fn c_fmod(self, rhs: Self) -> StatusAnd<Self>
         ensures remainder { Gives (IsPairTruncatedRemainder self rhs) result }

@@ -103,7 +103,7 @@ impl Rem for DoubleFloat {
 
     ghost rem_gives = { λ x y r. Gives (IsPairTruncatedRemainder x y) r };
 
-    /// The remainder by the quotient cut toward zero, which is exact for the sums of parts in 106 digits.
+    /// The remainder by the quotient truncated toward zero, which is exact for the sums of parts in 106 digits.
     #[inline]
     fn rem(self, rhs: DoubleFloat) -> StatusAnd<DoubleFloat>
         ensures remainder { Gives (IsPairTruncatedRemainder self rhs) result }

@@ -72,7 +72,7 @@ pub(crate) fn is_same(x: DoubleFloat, y: DoubleFloat) -> bool
     x.0.bitwise_eq(y.0) && x.1.bitwise_eq(y.1)
 }
 
-/// Whether both parts are whole numbers.
+/// Whether both parts are integers.
 #[inline]
 pub(crate) fn is_integer(x: DoubleFloat) -> bool
     ensures { result ≡ is_integer_pair x }

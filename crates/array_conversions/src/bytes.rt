@@ -1,9 +1,9 @@
-//! Whole numbers as bytes, lowest first.
+//! Integers as bytes, lowest first.
 
 ghost use Rattle.std.specs.Prelude.{◌≡◌, ◌^◌, ◌<◌, ◌≤◌, length};
 ghost use Rattle.array_conversions.specs.Bytes.{number_of};
 
-/// The whole number that the bytes encode, lowest first.
+/// The integer that the bytes encode, lowest first.
 #[inline]
 pub fn number_of(bytes: &[u8]) -> u128
     requires { length bytes.now ≤ 16 }
@@ -32,7 +32,7 @@ fn number_byte_by_byte(bytes: &[u8]) -> u128
     number
 }
 
-/// Writes a whole number as bytes, lowest first, with zeros above it.
+/// Writes an integer as bytes, lowest first, with zeros above it.
 #[inline]
 pub fn write_number(number: u128, bytes: &mut [u8])
     requires { number < 256 ^ length bytes.old }

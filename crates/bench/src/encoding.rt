@@ -109,7 +109,7 @@ impl Encoding {
         )
     }
 
-    /// A nonzero denormal number with any count of digits.
+    /// A nonzero denormal number with any number of digits.
     fn denormal(self, is_negative: bool, digits: u128, generator: &mut Generator) -> u128 {
         let length = generator.exponent(1, self.precision.saturating_sub(1));
         let first = shifted(1, width(length.saturating_sub(1)));
@@ -124,7 +124,7 @@ impl Encoding {
             .max(1)
     }
 
-    /// The greatest count of hexadecimal digits of a text after the point.
+    /// The greatest number of hexadecimal digits of a text after the point.
     pub fn digits_of_texts(self) -> u64 {
         u64::try_from(self.precision.saturating_add(3) / 4)
             .unwrap_or(0)

@@ -26,7 +26,7 @@ pub fn print_growth(rt: &(impl Clock + Print + AllocGlobal)) -> io::Result<()> {
     print_quotients(rt)
 }
 
-/// Prints a table of the times of reading a text, by its count of digits.
+/// Prints a table of the times of reading a text, by its number of digits.
 fn print_readings(rt: &(impl Clock + Print + AllocGlobal)) -> io::Result<()> {
     println!(rt;
         "| Hexadecimal digits, read as a double | Nanoseconds | For each digit |\n|---|---|---|"

@@ -24,7 +24,7 @@ few_or_many : (n : ℕ) → (n < 4) ⊎ ((4 ≤ n) × (6 < n)) → (nat_le 4 n &
 few_or_many n (inl few) = rw (lt-leb 4 n few) refl
 few_or_many n (inr many) = rw (le-leb 4 n many.0, lt-leb n 6 many.1) refl
 
--- another count of words is refused
+-- another number of words is refused
 pub only_count : (given : List (List ℕ)) (n : ℕ) → length given ≡ n → (n < 4) ⊎ ((4 ≤ n) × (6 < n))
     → IsOnly (IsReply given) (refused arguments)
 only_count given n count outside =

@@ -62,7 +62,7 @@ write_more number rest place digit text within so_far digit_is = record {
   digits = digits_more number rest place digit text within so_far digit_is;
 }
 
--- the text of a count of digits has that length
+-- the text of a number of digits has that length
 length-text : (number digits : ℕ) → length (hexadecimal_text number digits) ≡ digits
 unfolding hexadecimal_text
 length-text number zero = refl

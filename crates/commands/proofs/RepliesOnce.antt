@@ -70,7 +70,7 @@ only_of_two {A} of_type inverts mode precision width arithmetic left right x y a
     (only_where of_type width (IsResult of_type mode (of_two arithmetic x y)) answer reply
     (of_two_once of_type inverts mode precision width once arithmetic _ _) of_both is_line)
 
--- a whole number taken in has one reply
+-- an integer taken in has one reply
 pub only_whole_number : {A : Type 0} (of_type : Relations A) (inverts : A → Option A → Type 0) (mode : Round)
     (precision width : ℕ) (word : List ℕ) (number : ℕ) (answer : StatusAnd A) (reply : Reply)
     → AreDetermined of_type inverts mode precision width

@@ -95,8 +95,8 @@ pub record Command : Type 0 where
   pub mode : Round
   pub calculation : Calculation
 
--- Below, a command or the word of the first fault. The faults in their order: the count of the words, the format, the
--- operation, the mode, the count of the operands, an operation that the format does not have, an operand.
+-- Below, a command or the word of the first fault. The faults in their order: the number of the words, the format, the
+-- operation, the mode, the number of the operands, an operation that the format does not have, an operand.
 
 infixl 10 ◌>>=◌
 abbrev pub ◌>>=◌ : {A B : Type 0} → Result A (List ℕ) → (A → Result B (List ℕ)) → Result B (List ℕ)
@@ -149,7 +149,7 @@ calculation kind operation name operands =
 abbrev pub commanded : Kind → Round → Result Calculation (List ℕ) → Result Command (List ℕ)
 commanded kind mode wanted = wanted >>= λ known. Ok (record { kind = kind; mode = mode; calculation = known })
 
--- the operation and the mode of their words, for a count of operands
+-- the operation and the mode of their words, for a number of operands
 abbrev pub named : List ℕ → List ℕ → ℕ → Result (Operation × Round) (List ℕ)
 named operation mode count =
     ok_or (found operations operation) operation >>= λ known.

@@ -143,7 +143,7 @@ fn fused_sum<'a, S: Semantics>(
     line(S::from_bits(x).mul_add_r(S::from_bits(y), S::from_bits(z), round))
 }
 
-/// A whole number, rounded to the type.
+/// An integer, rounded to the type.
 fn from_whole_number<'a, F: ValueType>(round: Round, word: &'a str) -> Reply<'a>
     requires written { F.PRECISION < F.BITS }
     requires narrow { F.BITS ≤ 128 }

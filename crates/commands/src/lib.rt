@@ -3,8 +3,8 @@
 //!
 //! - FORMAT: `half`, `single`, `double`, `quad`, `bfloat`, `e5m2`, `e4m3fn`, `e4m3fnuz` or `x87`; or `dd`,
 //!   pairs of doubles.
-//! - OP: `add`, `sub`, `mul`, `div`, `rem` (by the nearest quotient), `mod` (by the quotient cut toward zero) on two
-//!   values; `fma` on three; `int`, a whole number in decimal digits; `parse`, the text of a value. A format of more
+//! - OP: `add`, `sub`, `mul`, `div`, `rem` (by the nearest quotient), `mod` (by the quotient truncated toward zero) on
+//!   two values; `fma` on three; `int`, an integer in decimal digits; `parse`, the text of a value. A format of more
 //!   than 64 digits has no `mul`, one of more than 63 no `fma`. Pairs of doubles have `mul` and no `fma`.
 //! - MODE: `even`, `up`, `down`, `zero` or `away`.
 //!

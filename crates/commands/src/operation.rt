@@ -12,7 +12,7 @@ pub enum Operation {
     OfTwo(Arithmetic),
     /// Of three values: the product of the first two plus the third.
     FusedSum,
-    /// A whole number, rounded to the format.
+    /// An integer, rounded to the format.
     WholeNumber,
     /// The text of a value.
     Text,

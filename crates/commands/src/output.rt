@@ -134,7 +134,7 @@ fn write_refusal_parts<W: Write>(word: &str, err: &mut W) -> io::Result<()>
     err.write_all(b"\n")
 }
 
-/// Writes the last digits of a whole number.
+/// Writes the last digits of an integer.
 fn write_hexadecimal<W: Write>(number: u128, digits: usize, out: &mut W) -> io::Result<()>
     requires { digits ≤ 32 }
     ensures { OnOk result
@@ -144,7 +144,7 @@ fn write_hexadecimal<W: Write>(number: u128, digits: usize, out: &mut W) -> io::
     out.write_all(&text[text.len() - digits..])
 }
 
-/// A text of which so many bytes at the end are the last digits of a whole number.
+/// A text of which so many bytes at the end are the last digits of an integer.
 pub fn hexadecimal(number: u128, digits: usize) -> [u8; 32]
     requires { digits ≤ 32 }
     ensures { drop (32 - digits) result ≡ hexadecimal_text number digits }

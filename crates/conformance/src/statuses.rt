@@ -58,7 +58,7 @@ pub fn fused_sum<S: Flagged>(
     x.mul_add_r(y, z, mode)
 }
 
-/// A quotient, and the remainders by the quotient cut toward zero and by the nearest one.
+/// A quotient, and the remainders by the quotient truncated toward zero and by the nearest one.
 pub fn quotient_and_remainders<S: Flagged>(
     x: IeeeFloat<S>,
     y: IeeeFloat<S>,

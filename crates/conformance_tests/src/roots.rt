@@ -1,5 +1,5 @@
 //! Square roots of every bit pattern of the small formats: value and status compared with the plain program for one
-//! rounding. Its root is found by comparing squares of whole numbers.
+//! rounding. Its root is found by comparing squares of integers.
 
 ghost use Rattle.std.specs.Prelude.{◌^◌, ◌<◌};
 
@@ -17,7 +17,7 @@ fn square_of(root: u64) -> u128 {
     u128::from(root) * u128::from(root)
 }
 
-/// The greatest whole number of at most 40 binary digits whose square is not greater.
+/// The greatest integer of at most 40 binary digits whose square is not greater.
 fn whole_root(square: u128) -> u64 {
     let mut root = 0;
     for place in 0..40u32 {

@@ -32,7 +32,7 @@ impl Read for Trickle<'_> {
     }
 }
 
-/// A writer that takes a limited count of bytes, and then fails; so does its flush.
+/// A writer that takes a limited number of bytes, and then fails; so does its flush.
 #[derive(Drop)]
 struct Narrow {
     room: usize,

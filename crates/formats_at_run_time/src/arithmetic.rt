@@ -18,9 +18,9 @@ pub enum Arithmetic {
     Product,
     /// The first divided by the second.
     Quotient,
-    /// The remainder by the whole number nearest to the quotient, a tie to the even one.
+    /// The remainder by the integer nearest to the quotient, a tie to the even one.
     NearestRemainder,
-    /// The remainder by the quotient cut toward zero.
+    /// The remainder by the quotient truncated toward zero.
     TruncatedRemainder,
 }
 

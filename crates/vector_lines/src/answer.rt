@@ -196,7 +196,7 @@ fn quanta_field<F: Float + Debug>(x: F) -> ValueField {
 }
 
 impl ValueField {
-    /// Whether a word stands for this, or nothing if it cannot be compared with this.
+    /// Whether a word represents this, or nothing if it cannot be compared with this.
     fn is_named(&self, word: &str) -> Option<bool> {
         match self {
             ValueField::Bits(bits, width) => is_bits(*bits, *width, word),
@@ -237,7 +237,7 @@ impl ValueField {
     }
 }
 
-/// Whether a word stands for these bits; an inverse that does not exist is `None`.
+/// Whether a word represents these bits; an inverse that does not exist is `None`.
 fn is_bits(bits: u128, width: usize, word: &str) -> Option<bool> {
     if word == "None" {
         return Some(false);
@@ -245,7 +245,7 @@ fn is_bits(bits: u128, width: usize, word: &str) -> Option<bool> {
     is_same(bits, bits_of(word, width))
 }
 
-/// Whether a word stands for a count of quanta that is not that of the row.
+/// Whether a word represents a count of quanta that is not that of the row.
 fn is_other_quanta(word: &str) -> Option<bool> {
     if word == "None" || Quanta::named(word).is_some() {
         Some(false)
@@ -262,7 +262,7 @@ fn is_same(number: u128, stated: Option<u128>) -> Option<bool> {
     }
 }
 
-/// Whether a word stands for this signed number.
+/// Whether a word represents this signed number.
 fn is_signed(number: i128, word: &str) -> Option<bool> {
     match word.parse::<i128>() {
         Ok(stated) => Some(stated == number),
@@ -270,7 +270,7 @@ fn is_signed(number: i128, word: &str) -> Option<bool> {
     }
 }
 
-/// Whether a word stands for this truth value.
+/// Whether a word represents this truth value.
 fn is_truth(holds: bool, word: &str) -> Option<bool> {
     match word {
         "true" => Some(holds),
@@ -279,7 +279,7 @@ fn is_truth(holds: bool, word: &str) -> Option<bool> {
     }
 }
 
-/// Whether a word stands for this order.
+/// Whether a word represents this order.
 fn is_order(order: Option<Ordering>, word: &str) -> Option<bool> {
     match word {
         "None" | "Less" | "Equal" | "Greater" => Some(word == order_name(order)),
@@ -294,7 +294,7 @@ fn write_bits<W: Write>(bits: u128, width: usize, out: &mut W) -> io::Result<()>
 }
 
 impl StatusField {
-    /// Whether the column of flags stands for this, or nothing if it cannot be compared with this.
+    /// Whether the column of flags represents this, or nothing if it cannot be compared with this.
     fn is_in_row(&self, word: &str) -> Option<bool> {
         let is_refused = matches!(self, StatusField::Refused);
         if word == "ParseError" {
@@ -409,7 +409,7 @@ fn order_name(order: Option<Ordering>) -> &'static str {
     }
 }
 
-/// Whether a word stands for this exponent.
+/// Whether a word represents this exponent.
 fn is_exponent(exponent: ExpInt, word: &str) -> Option<bool> {
     match word.parse::<ExpInt>() {
         Ok(stated) => Some(stated == exponent),
@@ -429,7 +429,7 @@ fn are_steps(taken: u32, bound: ExpInt, stated: &str) -> Option<bool> {
     }
 }
 
-/// Whether a word stands for this count.
+/// Whether a word represents this count.
 fn is_count(count: u32, word: &str) -> Option<bool> {
     match word.parse::<u32>() {
         Ok(stated) => Some(stated == count),

@@ -17,7 +17,7 @@ pub enum Form {
     ValueAndExponent,
     /// A value and the width of an integer.
     ValueAndWidth,
-    /// A value and a count of digits.
+    /// A value and a number of digits.
     ValueAndCount,
     /// An integer without a sign.
     Unsigned,

@@ -13,7 +13,7 @@ use commands::{bits_of, number_of};
 use rustc_apfloat::{Category, ExpInt, Flags, Float};
 use std::fmt::Write;
 
-/// What a word stands for.
+/// What a word represents.
 #[derive(Clone, Copy)]
 pub struct Quanta {
     is_negative: bool,
@@ -33,7 +33,7 @@ pub enum Magnitude {
 }
 
 impl Quanta {
-    /// What a word stands for, if it has the form of a value.
+    /// What a word represents, if it has the form of a value.
     pub fn named(word: &str) -> Option<Quanta> {
         if let Some(magnitude) = word.strip_prefix('-') {
             return signed(true, Magnitude::named(magnitude));
@@ -44,7 +44,7 @@ impl Quanta {
         }
     }
 
-    /// The value that this stands for, if there is one.
+    /// The value that this represents, if there is one.
     pub fn value<F: Float>(self) -> Option<F> {
         let Some(x) = self.magnitude.value::<F>() else {
             return None;
@@ -53,7 +53,7 @@ impl Quanta {
         if self.is_of(x) { Some(x) } else { None }
     }
 
-    /// Whether this stands for the value.
+    /// Whether this represents the value.
     pub fn is_of<F: Float>(self, x: F) -> bool {
         x.is_negative() == self.is_negative && self.magnitude.is_of(x.abs())
     }
@@ -260,7 +260,7 @@ fn has_count<F: Float>(x: F, number: u128, power: ExpInt) -> bool {
     integer.status.is_empty() && integer.value == number
 }
 
-/// The exponent that a word stands for.
+/// The exponent that a word represents.
 fn exponent_named(word: &str) -> Option<ExpInt> {
     match word.parse() {
         Ok(exponent) => Some(exponent),

@@ -220,7 +220,7 @@ impl TestFloat {
         }
     }
 
-    /// The result and the flags that two words stand for.
+    /// The result and the flags that two words represent.
     fn stated<'a>(self, value: &'a str, flags: &'a str) -> Result<Columns, RowError<'a>> {
         match (bits_of(value, width_of(self.result)), bits_of(flags, 5)) {
             (None, _) => Err(RowError::Word("no result", value, "hexadecimal digits of its width")),
@@ -291,7 +291,7 @@ fn conversion(source: Option<Kind>, target: Option<Kind>) -> Option<TestFloat> {
     }
 }
 
-/// The function of a call and its count of operands, all of one kind, if there are both.
+/// The function of a call and its number of operands, all of one kind, if there are both.
 fn operation_on(kind: Option<Kind>, operation: Option<(&'static str, usize)>) -> Option<TestFloat> {
     match (kind, operation) {
         (Some(kind), Some((call, count))) => Some(TestFloat::of(call, kind, count, kind)),
@@ -337,7 +337,7 @@ fn decimal(number: Option<u128>) -> Option<Text> {
     }
 }
 
-/// The integer that bits of this width stand for in two's complement, in decimal digits, if there are bits.
+/// The integer that bits of this width represent in two's complement, in decimal digits, if there are bits.
 fn signed_decimal(bits: Option<u128>, width: usize) -> Option<Text> {
     let Some(bits) = bits else {
         return None;
@@ -357,7 +357,7 @@ fn with_width(text: &str, width: usize) -> Option<Text> {
     }
 }
 
-/// The integer that bits of this width stand for in two's complement.
+/// The integer that bits of this width represent in two's complement.
 fn signed(bits: u128, width: usize) -> Option<i128> {
     let mask = mask(width);
     if bits <= mask >> 1 {

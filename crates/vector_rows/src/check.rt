@@ -101,7 +101,7 @@ impl Check {
     }
 
     /// Checks the lines of an input to its end. Differences and malformed lines are written to `out`, and from time to
-    /// time the count of lines to `err`. The memory for a line comes from `alloc`; it is that of the longest one.
+    /// time the number of lines to `err`. The memory for a line comes from `alloc`; it is that of the longest one.
     pub fn take<R: BufRead, A: Allocator, C: Clock, W: Write, V: Write>(
         &mut self,
         input: &mut R,

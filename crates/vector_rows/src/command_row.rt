@@ -23,7 +23,7 @@ const WORDS: usize = 7;
 /// A command and its reply.
 #[derive(Clone, Copy)]
 pub struct CommandRow<'a> {
-    /// The words of the command, separated by single spaces; `""` stands for an empty one.
+    /// The words of the command, separated by single spaces; `""` represents an empty one.
     pub command: &'a str,
     /// The reply that is expected.
     pub reply: &'a str,

@@ -76,7 +76,7 @@ fn written<S: Semantics>(call: DecimalCall, request: Request) -> Answered
     }
 }
 
-/// The columns for a value rounded to a count of digits.
+/// The columns for a value rounded to a number of digits.
 fn rounded_columns<S: Semantics>(x: IeeeFloat<S>, count: Operand, round: Round) -> Answered
     requires { IsWithinQuad (format_of S.Semantics) }
 {

@@ -36,7 +36,7 @@ fn expect_reply<R: Abort + AllocGlobal>(rt: &R, command: &str, line: &str) -> Re
     Ok(())
 }
 
-/// The bits, the count of digits and the bits of the status, or the refused word.
+/// The bits, the number of digits and the bits of the status, or the refused word.
 fn reply_to(words: &[String]) -> Result<(u128, usize, u8), &str> {
     match command(words) {
         Reply::Line(bits, digits, status) => Ok((bits, digits, status.bits())),
@@ -100,7 +100,7 @@ fn reads_long_operands(rt: HostRuntime) -> Result<(), Fail> {
     Ok(())
 }
 
-/// A writer with room for a limited count of bytes, which takes one at each write.
+/// A writer with room for a limited number of bytes, which takes one at each write.
 #[derive(Drop)]
 struct Failing {
     room: usize,

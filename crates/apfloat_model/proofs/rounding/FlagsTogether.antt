@@ -244,7 +244,7 @@ fused_sum_together format mode (finite b l) (nan c t) z =
 fused_sum_together format mode (infinite b) y z = sum_with_product_together format mode (infinite b) y z
 fused_sum_together format mode (nan b u) y z = sum_with_product_together format mode (nan b u) y z
 
--- by any whole quotient: cut toward zero or nearest
+-- by any whole quotient: truncated toward zero or nearest
 pub remainder_together : (format : Format) (quotient : ℕ → ℕ → ℕ) (x y : Datum)
     → Together (IsRemainder format quotient x y)
 remainder_together format quotient (nan b s) y = answer_together _ _ (invalid_if_together _)
@@ -308,7 +308,7 @@ conversion_together from into mode (finite b n) loses_info value status h =
     (kept_together (finite (zero_sign into.nonfinite b) 0) (loses_zero_sign into b) loses_info)
     (λ v s k. delivered_together into mode b _ _ v s k.is_delivered) value status h
 
--- ---- whole numbers
+-- ---- integers
 
 pub from_unsigned_together : (format : Format) (mode : Round) (number : ℕ)
     → Together (IsFromUnsigned format mode number)
@@ -324,7 +324,7 @@ round_to_integral_together format mode (nan b s) = answer_together _ _ (invalid_
 round_to_integral_together format mode (infinite b) = answer_together _ _ ok_together
 round_to_integral_together format mode (finite b n) = answer_together _ _ (inexact_unless_together _)
 
--- to a whole number in any range
+-- to an integer in any range
 whole_within_together : (format : Format) (mode : Round) (low high : ℤ) (x : Datum)
     → FlagsGoTogether (whole_within format mode low high x).status
 whole_within_together format mode low high (nan b s) = invalid_together
@@ -345,7 +345,7 @@ to_signed_together format mode width x number status is_exact h =
     subst FlagsGoTogether (sym h.status_is)
     (whole_within_together format mode (neg_ℤ (pos (2 ^ (width - 1)))) (pos (2 ^ (width - 1) - 1)) x)
 
--- the signed whole number that is made from a magnitude
+-- the signed integer that is made from a magnitude
 pub negated_whole_together : (is_zero : Bool) (width number flags : ℕ) (exact : Bool) (value : ℤ) (status : ℕ)
     (is_exact : Bool) → FlagsGoTogether flags
     → IsNegatedWhole is_zero width number flags exact value status is_exact → FlagsGoTogether status

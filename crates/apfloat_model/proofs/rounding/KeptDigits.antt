@@ -35,7 +35,7 @@ digits_full n h p =
 
 -- ---- units
 
--- dividing amount and unit by a common factor does not change what a significand stands for
+-- dividing amount and unit by a common factor does not change what a significand represents
 pub stands_cancel : (s : ℕ) (loss : Loss) (amount unit w : ℕ) → 0 < w → StandsFor s loss (amount * w) (unit * w)
     → StandsFor s loss amount unit
 stands_cancel s ExactlyZero amount unit w p h = eq_of_mul-eq-mul_right w p amount (s * unit) (omega (arith, h))
@@ -75,14 +75,14 @@ same_unit parts k up down place e =
     let g : 2 ^ k * 2 ^ up * parts ≡ 2 ^ place * 2 ^ down * parts = ap (λ (x : ℕ). x * parts) f in
     omega arith
 
--- what a cut keeps stands for the amount in quanta
+-- what a cut keeps represents the amount in quanta
 pub kept_stands : (q : ℕ) (loss : Loss) (amount parts k up down place : ℕ) → k + up ≡ place + down
     → StandsFor q loss (amount * 2 ^ down) (2 ^ k * (parts * 2 ^ up)) → StandsFor q loss amount (2 ^ place * parts)
 kept_stands q loss amount parts k up down place e h =
     stands_cancel q loss amount (2 ^ place * parts) (2 ^ down) (pow_pos down)
     (subst (λ (x : ℕ). StandsFor q loss (amount * 2 ^ down) x) (same_unit parts k up down place e) h)
 
--- a significand shifted up, with nothing lost, stands for the amount in quanta
+-- a significand shifted up, with nothing lost, represents the amount in quanta
 pub shifted_stands : (s : ℕ) (loss : Loss) (amount parts j up down place : ℕ) → loss ≡ ExactlyZero
     → place + down + j ≡ up → StandsFor s loss (amount * 2 ^ down) (parts * 2 ^ up)
     → StandsFor (s * 2 ^ j) loss amount (2 ^ place * parts)
@@ -186,7 +186,7 @@ shift_full precision s digits j place up down p' b f n c r e =
     (λ y. inr (subst (λ (x : ℕ). 2 ^ (precision - 1) ≤ x) (shift_whole precision s digits j place up down p' b c e)
     (full_shifted s digits j precision (some_digits s digits b n) f (omega (arith, y))))) r
 
--- a significand that fits and stands for the amount, normalized or at the lowest place, encloses it
+-- a significand that fits and represents the amount, normalized or at the lowest place, encloses it
 pub enclosed_from : (precision q c : ℕ) (loss : Loss) (amount parts : ℕ) → 0 < precision → 0 < parts
     → q < 2 ^ precision → (c ≡ 0) ⊎ (2 ^ (precision - 1) ≤ q) → StandsFor q loss amount (2 ^ c * parts)
     → IsEnclosed precision (2 ^ (precision - 1)) q c amount parts

@@ -7,14 +7,14 @@ use Rattle.apfloat_model.specs.declared.loss.Loss.{Loss}
 use Rattle.apfloat_model.specs.declared.loss.Loss.TheVariants.{ExactlyZero, LessThanHalf, ExactlyHalf, MoreThanHalf}
 use Rattle.apfloat_model.specs.rounding.Standing.{StandsFor}
 
--- the amount is not below what the significand stands for
+-- the amount is not below what the significand represents
 pub stands_from : (s : ℕ) (loss : Loss) (amount unit : ℕ) → StandsFor s loss amount unit → s * unit ≤ amount
 stands_from s ExactlyZero amount unit h = omega (arith, h)
 stands_from s LessThanHalf amount unit h = let a = h.0 in omega (arith, a)
 stands_from s ExactlyHalf amount unit h = omega (arith, h)
 stands_from s MoreThanHalf amount unit h = let a = h.0 in omega (arith, a)
 
--- the amount is below what the next significand would stand for
+-- the amount is below what the next significand would represent
 pub stands_to : (s : ℕ) (loss : Loss) (amount unit : ℕ) → 0 < unit → StandsFor s loss amount unit
     → amount < (s + 1) * unit
 stands_to s ExactlyZero amount unit u h = omega (arith, h)
@@ -22,7 +22,7 @@ stands_to s LessThanHalf amount unit u h = let a = h.1 in omega (arith, a)
 stands_to s ExactlyHalf amount unit u h = omega (arith, h)
 stands_to s MoreThanHalf amount unit u h = let a = h.1 in omega (arith, a)
 
--- if something was lost, the amount is above what the significand stands for
+-- if something was lost, the amount is above what the significand represents
 pub stands_past : (s : ℕ) (loss : Loss) (amount unit : ℕ) → 0 < unit → (loss ≡ ExactlyZero → ⊥)
     → StandsFor s loss amount unit → s * unit < amount
 stands_past s ExactlyZero amount unit u n h = absurd (n refl)

@@ -90,7 +90,7 @@ to_odd_least least lower s amount u l (inr b) =
     let m = b.long in
     inr (record { long = omega (arith, m, l); odd = b.odd; above = b.above; below = b.below })
 
--- what stands for an amount, with a loss, is rounded to odd by it: if it is even it goes up
+-- what represents an amount, with a loss, is rounded to odd by it: if it is even it goes up
 pub lost_to_odd : (least q : ℕ) (loss : Loss) (amount u : ℕ) → least ≤ q → 0 < u
     → (loss ≡ ExactlyZero → ⊥) → StandsFor q loss amount u
     → (q % 2 ≡ 0 → IsRoundedToOdd least (q + 1) amount u) × (q % 2 ≡ 1 → IsRoundedToOdd least q amount u)

@@ -102,7 +102,7 @@ not_below precision half m c amount parts mode negative p l i =
     at_last precision mode negative amount parts
     ∙ from_next mode negative (2 ^ precision - 1) (2 * amount) parts p (omega (arith, k, f, e))
 
--- what a significand stands for with a loss of at most half is at most half a unit above it
+-- what a significand represents with a loss of at most half is at most half a unit above it
 at_most_half : (m : ℕ) (loss : Loss) (amount parts : ℕ) → 0 < parts → (loss ≡ MoreThanHalf → ⊥)
     → StandsFor m loss amount parts → 2 * amount ≤ (2 * m + 1) * parts
 at_most_half m ExactlyZero amount parts p n h = omega (arith, h)

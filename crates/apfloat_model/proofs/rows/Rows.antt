@@ -15,7 +15,7 @@ use Rattle.apfloat_model.specs.arithmetic.Conversions.{IsConversion}
 use Rattle.apfloat_model.proofs.Once.{from_unsigned_once}
 use Rattle.apfloat_model.proofs.rows.RowsIn.{half, single, e5m2, e4m3fn, e4m3fnuz, half_tiny_before, half_ieee, half_ieee_before, in_half, in_single, in_e5m2, in_e4m3fn, in_e4m3fnuz, rounded}
 
--- ---- whole numbers in
+-- ---- integers in
 
 -- 464 is a value of half precision
 half_of_464 : (mode : Round) → IsFromUnsigned half mode 464 (in_half 0x5f40) ok_bits

@@ -64,7 +64,7 @@ in_e4m3fnuz bits = value_in e4m3fnuz_constants bits
 
 -- ---- results that need no rounding
 
--- a result given outright: a datum, a whole number, or a conversion
+-- a result given outright: a datum, an integer, or a conversion
 pub answer : {value : Datum} {status : ℕ} → IsAnswer value status value status
 answer = record { value_is = refl; status_is = refl }
 

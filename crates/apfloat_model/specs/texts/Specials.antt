@@ -60,7 +60,7 @@ base_of Sixteen = 16
 base_of Eight = 8
 base_of Ten = 10
 
--- one or more digits, of a whole number below 2 ^ 128
+-- one or more digits, of an integer below 2 ^ 128
 abbrev pub number_of_digits : Radix → List ℕ → Option ℕ
 number_of_digits radix digits =
     if not (is_empty digits) && every (is_digit_of radix) digits && ltb (number (base_of radix) digits) (2 ^ 128)

@@ -141,7 +141,7 @@ pair_from_unsigned_exists mode number =
     split_answer_exists (IsFromUnsigned wide mode number)
     (delivered_exists wide mode false (number * 2 ^ wide.scale) 1 some_wide (lit< tt))
 
--- the conversion of a negative whole number has a result
+-- the conversion of a negative integer has a result
 from_negative_exists : (mode : Round) (magnitude : ℕ) → HasPairAnswer (IsPairFromNegative mode magnitude)
 from_negative_exists mode magnitude =
     let a = pair_from_unsigned_exists (swapped mode) magnitude in

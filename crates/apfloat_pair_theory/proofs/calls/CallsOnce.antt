@@ -82,14 +82,14 @@ pair_exact_inverse_once x v w h k =
     (subst (λ (d : Datum). IsExactInverse wide d k.inverse) (sym e) k.is_inverse) in
     split_option_once h.inverse v w h.is_split (subst (λ (o : Option Datum). IsSplitOption o w) (sym i) k.is_split)
 
--- ---- whole numbers
+-- ---- integers
 
--- the conversion of a whole number has at most one result in each mode
+-- the conversion of an integer has at most one result in each mode
 pub pair_from_unsigned_once : (mode : Round) (number : ℕ) → OncePair (IsPairFromUnsigned mode number)
 pair_from_unsigned_once mode number =
     split_answer_once (IsFromUnsigned wide mode number) (from_unsigned_once wide mode number)
 
--- and so does that of a negative whole number
+-- and so does that of a negative integer
 from_negative_once : (mode : Round) (magnitude : ℕ) → OncePair (IsPairFromNegative mode magnitude)
 from_negative_once mode magnitude v w r s h k =
     let e = pair_from_unsigned_once (swapped mode) magnitude h.positive k.positive r s h.is_positive k.is_positive in
@@ -104,7 +104,7 @@ pair_from_signed_once mode number =
 abbrev pub OnceWhole : {N : Type 0} → (N → ℕ → Bool → Type 0) → Type 0
 OnceWhole R = (m n : _) (r s : ℕ) (a b : Bool) → R m r a → R n s b → (m ≡ n) × (r ≡ s) × (a ≡ b)
 
--- the conversion to a whole number determines the number, the status and whether it is exact
+-- the conversion to an integer determines the number, the status and whether it is exact
 pub pair_to_unsigned_once : (mode : Round) (width : ℕ) (x : Pair) → OnceWhole (IsPairToUnsigned mode width x)
 pair_to_unsigned_once mode width x m n r s a b h k =
     let e = joined_once x h.joined k.joined h.is_joined k.is_joined in

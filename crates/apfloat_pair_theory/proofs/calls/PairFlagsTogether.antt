@@ -239,7 +239,7 @@ pair_next_down_together x answer status h =
 pub pair_reading_together : (mode : Round) (text : List ℕ) → Together (IsPairReading mode text)
 pair_reading_together mode text = split_together (IsReading wide mode text) (reading_together wide mode text)
 
--- ---- whole numbers
+-- ---- integers
 
 pub pair_from_unsigned_together : (mode : Round) (number : ℕ) → Together (IsPairFromUnsigned mode number)
 pair_from_unsigned_together mode number =

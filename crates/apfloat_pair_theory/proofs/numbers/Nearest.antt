@@ -1,5 +1,4 @@
--- A grid number nearest to a whole number, whichever way ties go; the
--- error of a rounded sum, and exact subtractions.
+-- A grid number nearest to an integer, whichever way ties go; the error of a rounded sum, and exact subtractions.
 use Rattle.std.proofs.Common.{◌≡◌, ℕ, ◌+◌, ◌-◌, ◌*◌, ◌/◌, ◌^◌, ◌<◌, ◌≤◌, ◌⊎◌, sym, ap, inl, inr, ⊎_elim, arith, lit<}
 use Rattle.std.specs.Prelude.{ℤ, pos, negsuc, ◌+ℤ◌, ◌-ℤ◌, ◌≤ℤ◌, neg_ℤ}
 use Rattle.std.proofs.Math.Nat.{mul-le-mul_right, mul-le-mul_left}

@@ -1,4 +1,4 @@
--- Operations on finite data, to nearest, as roundings of signed whole numbers.
+-- Operations on finite data, to nearest, as roundings of signed integers.
 use Rattle.std.proofs.Common.{◌≡◌, ℕ, zero, suc, ◌+◌, ◌-◌, ◌*◌, ◌^◌, ◌<◌, ◌≤◌, Bool, true, false, not, cond, eqb, ltb, sym, refl, ap, ◌∙◌, subst, ⊎_elim, le_trans, arith, lit<}
 use Rattle.std.specs.Prelude.{ℤ, pos, negsuc, neg_ℤ, ◌+ℤ◌, ◌-ℤ◌, ◌*ℤ◌}
 use Rattle.std.proofs.Math.Nat.{mul-le-mul_right, le_of_mul-le-mul_right}
