@@ -1,4 +1,4 @@
-//! Conversion from and to integers.
+//! Conversions from and to integers.
 
 ghost use Rattle.std.specs.Prelude.{◌≡◌, ◌-◌, ◌*◌, ◌^◌, ◌<◌, ◌≤◌, pos, ◌-ℤ◌, if◌then◌else◌};
 ghost use Rattle.apfloat_model.specs.formats.Datum.{finite};
@@ -16,7 +16,7 @@ use apfloat_rounding::shape::Shape;
 use apfloat_rounding::unpacked::{Unpacked, zero_of};
 use apfloat_words::digits;
 
-/// An integer with `count` digits, moved up until it has 128.
+/// An integer of `count` digits, shifted up until it has 128.
 #[inline(always)]
 fn aligned(number: u128, count: u32) -> u128
     requires some { 0 < count }
@@ -29,7 +29,7 @@ fn aligned(number: u128, count: u32) -> u128
     number << (128 - count)
 }
 
-/// The exponent of the last digit of an integer that was moved up until it has 128 digits.
+/// The exponent of the last digit of an integer that was shifted up to 128 digits.
 #[inline(always)]
 fn aligned_exponent(count: u32) -> ExpInt
     requires { count ≤ 128 }
@@ -38,7 +38,8 @@ fn aligned_exponent(count: u32) -> ExpInt
     count as ExpInt - 128
 }
 
-/// An integer, rounded once. It is moved up first, so that the cut is at the same digit for each.
+/// The value of an integer, rounded once. The integer is normalized first, so that the cut is at the same digit for
+/// all.
 #[inline(always)]
 pub fn from_unsigned(shape: Shape, number: u128, round: Round) -> StatusAnd<Unpacked>
     ensures stored { IsStored shape result.value }
@@ -86,7 +87,7 @@ fn greatest(width: u32) -> u128
     u128::MAX >> (128 - width)
 }
 
-/// The result for a value out of range: the end of the range.
+/// The result for a value out of range: the nearer end of the range, with `INVALID_OP`.
 #[inline(always)]
 fn out_of_range(number: u128) -> Unsigned
     ensures { GivesWhole (invalid_whole (pos number)) result }
@@ -97,7 +98,7 @@ fn out_of_range(number: u128) -> Unsigned
     }
 }
 
-/// The end of the range on the side of a sign.
+/// The end of the range on the side of this sign.
 #[inline(always)]
 fn limit_of(width: u32, negative: bool) -> u128
     requires low { 1 ≤ width }
@@ -134,7 +135,7 @@ fn number_to_unsigned(shape: Shape, x: Unpacked, width: u32, round: Round) -> Un
     }
 }
 
-/// Any value as an integer. Kept out of line, so that only the case of a nonzero number is inlined.
+/// Converts any value to an integer, out of line, so that only the conversion of a nonzero number is inlined.
 #[cold]
 #[inline(never)]
 fn any_to_unsigned(shape: Shape, x: Unpacked, width: u32, round: Round) -> Unsigned
@@ -156,8 +157,8 @@ fn any_to_unsigned(shape: Shape, x: Unpacked, width: u32, round: Round) -> Unsig
     }
 }
 
-/// Any value as an integer, as `any_to_unsigned` has it, rebuilt from its fields: so the caller, where a number is
-/// inlined, has no struct whose address is passed on, and none to be zeroed for it.
+/// The result of `any_to_unsigned`, rebuilt from its fields. Otherwise its address would be passed, and the inlined
+/// conversion of a number would have to zero it first.
 #[inline(always)]
 fn other_to_unsigned(shape: Shape, x: Unpacked, width: u32, round: Round) -> Unsigned
     requires stored { IsStored shape x }

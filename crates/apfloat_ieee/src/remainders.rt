@@ -22,11 +22,12 @@ pub(crate) fn truncated<S: Flagged>(x: IeeeFloat<S>, y: IeeeFloat<S>) -> StatusA
 }
 
 impl<S: Flagged> IeeeFloat<S> {
-    /// The remainder by `%`, and the number of subtractions that it took.
+    /// The remainder that `%` returns, and the number of subtractions that it takes to find it.
     ///
-    /// Each turn subtracts the greatest multiple of the divisor by a power of two (1 or more) that is not above the
-    /// rest. So the count is that of ones among the binary digits of the quotient truncated toward zero, and at most
-    /// `ilogb(self) - ilogb(rhs) + 1` if it is not 0. If an operand is zero, infinite or a NaN, it is 0.
+    /// Each step subtracts the greatest multiple of the divisor by a power of two (1 or more) that is not above the
+    /// rest. So the number of steps is the number of ones among the binary digits of the quotient truncated toward
+    /// zero, and, unless it is 0, at most `ilogb(self) - ilogb(rhs) + 1`. If an operand is zero, infinite or a NaN, it
+    /// is 0.
     #[inline]
     pub fn c_fmod_steps(self, rhs: Self) -> (StatusAnd<Self>, u32)
         ensures answer { Gives (IsTruncatedRemainder (format_of S.Flagged) self rhs) result.0 }
@@ -56,7 +57,7 @@ impl<S: Flagged> RemAssign for IeeeFloat<S> {
     ghost rem_assign_gives = { λ x y z. (r : StatusAnd Self) ×
         Gives (IsTruncatedRemainder (format_of S.Flagged) x y) r × (z ≡ r.value) };
 
-    /// The remainder by `%`; the status is dropped.
+    /// Assigns the remainder that `%` returns; the status is discarded.
     #[inline]
     fn rem_assign(&mut self, rhs: IeeeFloat<S>) {
         *self = truncated(*self, rhs).value;

@@ -1,4 +1,4 @@
-//! Products of pairs: each step is an operation on doubles in the mode, and the flags of the steps are joined.
+//! Products of pairs: each step is an operation on doubles in the mode, and the flags of all steps are joined.
 
 ghost use Rattle.std.specs.Prelude.{◌≡◌};
 ghost use Rattle.apfloat_model.specs.declared.kinds.Round.TheVariants.{NearestTiesToEven};

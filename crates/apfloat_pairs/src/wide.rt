@@ -1,5 +1,5 @@
-//! Operations on pairs by way of the wide format: the pair is joined, the operation is performed there, and its result
-//! is split. The status is that of the wide operation.
+//! Operations on pairs in the wide format: the pairs are joined, the operation is performed there, and its result is
+//! split. The status is that of the wide operation.
 
 ghost use Rattle.std.specs.Prelude.{◌≡◌, ◌≤◌, ◌<◌, ◌^◌, Result};
 ghost use Rattle.apfloat_model.specs.rounding.Flags.{Gives, bits_of};
@@ -55,7 +55,7 @@ pub(crate) fn round_to_integral(x: DoubleFloat, round: Round) -> StatusAnd<Doubl
     split_answer(joined(x).round_to_integral(round))
 }
 
-/// The next value up in the wide format.
+/// The next value up in the wide format, split.
 #[inline]
 pub(crate) fn next_up(x: DoubleFloat) -> StatusAnd<DoubleFloat>
     ensures { Gives (IsPairNextUp x) result }
@@ -102,7 +102,7 @@ pub(crate) fn to_unsigned(
     whole.status.and(whole.value)
 }
 
-/// The pair of a text, or its refusal.
+/// The pair that a text spells, or its refusal.
 #[inline]
 pub(crate) fn read(text: &str, round: Round) -> Result<StatusAnd<DoubleFloat>, ParseError>
     ensures { IsPairRead round text.now result }
