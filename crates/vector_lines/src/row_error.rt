@@ -11,7 +11,7 @@ pub enum RowError<'a> {
     Encoding,
     /// The line has this many columns.
     Columns(usize),
-    /// The line has the first number of words instead of the second.
+    /// The line has the first number of words, and should have the second.
     Numbers(usize, usize),
     /// A word is wrong: what is wrong, the word, and what is expected.
     Word(&'static str, &'a str, &'static str),
