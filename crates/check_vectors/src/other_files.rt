@@ -186,7 +186,7 @@ const FPGEN: &str = "b32*+ =^ -1.0C0C74P127 +0.358000P-126 -1.50B859P1 -> -1.05A
     b64/ 0 +0.04A10B401BA85P-1022 -1.E05B000000000P-3 -> -0.13BC72246BE67P-1022 xu\n\
     b32+ =0 x +1.000000P0 +1.000000P-60 -> +1.000000P0 x";
 
-/// Asserts that an input of `lines` lines agrees, except for those that are skipped.
+/// Asserts that this many lines of an input agree, that this many are skipped, and that no others are reported.
 fn expect_agreement<R: Abort + Clock + AllocGlobal>(
     rt: &R,
     lines: Lines,

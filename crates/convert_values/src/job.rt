@@ -33,9 +33,9 @@ where a read or a write failed.
 /// What the program is to do.
 #[derive(Clone, Copy, Debug)]
 pub enum Job {
-    /// Tell how it is called.
+    /// Print how it is called.
     Help,
-    /// Convert its stream, with what an overflow gives.
+    /// Convert a stream; the second field says what a number that overflows becomes.
     Convert(Conversion, Overflow),
 }
 
@@ -51,7 +51,7 @@ impl Job {
         }
     }
 
-    /// The job that converts, with what an overflow gives.
+    /// The job that converts a stream, if the words name a conversion.
     fn converting(overflow: Overflow, words: &[String]) -> Option<Job> {
         match words {
             [source, target, mode] => {

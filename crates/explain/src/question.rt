@@ -1,4 +1,4 @@
-//! The words of a command line, as what is to be explained.
+//! The question that the words of a command line ask.
 
 use formats_at_run_time::{Arithmetic, BuiltInFormat, BuiltInKind, mode_named};
 use rustc_apfloat::Round;
@@ -34,7 +34,7 @@ word could have been either, what is shown says how it was read.
     explain half 3c00
 ";
 
-/// What is computed.
+/// The computation that is explained.
 #[derive(Clone, Copy, Debug)]
 pub enum Operation {
     /// Nothing: a value is shown.
@@ -73,7 +73,7 @@ impl Operation {
     }
 }
 
-/// What is to be explained.
+/// A question: what is to be explained.
 #[derive(Clone, Copy)]
 pub struct Question<'a> {
     /// The word of the format.
@@ -91,7 +91,7 @@ pub struct Question<'a> {
 /// Why there is nothing to explain.
 #[derive(Clone, Copy, Debug)]
 pub enum Fault<'a> {
-    /// The words are too few or too many.
+    /// There are too few or too many words.
     Count,
     /// No format has this name.
     Format(&'a str),
@@ -104,7 +104,7 @@ pub enum Fault<'a> {
 }
 
 impl<'a> Question<'a> {
-    /// What these words ask for.
+    /// The question that these words ask, or the first fault.
     pub fn named(words: &'a [String]) -> Result<Question<'a>, Fault<'a>> {
         if words.len() < 2 || words.len() == 3 {
             return Err(Fault::Count);

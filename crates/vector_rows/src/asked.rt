@@ -160,8 +160,8 @@ fn write_other<W: Write>(
     out.write_all(b"\n")
 }
 
-/// The mode of a row, if its call takes it, or `None` within `Some` for all modes. A call without a mode gets an
-/// arbitrary one.
+/// The mode of a row, with `Some(None)` for all modes; `None` if the call does not take it. A call without a mode gets
+/// an arbitrary one.
 fn mode_of(word: &str, takes_mode: bool) -> Option<Option<Round>> {
     match word {
         "any" if takes_mode => Some(None),

@@ -175,7 +175,7 @@ fn of_format_alone<S: Flagged>(call: FormatCall, request: Request) -> Answered {
     }
 }
 
-/// What a square root, a product or a fused sum returns.
+/// What a product or a fused sum returns.
 fn rounded_once<S: Flagged>(
     call: FormatCall,
     request: Request,
