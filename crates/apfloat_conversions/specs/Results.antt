@@ -1,4 +1,4 @@
--- The results of conversions, in terms of the data and the integers that they are.
+-- The results of conversions, in terms of the data and the integers that they represent.
 use Rattle.std.specs.Prelude.{ℕ, Bool, pos}
 use Rattle.apfloat_model.specs.formats.Datum.{Datum}
 use Rattle.apfloat_model.specs.rounding.Flags.{bits_of}

@@ -4,7 +4,7 @@ use Rattle.apfloat_model.specs.declared.kinds.Round.{Round}
 use Rattle.apfloat_model.specs.whole_numbers.WholeNumbers.{whole_pick}
 use Rattle.apfloat_conversions.specs.declared.whole.Whole.{Whole}
 
--- that integer, and whether it is the magnitude itself
+-- the picked integer, and whether it equals the magnitude
 pub record IsPicked (mode : Round) (negative : Bool) (amount parts : ℕ) (whole : Whole) : Type 0 where
   pub magnitude_is : whole.magnitude ≡ whole_pick mode negative amount parts
   pub exact_is : whole.exact ≡ eqb (whole_pick mode negative amount parts * parts) amount

@@ -33,11 +33,11 @@ fields_encode format layout fields datum law h =
 
 -- ---- each layout
 
--- one or more ones are not 0
+-- a positive number of ones is not 0
 ones_some : (k : ℕ) → 1 ≤ k → 1 ≤ all_ones k
 ones_some k h = let m : 2 ^ 1 ≤ 2 ^ k = pow-le-pow_right two_pos h in omega arith
 
--- and fit in that many digits
+-- `k` ones fit in `k` digits
 ones_fit : (k : ℕ) → all_ones k < 2 ^ k
 ones_fit k = let p : 0 < 2 ^ k = pow_pos k in omega arith
 

@@ -38,7 +38,7 @@ infinities_of_one_sign = answer
 infinity_times_zero : IsProduct half NearestTiesToEven (in_half 0x7c00) (in_half 0x0000) (in_half 0x7e00) invalid_bit
 infinity_times_zero = answer
 
--- also in a fused sum whose addend is a NaN
+-- an infinity times zero is invalid even in a fused sum whose addend is a NaN
 invalid_product : IsFusedSum half NearestTiesToEven (in_half 0x7c00) (in_half 0x0000) (in_half 0x7e01)
     (in_half 0x7e00) invalid_bit
 invalid_product = record { product = in_half 0x7e00; flags = invalid_bit; is_product = answer; is = answer }
@@ -53,7 +53,7 @@ one_nan_is_not_negated = refl
 nan_converted : IsConversion single half NearestTiesToEven (in_single 0x7fa00000) (in_half 0x7f00) invalid_bit false
 nan_converted = converted
 
--- if a later bit is set, something is lost
+-- if a lower bit is set, information is lost
 nan_with_loss : IsConversion single half NearestTiesToEven (in_single 0x7fc00001) (in_half 0x7e00) ok_bits true
 nan_with_loss = converted
 

@@ -1,4 +1,4 @@
--- Remainders, by the quotient truncated toward zero and by the nearest one (IEEE 754-2008 5.3.1); both are exact.
+-- Remainders, by the quotient truncated toward zero and by the nearest integer (IEEE 754-2008 5.3.1); both are exact.
 use Rattle.std.specs.Prelude.{ℕ, ◌-◌, ◌*◌, ◌/◌, Bool, false, not, ltb, eqb, count_ones, if◌then◌else◌}
 use Rattle.std.specs.Bool.{MatchBool}
 use Rattle.apfloat_model.specs.declared.kinds.NonfiniteBehavior.{NonfiniteBehavior}
@@ -22,7 +22,7 @@ abbrev pub rest_of : NonfiniteBehavior → Bool → ℕ → ℕ → Datum
 rest_of kind negative m taken =
     if ltb m taken then signed_quanta kind (not negative) (taken - m) else signed_quanta kind negative (m - taken)
 
--- the remainder by a given whole quotient
+-- the remainder by a given integer quotient
 abbrev pub IsRemainder : Format → (ℕ → ℕ → ℕ) → Datum → Datum → Datum → ℕ → Type 0
 IsRemainder f quotient (nan b s) y value status = IsOfNans f b s y value status
 IsRemainder f quotient x (nan c t) value status = IsOfNan f c t value status
