@@ -1,4 +1,4 @@
--- Payloads read so far, and the special values of the code as those of the model.
+-- Payloads while they are read, and the special values of the code as those of the model.
 use Rattle.std.specs.Prelude.{◌≡◌, ℕ, ◌+◌, ◌*◌, ◌^◌, ◌<◌, Bool, false, true, ◌&&◌, ltb, if◌then◌else◌, List, take, drop, fold, Option, Some, None}
 use Rattle.apfloat_model.specs.declared.marks.Radix.{Radix}
 use Rattle.apfloat_model.specs.texts.Digits.{every, digit_value}

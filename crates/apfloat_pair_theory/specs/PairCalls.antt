@@ -1,6 +1,6 @@
 -- Operations on pairs of doubles that join a pair into the wide format, operate there, and split the result; the status
--- is that of the wide operation. Signed integers are converted by way of unsigned ones, and the next value down by way
--- of the next value up of the negation.
+-- is that of the wide operation. Signed integers are converted from unsigned ones, and the next value down is the
+-- negation of the next value up of the negation.
 use Rattle.std.specs.Prelude.{◌≡◌, ⊤, ℕ, ◌-◌, ℤ, pos, Bool, Option, Some, None, Result, Ok, Err, List, unsigned_abs, int_lt}
 use Rattle.std.specs.Bool.{MatchBool}
 use Rattle.apfloat_model.specs.declared.kinds.Round.{Round}

@@ -38,11 +38,11 @@ pub record IsDoubleAlone (x : Pair) : Type 0 where
   pub is_finite : is_finite x.high ≡ true
   pub low_is : x.low ≡ positive_zero
 
--- such an operand is a double alone
+-- a double with low part +0 is a double alone
 pub double_alone : (x : Pair) → IsMember double x.high → IsSingle x → IsDoubleAlone x
 double_alone x m s = record { is_double = m; is_finite = s.is_finite; low_is = s.low_is }
 
--- its low part has the number 0
+-- the low part of a double alone has the number 0
 pub single_low : (x : Pair) → IsDoubleAlone x → number x.low ≡ pos 0
 single_low x s = ap number s.low_is
 

@@ -30,7 +30,7 @@ use Rattle.apfloat_pair_theory.proofs.sums.ClosingSums.{wide_enough}
 use Rattle.apfloat_pair_theory.proofs.numbers.WholeProducts.{IsWholeProduct, product_error_on_grid, IsNumber}
 use Rattle.apfloat_pair_theory.proofs.numbers.Roundings.{signed_exact, IsRoundedTo, within_nearest, finite_nearest, within_is, beyond_is}
 
--- ---- a whole number of quanta, in parts
+-- ---- an integral number of quanta, in parts of a quantum
 
 -- how many parts a quantum has does not change the pick
 pick_times : (negative : Bool) (below above m u : ℕ) → 0 < u
@@ -69,7 +69,7 @@ pick_whole precision s m u p h x =
       is = x.is ∙ pick_times s x.below x.above m u h;
     }
 
--- the delivered value is the same; only the flags may differ
+-- the value delivered for a number of quanta given in parts is the same; only the flags may differ
 pub delivered_whole : (format : Format) (negative : Bool) (m u : ℕ) (value : Datum) (status : ℕ) → 0 < u
     → IsDelivered format NearestTiesToEven negative (m * u) u value status
     → (again : ℕ) × IsDelivered format NearestTiesToEven negative m 1 value again

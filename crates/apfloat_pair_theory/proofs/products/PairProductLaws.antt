@@ -77,7 +77,7 @@ no_product m n e =
     let z : magnitude m * magnitude n ≡ magnitude m * 0 = ap (λ (i : ℤ). magnitude m * magnitude i) e in
     magnitude-mul m n ∙ z ∙ omega arith
 
--- the same for the first factor
+-- a product with a first factor of 0 has the magnitude 0
 no_product_first : (m n : ℤ) → m ≡ pos 0 → magnitude (m *ℤ n) ≡ 0
 no_product_first m n e =
     let z : magnitude m * magnitude n ≡ 0 * magnitude n = ap (λ (i : ℤ). magnitude i * magnitude n) e in
@@ -136,7 +136,7 @@ error_free_product x y answer status mx my k s t e =
 low_below : (p k m s : ℕ) → 128 ≤ p → p * k ≤ s → s ≤ m + k → 64 * k ≤ m
 low_below p k m s w h l = let b : 128 * k ≤ p * k = mul-le-mul_right k w in omega arith
 
--- and the high part is at least half of it
+-- the high part of a normalised pair is at least half of the number
 half_of : (m s k : ℕ) → m ≤ s + k → 64 * k ≤ m → m ≤ 2 * s
 half_of m s k h l = omega arith
 
@@ -157,12 +157,12 @@ sixteenth e s h = omega arith
 number_low : (x : Pair) → IsNormalised x → 2 ^ double.precision * size x.low ≤ magnitude (pair_number x)
 number_low x n = low_small double.precision wide_enough (number x.high) (number x.low) (normalised_nearest x n)
 
--- so it is at most a 64th of the high part
+-- the low part of a normalised pair is at most a 64th of the high part
 low_quanta : (x : Pair) → IsNormalised x → 64 * size x.low ≤ size x.high
 low_quanta x n =
     low_below (2 ^ double.precision) _ _ _ (lit≤ tt) (number_low x n) (magnitude_le (number x.high) (number x.low))
 
--- and the high part is at most twice the number of the pair
+-- the high part of a normalised pair is at most twice its number
 half_high : (x : Pair) → IsNormalised x → size x.high ≤ 2 * magnitude (pair_number x)
 half_high x n = half_of _ _ _ (first_most (number x.high) (number x.low)) (low_quanta x n)
 

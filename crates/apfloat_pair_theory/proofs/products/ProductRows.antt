@@ -133,14 +133,14 @@ five_is = record {
   zero_has = λ h. refl;
 }
 
--- each is a pair with low part +0
+-- 3 and 5 are pairs with low part +0
 three_single : IsSingle three
 three_single = record { is_finite = refl; low_is = refl }
 
 five_single : IsSingle five
 five_single = record { is_finite = refl; low_is = refl }
 
--- so both pairs are normalised
+-- the pairs of 3 and of 5 are normalised
 three_normalised : IsNormalised three
 three_normalised = single_normalised three (double_alone three three_is three_single) (lit≤ tt)
 

@@ -34,7 +34,7 @@ is_ieee = refl
 pub wide_enough : 8 ≤ 2 ^ double.precision
 wide_enough = lit≤ tt
 
--- and so at least one
+-- doubles have at least one digit
 pub digits : 1 < 2 ^ double.precision
 digits = lit< tt
 
@@ -129,7 +129,7 @@ closed_pair z y flags answer status a x =
     x.is_h
     (MatchBool-at_true _ _ n.is_finite x.is_answer)
 
--- ---- nothing remains to be added
+-- ---- a rest of zero
 
 -- a datum that is +0 has the number 0
 pub zero_number : (datum : Datum) → same_datum datum positive_zero ≡ true → number datum ≡ pos 0

@@ -83,7 +83,7 @@ singles_open x y z q v r d e u w s t k =
 first_back : (a aa c cc : ℤ) → c ≡ pos 0 → cc ≡ pos 0 → (a +ℤ aa) ≡ ((a +ℤ aa) +ℤ (c +ℤ cc))
 first_back a aa c cc e g = omega (arith, ints)
 
--- or the second one
+-- adding a pair to a pair that is 0 leaves the second pair
 second_back : (a aa c cc : ℤ) → a ≡ pos 0 → aa ≡ pos 0 → (c +ℤ cc) ≡ ((a +ℤ aa) +ℤ (c +ℤ cc))
 second_back a aa c cc e g = omega (arith, ints)
 
@@ -91,7 +91,7 @@ second_back a aa c cc e g = omega (arith, ints)
 in_quanta : (p s : ℤ) → p ≡ s → (p *ℤ pos 1) ≡ s
 in_quanta p s e = times_one p ∙ e
 
--- the same for an error
+-- an error bound in parts of a quantum, for one part
 close_in_quanta : (p s : ℤ) (digits size : ℕ) → magnitude (p -ℤ s) * 2 ^ digits ≤ size
     → magnitude ((p *ℤ pos 1) -ℤ s) * 2 ^ digits ≤ size
 close_in_quanta p s digits size h = subst (λ (i : ℤ). magnitude (i -ℤ s) * 2 ^ digits ≤ size) (sym (times_one p)) h
@@ -114,7 +114,7 @@ summed_exactly x y answer status s t m =
           (single_low x s) (single_low y t) m.number_is o.0);
     }
 
--- and neither does a result that is one of the operands
+-- a given result whose number is the exact sum loses nothing
 given_exactly : (x y given answer : Pair) → answer ≡ given → IsNormalised given
     → pair_number given ≡ (pair_number x +ℤ pair_number y) → IsExactPair (pair_number x +ℤ pair_number y) 1 answer
 given_exactly x y given answer e n s =
