@@ -34,14 +34,14 @@ double_within (finite b n) value exponent normal member h =
 double_within (infinite b) value exponent normal member h = cc
 double_within (nan b s) value exponent normal member h = cc
 
--- such an exponent is a machine number
+-- an exponent within the range of doubles is a machine number
 double_fits : (exponent : ℤ) → IsExponentWithin double exponent → FitsSigned w32 exponent
 double_fits exponent n =
     let low : neg_ℤ (pos 1074) ≤ℤ exponent = n.low in
     let high : exponent ≤ℤ pos 2098 = n.high in
     omega (arith, ints, low, high)
 
--- the negation of such an exponent is a machine number
+-- the negation of an exponent within the range of doubles is a machine number
 negated_fits : (exponent : ℤ) → IsExponentWithin double exponent → FitsSigned w32 (pos 0 -ℤ exponent)
 negated_fits exponent n =
     let low : neg_ℤ (pos 1074) ≤ℤ exponent = n.low in

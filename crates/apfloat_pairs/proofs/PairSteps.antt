@@ -164,7 +164,7 @@ anew_beyond mode x y big small z flags is_within answer status o w e v s =
     (sym (finite_agrees z) ∙ sym w ∙ e)
     (record { answer_is = v; status_is = s ∙ flags_of_opened mode x y big small z flags o }))
 
--- otherwise the low part is the rest
+-- if the high part is finite, the low part is the rest
 pub anew_within : (mode : Round) (x y : Pair) (big small z low : Datum) (flags all_flags : ℕ) (is_within : Bool)
     (answer : Pair) (status : ℕ) → IsOpenedAnew mode x y big small z flags
     → is_within ≡ is_finite_category (category_of z) → is_within ≡ true

@@ -123,7 +123,7 @@ above_is_same precision half m c amount parts p i e = record {
   least = λ other g l. let l' : m * 2 ^ c * parts ≤ other * parts = omega arith in le_of_mul-le-mul_right l' p;
 }
 
--- otherwise the next significand is the neighbour above
+-- if the enclosing significand is not the magnitude itself, the next one is the neighbour above
 pub above_is_next : (precision half m c amount parts : ℕ) → IsEnclosed precision half m c amount parts
     → m * 2 ^ c * parts < amount → IsAbove precision ((m + 1) * 2 ^ c) amount parts
 above_is_next precision half m c amount parts i h = record {

@@ -93,7 +93,7 @@ overflow_toward_zero : IsSum half_ieee TowardZero (in_half 0x7bff) (in_half 0x7b
     (overflow_bit + inexact_bit)
 overflow_toward_zero = rounded 2047 30 refl refl refl
 
--- but 65504 + 16 toward zero is 65504, which is not past it
+-- 65504 + 16 toward zero is 65504, which is not past the largest value
 no_overflow_toward_zero : IsSum half_ieee TowardZero (in_half 0x7bff) (in_half 0x4c00) (in_half 0x7bff) inexact_bit
 no_overflow_toward_zero = rounded 2047 29 refl refl refl
 
@@ -113,7 +113,7 @@ zero_difference = rounded 0 0 refl refl refl
 zero_difference_downward : IsDifference half TowardNegative (in_half 0x3c00) (in_half 0x3c00) (in_half 0x8000) ok_bits
 zero_difference_downward = rounded 0 0 refl refl refl
 
--- but +0 if the format has no -0
+-- downward it is +0 if the format has no -0
 zero_difference_without_minus : IsDifference e4m3fnuz TowardNegative (in_e4m3fnuz 0x40) (in_e4m3fnuz 0x40)
     (in_e4m3fnuz 0x00) ok_bits
 zero_difference_without_minus = rounded 0 0 refl refl refl

@@ -59,7 +59,7 @@ significand_parts whole point fraction (inr e) w f =
       places = rw (after_run_through is_hexadecimal whole [] w refl) refl;
     })
 
--- such a significand has no second dot
+-- a significand of these parts has no second dot
 point_short : (point fraction : List ℕ) → (point ≡ codes ".") ⊎ ((point ≡ []) × (fraction ≡ []))
     → ltb 1 (length point) ≡ false
 point_short point fraction (inl e) = rw e refl
@@ -77,7 +77,7 @@ record IsExponent (exponent : List ℕ) : Type 0 where
   digits : every is_decimal (after_mark exponent) ≡ true
   some_digit : 1 ≤ length (after_mark exponent)
 
--- such an exponent has no fault
+-- an exponent of a mark or none and at least one digit has no fault
 no_exponent_fault : (exponent : List ℕ) → IsExponent exponent → exponent_fault (after_mark exponent) ≡ None
 no_exponent_fault exponent x = rw (x.digits, not_empty (after_mark exponent) x.some_digit) refl
 

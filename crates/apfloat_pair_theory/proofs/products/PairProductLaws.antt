@@ -124,7 +124,7 @@ alone_product x y answer status k s t e =
           ap (λ (i : ℤ). pair_number x *ℤ i) (high_alone (number y.high) (number y.low) zy);
     }
 
--- so the product of two doubles is error-free
+-- the law of error-free products
 pub error_free_product : (x y answer : Pair) (status : ℕ) → IsMember double x.high → IsMember double y.high
     → IsPairProduct NearestTiesToEven x y answer status → IsErrorFreeProduct x y answer
 error_free_product x y answer status mx my k s t e =

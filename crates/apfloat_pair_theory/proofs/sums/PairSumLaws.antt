@@ -142,7 +142,7 @@ alone_sum x y answer status k s t r =
     h)
     (sum_rows x y answer status s.is_finite t.is_finite k)
 
--- so the sum of two doubles is error-free
+-- the law of error-free sums
 pub error_free_sum : (x y answer : Pair) (status : ℕ) → IsMember double x.high → IsMember double y.high
     → IsPairSum NearestTiesToEven x y answer status → IsErrorFreeSum x y answer
 error_free_sum x y answer status mx my k s t r =
