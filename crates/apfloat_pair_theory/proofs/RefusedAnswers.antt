@@ -23,7 +23,7 @@ dropped_error law =
     (record { first = lit≤ tt; second = lit≤ tt }) in
     false≢true (sym (ap (λ (n : ℤ). eqb (magnitude n) (2 ^ 1074)) e.number_is))
 
--- the operands are normalised
+-- the operands are normalized
 one_normalised : IsNormalised one
 one_normalised = record {
   finite_high = refl;
@@ -69,7 +69,7 @@ sum_is_double : IsSum double NearestTiesToEven (finite false (2 ^ 1074)) (finite
     (finite false (2 ^ 1074 + 2 ^ 1022)) ok_bits
 sum_is_double = rounded (2 ^ 52 + 1) 1022 refl refl refl
 
--- the parts before the closing step are not a normalised pair
+-- the parts before the closing step are not a normalized pair
 not_normalised : IsNormalised before_closing → ⊥
 not_normalised n =
     let only = sum_once double NearestTiesToEven (finite false (2 ^ 1074)) (finite false (2 ^ 1022)) n.nearest

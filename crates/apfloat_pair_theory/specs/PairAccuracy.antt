@@ -52,7 +52,7 @@ pub record IsExactPair (exact : ℤ) (parts : ℕ) (answer : Pair) : Type 0 wher
   pub normalised : IsNormalised answer
   pub number_is : (pair_number answer *ℤ pos parts) ≡ exact
 
--- The result is normalised, and differs from exact / parts quanta by at most 2 ^ -digits of size / parts quanta.
+-- The result is normalized, and differs from exact / parts quanta by at most 2 ^ -digits of size / parts quanta.
 pub record IsClosePair (exact : ℤ) (parts digits size : ℕ) (answer : Pair) : Type 0 where
   pub normalised : IsNormalised answer
   pub error : magnitude ((pair_number answer *ℤ pos parts) -ℤ exact) * 2 ^ digits ≤ size
@@ -67,7 +67,7 @@ abbrev pub IsErrorFreeSum : Pair → Pair → Pair → Type 0
 IsErrorFreeSum x y answer =
     IsSingle x → IsSingle y → AreWithinReach x y → IsExactPair (pair_number x +ℤ pair_number y) 1 answer
 
--- for normalised pairs, the error is small relative to the sum of both magnitudes
+-- for normalized pairs, the error is small relative to the sum of both magnitudes
 abbrev pub IsAccurateSum : Pair → Pair → Pair → Type 0
 IsAccurateSum x y answer =
     IsNormalised x → IsNormalised y → AreWithinReach x y
@@ -92,7 +92,7 @@ IsErrorFreeProduct x y answer =
     IsSingle x → IsSingle y → HaveExponents x y (neg_ℤ (pos 970)) (pos 1021)
     → IsExactPair (pair_number x *ℤ pair_number y) (2 ^ double.scale) answer
 
--- for normalised pairs, the error is small relative to the exact product
+-- for normalized pairs, the error is small relative to the exact product
 abbrev pub IsAccurateProduct : Pair → Pair → Pair → Type 0
 IsAccurateProduct x y answer =
     IsNormalised x → IsNormalised y → HaveExponents x y (neg_ℤ (pos 900)) (pos 1021)

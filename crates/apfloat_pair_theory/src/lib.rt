@@ -3,7 +3,7 @@
 //! `specs/` defines what each operation on pairs returns: sums and products as chains of steps on doubles, other
 //! operations by the parts or in a wide format of 106 binary digits. The functions here do nothing: their clauses are
 //! theorems about those definitions, within the ranges given in `specs/PairAccuracy.antt`. Rounded to nearest, the sum
-//! and the product of two doubles are exact; those of two normalised pairs are normalised, and the error is at most 2 ^
+//! and the product of two doubles are exact; those of two normalized pairs are normalized, and the error is at most 2 ^
 //! -103 of the sum of both magnitudes and 2 ^ -102 of the exact product. A split loses nothing if its high part is
 //! finite. Each operation named below has exactly one result.
 #![tactic(auto)]

@@ -288,14 +288,14 @@ sum_error_free mode x y answer status m n =
     at_nearest (λ (i : Round). IsPairSum i x y answer status) (IsErrorFreeSum x y answer)
     (error_free_sum x y answer status m n) mode
 
--- to nearest, the sum of two normalised pairs is accurate
+-- to nearest, the sum of two normalized pairs is accurate
 pub sum_accurate : (mode : Round) (x y answer : Pair) (status : ℕ) → IsPairSum mode x y answer status
     → mode ≡ NearestTiesToEven → IsAccurateSum x y answer
 sum_accurate mode x y answer status =
     at_nearest (λ (i : Round). IsPairSum i x y answer status) (IsAccurateSum x y answer)
     (accurate_sum x y answer status) mode
 
--- to nearest, the sum of two normalised pairs raises at most INEXACT
+-- to nearest, the sum of two normalized pairs raises at most INEXACT
 pub sum_plain : (mode : Round) (x y answer : Pair) (status : ℕ) → IsPairSum mode x y answer status
     → mode ≡ NearestTiesToEven → HasPlainStatus x y status
 sum_plain mode x y answer status =
@@ -310,14 +310,14 @@ difference_error_free mode x y answer status m n =
     at_nearest (λ (i : Round). IsPairDifference i x y answer status) (IsErrorFreeDifference x y answer)
     (error_free_difference x y answer status m n) mode
 
--- to nearest, the difference of two normalised pairs is accurate
+-- to nearest, the difference of two normalized pairs is accurate
 pub difference_accurate : (mode : Round) (x y answer : Pair) (status : ℕ) → IsPairDifference mode x y answer status
     → mode ≡ NearestTiesToEven → IsAccurateDifference x y answer
 difference_accurate mode x y answer status =
     at_nearest (λ (i : Round). IsPairDifference i x y answer status) (IsAccurateDifference x y answer)
     (accurate_difference x y answer status) mode
 
--- to nearest, the difference of two normalised pairs raises at most INEXACT
+-- to nearest, the difference of two normalized pairs raises at most INEXACT
 pub difference_plain : (mode : Round) (x y answer : Pair) (status : ℕ) → IsPairDifference mode x y answer status
     → mode ≡ NearestTiesToEven → HasPlainStatus x y status
 difference_plain mode x y answer status =
@@ -332,7 +332,7 @@ product_error_free mode x y answer status m n =
     at_nearest (λ (i : Round). IsPairProduct i x y answer status) (IsErrorFreeProduct x y answer)
     (error_free_product x y answer status m n) mode
 
--- to nearest, the product of two normalised pairs is accurate
+-- to nearest, the product of two normalized pairs is accurate
 pub product_accurate : (mode : Round) (x y answer : Pair) (status : ℕ) → IsPairProduct mode x y answer status
     → mode ≡ NearestTiesToEven → IsAccurateProduct x y answer
 product_accurate mode x y answer status =

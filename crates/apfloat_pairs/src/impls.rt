@@ -185,7 +185,7 @@ impl Float for DoubleFloat {
     /// and the status may be OK for an inexact one.
     ///
     /// Rounding to nearest, ties to even, with high parts of at most 2^1022: the sum of two doubles is exact, and that
-    /// of normalised pairs is normalised, with an error of at most 2^-103 of the sum of both magnitudes.
+    /// of normalized pairs is normalized, with an error of at most 2^-103 of the sum of both magnitudes.
     ///
     /// An infinity or a NaN is returned unchanged, even a signaling NaN; adding infinities of opposite signs is
     /// invalid.
@@ -217,7 +217,7 @@ impl Float for DoubleFloat {
     /// A chain of operations on doubles in the mode, whose flags are joined. The product of the low parts is left out.
     ///
     /// Rounding to nearest, ties to even: the product of two doubles is exact if their exponents add up to -970 to
-    /// 1021; that of normalised pairs, if the exponents of the high parts add up to -900 to 1021, is normalised, with
+    /// 1021; that of normalized pairs, if the exponents of the high parts add up to -900 to 1021, is normalized, with
     /// an error of at most 2^-102 of the exact product.
     ///
     /// A zero times an infinity is the NaN without a payload, with no flag; a NaN is returned unchanged.

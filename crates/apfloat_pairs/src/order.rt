@@ -72,7 +72,7 @@ impl PartialOrd for DoubleFloat {
 
     ghost laws = { compared_pair_laws };
 
-    /// The order of the high parts, and on a tie that of the low parts. For normalised pairs it is the order of their
+    /// The order of the high parts, and on a tie that of the low parts. For normalized pairs it is the order of their
     /// numbers.
     #[inline]
     fn partial_cmp(&self, other: &Self) -> Option<Ordering> {

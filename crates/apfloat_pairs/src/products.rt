@@ -66,7 +66,7 @@ fn product_of_categories(
     }
 }
 
-/// The product of two pairs. Rounded to nearest, it is exact for doubles and accurate for normalised pairs.
+/// The product of two pairs. Rounded to nearest, it is exact for doubles and accurate for normalized pairs.
 #[inline]
 pub(crate) fn product(x: DoubleFloat, y: DoubleFloat, round: Round) -> StatusAnd<DoubleFloat>
     ensures product { Gives (IsPairProduct round x y) result }

@@ -155,7 +155,7 @@ fn sum_of_categories(
     }
 }
 
-/// The sum of two pairs. Rounded to nearest, it is exact for doubles and accurate for normalised pairs.
+/// The sum of two pairs. Rounded to nearest, it is exact for doubles and accurate for normalized pairs.
 #[inline]
 pub(crate) fn sum(x: DoubleFloat, y: DoubleFloat, round: Round) -> StatusAnd<DoubleFloat>
     ensures sum { Gives (IsPairSum round x y) result }

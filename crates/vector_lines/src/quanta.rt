@@ -5,7 +5,7 @@
 //! and the signaling NaN with a payload in hexadecimal digits.
 //!
 //! Whether a value is that of a word is decided without reading texts: a number, scaled by a power of two (`scalbn`),
-//! has to convert (`to_u128`) to the odd part of the count; zeros and infinities are recognised by their category, and
+//! has to convert (`to_u128`) to the odd part of the count; zeros and infinities are recognized by their category, and
 //! NaNs by comparison with the results of `qnan` and `snan`. Operands are made by calls too, and then checked in the
 //! same way.
 

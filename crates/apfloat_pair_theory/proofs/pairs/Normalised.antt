@@ -1,4 +1,4 @@
--- Consequences of a pair being normalised, and conditions for it.
+-- Consequences of a pair being normalized, and conditions for it.
 use Rattle.std.proofs.Common.{◌≡◌, ℕ, zero, suc, ◌≤◌, Bool, true, false, sym, refl, ap, ◌∙◌, subst, arith, lit<}
 use Rattle.std.specs.Prelude.{ℤ, pos, negsuc, ◌+ℤ◌}
 use Rattle.std.proofs.lemmas.Bool.{false≢true}

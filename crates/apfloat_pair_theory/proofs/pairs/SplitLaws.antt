@@ -1,4 +1,4 @@
--- A split loses nothing: within the largest double, the pair is normalised and has the number of the wide datum.
+-- A split loses nothing: within the largest double, the pair is normalized and has the number of the wide datum.
 use Rattle.std.proofs.Common.{◌≡◌, ℕ, zero, suc, ◌-◌, ◌*◌, ◌/◌, ◌%◌, ◌^◌, ◌<◌, ◌≤◌, Bool, true, false, not, ◌&&◌, cond, eqb, ltb, refl, sym, ap, ◌∙◌, subst, ⊎_elim, arith, lit<, mul_assoc}
 use Rattle.std.specs.Prelude.{ℤ, pos, neg_ℤ, ◌+ℤ◌, ◌-ℤ◌}
 use Rattle.std.proofs.Math.Nat.{mul-le-mul_right, le_of_mul-le-mul_right, eq_of_mul-eq-mul_right}
@@ -189,7 +189,7 @@ finite_pick b p high f v =
     (λ (h : p ≤ largest double). h)
     (cases_lt (largest double) p)
 
--- a split with a finite high part: normalised, with the number of the wide datum
+-- a split with a finite high part: normalized, with the number of the wide datum
 pub record IsCut (negative : Bool) (m : ℕ) (answer : Pair) : Type 0 where
   pub exactly : IsExactPair (signed negative m) 1 answer
   pub high_is : IsRoundedTo double.precision (signed negative m) answer.high
@@ -210,7 +210,7 @@ number_converted b m high status loses_info p c =
     MatchBool-at_false _ (IsConvertedNumber wide double NearestTiesToEven b m high status loses_info)
     (ne_eqb m 0 (λ z. omega (arith, p, z))) c
 
--- if the high part is finite, the pair is normalised and has the number of the wide datum
+-- if the high part is finite, the pair is normalized and has the number of the wide datum
 pub split_exactly : (negative : Bool) (m : ℕ) (answer : Pair) → 0 < m → is_finite answer.high ≡ true
     → IsSplit (finite negative m) answer → IsCut negative m answer
 split_exactly b m answer p f s =

@@ -41,7 +41,7 @@ error_free_difference x y answer status mx my k s t r =
     (negated_single y t)
     (second_negated x y r))
 
--- the difference of normalised pairs is normalised, and close to the exact difference
+-- the difference of normalized pairs is normalized, and close to the exact difference
 pub accurate_difference : (x y answer : Pair) (status : ℕ) → IsPairDifference NearestTiesToEven x y answer status
     → IsAccurateDifference x y answer
 accurate_difference x y answer status k s t r =
@@ -53,7 +53,7 @@ accurate_difference x y answer status k s t r =
     (minus_is (pair_number x) (pair_number y) (pair_number (negated_pair y)) n)
     (accurate_sum x (negated_pair y) answer status k s (negated_normalised y t) (second_negated x y r)))
 
--- the status of a difference of normalised pairs is OK or INEXACT
+-- the status of a difference of normalized pairs is OK or INEXACT
 pub plain_difference : (x y answer : Pair) (status : ℕ) → IsPairDifference NearestTiesToEven x y answer status
     → HasPlainStatus x y status
 plain_difference x y answer status k s t r =

@@ -154,7 +154,7 @@ module _ (precision : ℕ) (wide : 8 ≤ 2 ^ precision) where
       subst (λ (i : ℕ). 2 ^ precision * i ≤ magnitude (a +ℤ aa)) m
       (relative_error precision (a +ℤ aa) a (positive precision wide) n)
 
-  -- the low part of a normalised pair is at most a seventh of its high part
+  -- the low part of a normalized pair is at most a seventh of its high part
   pub low_eighth : (a aa : ℤ) → IsNearest precision (a +ℤ aa) a → 8 * magnitude aa ≤ magnitude a + magnitude aa
   low_eighth a aa n = let r = eighth _ _ _ wide (low_small a aa n) in let l = magnitude_le a aa in omega (arith, r, l)
 
@@ -162,7 +162,7 @@ module _ (precision : ℕ) (wide : 8 ≤ 2 ^ precision) where
   error_low : (x y z : ℤ) → IsNearest precision (x +ℤ y) z → 8 * magnitude (z -ℤ (x +ℤ y)) ≤ magnitude x + magnitude y
   error_low x y z n = let r = error_eighth (x +ℤ y) z n in let l = magnitude_le x y in omega (arith, r, l)
 
-  -- the closing sum of two normalised pairs has no error
+  -- the closing sum of two normalized pairs has no error
   pub closing_shared : (a aa c cc z e x y : ℤ) → IsNearest precision (a +ℤ aa) a → IsNearest precision (c +ℤ cc) c
       → IsNearest precision (a +ℤ c) z → e ≡ ((a +ℤ c) -ℤ z)
       → IsNearest precision (e +ℤ aa) x → IsNearest precision (x +ℤ cc) y → IsShared precision z y
