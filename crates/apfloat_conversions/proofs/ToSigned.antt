@@ -26,7 +26,7 @@ use Rattle.apfloat_conversions.proofs.Wholes.{whole_exactly}
 
 -- ---- of a value without a minus sign: one binary digit less
 
--- without a minus sign, the signed integer is the unsigned one of one digit less
+-- without a minus sign, the signed integer is the unsigned one for one digit less
 pub to_signed_above : (format : Format) (mode : Round) (width : ℕ) (x : Datum) (number st : ℕ) (exact : Bool)
     → is_negative x ≡ false → IsToUnsigned format mode (width - 1) x number st exact
     → IsToSigned format mode width x (pos number) st exact

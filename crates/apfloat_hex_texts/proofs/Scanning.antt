@@ -29,7 +29,7 @@ ended : (left : List ℕ) → begins is_digit_or_dot left ≡ false → signific
 ended [] h = refl
 ended (c ∷ left) h = rw h refl
 
--- a text that begins with neither a digit nor a dot follows the significand as a whole
+-- in a text that begins with neither a digit nor a dot, everything follows the significand
 unmoved : (left : List ℕ) → begins is_digit_or_dot left ≡ false → after_significand left ≡ left
 unmoved [] h = refl
 unmoved (c ∷ left) h = rw h refl

@@ -41,7 +41,7 @@ pub number_is_root : (format : Format) (mode : Round) (root : ℕ) (value : Datu
 number_is_root format mode root value status d =
     root_delivered (root * root) root 1 (square_agrees root) format mode value status d
 
--- what is delivered for the root of a square is delivered for the number squared
+-- what is delivered for the root of the square of a number is delivered for the number
 pub root_of_square : (format : Format) (mode : Round) (root : ℕ) (value : Datum) (status : ℕ)
     → 0 < format.precision
     → IsDeliveredRoot format mode (root * root) value status → IsDelivered format mode false root 1 value status

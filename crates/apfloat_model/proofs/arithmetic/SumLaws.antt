@@ -166,7 +166,7 @@ pub signed_quanta_is : (negative : Bool) (p : ℕ) → signed_quanta IEEE754 neg
 signed_quanta_is negative zero = refl
 signed_quanta_is negative (suc n) = signed_some IEEE754 negative (suc n) (omega arith)
 
--- the value delivered for a pick is that one
+-- in a format with infinities, this is the delivered value
 value_is : (format : Format) (mode : Round) (negative : Bool) (p : ℕ) → format.nonfinite ≡ IEEE754
     → delivered_value format mode negative p ≡ at (ltb (largest format) p)
     (leads_out mode negative) negative (largest format) p

@@ -108,7 +108,7 @@ raised_right k s t h =
     let m : bit_at t k ≤ max (bit_at s k) (bit_at t k) = le-max_right (bit_at s k) (bit_at t k) in
     omega (arith, a, m)))
 
--- if in each of two statuses one flag is raised only together with another, so it is in their union
+-- if in each of two statuses one flag is raised only together with another, the same holds for their union
 pub union_keeps : (j k s t : ℕ) → (0 < bit_and s (2 ^ j) → 0 < bit_and s (2 ^ k))
     → (0 < bit_and t (2 ^ j) → 0 < bit_and t (2 ^ k))
     → 0 < bit_and (bit_or s t) (2 ^ j) → 0 < bit_and (bit_or s t) (2 ^ k)

@@ -108,7 +108,7 @@ fits_cut s digits k precision h l =
     let d : s < 2 ^ precision * 2 ^ k = omega arith in
     (div-lt_iff_lt-mul (pow_pos k)).1 d
 
--- a significand of which no more digits are cut off has all the digits of the format
+-- with just the digits past the precision cut off, a significand has all the digits of the format
 pub full_cut : (s digits k precision : ℕ) → 0 < precision → (0 < digits → 2 ^ (digits - 1) ≤ s)
     → digits ≡ k + precision → 2 ^ (precision - 1) ≤ s / 2 ^ k
 full_cut s digits k precision p h e =

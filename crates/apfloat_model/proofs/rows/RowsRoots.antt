@@ -186,7 +186,7 @@ denormal_root mode = rooted 128 0 refl refl refl
 tiny_root : IsRoot few_exponents NearestTiesToEven (finite false 3) (finite false 222) (underflow_bit + inexact_bit)
 tiny_root = rooted 221 0 refl refl refl
 
--- it underflows too if tininess is detected before rounding
+-- an inexact denormal root underflows too if tininess is detected before rounding
 tiny_root_before : IsRoot (record few_exponents { tiny_before_rounding = true }) TowardPositive (finite false 63)
     (finite false 1016) (underflow_bit + inexact_bit)
 tiny_root_before = rooted 1015 0 refl refl refl

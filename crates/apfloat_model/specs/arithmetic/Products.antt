@@ -26,8 +26,8 @@ IsProduct f mode (infinite b) (infinite c) value status = IsAnswer (infinite (pr
 IsProduct f mode (finite b m) (finite c n) value status =
     IsDelivered f mode (product_sign b c) (m * n) (2 ^ f.scale) value status
 
--- The product of nonzero finite factors, with one factor negated and rounded in the opposite mode, is the negated
--- value, with the same flags.
+-- The product of nonzero finite factors with one factor negated, rounded in the opposite mode, is the negated value,
+-- with the same flags.
 abbrev pub IsOpposite : Format → Round → Datum → Datum → Datum → ℕ → Type 0
 IsOpposite f mode x y value status =
     IsTrue (is_finite_non_zero x) → IsTrue (is_finite_non_zero y)

@@ -144,7 +144,7 @@ low_number (finite s (suc n)) h =
 low_number (infinite s) h = absurd (false≢true h)
 low_number (nan s n) h = absurd (false≢true h)
 
--- the negation of a normalized pair is normalized, also if its number is zero
+-- the negation of a normalized pair is normalized, even if its number is zero
 pub negated_normalised : (x : Pair) → IsNormalised x → IsNormalised (negated_pair x)
 negated_normalised x n =
     let fh = negated_finite x.high n.finite_high in
