@@ -98,7 +98,7 @@ pub fn whole(mode: Round, negative: bool, amount: u128, parts: u128) -> u128
     }
 }
 
-/// The bounds of a format; magnitudes are counted in quanta.
+/// The parameters of a format that rounding needs; magnitudes are in quanta.
 #[derive(Clone, Copy, Debug)]
 pub struct Bounds {
     /// The number of binary digits in a significand.

@@ -8,6 +8,7 @@ use conformance::plain::{Bounds, RoundedValue, deliver, whole};
 use rustc_apfloat::ieee::{IeeeFloat, NonfiniteBehavior, Semantics};
 use rustc_apfloat::{Flags, Float, Round, StatusAnd};
 
+/// The small formats that tests sweep.
 #[derive(Clone, Copy)]
 pub enum Small {
     Half,
@@ -110,6 +111,7 @@ pub fn patterns_of(format: Small) -> u64 {
     }
 }
 
+/// The class of a value.
 #[derive(Clone, Copy)]
 pub enum Class {
     Number,
