@@ -45,7 +45,7 @@ loss_more rest half l =
     let d : eqb rest half ≡ false = ne_eqb rest half (λ z. omega (arith, z)) in
     rw (a, b, d) refl
 
--- a rest that is not 0 is lost
+-- the loss of a nonzero rest is not ExactlyZero
 no_zero : (a b : Bool) → cond a LessThanHalf (cond b ExactlyHalf MoreThanHalf) ≡ ExactlyZero → ⊥
 no_zero true b = λ e. cc
 no_zero false true = λ e. cc
@@ -56,7 +56,7 @@ loss_some rest half p z =
     let a : eqb rest 0 ≡ false = ne_eqb rest 0 (λ e. omega (arith, e)) in
     no_zero (ltb rest half) (eqb rest half) (rw a at z)
 
--- a rest of at most half is no loss of more
+-- the loss of a rest of at most half is not MoreThanHalf
 pub loss_at_most : (rest half : ℕ) → rest ≤ half → loss_at rest half ≡ MoreThanHalf → ⊥
 loss_at_most rest half l e =
     ⊎_elim
@@ -68,7 +68,7 @@ loss_at_most rest half l e =
     (cases_lt rest half))
     (cases_lt rest 1)
 
--- a rest is to half as it is to what is missing to the whole
+-- a rest compares with its distance from the whole as it compares with half
 loss_between : (rest half : ℕ) → rest < 2 * half → loss_at rest (2 * half - rest) ≡ loss_at rest half
 loss_between rest half l =
     ⊎_elim
@@ -88,7 +88,7 @@ loss_between rest half l =
     (cases_lt rest half))
     (cases_lt rest 1)
 
--- the significand that is left stands for the amount, with the loss of the rest
+-- if a significand represents the amount exactly, the kept digits represent it with the loss of the rest
 pub rest_stands : (q half rest amount unit : ℕ) → 0 < unit → rest < 2 * half
     → StandsFor (q * (2 * half) + rest) ExactlyZero amount unit
     → StandsFor q (loss_at rest half) amount (2 * half * unit)
@@ -120,7 +120,7 @@ rest_stands q half rest amount unit u l h =
 
 -- ---- a cut to the precision
 
--- the rest is below twice the half
+-- the rest is below `2 * half`
 pub rest_below : (s places half rest : ℕ) → 0 < places → half ≡ 2 ^ (places - 1) → rest ≡ s % 2 ^ places
     → rest < 2 * half
 rest_below s places half rest p h r =
@@ -128,7 +128,7 @@ rest_below s places half rest p h r =
     let m : s % 2 ^ places < 2 ^ places = mod_below s (2 ^ places) (pow_pos places) in
     omega (arith, t, m, h, r)
 
--- how the digits of a significand are cut to those of the precision
+-- a significand with more digits than the precision, and its cut to the precision
 pub record IsSplit (precision s digits place rest half up down : ℕ) : Type 0 where
   pub some : 0 < precision
   pub long : precision < digits
@@ -147,7 +147,7 @@ pub split_full : (precision s digits : ℕ) → 0 < precision → precision < di
 split_full precision s digits p l h =
     full_cut s digits (digits - precision) precision p (λ _. h) (omega arith)
 
--- what is kept stands for the amount in quanta
+-- the kept digits represent the amount in quanta, with the loss of the rest
 pub split_stands : (precision s digits place rest half up down amount parts : ℕ)
     → IsSplit precision s digits place rest half up down → 0 < parts
     → StandsFor s ExactlyZero (amount * 2 ^ down) (parts * 2 ^ up)
@@ -174,7 +174,7 @@ split_encloses precision s digits place rest half up down amount parts i p h =
 
 -- ---- the point that is picked, and its status
 
--- a point that is moved as the loss demands is picked
+-- the point moved as the loss demands is the one that is picked
 pub picked_if_moved : (precision : ℕ) (mode : Round) (negative : Bool) (m c amount parts p : ℕ) (loss : Loss)
     (moved : Bool) → moved ≡ rounds_up mode negative loss (eqb (m % 2) 1) → p ≡ cond moved (m + 1) m * 2 ^ c
     → 0 < parts → IsEnclosed precision (2 ^ (precision - 1)) m c amount parts
@@ -189,7 +189,7 @@ none_of true i x y z f g h = f
 none_of false true x y z f g h = g
 none_of false false x y z f g h = h
 
--- where all digits of the precision are kept, the result is not tiny, by any rule
+-- if all digits of the precision are kept, the result is not tiny by any rule
 pub not_tiny : (format : Format) (mode : Round) (negative : Bool) (m c amount parts s place : ℕ) → 0 < parts
     → 2 ^ (format.precision - 1) ≤ m → 2 ^ (format.precision - 1) ≤ s
     → IsEnclosed format.precision (2 ^ (format.precision - 1)) m c amount parts
@@ -203,7 +203,7 @@ not_tiny format mode negative m c amount parts s place p l f i =
 
 -- ---- digits that are cut off as words
 
--- more than a word of digits: the lowest word matters only by whether it is 0, which one bit says
+-- of a rest longer than a word, the lowest word matters only by whether it is 0, so one bit can replace it
 pub folded : (u l h w s : ℕ) → l < w → (l ≡ 0 → s ≡ 0) → (0 < l → s ≡ 1)
     → loss_at (2 * u + s) (2 * h) ≡ loss_at (u * w + l) (h * w)
 folded u l h w s b z o =
@@ -262,7 +262,7 @@ folded u l h w s b z o =
     (cases_lt l 1))
     (cases_lt u h)
 
--- a rest has the same loss in other units
+-- scaling a rest and its half leaves the loss unchanged
 pub loss_scaled : (r h k : ℕ) → 0 < k → loss_at (r * k) (h * k) ≡ loss_at r h
 loss_scaled r h k p =
     let d : r * k ≡ r * k + 0 = omega arith in
@@ -275,7 +275,7 @@ loss_scaled r h k p =
     ap (λ (x : ℕ). loss_at x (h * k)) d ∙ sym a ∙ b ∙ ap (λ (x : ℕ). loss_at x (h * 1)) e
     ∙ ap (λ (x : ℕ). loss_at r x) f
 
--- what a rest is past half, against what is missing to the whole, is its loss in half units
+-- comparing the part of a rest past half with the distance to the whole is comparing twice that part with half
 pub loss_past_half : (rest half : ℕ) → half < rest → rest < 2 * half
     → loss_at (rest - half) (2 * half - rest) ≡ loss_at (2 * (rest - half)) half
 loss_past_half rest half l m =
@@ -287,7 +287,7 @@ loss_past_half rest half l m =
     ∙ ap (λ (x : ℕ). loss_at x ((half - b) * 2)) e ∙ ap (λ (x : ℕ). loss_at (2 * b) x) f
     ∙ loss_between (2 * b) half (omega arith)
 
--- the rest of more digits than those of a word, in units of which half is 2 ^ (places - word)
+-- a rest longer than a word, folded in units of which half is 2 ^ (places - word), has the same loss
 pub folded_rest : (s word places upper some half : ℕ) → word < places → upper ≡ s / 2 ^ word % 2 ^ (places - word)
     → (s % 2 ^ word ≡ 0 → some ≡ 0) → (0 < s % 2 ^ word → some ≡ 1) → half ≡ 2 ^ (places - word)
     → loss_at (2 * upper + some) half ≡ loss_at (s % 2 ^ places) (2 ^ (places - 1))
@@ -306,14 +306,14 @@ folded_rest s word places upper some half l u z o h =
     ∙ ap (λ (x : ℕ). loss_at x (2 ^ (places - word - 1) * 2 ^ word)) (sym a)
     ∙ ap (λ (x : ℕ). loss_at (s % 2 ^ places) x) (sym p)
 
--- and is below twice that half
+-- the folded rest is below `2 * half`
 pub folded_below : (n k upper some half : ℕ) → upper ≡ n % 2 ^ k → some ≤ 1 → half ≡ 2 ^ k
     → 2 * upper + some < 2 * half
 folded_below n k upper some half u o h =
     let m : n % 2 ^ k < 2 ^ k = mod_below n (2 ^ k) (pow_pos k) in
     omega (arith, m, u, o, h)
 
--- what is left of the digits above the word
+-- cutting off a word, then the remaining places, cuts off all the places
 pub upper_kept : (s word places : ℕ) → word < places → s / 2 ^ word / 2 ^ (places - word) ≡ s / 2 ^ places
 upper_kept s word places l =
     let e : word + (places - word) ≡ places = omega arith in
@@ -339,7 +339,7 @@ within_format format next place s f l =
     ap (λ (x : ℕ). x * 2 ^ place) (sym t) ∙ r ∙ ap (λ (x : ℕ). half * x) (sym b) in
     omega (arith, a, k, d, e)
 
--- digits that are kept of a cut, and the loss of what is cut off, in any units
+-- the kept digits of a cut enclose the amount, and represent it with the loss of the rest, in any units
 pub cut_off : (precision s digits place rest half up down amount parts kept some unit : ℕ)
     → IsSplit precision s digits place rest half up down → kept ≡ s / 2 ^ (digits - precision)
     → loss_at some unit ≡ loss_at rest half → 0 < parts
@@ -354,7 +354,7 @@ cut_off precision s digits place rest half up down amount parts kept some unit i
       (split_stands precision s digits place rest half up down amount parts i p g)),
 )
 
--- a point that is moved as the rest demands, within the format, is delivered
+-- a point that is moved as the rest demands is delivered, if it is within the format
 pub delivered_within : (format : Format) (mode : Round) (negative : Bool) (m c amount parts p rest half : ℕ)
     (moved tiny : Bool) (value : Datum) (status : ℕ) → 0 < parts
     → moved ≡ rounds_up mode negative (loss_at rest half) (eqb (m % 2) 1)

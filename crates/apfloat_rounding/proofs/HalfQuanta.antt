@@ -1,4 +1,4 @@
--- Kept digits that are all ones just below the smallest normalized number, and what is lost below half a quantum.
+-- Kept digits that are all ones just below the smallest normalized number, and the loss below half a quantum.
 use Rattle.std.proofs.Common.{◌≡◌, ℕ, ◌+◌, ◌-◌, ◌*◌, ◌/◌, ◌%◌, ◌^◌, ◌<◌, ◌≤◌, Bool, true, false, not, ltb, sym, refl, ap, ◌∙◌, subst, inr, ⊎_elim, arith, lit<, ℤ, pos, ◌+ℤ◌}
 use Rattle.std.proofs.Math.Path.{subst₂}
 use Rattle.std.proofs.lemmas.Nat.{pow_pos}
@@ -17,7 +17,7 @@ use Rattle.apfloat_model.proofs.rounding.Tininess.{below_by_more, below_by_half,
 use Rattle.apfloat_rounding.specs.Cuts.{loss_at}
 use Rattle.apfloat_rounding.proofs.CutRests.{loss_zero, loss_less, loss_half, loss_more, loss_some, loss_scaled, loss_past_half}
 
--- a significand whose last digit is cut to half a quantum stands for twice the magnitude
+-- a significand cut at half a quantum represents twice the magnitude, in quanta
 pub half_stands : (q : ℕ) (loss : Loss) (amount parts k up down : ℕ) → k + 1 + up ≡ 0 + down
     → StandsFor q loss (amount * 2 ^ down) (2 ^ k * (parts * 2 ^ up)) → StandsFor q loss (2 * amount) parts
 half_stands q loss amount parts k up down e h =
@@ -33,7 +33,7 @@ half_stands q loss amount parts k up down e h =
 
 -- ---- eighths of a digit
 
--- a number of halves, and the loss below them, in eighths
+-- a significand counted in halves of a digit, cut to that digit, leaves its last half and its loss as a rest in eighths
 pub eighths : (h r : ℕ) (loss : Loss) (amount unit : ℕ) → 0 < unit → r < 4 → loss_at r 2 ≡ loss
     → StandsFor h loss amount unit → StandsFor (h / 2) (loss_at (4 * (h % 2) + r) 4) amount (2 * unit)
 eighths h r loss amount unit u l e k =
@@ -73,7 +73,7 @@ eighths h r loss amount unit u l e k =
     (cases_lt (h % 2) 1))
     (cases_lt r 1)
 
--- past half of the digit, they say what is below that half
+-- past half of the digit, the eighths also give the loss below that half
 pub eighths_finely : (h r : ℕ) (loss : Loss) (amount parts k up down : ℕ) → r < 4 → loss_at r 2 ≡ loss
     → 4 < 4 * (h % 2) + r → k + 1 + up ≡ 0 + down
     → StandsFor h loss (amount * 2 ^ down) (2 ^ k * (parts * 2 ^ up))
@@ -87,14 +87,15 @@ eighths_finely h r loss amount parts k up down l e m w g =
     subst₂ (λ (x : ℕ) (y : Loss). StandsFor x y (2 * amount) parts) a j
     (half_stands h loss amount parts k up down w g)
 
--- a loss in eighths of a digit
+-- a loss in quarters of a digit is the same in eighths
 pub loss_in_eighths : (r : ℕ) → loss_at (2 * r) 4 ≡ loss_at r 2
 loss_in_eighths r =
     let e : 2 * r ≡ r * 2 = omega arith in ap (λ (x : ℕ). loss_at x 4) e ∙ loss_scaled r 2 2 (lit< tt)
 
 -- ---- just below the smallest normalized number
 
--- a significand that is not the last one before the half tells on which side of it the magnitude is
+-- a kept significand that is not the last one below the smallest normalized number determines on which side of that
+-- number the magnitude is rounded
 pub off_last : (precision m c amount parts last : ℕ) (mode : Round) (negative : Bool) → 0 < parts
     → last ≡ 2 ^ (precision - 1) - 1 → (m ≡ last → ⊥)
     → IsEnclosed precision (2 ^ (precision - 1)) m c amount parts
@@ -109,7 +110,7 @@ off_last precision m c amount parts last mode negative p e n i =
     ∙ sym (le-ltb m last l))
     (cases_lt m last)
 
--- the last significand before the half is kept at the lowest place
+-- a significand below that of the smallest normalized number is kept at the quantum
 at_lowest : (precision half m c amount parts : ℕ) (loss : Loss) → m < half
     → IsEnclosed precision half m c amount parts
     → StandsFor m loss amount (2 ^ c * parts) → StandsFor m loss amount parts
@@ -121,7 +122,8 @@ at_lowest precision half m c amount parts loss l i h =
     (λ (f : half ≤ m). absurd (omega arith))
     i.full
 
--- with a loss of at most half a quantum, the magnitude is below
+-- if the last significand below the smallest normalized number is kept, with a loss of at most half, the magnitude is
+-- rounded below that number
 pub last_by_half : (precision m c amount parts last : ℕ) (mode : Round) (negative : Bool) (loss : Loss) → 0 < parts
     → last ≡ 2 ^ (precision - 1) - 1 → m ≡ last → (loss ≡ MoreThanHalf → ⊥)
     → IsEnclosed precision (2 ^ (precision - 1)) m c amount parts → StandsFor m loss amount (2 ^ c * parts)
@@ -131,7 +133,7 @@ last_by_half precision m c amount parts last mode negative loss p e d n i h =
     below_by_half precision (2 ^ (precision - 1)) m amount parts mode negative loss p i.double (omega arith) n
     (at_lowest precision (2 ^ (precision - 1)) m c amount parts loss (omega arith) i h)
 
--- a loss of more than half leaves twice the magnitude between the last two half quanta
+-- a magnitude that is less than half a quantum below the smallest normalized number
 pub record IsJustBelow (precision amount parts : ℕ) : Type 0 where
   pub from : (2 ^ precision - 1) * parts < 2 * amount
   pub to : 2 * amount < 2 ^ precision * parts
@@ -153,7 +155,8 @@ last_by_more precision m c amount parts last loss e d z i h =
     let y = g.1 in
     record { from = omega (arith, k, x); to = omega (arith, o, y) }
 
--- what is left below half a quantum decides
+-- less than half a quantum below the smallest normalized number, the loss below the half quantum decides on which side
+-- the magnitude is rounded
 pub just_below_half : (precision m rest half amount parts last : ℕ) (mode : Round) (negative : Bool)
     → 0 < precision → last ≡ 2 ^ (precision - 1) - 1 → m ≡ last → IsJustBelow precision amount parts
     → StandsFor (2 * m + 1) (loss_at (rest - half) (2 * half - rest)) (2 * amount) parts
@@ -188,7 +191,7 @@ pub read_halves : (format : Format) → format.tiny_before_rounding ≡ false �
     → reads_halves format ≡ true
 read_halves format b i = rw (b, i) refl
 
--- where tininess is judged in half quanta, a unit that is fine for the format is fine in half quanta
+-- if tininess is judged in half quanta, a unit that is fine for the format is fine enough one place higher
 pub halves_fine : (format : Format) (s : ℕ) (unit : ℤ) (loss : Loss) → reads_halves format ≡ true
     → IsFineFor format s unit loss → IsFineEnough format.precision s (unit +ℤ pos 1) loss
 halves_fine format s unit loss r h = rw r at h

@@ -28,7 +28,7 @@ word_digits width n (suc d) h f =
     let b : d < width = exponent_below d width (omega (arith, k, h)) in
     omega arith
 
--- moved up to all digits of the word, it stays in the word
+-- a number moved up until it has all digits of the word fits in the word
 pub top_fits : (width n digits : ℕ) → digits ≤ width → n < 2 ^ digits → n * 2 ^ (width - digits) < 2 ^ width
 top_fits width n digits l h =
     let k : 0 < 2 ^ (width - digits) = pow_pos (width - digits) in
@@ -40,7 +40,7 @@ top_fits width n digits l h =
     mul-le-mul_right (2 ^ (width - digits)) h' in
     omega (arith, d, w, k)
 
--- and has its highest digit at the top
+-- a number moved up until it has all digits of the word has its highest digit at the top
 pub top_full : (width n digits : ℕ) → 0 < digits → digits ≤ width → 2 ^ (digits - 1) ≤ n
     → 2 ^ (width - 1) ≤ n * 2 ^ (width - digits)
 top_full width n digits p l h =
@@ -53,7 +53,7 @@ top_full width n digits p l h =
 
 -- ---- the rest of an odd significand
 
--- an odd rest below half of an even unit
+-- an amount less than one unit from q * (2 * h) + r, for r from 1 to h - 1, is less than half past q
 beside_less : (q h r amount u w : ℕ) → 0 < r → r + 1 ≤ h → 0 < w → (q * (2 * h) + r) * u < amount + u
     → amount < (q * (2 * h) + r + 1) * u → StandsFor q LessThanHalf (amount * w) (2 * (h * w) * u)
 beside_less q h r amount u w p l k a b =
@@ -65,7 +65,7 @@ beside_less q h r amount u w p l k a b =
     let y' : 2 * amount * w < (2 * q + 1) * (2 * h) * u * w = mul-lt-mul_of_pos_right y k in
     (omega (arith, x'), omega (arith, y'))
 
--- and above it
+-- an amount less than one unit from q * (2 * h) + r, for r from h + 1 to 2 * h - 1, is more than half past q
 beside_more : (q h r amount u w : ℕ) → h + 1 ≤ r → r + 1 ≤ 2 * h → 0 < w → (q * (2 * h) + r) * u < amount + u
     → amount < (q * (2 * h) + r + 1) * u → StandsFor q MoreThanHalf (amount * w) (2 * (h * w) * u)
 beside_more q h r amount u w l t k a b =
@@ -77,7 +77,8 @@ beside_more q h r amount u w l t k a b =
     let y' : amount * w < (q + 1) * (2 * h) * u * w = mul-lt-mul_of_pos_right y k in
     (omega (arith, x'), omega (arith, y'))
 
--- the significand t times w is q * 2 * (h * w) + rest, and h is even: what it leaves is less than, or more than, half
+-- if t is odd, and t * w is q * (2 * half) + rest with half = 2 * g * w, then q represents any amount less than one
+-- unit from t, with the loss of the rest
 pub odd_rest : (q g t rest amount u w : ℕ) → 0 < w → t % 2 ≡ 1 → t * w ≡ q * (2 * (2 * g * w)) + rest
     → rest < 2 * (2 * g * w) → t * u < amount + u → amount < (t + 1) * u
     → StandsFor q (loss_at rest (2 * g * w)) (amount * w) (2 * (2 * g * w) * u)
@@ -117,7 +118,7 @@ odd_rest q g t rest amount u w k o e l a b =
 
 -- ---- a cut to the precision
 
--- how a significand with that many digits, moved up to the top of a word, is cut to the precision
+-- a significand with that many digits, moved up to the top of a word, and its cut to the precision
 pub record IsTopSplit (width precision s digits top place rest half up down : ℕ) : Type 0 where
   pub some : 0 < precision
   pub short : precision + 3 ≤ width
@@ -146,7 +147,7 @@ top_cut_full width precision s digits top place rest half up down i =
     subst (λ (x : ℕ). 2 ^ (width - 1) ≤ x) (sym i.top_is) (top_full width s digits i.any i.word i.full) in
     full_cut top width (width - precision) precision i.some (λ _. f) (omega (arith, l))
 
--- the cut in units of the significand
+-- the kept digits represent the amount in units of the significand, with the loss of the rest
 top_stands : (width precision s digits top place rest half up down amount unit : ℕ)
     → IsTopSplit width precision s digits top place rest half up down → 0 < unit
     → IsRoundedToOdd (2 ^ (precision + 1)) s amount unit
@@ -186,7 +187,7 @@ top_stands width precision s digits top place rest half up down amount unit i u 
     (odd_rest q g s rest amount unit w (pow_pos (width - digits)) o.odd v' b' o.above o.below))
     h)
 
--- what is kept stands for the amount in quanta
+-- the kept digits represent the amount in quanta, with the loss of the rest
 pub top_cut_stands : (width precision s digits top place rest half up down amount parts : ℕ)
     → IsTopSplit width precision s digits top place rest half up down → 0 < parts
     → IsRoundedToOdd (2 ^ (precision + 1)) s (amount * 2 ^ down) (parts * 2 ^ up)
@@ -220,18 +221,18 @@ top_cut_encloses width precision s digits top place rest half up down amount par
 
 -- ---- below the last place
 
--- an integer that is not positive has no positive part
+-- the positive part of an integer that is not positive is 0
 pub no_up : (z : ℤ) → z ≤ℤ pos 0 → up z ≡ 0
 no_up (pos zero) h = refl
 no_up (pos (suc n)) h = absurd (omega (arith, ints, h))
 no_up (negsuc n) h = refl
 
--- one that is not negative has no negative part
+-- the positive part of an integer that is not negative is its magnitude, and its negative part is 0
 pub no_down : (z : ℤ) → pos 0 ≤ℤ z → (up z ≡ unsigned_abs z) × (down z ≡ 0)
 no_down (pos n) h = (refl, refl)
 no_down (negsuc n) h = absurd (omega (arith, ints, h))
 
--- a number of so few digits is not rounded
+-- a number of at most precision + 1 digits is below 2 ^ (precision + 1), where rounding to odd loses nothing
 pub few_digits : (s digits precision : ℕ) → s < 2 ^ digits → digits ≤ precision + 1 → s < 2 ^ (precision + 1)
 few_digits s digits precision f l =
     let k : 2 ^ digits ≤ 2 ^ (precision + 1) = pow-le-pow_right two_pos l in
@@ -242,7 +243,8 @@ pub exact_if_short : (s precision amount unit : ℕ) → s < 2 ^ (precision + 1)
 exact_if_short s precision amount unit f (inl e) = e
 exact_if_short s precision amount unit f (inr o) = let m = o.long in absurd (omega (arith, m, f))
 
--- with a unit below the quantum, a whole number of quanta is not rounded
+-- a significand rounded to odd from an integral number of quanta is exact if it is zero, or has no more digits above
+-- the quantum than the precision
 pub exact_below : (s digits precision amount : ℕ) (unit : ℤ)
     → (s ≡ 0) ⊎ ((s < 2 ^ digits) × ((unit +ℤ pos digits) ≤ℤ pos precision))
     → IsRoundedToOdd (2 ^ (precision + 1)) s (amount * 2 ^ down unit) (1 * 2 ^ up unit)

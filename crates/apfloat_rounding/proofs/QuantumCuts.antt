@@ -1,4 +1,5 @@
--- A significand of one word that is cut where no more than a half may be left of it: at the quantum, or at a dot.
+-- The cut of a significand of one word where at most half a unit may be left of it: at the quantum, or at a binary
+-- point.
 use Rattle.std.proofs.Common.{◌≡◌, ℕ, ◌+◌, ◌-◌, ◌*◌, ◌/◌, ◌%◌, ◌^◌, ◌<◌, ◌≤◌, Bool, sym, refl, ap, ◌∙◌, subst, inl, inr, ⊎_elim, arith, lit<, lit≤}
 use Rattle.std.proofs.Math.Path.{subst₂}
 use Rattle.std.proofs.Math.Nat.{div-eq_of_lt, mul-le-mul_right, mul-lt-mul_of_pos_right, lt_of_mul-lt-mul_right, mul-pos, pow-le-pow_right, div-add-mod', mod-eq_of_lt}
@@ -27,7 +28,7 @@ use Rattle.apfloat_rounding.proofs.HalfQuanta.{half_stands}
 
 -- ---- farther places
 
--- an amount below half of the unit at one place is below half of those at higher places
+-- an amount below half of the unit at a place is represented by 0 with the same loss at each higher place
 pub stands_farther : (k places amount unit : ℕ) (loss : Loss) → k ≤ places → 2 * amount < 2 ^ k * unit
     → StandsFor 0 loss amount (2 ^ k * unit) → StandsFor 0 loss amount (2 ^ places * unit)
 stands_farther k places amount unit ExactlyZero p e h = omega (arith, h)
@@ -40,20 +41,20 @@ stands_farther k places amount unit LessThanHalf p e h =
 stands_farther k places amount unit ExactlyHalf p e h = absurd (omega (arith, h, e))
 stands_farther k places amount unit MoreThanHalf p e h = let f = h.0 in absurd (omega (arith, f, e))
 
--- as that of a short significand is
+-- if s is below half of 2 ^ k, then s units are below half of 2 ^ k units
 pub less_than_half : (s k amount unit : ℕ) → 2 * s < 2 ^ k → 0 < unit → amount ≡ s * unit
     → 2 * amount < 2 ^ k * unit
 less_than_half s k amount unit l u e =
     let a : (2 * s + 1) * unit ≤ 2 ^ k * unit = mul-le-mul_right unit (omega (arith, l)) in
     omega (arith, a, e, u)
 
--- nothing of the significand is left there, or farther
+-- nothing of a significand below 2 ^ k is left at the place k or above
 pub nothing_left : (s k places : ℕ) → s < 2 ^ k → k ≤ places → s / 2 ^ places ≡ 0
 nothing_left s k places l p =
     let a : 2 ^ k ≤ 2 ^ places = pow-le-pow_right two_pos p in
     div-eq_of_lt (omega (arith, l, a))
 
--- the word is shifted by the places, or by as many as leave nothing
+-- shifting by k in place of more places leaves the same quotient, if the significand is below half of 2 ^ k
 pub word_quotient : (s k places shift : ℕ) → 2 * s < 2 ^ k → (places ≤ k → shift ≡ places)
     → (k < places → shift ≡ k) → s / 2 ^ shift ≡ s / 2 ^ places
 word_quotient s k places shift l n f =
@@ -84,7 +85,7 @@ word_stands s k places shift amount unit loss l n f e h =
 
 -- ---- the rest at the top of a word
 
--- moved to the top of a word, a significand leaves the digits below the cut there
+-- a significand moved to the top of a word leaves the digits below the cut there
 top_rest : (s places word : ℕ) → places ≤ word
     → s * 2 ^ (word - places) % 2 ^ word ≡ s % 2 ^ places * 2 ^ (word - places)
 top_rest s places word l =
@@ -101,8 +102,8 @@ top_rest s places word l =
     let b' : r * k < 2 ^ places * k = mul-lt-mul_of_pos_right b (pow_pos (word - places)) in
     ap (λ (x : ℕ). x % 2 ^ word) v ∙ mod-mul-add q (2 ^ word) (r * k) (omega (arith, b', w))
 
--- how a significand of at most 62 digits, below the smallest normalized value, is cut at the quantum: `places` digits
--- are below it, of which `shift` are told apart
+-- the cut at the quantum of a significand of at most 62 digits, below the smallest normalized value: `places` digits
+-- are below the quantum, and the shift is at most 63
 pub record IsQuantumCut (precision s digits places shift half : ℕ) : Type 0 where
   pub some : 0 < precision
   pub short : digits ≤ 62
@@ -114,7 +115,7 @@ pub record IsQuantumCut (precision s digits places shift half : ℕ) : Type 0 wh
   pub cuts : 0 < shift
   pub half_is : half ≡ 2 ^ 63
 
--- it is below half of a word
+-- a significand of at most 62 digits is below half of 2 ^ 63
 half_word : (s digits : ℕ) → digits ≤ 62 → s < 2 ^ digits → 2 * s < 2 ^ 63
 half_word s digits l h = let a : 2 ^ digits ≤ 2 ^ 62 = pow-le-pow_right two_pos l in omega (arith, a, h)
 
@@ -138,7 +139,7 @@ top_loss s shift half p l h =
     ∙ ap (λ (x : ℕ). loss_at (s % 2 ^ shift * k) x) w
     ∙ loss_scaled (s % 2 ^ shift) (2 ^ (shift - 1)) k (pow_pos (64 - shift))
 
--- the cut of an odd significand, in its units
+-- the kept digits of an odd significand represent the amount in its units, with the loss of the rest
 odd_stands : (s shift half amount unit : ℕ) → 2 ≤ shift → shift ≤ 63 → half ≡ 2 ^ 63 → s % 2 ≡ 1
     → s * unit < amount + unit → amount < (s + 1) * unit
     → StandsFor (s / 2 ^ shift) (loss_at (s * 2 ^ (64 - shift) % 2 ^ 64) half) amount (2 ^ shift * unit)
@@ -165,7 +166,7 @@ odd_stands s shift half amount unit p l h o a b =
     (stands_cancel q (loss_at rest (2 * g * w)) amount (2 ^ shift * unit) w (pow_pos (64 - shift))
     (subst (λ (x : ℕ). StandsFor q (loss_at rest (2 * g * w)) (amount * w) x) t'' k))
 
--- the cut of an exact significand, in its units
+-- the kept digits of an exact significand represent the amount in its units, with the loss of the rest
 exact_stands : (s shift half amount unit : ℕ) → 0 < shift → shift ≤ 63 → half ≡ 2 ^ 63 → 0 < unit
     → amount ≡ s * unit
     → StandsFor (s / 2 ^ shift) (loss_at (s * 2 ^ (64 - shift) % 2 ^ 64) half) amount (2 ^ shift * unit)
@@ -178,7 +179,8 @@ exact_stands s shift half amount unit k l h u e =
     (cut_at s shift below rest ExactlyZero loss k refl refl
     (λ q a v z g. rest_stands q below rest a v z b g) amount unit u e)
 
--- what is kept, and the cut of a significand that was rounded to odd, in its units
+-- the amount of a significand that was rounded to odd is below half of 2 ^ 63 units, and the kept digits represent it,
+-- with the loss of the rest
 rounded_stands : (precision s digits places shift half amount unit : ℕ)
     → IsQuantumCut precision s digits places shift half → 0 < unit
     → IsRoundedToOdd (2 ^ (precision + 1)) s amount unit
@@ -208,7 +210,7 @@ rounded_stands precision s digits places shift half amount unit i u (inr o) =
       odd_stands s shift half amount unit c i.bound i.half_is o.odd o.above o.below,
     )
 
--- what is kept stands for the amount in quanta
+-- the kept digits represent the amount in quanta, with the loss of the rest
 pub quantum_stands : (precision s digits places shift half up down amount parts : ℕ)
     → IsQuantumCut precision s digits places shift half → 0 < parts → up ≡ 0 → down ≡ places
     → IsRoundedToOdd (2 ^ (precision + 1)) s (amount * 2 ^ down) (parts * 2 ^ up)
@@ -235,7 +237,7 @@ quantum_encloses precision s digits places shift half up down amount parts i p u
 
 -- ---- one digit below the quantum
 
--- if a rest is past half, the digit below the cut is 1, and what is below that is the rest past half
+-- if a rest is past half, the digit below the cut is 1, and the rest below that digit is twice the part past half
 past_half : (s shift half : ℕ) → 2 ≤ shift → shift ≤ 63 → half ≡ 2 ^ 63
     → half < s * 2 ^ (64 - shift) % 2 ^ 64
     → (s / 2 ^ (shift - 1) ≡ 2 * (s / 2 ^ shift) + 1)
@@ -271,7 +273,7 @@ past_half s shift half p l h m =
       omega (arith, c, i, a, d, f'),
     )
 
--- a rest past half has more than one digit
+-- if the rest is past half, at least two digits are cut off
 two_digits : (s shift half : ℕ) → 0 < shift → shift ≤ 63 → half ≡ 2 ^ 63
     → half < s * 2 ^ (64 - shift) % 2 ^ 64 → 2 ≤ shift
 two_digits s shift half p l h m =
@@ -287,7 +289,7 @@ two_digits s shift half p l h m =
     (λ (b : 2 ≤ shift). b)
     (cases_lt shift 2)
 
--- a rest past half is within reach
+-- if the rest is past half, the shift is by all places
 within_reach : (precision s digits places shift half : ℕ) → IsQuantumCut precision s digits places shift half
     → half < s * 2 ^ (64 - shift) % 2 ^ 64 → shift ≡ places
 within_reach precision s digits places shift half i m =
@@ -302,7 +304,8 @@ within_reach precision s digits places shift half i m =
     (λ (a : places ≤ 63). i.near a)
     (cases_lt 63 places)
 
--- so the digits past half stand for twice the amount, in half quanta
+-- if the rest is past half, the digits down to that half represent twice the amount in quanta, with the loss below the
+-- half
 pub quantum_finely : (precision s digits places shift half up down amount parts : ℕ)
     → IsQuantumCut precision s digits places shift half → 0 < parts → up ≡ 0 → down ≡ places
     → IsRoundedToOdd (2 ^ (precision + 1)) s (amount * 2 ^ down) (parts * 2 ^ up)
@@ -342,7 +345,7 @@ quantum_finely precision s digits places shift half up down amount parts i p u d
 
 -- ---- a significand that is folded into a word
 
--- the unit of what is left, counted from the quantum
+-- a significand that was rounded to odd in a unit k places higher is so in that unit, counted from the quantum
 pub folded_odd : (s least k up down up' down' amount parts : ℕ) → k + up + down' ≡ up' + down
     → IsRoundedToOdd least s (amount * 2 ^ down) (2 ^ k * (parts * 2 ^ up))
     → IsRoundedToOdd least s (amount * 2 ^ down') (parts * 2 ^ up')
@@ -357,7 +360,7 @@ folded_odd s least k up down up' down' amount parts e h =
     to_odd_cancel least s (amount * 2 ^ down') (parts * 2 ^ up') (2 ^ down) (pow_pos down)
     (subst₂ (λ (x : ℕ) (y : ℕ). IsRoundedToOdd least s x y) a (b ∙ b' ∙ b'') t)
 
--- the same of what is left with a loss below it
+-- a significand represents the amount, with its loss, in a unit k places higher, counted from the quantum
 pub folded_stands : (s : ℕ) (loss : Loss) (k up down up' down' amount parts : ℕ) → k + up + down' ≡ up' + down
     → StandsFor s loss (amount * 2 ^ down) (2 ^ k * (parts * 2 ^ up))
     → StandsFor s loss (amount * 2 ^ down') (parts * 2 ^ up')
@@ -372,7 +375,8 @@ folded_stands s loss k up down up' down' amount parts e h =
     stands_cancel s loss (amount * 2 ^ down') (parts * 2 ^ up') (2 ^ down) (pow_pos down)
     (subst₂ (λ (x : ℕ) (y : ℕ). StandsFor s loss x y) a (b ∙ b' ∙ b'') t)
 
--- the last two digits of a significand that was rounded to odd, as a loss
+-- a significand that was rounded to odd, without its last two digits, represents the amount with the loss of these
+-- digits
 pub quarters_stand : (least s amount unit : ℕ) → 0 < unit → IsRoundedToOdd least s amount unit
     → StandsFor (s / 4) (loss_at (s % 4) 2) amount (4 * unit)
 quarters_stand least s amount unit u (inl e) =
@@ -387,7 +391,7 @@ quarters_stand least s amount unit u (inr o) =
     subst (λ (x : ℕ). StandsFor (s / 4) (loss_at (s % 4) 2) x (4 * unit)) one
     (odd_rest (s / 4) 1 s (s % 4) amount unit 1 (lit< tt) o.odd d b o.above o.below)
 
--- which are cut off
+-- a significand of precision + 2 digits, without its last two, has at most as many digits as the precision
 pub quarters_fit : (precision s : ℕ) → s < 2 ^ (precision + 2) → s / 4 < 2 ^ precision
 quarters_fit precision s f = fits_cut s (precision + 2) 2 precision f (omega arith)
 
@@ -410,9 +414,9 @@ quarters_cut precision s up down place amount parts z f l e p h =
       k,
     )
 
--- ---- a whole number of quanta
+-- ---- an integral number of quanta
 
--- in a finer unit
+-- an integral number of quanta in a finer unit, shifted down, is that number
 pub whole_down : (s shift places amount : ℕ) → s < 2 ^ 64 → (places ≤ 63 → shift ≡ places)
     → (63 < places → shift ≡ 63) → amount * 2 ^ places ≡ s → s / 2 ^ shift ≡ amount
 whole_down s shift places amount l n f e =
@@ -436,7 +440,7 @@ whole_down s shift places amount l n f e =
     ∙ sym (whole_quotient amount (2 ^ places) 0 s (omega (arith, e)) (pow_pos places)))
     (cases_lt 63 places)
 
--- fewer than those of the smallest normalized value
+-- a significand below the smallest normalized value, shifted down to quanta, is at most that value
 pub whole_below : (precision s digits places shift : ℕ) → 0 < precision → s < 2 ^ digits → s < 2 ^ 64
     → digits + 1 ≤ precision + places → (places ≤ 63 → shift ≡ places) → (63 < places → shift ≡ 63)
     → s / 2 ^ shift ≤ 2 ^ (precision - 1)
@@ -452,7 +456,7 @@ whole_below precision s digits places shift p f l b n g =
     omega (arith, q))
     (cases_lt 63 places)
 
--- which is delivered as it is
+-- an integral number of quanta, at most the smallest normalized value, is delivered exactly
 pub whole_delivered : (format : Format) (mode : Round) (negative : Bool) (quanta amount : ℕ) (value : Datum)
     (status : ℕ) → 3 ≤ format.precision → quanta ≤ 2 ^ (format.precision - 1) → quanta ≡ amount
     → value ≡ signed_quanta format.nonfinite negative quanta → status ≡ ok_bits

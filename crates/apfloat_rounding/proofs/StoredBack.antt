@@ -15,9 +15,9 @@ use Rattle.apfloat_model.specs.formats.Log.{log2}
 use Rattle.apfloat_model.proofs.general.Logarithms.{log2_is}
 use Rattle.apfloat_rounding.specs.Stored.{quanta_at, IsNormalAt, IsStored, IsStoredBy, datum_at, datum_by, unpacked_of, unpacked_number, exponent_at}
 
--- ---- a number of all digits
+-- ---- a significand with all its digits
 
--- n * 2 ^ d is s * 2 ^ u, and s has exactly that many digits
+-- n * 2 ^ d is s * 2 ^ u, and s has exactly as many digits as the precision
 pub record IsFull (precision s n u d : ℕ) : Type 0 where
   pub some : 0 < precision
   pub fits : s < 2 ^ precision
@@ -25,17 +25,17 @@ pub record IsFull (precision s n u d : ℕ) : Type 0 where
   pub short : d ≤ precision - 1 + u
   pub same : n * 2 ^ d ≡ s * 2 ^ u
 
--- the place of the highest digit
+-- the place of the highest digit of n
 abbrev pub top_of : ℕ → ℕ → ℕ → ℕ
 top_of precision u d = precision - 1 + u - d
 
--- the least significand of all digits, moved up, is the power at that place
+-- the least significand with all its digits, moved up, is the power of two at that place
 moved : (precision u d : ℕ) → d ≤ precision - 1 + u → 2 ^ (precision - 1) * 2 ^ u ≡ 2 ^ top_of precision u d * 2 ^ d
 moved precision u d h =
     let e : top_of precision u d + d ≡ precision - 1 + u = omega arith in
     sym (pow-add 2 (precision - 1) u) ∙ ap (λ (x : ℕ). 2 ^ x) (sym e) ∙ pow-add 2 (top_of precision u d) d
 
--- the highest digit of n is at that place
+-- n is at least the power of two at the place of its highest digit
 pub full_low : (precision s n u d : ℕ) → IsFull precision s n u d → 2 ^ top_of precision u d ≤ n
 full_low precision s n u d h =
     let m = moved precision u d h.short in
@@ -44,7 +44,7 @@ full_low precision s n u d h =
     let l : 2 ^ top_of precision u d * 2 ^ d ≤ n * 2 ^ d = omega arith in
     le_of_mul-le-mul_right l (pow_pos d)
 
--- and none above it
+-- n is below twice the power of two at the place of its highest digit
 pub full_high : (precision s n u d : ℕ) → IsFull precision s n u d → n < 2 * 2 ^ top_of precision u d
 full_high precision s n u d h =
     let m = moved precision u d h.short in
@@ -56,7 +56,7 @@ full_high precision s n u d h =
     let l : n * 2 ^ d < 2 * 2 ^ top_of precision u d * 2 ^ d = omega arith in
     lt_of_mul-lt-mul_right (2 ^ d) l
 
--- so that n, moved up and cut there, is the significand
+-- n * 2 ^ (precision - 1), cut at the place of the highest digit of n, is the significand
 pub full_back : (precision s n u d : ℕ) → IsFull precision s n u d
     → n * 2 ^ (precision - 1) / 2 ^ top_of precision u d ≡ s
 full_back precision s n u d h =
@@ -77,7 +77,7 @@ some_digit : (precision m : ℕ) → m < 2 ^ precision → 0 < m → 0 < precisi
 some_digit zero m h p = absurd (omega arith)
 some_digit (suc precision) m h p = omega arith
 
--- a stored number and its quanta
+-- the significand and the quanta of a stored number satisfy IsFull
 pub normal_full : (shape : Shape) (m : ℕ) (e : ℤ) → IsNormalAt shape m e
     → IsFull shape.precision m (quanta_at shape.min_exp m e) (up (e -ℤ shape.min_exp)) (down (e -ℤ shape.min_exp))
 normal_full shape m e h =
@@ -91,14 +91,14 @@ normal_full shape m e h =
       same = h.whole;
     }
 
--- the logarithm of its quanta is the place of its highest digit
+-- the logarithm of the number of quanta is the place of the highest digit
 pub top_is : (shape : Shape) (m : ℕ) (e : ℤ) → IsNormalAt shape m e
     → log2 (quanta_at shape.min_exp m e) ≡ top_of shape.precision (up (e -ℤ shape.min_exp)) (down (e -ℤ shape.min_exp))
 top_is shape m e h =
     let f = normal_full shape m e h in
     log2_is (quanta_at shape.min_exp m e) _ (full_low _ _ _ _ _ f) (full_high _ _ _ _ _ f)
 
--- its quanta are above 0
+-- the number of quanta of a stored number is above 0
 pub quanta_some : (shape : Shape) (m : ℕ) (e : ℤ) → IsNormalAt shape m e → 0 < quanta_at shape.min_exp m e
 quanta_some shape m e h =
     let f = normal_full shape m e h in
@@ -110,7 +110,7 @@ quanta_some shape m e h =
 abbrev record_of : ℕ → ℤ → Category → Bool → Unpacked
 record_of m e category negative = record { significand = m; exponent = e; category = category; negative = negative }
 
--- its quanta give the number back
+-- a stored number is recovered from its number of quanta
 number_back : (shape : Shape) (negative : Bool) (m : ℕ) (e : ℤ) → IsNormalAt shape m e
     → unpacked_number shape negative (quanta_at shape.min_exp m e)
     ≡ record { significand = m; exponent = e; category = Normal; negative = negative }
@@ -121,12 +121,12 @@ number_back shape negative m e h =
     omega (arith, ints, h.operand.least, f.some) in
     rw (t, full_back _ _ _ _ _ f, x) refl
 
--- values of equal parts are equal
+-- values with equal parts are equal
 same_parts : (m n : ℕ) (d e : ℤ) (category other : Category) (negative : Bool) → m ≡ n → d ≡ e → category ≡ other
     → record_of m d category negative ≡ record_of n e other negative
 same_parts m n d e category other negative p q r = rw (p, q, r) refl
 
--- each category by itself
+-- a value stored with a category is recovered from its datum
 back_by : (category : Category) (shape : Shape) (x : Unpacked) → category ≡ x.category → IsStoredBy category shape x
     → unpacked_of shape (datum_by category shape x) ≡ x
 back_by Normal shape x k h =
@@ -137,6 +137,6 @@ back_by Zero shape x k h = same_parts _ _ _ _ _ _ x.negative (sym h.significand_
 back_by Infinity shape x k h = same_parts _ _ _ _ _ _ x.negative (sym h.significand_is) (sym h.exponent_is) k
 back_by NaN shape x k h = same_parts x.significand _ _ _ _ _ x.negative refl (sym h.exponent_is) k
 
--- a stored value is that of its datum
+-- a stored value is recovered from its datum
 pub comes_back : (shape : Shape) (x : Unpacked) → IsStored shape x → unpacked_of shape (datum_at shape x) ≡ x
 comes_back shape x h = back_by x.category shape x refl h

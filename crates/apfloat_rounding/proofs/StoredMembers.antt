@@ -1,4 +1,4 @@
--- What is stored is a value of the format, of the category that it says.
+-- A stored value belongs to the format, and has the category that it states.
 use Rattle.std.proofs.Common.{◌≡◌, ℕ, ◌*◌, ◌^◌, ◌<◌, ◌≤◌, ◌⊎◌, ◌-ℤ◌, inl, inr, sym, refl, ap, ◌∙◌, arith}
 use Rattle.std.proofs.lemmas.Nat.{pow_pos}
 use Rattle.std.proofs.lemmas.Bool.{ne_eqb}
@@ -16,7 +16,7 @@ use Rattle.apfloat_rounding.specs.Shapes.{format_at}
 use Rattle.apfloat_rounding.specs.Stored.{IsStored, IsStoredBy, datum_at, datum_by, quanta_at}
 use Rattle.apfloat_rounding.proofs.StoredBack.{quanta_some}
 
--- what is stored with a category stands for a datum of that category
+-- a value stored with a category represents a datum of that category
 category_by : (category : Category) (shape : Shape) (x : Unpacked) → IsStoredBy category shape x
     → category_of (datum_by category shape x) ≡ category
 category_by Normal shape x h = let p = quanta_some shape x.significand x.exponent h in
@@ -29,7 +29,7 @@ category_by NaN shape x h = refl
 pub category_is : (shape : Shape) (x : Unpacked) → IsStored shape x → category_of (datum_at shape x) ≡ x.category
 category_is shape x h = category_by x.category shape x h
 
--- a number that is stored is a point of the grid
+-- a stored number is on the grid
 on_grid_at : (precision m n u d : ℕ) → m < 2 ^ precision → n * 2 ^ d ≡ m * 2 ^ u → (u ≡ 0) ⊎ (d ≡ 0)
     → IsOnGrid precision n
 on_grid_at precision m n u d h e (inl z) =
@@ -41,7 +41,7 @@ on_grid_at precision m n u d h e (inr z) =
     let w : n * 1 ≡ m * 2 ^ u = ap (λ (x : ℕ). n * 2 ^ x) (sym z) ∙ e in
     record { significand = m; place = u; fits = h; is = omega arith }
 
--- what is stored with a category stands for a datum of the format
+-- a value stored with a category represents a member of the format
 member_by : (category : Category) (shape : Shape) (x : Unpacked) → IsStoredBy category shape x
     → IsMember (format_at shape) (datum_by category shape x)
 member_by Normal shape x h =
@@ -60,6 +60,6 @@ member_by Zero shape x h = record {
 member_by Infinity shape x h = h.kind
 member_by NaN shape x h = h.member
 
--- the datum of a stored value is one of the format
+-- the datum of a stored value is a member of the format
 pub member_is : (shape : Shape) (x : Unpacked) → IsStored shape x → IsMember (format_at shape) (datum_at shape x)
 member_is shape x h = member_by x.category shape x h

@@ -1,4 +1,4 @@
--- A number of quanta, and what is stored of it.
+-- Numbers of quanta and their stored form.
 use Rattle.std.proofs.Common.{refl, zero, suc, ◌≡◌, ℕ, ◌+◌, ◌-◌, ◌*◌, ◌/◌, ◌^◌, ◌<◌, ◌≤◌, ℤ, pos, ◌+ℤ◌, ◌-ℤ◌, sym, ap, ◌∙◌, ⊎_elim, arith}
 use Rattle.std.specs.Prelude.{neg_ℤ}
 use Rattle.std.proofs.Math.Nat.{mul-le-mul_right, mul-le-mul_left, pow-le-pow_right}
@@ -14,17 +14,17 @@ use Rattle.apfloat_rounding.specs.declared.shape.Shape.{Shape}
 use Rattle.apfloat_rounding.specs.Shapes.{format_at}
 use Rattle.apfloat_rounding.specs.Stored.{IsQuantaAt, quanta_at, IsNormalAt}
 
--- the quotient is the number of quanta, where there is one
+-- if a number is an integral number of quanta, `quanta_at` is that number
 pub quanta_is : (min_exp : ℤ) (s : ℕ) (e : ℤ) (n : ℕ) → IsQuantaAt min_exp s e n → quanta_at min_exp s e ≡ n
 unfolding quanta_at
 quanta_is min_exp s e n h = rw (← h) (shl-shr n (down (e -ℤ min_exp)))
 
--- where a number is a whole number of quanta, `quanta_at` counts them exactly
+-- if a number is an integral number of quanta, `quanta_at` counts them exactly
 pub whole_is : (min_exp : ℤ) (s : ℕ) (e : ℤ) (n : ℕ) → IsQuantaAt min_exp s e n
     → IsQuantaAt min_exp s e (quanta_at min_exp s e)
 whole_is min_exp s e n h = rw (quanta_is min_exp s e n h) h
 
--- a number within the largest value has its integer bit no higher than that one
+-- a number that is at most the largest value has its integer bit no higher than that value
 top_place : (half m place shift top span : ℕ) → half ≤ m * 2 ^ shift → top < 2 * half
     → m * 2 ^ place ≤ top * 2 ^ span → place ≤ span + shift
 top_place half m place shift top span full low within =
@@ -45,7 +45,7 @@ top_place half m place shift top span full low within =
     (λ (h : place ≤ span + shift). h)
     (cases_lt (span + shift) place)
 
--- a significand moved up to its integer bit
+-- a significand that is moved up to its integer bit, and is within the largest value, is a stored number
 pub normal_at : (shape : Shape) (m place shift : ℕ) (e : ℤ) → m * 2 ^ shift < 2 ^ shape.precision
     → 2 ^ (shape.precision - 1) ≤ m * 2 ^ shift → shift < shape.precision
     → e ≡ (shape.min_exp +ℤ pos place) -ℤ pos shift → IsQuantaAt shape.min_exp (m * 2 ^ shift) e (m * 2 ^ place)
@@ -70,7 +70,7 @@ normal_at shape m place shift e fits full short is quanta within =
       within = rw (quanta_is shape.min_exp (m * 2 ^ shift) e (m * 2 ^ place) quanta) within;
     }
 
--- a number moved up by as many digits as its precision has more
+-- a number moved up by as many digits as it is short of the precision
 pub record IsMovedUp (shape : Shape) (m digits place w : ℕ) (e : ℤ) : Type 0 where
   pub fits : m < 2 ^ shape.precision
   pub some : m ≡ 0 → ⊥
@@ -89,13 +89,13 @@ moved_quanta shape m digits place w e h =
     (down (e -ℤ shape.min_exp)) w (sym h.moved)
     h.same)
 
--- a significand that was moved up stands for the same number of quanta
+-- `quanta_at` of a significand that was moved up is m * 2 ^ place
 pub moved_up_quanta : (shape : Shape) (m digits place w : ℕ) (e : ℤ) → IsMovedUp shape m digits place w e
     → quanta_at shape.min_exp w e ≡ m * 2 ^ place
 moved_up_quanta shape m digits place w e h = quanta_is shape.min_exp w e (m * 2 ^ place)
     (moved_quanta shape m digits place w e h)
 
--- and is stored as the format wants it
+-- a significand that was moved up is a stored number
 pub moved_up_normal : (shape : Shape) (m digits place w : ℕ) (e : ℤ)
     → IsMovedUp shape m digits place w e
     → IsNormalAt shape w e
@@ -110,18 +110,18 @@ moved_up_normal shape m digits place w e h =
     rw h.moved at (moved_quanta shape m digits place w e h) in
     rw h.moved (normal_at shape m place (shape.precision - digits) e f g (omega arith) h.exponent q h.within)
 
--- ---- numbers below the least normal exponent, and from it on
+-- ---- numbers below the least normal exponent, and from it up
 
--- for the whole number -d, `down` is d and `up` is 0
+-- for the integer -d, `down` is d and `up` is 0
 below_zero : (z : ℤ) (d : ℕ) → neg_ℤ (pos d) ≡ z → (down z ≡ d) × (up z ≡ 0)
 below_zero z zero e = rw (← e) (refl, refl)
 below_zero z (suc d) e = rw (← e) (refl, refl)
 
--- for the whole number j, which is not below 0, `up` is j and `down` is 0
+-- for the integer j, which is not negative, `up` is j and `down` is 0
 pub above_zero : (z : ℤ) (j : ℕ) → pos j ≡ z → (up z ≡ j) × (down z ≡ 0)
 above_zero z j e = rw (← e) (refl, refl)
 
--- below the least exponent the count of quanta is the significand cut
+-- below the least exponent, the number of quanta is the significand, cut
 pub quanta_low : (shape : Shape) (m : ℕ) (e : ℤ) (d : ℕ) → pos d ≡ shape.min_exp -ℤ e
     → quanta_at shape.min_exp m e ≡ m / 2 ^ d
 unfolding quanta_at
@@ -130,7 +130,7 @@ quanta_low shape m e d p =
     let b : m * 1 ≡ m = omega arith in
     rw (a.0, a.1, b) refl
 
--- and is below that of numbers with all digits
+-- below the least exponent, the number of quanta is below that of numbers with all digits
 pub quanta_low_below : (shape : Shape) (m : ℕ) (e : ℤ) (d : ℕ) → IsNormalAt shape m e → 3 ≤ shape.precision
     → pos d ≡ shape.min_exp -ℤ e → 1 ≤ d → quanta_at shape.min_exp m e < 2 ^ (shape.precision - 1)
 quanta_low_below shape m e d n p k h =
@@ -145,7 +145,7 @@ quanta_low_below shape m e d n p k h =
     let f = n.operand.fits in
     omega arith
 
--- from the least exponent up it is the significand moved up
+-- from the least exponent up, the number of quanta is the significand, moved up
 pub quanta_high : (shape : Shape) (m : ℕ) (e : ℤ) (j : ℕ) → pos j ≡ e -ℤ shape.min_exp
     → quanta_at shape.min_exp m e ≡ m * 2 ^ j
 unfolding quanta_at

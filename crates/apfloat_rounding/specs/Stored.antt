@@ -24,7 +24,7 @@ pub record IsOperandAt (precision : ℕ) (min_exp max_exp : ℤ) (significand : 
   pub least : ((min_exp +ℤ pos 1) -ℤ pos precision) ≤ℤ exponent
   pub greatest : exponent ≤ℤ max_exp
 
--- the count of quanta that it is
+-- the number of quanta that it represents
 abbrev pub IsQuantaAt : ℤ → ℕ → ℤ → ℕ → Type 0
 IsQuantaAt min_exp significand exponent quanta =
     quanta * 2 ^ down (exponent -ℤ min_exp) ≡ significand * 2 ^ up (exponent -ℤ min_exp)
@@ -32,13 +32,13 @@ IsQuantaAt min_exp significand exponent quanta =
 unfoldable pub quanta_at : ℤ → ℕ → ℤ → ℕ
 quanta_at min_exp significand exponent = significand * 2 ^ up (exponent -ℤ min_exp) / 2 ^ down (exponent -ℤ min_exp)
 
--- it is a whole number of quanta, and is at most the largest value
+-- a number that is an integral number of quanta, at most the largest value
 pub record IsNormalAt (s : Shape) (significand : ℕ) (exponent : ℤ) : Type 0 where
   pub operand : IsOperandAt s.precision s.min_exp s.max_exp significand exponent
   pub whole : IsQuantaAt s.min_exp significand exponent (quanta_at s.min_exp significand exponent)
   pub within : quanta_at s.min_exp significand exponent ≤ largest (format_at s)
 
--- the same for an unpacked value
+-- the same statements, of an unpacked value
 
 abbrev pub IsOperand : Shape → Unpacked → Type 0
 IsOperand s x = IsOperandAt s.precision s.min_exp s.max_exp x.significand x.exponent
@@ -89,7 +89,7 @@ datum_by Zero s x = finite x.negative 0
 datum_by Infinity s x = infinite x.negative
 datum_by NaN s x = nan x.negative x.significand
 
--- the datum that it represents
+-- the datum that an unpacked value represents
 abbrev pub datum_at : Shape → Unpacked → Datum
 datum_at s x = datum_by x.category s x
 
@@ -99,7 +99,7 @@ GivesAt s Says answer = Says (datum_at s answer.value) (bits_of answer.status)
 
 -- ---- the way back
 
--- the exponent of a number whose count of quanta has its highest digit at that place
+-- the exponent of a number that, counted in quanta, has its highest digit at that place
 abbrev pub exponent_at : Shape → ℕ → ℤ
 exponent_at s place = (s.min_exp +ℤ pos place) -ℤ pos (s.precision - 1)
 

@@ -1,4 +1,4 @@
-//! Encoding and decoding: from the top, the sign, the biased exponent and the trailing significand.
+//! Encoding and decoding. From the top, an encoding has the sign, the biased exponent and the trailing significand.
 
 ghost use Rattle.std.specs.Prelude.{◌≡◌, ℕ, ◌+◌, ◌-◌, ◌*◌, ◌^◌, ◌<◌, ◌≤◌, true, false, if◌then◌else◌};
 ghost use Rattle.apfloat_model.specs.formats.Format.{largest, smallest_normalized};
@@ -31,7 +31,7 @@ pub struct Fields {
     pub negative: bool,
     /// The exponent minus the least one, plus 1; 0 for zeros and denormal values.
     pub biased_exponent: u128,
-    /// The digits of the significand that are written.
+    /// The digits of the significand that the encoding contains.
     pub trailing: u128,
 }
 
@@ -48,7 +48,7 @@ fn trailing_width(shape: Shape) -> u32
     }
 }
 
-/// `width` ones.
+/// The number of `width` binary digits that are all ones.
 #[inline(always)]
 fn ones(width: u32) -> u128
     requires { width < 128 }
@@ -71,7 +71,7 @@ fn split(shape: Shape, widths: Widths, bits: u128) -> Fields
     }
 }
 
-/// The bit of a sign.
+/// The sign bit: 1 for minus.
 #[inline(always)]
 fn sign_bit(negative: bool) -> u128
     ensures { result ≡ (if negative then 1 else 0) }
@@ -79,7 +79,7 @@ fn sign_bit(negative: bool) -> u128
     if negative { 1 } else { 0 }
 }
 
-/// The bit pattern of fields.
+/// The bit pattern with those fields.
 #[inline(always)]
 fn join(shape: Shape, widths: Widths, fields: Fields) -> u128
     requires interchange { IsInterchange (format_at shape) (layout_at widths) }
@@ -154,7 +154,7 @@ fn implied_value(shape: Shape, widths: Widths, fields: Fields) -> Unpacked
     }
 }
 
-/// A number with an explicit integer bit. If that bit is 0 above the least exponent, it is not a number.
+/// A number with an explicit integer bit. If that bit is 0 above the least exponent, the result is a NaN.
 #[inline(always)]
 fn written_number(shape: Shape, widths: Widths, fields: Fields) -> Unpacked
     requires interchange { IsInterchange (format_at shape) (layout_at widths) }

@@ -1,4 +1,4 @@
-//! Unpacked values of one format: what is stored of them, the one rounding kernel, and their bits.
+//! Unpacked values of one format: their stored form, the one rounding kernel, and their bits.
 //!
 //! Nothing here is generic. The functions take a `Shape`, which holds the constants of a format that rounding reads,
 //! and `Unpacked` values; `apfloat_ieee` supplies the constants of a type.

@@ -114,7 +114,7 @@ pub fn quiet_significand(shape: Shape, payload: u128) -> u128
     (nan_base(shape) | quiet_bits(shape)) | (payload & payload_mask(shape))
 }
 
-/// The significand, with a payload if it had none: without one it would be the encoding of an infinity.
+/// The significand, given a payload if it had none: without one, the encoding would be that of an infinity.
 #[inline(always)]
 fn with_payload(shape: Shape, significand: u128) -> u128
     ensures { result ≡ with_payload (format_at shape) significand }
@@ -136,7 +136,7 @@ pub fn signaling_significand(shape: Shape, payload: u128) -> u128
     with_payload(shape, quiet - (quiet & quiet_bit(shape)))
 }
 
-/// The positive quiet NaN with those bits of a payload that the format has (6.2.1).
+/// The positive quiet NaN with the bits of that payload that fit in the format (6.2.1).
 #[inline(always)]
 pub fn quiet_nan(shape: Shape, payload: u128) -> Unpacked
     ensures stored { IsStored shape result }
@@ -145,8 +145,8 @@ pub fn quiet_nan(shape: Shape, payload: u128) -> Unpacked
     nan_of(shape, false, quiet_significand(shape, payload))
 }
 
-/// The positive signaling NaN with those bits of a payload that the format has, and never without a payload (6.2.1). If
-/// a format has only one NaN, it is that one.
+/// The positive signaling NaN with the bits of that payload that fit in the format, but never without a payload
+/// (6.2.1). In a format with only one NaN, it is that one.
 #[inline(always)]
 pub fn signaling_nan(shape: Shape, payload: u128) -> Unpacked
     ensures stored { IsStored shape result }

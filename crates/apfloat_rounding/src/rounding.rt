@@ -6,15 +6,16 @@
 //!
 //! The idea: the place of the lowest kept digit is known before anything is cut. It follows from the length of the
 //! significand, its exponent and the format, and is never below the quantum, so denormals are not a special case. One
-//! shift to that place leaves the kept digits and a rest, a `Cut`. How the rest compares with nothing and with half of
-//! the lowest kept digit is all that a mode needs: a `Loss` says no more, and nor does a number that was rounded to odd
-//! with two digits more. The mode adds one to the kept digits, or does not; a carry to the next power of two moves the
-//! place up by one. The point so picked decides the rest: overflow if it is past the largest value, otherwise the
-//! value, exact or inexact, tiny or not. Only one question needs a digit more: whether the magnitude would be below the
-//! smallest normalized value if exponents had no lower end.
+//! shift to that place leaves the kept digits and a rest, a `Cut`. A mode needs to know only how the rest compares with
+//! zero and with half of the lowest kept digit. That is what a `Loss` says, and what the last two digits say of a
+//! number that was rounded to odd with two more digits. The mode adds one to the kept digits, or does not; a carry to
+//! the next power of two moves the place up by one. The grid point that is picked in this way determines everything
+//! else: overflow if it is past the largest value, otherwise the value, exact or inexact, tiny or not. Only one
+//! question needs one more digit: whether the magnitude would be below the smallest normalized value if exponents had
+//! no lower end.
 //!
-//! Each `deliver` makes a cut of what its caller has, in a word, in a `u128`, or with a `Loss`, and `round` rounds it.
-//! docs/ROUNDING.md has the picture.
+//! Each `deliver` makes a cut of the caller's number, which is in a word, in a `u128`, or has a `Loss`, and `round`
+//! rounds it. docs/ROUNDING.md has the picture.
 
 ghost use Rattle.std.specs.Prelude.{◌≡◌, ℕ, ◌+◌, ◌-◌, ◌*◌, ◌/◌, ◌%◌, ◌^◌, ◌<◌, ◌≤◌, ◌⊎◌, eqb, ltb, pos, neg_ℤ, ◌≤ℤ◌, ◌+ℤ◌, if◌then◌else◌, true, false};
 ghost use Rattle.apfloat_model.specs.rounding.Bounds.{IsWithin, exponent_bound, unit_bound, place_bound};
@@ -66,12 +67,12 @@ impl Cut {
     }
 }
 
-/// What is known of a cut before it is rounded, so that the compiler leaves out what cannot happen.
+/// What is known about a cut before it is rounded, so that the compiler omits the cases that cannot occur.
 #[derive(Clone, Copy, Debug)]
 enum Known {
     /// The magnitude is at least the smallest normalized value, so that all digits of the format are kept.
     Normal,
-    /// Nothing.
+    /// Nothing is known.
     Nothing,
 }
 
@@ -125,8 +126,8 @@ fn steps_down(unit: ExpInt, place: u32) -> u32
     (unit - place as ExpInt) as u32
 }
 
-/// A loss in quarters of the lowest kept digit, rounded to odd: the last two digits of a number rounded to odd are a
-/// loss.
+/// A loss in quarters of the lowest kept digit, rounded to odd, as in the last two digits of a number that was rounded
+/// to odd.
 #[inline(always)]
 fn quarters(loss: Loss) -> u64
     ensures few { result < 4 }
@@ -211,7 +212,8 @@ fn is_outward(mode: Round, negative: bool) -> bool
     ((mode == Round::TowardPositive) & !negative) | ((mode == Round::TowardNegative) & negative)
 }
 
-/// Whether the mode moves a significand up for the rest below it, in units of which its last digit is `2 * half`.
+/// Whether the mode moves a significand up because of the rest below it, in units of which its last digit is
+/// `2 * half`.
 #[inline(always)]
 fn moves_past(mode: Round, negative: bool, rest: u64, half: u64, odd: bool) -> bool
     requires { 0 < half }
@@ -226,7 +228,7 @@ fn moves_past(mode: Round, negative: bool, rest: u64, half: u64, odd: bool) -> b
     is_outward(mode, negative) & (rest != 0)
 }
 
-/// Whether the mode moves a significand up for what was lost.
+/// Whether the mode moves a significand up because of the loss below it.
 #[inline(always)]
 pub fn moves_up(mode: Round, negative: bool, loss: Loss, odd: bool) -> bool
     ensures { result ≡ rounds_up mode negative loss odd }
@@ -250,7 +252,7 @@ fn pick(precision: u32, cut: Cut, mode: Round, negative: bool) -> u128
     next_if(precision, cut.significand, moved)
 }
 
-/// The next word, if it moved, or the word itself.
+/// The next word if `moved`, otherwise the word itself.
 #[inline(always)]
 fn next_word_if(word: u64, moved: bool) -> u64
     requires { word < 2 ^ 63 }
@@ -270,8 +272,8 @@ fn as_word(precision: u32, significand: u128) -> u64
     significand as u64
 }
 
-/// The next significand, if it moved, or the significand itself. In a format of at most 63 digits it is made anew from
-/// one word, so that the compiler computes with one word of it.
+/// The next significand if `moved`, otherwise the significand itself. In a format of at most 63 digits it is rebuilt
+/// from one word, so that the compiler computes with one word only.
 #[inline(always)]
 fn next_if(precision: u32, significand: u128, moved: bool) -> u128
     requires precise { precision ≤ 125 }
@@ -347,8 +349,8 @@ fn leads_past(mode: Round, negative: bool) -> bool
 }
 
 /// Whether the magnitude, rounded with an unbounded exponent, is below the smallest normalized value. If the kept
-/// digits are all ones just below it, and more than half a quantum was cut off, what is left of the rest below that
-/// half decides, against what is missing to the whole. Kept out of line: built-in formats never ask.
+/// digits are all ones, just below it, and more than half a quantum was cut off, the part of the rest past that half
+/// decides, compared with the distance to a whole quantum. Kept out of line: built-in formats never call it.
 #[cold]
 #[inline(never)]
 fn rounds_below_normal(shape: Shape, cut: Cut, mode: Round, negative: bool) -> bool
@@ -368,7 +370,7 @@ fn rounds_below_normal(shape: Shape, cut: Cut, mode: Round, negative: bool) -> b
     !moves_past(mode, negative, past_half, cut.half - past_half, true)
 }
 
-/// Whether an inexact result counts as tiny: by its significand before or after rounding, or rounded with an unbounded
+/// Whether an inexact result counts as tiny: judged before rounding, after it, or after rounding with an unbounded
 /// exponent.
 #[inline(always)]
 fn is_tiny(shape: Shape, known: Known, cut: Cut, after: u128, mode: Round, negative: bool) -> bool
@@ -431,8 +433,8 @@ fn status_within(rest: u64, tiny: bool) -> Status
     }
 }
 
-/// Whether a significand that was picked is within the format as it is: below the greatest exponent, where no carry
-/// moves the place.
+/// Whether a significand that was picked is within the format without further adjustment: its place is below the
+/// greatest one, and there is no carry, which would move the place.
 #[inline(always)]
 fn stays_within(shape: Shape, significand: u128, place: u32) -> bool
     requires fits { significand ≤ 2 ^ shape.precision }
@@ -447,7 +449,7 @@ fn stays_within(shape: Shape, significand: u128, place: u32) -> bool
     significand != power_of_two(shape.precision)
 }
 
-/// `significand * 2^place` quanta with that sign, by what is known of them.
+/// `significand * 2^place` quanta with that sign, built according to what is known about them.
 #[inline(always)]
 fn value_of(shape: Shape, known: Known, negative: bool, significand: u128, place: u32) -> Unpacked
     requires fits { significand < 2 ^ shape.precision }
@@ -464,7 +466,7 @@ fn value_of(shape: Shape, known: Known, negative: bool, significand: u128, place
     }
 }
 
-/// What a mode picks of a cut, and the status of that where it is within the format.
+/// The significand that a mode picks for a cut, and its status if the result is within the format.
 #[derive(Clone, Copy, Debug)]
 struct Picked {
     significand: u128,
@@ -568,7 +570,7 @@ fn unit_place(shape: Shape, exponent: ExpInt) -> ExpInt
 ///
 /// If something was lost below, the unit must be fine enough to divide the spacing of the format there: it is at most
 /// the quantum, or the significand has all digits of the format. Where tininess is judged with an unbounded exponent,
-/// it is at most half a quantum in place of the quantum.
+/// the bound is half a quantum instead of the quantum.
 #[inline(always)]
 pub fn deliver(
     shape: Shape,
@@ -591,7 +593,7 @@ pub fn deliver(
     round(shape, Known::Nothing, cut, mode, negative)
 }
 
-/// What `deliver` returns. Kept out of line, for results that are rare.
+/// The result of `deliver`. Kept out of line, for results that are rare.
 #[cold]
 #[inline(never)]
 fn deliver_any(
@@ -613,9 +615,9 @@ fn deliver_any(
     deliver(shape, significand, exponent, loss, mode, negative)
 }
 
-// Most results have all digits of their format. If the significand's digits have been counted too, as those of a number
-// to be converted, the cut is at the same digit for each of them, and no case has to be told from another: the rest
-// that is cut off decides by comparisons alone, without the four cases of a `Loss`.
+// Most results have all digits of their format. If the number of digits of the significand is known as well, as for a
+// number that is converted, the cut is always at the same digit, and no branch is needed: comparisons of the rest that
+// is cut off decide, without the four cases of a `Loss`.
 
 /// The place of the lowest kept digit, if all digits of the precision are kept.
 #[inline(always)]
@@ -631,8 +633,8 @@ fn full_place(precision: u32, digits: u32, unit: ExpInt) -> u32
 }
 
 /// The digits that are kept, and the rest that is cut off below them, in units of which the lowest kept digit is
-/// `2 * half`. In these units a rest is one word: of more than 64 digits the lowest 64 matter only by whether they are
-/// all zero.
+/// `2 * half`. In these units a rest fits in one word: if it has more than 64 digits, the lowest 64 matter only by
+/// whether they are all zero.
 #[derive(Clone, Copy, Debug)]
 struct Pieces {
     kept: u128,
@@ -694,7 +696,7 @@ fn split_low(significand: u128, places: u32) -> Pieces
     }
 }
 
-/// 1, or 0 for 0.
+/// 0 for 0, and 1 for every other number.
 #[inline(always)]
 fn one_if_some(number: u128) -> u64
     ensures none { number ≡ 0 → result ≡ 0 }
@@ -771,8 +773,8 @@ fn cut_u128_digits(precision: u32, significand: u128, digits: u32, unit: ExpInt)
     }
 }
 
-/// Delivers `significand * 2^exponent`, rounded once, where the significand has exactly `digits` digits. It is
-/// `deliver` with nothing lost, and faster where the count of digits is a constant.
+/// Delivers `significand * 2^exponent`, rounded once. The significand has exactly `digits` digits. The result is that
+/// of `deliver` with nothing lost; this is faster if the number of digits is a constant.
 #[inline(always)]
 pub fn deliver_u128_digits(
     shape: Shape,

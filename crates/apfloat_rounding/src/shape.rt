@@ -48,7 +48,7 @@ impl Shape {
         }
     }
 
-    /// The quantum is 2 to the power of minus this.
+    /// The negated exponent of the quantum, which is a power of two.
     #[inline(always)]
     pub fn scale(self) -> u32
         ensures value { result ≡ (format_at self).scale }

@@ -18,11 +18,11 @@ use apfloat_words::digits;
 /// An unpacked value.
 ///
 /// A nonzero number is `significand * 2^(exponent - (precision - 1))`, and its significand has the integer bit set,
-/// even for a denormal value: its digits below the quantum are then zero. A NaN has its significand as it is written.
+/// even for a denormal value: its digits below the quantum are then zero. The significand of a NaN is as it is encoded.
 /// Fields that a kind of value does not need are zero.
 #[derive(Clone, Copy, Debug)]
 pub struct Unpacked {
-    /// The digits of a number, or those of a NaN as they are written.
+    /// The digits of a number, or those of a NaN as they are encoded.
     pub significand: u128,
     /// The exponent of a number's integer bit.
     pub exponent: ExpInt,
@@ -67,8 +67,8 @@ pub fn remade(answer: StatusAnd<Unpacked>) -> StatusAnd<Unpacked>
     }
 }
 
-/// The significand of a value. In a format of at most 64 digits it is made anew from one word, so that the compiler
-/// computes with one word of it.
+/// The significand of a value. In a format of at most 64 digits it is rebuilt from one word, so that the compiler
+/// computes with one word only.
 #[inline(always)]
 pub fn significand_of(shape: Shape, x: Unpacked) -> u128
     requires { x.significand < 2 ^ shape.precision }
@@ -118,7 +118,7 @@ pub fn nan_of(shape: Shape, negative: bool, significand: u128) -> Unpacked
     }
 }
 
-/// The infinity of that sign, or, in a format without infinities, the NaN in its place.
+/// The infinity of that sign, or, in a format without infinities, the NaN that replaces it.
 #[inline(always)]
 pub fn infinity_of(shape: Shape, negative: bool) -> Unpacked
     ensures stored { IsStored shape result }
@@ -208,8 +208,8 @@ pub fn from_rounded_quanta(shape: Shape, negative: bool, significand: u128, plac
     from_quanta(shape, negative, significand, place)
 }
 
-/// That many quanta with that sign, at most the smallest normalized value. The number is made before it is known not to
-/// be zero, so that no jump has to tell.
+/// That many quanta with that sign, at most the smallest normalized value. The number is computed before it is tested
+/// for zero, so that the test needs no branch.
 #[inline(always)]
 pub fn from_few_quanta(shape: Shape, negative: bool, quanta: u64) -> Unpacked
     requires short { shape.precision ≤ 62 }

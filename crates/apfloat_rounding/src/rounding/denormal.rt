@@ -1,10 +1,10 @@
 //! The rounding of a magnitude below the smallest normalized value.
 //!
-//! The lowest kept digit is the quantum, so how many digits are cut off differs from one significand to the next. In a
-//! word, into which a longer significand is rounded to odd, two shifts by that count take the digits apart: one down
-//! leaves what is kept, and one up leaves the rest at the top of the word, where half a quantum is always the highest
-//! digit. No case of a count, of a `Loss` or of a zero is told from another by a jump, which the processor could not
-//! predict.
+//! The lowest kept digit is the quantum, so the number of digits that are cut off varies from one significand to the
+//! next. A longer significand is first rounded to odd into a word. There, two shifts by that number separate the
+//! digits: one down leaves the digits that are kept, and one up leaves the rest at the top of the word, where half a
+//! quantum is always the highest digit. There is no branch on a number of digits, on a `Loss` or on a zero, which the
+//! processor could not predict.
 
 ghost use Rattle.std.specs.Prelude.{◌≡◌, ◌⊎◌, ℕ, ◌+◌, ◌-◌, ◌*◌, ◌^◌, ◌<◌, ◌≤◌, pos, ◌+ℤ◌, ◌≤ℤ◌};
 ghost use Rattle.apfloat_model.specs.rounding.Bounds.{IsWithin, unit_bound};
@@ -17,7 +17,8 @@ use super::{Cut, word_power};
 use apfloat_model::{ExpInt, Loss};
 use apfloat_words::shift_right;
 
-/// How far the quantum is above the unit; 63 places leave nothing of 62 digits, as more places do.
+/// How many places the quantum is above the unit, but at most 63: a shift by 63 places, like any longer one, leaves
+/// nothing of 62 digits.
 #[inline(always)]
 fn places_below(unit: ExpInt) -> u32
     requires { (unit +ℤ pos 1) ≤ℤ pos 0 }
@@ -80,7 +81,7 @@ pub(super) fn in_word(significand: u128, digits: u32, unit: ExpInt) -> Word
     }
 }
 
-/// `significand * 2^unit` quanta below the smallest normalized value, if that is a whole number.
+/// `significand * 2^unit` quanta below the smallest normalized value, if that is an integral number of quanta.
 #[inline(always)]
 pub(super) fn whole_quanta(precision: u32, significand: u64, digits: u32, unit: ExpInt) -> u64
     requires some { 0 < precision }

@@ -1,6 +1,6 @@
-//! The rounding of a significand in a `u128` that was rounded to odd before.
+//! The rounding of a significand in a `u128` that is already rounded to odd.
 //!
-//! The significand is moved up to the top of the `u128`, so that the cut is at the same digit for each of them.
+//! The significand is moved up to the top of the `u128`, so that the cut is always at the same digit.
 
 ghost use Rattle.std.specs.Prelude.{◌≡◌, ℕ, ◌+◌, ◌-◌, ◌*◌, ◌^◌, ◌<◌, ◌≤◌, pos, ◌+ℤ◌, ◌≤ℤ◌};
 ghost use Rattle.apfloat_model.specs.rounding.Bounds.{IsWithin, exponent_bound, unit_bound, place_bound};
@@ -73,7 +73,7 @@ fn loss_of(rest: u64, half: u64) -> Loss
     }
 }
 
-/// Delivers `significand * 2^exponent`, which was rounded to odd, where it is below the smallest normalized value, or
+/// Delivers `significand * 2^exponent`, which was rounded to odd, if it is below the smallest normalized value, or
 /// exact: digits below a quarter of the quantum matter only by whether they are all zero. Kept out of line, for results
 /// that are rare.
 #[cold]
@@ -115,8 +115,8 @@ fn deliver_u128_below(
     )
 }
 
-/// Delivers `significand * 2^exponent`, which was rounded to odd, rounded once: where it is odd it may be less than one
-/// unit from the exact result.
+/// Delivers `significand * 2^exponent`, which was rounded to odd, rounded once: an odd significand may differ from the
+/// exact result by less than one unit.
 #[inline(always)]
 pub fn deliver_u128(
     shape: Shape,

@@ -1,8 +1,8 @@
-//! The rounding of a significand in one word that was rounded to odd before.
+//! The rounding of a significand in one word that is already rounded to odd.
 //!
-//! It has at least two digits more than the format keeps, or it is exact. So the rest that is cut off is compared with
-//! none and with half as the exact rest would be, since these are even numbers of its units. The significand is moved
-//! up to the top of a word, so that the cut is at the same digit for each of them.
+//! It has at least two digits more than the format keeps, or it is exact. So the rest that is cut off compares with
+//! zero and with half as the exact rest does, since both are even numbers of its units. The significand is moved up to
+//! the top of a word, so that the cut is always at the same digit.
 
 ghost use Rattle.std.specs.Prelude.{◌≡◌, ℕ, ◌+◌, ◌-◌, ◌*◌, ◌%◌, ◌^◌, ◌<◌, ◌≤◌, pos, ◌+ℤ◌, ◌≤ℤ◌};
 ghost use Rattle.apfloat_model.specs.rounding.Bounds.{IsWithin, exponent_bound, unit_bound, place_bound};
@@ -61,8 +61,8 @@ fn cut_word(precision: u32, significand: u64, digits: u32, unit: ExpInt) -> Cut
     }
 }
 
-/// Delivers `significand * 2^exponent`, which was rounded to odd, rounded once: where it is odd it may be less than one
-/// unit from the exact result.
+/// Delivers `significand * 2^exponent`, which was rounded to odd, rounded once: an odd significand may differ from the
+/// exact result by less than one unit.
 #[inline(always)]
 pub fn deliver_word(
     shape: Shape,
@@ -89,7 +89,7 @@ pub fn deliver_word(
     Status::OK.and(from_few_quanta(shape, negative, quanta))
 }
 
-/// A significand that is rounded to odd for what was lost below it.
+/// The significand, rounded to odd for what was lost below it.
 #[inline(always)]
 pub(super) fn odd_for(significand: u64, loss: Loss) -> u64
     requires room { significand < 2 ^ 63 }
@@ -105,7 +105,7 @@ pub(super) fn odd_for(significand: u64, loss: Loss) -> u64
     }
 }
 
-/// Cuts off the last two digits of a significand that was rounded to odd, two more than the precision.
+/// Cuts off the last two digits of a significand that was rounded to odd with two digits more than the precision.
 #[inline(always)]
 fn cut_quarters(precision: u32, significand: u64, unit: ExpInt) -> Cut
     requires some { 0 < precision }

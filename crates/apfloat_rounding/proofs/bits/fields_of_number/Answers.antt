@@ -74,7 +74,7 @@ overflow_add-result c = omega arith
 pub overflow_sub-result : goal.overflow_sub-result
 overflow_sub-result c = omega (arith, c.requires.normal.operand.full)
 
--- the fields of a number with its integer bit, by what is written of its significand
+-- the fields of a number with its integer bit, from the digits of the significand that are encoded
 high : (shape : Shape) (widths : Widths) (negative : Bool) (m j t : ℕ) (e : ℤ)
     → IsInterchange (format_at shape) (layout_at widths) → IsNormalAt shape m e → pos j ≡ e -ℤ shape.min_exp
     → m - cond shape.explicit_integer_bit 0 (smallest_normalized (format_at shape)) ≡ t

@@ -13,7 +13,7 @@ use Rattle.apfloat_rounding.proofs.CutRests.{picked_if_moved, delivered_within}
 use Rattle.apfloat_rounding.proofs.rounding.round.Goals.{After-pick_with_status-picked}
 use Rattle.apfloat_rounding.proofs.rounding.round.Goals as goal
 
--- what was picked has all digits above the lowest place
+-- the picked significand has all digits above the lowest place
 picked_full : (c : After-pick_with_status-picked)
     → (c.args.cut.place ≡ 0) ⊎ (2 ^ (c.args.shape.precision - 1) ≤ c.pick_with_status-picked.result.significand)
 picked_full c =

@@ -11,7 +11,7 @@ use Rattle.apfloat_rounding.proofs.StoredNumbers.{IsMovedUp, moved_up_quanta, mo
 use Rattle.apfloat_rounding.proofs.unpacked.from_few_quanta.Goals.{After-digits, Else-quanta-eq0}
 use Rattle.apfloat_rounding.proofs.unpacked.from_few_quanta.Goals as goal
 
--- they have at most the digits of the precision
+-- few quanta have at most as many digits as the precision
 fits : (state : After-digits) → state.args.quanta < 2 ^ state.args.shape.precision
 fits c =
     let t = twice_half c.args.shape.precision (omega (arith, c.args.shape.parameters.precision_low)) in

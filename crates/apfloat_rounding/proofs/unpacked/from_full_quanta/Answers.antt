@@ -6,7 +6,7 @@ use Rattle.apfloat_model.proofs.rounding.Deliveries.{signed_some}
 use Rattle.apfloat_rounding.proofs.StoredNumbers.{IsMovedUp, moved_up_quanta, moved_up_normal}
 use Rattle.apfloat_rounding.proofs.unpacked.from_full_quanta.Goals as goal
 
--- a significand with all its digits is moved up by none
+-- a significand with all its digits is not moved up
 full : (state : goal.After-exponent_at)
     → IsMovedUp state.args.shape state.args.significand state.args.shape.precision state.args.place
     state.args.significand (to_z w32 (of_z w32 state.exponent_at.result))

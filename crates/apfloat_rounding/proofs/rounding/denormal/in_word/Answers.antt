@@ -9,7 +9,7 @@ use Rattle.apfloat_rounding.proofs.QuantumCuts.{folded_odd}
 use Rattle.apfloat_rounding.proofs.rounding.denormal.in_word.Goals.{After-shift_right-kept}
 use Rattle.apfloat_rounding.proofs.rounding.denormal.in_word.Goals as goal
 
--- 62 digits are left
+-- at most 62 digits are kept
 kept_fits : (c : After-shift_right-kept) → c.shift_right-kept.result.significand < 2 ^ 62
 kept_fits c =
     let f = c.if-digits-le62.false in

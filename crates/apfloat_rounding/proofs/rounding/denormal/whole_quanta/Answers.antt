@@ -38,7 +38,7 @@ returns-then-unit-lt0-clause-quanta c = λ amount h.
     whole_down s c.places_below.result (down unit) amount c.ranges.significand.fits
     (rw e at c.places_below.ensures.near) (rw e at c.places_below.ensures.far) (omega (arith, h, k))
 
--- the significand moved up, below the smallest normalized value
+-- the significand moved up is below the smallest normalized value
 below : (c : Else-significand-eq0)
     → c.args.significand * 2 ^ unsigned_abs c.args.unit < 2 ^ (c.args.precision - 1)
 below c =
