@@ -1,5 +1,6 @@
 -- Kept digits that are all ones just below the smallest normalized number, and the loss below half a quantum.
-use Rattle.std.proofs.Common.{◌≡◌, ℕ, ◌+◌, ◌-◌, ◌*◌, ◌/◌, ◌%◌, ◌^◌, ◌<◌, ◌≤◌, Bool, true, false, not, ltb, sym, refl, ap, ◌∙◌, subst, inr, ⊎_elim, arith, lit<, ℤ, pos, ◌+ℤ◌}
+use Rattle.std.proofs.Common.{◌≡◌, ℕ, ◌+◌, ◌-◌, ◌*◌, ◌/◌, ◌%◌, ◌^◌, ◌<◌, ◌≤◌, Bool, true, false, not, ltb, sym, refl}
+use Rattle.std.proofs.Common.{ap, ◌∙◌, subst, inr, ⊎_elim, arith, lit<, ℤ, pos, ◌+ℤ◌}
 use Rattle.std.proofs.Math.Path.{subst₂}
 use Rattle.std.proofs.lemmas.Nat.{pow_pos}
 use Rattle.std.proofs.lemmas.Bool.{cases_lt, lt-ltb, le-ltb}
@@ -15,7 +16,8 @@ use Rattle.apfloat_model.proofs.rounding.Losses.{cut_less, cut_more}
 use Rattle.apfloat_model.proofs.rounding.KeptDigits.{same_unit, stands_times, stands_cancel}
 use Rattle.apfloat_model.proofs.rounding.Tininess.{below_by_more, below_by_half, just_below, not_below}
 use Rattle.apfloat_rounding.specs.Cuts.{loss_at}
-use Rattle.apfloat_rounding.proofs.CutRests.{loss_zero, loss_less, loss_half, loss_more, loss_some, loss_scaled, loss_past_half}
+use Rattle.apfloat_rounding.proofs.CutRests.{loss_zero, loss_less, loss_half, loss_more, loss_some, loss_scaled}
+use Rattle.apfloat_rounding.proofs.CutRests.{loss_past_half}
 
 -- a significand cut at half a quantum represents twice the magnitude, in quanta
 pub half_stands : (q : ℕ) (loss : Loss) (amount parts k up down : ℕ) → k + 1 + up ≡ 0 + down

@@ -4,7 +4,8 @@ use Rattle.std.proofs.Common.{arith, suc, zero, refl, sym, ap, ◌∙◌, eqb}
 use Rattle.std.proofs.lemmas.Int.{ints}
 use Rattle.std.proofs.lemmas.Nat.{pow_pos, pow-add, shl-shr}
 use Rattle.std.proofs.lemmas.Bool.{ne_eqb}
-use Rattle.std.proofs.Math.Nat.{mul-le-mul_right, mul-lt-mul_of_pos_right, le_of_mul-le-mul_right, lt_of_mul-lt-mul_right, eq_of_mul-eq-mul_right}
+use Rattle.std.proofs.Math.Nat.{mul-le-mul_right, mul-lt-mul_of_pos_right, le_of_mul-le-mul_right}
+use Rattle.std.proofs.Math.Nat.{lt_of_mul-lt-mul_right, eq_of_mul-eq-mul_right}
 use Rattle.apfloat_model.specs.declared.kinds.Category.{Category}
 use Rattle.apfloat_model.specs.declared.kinds.Category.TheVariants.{Infinity, NaN, Normal, Zero}
 use Rattle.apfloat_model.specs.arithmetic.Exact.{up, down}
@@ -13,7 +14,8 @@ use Rattle.apfloat_rounding.specs.declared.shape.Shape.{Shape}
 use Rattle.apfloat_rounding.specs.declared.unpacked.Unpacked.{Unpacked}
 use Rattle.apfloat_model.specs.formats.Log.{log2}
 use Rattle.apfloat_model.proofs.general.Logarithms.{log2_is}
-use Rattle.apfloat_rounding.specs.Stored.{quanta_at, IsNormalAt, IsStored, IsStoredBy, datum_at, datum_by, unpacked_of, unpacked_number, exponent_at}
+use Rattle.apfloat_rounding.specs.Stored.{quanta_at, IsNormalAt, IsStored, IsStoredBy, datum_at, datum_by, unpacked_of}
+use Rattle.apfloat_rounding.specs.Stored.{unpacked_number, exponent_at}
 
 -- ---- a significand with all its digits
 

@@ -3,7 +3,8 @@
 ghost use Rattle.std.specs.Prelude.{◌≡◌, ℕ, ◌+◌, ◌-◌, ◌*◌, ◌^◌, ◌<◌, ◌≤◌, true, false, if◌then◌else◌};
 ghost use Rattle.apfloat_model.specs.formats.Format.{largest, smallest_normalized};
 ghost use Rattle.apfloat_model.specs.rounding.Rounding.{zero_sign};
-ghost use Rattle.apfloat_model.specs.bits.Layout.{all_ones, trailing_bits, fields_of, implied_number, implied_datum, written_number, written_datum, datum_of, IsEncodedBy};
+ghost use Rattle.apfloat_model.specs.bits.Layout.{all_ones, trailing_bits, fields_of, implied_number, implied_datum};
+ghost use Rattle.apfloat_model.specs.bits.Layout.{written_number, written_datum, datum_of, IsEncodedBy};
 ghost use Rattle.apfloat_model.specs.formats.Datum.{nan};
 ghost use Rattle.apfloat_model.specs.bits.Interchange.{IsInterchange, AreWithin, AreFieldsOf, bits_of_fields};
 ghost use Rattle.apfloat_rounding.specs.Shapes.{format_at};

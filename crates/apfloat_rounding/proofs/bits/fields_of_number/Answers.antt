@@ -1,4 +1,5 @@
-use Rattle.std.proofs.Common.{Bool, true, false, ℕ, subst, ◌≡◌, ◌+◌, ◌-◌, ◌*◌, ◌^◌, ◌≤◌, refl, arith, ℤ, pos, ◌-ℤ◌, cond}
+use Rattle.std.proofs.Common.{Bool, true, false, ℕ, subst, ◌≡◌, ◌+◌, ◌-◌, ◌*◌, ◌^◌, ◌≤◌, refl, arith, ℤ, pos, ◌-ℤ◌}
+use Rattle.std.proofs.Common.{cond}
 use Rattle.std.proofs.lemmas.Int.{ints}
 use Rattle.apfloat_model.specs.formats.Format.{smallest_normalized, largest}
 use Rattle.apfloat_model.specs.formats.Datum.{finite}

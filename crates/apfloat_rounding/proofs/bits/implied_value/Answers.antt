@@ -5,7 +5,8 @@ use Rattle.apfloat_model.proofs.formats.Ranges.{ieee_within, nan_only_within, ne
 use Rattle.apfloat_rounding.specs.Shapes.{format_at}
 use Rattle.apfloat_rounding.specs.Encoded.{layout_at}
 use Rattle.apfloat_rounding.proofs.bits.implied_value.Goals as goal
-use Rattle.apfloat_rounding.proofs.bits.implied_value.Goals.{else-is_greatest-via-then-is_greatest+else-fields-ones, else-is_greatest-via-else-is_greatest}
+use Rattle.apfloat_rounding.proofs.bits.implied_value.Goals.{else-is_greatest-via-then-is_greatest+else-fields-ones}
+use Rattle.apfloat_rounding.proofs.bits.implied_value.Goals.{else-is_greatest-via-else-is_greatest}
 
 pub implied_number-requires-clause-interchange : goal.implied_number-requires-clause-interchange
 implied_number-requires-clause-interchange c = c.requires.interchange

@@ -5,7 +5,8 @@ use Rattle.std.proofs.lemmas.Nat.{pow_pos, shr-shr}
 use Rattle.apfloat_model.specs.declared.loss.Loss.{Loss}
 use Rattle.std.proofs.lemmas.Int.{ints, to_z-of_z}
 use Rattle.apfloat_model.specs.rounding.Standing.{StandsFor, up, down}
-use Rattle.apfloat_model.proofs.rounding.KeptDigits.{cut_fits, cut_full, shift_fits, shift_full, cut_kept, shift_kept, zero_kept, exact_zero, exact_shift}
+use Rattle.apfloat_model.proofs.rounding.KeptDigits.{cut_fits, cut_full, shift_fits, shift_full, cut_kept, shift_kept}
+use Rattle.apfloat_model.proofs.rounding.KeptDigits.{zero_kept, exact_zero, exact_shift}
 use Rattle.apfloat_model.proofs.general.Powers.{twice_half}
 use Rattle.apfloat_rounding.specs.Cuts.{loss_at}
 use Rattle.apfloat_rounding.proofs.FineCuts.{as_exact, at_quantum, div_one}

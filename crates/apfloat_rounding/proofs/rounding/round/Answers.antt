@@ -1,4 +1,5 @@
-use Rattle.std.proofs.Common.{◌≡◌, ℕ, ◌⊎◌, ◌-◌, ◌*◌, ◌%◌, ◌^◌, ◌≤◌, eqb, true, false, ◌∙◌, ap, sym, subst, refl, inl, inr, ⊎_elim}
+use Rattle.std.proofs.Common.{◌≡◌, ℕ, ◌⊎◌, ◌-◌, ◌*◌, ◌%◌, ◌^◌, ◌≤◌, eqb, true, false, ◌∙◌, ap, sym, subst, refl, inl}
+use Rattle.std.proofs.Common.{inr, ⊎_elim}
 use Rattle.std.proofs.Math.Nat.{le_trans}
 use Rattle.std.proofs.lemmas.Bool.{le-ltb}
 use Rattle.apfloat_model.specs.rounding.Enclosure.{rounds_up}
@@ -30,7 +31,8 @@ returns-then-stays_within-clause-delivered c = λ amount parts u h g.
     let s = ap bits_of c.and.ensures.status in
     let k = picked_full (goal.at.returns-then-stays_within-clause-delivered c).After-pick_with_status-picked in
     delivered_within f c.args.mode c.args.negative m place amount parts p rest half
-    (rounds_up c.args.mode c.args.negative (loss_at rest half) (eqb (m % 2) 1)) c.pick_with_status-picked.result.tiny _ _ u refl
+    (rounds_up c.args.mode c.args.negative (loss_at rest half) (eqb (m % 2) 1))
+    c.pick_with_status-picked.result.tiny _ _ u refl
     (ap (λ (x : ℕ). x * 2 ^ place) c.pick_with_status-picked.ensures.value)
     (le-ltb (largest f) p (c.stays_within.ensures.within c.if-stays_within.true)) h.0 h.1
     (c.pick_with_status-picked.ensures.tiny amount parts u h g k)
@@ -45,7 +47,8 @@ returns-then-is_past-clause-delivered c = λ amount parts u h g.
     let loss = loss_at c.args.cut.rest c.args.cut.half in
     let is = picked_if_moved c.args.shape.precision c.args.mode c.args.negative m c.args.cut.place amount parts p loss
     (rounds_up c.args.mode c.args.negative loss (eqb (m % 2) 1)) refl
-    (c.carried-point.ensures.value ∙ ap (λ (x : ℕ). x * 2 ^ c.args.cut.place) c.pick_with_status-picked.ensures.value) u h.0 h.1 in
+    (c.carried-point.ensures.value ∙ ap (λ (x : ℕ). x * 2 ^ c.args.cut.place) c.pick_with_status-picked.ensures.value)
+    u h.0 h.1 in
     let a = past_is f c.greatest_significand-greatest.result c.span.result p c.is_past.result true
     c.greatest_significand-greatest.ensures.value c.span.ensures.value c.is_past.ensures c.if-is_past.true in
     delivered_past f c.args.mode c.args.negative amount parts p _ _ is a c.overflowed.ensures.answer.value_is
@@ -66,8 +69,10 @@ returns-clause-delivered c = λ amount parts u h g.
     let v = c.carried-point.ensures.value in
     let t = c.pick_with_status-picked.ensures.tiny amount parts u h g k in
     delivered_within f c.args.mode c.args.negative m place amount parts p rest half
-    (rounds_up c.args.mode c.args.negative (loss_at rest half) (eqb (m % 2) 1)) c.pick_with_status-picked.result.tiny _ _ u refl
+    (rounds_up c.args.mode c.args.negative (loss_at rest half) (eqb (m % 2) 1))
+    c.pick_with_status-picked.result.tiny _ _ u refl
     (v ∙ ap (λ (x : ℕ). x * 2 ^ place) c.pick_with_status-picked.ensures.value) a h.0 h.1
-    (subst (λ (x : ℕ). is_tiny f c.args.mode c.args.negative amount parts x ≡ c.pick_with_status-picked.result.tiny) (sym v) t)
+    (subst (λ (x : ℕ). is_tiny f c.args.mode c.args.negative amount parts x ≡ c.pick_with_status-picked.result.tiny)
+    (sym v) t)
     (ap (datum_at c.args.shape) c.and-2.ensures.value ∙ c.from_full_quanta.ensures.datum)
     (λ z. s ∙ c.pick_with_status-picked.ensures.exact z) (λ n. s ∙ c.pick_with_status-picked.ensures.inexact n)

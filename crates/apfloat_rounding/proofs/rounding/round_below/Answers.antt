@@ -37,8 +37,9 @@ returns-clause-delivered c = λ amount parts u h g.
     let i : c.pick_with_status-picked.result.significand * 2 ^ c.args.cut.place ≤ largest (format_at c.args.shape) =
     omega (arith, k, l, b, w) in
     delivered_within f c.args.mode c.args.negative m place amount parts p rest half
-    (rounds_up c.args.mode c.args.negative (loss_at rest half) (eqb (m % 2) 1)) c.pick_with_status-picked.result.tiny _ _ u
-    refl (ap (λ (x : ℕ). x * 2 ^ place) c.pick_with_status-picked.ensures.value) (le-ltb (largest f) p i) h.0 h.1
+    (rounds_up c.args.mode c.args.negative (loss_at rest half) (eqb (m % 2) 1))
+    c.pick_with_status-picked.result.tiny _ _ u refl
+    (ap (λ (x : ℕ). x * 2 ^ place) c.pick_with_status-picked.ensures.value) (le-ltb (largest f) p i) h.0 h.1
     (c.pick_with_status-picked.ensures.tiny amount parts u h g (inl c.requires.place))
     (ap (datum_at c.args.shape) c.and.ensures.value ∙ c.value_below-value.ensures.datum
     ∙ ap (signed_quanta c.args.shape.nonfinite c.args.negative) e)

@@ -3,7 +3,8 @@ use Rattle.std.proofs.lemmas.Int.{ints, to_z-of_z}
 use borrow.Author.Differences.{fits_in}
 use Rattle.apfloat_model.specs.rounding.Standing.{up, down}
 use Rattle.apfloat_rounding.proofs.OddCuts.{no_up}
-use Rattle.apfloat_rounding.proofs.QuantumCuts.{IsQuantumCut, quantum_fits, quantum_stands, quantum_encloses, quantum_finely}
+use Rattle.apfloat_rounding.proofs.QuantumCuts.{IsQuantumCut, quantum_fits, quantum_stands, quantum_encloses}
+use Rattle.apfloat_rounding.proofs.QuantumCuts.{quantum_finely}
 use Rattle.apfloat_rounding.proofs.rounding.denormal.cut_at_quantum.Goals.{After-word_power}
 use Rattle.apfloat_rounding.proofs.rounding.denormal.cut_at_quantum.Goals as goal
 

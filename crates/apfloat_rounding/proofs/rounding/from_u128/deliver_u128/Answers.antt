@@ -5,7 +5,8 @@ use Rattle.apfloat_model.specs.rounding.Standing.{up, down}
 use Rattle.apfloat_rounding.specs.Shapes.{format_at}
 use Rattle.apfloat_rounding.proofs.FineCuts.{all_kept}
 use Rattle.apfloat_rounding.proofs.OddCuts.{few_digits}
-use Rattle.apfloat_rounding.proofs.rounding.from_u128.deliver_u128.Goals.{else-digits-gt0-via-then-digits-gt0+else-unit-digits, else-digits-gt0-via-else-digits-gt0}
+use Rattle.apfloat_rounding.proofs.rounding.from_u128.deliver_u128.Goals.{else-digits-gt0-via-then-digits-gt0+else-unit-digits}
+use Rattle.apfloat_rounding.proofs.rounding.from_u128.deliver_u128.Goals.{else-digits-gt0-via-else-digits-gt0}
 use Rattle.apfloat_rounding.proofs.rounding.from_u128.deliver_u128.Goals as goal
 
 pub returns-then-unit-digits-clause-delivered : goal.returns-then-unit-digits-clause-delivered

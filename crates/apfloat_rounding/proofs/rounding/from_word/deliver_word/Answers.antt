@@ -1,4 +1,5 @@
-use Rattle.std.proofs.Common.{◌≡◌, ℕ, ℤ, pos, ◌+ℤ◌, ◌≤ℤ◌, ◌+◌, ◌*◌, ◌^◌, ◌<◌, ◌⊎◌, sym, ap, ◌∙◌, subst, inl, inr, to_z, of_z, w32, arith}
+use Rattle.std.proofs.Common.{◌≡◌, ℕ, ℤ, pos, ◌+ℤ◌, ◌≤ℤ◌, ◌+◌, ◌*◌, ◌^◌, ◌<◌, ◌⊎◌, sym, ap, ◌∙◌, subst, inl, inr, to_z}
+use Rattle.std.proofs.Common.{of_z, w32, arith}
 use Rattle.std.proofs.lemmas.Int.{ints, to_z-of_z}
 use Rattle.apfloat_model.specs.rounding.RoundingToOdd.{IsRoundedToOdd}
 use Rattle.apfloat_model.specs.declared.loss.Loss.TheVariants.{ExactlyZero}
@@ -9,7 +10,8 @@ use Rattle.apfloat_rounding.specs.Stored.{datum_at}
 use Rattle.apfloat_rounding.proofs.FineCuts.{all_kept}
 use Rattle.apfloat_rounding.proofs.OddCuts.{word_digits, exact_below}
 use Rattle.apfloat_rounding.proofs.QuantumCuts.{whole_delivered}
-use Rattle.apfloat_rounding.proofs.rounding.from_word.deliver_word.Goals.{else-digits-gt0-via-then-digits-gt0+else-unit-digits, else-digits-gt0-via-else-digits-gt0}
+use Rattle.apfloat_rounding.proofs.rounding.from_word.deliver_word.Goals.{else-digits-gt0-via-then-digits-gt0+else-unit-digits}
+use Rattle.apfloat_rounding.proofs.rounding.from_word.deliver_word.Goals.{else-digits-gt0-via-else-digits-gt0}
 use Rattle.apfloat_rounding.proofs.rounding.from_word.deliver_word.Goals as goal
 
 pub cut_word-cut-requires-clause-word : goal.cut_word-cut-requires-clause-word
