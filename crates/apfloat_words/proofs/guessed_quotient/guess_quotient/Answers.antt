@@ -4,7 +4,7 @@ use Rattle.std.proofs.lemmas.Nat.{pow_pos}
 use Rattle.apfloat_model.proofs.rounding.KeptDigits.{fits_shifted, full_shifted}
 use Rattle.apfloat_words.proofs.guessed_quotient.guess_quotient.Goals as goal
 
--- the highest 32 digits of the divisor, plus 1
+-- the highest 32 digits of the divisor, plus 1, are above 2 ^ 31
 highest : (divisor precision : ℕ) → 0 < precision → precision ≤ 59 → divisor < 2 ^ precision
     → 2 ^ (precision - 1) ≤ divisor → 2 ^ 31 < divisor * 2 ^ (64 - precision) % 2 ^ 64 / 2 ^ 32 + 1
 highest divisor precision p s f l =
