@@ -1,6 +1,6 @@
 use Rattle.std.proofs.Common.{ℕ, ◌*◌, ◌^◌, ◌≤◌, ◌-◌, sym, subst, arith}
 use Rattle.apfloat_arithmetic.proofs.WideTerms.{wide_fits, addend_full}
-use Rattle.apfloat_arithmetic.proofs.fused.wide_addend.Goals as goal
+use Rattle.apfloat_arithmetic.proofs.fused.raised_addend.Goals as goal
 
 pub returns-clause-fits : goal.returns-clause-fits
 returns-clause-fits c =
