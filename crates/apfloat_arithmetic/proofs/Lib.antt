@@ -9,8 +9,7 @@ mod NumberClasses
 mod PowerFactors
 mod ExactInverses
 mod WideTerms
-mod LongProducts
-mod LongTerms
+mod WideProducts
 mod FusedCases
 mod SpecialRemainders
 mod SpecialProducts

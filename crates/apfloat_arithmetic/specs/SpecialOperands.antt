@@ -1,4 +1,5 @@
--- Operations of which an operand is no nonzero number, and what each of them gives (IEEE 754-2008 6.1 to 6.3, 7.2, 7.3).
+-- Operations of which an operand is no nonzero number, and what each of them gives (IEEE 754-2008 6.1 to 6.3, 7.2,
+-- 7.3).
 use Rattle.std.specs.Prelude.{◌≡◌, ℕ, ◌<◌, true}
 use Rattle.apfloat_model.specs.declared.kinds.Category.TheVariants.{Normal}
 use Rattle.apfloat_model.specs.declared.kinds.Round.{Round}
@@ -14,7 +15,8 @@ use Rattle.apfloat_rounding.specs.declared.unpacked.Unpacked.{Unpacked}
 use Rattle.apfloat_rounding.specs.Shapes.{format_at}
 use Rattle.apfloat_rounding.specs.Stored.{IsStored, datum_at}
 use Rattle.apfloat_arithmetic.specs.declared.specials.Operation.{Operation}
-use Rattle.apfloat_arithmetic.specs.declared.specials.Operation.TheVariants.{Sum, Product, Quotient, FusedSum, Root, Remainder}
+use Rattle.apfloat_arithmetic.specs.declared.specials.Operation.TheVariants.{Sum, Product, Quotient, FusedSum, Root}
+use Rattle.apfloat_arithmetic.specs.declared.specials.Operation.TheVariants.{Remainder}
 
 -- two stored values, not both nonzero numbers
 pub record AreSpecial (s : Shape) (x y : Unpacked) : Type 0 where

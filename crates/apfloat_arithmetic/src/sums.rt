@@ -1,7 +1,10 @@
 //! Sums and differences, rounded once (IEEE 754-2008 5.4.1, 6.1, 6.3).
 
-ghost use Rattle.std.specs.Prelude.{◌≡◌, ◌≤◌, pos, ◌+ℤ◌};
+ghost use Rattle.std.specs.Prelude.{◌≡◌, ℕ, ◌+◌, ◌*◌, ◌^◌, ◌<◌, ◌≤◌, pos, ◌+ℤ◌};
 ghost use Rattle.apfloat_model.specs.arithmetic.Exact.{signed, IsRounded};
+ghost use Rattle.apfloat_model.specs.rounding.Bounds.{IsWithin, exponent_bound};
+ghost use Rattle.apfloat_model.specs.rounding.RoundingToOdd.{IsRoundedToOdd};
+ghost use Rattle.apfloat_model.specs.rounding.Standing.{up, down};
 ghost use Rattle.apfloat_model.specs.arithmetic.Sums.{zero_sum_sign, IsSum, IsDifference};
 ghost use Rattle.apfloat_words.specs.Wides.{whole};
 ghost use Rattle.apfloat_arithmetic.specs.Subtrahends.{added};
@@ -11,16 +14,15 @@ ghost use Rattle.apfloat_rounding.specs.Stored.{IsNormal, IsStored, datum_at, qu
 use crate::classes::are_normal;
 use crate::signs::negated;
 use crate::specials::{Operation, special};
-use apfloat_model::{Category, Loss, Round, StatusAnd};
+use apfloat_model::{Category, Round, StatusAnd};
 use apfloat_rounding::exponents::last_exponent;
-use apfloat_rounding::rounding::deliver;
 use apfloat_rounding::rounding::from_u128::deliver_u128;
 use apfloat_rounding::rounding::from_word::deliver_word;
 use apfloat_rounding::shape::Shape;
 use apfloat_rounding::unpacked::{Unpacked, remade};
 use apfloat_words::{
-    Term, Total, U128_LIMIT, WORD_LIMIT, Wide, WideTerm, add_u128_terms, add_wide_terms,
-    add_word_terms, is_zero,
+    Term, U128_LIMIT, U128Total, WORD_LIMIT, Wide, WideTerm, add_u128_terms, add_wide_terms,
+    add_word_terms,
 };
 
 /// The number as a term, with the exponent of its last digit.
@@ -55,27 +57,36 @@ pub(crate) fn sign_of_zero(round: Round, left: bool, right: bool) -> bool
     }
 }
 
-/// The sign of a total; `of_zero` if it is exactly zero.
-#[inline(always)]
-pub(crate) fn sign_of_total(total: Total, of_zero: bool) -> bool
-    ensures zero { total.significand ≡ 0 → total.loss ≡ Loss.ExactlyZero → result ≡ of_zero }
-    ensures other { (total.significand ≡ 0 → total.loss ≡ Loss.ExactlyZero → ⊥)
-        → result ≡ total.negative }
-{
-    if is_zero(total) {
-        of_zero
-    } else {
-        total.negative
-    }
-}
-
 /// The sign of a total that was rounded to odd; `of_zero` if it is zero, which it is only exactly.
 #[inline(always)]
-pub(crate) fn sign_of_odd_total(significand: u128, negative: bool, of_zero: bool) -> bool
+fn sign_of_odd_total(significand: u128, negative: bool, of_zero: bool) -> bool
     ensures zero { significand ≡ 0 → result ≡ of_zero }
     ensures other { (significand ≡ 0 → ⊥) → result ≡ negative }
 {
     if significand == 0 { of_zero } else { negative }
+}
+
+/// Delivers the total of two numbers with these signs, which was rounded to odd, rounded once.
+#[inline(always)]
+pub(crate) fn deliver_total(
+    shape: Shape,
+    total: U128Total,
+    left: bool,
+    right: bool,
+    round: Round,
+) -> StatusAnd<Unpacked>
+    requires { IsWithin exponent_bound total.exponent }
+    ensures stored { IsStored shape result.value }
+    ensures delivered { let unit = total.exponent +ℤ pos (format_at shape).scale in (amount parts : ℕ)
+        → 0 < parts
+        → IsRoundedToOdd (2 ^ (shape.precision + 1)) total.significand (amount * 2 ^ down unit)
+        (parts * 2 ^ up unit)
+        → GivesAt shape (IsRounded (format_at shape) round (zero_sum_sign round left right)
+        (signed total.negative amount) parts) result }
+{
+    let of_zero = sign_of_zero(round, left, right);
+    let negative = sign_of_odd_total(total.significand, total.negative, of_zero);
+    deliver_u128(shape, total.significand, total.exponent, round, negative)
 }
 
 /// The sum of two nonzero numbers with at most 59 digits, in one word.
@@ -107,9 +118,7 @@ fn add_u128_numbers(shape: Shape, x: Unpacked, y: Unpacked, round: Round) -> Sta
         (signed x.negative (quanta_of shape x) +ℤ signed y.negative (quanta_of shape y)) 1) result }
 {
     let total = add_u128_terms(shape.precision, term_of(shape, x), term_of(shape, y));
-    let of_zero = sign_of_zero(round, x.negative, y.negative);
-    let negative = sign_of_odd_total(total.significand, total.negative, of_zero);
-    deliver_u128(shape, total.significand, total.exponent, round, negative)
+    deliver_total(shape, total, x.negative, y.negative, round)
 }
 
 /// A term in two words.
@@ -129,10 +138,11 @@ fn widened_term(term: Term) -> WideTerm
     }
 }
 
-/// The sum of two nonzero numbers of any precision, in two words. Kept out of line: only numbers of 125 digits take it.
+/// The sum of two nonzero numbers with 125 digits, in two words. Kept out of line, since such formats are rare.
 #[cold]
 #[inline(never)]
 fn add_wide_numbers(shape: Shape, x: Unpacked, y: Unpacked, round: Round) -> StatusAnd<Unpacked>
+    requires long { 124 < shape.precision }
     requires x_normal { IsNormal shape x }
     requires y_normal { IsNormal shape y }
     ensures stored { IsStored shape result.value }
@@ -141,19 +151,11 @@ fn add_wide_numbers(shape: Shape, x: Unpacked, y: Unpacked, round: Round) -> Sta
         (signed x.negative (quanta_of shape x) +ℤ signed y.negative (quanta_of shape y)) 1) result }
 {
     let total = add_wide_terms(
+        shape.precision,
         widened_term(term_of(shape, x)),
         widened_term(term_of(shape, y)),
     );
-    let of_zero = sign_of_zero(round, x.negative, y.negative);
-    let negative = sign_of_total(total, of_zero);
-    deliver(
-        shape,
-        total.significand,
-        total.exponent,
-        total.loss,
-        round,
-        negative,
-    )
+    deliver_total(shape, total, x.negative, y.negative, round)
 }
 
 /// The sum of two nonzero numbers.

@@ -10,7 +10,7 @@ use crate::flagged::Flagged;
 use crate::ieee_float::{IeeeFloat, shape_of};
 use crate::products::product;
 use apfloat_arithmetic::wide_fused::wide_multiply_add;
-use apfloat_arithmetic::wide_products::multiply_long;
+use apfloat_arithmetic::wide_products::multiply_wide;
 use apfloat_base::{FUSED_LIMIT, PRODUCT_LIMIT, Round, StatusAnd};
 
 impl<S: Flagged> IeeeFloat<S> {
@@ -24,7 +24,7 @@ impl<S: Flagged> IeeeFloat<S> {
         if S::PRECISION <= PRODUCT_LIMIT {
             return product(self, rhs, round);
         }
-        IeeeFloat::answered(multiply_long(shape_of::<S>(), self.unpacked(), rhs.unpacked(), round))
+        IeeeFloat::answered(multiply_wide(shape_of::<S>(), self.unpacked(), rhs.unpacked(), round))
     }
 
     /// `self * rhs`, rounded once to the nearest value, ties to even, in a format of any precision.

@@ -1,8 +1,11 @@
 -- The lowest digit of a number that is 1, and how many zeros are below it.
-use Rattle.std.proofs.Common.{◌≡◌, ℕ, zero, suc, ◌+◌, ◌-◌, ◌*◌, ◌/◌, ◌%◌, ◌^◌, ◌<◌, ◌≤◌, Bool, true, false, cond, bit_and, bit_or, refl, sym, ap, ◌∙◌, arith}
+use Rattle.std.proofs.Common.{◌≡◌, ℕ, zero, suc, ◌+◌, ◌-◌, ◌*◌, ◌/◌, ◌%◌, ◌^◌, ◌<◌, ◌≤◌, Bool, true, false, cond}
+use Rattle.std.proofs.Common.{bit_and, bit_or, refl, sym, ap, ◌∙◌, arith}
 use Rattle.std.proofs.lemmas.Nat.{and_le_l, mod-pow-add, mod_below, or_block, or_comm, or_disjoint, pow_pos}
 use Rattle.std.proofs.lemmas.Nat.Bits.{bit_at-trailing_zeros}
+use Rattle.std.proofs.Math.Nat.{mod-eq_of_lt}
 use Rattle.std.specs.Int.{trailing_zeros, w128}
+use Rattle.std.specs.Int.Count.{trailing_of_zero}
 
 -- digits that are all 0 are a rest of 0
 all_zero : (n places : ℕ) → ((i : ℕ) → i < places → n / 2 ^ i % 2 ≡ 0) → n % 2 ^ places ≡ 0
@@ -37,6 +40,16 @@ rest_past_zeros n places p f =
       λ l. one_within n (trailing_zeros w128 n) places h.1 l,
       λ l. all_zero n places (λ i k. h.2 i (omega (arith, k, l))),
     )
+
+-- nor has 0, of which all 128 digits are zeros
+pub rest_within_zeros : (n places : ℕ) → (n ≡ 0 → places ≤ 128) → n < 2 ^ 128
+    → (trailing_zeros w128 n < places → 0 < n % 2 ^ places)
+    × (places ≤ trailing_zeros w128 n → n % 2 ^ places ≡ 0)
+rest_within_zeros zero places g f =
+    let z = trailing_of_zero 128 in
+    let w = g refl in
+    (λ l. absurd (omega (arith, l, z, w)), λ k. mod-eq_of_lt (pow_pos places))
+rest_within_zeros (suc n) places g f = rest_past_zeros (suc n) places (omega arith) f
 
 -- ---- the last digit, set
 

@@ -1,12 +1,13 @@
 -- Sums and differences of magnitudes that are rounded to odd, and their signs.
-use Rattle.std.proofs.Common.{◌≡◌, ℕ, zero, suc, ℤ, pos, ◌+ℤ◌, ◌-ℤ◌, ◌≤ℤ◌, ◌+◌, ◌-◌, ◌*◌, ◌/◌, ◌%◌, ◌^◌, ◌<◌, ◌≤◌, ◌⊎◌, Bool, true, false, cond, not, ltb, sym, refl, ap, ◌∙◌, subst, inl, inr, ⊎_elim, arith}
+use Rattle.std.proofs.Common.{◌≡◌, ℕ, zero, suc, ℤ, pos, ◌+ℤ◌, ◌-ℤ◌, ◌≤ℤ◌, ◌+◌, ◌-◌, ◌*◌, ◌/◌, ◌%◌, ◌^◌, ◌<◌, ◌≤◌}
+use Rattle.std.proofs.Common.{◌⊎◌, Bool, true, false, cond, not, ltb, sym, refl, ap, ◌∙◌, subst, inl, inr, ⊎_elim}
+use Rattle.std.proofs.Common.{arith}
 use mathlib.Core.Bool.{beq}
 use Rattle.std.proofs.Math.Path.{subst₂}
 use Rattle.std.proofs.Math.Nat.{mul-le-mul_left, mul-le-mul_right, pow-le-pow_right}
 use Rattle.std.proofs.lemmas.Bool.{cases_lt, lt-ltb, le-ltb}
 use Rattle.std.proofs.lemmas.Nat.{pow-add, pow_pos}
 use Rattle.std.proofs.lemmas.Int.{ints}
-use Rattle.apfloat_words.specs.declared.terms.Term.{Term}
 use Rattle.apfloat_model.specs.arithmetic.Exact.{up, signed}
 use Rattle.apfloat_words.specs.Totals.{counted, IsSignedToOdd, IsApartToOdd, Balances}
 use Rattle.apfloat_model.specs.rounding.RoundingToOdd.{IsRoundedToOdd}
@@ -195,24 +196,18 @@ total_to_odd base eh el e s t true flipped least digits mh ml room gap q l r g d
     }
 
 -- in which order the terms are does not matter
-pub ordered_to_odd : (least : ℕ) (base : ℤ) (high low x y : Term) (negative : Bool) (e : ℤ) (q : ℕ)
-    → ((high ≡ x) × (low ≡ y)) ⊎ ((high ≡ y) × (low ≡ x))
-    → IsSignedToOdd least base (counted base high.negative high.exponent high.significand +ℤ counted base
-    low.negative low.exponent low.significand) negative e q
-    → IsSignedToOdd least base (counted base x.negative x.exponent x.significand +ℤ counted base y.negative
-    y.exponent y.significand) negative e q
-ordered_to_odd least base high low x y negative e q (inl d) h =
-    subst₂ (λ (a : Term) (b : Term). IsSignedToOdd least base (counted base a.negative a.exponent a.significand
-    +ℤ counted base b.negative b.exponent b.significand) negative e q) d.0 d.1 h
-ordered_to_odd least base high low x y negative e q (inr d) h =
-    let g = subst₂ (λ (a : Term) (b : Term). IsSignedToOdd least base
-    (counted base a.negative a.exponent a.significand +ℤ counted base b.negative b.exponent b.significand)
-    negative e q) d.0 d.1 h in
+pub ordered_to_odd : {T : Type 0} (count : T → ℤ) (least : ℕ) (base : ℤ) (high low x y : T) (negative : Bool) (e : ℤ)
+    (q : ℕ) → ((high ≡ x) × (low ≡ y)) ⊎ ((high ≡ y) × (low ≡ x))
+    → IsSignedToOdd least base (count high +ℤ count low) negative e q
+    → IsSignedToOdd least base (count x +ℤ count y) negative e q
+ordered_to_odd count least base high low x y negative e q (inl d) h =
+    subst₂ (λ a b. IsSignedToOdd least base (count a +ℤ count b) negative e q) d.0 d.1 h
+ordered_to_odd count least base high low x y negative e q (inr d) h =
+    let g = subst₂ (λ a b. IsSignedToOdd least base (count a +ℤ count b) negative e q) d.0 d.1 h in
     record {
       above = g.above;
       amount = g.amount;
-      is = g.is ∙ swapped_sum (counted base y.negative y.exponent y.significand)
-          (counted base x.negative x.exponent x.significand);
+      is = g.is ∙ swapped_sum (count y) (count x);
       rounded = g.rounded;
     }
 

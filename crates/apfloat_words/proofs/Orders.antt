@@ -5,12 +5,12 @@ use Rattle.apfloat_words.specs.declared.terms.Term.{Term}
 use Rattle.apfloat_words.specs.Totals.{IsGreater}
 
 -- what holds of both terms holds of each of them in order
-pub of_high : (P : Term → Type 0) (high low x y : Term)
+pub of_high : {T : Type 0} (P : T → Type 0) (high low x y : T)
     → ((high ≡ x) × (low ≡ y)) ⊎ ((high ≡ y) × (low ≡ x)) → P x → P y → P high
 of_high P high low x y (inl d) a b = subst P (sym d.0) a
 of_high P high low x y (inr d) a b = subst P (sym d.0) b
 
-pub of_low : (P : Term → Type 0) (high low x y : Term)
+pub of_low : {T : Type 0} (P : T → Type 0) (high low x y : T)
     → ((high ≡ x) × (low ≡ y)) ⊎ ((high ≡ y) × (low ≡ x)) → P x → P y → P low
 of_low P high low x y (inl d) a b = subst P (sym d.1) b
 of_low P high low x y (inr d) a b = subst P (sym d.1) a

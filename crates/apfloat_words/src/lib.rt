@@ -8,7 +8,6 @@
 #![tactic(auto)]
 
 pub mod guessed_quotient;
-pub mod long_product;
 pub mod long_quotient;
 pub mod loss;
 pub mod product;
@@ -21,6 +20,7 @@ pub mod short_quotient;
 pub mod terms;
 pub mod u128_sum;
 pub mod wide;
+pub mod wide_product;
 pub mod wide_shift;
 pub mod wide_sum;
 pub mod word_sum;
@@ -28,7 +28,6 @@ pub mod word_sum;
 pub use guessed_quotient::{
     NEAR_LIMIT, divide_short_by_guess, divide_word_by_guess, guess_quotient,
 };
-pub use long_product::wide_product;
 pub use long_quotient::{Digits, LongDivisor, divide_by_words, long_divisor, next_digits};
 pub use loss::{is_exact, loss_of_rest};
 pub use product::full_product;
@@ -40,9 +39,10 @@ pub use short_quotient::{
     ShortDivisor, divide_short, divide_short_by_words, divide_word, next_short_digits,
     short_divisor,
 };
-pub use terms::Term;
+pub use terms::{Term, WideTerm};
 pub use u128_sum::{U128_LIMIT, U128Total, add_u128_terms};
 pub use wide::Wide;
-pub use wide_shift::{WideShifted, is_within, narrowed, wide_shift_right, widened};
-pub use wide_sum::{Total, WideTerm, add_wide_terms, doubled, is_zero};
+pub use wide_product::full_wide_product;
+pub use wide_shift::{is_within, narrowed, widened};
+pub use wide_sum::{add_wide_terms, doubled};
 pub use word_sum::{WORD_LIMIT, WordTotal, add_word_terms};

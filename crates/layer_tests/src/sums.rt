@@ -1,11 +1,11 @@
 //! Sums of two terms.
 
 ghost use Rattle.std.specs.Prelude.{◌^◌, ◌<◌, ◌≤◌};
-ghost use Rattle.apfloat_model.specs.rounding.Bounds.{IsWithin, exponent_bound};
+ghost use Rattle.apfloat_model.specs.rounding.Bounds.{IsWithin, exponent_bound, integer_bit_bound};
 
 use crate::asserts::same;
 use apfloat_model::ExpInt;
-use apfloat_words::{Term, add_u128_terms};
+use apfloat_words::{Term, WideTerm, add_u128_terms, add_wide_terms, widened};
 
 /// The sign, the exponent and the significand of a total.
 type Parts = (bool, ExpInt, u128);
@@ -30,6 +30,31 @@ fn less(x_exponent: ExpInt, x: u128, y_exponent: ExpInt, y: u128) -> Parts
             negative: true,
             exponent: y_exponent,
             significand: y,
+        },
+    );
+    (total.negative, total.exponent, total.significand)
+}
+
+/// The same in two words: the significands are moved up by 117 places, to 126 digits.
+fn wide_less(x_exponent: ExpInt, x: u128, y_exponent: ExpInt, y: u128) -> Parts
+    requires x { IsWithin integer_bit_bound x_exponent }
+    requires y { IsWithin integer_bit_bound y_exponent }
+    requires x_fits { x < 2 ^ 9 }
+    requires y_fits { y < 2 ^ 9 }
+    requires x_full { 2 ^ 8 ≤ x }
+    requires y_full { 2 ^ 8 ≤ y }
+{
+    let total = add_wide_terms(
+        126,
+        WideTerm {
+            negative: false,
+            exponent: x_exponent,
+            significand: widened(x, 117),
+        },
+        WideTerm {
+            negative: true,
+            exponent: y_exponent,
+            significand: widened(y, 117),
         },
     );
     (total.negative, total.exponent, total.significand)
@@ -67,5 +92,47 @@ fn less_the_lower(rt: HostRuntime) {
 fn less_the_higher(rt: HostRuntime) {
     let got = [less(3, 0x101, 7, 0x100), less(0, 0x100, 300, 0x100)];
     let expected = [(true, -111, 0xeff << 114), (true, 182, (1 << 126) - 1)];
+    same(&rt, got, expected, "totals");
+}
+
+#[test]
+fn wide_like_exponents(rt: HostRuntime) {
+    let got = [
+        wide_less(10, 0x110, 10, 0x105),
+        wide_less(10, 0x120, 10, 0x120),
+        wide_less(10, 0x100, 10, 0x101),
+    ];
+    let expected = [
+        (false, 3, 0xb << 124),
+        (false, -117, 0),
+        (true, 0, 1 << 127),
+    ];
+    same(&rt, got, expected, "totals");
+}
+
+#[test]
+fn wide_less_the_lower(rt: HostRuntime) {
+    let got = [
+        wide_less(4, 0x100, 0, 0x101),
+        wide_less(127, 0x100, 0, 0x101),
+        wide_less(128, 0x100, 0, 0x101),
+        wide_less(372, 0x100, 0, 0x101),
+    ];
+    let expected = [
+        (false, 1, 0xeff << 116),
+        (false, 124, u128::MAX - 2),
+        (false, 125, u128::MAX),
+        (false, 369, u128::MAX),
+    ];
+    same(&rt, got, expected, "totals");
+}
+
+#[test]
+fn wide_less_the_higher(rt: HostRuntime) {
+    let got = [
+        wide_less(0, 0x101, 4, 0x100),
+        wide_less(0, 0x101, 372, 0x100),
+    ];
+    let expected = [(true, 1, 0xeff << 116), (true, 369, u128::MAX)];
     same(&rt, got, expected, "totals");
 }

@@ -20,17 +20,17 @@ lowered-requires-clause-within c =
 pub lowered-requires-clause-short : goal.lowered-requires-clause-short
 lowered-requires-clause-short c = omega (arith, c.requires.short)
 
-pub wide_addend-requires-clause-some : goal.wide_addend-requires-clause-some
-wide_addend-requires-clause-some c = omega (arith, c.args.shape.parameters.precision_low)
+pub raised_addend-requires-clause-some : goal.raised_addend-requires-clause-some
+raised_addend-requires-clause-some c = omega (arith, c.args.shape.parameters.precision_low)
 
-pub wide_addend-requires-clause-short : goal.wide_addend-requires-clause-short
-wide_addend-requires-clause-short c = c.requires.short
+pub raised_addend-requires-clause-short : goal.raised_addend-requires-clause-short
+raised_addend-requires-clause-short c = c.requires.short
 
-pub wide_addend-requires-clause-fits : goal.wide_addend-requires-clause-fits
-wide_addend-requires-clause-fits c = c.requires.normal.operand.fits
+pub raised_addend-requires-clause-fits : goal.raised_addend-requires-clause-fits
+raised_addend-requires-clause-fits c = c.requires.normal.operand.fits
 
-pub wide_addend-requires-clause-full : goal.wide_addend-requires-clause-full
-wide_addend-requires-clause-full c = c.requires.normal.operand.full
+pub raised_addend-requires-clause-full : goal.raised_addend-requires-clause-full
+raised_addend-requires-clause-full c = c.requires.normal.operand.full
 
 pub returns-clause-negative : goal.returns-clause-negative
 returns-clause-negative c = refl
@@ -47,10 +47,10 @@ returns-clause-within c =
     }
 
 pub returns-clause-fits : goal.returns-clause-fits
-returns-clause-fits c = c.wide_addend.ensures.fits
+returns-clause-fits c = c.raised_addend.ensures.fits
 
 pub returns-clause-full : goal.returns-clause-full
-returns-clause-full c = c.wide_addend.ensures.full
+returns-clause-full c = c.raised_addend.ensures.full
 
 pub returns-clause-counted : goal.returns-clause-counted
 returns-clause-counted c = λ base k b h.
@@ -60,5 +60,5 @@ returns-clause-counted c = λ base k b h.
     let l : to_z w32 (of_z w32 c.lowered.result) ≡ c.lowered.result =
     to_z-of_z w32 c.lowered.result (record { sfits = c.lowered.type_inv }) in
     let b' = rw l at b in
-    rw l (addend_counted s c.args.z.exponent c.lowered.result base c.args.z.significand c.wide_addend.result k
-    c.requires.normal c.wide_addend.ensures.value e b' h)
+    rw l (addend_counted s c.args.z.exponent c.lowered.result base c.args.z.significand c.raised_addend.result k
+    c.requires.normal c.raised_addend.ensures.value e b' h)

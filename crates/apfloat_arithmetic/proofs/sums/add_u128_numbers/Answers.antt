@@ -1,15 +1,14 @@
-use Rattle.std.proofs.Common.{◌≡◌, ◌+◌, ◌^◌, ◌≤◌, ◌+ℤ◌, Bool, pos, subst, refl, to_z, of_z, w32, arith}
+use Rattle.std.proofs.Common.{◌+◌, ◌^◌, ◌≤◌, ◌+ℤ◌, ℤ, pos, subst, refl, arith}
 use Rattle.std.proofs.Math.Nat.{pow-le-pow_right}
 use Rattle.std.proofs.lemmas.Int.{ints}
-use Rattle.apfloat_model.specs.arithmetic.Exact.{signed, sign_of, magnitude}
+use Rattle.apfloat_model.specs.arithmetic.Exact.{signed, magnitude, IsRounded}
 use Rattle.apfloat_model.specs.rounding.Flags.{bits_of}
-use Rattle.apfloat_model.specs.rounding.Rounding.{IsDelivered}
 use Rattle.apfloat_model.specs.arithmetic.Sums.{zero_sum_sign}
 use Rattle.apfloat_rounding.specs.Shapes.{format_at}
 use Rattle.apfloat_rounding.specs.Stored.{quanta_at, datum_at}
 use Rattle.apfloat_model.proofs.general.Powers.{two_pos}
 use Rattle.apfloat_model.proofs.rounding.OddRoundings.{to_odd_least}
-use Rattle.apfloat_arithmetic.proofs.Additions.{odd_sum_read, read_odd_sign, scale_is}
+use Rattle.apfloat_arithmetic.proofs.Additions.{odd_sum_read, scale_is}
 use Rattle.apfloat_arithmetic.proofs.sums.add_u128_numbers.Goals as goal
 
 pub term_of-requires : goal.term_of-requires
@@ -19,10 +18,10 @@ pub term_of-requires-2 : goal.term_of-requires-2
 term_of-requires-2 c = c.requires.y_normal
 
 pub returns-clause-stored : goal.returns-clause-stored
-returns-clause-stored c = c.deliver_u128.ensures.stored
+returns-clause-stored c = c.deliver_total.ensures.stored
 
-pub deliver_u128-requires : goal.deliver_u128-requires
-deliver_u128-requires c =
+pub deliver_total-requires : goal.deliver_total-requires
+deliver_total-requires c =
     let l = c.args.shape.parameters in
     let x = c.term_of.ensures.exponent in
     let y = c.term_of-2.ensures.exponent in
@@ -30,52 +29,37 @@ deliver_u128-requires c =
     let n = c.requires.y_normal.operand in
     let g = c.add_u128_terms-total.ensures.exponent.one in
     record {
-      within = record {
-        low = omega (arith, ints, l, x, y, m, n, g);
-        high = omega (arith, ints, l, x, y, m, n, g);
-      };
+      low = omega (arith, ints, l, x, y, m, n, g);
+      high = omega (arith, ints, l, x, y, m, n, g);
     }
 
 pub returns-clause-delivered : goal.returns-clause-delivered
 returns-clause-delivered c =
-    let m = quanta_at c.args.shape.min_exp c.args.x.significand c.args.x.exponent in
-    let n = quanta_at c.args.shape.min_exp c.args.y.significand c.args.y.exponent in
-    let of_zero = zero_sum_sign c.args.round c.args.x.negative c.args.y.negative in
-    let exact = signed c.args.x.negative m +ℤ signed c.args.y.negative n in
+    let s = c.args.shape in
+    let x = c.args.x in
+    let y = c.args.y in
+    let m = quanta_at s.min_exp x.significand x.exponent in
+    let n = quanta_at s.min_exp y.significand y.exponent in
+    let of_zero = zero_sum_sign c.args.round x.negative y.negative in
+    let exact = signed x.negative m +ℤ signed y.negative n in
     let total = c.add_u128_terms-total.result in
-    let unit = total.exponent +ℤ pos (format_at c.args.shape).scale in
-    let w : to_z w32 (of_z w32 total.exponent) ≡ total.exponent =
-    omega (
-      arith,
-      ints,
-      c.args.shape.parameters,
-      c.add_u128_terms-total.ensures.exponent.one,
-      c.term_of.ensures.exponent,
-      c.term_of-2.ensures.exponent,
-      c.requires.x_normal.operand,
-      c.requires.y_normal.operand,
-    ) in
-    let d = rw w at c.deliver_u128.ensures.delivered in
-    let few : c.args.shape.precision + 1 ≤ 125 = let p = c.requires.short in omega (arith, p) in
-    let least : 2 ^ (c.args.shape.precision + 1) ≤ 2 ^ 125 = pow-le-pow_right two_pos few in
+    let unit = total.exponent +ℤ pos (format_at s).scale in
+    let d = c.deliver_total.ensures.delivered in
+    let few : s.precision + 1 ≤ 125 = let p = c.requires.short in omega (arith, p) in
+    let least : 2 ^ (s.precision + 1) ≤ 2 ^ 125 = pow-le-pow_right two_pos few in
     let g = rw (
       c.term_of.ensures.negative,
       c.term_of.ensures.significand,
       c.term_of-2.ensures.negative,
       c.term_of-2.ensures.significand,
     ) at c.add_u128_terms-total.ensures.rounded in
-    let r = odd_sum_read (2 ^ 125) 127 of_zero c.args.shape.precision (format_at c.args.shape).scale
-    c.args.shape.min_exp c.args.x.exponent c.args.y.exponent c.term_of.result.exponent c.term_of-2.result.exponent
-    total.exponent unit c.args.x.negative c.args.y.negative total.negative c.args.x.significand
-    c.args.y.significand m n total.significand c.requires.x_normal.operand.least c.requires.y_normal.operand.least
-    c.term_of.ensures.exponent c.term_of-2.ensures.exponent
-    (scale_is c.args.shape.precision c.args.shape.min_exp c.args.shape.parameters.precision_low
-    c.args.shape.parameters.min_exp_high) refl c.requires.x_normal.whole c.requires.y_normal.whole g in
-    let z = rw c.sign_of_zero-of_zero.ensures at c.sign_of_odd_total-negative.ensures.zero in
-    let e : c.sign_of_odd_total-negative.result ≡ sign_of of_zero exact =
-    read_odd_sign (2 ^ 125) of_zero exact unit total.negative c.sign_of_odd_total-negative.result total.significand r
-    z c.sign_of_odd_total-negative.ensures.other in
-    subst (λ (b : Bool). IsDelivered (format_at c.args.shape) c.args.round b (magnitude exact) 1
-    (datum_at c.args.shape c.deliver_u128.result.value) (bits_of c.deliver_u128.result.status)) e
+    let r = odd_sum_read (2 ^ 125) 127 s.precision (format_at s).scale s.min_exp x.exponent y.exponent
+    c.term_of.result.exponent c.term_of-2.result.exponent total.exponent unit x.negative y.negative total.negative
+    x.significand y.significand m n total.significand c.requires.x_normal.operand.least
+    c.requires.y_normal.operand.least c.term_of.ensures.exponent c.term_of-2.ensures.exponent
+    (scale_is s.precision s.min_exp s.parameters.precision_low s.parameters.min_exp_high) refl
+    c.requires.x_normal.whole c.requires.y_normal.whole g in
+    subst (λ (z : ℤ). IsRounded (format_at s) c.args.round of_zero z 1 (datum_at s c.deliver_total.result.value)
+    (bits_of c.deliver_total.result.status)) r.is
     (d (magnitude exact) 1 (omega arith)
-    (to_odd_least (2 ^ 125) (2 ^ (c.args.shape.precision + 1)) total.significand _ _ least r.rounded))
+    (to_odd_least (2 ^ 125) (2 ^ (s.precision + 1)) total.significand _ _ least r.rounded))

@@ -62,7 +62,7 @@ returns-clause-delivered c =
       c.term_of-2.ensures.negative,
       c.term_of-2.ensures.significand,
     ) at c.add_word_terms-total.ensures.rounded in
-    let r = odd_sum_read (2 ^ 60) 62 of_zero c.args.shape.precision (format_at c.args.shape).scale
+    let r = odd_sum_read (2 ^ 60) 62 c.args.shape.precision (format_at c.args.shape).scale
     c.args.shape.min_exp c.args.x.exponent c.args.y.exponent c.term_of.result.exponent c.term_of-2.result.exponent
     total.exponent unit c.args.x.negative c.args.y.negative total.negative c.args.x.significand
     c.args.y.significand m n total.significand c.requires.x_normal.operand.least c.requires.y_normal.operand.least

@@ -2,7 +2,9 @@ use Rattle.std.proofs.Common.{◌≡◌, ℕ, ◌+◌, ◌-◌, ◌^◌, ◌<◌
 use Rattle.std.proofs.lemmas.Int.{to_z-of_z, ints}
 use Rattle.apfloat_words.specs.declared.terms.Term.{Term}
 use Rattle.apfloat_model.specs.rounding.Bounds.{IsWithin, exponent_bound}
-use Rattle.apfloat_words.proofs.OddTotals.{moved_fits, moved_full, moved_free, total_to_odd, ordered_to_odd, unlike_false, unlike_true}
+use Rattle.apfloat_words.specs.Totals.{counted}
+use Rattle.apfloat_words.proofs.OddTotals.{moved_fits, moved_full, moved_free, total_to_odd, ordered_to_odd}
+use Rattle.apfloat_words.proofs.OddTotals.{unlike_false, unlike_true}
 use Rattle.apfloat_words.proofs.Orders.{greater_first, of_high, of_low}
 use Rattle.apfloat_words.proofs.u128_sum.add_u128_terms.Goals as goal
 
@@ -104,5 +106,5 @@ returns-clause-rounded c = λ base lx ly.
     (rw (c.moved_up.ensures, c.moved_up-2.ensures) at c.combine-total.ensures.together)
     (rw (c.moved_up.ensures, c.moved_up-2.ensures) at c.combine-total.ensures.apart) in
     rw (w, c.either.ensures)
-    (ordered_to_odd (2 ^ 125) base high low c.args.x c.args.y _ c.moved_exponent.result
-    c.combine-total.result.significand same t)
+    (ordered_to_odd (λ (t : Term). counted base t.negative t.exponent t.significand) (2 ^ 125) base high low c.args.x
+    c.args.y _ c.moved_exponent.result c.combine-total.result.significand same t)
