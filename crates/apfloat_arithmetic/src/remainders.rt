@@ -1,6 +1,6 @@
 //! Remainders: by the quotient cut toward zero, and by the whole number nearest to the quotient. Both are exact.
 //!
-//! The rest is found by many digits of the quotient at a time (`moved_rest`). Where the subtractions are counted, each
+//! The rest is found by many digits of the quotient at a time (`u128_moved_rest`). Where the subtractions are counted, each
 //! turn subtracts the greatest multiple of the divisor by a power of two that is not above the rest, so there is one
 //! turn for each digit of the quotient that is 1. A significand has a place, which is counted from that of the last
 //! digit of the least number whose significand has all its digits.
@@ -21,7 +21,7 @@ use crate::specials::{Operation, special};
 use apfloat_model::{ExpInt, Status, StatusAnd};
 use apfloat_rounding::shape::Shape;
 use apfloat_rounding::unpacked::{Unpacked, from_quanta};
-use apfloat_words::{MovedRest, digits, moved_rest, short_moved_rest};
+use apfloat_words::{MovedRest, digits, u128_moved_rest, word_moved_rest};
 
 /// `significand * 2^place` units.
 #[derive(Clone, Copy, Debug)]
@@ -139,9 +139,9 @@ fn rest_of_moved(precision: u32, dividend: u128, divisor: u128, places: u32) -> 
     ensures odd { result.odd ≡ eqb (dividend * 2 ^ places / divisor % 2) 1 }
 {
     if precision <= 62 {
-        short_moved_rest(dividend as u64, divisor as u64, places)
+        word_moved_rest(dividend as u64, divisor as u64, places)
     } else {
-        moved_rest(dividend, divisor, places)
+        u128_moved_rest(dividend, divisor, places)
     }
 }
 

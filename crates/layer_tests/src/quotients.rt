@@ -4,8 +4,8 @@ ghost use Rattle.std.specs.Prelude.{◌*◌, ◌^◌, ◌<◌, ◌≤◌};
 
 use crate::asserts::same;
 use apfloat_words::{
-    divide, divide_by_words, divide_short, divide_short_by_guess, divide_short_by_words, is_exact,
-    moved_rest, short_moved_rest,
+    divide, divide_u128, divide_short, divide_u128_by_guess, divide_word, is_exact,
+    u128_moved_rest, word_moved_rest,
 };
 
 /// Whether the division by words returns what the division by single digits does.
@@ -15,7 +15,7 @@ fn agree(dividend: u128, divisor: u128, places: u32) -> bool
     requires close { dividend < 2 * divisor }
     requires short { places ≤ 126 }
 {
-    let words = divide_by_words(dividend, divisor, places);
+    let words = divide_u128(dividend, divisor, places);
     let single = divide(dividend, divisor, places);
     words.whole == single.whole && words.loss == single.loss
 }
@@ -44,7 +44,7 @@ fn short_agree(dividend: u64, divisor: u64, places: u32) -> bool
     requires close { dividend < 2 * divisor }
     requires short { places ≤ 62 }
 {
-    let words = divide_short_by_words(dividend, divisor, places);
+    let words = divide_word(dividend, divisor, places);
     let single = divide_short(dividend, divisor, places);
     words.whole == single.whole && words.loss == single.loss
 }
@@ -60,7 +60,7 @@ fn guess_agrees(distance: u64, dividend: u64, divisor: u64, places: u32) -> bool
     let whole = (single.whole % (1 << 64)) as u64;
     let more = u64::from(!is_exact(single.loss) & (whole % 2 == 0));
     let guess = whole.wrapping_add(distance);
-    divide_short_by_guess(guess, dividend, divisor, places) == whole.wrapping_add(more)
+    divide_u128_by_guess(guess, dividend, divisor, places) == whole.wrapping_add(more)
 }
 
 /// Whether guesses agree that are right, or too great or too small by 1, 2 and much.
@@ -99,14 +99,14 @@ fn rests_agree(dividend: u128, divisor: u128, places: u32) -> bool
     requires close { dividend < 2 * divisor }
 {
     let single = doubled_rest(dividend, divisor, places);
-    let long = moved_rest(dividend, divisor, places);
+    let long = u128_moved_rest(dividend, divisor, places);
     if long.rest != single.0 || long.odd != single.1 {
         return false;
     }
     if divisor >= 1 << 62 {
         return true;
     }
-    let short = short_moved_rest(dividend as u64, divisor as u64, places);
+    let short = word_moved_rest(dividend as u64, divisor as u64, places);
     short.rest == single.0 && short.odd == single.1
 }
 

@@ -12,10 +12,10 @@ returns-then-rest-divisor c =
     let guess = c.args.guess % 2 ^ 32 in
     let l = c.if-taken-moved.true in
     let r = c.if-rest-divisor.true in
-    let last = c.less_short_divisor-last.result in
+    let last = c.less_word_divisor-last.result in
     let t = corrected n c.args.divisor guess (n % 2 ^ 64 - guess * c.args.divisor) last.digits last.rest 1 (lit< tt)
-    (omega (arith, m, l)) (omega (arith, r)) c.less_short_divisor-last.ensures.below
-    c.less_short_divisor-last.ensures.above in
+    (omega (arith, m, l)) (omega (arith, r)) c.less_word_divisor-last.ensures.below
+    c.less_word_divisor-last.ensures.above in
     let q : last.digits ≡ n / d = whole_quotient last.digits d last.rest n t.0 (omega (arith, t.1)) in
     let k : last.rest ≡ n % d = whole_rest last.digits d last.rest n t.0 (omega (arith, t.1)) in
     c.odd_for_rest.ensures ∙ ap (λ (x : ℕ). odd_for_rest x last.rest) q ∙ ap (λ (x : ℕ). odd_for_rest (n / d) x) k
