@@ -17,10 +17,7 @@ use apfloat_rounding::rounding::deliver;
 use apfloat_rounding::rounding::from_word::deliver_word_digits;
 use apfloat_rounding::shape::Shape;
 use apfloat_rounding::unpacked::Unpacked;
-use apfloat_words::{
-    NEAR_LIMIT, WORD_LIMIT, divide_u128, divide_u128_by_guess, divide_word_to_odd,
-    divide_word_by_guess, guess_quotient,
-};
+use apfloat_words::{WORD_LIMIT, divide_by_guess, divide_u128, divide_word, guess_quotient};
 
 /// By how many places a dividend is moved up to be at least the divisor.
 #[inline(always)]
@@ -32,8 +29,8 @@ fn places_up(dividend: u64, divisor: u64) -> u32
     u32::from(dividend < divisor)
 }
 
-/// The quotient of two significands of few digits, with one place more than the precision, rounded to odd: by a machine
-/// division of 32 digits if they suffice, and by a guess otherwise.
+/// The quotient of two significands that each fit in a word, with one place more than the precision, rounded to odd: by
+/// a machine division of 32 digits if they suffice, and by a guess otherwise.
 #[inline(always)]
 fn word_quotient_of(precision: u32, dividend: u64, divisor: u64) -> u64
     requires some { 0 < precision }
@@ -45,18 +42,15 @@ fn word_quotient_of(precision: u32, dividend: u64, divisor: u64) -> u64
 {
     let places = precision + 1;
     if precision <= 15 {
-        return divide_word_to_odd(dividend, divisor, places);
+        return divide_word(dividend, divisor, places);
     }
     let guess = guess_quotient(precision, dividend, divisor);
-    if precision <= NEAR_LIMIT {
-        divide_word_by_guess(guess, dividend, divisor, places)
-    } else {
-        divide_u128_by_guess(guess, dividend, divisor, places)
-    }
+    divide_by_guess(guess, dividend, divisor, places)
 }
 
-/// The quotient of two nonzero numbers with few digits, rounded once. If the dividend is moved up by a place where it is
-/// less than the divisor, one place more than the precision always gives two digits more than the format has.
+/// The quotient of two nonzero numbers whose significands fit in a word, rounded once. If the dividend is moved up by a
+/// place where it is less than the divisor, one place more than the precision always gives two digits more than the
+/// format has.
 #[inline(always)]
 fn divide_word_numbers(shape: Shape, x: Unpacked, y: Unpacked, round: Round) -> StatusAnd<Unpacked>
     requires short { shape.precision ≤ 59 }

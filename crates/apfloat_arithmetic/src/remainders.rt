@@ -1,17 +1,19 @@
 //! Remainders: by the quotient cut toward zero, and by the whole number nearest to the quotient. Both are exact.
 //!
-//! The rest is found by many digits of the quotient at a time (`u128_moved_rest`). Where the subtractions are counted, each
-//! turn subtracts the greatest multiple of the divisor by a power of two that is not above the rest, so there is one
-//! turn for each digit of the quotient that is 1. A significand has a place, which is counted from that of the last
+//! The rest is found by many digits of the quotient at a time (`rest_of_moved`). Where the subtractions are counted,
+//! each turn subtracts the greatest multiple of the divisor by a power of two that is not above the rest, so there is
+//! one turn for each digit of the quotient that is 1. A significand has a place, which is counted from that of the last
 //! digit of the least number whose significand has all its digits.
 
-ghost use Rattle.std.specs.Prelude.{◌≡◌, ℕ, ◌+◌, ◌-◌, ◌*◌, ◌/◌, ◌%◌, ◌^◌, ◌<◌, ◌≤◌, ◌⊎◌, false, eqb, count_ones, cond, ℤ, pos, ◌≤ℤ◌, ◌+ℤ◌, ◌-ℤ◌};
+ghost use Rattle.std.specs.Prelude.{◌≡◌, ℕ, ◌+◌, ◌-◌, ◌*◌, ◌/◌, ◌%◌, ◌^◌, ◌<◌, ◌≤◌, ◌⊎◌, false, eqb, count_ones, cond};
+ghost use Rattle.std.specs.Prelude.{ℤ, pos, ◌≤ℤ◌, ◌+ℤ◌, ◌-ℤ◌};
 ghost use Rattle.apfloat_model.specs.declared.kinds.Round.{Round};
 ghost use Rattle.apfloat_model.specs.rounding.Bounds.{place_bound};
 ghost use Rattle.apfloat_model.specs.rounding.Answer.{IsAnswer};
 ghost use Rattle.apfloat_model.specs.rounding.Rounding.{ok_bits, takes_above};
 ghost use Rattle.apfloat_model.specs.arithmetic.Exponents.{IsIlogb};
-ghost use Rattle.apfloat_model.specs.arithmetic.Remainders.{truncated_quotient, nearest_quotient, rest_of, IsTruncatedRemainder, IsNearestRemainder, ones_of_quotient};
+ghost use Rattle.apfloat_model.specs.arithmetic.Remainders.{truncated_quotient, nearest_quotient, ones_of_quotient};
+ghost use Rattle.apfloat_model.specs.arithmetic.Remainders.{rest_of, IsTruncatedRemainder, IsNearestRemainder};
 ghost use Rattle.apfloat_rounding.specs.Shapes.{format_at};
 ghost use Rattle.apfloat_rounding.specs.Stored.{IsOperand, IsNormal, IsStored, datum_at, quanta_of, GivesAt};
 ghost use Rattle.apfloat_arithmetic.specs.Magnitudes.{units_of, HasAllDigits};

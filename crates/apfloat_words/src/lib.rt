@@ -25,9 +25,7 @@ pub mod wide_sum;
 pub mod word_quotient;
 pub mod word_sum;
 
-pub use guessed_quotient::{
-    NEAR_LIMIT, divide_u128_by_guess, divide_word_by_guess, guess_quotient,
-};
+pub use guessed_quotient::{divide_by_guess, guess_quotient};
 pub use long_product::wide_product;
 pub use loss::{is_exact, loss_of_rest};
 pub use product::full_product;
@@ -36,12 +34,10 @@ pub use rest::{MovedRest, u128_moved_rest, word_moved_rest};
 pub use roots::{Root, root_of};
 pub use shift::{Shifted, digits, low_digits, power_of_two, shift_right, steps_between};
 pub use terms::Term;
-pub use u128_quotient::{U128Digits, U128Divisor, divide_u128, next_u128_digits, u128_divisor};
+pub use u128_quotient::divide_u128;
 pub use u128_sum::{U128_LIMIT, U128Total, add_u128_terms};
 pub use wide::Wide;
 pub use wide_shift::{WideShifted, is_within, narrowed, wide_shift_right, widened};
 pub use wide_sum::{Total, WideTerm, add_wide_terms, doubled, is_zero};
-pub use word_quotient::{
-    WordDivisor, divide_word, divide_word_to_odd, next_word_digits, word_divisor,
-};
+pub use word_quotient::divide_word;
 pub use word_sum::{WORD_LIMIT, WordTotal, add_word_terms};

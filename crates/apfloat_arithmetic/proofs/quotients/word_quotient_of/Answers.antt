@@ -18,24 +18,13 @@ moved_within dividend divisor precision close fits l =
     let t : 2 ^ (precision + 1) ≡ 2 * 2 ^ precision = twice_power precision in
     fits_shifted dividend (precision + 1) (precision + 1) 64 (omega (arith, close, fits, t)) (omega (arith, l))
 
-pub divide_u128_by_guess-requires-clause-narrow : goal.divide_u128_by_guess-requires-clause-narrow
-divide_u128_by_guess-requires-clause-narrow c =
+pub divide_by_guess-requires-clause-narrow : goal.divide_by_guess-requires-clause-narrow
+divide_by_guess-requires-clause-narrow c =
     let s = c.requires.short in
     fits_within c.args.divisor c.args.precision 62 c.requires.divisor_fits (omega (arith, s))
 
-pub divide_word_by_guess-requires-clause-narrow : goal.divide_word_by_guess-requires-clause-narrow
-divide_word_by_guess-requires-clause-narrow c =
-    let s = c.if-precision-le-NEAR_LIMIT.true in
-    fits_within c.args.divisor c.args.precision 31 c.requires.divisor_fits (omega (arith, s))
-
-pub divide_word_by_guess-requires-clause-fits : goal.divide_word_by_guess-requires-clause-fits
-divide_word_by_guess-requires-clause-fits c =
-    let s = c.if-precision-le-NEAR_LIMIT.true in
-    moved_within c.args.dividend c.args.divisor c.args.precision c.requires.close c.requires.divisor_fits
-    (omega (arith, s))
-
-pub divide_word_to_odd-requires-clause-fits : goal.divide_word_to_odd-requires-clause-fits
-divide_word_to_odd-requires-clause-fits c =
+pub divide_word-requires-clause-fits : goal.divide_word-requires-clause-fits
+divide_word-requires-clause-fits c =
     let s = c.if-precision-le15.true in
     moved_within c.args.dividend c.args.divisor c.args.precision c.requires.close c.requires.divisor_fits
     (omega (arith, s))

@@ -4,7 +4,7 @@ use Rattle.std.proofs.lemmas.Nat.{pow_pos}
 use Rattle.apfloat_model.specs.rounding.RoundingToOdd.{odd_for_rest}
 use Rattle.apfloat_model.proofs.general.Powers.{two_pos}
 use Rattle.apfloat_model.proofs.rounding.KeptDigits.{fits_shifted}
-use Rattle.apfloat_words.proofs.guessed_quotient.divide_u128_by_guess.Goals as goal
+use Rattle.apfloat_words.proofs.guessed_quotient.divide_by_guess.Goals as goal
 
 -- the dividend moved up, which fits in a u128
 moved : (dividend divisor places from : ℕ) → from ≡ dividend → dividend < 2 * divisor → divisor < 2 ^ 62 → places ≤ 61
