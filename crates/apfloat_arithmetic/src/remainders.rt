@@ -15,7 +15,7 @@ ghost use Rattle.apfloat_model.specs.arithmetic.Exponents.{IsIlogb};
 ghost use Rattle.apfloat_model.specs.arithmetic.Remainders.{truncated_quotient, nearest_quotient, ones_of_quotient};
 ghost use Rattle.apfloat_model.specs.arithmetic.Remainders.{rest_of, IsTruncatedRemainder, IsNearestRemainder};
 ghost use Rattle.apfloat_rounding.specs.Shapes.{format_at};
-ghost use Rattle.apfloat_rounding.specs.Stored.{IsOperand, IsNormal, IsStored, datum_at, quanta_of, GivesAt};
+ghost use Rattle.apfloat_rounding.specs.Stored.{IsNormal, IsStored, datum_at, quanta_of, GivesAt};
 ghost use Rattle.apfloat_arithmetic.specs.Magnitudes.{units_of, HasAllDigits};
 
 use crate::classes::are_normal;
@@ -244,7 +244,8 @@ fn nearest_by(precision: u32, x: Magnitude, y: Magnitude) -> Nearest
 /// An operand at its place.
 #[inline(always)]
 fn magnitude_of(shape: Shape, x: Unpacked) -> Magnitude
-    requires { IsOperand shape x }
+    requires { IsNormal shape x }
+    ensures units { units_of result ≡ quanta_of shape x * 2 ^ (shape.precision - 1) }
     ensures significand { result.significand ≡ x.significand }
     ensures place { pos result.place
         ≡ ((x.exponent -ℤ shape.min_exp) +ℤ pos (shape.precision - 1)) }
