@@ -117,9 +117,9 @@ MISTAKES = {
     ],
     "one-quiet-nan-pattern": [("apfloat_rounding", "", "half add even 7e01 7d00\t7e01 INVALID_OP")],
     "quotient-rest-more-than-half": [
-        ("apfloat_words", "-few-digits", THIRD),
+        ("apfloat_words", "-word", THIRD),
         ("apfloat_words", "-guessed", LONG_THIRD),
-        ("apfloat_arithmetic", "-many-digits", QUAD_THIRD),
+        ("apfloat_arithmetic", "-u128", QUAD_THIRD),
     ],
     "integer-always-truncates": [
         ("apfloat_conversions", "", call("to_u128_r", "single", "even", "437f8000 8", "255", "INVALID_OP", "-")),
